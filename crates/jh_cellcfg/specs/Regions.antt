@@ -1,0 +1,65 @@
+-- What a memory region says of an address: whether it is one of the region's, what place it has, and
+-- what may be done with it.
+use Rattle.std.specs.Prelude.{ℕ, ◌+◌, ◌-◌, ◌%◌, ◌≤◌, Bool, ◌&&◌, not, ◌==◌, nat_lt, nat_le, bit_and}
+use Rattle.jh_num.specs.declared.address.TheConstants.{ADDRESS_END, PAGE_SIZE}
+use Rattle.jh_num.specs.declared.rights.Rights.{Rights}
+use Rattle.jh_cellcfg.specs.declared.region.Region.{Region}
+
+-- all bits of the mask are among the region's flags
+abbrev pub has_flags : ℕ → Region → Bool
+has_flags mask region = bit_and region.flags mask == mask
+
+-- one past the region's last address, and one past its last place
+abbrev pub virt_end : Region → ℕ
+virt_end region = region.virt_start + region.size
+
+abbrev pub phys_end : Region → ℕ
+phys_end region = region.phys_start + region.size
+
+-- the address is one of the region's; a region of size 0 has none
+abbrev pub has_address : Region → ℕ → Bool
+has_address region at = nat_le region.virt_start at && nat_lt at (virt_end region)
+
+-- the physical place is one of the region's
+abbrev pub has_place : Region → ℕ → Bool
+has_place region place = nat_le region.phys_start place && nat_lt place (phys_end region)
+
+-- what the region gives its address: the place, or the byte of the communication page
+abbrev pub place_in : Region → ℕ → ℕ
+place_in region at = region.phys_start + (at - region.virt_start)
+
+abbrev pub byte_in : Region → ℕ → ℕ
+byte_in region at = at - region.virt_start
+
+-- the region's addresses are whole pages
+abbrev pub is_page_mapped : Region → Bool
+is_page_mapped region = (region.virt_start % PAGE_SIZE == 0) && (region.size % PAGE_SIZE == 0)
+
+-- its addresses lie in the cell's communication page
+abbrev pub is_comm : Region → Bool
+is_comm = has_flags 0x20
+
+-- nobody else may hold its places: it is neither the communication region nor shared with root
+abbrev pub is_unshared : Region → Bool
+is_unshared region = not (is_comm region) && not (has_flags 0x80 region)
+
+-- root keeps it while the cell is loadable
+abbrev pub is_loadable : Region → Bool
+is_loadable = has_flags 0x40
+
+-- memory of a device
+abbrev pub is_device : Region → Bool
+is_device = has_flags 0x10
+
+-- it may be mapped by blocks larger than a page
+abbrev pub may_have_blocks : Region → Bool
+may_have_blocks region = not (has_flags 0x100 region)
+
+-- what may be done with its bytes
+abbrev pub rights_of : Region → Rights
+rights_of region = record { read = has_flags 0x1 region; write = has_flags 0x2 region; execute = has_flags 0x4 region }
+
+-- the region ends within the addresses and, where it has places, within the places
+pub record IsWithin (region : Region) : Type 0 where
+  pub virt : virt_end region ≤ ADDRESS_END
+  pub phys : phys_end region ≤ ADDRESS_END

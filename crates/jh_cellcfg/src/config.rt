@@ -1,0 +1,96 @@
+//! The records of a configuration, field by field.
+
+use crate::region::Region;
+use jh_num::Seq;
+
+/// A cell's configuration: the fields of the header after its signature and revision, and its parts.
+/// The counts of the header are the lengths of the parts.
+#[derive(Drop)]
+pub struct CellConfig {
+    /// 1 to 31 printable characters, then zero bytes.
+    pub name: [u8; 32],
+    pub id: u32,
+    /// The flags are those of `CellFlags`.
+    pub flags: u32,
+    pub vpci_irq_base: u32,
+    pub cpu_reset_address: u64,
+    /// How many entries of the cell's CPUs the hypervisor waits for a reply; 0 waits without end.
+    pub msg_reply_timeout: u64,
+    /// The bytes of a console record.
+    pub console: [u8; 32],
+    /// CPU i is bit i mod 8 of byte i div 8.
+    pub cpu_set: Seq<u8>,
+    pub memory_regions: Seq<Region>,
+    /// Kept as bytes and unused.
+    pub cache_regions: Seq<[u8; 12]>,
+    pub irqchips: Seq<Irqchip>,
+    /// Kept as bytes and unused.
+    pub pio_regions: Seq<[u8; 4]>,
+    pub pci_devices: Seq<PciDevice>,
+    /// Kept as bytes and unused.
+    pub pci_caps: Seq<[u8; 8]>,
+    pub stream_ids: Seq<u32>,
+}
+
+/// An interrupt controller's pins that a cell may use. Kept and unused.
+#[derive(Clone, Copy, PartialEq, Eq, Debug)]
+pub struct Irqchip {
+    pub address: u64,
+    pub id: u32,
+    pub pin_base: u32,
+    pub pin_bitmap: [u32; 4],
+}
+
+/// A console. Kept and unused.
+#[derive(Clone, Copy, PartialEq, Eq, Debug)]
+pub struct Console {
+    pub address: u64,
+    pub size: u32,
+    pub kind: u16,
+    pub flags: u16,
+    pub divider: u32,
+    pub gate_nr: u32,
+    pub clock_reg: u64,
+}
+
+/// A PCI device of a cell. Kind 1 is a physical device and 2 a bridge, which are kept and read as
+/// absent functions; 3 is an ivshmem device.
+#[derive(Clone, Copy, PartialEq, Eq, Debug)]
+pub struct PciDevice {
+    pub kind: u8,
+    pub iommu: u8,
+    pub domain: u16,
+    pub bdf: u16,
+    pub bar_mask: [u32; 6],
+    pub caps_start: u16,
+    pub num_caps: u16,
+    pub num_msi_vectors: u8,
+    pub msi_bits: u8,
+    pub num_msix_vectors: u16,
+    pub msix_region_size: u16,
+    pub msix_address: u64,
+    /// The first region of the shared memory, by its place among the cell's regions.
+    pub shmem_regions_start: u32,
+    /// Which of the peers this device is, from 0.
+    pub shmem_dev_id: u8,
+    pub shmem_peers: u8,
+    pub shmem_protocol: u16,
+}
+
+/// The system's configuration: the hypervisor's own memory, the virtual PCI host, and root.
+#[derive(Drop)]
+pub struct SystemConfig {
+    pub flags: u32,
+    /// The hypervisor's memory, of which only `phys_start` and `size` are used.
+    pub hypervisor_memory: Region,
+    pub debug_console: Console,
+    /// Where the ECAM window begins; 0 means that there is none.
+    pub pci_mmconfig_base: u64,
+    /// The number of the window's last bus; each bus has 2^20 bytes.
+    pub pci_mmconfig_end_bus: u8,
+    pub pci_is_virtual: u8,
+    pub pci_domain: u16,
+    /// The first eight bytes of root's own header, kept unchecked.
+    pub root_head: [u8; 8],
+    pub root: CellConfig,
+}

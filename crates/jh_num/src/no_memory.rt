@@ -1,0 +1,19 @@
+//! Want of memory, the one answer that no contract ties to a cause.
+
+use std::alloc::{AllocError, AllocFailed};
+
+/// The allocator gave no memory. Whatever the call would have changed is as it was.
+#[derive(Clone, Copy, PartialEq, Eq, Debug)]
+pub struct NoMemory;
+
+impl From<AllocError> for NoMemory {
+    fn from(_e: AllocError) -> NoMemory {
+        NoMemory
+    }
+}
+
+impl<T: Drop> From<AllocFailed<T>> for NoMemory {
+    fn from(_e: AllocFailed<T>) -> NoMemory {
+        NoMemory
+    }
+}

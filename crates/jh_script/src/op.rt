@@ -1,0 +1,17 @@
+//! The operations of a program.
+
+/// One operation of a CPU's program. A width is a number of bytes, 1, 2, 4 or 8; values are
+/// little-endian in memory.
+#[derive(Clone, Copy, PartialEq, Eq, Debug)]
+pub enum Op {
+    Read { width: u8, at: u64 },
+    Write { width: u8, at: u64, value: u64 },
+    /// Reads an instruction word of four bytes, by the right to execute.
+    Fetch { at: u64 },
+    /// Waits until a read gives the value.
+    Await { width: u8, at: u64, value: u64 },
+    /// Waits for an interrupt of one of the cell's devices.
+    Irq,
+    /// A hypercall with its code and two arguments.
+    Hvc { code: u64, a: u64, b: u64 },
+}
