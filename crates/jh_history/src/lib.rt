@@ -1,8 +1,20 @@
 //! What a journal is, and what it means.
 #![tactic(auto)]
 
+mod access;
+mod cells;
+mod cpu;
 mod entry;
+mod grants;
 mod journal;
+mod known;
+mod next;
 
+pub use access::{Access, Places, Reach};
+pub use cells::{is_cpu_set, is_on_board, name_of, place_of, program_of};
+pub use cpu::{Cpu, Mode};
 pub use entry::{Act, Entry, Heard, Settled};
+pub use grants::{Grants, reach};
 pub use journal::Journal;
+pub use known::Known;
+pub use next::{next_of, none_due};

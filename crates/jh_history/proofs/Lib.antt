@@ -1,0 +1,4 @@
+pub mod AccessLemmas
+pub mod SpelledLemmas
+pub mod FactsLemmas
+pub mod DueLemmas

@@ -1,0 +1,17 @@
+-- What is due, by the state of the CPU.
+use Rattle.std.proofs.Common.{◌∙◌, sym, ap}
+use Rattle.std.specs.Prelude.{option_map}
+use Rattle.jh_history.specs.declared.cpu.Cpu.{Cpu}
+use Rattle.jh_history.specs.Due.{entry_by, entry_of}
+use Rattle.jh_history.proofs.DueLemmas.{due_at-absent, due_at-present}
+use Rattle.jh_history.proofs.next.next_of.Goals as goal
+
+pub returns-then-not-has_cpu-clause-due : goal.returns-then-not-has_cpu-clause-due
+returns-then-not-has_cpu-clause-due g c = λ i f h. sym (due_at-absent i f c.args.cpu (sym (c.if-not-has_cpu.ensures i f h)))
+
+pub returns-clause-due : goal.returns-clause-due
+returns-clause-due g c = λ i f h.
+    c.entry_by.ensures
+    ∙ ap (option_map (entry_by c.args.cpu c.cpu-state.result.owner)) (c.state_act.ensures.act i f h)
+    ∙ ap (λ (s : Cpu). entry_of i f s c.args.cpu) (c.cpu-state.ensures i f h)
+    ∙ sym (due_at-present i f c.args.cpu (sym (c.if-not-has_cpu.ensures i f h)))

@@ -1,0 +1,87 @@
+-- What is due to a CPU, and which journals are legal and quiet.
+use Rattle.std.specs.Prelude.{◌≡◌, ℕ, Bool, true, false, ◌==◌, if◌then◌else◌, List, [], ◌∷◌, slice_get, Option, Some, None, option_map, option_and_then}
+use Rattle.jh_script.specs.declared.image.Image.{Image}
+use Rattle.jh_script.specs.declared.op.Op.{Op}
+use Rattle.jh_script.specs.declared.op.Op.TheVariants.{Read as ReadOp, Write as WriteOp, Fetch as FetchOp, Await as AwaitOp, Irq as IrqOp, Hvc as HvcOp}
+use Rattle.jh_history.specs.declared.access.Access.TheVariants.{Read as ToRead, Write as ToWrite, Fetch as ToFetch}
+use Rattle.jh_history.specs.declared.entry.Entry.{Entry}
+use Rattle.jh_history.specs.declared.entry.Act.{Act}
+use Rattle.jh_history.specs.declared.entry.Act.TheVariants.{Read, Write, Fetch, Await, Stop}
+use Rattle.jh_history.specs.declared.cpu.Cpu.{Cpu}
+use Rattle.jh_history.specs.declared.cpu.Mode.{Mode}
+use Rattle.jh_history.specs.declared.cpu.Mode.TheVariants.{Running, Parked, Failed}
+use Rattle.jh_history.specs.Access.{read_of, is_reached}
+use Rattle.jh_history.specs.Cells.{name_of, is_on_board, program_of}
+use Rattle.jh_history.specs.Facts.{Facts, start, after, facts, reach}
+
+-- the operations of the CPU's program in the cell with the id: root is the one that there is
+abbrev pub ops_of : Image → ℕ → ℕ → List Op
+ops_of image cell cpu = if cell == image.system.root.id then program_of image (name_of image.system.root) cpu else []
+
+-- the operation that the CPU is at
+abbrev pub op_at : Image → Cpu → ℕ → Option Op
+op_at image state cpu = slice_get (ops_of image state.owner cpu) state.position
+
+-- an await that reads nothing is a violation; one that reads another value isn't due
+abbrev pub await_of : ℕ → ℕ → ℕ → Option ℕ → Option Act
+await_of width at value None = Some (Await width at value false)
+await_of width at value (Some got) = if got == value then Some (Await width at value true) else None
+
+-- what the cell's operation comes to, where it is due. No device has a pending vector yet, so an
+-- interrupt is never due; hypercalls come with the calls, and no image that is built has one
+abbrev pub act_of : Image → Facts → ℕ → Op → Option Act
+act_of image facts cell (ReadOp width at) = Some (Read width at (read_of facts.byte (reach image facts cell ToRead at width)))
+act_of image facts cell (WriteOp width at value) = Some (Write width at value (is_reached (reach image facts cell ToWrite at width)))
+act_of image facts cell (FetchOp at) = Some (Fetch at (read_of facts.byte (reach image facts cell ToFetch at 4)))
+act_of image facts cell (AwaitOp width at value) = await_of width at value (read_of facts.byte (reach image facts cell ToRead at width))
+act_of image facts cell IrqOp = None
+act_of image facts cell (HvcOp code a b) = None
+
+-- what a running CPU does next: its program's operation; the phases of its open call come with the calls
+abbrev pub running_act : Image → Facts → Cpu → ℕ → Option Act
+running_act image facts state cpu = option_and_then (act_of image facts state.owner) (op_at image state cpu)
+
+-- what a CPU in this mode does next
+abbrev pub act_in_mode : Mode → Image → Facts → Cpu → ℕ → Option Act
+act_in_mode Running image facts state cpu = running_act image facts state cpu
+act_in_mode Parked image facts state cpu = None
+act_in_mode Failed image facts state cpu = None
+
+-- what a CPU with these marks does next
+abbrev pub act_marked : Bool → Bool → Image → Facts → Cpu → ℕ → Option Act
+act_marked true stopped image facts state cpu = Some Stop
+act_marked false true image facts state cpu = None
+act_marked false false image facts state cpu = act_in_mode state.mode image facts state cpu
+
+-- what a CPU in this state does next
+abbrev pub state_act : Image → Facts → Cpu → ℕ → Option Act
+state_act image facts state cpu = act_marked state.asked state.stopped image facts state cpu
+
+-- the CPU's act as an entry, in the name of its owner
+abbrev pub entry_by : ℕ → ℕ → Act → Entry
+entry_by cpu cell act = record { cpu = cpu; cell = cell; act = act }
+
+-- the entry that a CPU in this state makes next
+abbrev pub entry_of : Image → Facts → Cpu → ℕ → Option Entry
+entry_of image facts state cpu = option_map (entry_by cpu state.owner) (state_act image facts state cpu)
+
+-- the entry that the CPU makes next, where these facts hold
+unfoldable pub due_at : Image → Facts → ℕ → Option Entry
+due_at image facts cpu = if is_on_board image cpu then entry_of image facts (facts.cpu cpu) cpu else None
+
+-- the entry that the CPU makes next after the entries
+abbrev pub due : Image → List Entry → ℕ → Option Entry
+due image entries cpu = due_at image (facts image entries) cpu
+
+-- each of the entries is the one due, from these facts on
+abbrev pub IsLegalFrom : Image → Facts → List Entry → Type 0
+IsLegalFrom image facts [] = Unit {0}
+IsLegalFrom image facts (entry ∷ entries) = (due_at image facts entry.cpu ≡ Some entry) × IsLegalFrom image (after image facts entry) entries
+
+-- each entry is the one due to its CPU after those before it
+unfoldable pub IsLegal : Image → List Entry → Type 0
+IsLegal image entries = IsLegalFrom image (start image) entries
+
+-- nothing is due to any CPU of the board
+abbrev pub IsQuiet : Image → List Entry → Type 0
+IsQuiet image entries = (cpu : ℕ) → due image entries cpu ≡ None
