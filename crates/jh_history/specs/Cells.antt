@@ -1,10 +1,12 @@
 -- What a configuration says of its cell: its name, its CPUs, and its program on each.
-use Rattle.std.specs.Prelude.{ℕ, ◌/◌, ◌%◌, ◌^◌, Bool, ◌&&◌, not, ◌==◌, bit_and, List, [], find, nat_eq, slice_index}
+use Rattle.std.specs.Prelude.{ℕ, ◌/◌, ◌%◌, ◌^◌, Bool, ◌&&◌, not, ◌==◌, bit_and, List, [], find, nat_eq, slice_index, Option, if◌then◌else◌}
 use Rattle.std.specs.Cmp.Lexicographic.{pointwise}
 use Rattle.std.specs.List.{before_first}
 use Rattle.std.specs.Option.{option_map_or}
 use Rattle.jh_cellcfg.specs.declared.config.CellConfig.{CellConfig}
 use Rattle.jh_cellcfg.specs.declared.region.Region.{Region}
+use Rattle.jh_history.specs.declared.access.Access.{Access}
+use Rattle.jh_history.specs.Access.{place_of}
 use Rattle.jh_script.specs.declared.op.Op.{Op}
 use Rattle.jh_script.specs.declared.image.Program.{Program}
 use Rattle.jh_script.specs.declared.image.Image.{Image}
@@ -28,3 +30,11 @@ is_program_of name cpu program = pointwise nat_eq program.cell name && (program.
 -- the operations of the CPU in the cell of that name, none where the image has no program for it
 unfoldable pub program_of : Image → List ℕ → ℕ → List Op
 program_of image name cpu = option_map_or (λ (p : Program). p.ops) (find (is_program_of name cpu) image.programs) []
+
+-- the regions that the image's configuration of the cell with the id has: root's is the one that there is
+abbrev pub image_regions : Image → ℕ → List Region
+image_regions image cell = if cell == image.system.root.id then image.system.root.memory_regions else []
+
+-- the place that they give the address, with the right
+abbrev pub image_place : Image → ℕ → Access → ℕ → Option ℕ
+image_place image cell access = place_of (image_regions image cell) access

@@ -13,6 +13,7 @@ use Rattle.jh_history.specs.declared.cpu.Cpu.{Cpu}
 use Rattle.jh_history.specs.declared.cpu.Mode.{Mode}
 use Rattle.jh_history.specs.declared.cpu.Mode.TheVariants.{Running, Parked, Failed}
 use Rattle.jh_history.specs.Access.{place_of, reach_by, write_of, stored}
+use Rattle.jh_history.specs.Cells.{image_regions}
 
 -- the facts that entries change; those of live cells, devices and the open call come with them
 pub record Facts : Type 0 where
@@ -31,9 +32,9 @@ start image = record {
   cpu = λ _. record { owner = image.system.root.id; mode = Running; asked = false; stopped = false; position = 0 };
 }
 
--- the regions of the live cell with the id: root is the one that there is
+-- the regions of the live cell with the id: root is the one that there is, and its configuration is the image's
 abbrev pub regions_of : Image → Facts → ℕ → List Region
-regions_of image facts cell = if cell == image.system.root.id then image.system.root.memory_regions else []
+regions_of image facts cell = image_regions image cell
 
 -- the place that the cell is granted at the address, with the right: root is granted what its regions
 -- give at places that no other live cell closes to it, and there is no other yet

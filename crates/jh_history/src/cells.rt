@@ -1,13 +1,18 @@
 //! What a configuration says of its cell, read off its lists.
-ghost use Rattle.std.specs.Prelude.{◌≡◌, ◌==◌, ◌<◌, ◌≤◌, All, length};
+ghost use Rattle.std.specs.Prelude.{◌≡◌, ◌==◌, ◌<◌, ◌≤◌, All, IfSome, length};
 ghost use Rattle.std.specs.List.{position_or_len};
 ghost use Rattle.jh_cellcfg.specs.Regions.{IsWithin};
 ghost use Rattle.jh_history.specs.Access.{right_of, gives as gives_lem, place_of as place_of_lem};
-ghost use Rattle.jh_history.specs.Cells.{name_of as name_of_lem, is_cpu_set as is_cpu_set_lem, is_on_board as is_on_board_lem, is_program_of as is_program_of_lem, program_of as program_of_lem};
+ghost use Rattle.jh_history.specs.Admitted.{IsAdmitted, IsPlain};
+ghost use Rattle.jh_history.specs.Due.{ops_of as ops_of_lem, op_at as op_at_lem};
+ghost use Rattle.jh_history.specs.Cells.{name_of as name_of_lem, is_cpu_set as is_cpu_set_lem, is_on_board as is_on_board_lem, image_regions, is_program_of as is_program_of_lem, program_of as program_of_lem};
 
 use crate::access::Access;
+use crate::cpu::Cpu;
+use crate::grants::Grants;
 use jh_cellcfg::{CellConfig, Region, RegionFlags};
 use jh_script::{Image, Op, Program};
+use std::marker::Model;
 
 /// How many bytes of the name stand before the first zero.
 fn name_len(name: &[u8]) -> usize
@@ -94,4 +99,78 @@ pub fn place_of(regions: &[Region], access: Access, at: u64) -> Option<u64>
         }
     }
     None
+}
+
+/// The regions of the live cell with the id: root is the one that there is.
+#[tactic(auto, using(crate::proofs::AdmittedLemmas::within))]
+pub fn regions_of(image: &Image, cell: u32) -> &[Region]
+    requires { IsAdmitted image.now }
+    ensures regions { result.now ≡ image_regions image.now cell }
+    ensures within { All (λ (r : Region). 0 < r.size → IsWithin r) result.now }
+{
+    if cell == image.system.root.id {
+        image.system.root.memory_regions.as_slice()
+    } else {
+        &[]
+    }
+}
+
+/// The operations of the CPU's program in the live cell with the id.
+pub fn ops_of(image: &Image, cell: u32, cpu: u8) -> &[Op]
+    requires { IsAdmitted image.now }
+    ensures ops { result.now ≡ ops_of_lem image.now cell cpu }
+    ensures plain { All IsPlain result.now }
+{
+    if cell == image.system.root.id {
+        program_of(image, name_of(&image.system.root), cpu)
+    } else {
+        &[]
+    }
+}
+
+/// The operation that the CPU is at, in that state.
+pub fn op_at(image: &Image, state: Cpu, cpu: u8) -> Option<Op>
+    requires { IsAdmitted image.now }
+    ensures op { result ≡ op_at_lem image.now state cpu }
+    ensures plain { IfSome result IsPlain }
+{
+    ops_of(image, state.owner, cpu)
+        .get(state.position as usize)
+        .copied()
+}
+
+/// An image as what grants places, by the regions of its configurations in turn.
+#[derive(Drop)]
+pub struct ImageGrants<'a> {
+    image: &'a Image,
+}
+
+impl<'a> Model for ImageGrants<'a> {
+    ghost use Rattle.jh_script.specs.declared.image.Image.{Image as TheImage};
+    ghost use Rattle.jh_history.specs.Admitted.{IsAdmitted};
+
+    ghost Value = { TheImage };
+
+    ghost view = { λ g. g.image.now };
+
+    ghost invariant = { λ g. IsAdmitted g.image.now };
+}
+
+impl<'a> ImageGrants<'a> {
+    pub fn new(image: &'a Image) -> Self
+        requires { IsAdmitted image.now }
+        ensures { result ≡ image.now }
+    {
+        ImageGrants { image }
+    }
+}
+
+impl<'a> Grants for ImageGrants<'a> {
+    ghost use Rattle.jh_history.specs.Cells.{image_place};
+
+    ghost place = { image_place };
+
+    fn granted(&self, cell: u32, access: Access, at: u64) -> Option<u64> {
+        place_of(regions_of(self.image, cell), access, at)
+    }
 }

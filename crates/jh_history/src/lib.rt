@@ -9,12 +9,16 @@ mod grants;
 mod journal;
 mod known;
 mod next;
+mod past;
 
 pub use access::{Access, Places, Reach};
-pub use cells::{is_cpu_set, is_on_board, name_of, place_of, program_of};
+pub use cells::{
+    ImageGrants, is_cpu_set, is_on_board, name_of, op_at, ops_of, place_of, program_of, regions_of,
+};
 pub use cpu::{Cpu, Mode};
 pub use entry::{Act, Entry, Heard, Settled};
 pub use grants::{Grants, reach};
 pub use journal::Journal;
 pub use known::Known;
 pub use next::{next_of, none_due};
+pub use past::{due, entry_cpu, opening_cpu, quiet};

@@ -1,0 +1,35 @@
+-- What an admitted image gives its readers.
+use Rattle.std.proofs.Common.{◌≡◌, ◌<◌, ◌≤◌, ℕ, zero, suc, List, [], ◌∷◌, Bool, true, false, cond, Option, Some, None, arith, refl}
+use Rattle.std.specs.Prelude.{IsTrue, find, slice_get, All, IfSome, ◌||◌, ◌==◌}
+use Rattle.std.specs.List.{AllByRecursion}
+use Rattle.std.specs.Option.{option_map_or}
+use Rattle.std.proofs.lemmas.List.Elements.{recursion_from_All, All-from_recursion}
+use Rattle.jh_cellcfg.specs.declared.region.Region.{Region}
+use Rattle.jh_cellcfg.specs.Regions.{IsWithin}
+use Rattle.jh_script.specs.declared.image.Image.{Image}
+use Rattle.jh_script.specs.declared.image.Program.{Program}
+use Rattle.jh_script.specs.declared.op.Op.{Op}
+use Rattle.jh_history.specs.Cells.{program_of, is_program_of}
+use Rattle.jh_history.specs.Admitted.{IsAdmitted, IsSoundProgram, IsPlain, is_width}
+
+-- its regions lie within the addresses and the places
+pub within : (image : Image) → IsAdmitted image → All (λ (r : Region). 0 < r.size → IsWithin r) image.system.root.memory_regions
+within image admitted = λ i d lt some. (admitted.system.regions i d lt some).within
+
+found_at : (b : Bool) (x : Program) (o : Option Program) → IsSoundProgram x → AllByRecursion IsPlain (option_map_or (λ (p : Program). p.ops) o []) → AllByRecursion IsPlain (option_map_or (λ (p : Program). p.ops) (cond b (Some x) o) [])
+found_at true x o fine rest = recursion_from_All IsPlain x.ops fine.plain
+found_at false x o fine rest = rest
+
+-- what holds of each program holds of the operations of the one that is found
+found : (p : Program → Bool) (xs : List Program) → AllByRecursion IsSoundProgram xs → AllByRecursion IsPlain (option_map_or (λ (x : Program). x.ops) (find p xs) [])
+found p [] all = tt
+found p (x ∷ xs) all = found_at (p x) x (find p xs) all.0 (found p xs all.1)
+
+-- the operations of each CPU are plain
+pub program_of-plain : (image : Image) (name : List ℕ) (cpu : ℕ) → IsAdmitted image → All IsPlain (program_of image name cpu)
+unfolding program_of
+program_of-plain image name cpu admitted = All-from_recursion IsPlain (program_of image name cpu) (found (is_program_of name cpu) image.programs (recursion_from_All IsSoundProgram image.programs admitted.programs))
+
+-- a width is that of a register at most
+pub width_le : (w : ℕ) → IsTrue (is_width w) → w ≤ 8
+width_le w h = grind arith

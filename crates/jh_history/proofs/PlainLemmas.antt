@@ -1,0 +1,90 @@
+-- In a legal journal of an admitted image each act has a width that an access may have.
+use Rattle.std.proofs.Common.{◌≡◌, ℕ, zero, suc, ◌≤◌, List, [], ◌∷◌, Bool, true, false, cond, Option, Some, None, subst, eqb, sym, ◌∙◌, refl}
+use Rattle.std.specs.Prelude.{option_map, option_and_then, slice_get, All, IfSome}
+use Rattle.std.specs.List.{AllByRecursion}
+use Rattle.std.proofs.lemmas.List.Elements.{recursion_from_All, All-from_recursion}
+use Rattle.std.proofs.lemmas.Option.{none-some, same_Some}
+use Rattle.jh_script.specs.declared.image.Image.{Image}
+use Rattle.jh_script.specs.declared.op.Op.{Op}
+use Rattle.jh_script.specs.declared.op.Op.TheVariants.{Read, Write, Fetch, Await, Irq, Hvc}
+use Rattle.jh_history.specs.declared.access.Access.TheVariants.{Read as ToRead}
+use Rattle.jh_history.specs.declared.entry.Entry.{Entry}
+use Rattle.jh_history.specs.declared.entry.Act.{Act}
+use Rattle.jh_history.specs.declared.entry.Act.TheVariants.{Await as AwaitAct}
+use Rattle.jh_history.specs.declared.cpu.Cpu.{Cpu}
+use Rattle.jh_history.specs.declared.cpu.Mode.{Mode}
+use Rattle.jh_history.specs.declared.cpu.Mode.TheVariants.{Running, Parked, Failed}
+use Rattle.jh_history.specs.Access.{read_of}
+use Rattle.jh_history.specs.Cells.{name_of, is_on_board, program_of}
+use Rattle.jh_history.specs.Facts.{Facts, start, after, reach}
+use Rattle.jh_history.specs.Due.{due_at, act_in_mode, act_marked, state_act, running_act, act_of, await_of, entry_by, op_at, ops_of, IsLegal, IsLegalFrom}
+use Rattle.jh_history.specs.Admitted.{IsAdmitted, IsPlain, IsPlainAct, IsPlainEntry}
+use Rattle.jh_history.proofs.AdmittedLemmas.{program_of-plain, width_le}
+use Rattle.jh_history.proofs.DueLemmas.{due_at-absent, due_at-present}
+
+choose : (b : Bool) (ops : List Op) → AllByRecursion IsPlain ops → AllByRecursion IsPlain (cond b ops [])
+choose true ops all = all
+choose false ops all = tt
+
+ops_of-plain : (image : Image) (cell cpu : ℕ) → IsAdmitted image → AllByRecursion IsPlain (ops_of image cell cpu)
+ops_of-plain image cell cpu admitted =
+    let ops = program_of image (name_of image.system.root) cpu in
+    choose (eqb cell image.system.root.id) ops (recursion_from_All IsPlain ops (program_of-plain image (name_of image.system.root) cpu admitted))
+
+at_place : (ops : List Op) (i : ℕ) → AllByRecursion IsPlain ops → IfSome (slice_get ops i) IsPlain
+at_place [] i all = tt
+at_place (op ∷ ops) zero all = all.0
+at_place (op ∷ ops) (suc i) all = at_place ops i all.1
+
+plain_if : (b : Bool) (o : Option Act) → IfSome o IsPlainAct → IfSome (cond b o None) IsPlainAct
+plain_if true o plain = plain
+plain_if false o plain = tt
+
+plain_await : (width at value : ℕ) (o : Option ℕ) → IfSome (await_of width at value o) IsPlainAct
+plain_await width at value None = tt
+plain_await width at value (Some got) = plain_if (eqb got value) (Some (AwaitAct width at value true)) tt
+
+plain_act : (image : Image) (f : Facts) (cell : ℕ) (op : Op) → IsPlain op → IfSome (act_of image f cell op) IsPlainAct
+plain_act image f cell (Read width at) plain = width_le width plain
+plain_act image f cell (Write width at value) plain = width_le width plain.0
+plain_act image f cell (Fetch at) plain = tt
+plain_act image f cell (Await width at value) plain = plain_await width at value (read_of f.byte (reach image f cell ToRead at width))
+plain_act image f cell Irq plain = tt
+plain_act image f cell (Hvc code a b) plain = tt
+
+plain_op : (image : Image) (f : Facts) (cell : ℕ) (o : Option Op) → IfSome o IsPlain → IfSome (option_and_then (act_of image f cell) o) IsPlainAct
+plain_op image f cell None plain = tt
+plain_op image f cell (Some op) plain = plain_act image f cell op plain
+
+plain_running : (image : Image) (f : Facts) (state : Cpu) (cpu : ℕ) → IsAdmitted image → IfSome (running_act image f state cpu) IsPlainAct
+plain_running image f state cpu admitted = plain_op image f state.owner (op_at image state cpu) (at_place (ops_of image state.owner cpu) state.position (ops_of-plain image state.owner cpu admitted))
+
+plain_mode : (image : Image) (f : Facts) (state : Cpu) (cpu : ℕ) (mode : Mode) → IsAdmitted image → IfSome (act_in_mode mode image f state cpu) IsPlainAct
+plain_mode image f state cpu Running admitted = plain_running image f state cpu admitted
+plain_mode image f state cpu Parked admitted = tt
+plain_mode image f state cpu Failed admitted = tt
+
+plain_marked : (image : Image) (f : Facts) (state : Cpu) (cpu : ℕ) (asked stopped : Bool) → IsAdmitted image → IfSome (act_marked asked stopped image f state cpu) IsPlainAct
+plain_marked image f state cpu true stopped admitted = tt
+plain_marked image f state cpu false true admitted = tt
+plain_marked image f state cpu false false admitted = plain_mode image f state cpu state.mode admitted
+
+entry_plain : (cpu cell : ℕ) (entry : Entry) (o : Option Act) → IfSome o IsPlainAct → option_map (entry_by cpu cell) o ≡ Some entry → IsPlainEntry entry
+entry_plain cpu cell entry None plain h = absurd (none-some entry h)
+entry_plain cpu cell entry (Some act) plain h = let P : Entry → Type 0 = IsPlainEntry in subst P (same_Some (entry_by cpu cell act) entry h) plain
+
+at_board : (image : Image) (f : Facts) (cpu : ℕ) (entry : Entry) (b : Bool) → IsAdmitted image → is_on_board image cpu ≡ b → due_at image f cpu ≡ Some entry → IsPlainEntry entry
+at_board image f cpu entry true admitted e h =
+    entry_plain cpu (f.cpu cpu).owner entry (state_act image f (f.cpu cpu) cpu) (plain_marked image f (f.cpu cpu) cpu (f.cpu cpu).asked (f.cpu cpu).stopped admitted) (sym (due_at-present image f cpu e) ∙ h)
+at_board image f cpu entry false admitted e h = absurd (none-some entry (sym (due_at-absent image f cpu e) ∙ h))
+
+pub due_at-plain : (image : Image) (f : Facts) (cpu : ℕ) (entry : Entry) → IsAdmitted image → due_at image f cpu ≡ Some entry → IsPlainEntry entry
+due_at-plain image f cpu entry admitted h = at_board image f cpu entry (is_on_board image cpu) admitted refl h
+
+plain_from : (image : Image) (f : Facts) (entries : List Entry) → IsAdmitted image → IsLegalFrom image f entries → AllByRecursion IsPlainEntry entries
+plain_from image f [] admitted legal = tt
+plain_from image f (entry ∷ entries) admitted legal = (due_at-plain image f entry.cpu entry admitted legal.0, plain_from image (after image f entry) entries admitted legal.1)
+
+pub legal_is_plain : (image : Image) (entries : List Entry) → IsAdmitted image → IsLegal image entries → All IsPlainEntry entries
+unfolding IsLegal
+legal_is_plain image entries admitted legal = All-from_recursion IsPlainEntry entries (plain_from image (start image) entries admitted legal)
