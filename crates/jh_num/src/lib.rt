@@ -6,8 +6,10 @@ mod address;
 mod no_memory;
 mod rights;
 mod seq;
+mod steps;
 
 pub use address::{ADDRESS_END, PAGE_SIZE};
 pub use no_memory::NoMemory;
 pub use rights::Rights;
 pub use seq::Seq;
+pub use steps::{Probe, Steps};

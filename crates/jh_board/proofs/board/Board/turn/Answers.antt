@@ -1,0 +1,26 @@
+-- The journal is still legal, and what the board holds stands for it.
+use Rattle.std.proofs.Common.{◌∙◌, ◌<◌, length, List, arith, sym, ap, subst}
+use Rattle.std.proofs.lemmas.Bool.{false≢true}
+use Rattle.std.proofs.lemmas.List.{length_push}
+use Rattle.jh_history.specs.declared.entry.Entry.{Entry}
+use Rattle.jh_history.specs.Due.{IsQuiet}
+use Rattle.jh_history.proofs.DueLemmas.{IsLegal-made}
+use Rattle.jh_board.specs.BoardView.{BoardView}
+use Rattle.jh_board.proofs.board.Board.turn.Goals as goal
+
+pub invariant_of-self-in-Some : goal.invariant_of-self-in-Some
+invariant_of-self-in-Some c =
+    let made = rw c.in-Some.is at c.in_ok-made.ensures.ok in
+    record {
+      admitted = c.self.invariant.admitted;
+      built = c.self.invariant.built;
+      legal = IsLegal-made c.self.inside.image c.self.inside.journal.entries c.advance.new.journal.entries c.args.cpu c.in-Some.entry c.self.invariant.legal made.0 made.2;
+      within = let few : length c.self.inside.journal.entries < c.self.inside.limit = made.1 in rw (made.2, length_push) (omega arith);
+      means = c.advance.ensures.means;
+    }
+
+pub returns-else-is_quiet-clause-ok : goal.returns-else-is_quiet-clause-ok
+returns-else-is_quiet-clause-ok c =
+    let made = rw c.in-None.is at c.in_ok-made.ensures.ok in
+    let same = ap (λ (es : List Entry). let view : BoardView = record { image = c.self.inside.image; limit = c.self.inside.limit; entries = es } in view) made.1 ∙ c.self.view_is in
+    (rw (← c.self.view_is) made.0, λ quiet. let P : BoardView → Type 0 = λ v. IsQuiet v.image v.entries in false≢true (c.if-is_quiet.ensures.1 (subst P (sym same) quiet)), same)

@@ -1,0 +1,10 @@
+-- What contracts see of a board.
+use Rattle.std.specs.Prelude.{ℕ, List}
+use Rattle.jh_script.specs.declared.image.Image.{Image}
+use Rattle.jh_history.specs.declared.entry.Entry.{Entry}
+
+-- the image that it was opened with, its limit, and the entries made
+pub record BoardView : Type 0 where
+  pub image : Image
+  pub limit : ℕ
+  pub entries : List Entry

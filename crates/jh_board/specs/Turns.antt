@@ -1,0 +1,32 @@
+-- What a turn of a CPU answers.
+use Rattle.std.specs.Prelude.{◌≡◌, ℕ, ◌<◌, List, [], ◌∷◌, ◌++◌, Bool, length, Option, Some, None, IsSome}
+use Rattle.jh_script.specs.declared.image.Image.{Image}
+use Rattle.jh_history.specs.declared.entry.Entry.{Entry}
+use Rattle.jh_history.specs.Due.{due, IsQuiet}
+use Rattle.jh_history.specs.Items.{Reached}
+use Rattle.jh_board.specs.BoardView.{BoardView}
+use Rattle.jh_board.specs.declared.turn.Turn.{Turn}
+use Rattle.jh_board.specs.declared.turn.Turn.TheVariants.{Made, Edited, NotNow, Done}
+use Rattle.jh_board.specs.declared.turn.TurnFault.{TurnFault}
+use Rattle.jh_board.specs.declared.turn.TurnFault.TheVariants.{Full, NoMemory}
+
+-- the entry due to the CPU, if any, is made, where the limit lets it
+abbrev pub Advances : Image → ℕ → List Entry → ℕ → Option Entry → List Entry → Type 0
+Advances image limit old cpu None new = (due image old cpu ≡ None) × (new ≡ old)
+Advances image limit old cpu (Some entry) new = (due image old cpu ≡ Some entry) × (length old < limit) × (new ≡ old ++ entry ∷ [])
+
+-- from old, a turn of the CPU may answer this and leave new; no table is edited yet
+abbrev pub Turns : BoardView → ℕ → Turn → BoardView → Type 0
+Turns old cpu (Made entry) new = (due old.image old.entries cpu ≡ Some entry) × (length old.entries < old.limit) × (new ≡ record old { entries = old.entries ++ entry ∷ [] })
+Turns old cpu (Edited left) new = ⊥
+Turns old cpu NotNow new = (due old.image old.entries cpu ≡ None) × ¬ IsQuiet old.image old.entries × (new ≡ old)
+Turns old cpu Done new = IsQuiet old.image old.entries × (new ≡ old)
+
+-- from old, a turn of the CPU may be refused by this and leave new
+abbrev pub Refuses : BoardView → ℕ → TurnFault → BoardView → Type 0
+Refuses old cpu Full new = IsSome (due old.image old.entries cpu) × (length old.entries ≡ old.limit) × (new ≡ old)
+Refuses old cpu NoMemory new = new ≡ old
+
+-- items from old end as reached says, and leave new
+abbrev pub Reaches : BoardView → Reached → Bool → BoardView → Type 0
+Reaches old reached full new = (reached ≡ record { entries = new.entries; full = full }) × (new ≡ record old { entries = new.entries })

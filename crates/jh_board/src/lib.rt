@@ -1,0 +1,14 @@
+//! The board: the machine that makes, at each turn of a CPU, the entry that is due.
+#![tactic(auto)]
+
+mod board;
+mod memory;
+mod page;
+mod schedule;
+mod state;
+mod steps;
+mod turn;
+
+pub use board::Board;
+pub use schedule::{Ended, follow, play};
+pub use turn::{Turn, TurnFault};
