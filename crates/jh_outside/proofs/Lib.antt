@@ -1,2 +1,2 @@
-pub mod Fronts
+pub mod CallerLemmas
 pub mod ShelfLemmas

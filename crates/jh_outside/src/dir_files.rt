@@ -1,5 +1,8 @@
 //! Files of the system.
-ghost use Rattle.std.specs.Prelude.{◌≡◌, ◌≤◌, [], None, length, string_bytes, IfOk, IfErr, IfSome};
+ghost use Rattle.std.specs.Prelude.{◌≡◌, ◌≤◌, [], None, length, IfOk};
+ghost use Rattle.jh_outside.specs.Count.{Rose};
+ghost use Rattle.jh_outside.specs.Reads.{HandsOut, OnFault, failed_after};
+ghost use Rattle.jh_outside.specs.Refused.{refused_after};
 
 use crate::files::{FileFault, Files};
 use jh_num::Seq;
@@ -38,6 +41,21 @@ impl<'a, R: rt::Files> DirFiles<'a, R> {
             failed: String::new(alloc),
         }
     }
+
+    // A read that keeps the name where it fails, and counts nothing yet.
+    fn read_naming(&mut self, name: &str, most: usize) -> Result<Seq<u8>, FileFault>
+        ensures within { IfOk result (λ bytes. length bytes ≤ most) }
+        ensures faults { self.new.faults ≡ self.old.faults }
+        ensures failed { self.new.failed ≡ failed_after self.old.failed name.now result }
+    {
+        // A fault is answered only where its name is kept, so the memory for that comes first.
+        let failed = String::from_str(self.alloc, name)?;
+        let outcome = read_file(self.alloc, self.system, name, most);
+        if let Err(FileFault::Fault) = outcome {
+            self.failed = failed;
+        }
+        Ok(Seq::from_vec(outcome?))
+    }
 }
 
 impl<'a, R: rt::Files> Files for DirFiles<'a, R> {
@@ -48,19 +66,20 @@ impl<'a, R: rt::Files> Files for DirFiles<'a, R> {
     ghost faults = { λ s. s.faults };
 
     /// Each `Err` is counted, want of memory too.
-    fn read(&mut self, name: &str, most: usize) -> Result<Seq<u8>, FileFault> {
-        let outcome = read_named(self.alloc, self.system, name, most);
-        if let Err(_) = outcome {
+    fn read(&mut self, name: &str, most: usize) -> Result<Seq<u8>, FileFault>
+        ensures within { IfOk result (λ bytes. length bytes ≤ most) }
+        ensures handed { IfOk result (λ bytes. HandsOut None most bytes) }
+        ensures counted { OnFault result (Rose self.old.faults self.new.faults) }
+        ensures never_falls { self.old.faults ≤ self.new.faults }
+        ensures named { self.new.failed ≡ failed_after self.old.failed name.now result }
+        // exactly what it leaves
+        ensures after { self.new ≡ refused_after self.old name.now result }
+    {
+        let outcome = self.read_naming(name, most);
+        if outcome.is_err() {
             self.faults = self.faults.saturating_add(1);
         }
-        match outcome {
-            Ok(bytes) => Ok(Seq::from_vec(bytes)),
-            Err(None) => Err(FileFault::NoMemory),
-            Err(Some(failed)) => {
-                self.failed = failed;
-                Err(FileFault::Fault)
-            }
-        }
+        outcome
     }
 
     fn failed(&self) -> &str {
@@ -72,25 +91,17 @@ impl<'a, R: rt::Files> Files for DirFiles<'a, R> {
     }
 }
 
-// The first `most` bytes of the file, or the name that failed, or neither for want of memory.
-fn read_named<R: rt::Files>(
+// The first `most` bytes of the file.
+fn read_file<R: rt::Files>(
     alloc: Global,
     system: &R,
     name: &str,
     most: usize,
-) -> Result<Vec<u8>, Option<String>>
-    ensures within { IfOk result (λ bytes. length bytes.items ≤ most) }
-    ensures named { IfErr result (λ e. IfSome e (λ failed. string_bytes failed ≡ name.now)) }
+) -> Result<Vec<u8>, FileFault>
+    ensures { IfOk result (λ bytes. length bytes.items ≤ most) }
 {
-    let Ok(failed) = String::from_str(alloc, name) else {
-        return Err(None);
-    };
-    let opened = fs::open(system, name).map_err(fault_of);
-    match opened.and_then(|mut file| read_front(alloc, &mut file, most)) {
-        Ok(bytes) => Ok(bytes),
-        Err(FileFault::Fault) => Err(Some(failed)),
-        Err(FileFault::NoMemory) => Err(None),
-    }
+    let mut file = fs::open(system, name).map_err(fault_of)?;
+    read_front(alloc, &mut file, most)
 }
 
 // The first `most` bytes that the reader gives.

@@ -1,5 +1,6 @@
 //! Standard output.
-ghost use Rattle.std.specs.Prelude.{◌≡◌, ◌<◌, ◌≤◌, None, length, IfSome};
+ghost use Rattle.std.specs.Prelude.{◌≡◌, ◌<◌, ◌≤◌, None, length, IfSome, IfOk, OnOk, OnErr};
+ghost use Rattle.jh_outside.specs.Count.{Rose, counted_up};
 
 use crate::sink::{Sink, SinkFault};
 use std::io::{ErrorKind, Stdout, Write};
@@ -34,7 +35,15 @@ impl Sink for StdSink {
 
     ghost faults = { λ s. s };
 
-    fn write(&mut self, piece: &[u8]) -> Result<usize, SinkFault> {
+    fn write(&mut self, piece: &[u8]) -> Result<usize, SinkFault>
+        ensures within { IfOk result (λ count. count ≤ length piece.now) }
+        ensures some { IfOk result (λ count. 0 < length piece.now → 0 < count) }
+        ensures counted { OnErr result (Rose self.old self.new) }
+        ensures never_falls { self.old ≤ self.new }
+        // exactly what it leaves
+        ensures ok { OnOk result (self.new ≡ self.old) }
+        ensures err { OnErr result (self.new ≡ counted_up self.old) }
+    {
         match write_some(&mut self.out, piece) {
             Some(count) => Ok(count),
             None => {

@@ -10,6 +10,7 @@ use both::{BothFault, append_both};
 use jh_num::NoMemory;
 use std::alloc::Global;
 use std::test::Fail;
+use std::{fs, process};
 
 fn two_files(alloc: Global) -> Result<MemFiles, NoMemory> {
     let mut files = MemFiles::new(alloc);
@@ -28,8 +29,17 @@ fn a_caller_reads_two_files_in_order_and_appends_them(rt: HostRuntime) -> Result
     assert_eq!(rt; out.bytes(), b"a boar and a".as_slice());
     assert_eq!(rt; files.failed(), "");
     assert_eq!(rt; files.faults(), 0);
-    NoGate.pass(0, 0);
     Ok(())
+}
+
+// A gate that workers share.
+fn passes<G: Gate + Sync>(gate: &G) {
+    gate.pass(0, 0);
+}
+
+#[test]
+fn a_shared_gate_lets_each_worker_pass_at_once() {
+    passes(&NoGate);
 }
 
 #[test]
@@ -65,12 +75,25 @@ fn a_sink_of_ten_bytes_fills_up(rt: HostRuntime) -> Result<(), Fail> {
 
 #[test]
 fn files_of_the_system_are_read_up_to_a_limit(rt: HostRuntime) -> Result<(), Fail> {
-    let name = "/proc/self/stat";
+    let number = process::id(rt.process());
+    let name = format!(in rt.alloc(); "jh_outside-{number}.bin")?;
+    let held: Vec<u8> = (0..9000u32).map(|k| (k % 251) as u8).collect(rt.alloc())?;
+    fs::write(&rt, name.as_str(), held.as_slice())?;
     let mut files = DirFiles::new(rt.alloc(), &rt);
-    let front = files.read(name, 1)?;
-    assert_eq!(rt; front.len(), 1);
+    let mut out = MemSink::new(rt.alloc(), 20_000)?;
+    let name = name.as_str();
+    let done = append_both(rt.alloc(), &mut files, &mut out, name, name, 8195);
+    let whole = files.read(name, 20_000);
+    fs::remove_file(&rt, name)?;
+    assert_eq!(rt; done, Ok(()));
+    let written = out.bytes();
+    assert_eq!(rt; written.len(), 2 * 8195);
+    let (first, second) = written.split_at(8195);
+    assert!(rt; held.as_slice().starts_with(first));
+    assert!(rt; held.as_slice().starts_with(second));
+    assert_eq!(rt; whole?.as_slice(), held.as_slice());
     assert_eq!(rt; files.faults(), 0);
-    assert_eq!(rt; files.read("no such file", 8).is_err(), true);
+    assert!(rt; files.read("no such file", 8).is_err());
     assert_eq!(rt; files.failed(), "no such file");
     assert_eq!(rt; files.faults(), 1);
     Ok(())

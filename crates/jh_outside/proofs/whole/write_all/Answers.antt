@@ -1,8 +1,8 @@
-use Rattle.std.proofs.Common.{◌≤◌, ◌≡◌, ◌+◌, ◌-◌, ℕ, List, length, take, drop, sym, ap, ◌∙◌, length-drop, length-take, arith, rules, Option}
+use Rattle.std.proofs.Common.{◌≤◌, ◌+◌, ◌-◌, ℕ, List, length, take, drop, ap, ◌∙◌, length-drop, length-take, arith, Option}
 use Rattle.std.proofs.lemmas.List.{take_rest}
 use Rattle.std.specs.Io.KnownBytes.{append_known}
 use Rattle.jh_outside.specs.Writes.{Appended}
-use Rattle.jh_outside.proofs.Fronts.{front_further}
+use Rattle.jh_outside.proofs.CallerLemmas.{front_further}
 use Rattle.jh_outside.proofs.whole.write_all.Goals as goal
 
 within_rest : (text : List ℕ) (sent count : ℕ) → sent ≤ length text → count ≤ length (take (length text - sent) (drop sent text)) → sent + count ≤ length text

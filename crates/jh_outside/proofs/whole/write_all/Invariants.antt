@@ -1,4 +1,4 @@
-use Rattle.std.proofs.Common.{◌≡◌, ◌≤◌, ◌-◌, length, take}
+use Rattle.std.proofs.Common.{◌≤◌, ◌-◌, length, take}
 use Rattle.jh_outside.specs.Writes.{Appended}
 use Rattle.jh_outside.proofs.whole.write_all.Given as goal
 
