@@ -1,0 +1,5 @@
+use Rattle.std.proofs.Common.{◌≤◌, length}
+use Rattle.jh_outside.proofs.dir_files.read_front.Given as goal
+
+abbrev pub invariant-loop : goal.invariant-loop
+invariant-loop g l = length l.bytes.items ≤ l.most

@@ -1,0 +1,6 @@
+pub mod Count
+pub mod Reads
+pub mod Refused
+pub mod Writes
+pub mod Shelf
+pub mod Buffer

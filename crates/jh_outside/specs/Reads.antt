@@ -1,0 +1,27 @@
+-- What a read of a name may hand out, and what it leaves.
+use Rattle.std.specs.Prelude.{◌≡◌, ℕ, List, take, ⊤, Option, None, Some, Result, Ok, Err}
+use Rattle.jh_outside.specs.declared.files.FileFault.{FileFault}
+use Rattle.jh_outside.specs.declared.files.FileFault.TheVariants.{Fault, NoMemory}
+
+-- What files tell of a name: nothing, that it is missing, or all the bytes that it holds.
+abbrev pub Told : Type 0
+Told = Option (Option (List ℕ))
+
+-- these bytes may be handed out: the first `most` that the name holds, none for a name that is missing, and any where nothing is told
+abbrev pub HandsOut : Option (Option (List ℕ)) → ℕ → List ℕ → Type 0
+HandsOut None most bytes = ⊤
+HandsOut (Some None) most bytes = ⊥
+HandsOut (Some (Some held)) most bytes = bytes ≡ take most held
+
+module _ {X : Type 0} where
+  -- a fact for the answer `Fault`
+  abbrev pub OnFault : Result X FileFault → Type 0 → Type 0
+  OnFault (Ok _) P = ⊤
+  OnFault (Err Fault) P = P
+  OnFault (Err NoMemory) P = ⊤
+
+  -- the name of the last read that answered `Fault`, after one more read
+  abbrev pub failed_after : List ℕ → List ℕ → Result X FileFault → List ℕ
+  failed_after failed name (Ok _) = failed
+  failed_after failed name (Err Fault) = name
+  failed_after failed name (Err NoMemory) = failed

@@ -1,0 +1,44 @@
+-- What files in memory hold.
+use Rattle.std.specs.Prelude.{ℕ, List, if◌then◌else◌, Option, None, Some, Result, Ok, Err, refl}
+use Rattle.std.specs.Coded.{Coded, code_by, coded×, coded_ℕ, coded_list}
+use Rattle.std.specs.Ordering.{nat_cmp}
+use Rattle.std.specs.Cmp.Lexicographic.{slice_cmp}
+use Rattle.std.specs.FinMap as map
+use Rattle.std.specs.FinSet as set
+use Rattle.jh_outside.specs.Count.{counted_up}
+use Rattle.jh_outside.specs.declared.files.FileFault.{FileFault}
+use Rattle.jh_outside.specs.declared.files.FileFault.TheVariants.{Fault, NoMemory}
+
+pub record Shelf : Type 0 where
+  -- the bytes under each name
+  pub files : map.FinMap (slice_cmp nat_cmp) (List ℕ)
+  -- the numbers of the reads that fail
+  pub failing : set.FinSet nat_cmp
+  -- the number of the next read
+  pub reads : ℕ
+  pub faults : ℕ
+  -- the name of the last read that answered `Fault`
+  pub failed : List ℕ
+
+-- a shelf is stored as the tuple of its fields
+abbrev pub shelf_code : Coded Shelf
+shelf_code =
+    code_by (map.FinMap (slice_cmp nat_cmp) (List ℕ) × (set.FinSet nat_cmp × (ℕ × (ℕ × List ℕ))))
+    (coded× (map.code (coded_list coded_ℕ) (coded_list coded_ℕ)) (coded× (set.code coded_ℕ) (coded× coded_ℕ (coded× coded_ℕ (coded_list coded_ℕ)))))
+    (λ s. (s.files, (s.failing, (s.reads, (s.faults, s.failed)))))
+    (λ p. record { files = p.0; failing = p.1.0; reads = p.1.1.0; faults = p.1.1.1.0; failed = p.1.1.1.1 })
+    (λ _. refl)
+
+-- the files tell each name
+abbrev pub told_by : Shelf → List ℕ → Option (Option (List ℕ))
+told_by shelf name = Some (map.get shelf.files name)
+
+-- what the next read finds, if it is of this name: nothing where it fails
+abbrev pub found_by : Shelf → List ℕ → Option (List ℕ)
+found_by shelf name = if set.contains shelf.failing shelf.reads then None else map.get shelf.files name
+
+-- the files after a read of the name with this answer
+abbrev pub after_read : {X : Type 0} → Shelf → List ℕ → Result X FileFault → Shelf
+after_read shelf name (Ok _) = record shelf { reads = counted_up shelf.reads }
+after_read shelf name (Err Fault) = record shelf { reads = counted_up shelf.reads; faults = counted_up shelf.faults; failed = name }
+after_read shelf name (Err NoMemory) = record shelf { reads = counted_up shelf.reads }

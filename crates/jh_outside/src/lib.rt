@@ -1,0 +1,24 @@
+//! The outside: files that are read whole, a sink that text is appended to, and a gate that workers
+//! pass. Each is a trait whose meaning its clauses say, with one form in memory, and files and
+//! standard output of the system.
+#![tactic(auto)]
+
+mod dir_files;
+mod files;
+mod gate;
+mod mem_files;
+mod mem_sink;
+mod sink;
+mod std_sink;
+#[cfg(test)]
+mod tests;
+mod whole;
+
+pub use dir_files::DirFiles;
+pub use files::{FileFault, Files};
+pub use gate::{Gate, NoGate};
+pub use mem_files::MemFiles;
+pub use mem_sink::MemSink;
+pub use sink::{Sink, SinkFault};
+pub use std_sink::StdSink;
+pub use whole::write_all;
