@@ -1,0 +1,6 @@
+//! The text of a journal, both ways: one line for each entry.
+#![tactic(auto)]
+
+mod print;
+
+pub use print::{print_entry, print_journal};
