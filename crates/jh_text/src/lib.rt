@@ -2,5 +2,6 @@
 #![tactic(auto)]
 
 mod print;
+mod words;
 
 pub use print::{print_entry, print_journal};
