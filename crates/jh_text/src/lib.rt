@@ -1,6 +1,7 @@
 //! The text of a journal, both ways: one line for each entry.
 #![tactic(auto)]
 
+mod entries;
 mod print;
 mod words;
 
