@@ -1,1 +1,4 @@
+pub mod Acts
 pub mod Numbers
+pub mod Splits
+pub mod Spellings
