@@ -64,9 +64,9 @@ width_again width h =
     let small : width ≤ 8 = width_le width h in
     rw (decimal_again 8 width (omega arith) small, h) refl
 
--- the values of one width are below 2 ^ 64
-pub value_small : (width value : ℕ) → IsTrue (is_width width) → value < 256 ^ width → value < 2 ^ 64
-value_small width value h fits = omega (arith, pow-le-pow_right {n = 256} (omega arith) {i = width} {j = 8} (width_le width h))
+-- eight bytes are the most
+pub widest : (width : ℕ) → IsTrue (is_width width) → 256 ^ width ≤ 2 ^ 64
+widest width h = omega (arith, pow-le-pow_right {n = 256} (omega arith) {i = width} {j = 8} (width_le width h))
 
 pub got_again : (most : ℕ) (got : Option ℕ) → most < 2 ^ 64 → IfSome got (λ value. value ≤ most) → got_of most (got_text got) ≡ Some got
 unfolding got_of
