@@ -1,4 +1,5 @@
 pub mod Acts
+pub mod Lines
 pub mod Numbers
-pub mod Splits
 pub mod Spellings
+pub mod Splits

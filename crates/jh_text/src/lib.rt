@@ -2,7 +2,9 @@
 #![tactic(auto)]
 
 mod entries;
+mod fault;
 mod print;
 mod words;
 
+pub use fault::{JournalFault, MAX_ENTRIES};
 pub use print::{print_entry, print_journal};
