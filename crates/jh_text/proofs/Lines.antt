@@ -17,7 +17,7 @@ use Rattle.jh_text.specs.Text.{hexadecimal, got_text, ok_text, decision_text, se
 use Rattle.jh_text.specs.Faults.{BeginsWithNoLine}
 use Rattle.jh_text.specs.Reading.{split_once, entry_of}
 use Rattle.jh_text.proofs.Numbers.{Lacks-digits}
-use Rattle.jh_text.proofs.Splits.{Lacks, Lacks-cons, Lacks-append, split_once-front}
+use Rattle.jh_text.proofs.Splits.{Lacks, Lacks-cons, Lacks-append, split_once-front, split_once_whole}
 use Rattle.jh_text.proofs.Spellings.{width_le, widest}
 use Rattle.jh_text.proofs.Acts.{entry_again}
 
@@ -103,3 +103,27 @@ one_line entry other rest more h k e =
     let parts : Some (entry_text entry, rest) ≡ Some (entry_text other, more) = sym (line_split entry rest h) ∙ ap (split_once 10) e ∙ line_split other more k in
     let texts : (entry_text entry, rest) ≡ (entry_text other, more) = same_Some _ _ parts in
     (same_Some entry other (sym (entry_again entry h) ∙ ap entry_of (ap (λ (x : List ℕ × List ℕ). x.0) texts) ∙ entry_again other k), ap (λ (x : List ℕ × List ℕ). x.1) texts)
+
+-- where there is no line feed, or the part before it tells no entry, or tells one with another text, no line begins
+pub no_line_unsplit : (text : List ℕ) → split_once 10 text ≡ None → BeginsWithNoLine text
+no_line_unsplit text none = λ entry rest h e. none-some _ (sym none ∙ ap (split_once 10) e ∙ line_split entry rest h)
+
+-- the part before the line feed is the text of the entry whose line begins
+first_text : (text front back rest : List ℕ) (entry : Entry) → split_once 10 text ≡ Some (front, back) → IsReadable entry → text ≡ line entry ++ rest → front ≡ entry_text entry
+first_text text front back rest entry split h e =
+    ap (λ (x : List ℕ × List ℕ). x.0) (same_Some (front, back) (entry_text entry, rest) (sym split ∙ ap (split_once 10) e ∙ line_split entry rest h))
+
+pub no_line_untold : (text front back : List ℕ) → split_once 10 text ≡ Some (front, back) → entry_of front ≡ None → BeginsWithNoLine text
+no_line_untold text front back split none = λ entry rest h e.
+    none-some entry (sym none ∙ ap entry_of (first_text text front back rest entry split h e) ∙ entry_again entry h)
+
+pub no_line_other : (text front back : List ℕ) (found : Entry) → split_once 10 text ≡ Some (front, back) → entry_of front ≡ Some found → entry_text found ≢ front → BeginsWithNoLine text
+no_line_other text front back found split told other = λ entry rest h e.
+    let is : front ≡ entry_text entry = first_text text front back rest entry split h e in
+    let same : found ≡ entry = same_Some found entry (sym told ∙ ap entry_of is ∙ entry_again entry h) in
+    other (ap entry_text same ∙ sym is)
+
+-- the line that the part before the line feed is
+pub line_found : (text front back : List ℕ) (entry : Entry) → split_once 10 text ≡ Some (front, back) → entry_text entry ≡ front → text ≡ line entry ++ back
+line_found text front back entry split e =
+    split_once_whole 10 text front back split ∙ ap (λ f. f ++ 10 ∷ back) (sym e) ∙ sym (append_assoc (entry_text entry) (10 ∷ []) back)

@@ -3,6 +3,8 @@ use Rattle.std.specs.Prelude.{◌≡◌, ◌≢◌, ℕ, ◌+◌, ◌≤◌, Lis
 use Rattle.std.specs.List.{AllByRecursion}
 use Rattle.jh_history.specs.declared.entry.Entry.{Entry}
 use Rattle.jh_text.specs.declared.fault.TheConstants.{MAX_ENTRIES}
+use Rattle.jh_text.specs.declared.fault.JournalFault.{JournalFault}
+use Rattle.jh_text.specs.declared.fault.JournalFault.TheVariants.{Line, TooLong, NoMemory}
 use Rattle.jh_text.specs.Ranges.{IsReadable}
 use Rattle.jh_text.specs.Text.{line, journal_text}
 
@@ -35,3 +37,9 @@ pub record IsTooLong (text : List ℕ) : Type 0 where
   pub readable : AllByRecursion IsReadable first
   pub long : length first ≡ MAX_ENTRIES + 1
   pub whole : text ≡ journal_text first ++ rest
+
+-- the fault is one that the text has; want of memory is no fault of a text
+abbrev pub IsFault : List ℕ → JournalFault → Type 0
+IsFault text (Line number) = IsFirstBadLine text number
+IsFault text TooLong = IsTooLong text
+IsFault text NoMemory = Unit {0}

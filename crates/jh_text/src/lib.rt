@@ -4,6 +4,7 @@
 mod entries;
 mod fault;
 mod print;
+mod read;
 mod words;
 
 pub use fault::{JournalFault, MAX_ENTRIES};

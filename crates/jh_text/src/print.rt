@@ -29,7 +29,7 @@ pub fn print_journal(alloc: Global, journal: &Journal) -> Result<Vec<u8>, NoMemo
 }
 
 /// Puts the text of the entry at the end.
-fn push_entry(text: &mut String, entry: &Entry) -> Result<(), NoMemory>
+pub(crate) fn push_entry(text: &mut String, entry: &Entry) -> Result<(), NoMemory>
     ensures { OnOk result (string_bytes text.new ≡ string_bytes text.old ++ entry_text entry.now) }
 {
     let cpu = entry.cpu;
