@@ -1,5 +1,5 @@
 -- Lines, and the texts that they make.
-use Rattle.std.proofs.Common.{◌≡◌, ◌≢◌, ℕ, ◌+◌, ◌-◌, ◌^◌, ◌<◌, ◌≤◌, ℤ, pos, negsuc, suc, Bool, true, false, List, [], ◌∷◌, ◌++◌, length, Option, Some, None, refl, sym, ap, ◌∙◌, subst, arith, FitsSigned, w64, codes, append_assoc}
+use Rattle.std.proofs.Common.{◌≡◌, ◌≢◌, ℕ, ◌+◌, ◌-◌, ◌^◌, ◌<◌, ◌≤◌, ℤ, pos, negsuc, suc, Bool, true, false, List, [], ◌∷◌, ◌++◌, length, Option, Some, None, refl, sym, ap, ◌∙◌, subst, arith, FitsSigned, w64, codes, append_assoc, length-append}
 use Rattle.std.specs.Option.{IfSome}
 use Rattle.std.specs.List.{join_with_byte, AllByRecursion, flat_map}
 use Rattle.std.specs.Fmt.{digits, decimal, signed_decimal}
@@ -14,7 +14,8 @@ use Rattle.jh_history.specs.declared.entry.Heard.{Heard}
 use Rattle.jh_history.specs.declared.entry.Heard.TheVariants as heard
 use Rattle.jh_text.specs.Ranges.{is_width, IsReadableAct, IsReadable}
 use Rattle.jh_text.specs.Text.{hexadecimal, got_text, ok_text, decision_text, settled_text, heard_text, act_words, entry_words, entry_text, line, journal_text}
-use Rattle.jh_text.specs.Faults.{BeginsWithNoLine}
+use Rattle.jh_text.specs.declared.fault.TheConstants.{MAX_ENTRIES}
+use Rattle.jh_text.specs.Faults.{BeginsWithNoLine, IsTooLong}
 use Rattle.jh_text.specs.Reading.{split_once, entry_of}
 use Rattle.jh_text.proofs.Numbers.{Lacks-digits}
 use Rattle.jh_text.proofs.Splits.{Lacks, Lacks-cons, Lacks-append, split_once-front, split_once_whole}
@@ -127,3 +128,22 @@ no_line_other text front back found split told other = λ entry rest h e.
 pub line_found : (text front back : List ℕ) (entry : Entry) → split_once 10 text ≡ Some (front, back) → entry_text entry ≡ front → text ≡ line entry ++ back
 line_found text front back entry split e =
     split_once_whole 10 text front back split ∙ ap (λ f. f ++ 10 ∷ back) (sym e) ∙ sym (append_assoc (entry_text entry) (10 ∷ []) back)
+
+all_push : (entries : List Entry) (entry : Entry) → AllByRecursion IsReadable entries → IsReadable entry → AllByRecursion IsReadable (entries ++ entry ∷ [])
+all_push [] entry all h = (h, tt)
+all_push (first ∷ entries) entry all h = (all.0, all_push entries entry all.1 h)
+
+text_push : (entries : List Entry) (entry : Entry) (rest : List ℕ) → journal_text (entries ++ entry ∷ []) ++ rest ≡ journal_text entries ++ (line entry ++ rest)
+text_push [] entry rest = append_assoc (line entry) [] rest
+text_push (first ∷ entries) entry rest =
+    append_assoc (line first) (journal_text (entries ++ entry ∷ [])) rest ∙ ap (λ t. line first ++ t) (text_push entries entry rest) ∙ sym (append_assoc (line first) (journal_text entries) (line entry ++ rest))
+
+-- one line more than a journal may have
+pub too_long : (text rest after : List ℕ) (entries : List Entry) (entry : Entry) → AllByRecursion IsReadable entries → IsReadable entry → length entries ≡ MAX_ENTRIES → text ≡ journal_text entries ++ rest → rest ≡ line entry ++ after → IsTooLong text
+too_long text rest after entries entry all h full whole next = record {
+    first = entries ++ entry ∷ [];
+    rest = after;
+    readable = all_push entries entry all h;
+    long = omega (arith, length-append entries (entry ∷ []));
+    whole = whole ∙ ap (λ t. journal_text entries ++ t) next ∙ sym (text_push entries entry after)
+  }
