@@ -1,0 +1,5 @@
+pub mod Acts
+pub mod Lines
+pub mod Numbers
+pub mod Spellings
+pub mod Splits

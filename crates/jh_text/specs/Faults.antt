@@ -1,0 +1,45 @@
+-- What the reader answers to a text.
+use Rattle.std.specs.Prelude.{◌≡◌, ◌≢◌, ℕ, ◌+◌, ◌≤◌, List, [], ◌++◌, length}
+use Rattle.std.specs.List.{AllByRecursion}
+use Rattle.jh_history.specs.declared.entry.Entry.{Entry}
+use Rattle.jh_text.specs.declared.fault.TheConstants.{MAX_ENTRIES}
+use Rattle.jh_text.specs.declared.fault.JournalFault.{JournalFault}
+use Rattle.jh_text.specs.declared.fault.JournalFault.TheVariants.{Line, TooLong, NoMemory}
+use Rattle.jh_text.specs.Ranges.{IsReadable}
+use Rattle.jh_text.specs.Text.{line, journal_text}
+
+-- the text is that of a journal with these entries
+pub record IsJournalText (text : List ℕ) (entries : List Entry) : Type 0 where
+  pub readable : AllByRecursion IsReadable entries
+  pub within : length entries ≤ MAX_ENTRIES
+  pub whole : text ≡ journal_text entries
+
+-- the text begins with the line of no entry
+abbrev pub BeginsWithNoLine : List ℕ → Type 0
+BeginsWithNoLine text = (entry : Entry) (rest : List ℕ) → IsReadable entry → text ≢ line entry ++ rest
+
+-- each line before the one with this number, from 1, is the line of an entry, and this one is there and is not: where
+-- the text ends without a line feed, what stands behind the last line feed is such a line
+pub record IsFirstBadLine (text : List ℕ) (number : ℕ) : Type 0 where
+  pub before : List Entry
+  pub rest : List ℕ
+  pub readable : AllByRecursion IsReadable before
+  pub within : length before ≤ MAX_ENTRIES
+  pub number_is : number ≡ length before + 1
+  pub whole : text ≡ journal_text before ++ rest
+  pub more : rest ≢ []
+  pub bad : BeginsWithNoLine rest
+
+-- the first lines of the text, one more than a journal may have, are lines of entries
+pub record IsTooLong (text : List ℕ) : Type 0 where
+  pub first : List Entry
+  pub rest : List ℕ
+  pub readable : AllByRecursion IsReadable first
+  pub long : length first ≡ MAX_ENTRIES + 1
+  pub whole : text ≡ journal_text first ++ rest
+
+-- the fault is one that the text has; want of memory is no fault of a text
+abbrev pub IsFault : List ℕ → JournalFault → Type 0
+IsFault text (Line number) = IsFirstBadLine text number
+IsFault text TooLong = IsTooLong text
+IsFault text NoMemory = Unit {0}

@@ -1,0 +1,5 @@
+pub mod FaultText
+pub mod Faults
+pub mod Ranges
+pub mod Reading
+pub mod Text

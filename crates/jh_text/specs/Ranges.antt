@@ -1,0 +1,34 @@
+-- Which entries a text may hold: those whose numbers are within their ranges.
+use Rattle.std.specs.Prelude.{ℕ, ◌^◌, ◌<◌, Bool, ◌||◌, ◌==◌, IsTrue, IfSome, Option, None, Some, FitsSigned}
+use Rattle.std.specs.Int.{w64}
+use Rattle.jh_history.specs.declared.entry.Entry.{Entry}
+use Rattle.jh_history.specs.declared.entry.Act.{Act}
+use Rattle.jh_history.specs.declared.entry.Act.TheVariants.{Read, Write, Fetch, Await, Irq, Hvc, Begin, Stop, Decide, Settle, Commit, Note, Noted, Finish}
+
+-- how many bytes an access may have
+abbrev pub is_width : ℕ → Bool
+is_width width = (width == 1) || (width == 2) || (width == 4) || (width == 8)
+
+-- addresses, codes and arguments are below 2 ^ 64, ids and devices below 2 ^ 32, a value has as many bytes as its
+-- access, an instruction four, and an answer is one of 64 bits with a sign
+abbrev pub IsReadableAct : Act → Type 0
+IsReadableAct (Read width at got) = IsTrue (is_width width) × (at < 2 ^ 64) × IfSome got (λ value. value < 256 ^ width)
+IsReadableAct (Write width at value ok) = IsTrue (is_width width) × (at < 2 ^ 64) × (value < 256 ^ width)
+IsReadableAct (Fetch at got) = (at < 2 ^ 64) × IfSome got (λ value. value < 2 ^ 32)
+IsReadableAct (Await width at value ok) = IsTrue (is_width width) × (at < 2 ^ 64) × (value < 256 ^ width)
+IsReadableAct (Irq device vector) = (device < 2 ^ 32) × (vector < 256)
+IsReadableAct (Hvc code a b answer) = (code < 2 ^ 64) × (a < 2 ^ 64) × (b < 2 ^ 64) × FitsSigned w64 answer
+IsReadableAct (Begin code a b) = (code < 2 ^ 64) × (a < 2 ^ 64) × (b < 2 ^ 64)
+IsReadableAct Stop = Unit {0}
+IsReadableAct (Decide refused) = IfSome refused (FitsSigned w64)
+IsReadableAct (Settle how) = Unit {0}
+IsReadableAct Commit = Unit {0}
+IsReadableAct (Note id) = id < 2 ^ 32
+IsReadableAct (Noted id how) = id < 2 ^ 32
+IsReadableAct (Finish answer) = FitsSigned w64 answer
+
+-- the CPU is one of 16, the cell's id is below 2 ^ 32, and the act's numbers are within their ranges
+pub record IsReadable (entry : Entry) : Type 0 where
+  pub cpu : entry.cpu < 16
+  pub cell : entry.cell < 2 ^ 32
+  pub act : IsReadableAct entry.act

@@ -1,0 +1,74 @@
+-- The text of an entry and of a journal.
+use Rattle.std.specs.Prelude.{ℕ, Bool, true, false, Option, Some, None, ℤ, List, [], ◌∷◌, ◌++◌, codes}
+use Rattle.std.specs.List.{join_with_byte, flat_map}
+use Rattle.std.specs.Fmt.{decimal, signed_decimal, digits}
+use Rattle.jh_history.specs.declared.entry.Entry.{Entry}
+use Rattle.jh_history.specs.declared.entry.Act.{Act}
+use Rattle.jh_history.specs.declared.entry.Act.TheVariants.{Read, Write, Fetch, Await, Irq, Hvc, Begin, Stop, Decide, Settle, Commit, Note, Noted, Finish}
+use Rattle.jh_history.specs.declared.entry.Settled.{Settled}
+use Rattle.jh_history.specs.declared.entry.Settled.TheVariants as settled
+use Rattle.jh_history.specs.declared.entry.Heard.{Heard}
+use Rattle.jh_history.specs.declared.entry.Heard.TheVariants as heard
+
+-- `0x`, and the digits of the number in base 16, in lower case and without leading zeros
+abbrev pub hexadecimal : ℕ → List ℕ
+hexadecimal n = codes "0x" ++ digits 16 false n
+
+-- what a read or a fetch gave
+abbrev pub got_text : Option ℕ → List ℕ
+got_text (Some value) = hexadecimal value
+got_text None = codes "violation"
+
+-- whether a write or a wait was granted
+abbrev pub ok_text : Bool → List ℕ
+ok_text true = codes "ok"
+ok_text false = codes "violation"
+
+-- whether a call goes on, or the number with which it is refused
+abbrev pub decision_text : Option ℤ → List ℕ
+decision_text None = codes "go"
+decision_text (Some number) = signed_decimal number
+
+abbrev pub settled_text : Settled → List ℕ
+settled_text settled.Agreed = codes "agreed"
+settled_text settled.Denied = codes "denied"
+settled_text settled.Timeout = codes "timeout"
+
+abbrev pub heard_text : Heard → List ℕ
+heard_text heard.Received = codes "received"
+heard_text heard.Down = codes "down"
+heard_text heard.Other = codes "other"
+heard_text heard.Timeout = codes "timeout"
+
+-- the words of an act
+abbrev pub act_words : Act → List (List ℕ)
+act_words (Read width at got) = codes "read" ∷ decimal width ∷ hexadecimal at ∷ codes "=" ∷ got_text got ∷ []
+act_words (Write width at value ok) = codes "write" ∷ decimal width ∷ hexadecimal at ∷ hexadecimal value ∷ codes "=" ∷ ok_text ok ∷ []
+act_words (Fetch at got) = codes "fetch" ∷ hexadecimal at ∷ codes "=" ∷ got_text got ∷ []
+act_words (Await width at value ok) = codes "await" ∷ decimal width ∷ hexadecimal at ∷ hexadecimal value ∷ codes "=" ∷ ok_text ok ∷ []
+act_words (Irq device vector) = codes "irq" ∷ codes "=" ∷ decimal device ∷ decimal vector ∷ []
+act_words (Hvc code a b answer) = codes "hvc" ∷ decimal code ∷ hexadecimal a ∷ hexadecimal b ∷ codes "=" ∷ signed_decimal answer ∷ []
+act_words (Begin code a b) = codes "hvc" ∷ decimal code ∷ hexadecimal a ∷ hexadecimal b ∷ codes "=" ∷ codes "begin" ∷ []
+act_words Stop = codes "stop" ∷ []
+act_words (Decide refused) = codes "decide" ∷ codes "=" ∷ decision_text refused ∷ []
+act_words (Settle how) = codes "settle" ∷ codes "=" ∷ settled_text how ∷ []
+act_words Commit = codes "commit" ∷ []
+act_words (Note id) = codes "note" ∷ decimal id ∷ []
+act_words (Noted id how) = codes "noted" ∷ decimal id ∷ codes "=" ∷ heard_text how ∷ []
+act_words (Finish answer) = codes "finish" ∷ codes "=" ∷ signed_decimal answer ∷ []
+
+-- the CPU, the cell that it belonged to, and what it did
+abbrev pub entry_words : Entry → List (List ℕ)
+entry_words entry = decimal entry.cpu ∷ decimal entry.cell ∷ act_words entry.act
+
+-- the words, with one space between each two
+abbrev pub entry_text : Entry → List ℕ
+entry_text entry = join_with_byte 32 (entry_words entry)
+
+-- the text, ended by a line feed
+abbrev pub line : Entry → List ℕ
+line entry = entry_text entry ++ 10 ∷ []
+
+-- one line for each entry, in order
+abbrev pub journal_text : List Entry → List ℕ
+journal_text = flat_map line

@@ -1,0 +1,310 @@
+//! The one entry whose text a line may be.
+//!
+//! These functions go by the places of the words, and take some words that no entry's text has: a number
+//! with leading zeros or in upper case, anything in the place of an equals sign. Whether the line is the
+//! text of the entry that they find is then seen by printing it.
+ghost use Rattle.std.specs.Prelude.{◌≡◌, ◌^◌, ◌<◌, ◌≤◌, IfSome, IsTrue, FitsSigned};
+ghost use Rattle.std.specs.Int.{w64};
+ghost use Rattle.jh_text.specs.Ranges.{is_width, IsReadableAct, IsReadable};
+ghost use Rattle.jh_text.specs.Reading.{got_of, ok_of, decision_of, settled_of, heard_of, read_of, attempt_of, write_of, await_of, fetch_of, irq_of, call_of, decide_of, settle_of, note_of, noted_of, finish_of, named_of, act_of, entry_of};
+
+use crate::words::{answer, decimal, hexadecimal, is, max_of_width, split_once, width};
+use jh_history::{Act, Entry, Heard, Settled};
+
+#[tactic(auto, unfolding(crate::specs::Reading::entry_of))]
+pub(crate) fn entry(line: &[u8]) -> Option<Entry>
+    ensures value { result ≡ entry_of line.now }
+    ensures readable { IfSome result IsReadable }
+{
+    let (cpu, rest) = split_once(line, b' ')?;
+    let (cell, act_words) = split_once(rest, b' ')?;
+    let cpu = decimal(cpu, 15)? as u8;
+    let cell = decimal(cell, u32::MAX as u64)? as u32;
+    let act = act(act_words)?;
+    Some(Entry { cpu, cell, act })
+}
+
+#[tactic(auto, unfolding(crate::specs::Reading::act_of))]
+fn act(words: &[u8]) -> Option<Act>
+    ensures value { result ≡ act_of words.now }
+    ensures readable { IfSome result IsReadableAct }
+{
+    if is(words, "stop") {
+        return Some(Act::Stop);
+    }
+    if is(words, "commit") {
+        return Some(Act::Commit);
+    }
+    let (name, rest) = split_once(words, b' ')?;
+    named_act(name, rest)
+}
+
+#[tactic(auto, unfolding(crate::specs::Reading::named_of))]
+fn named_act(name: &[u8], rest: &[u8]) -> Option<Act>
+    ensures value { result ≡ named_of name.now rest.now }
+    ensures readable { IfSome result IsReadableAct }
+{
+    if is(name, "read") {
+        return read(rest);
+    }
+    if is(name, "write") {
+        return write(rest);
+    }
+    if is(name, "fetch") {
+        return fetch(rest);
+    }
+    if is(name, "await") {
+        return wait(rest);
+    }
+    if is(name, "irq") {
+        return irq(rest);
+    }
+    if is(name, "hvc") {
+        return call(rest);
+    }
+    if is(name, "decide") {
+        return decide(rest);
+    }
+    if is(name, "settle") {
+        return settle(rest);
+    }
+    if is(name, "note") {
+        return note(rest);
+    }
+    if is(name, "noted") {
+        return noted(rest);
+    }
+    if is(name, "finish") {
+        return finish(rest);
+    }
+    None
+}
+
+#[tactic(auto, unfolding(crate::specs::Reading::read_of))]
+fn read(rest: &[u8]) -> Option<Act>
+    ensures value { result ≡ read_of rest.now }
+    ensures readable { IfSome result IsReadableAct }
+{
+    let (width_word, rest) = split_once(rest, b' ')?;
+    let (at, rest) = split_once(rest, b' ')?;
+    let (_, got_word) = split_once(rest, b' ')?;
+    let width = width(width_word)?;
+    let at = hexadecimal(at, u64::MAX)?;
+    let got = got(max_of_width(width), got_word)?;
+    Some(Act::Read { width, at, got })
+}
+
+#[tactic(auto, unfolding(crate::specs::Reading::write_of))]
+fn write(rest: &[u8]) -> Option<Act>
+    ensures value { result ≡ write_of rest.now }
+    ensures readable { IfSome result IsReadableAct }
+{
+    let (width, at, value, ok) = attempt(rest)?;
+    Some(Act::Write {
+        width,
+        at,
+        value,
+        ok,
+    })
+}
+
+#[tactic(auto, unfolding(crate::specs::Reading::await_of))]
+fn wait(rest: &[u8]) -> Option<Act>
+    ensures value { result ≡ await_of rest.now }
+    ensures readable { IfSome result IsReadableAct }
+{
+    let (width, at, value, ok) = attempt(rest)?;
+    Some(Act::Await {
+        width,
+        at,
+        value,
+        ok,
+    })
+}
+
+/// The width, the address and the value of a write or a wait, and whether it was granted.
+#[tactic(auto, unfolding(crate::specs::Reading::attempt_of))]
+fn attempt(rest: &[u8]) -> Option<(u8, u64, u64, bool)>
+    ensures value { result ≡ attempt_of rest.now }
+    ensures width { IfSome result (λ x. IsTrue (is_width x.0)) }
+    ensures at { IfSome result (λ x. x.1 < 2 ^ 64) }
+    ensures fits { IfSome result (λ x. x.2 < 256 ^ x.0) }
+{
+    let (width_word, rest) = split_once(rest, b' ')?;
+    let (at, rest) = split_once(rest, b' ')?;
+    let (value, rest) = split_once(rest, b' ')?;
+    let (_, ok_word) = split_once(rest, b' ')?;
+    let width = width(width_word)?;
+    let at = hexadecimal(at, u64::MAX)?;
+    let value = hexadecimal(value, max_of_width(width))?;
+    let ok = ok(ok_word)?;
+    Some((width, at, value, ok))
+}
+
+#[tactic(auto, unfolding(crate::specs::Reading::fetch_of))]
+fn fetch(rest: &[u8]) -> Option<Act>
+    ensures value { result ≡ fetch_of rest.now }
+    ensures readable { IfSome result IsReadableAct }
+{
+    let (at, rest) = split_once(rest, b' ')?;
+    let (_, got_word) = split_once(rest, b' ')?;
+    let at = hexadecimal(at, u64::MAX)?;
+    let got = got(u32::MAX as u64, got_word)?;
+    Some(Act::Fetch { at, got })
+}
+
+#[tactic(auto, unfolding(crate::specs::Reading::irq_of))]
+fn irq(rest: &[u8]) -> Option<Act>
+    ensures value { result ≡ irq_of rest.now }
+    ensures readable { IfSome result IsReadableAct }
+{
+    let (_, rest) = split_once(rest, b' ')?;
+    let (device, vector) = split_once(rest, b' ')?;
+    let device = decimal(device, u32::MAX as u64)? as u32;
+    let vector = decimal(vector, u8::MAX as u64)? as u8;
+    Some(Act::Irq { device, vector })
+}
+
+#[tactic(auto, unfolding(crate::specs::Reading::call_of))]
+fn call(rest: &[u8]) -> Option<Act>
+    ensures value { result ≡ call_of rest.now }
+    ensures readable { IfSome result IsReadableAct }
+{
+    let (code, rest) = split_once(rest, b' ')?;
+    let (a, rest) = split_once(rest, b' ')?;
+    let (b, rest) = split_once(rest, b' ')?;
+    let (_, outcome) = split_once(rest, b' ')?;
+    let code = decimal(code, u64::MAX)?;
+    let a = hexadecimal(a, u64::MAX)?;
+    let b = hexadecimal(b, u64::MAX)?;
+    if is(outcome, "begin") {
+        return Some(Act::Begin { code, a, b });
+    }
+    let answer = answer(outcome)?;
+    Some(Act::Hvc { code, a, b, answer })
+}
+
+#[tactic(auto, unfolding(crate::specs::Reading::decide_of))]
+fn decide(rest: &[u8]) -> Option<Act>
+    ensures value { result ≡ decide_of rest.now }
+    ensures readable { IfSome result IsReadableAct }
+{
+    let (_, word) = split_once(rest, b' ')?;
+    let refused = decision(word)?;
+    Some(Act::Decide { refused })
+}
+
+#[tactic(auto, unfolding(crate::specs::Reading::settle_of))]
+fn settle(rest: &[u8]) -> Option<Act>
+    ensures value { result ≡ settle_of rest.now }
+    ensures readable { IfSome result IsReadableAct }
+{
+    let (_, word) = split_once(rest, b' ')?;
+    let how = settled(word)?;
+    Some(Act::Settle { how })
+}
+
+#[tactic(auto, unfolding(crate::specs::Reading::note_of))]
+fn note(rest: &[u8]) -> Option<Act>
+    ensures value { result ≡ note_of rest.now }
+    ensures readable { IfSome result IsReadableAct }
+{
+    let id = decimal(rest, u32::MAX as u64)? as u32;
+    Some(Act::Note { id })
+}
+
+#[tactic(auto, unfolding(crate::specs::Reading::noted_of))]
+fn noted(rest: &[u8]) -> Option<Act>
+    ensures value { result ≡ noted_of rest.now }
+    ensures readable { IfSome result IsReadableAct }
+{
+    let (id, rest) = split_once(rest, b' ')?;
+    let (_, word) = split_once(rest, b' ')?;
+    let id = decimal(id, u32::MAX as u64)? as u32;
+    let how = heard(word)?;
+    Some(Act::Noted { id, how })
+}
+
+#[tactic(auto, unfolding(crate::specs::Reading::finish_of))]
+fn finish(rest: &[u8]) -> Option<Act>
+    ensures value { result ≡ finish_of rest.now }
+    ensures readable { IfSome result IsReadableAct }
+{
+    let (_, word) = split_once(rest, b' ')?;
+    let answer = answer(word)?;
+    Some(Act::Finish { answer })
+}
+
+/// What a read or a fetch gave; without a value where it was a violation.
+#[tactic(auto, unfolding(crate::specs::Reading::got_of))]
+fn got(most: u64, word: &[u8]) -> Option<Option<u64>>
+    ensures value { result ≡ got_of most word.now }
+    ensures bound { IfSome result (λ got. IfSome got (λ value. value ≤ most)) }
+{
+    if is(word, "violation") {
+        return Some(None);
+    }
+    let value = hexadecimal(word, most)?;
+    Some(Some(value))
+}
+
+#[tactic(auto, unfolding(crate::specs::Reading::ok_of))]
+fn ok(word: &[u8]) -> Option<bool>
+    ensures { result ≡ ok_of word.now }
+{
+    if is(word, "ok") {
+        return Some(true);
+    }
+    if is(word, "violation") {
+        return Some(false);
+    }
+    None
+}
+
+/// The number with which a call is refused; without one where it goes on.
+#[tactic(auto, unfolding(crate::specs::Reading::decision_of))]
+fn decision(word: &[u8]) -> Option<Option<i64>>
+    ensures value { result ≡ decision_of word.now }
+    ensures fits { IfSome result (λ refused. IfSome refused (FitsSigned w64)) }
+{
+    if is(word, "go") {
+        return Some(None);
+    }
+    let number = answer(word)?;
+    Some(Some(number))
+}
+
+#[tactic(auto, unfolding(crate::specs::Reading::settled_of))]
+fn settled(word: &[u8]) -> Option<Settled>
+    ensures { result ≡ settled_of word.now }
+{
+    if is(word, "agreed") {
+        return Some(Settled::Agreed);
+    }
+    if is(word, "denied") {
+        return Some(Settled::Denied);
+    }
+    if is(word, "timeout") {
+        return Some(Settled::Timeout);
+    }
+    None
+}
+
+#[tactic(auto, unfolding(crate::specs::Reading::heard_of))]
+fn heard(word: &[u8]) -> Option<Heard>
+    ensures { result ≡ heard_of word.now }
+{
+    if is(word, "received") {
+        return Some(Heard::Received);
+    }
+    if is(word, "down") {
+        return Some(Heard::Down);
+    }
+    if is(word, "other") {
+        return Some(Heard::Other);
+    }
+    if is(word, "timeout") {
+        return Some(Heard::Timeout);
+    }
+    None
+}
