@@ -1,0 +1,27 @@
+-- The lines that tell how a call ended.
+use Rattle.std.specs.Prelude.{ℕ, List, [], ◌∷◌, ◌++◌, codes}
+use Rattle.jh_cli.specs.declared.status.Status.{Status}
+use Rattle.jh_cli.specs.declared.status.Status.TheVariants.{Good, Found, Usage, Refused, ReadFault, WriteFault, NoMemory, Full}
+
+-- the number that the program exits with
+abbrev pub number_of : Status → ℕ
+number_of Good = 0
+number_of Found = 1
+number_of Usage = 2
+number_of Refused = 3
+number_of ReadFault = 4
+number_of WriteFault = 5
+number_of NoMemory = 6
+number_of Full = 7
+
+-- how the program is used
+abbrev pub usage_line : List ℕ
+usage_line = codes "usage: jailhouse check SYSTEM CELL... | pack SPEC | play BOARD SCHEDULE | run BOARD | map BOARD SCHEDULE | tables BOARD SCHEDULE | audit BOARD JOURNAL | soak N" ++ 10 ∷ []
+
+-- a file could not be read
+abbrev pub fault_line : List ℕ → List ℕ
+fault_line name = codes "read fault: " ++ name ++ 10 ∷ []
+
+-- a file isn't in the form that is built
+abbrev pub refusal_line : List ℕ → List ℕ
+refusal_line name = codes "refused: " ++ name ++ codes ": not built" ++ 10 ∷ []

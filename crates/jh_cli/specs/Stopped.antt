@@ -1,0 +1,22 @@
+-- What a step of a play says of the files and of how it stopped.
+use Rattle.std.specs.Prelude.{◌≡◌, ℕ, ◌≤◌, ⊤, List}
+use Rattle.jh_outside.specs.Count.{Rose}
+use Rattle.jh_cli.specs.declared.told.Told.{Told}
+use Rattle.jh_cli.specs.declared.told.Stop.{Stop}
+use Rattle.jh_cli.specs.declared.told.Stop.TheVariants.{Ended, NoMemory}
+use Rattle.jh_cli.specs.declared.status.Status.TheVariants.{ReadFault}
+use Rattle.jh_cli.specs.Lines.{fault_line}
+use Rattle.jh_cli.specs.Outcome.{Said}
+
+-- the status and the text that are told
+abbrev pub said_of : Told → Said
+said_of told = record { status = told.status; text = told.text.items }
+
+-- a fact of what is told, where the stop isn't for want of memory
+abbrev pub OnEnded : Stop → (Said → Type 0) → Type 0
+OnEnded (Ended told) P = P (said_of told)
+OnEnded NoMemory P = ⊤
+
+-- a fault of reading is told only where the count of faults rose, and its line names the read that failed
+abbrev pub IsCounted : ℕ → ℕ → List ℕ → Said → Type 0
+IsCounted old new failed said = said.status ≡ ReadFault → Rose old new × (said.text ≡ fault_line failed)

@@ -1,0 +1,14 @@
+//! The program's one call: words and files in, a text and a status out.
+#![tactic(auto)]
+
+mod command;
+mod limits;
+mod lines;
+mod send;
+mod status;
+mod told;
+
+pub use command::{Command, command_of};
+pub use limits::{JOURNAL_LIMIT, MOST};
+pub use status::Status;
+pub use told::{Stop, Told};

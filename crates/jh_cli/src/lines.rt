@@ -1,0 +1,39 @@
+//! The lines that tell how a call ended, each with its line feed.
+ghost use Rattle.std.specs.Prelude.{◌≡◌, IfOk};
+ghost use Rattle.jh_cli.specs.Lines.{usage_line as usage_line_lem, fault_line as fault_line_lem, refusal_line as refusal_line_lem};
+
+use jh_num::NoMemory;
+use std::alloc::Global;
+
+/// How the program is used.
+pub fn usage_line(alloc: Global) -> Result<Vec<u8>, NoMemory>
+    ensures { IfOk result (λ text. text.items ≡ usage_line_lem) }
+{
+    let mut text = Vec::new(alloc);
+    text.extend_from_slice(b"usage: jailhouse check SYSTEM CELL... | pack SPEC | play BOARD SCHEDULE | run BOARD | map BOARD SCHEDULE | tables BOARD SCHEDULE | audit BOARD JOURNAL | soak N")?;
+    text.push(b'\n')?;
+    Ok(text)
+}
+
+/// The file of this name could not be read.
+pub fn fault_line(alloc: Global, name: &str) -> Result<Vec<u8>, NoMemory>
+    ensures { IfOk result (λ text. text.items ≡ fault_line_lem name.now) }
+{
+    let mut text = Vec::new(alloc);
+    text.extend_from_slice(b"read fault: ")?;
+    text.extend_from_slice(name.as_bytes())?;
+    text.push(b'\n')?;
+    Ok(text)
+}
+
+/// The file of this name isn't in the form that is built.
+pub fn refusal_line(alloc: Global, name: &str) -> Result<Vec<u8>, NoMemory>
+    ensures { IfOk result (λ text. text.items ≡ refusal_line_lem name.now) }
+{
+    let mut text = Vec::new(alloc);
+    text.extend_from_slice(b"refused: ")?;
+    text.extend_from_slice(name.as_bytes())?;
+    text.extend_from_slice(b": not built")?;
+    text.push(b'\n')?;
+    Ok(text)
+}

@@ -1,0 +1,29 @@
+//! The exit statuses.
+ghost use Rattle.std.specs.Prelude.{◌≡◌};
+ghost use Rattle.jh_cli.specs.Lines.{number_of};
+
+/// How a call ended. The statuses' numbers are 0 to 7 in this order.
+#[derive(Clone, Copy, PartialEq, Eq, Debug)]
+pub enum Status {
+    Good,
+    /// The check found something, or an audited journal isn't legal.
+    Found,
+    /// The words have no command.
+    Usage,
+    /// A file is outside its grammar or a limit.
+    Refused,
+    ReadFault,
+    WriteFault,
+    NoMemory,
+    /// The journal is at its limit, and an entry is still due.
+    Full,
+}
+
+impl Status {
+    /// The number that the program exits with.
+    pub fn number(self) -> u8
+        ensures { result ≡ number_of self }
+    {
+        self as u8
+    }
+}
