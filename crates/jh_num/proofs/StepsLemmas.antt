@@ -1,6 +1,6 @@
 -- The last eight of a list that has eight already.
-use Rattle.std.proofs.Common.{◌≡◌, ℕ, ◌+◌, ◌-◌, ◌≤◌, suc, List, [], ◌∷◌, ◌++◌, length, set, take, drop, sym, refl, ap, subst, ◌∙◌, arith}
-use Rattle.std.proofs.lemmas.List.{set_at, take_all, length_push, length-set, length-append, length-drop, drop-append-le}
+use Rattle.std.proofs.Common.{◌≡◌, ℕ, ◌-◌, ◌≤◌, List, [], ◌∷◌, ◌++◌, length, set, take, drop, sym, ap, ◌∙◌, arith}
+use Rattle.std.proofs.lemmas.List.{set_at, take_all, length_push, length-drop, drop-append-le}
 use Rattle.jh_num.specs.declared.steps.Probe.{Probe}
 use Rattle.jh_num.specs.Counted.{last_eight}
 

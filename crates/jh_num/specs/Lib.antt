@@ -1,1 +1,3 @@
+pub mod ByteRanges
+pub mod Bytes
 pub mod Counted

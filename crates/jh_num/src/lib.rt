@@ -1,15 +1,23 @@
 //! Numbers and lists that every layer speaks of: where addresses end, rights, lists as contracts see
-//! them, and want of memory.
+//! them, sets of bytes, counted descriptor reads, and want of memory.
 #![tactic(auto)]
 
 mod address;
+mod byte_set;
 mod no_memory;
+mod range;
 mod rights;
 mod seq;
+mod splice;
 mod steps;
 
 pub use address::{ADDRESS_END, PAGE_SIZE};
+pub use byte_set::ByteSet;
 pub use no_memory::NoMemory;
+pub use range::Range;
 pub use rights::Rights;
 pub use seq::Seq;
 pub use steps::{Probe, Steps};
+
+#[cfg(test)]
+mod tests;

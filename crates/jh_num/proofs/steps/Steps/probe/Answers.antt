@@ -1,6 +1,3 @@
-use Rattle.std.proofs.Common.{◌≡◌, ℕ, ◌+◌, ◌-◌, ◌≤◌, ◌∷◌, ◌++◌, [], List, drop, take, length, set, suc, arith, ap, sym, ◌∙◌}
-use Rattle.jh_num.specs.declared.steps.Probe.{Probe}
-use Rattle.jh_num.specs.Counted.{last_eight}
 use Rattle.jh_num.proofs.StepsLemmas.{oldest_goes}
 use Rattle.jh_num.proofs.steps.Steps.probe.Goals as goal
 

@@ -1,0 +1,106 @@
+//! Byte sets against plain bytes, and the last probes.
+
+use crate::{ByteSet, Probe, Range, Seq, Steps};
+use std::test::Fail;
+
+#[derive(Clone, Copy)]
+enum Change {
+    Insert(Range),
+    Remove(Range),
+}
+
+use Change::{Insert, Remove};
+
+/// Inserts and removes that touch, overlap, cover and split on both sides.
+const CHANGES: [Change; 16] = [
+    Insert(Range { start: 4, end: 6 }),
+    Insert(Range { start: 8, end: 10 }),
+    Insert(Range { start: 1, end: 2 }),
+    Insert(Range { start: 6, end: 6 }),
+    Insert(Range { start: 6, end: 7 }),
+    Insert(Range { start: 3, end: 4 }),
+    Insert(Range { start: 2, end: 5 }),
+    Remove(Range { start: 5, end: 9 }),
+    Remove(Range { start: 2, end: 3 }),
+    Remove(Range { start: 9, end: 11 }),
+    Insert(Range { start: 0, end: 12 }),
+    Remove(Range { start: 7, end: 7 }),
+    Remove(Range { start: 7, end: 8 }),
+    Remove(Range { start: 0, end: 2 }),
+    Insert(Range { start: 7, end: 8 }),
+    Remove(Range { start: 0, end: 12 }),
+];
+
+#[test]
+fn a_byte_set_is_a_list_of_booleans(rt: HostRuntime) -> Result<(), Fail> {
+    let mut set = ByteSet::new(rt.alloc());
+    let mut plain = [false; 12];
+    for change in CHANGES {
+        let (range, on) = match change {
+            Insert(range) => {
+                set.insert(range)?;
+                (range, true)
+            }
+            Remove(range) => {
+                set.remove(range)?;
+                (range, false)
+            }
+        };
+        for at in 0..12 {
+            if range.start <= at as u64 && (at as u64) < range.end {
+                plain[at] = on;
+            }
+            let one = Range {
+                start: at as u64,
+                end: at as u64 + 1,
+            };
+            assert_eq!(rt; set.meets(one), plain[at], "byte {at}");
+        }
+    }
+    assert!(rt; set.ranges().is_empty());
+    Ok(())
+}
+
+#[test]
+fn ranges_join_split_and_intersect(rt: HostRuntime) -> Result<(), Fail> {
+    let mut set = ByteSet::new(rt.alloc());
+    set.reserve(3)?;
+    set.insert(Range { start: 2, end: 4 })?;
+    set.insert(Range { start: 4, end: 6 })?;
+    assert_eq!(rt; set.ranges(), [Range { start: 2, end: 6 }].as_slice());
+    assert!(rt; set.covers(Range { start: 3, end: 6 }));
+    set.remove(Range { start: 3, end: 4 })?;
+    assert!(rt; !set.covers(Range { start: 2, end: 5 }));
+    let mut other = ByteSet::new(rt.alloc());
+    other.insert(Range { start: 0, end: 5 })?;
+    let both = set.intersect(&other)?;
+    let want = [Range { start: 2, end: 3 }, Range { start: 4, end: 5 }];
+    assert_eq!(rt; both.ranges(), want.as_slice());
+    Ok(())
+}
+
+#[test]
+fn nine_probes_leave_eight(rt: HostRuntime) {
+    let mut steps = Steps::new();
+    for at in 0..9 {
+        steps.probe(Probe { at, word: 3 });
+    }
+    assert_eq!(rt; steps.count(), 9);
+    assert_eq!(rt; steps.probes().len(), 8);
+    assert_eq!(rt; steps.probes().first(), Some(&Probe { at: 1, word: 3 }));
+    assert_eq!(rt; steps.probes().last(), Some(&Probe { at: 8, word: 3 }));
+}
+
+#[test]
+fn a_list_grows_at_its_end(rt: HostRuntime) -> Result<(), Fail> {
+    let mut list = Seq::new(rt.alloc());
+    assert!(rt; list.is_empty());
+    list.push(5u8)?;
+    list.push(7)?;
+    assert_eq!(rt; list.get(1), Some(&7));
+    assert_eq!(rt; list.get(2), None);
+    let again = Seq::from_vec(list.into_vec());
+    assert_eq!(rt; again.as_slice(), [5, 7].as_slice());
+    assert_eq!(rt; again.len(), 2);
+    Ok(())
+}
