@@ -6,3 +6,5 @@ pub mod AdmittedLemmas
 pub mod PlainLemmas
 pub mod PositionLemmas
 pub mod ItemsLemmas
+pub mod ApartLemmas
+pub mod AdmitLemmas

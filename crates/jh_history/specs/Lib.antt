@@ -6,3 +6,4 @@ pub mod Due
 pub mod Items
 pub mod Admitted
 pub mod PastView
+pub mod Apart

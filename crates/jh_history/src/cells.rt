@@ -50,7 +50,7 @@ pub fn is_on_board(image: &Image, cpu: u8) -> bool
 }
 
 /// Whether the program is that of the CPU in the cell of that name.
-fn is_program_of(program: &Program, name: &[u8], cpu: u8) -> bool
+pub(crate) fn is_program_of(program: &Program, name: &[u8], cpu: u8) -> bool
     ensures { result ≡ is_program_of_lem name.now cpu program.now }
 {
     program.cell.as_slice() == name && program.cpu == cpu

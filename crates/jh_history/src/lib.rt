@@ -2,6 +2,8 @@
 #![tactic(auto)]
 
 mod access;
+mod admit;
+mod apart;
 mod cells;
 mod cpu;
 mod entry;
@@ -12,6 +14,7 @@ mod next;
 mod past;
 
 pub use access::{Access, Places, Reach};
+pub use admit::{is_admitted, is_built};
 pub use cells::{
     ImageGrants, is_cpu_set, is_on_board, name_of, op_at, ops_of, place_of, program_of, regions_of,
 };
