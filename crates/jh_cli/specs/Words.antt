@@ -1,8 +1,7 @@
 -- The words of the command line.
 use Rattle.std.specs.Prelude.{ℕ, Bool, true, false, ◌&&◌, not, ◌==◌, if◌then◌else◌, List, [], ◌∷◌, nat_eq, Option, Some, None, codes}
 use Rattle.std.specs.Cmp.Lexicographic.{pointwise}
-use Rattle.jh_cli.specs.declared.command.Command.{Command}
-use Rattle.jh_cli.specs.declared.command.Command.TheVariants.{Play}
+use Rattle.jh_cli.specs.declared.command.Play.{Play}
 
 -- what a command asks for, with the names of its files
 pub data Asked : Type 0 where
@@ -27,5 +26,5 @@ command_of (name ∷ word ∷ board ∷ schedule ∷ []) = play_of word board sc
 command_of (name ∷ word ∷ board ∷ schedule ∷ other ∷ more) = None
 
 -- what the command that was read asks for
-abbrev pub asked_by : Command → Asked
-asked_by (Play board schedule) = PlayOf board.now schedule.now
+abbrev pub asked_by : Play → Asked
+asked_by play = PlayOf play.board.now play.schedule.now

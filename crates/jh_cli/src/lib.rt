@@ -7,8 +7,11 @@ mod lines;
 mod send;
 mod status;
 mod told;
+#[cfg(test)]
+mod tests;
+mod top;
 
-pub use command::{Command, command_of};
+pub use command::{Play, command_of};
 pub use limits::{JOURNAL_LIMIT, MOST};
 pub use status::Status;
-pub use told::{Stop, Told};
+pub use top::jailhouse;
