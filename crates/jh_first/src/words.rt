@@ -1,0 +1,110 @@
+//! The parts of a text, and what they tell.
+ghost use Rattle.std.specs.Prelude.{◌≡◌, ℕ, ◌-◌, ◌≤◌, ◌<◌, ◌^◌, ◌+◌, ◌==◌, length, drop, position, IfSome, IsTrue};
+ghost use Rattle.std.specs.Str.{bytes_eq};
+ghost use Rattle.jh_history.specs.Admitted.{is_width};
+ghost use Rattle.jh_first.specs.Reading.{Finds, split_once, next_number, number_of, hexadecimal_of, width_of};
+
+/// What stands behind so many bytes.
+pub(crate) fn behind(bytes: &[u8], count: usize) -> &[u8]
+    ensures { result.now ≡ drop count bytes.now }
+{
+    if count <= bytes.len() {
+        &bytes[count..]
+    } else {
+        &[]
+    }
+}
+
+/// What stands before the first such byte, and what stands after it.
+#[tactic(auto, unfolding(crate::specs::Reading::split_once))]
+pub(crate) fn split_once(bytes: &[u8], byte: u8) -> Option<(&[u8], &[u8])>
+    ensures { Finds (λ x. (x.0.now, x.1.now)) result (split_once byte bytes.now) }
+{
+    let at = place_of(bytes, byte)?;
+    Some((&bytes[..at], &bytes[at + 1..]))
+}
+
+/// Where the first such byte stands.
+fn place_of(bytes: &[u8], byte: u8) -> Option<usize>
+    ensures value { result ≡ position (λ b. b == byte) bytes.now }
+    ensures within { IfSome result (λ at. at < length bytes.now) }
+{
+    bytes.iter().position(|b| *b == byte)
+}
+
+pub(crate) fn is(word: &[u8], name: &str) -> bool
+    ensures { result ≡ bytes_eq word.now name.now }
+{
+    word == name.as_bytes()
+}
+
+/// The number that the digits write, where it is `most` at most.
+#[tactic(auto, using(crate::proofs::Numbers::number_after_more, crate::proofs::Numbers::number_after_all))]
+fn number(radix: u32, most: u64, digits: &[u8]) -> Option<u64>
+    requires low { 2 ≤ radix }
+    requires high { radix ≤ 36 }
+    ensures value { result ≡ number_of radix most digits.now }
+    ensures bound { IfSome result (λ n. n ≤ most) }
+{
+    let mut n = 0;
+    for byte in digits {
+        n = next_number(radix, most, n, *byte)?;
+    }
+    Some(n)
+}
+
+/// The number with one more digit.
+fn next_number(radix: u32, most: u64, n: u64, byte: u8) -> Option<u64>
+    requires low { 2 ≤ radix }
+    requires high { radix ≤ 36 }
+    ensures value { result ≡ next_number radix most n byte }
+    ensures bound { IfSome result (λ m. m ≤ most) }
+{
+    let digit = char::from(byte).to_digit(radix)?;
+    let next = n
+        .checked_mul(u64::from(radix))?
+        .checked_add(u64::from(digit))?;
+    if next > most {
+        return None;
+    }
+    Some(next)
+}
+
+/// The number behind `0x`.
+#[tactic(auto, unfolding(crate::specs::Reading::hexadecimal_of))]
+pub(crate) fn hexadecimal(word: &[u8], most: u64) -> Option<u64>
+    ensures value { result ≡ hexadecimal_of most word.now }
+    ensures bound { IfSome result (λ n. n ≤ most) }
+{
+    match word {
+        [_, _, digits @ ..] => number(16, most, digits),
+        _ => None,
+    }
+}
+
+/// The number of bytes of an access.
+#[tactic(auto, unfolding(crate::specs::Reading::width_of))]
+pub(crate) fn width(word: &[u8]) -> Option<u8>
+    ensures value { result ≡ width_of word.now }
+    ensures width { IfSome result (λ width. IsTrue (is_width width)) }
+{
+    let width = number(10, 8, word)? as u8;
+    if width == 1 || width == 2 || width == 4 || width == 8 {
+        Some(width)
+    } else {
+        None
+    }
+}
+
+/// The largest value of so many bytes.
+pub(crate) fn max_of_width(width: u8) -> u64
+    requires { IsTrue (is_width width) }
+    ensures { result ≡ 256 ^ width - 1 }
+{
+    match width {
+        1 => 0xff,
+        2 => 0xffff,
+        4 => 0xffff_ffff,
+        _ => u64::MAX,
+    }
+}
