@@ -1,0 +1,4 @@
+pub mod Keeps
+pub mod Prefixes
+pub mod Seats
+pub mod Turns

@@ -1,0 +1,5 @@
+pub mod Hands
+pub mod Histories
+pub mod Ports
+pub mod Rule
+pub mod Stages

@@ -1,0 +1,9 @@
+//! A lock round one value whose history grows, for callers in several threads.
+#![tactic(auto)]
+
+mod rule;
+mod shared;
+mod turner;
+
+pub use shared::{Port, Shared};
+pub use turner::Turner;
