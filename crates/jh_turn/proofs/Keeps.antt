@@ -118,7 +118,7 @@ module _ {T E O : Type 0} (whose : E → ℕ) (origin : T → O) (serves : O →
         (sym here, one_there s.views id h.holder v (subst (λ (z : ℕ). get_elem? s.views z ≡ maybe.some h.holder) (sym here) h.there) at)
 
     -- a view that does not hold the turn is not the holder's
-    not_holder : (s : St) (log : List E) (h : IsHeld log s) (id : ℕ) (v : V) → get_elem? s.views id ≡ maybe.some v → v.holding ≡ false → h.seat ≢ id
+    pub not_holder : (s : St) (log : List E) (h : IsHeld log s) (id : ℕ) (v : V) → get_elem? s.views id ≡ maybe.some v → v.holding ≡ false → h.seat ≢ id
     not_holder s log h id v at waits same = let one : h.holder ≡ v = one_there s.views id h.holder v (subst (λ (z : ℕ). get_elem? s.views z ≡ maybe.some h.holder) same h.there) at in
         true≢false (sym h.holds_it ∙ (ap (λ (w : V). w.holding) one ∙ waits))
 

@@ -1,4 +1,6 @@
 pub mod Keeps
+pub mod Opens
 pub mod Prefixes
+pub mod Seating
 pub mod Seats
 pub mod Turns

@@ -1,5 +1,7 @@
+pub mod Closing
 pub mod Hands
 pub mod Histories
+pub mod Opened
 pub mod Ports
 pub mod Rule
 pub mod Stages

@@ -1,0 +1,1 @@
+//! Closing a value, with all its ports.
