@@ -1,3 +1,4 @@
+pub mod Closes
 pub mod Keeps
 pub mod Opens
 pub mod Prefixes
