@@ -44,7 +44,7 @@ fn unboxed<T>(mut slots: Vec<Option<Box<T>>>) -> T
 }
 
 impl<T: Turner> Shared<T> {
-    ghost use Rattle.jh_turn.specs.Ports.{opened_value, all_callers, port_caller, seen_by, IsPortOf};
+    ghost use Rattle.jh_turn.specs.Ports.{opened_value, port_caller, seen_by, AreAllPorts};
     ghost use Rattle.jh_turn.specs.Opened.{IsOpenedAs, HasToGive, IsNewPort};
 
     /// Opens a value for these callers, with a port for each, in their order. It hands the value back for want of memory alone.
@@ -57,8 +57,9 @@ impl<T: Turner> Shared<T> {
         requires differ { AllPairs (λ a b. a ≢ b) callers.now }
         requires served { All (λ who. T.serves (T.origin value) who) callers.now }
         ensures opened { IfOk result (λ r. IsOpenedAs value callers.now r.0) }
-        ensures ports { IfOk result (λ r. All (IsNewPort (T.history value) r.0) r.1.items) }
+        ensures all { IfOk result (λ r. AreAllPorts r.0 r.1.items) }
         ensures callers { IfOk result (λ r. map port_caller r.1.items ≡ callers.now) }
+        ensures seen { IfOk result (λ r. All (λ p. seen_by p ≡ T.history value) r.1.items) }
         ensures err { IfErr result (λ v. v ≡ value) }
     {
         let Ok(ports) = Vec::with_capacity(alloc, callers.len()) else {
