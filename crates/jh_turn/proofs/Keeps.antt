@@ -182,7 +182,7 @@ module _ {T E O : Type 0} (whose : E → ℕ) (origin : T → O) (serves : O →
           w,
           gives,
           tt,
-          ⊎_elim (λ f. absurd (true≢false (sym holds ∙ f.none_holds id me.0 at))) (λ h. 
+          ⊎_elim (λ f. absurd (true≢false (sym holds ∙ f.none_holds id me.0 at))) (λ h.
               let here = holder_is s r.log h id me.0 at holds in
               let whole : history value.value ≡ r.log = sym (ap seen_of (sym h.whole ∙ (ap (λ (v : V). v.hands) here.1 ∙ is))) in record {
                 log = r.log;

@@ -5,7 +5,7 @@ use Rattle.std.proofs.lemmas.List.Elements.{filter-append, All-nil, All-cons}
 use mathlib.Core.List.{IsPrefix}
 use mathlib.Core.Logic.{dite}
 use native.Mathlib.Decide.{ℕ_discrete}
-use Rattle.jh_turn.specs.Histories.{entries_of, Grows}
+use Rattle.jh_turn.specs.Histories.{entries_of, Grows, IsMadeBy}
 
 module _ {A : Type 0} where
   pub prefix_self : (xs : List A) → IsPrefix xs xs
@@ -38,6 +38,19 @@ module _ {E : Type 0} (whose : E → ℕ) where
 
   entries_of_other : (who : ℕ) (e : E) → who ≢ whose e → entries_of whose who (e ∷ []) ≡ []
   entries_of_other who e other = ap (λ (b : Bool). cond b (e ∷ []) []) (ne_eqb (whose e) who (λ same. other (sym same)))
+
+  entries_of_its : (who : ℕ) (e : E) → whose e ≡ who → entries_of whose who (e ∷ []) ≡ e ∷ []
+  entries_of_its who e its = ap (λ (b : Bool). cond b (e ∷ []) []) (eq-eqb (whose e) who its)
+
+  -- what a turn makes is the caller's
+  pub entries_made : (who : ℕ) (made : List E) → IsMadeBy whose who made → entries_of whose who made ≡ made
+  entries_made who made (inl none) = ap (entries_of whose who) none ∙ sym none
+  entries_made who made (inr one) = ap (entries_of whose who) one.2 ∙ (entries_of_its who one.0 one.1 ∙ sym one.2)
+
+  -- what was made, of a history that grew
+  pub grown_by : (who : ℕ) (before after : List E) → Grows whose who before after → (made : List E) × IsMadeBy whose who made × (after ≡ before ++ made)
+  grown_by who before after (inl same) = ([], inl refl, same ∙ sym (append-nil before))
+  grown_by who before after (inr added) = (added.0 ∷ [], inr (added.0, added.1, refl), added.2)
 
   -- what another caller adds leaves this caller's entries
   pub others_stay : (who other : ℕ) (before after : List E) → other ≢ who → Grows whose who before after → entries_of whose other after ≡ entries_of whose other before

@@ -97,9 +97,9 @@ module _ {T E O : Type 0} (whose : E → ℕ) (origin : T → O) (serves : O →
       let first = r.each_seat id v at in
       let second = r.each_seat other w there in
       let keeps_hand = λ (j : ℕ) (g : Hand E) (fits : HandFits whose key.callers.items r.log r.owner j g) (not : j ≢ other).
-          let f : HandFits whose key.callers.items r.log owner j g = record { named = fits.named; one_seat = stays g.caller (λ e. not (sym fits.one_seat ∙ e)) ∙ fits.one_seat; seen = fits.seen; own = fits.own } in f in
+      let f : HandFits whose key.callers.items r.log owner j g = record { named = fits.named; one_seat = stays g.caller (λ e. not (sym fits.one_seat ∙ e)) ∙ fits.one_seat; seen = fits.seen; own = fits.own } in f in
       let moves_hand = λ (g : Hand E) (fits : HandFits whose key.callers.items r.log r.owner other g).
-          let f : HandFits whose key.callers.items r.log owner id g = record { named = fits.named; one_seat = moves g.caller fits.one_seat; seen = fits.seen; own = fits.own } in f in
+      let f : HandFits whose key.callers.items r.log owner id g = record { named = fits.named; one_seat = moves g.caller fits.one_seat; seen = fits.seen; own = fits.own } in f in
       let both_fits : Fit r.log owner id both = record {
         same = first.same;
         each_hand = λ g c. ⊎_elim (λ l. keeps_hand id g (first.each_hand g l) (λ e. apart (sym e))) (λ l. moves_hand g (second.each_hand g l)) (Contains-append_cases v.hands w.hands g c);
@@ -176,19 +176,19 @@ module _ {T E O : Type 0} (whose : E → ℕ) (origin : T → O) (serves : O →
       let fits = r.each_seat id v at in
       let log : List E = r.log in
       ⊎_elim
-          (λ f. let same : history f.value.value ≡ log = f.all_entries in (
-            f.value,
-            last.4 0 (Some f.value) (ap (λ hs. get_elem? hs 0) f.homes),
-            record {
-              same_origin = f.same_origin;
-              begins = subst (λ l. IsPrefix (history key.value.value) l) (sym same) r.begins;
-              seen = λ h c. subst (λ l. IsPrefix h.seen l) (sym same) (fits.each_hand h c).seen;
-              own = λ h c. ap (entries_of whose h.caller) same ∙ (fits.each_hand h c).own;
-              no_others = λ who stranger. ap (entries_of whose who) same ∙ r.no_others who stranger;
-            },
-          ))
-          (λ k. let theirs = hand_fits whose origin serves history key s r k.seat k.holder k.who log k.there k.whole in
-              let mine = all k.who theirs.named in
-              let one : k.seat ≡ id = sym theirs.one_seat ∙ (ap r.owner (sym mine.2) ∙ (fits.each_hand mine.0 mine.1).one_seat) in
-              absurd (not_holder whose origin serves history key s log k id v at waits one))
-          r.lock
+      (λ f. let same : history f.value.value ≡ log = f.all_entries in (
+        f.value,
+        last.4 0 (Some f.value) (ap (λ hs. get_elem? hs 0) f.homes),
+        record {
+          same_origin = f.same_origin;
+          begins = subst (λ l. IsPrefix (history key.value.value) l) (sym same) r.begins;
+          seen = λ h c. subst (λ l. IsPrefix h.seen l) (sym same) (fits.each_hand h c).seen;
+          own = λ h c. ap (entries_of whose h.caller) same ∙ (fits.each_hand h c).own;
+          no_others = λ who stranger. ap (entries_of whose who) same ∙ r.no_others who stranger;
+        },
+      ))
+      (λ k. let theirs = hand_fits whose origin serves history key s r k.seat k.holder k.who log k.there k.whole in
+      let mine = all k.who theirs.named in
+      let one : k.seat ≡ id = sym theirs.one_seat ∙ (ap r.owner (sym mine.2) ∙ (fits.each_hand mine.0 mine.1).one_seat) in
+      absurd (not_holder whose origin serves history key s log k id v at waits one))
+      r.lock

@@ -23,6 +23,8 @@ const LENGTH: usize = 1;
 const VALUE: usize = 0;
 
 /// A value that callers in several threads take turns on.
+///
+/// Contracts know of it the value that was opened and the callers that ports were made for, which stay.
 pub struct Shared<T: Turner> {
     table: Table<Option<Box<T>>, View<T, T::Entry>, Opening<T>, Law, Global>,
     ghost sized: { (table.shared.table_id.words ≡ 2) × (table.shared.table_id.slots ≡ 1) },
@@ -30,6 +32,8 @@ pub struct Shared<T: Turner> {
 }
 
 /// The one port of a caller.
+///
+/// Contracts know of it which object it belongs to, its caller, and the history that it has seen.
 pub struct Port<T: Turner> {
     seat: Seat<Option<Box<T>>, View<T, T::Entry>>,
     caller: u8,
@@ -51,7 +55,7 @@ impl<T: Turner> Port<T> {
         self.caller
     }
 
-    /// The number of entries that this port has seen.
+    /// The number of entries that this port has seen, the opened ones among them.
     pub fn seen(&self) -> u64
         ensures { result ≡ length (seen_by self.now) }
     {

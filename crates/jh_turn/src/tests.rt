@@ -172,7 +172,10 @@ fn two_ports_in_two_threads_make_one_list(rt: HostRuntime) -> Result<(), Fail> {
         panic!(rt; "no memory")
     };
     let callers = list.callers.as_slice();
-    assert_eq!(rt; (callers.len(), times(callers, 3), times(callers, 9)), (2_000, 1_000, 1_000));
+    assert_eq!(rt;
+        (callers.len(), times(callers, 3), times(callers, 9)),
+        (2_000, 1_000, 1_000)
+    );
     assert!(rt; seen >= 1_000);
     Ok(())
 }

@@ -2,24 +2,27 @@
 ghost use Rattle.std.specs.Prelude.{◌≡◌, ℕ, List, length};
 ghost use Rattle.jh_turn.specs.Histories.{Grows};
 
-/// A value that callers take turns on, with a history that only grows.
+/// A value that callers take turns on, with a history that only grows. A caller is a number.
+///
+/// Its meaning is in five ghost members, of which `Shared` says all that it promises: `whose`, `origin`, `serves`, `history`
+/// and `answers`.
 pub trait Turner {
     /// One entry of the history.
     type Entry;
     /// What a turn tells its caller.
     type Answer;
 
-    // What no turn changes.
+    // What an origin is.
     ghost Origin: { Type 0 };
-    // Whose entry it is.
+    // The caller whose entry it is.
     ghost whose: { Self.Entry → ℕ };
-
+    // What no turn changes.
     ghost origin: { Self → Origin };
     // The callers that are served, which the origin says.
     ghost serves: { Origin → ℕ → Type 0 };
-    // All entries so far.
+    // All entries so far, the first one first.
     ghost history: { Self → List Self.Entry };
-    // Which answers a turn may give: by the origin, the caller, the history just before and the history just after.
+    // The answers that a turn may give: by the origin, the caller, the history just before the turn and the history just after.
     ghost answers: { Origin → ℕ → List Self.Entry → List Self.Entry → Self.Answer → Type 0 };
 
     /// A turn by `who`. It leaves the history as it was, or adds one entry of `who`.

@@ -12,7 +12,7 @@ impl<T: Turner> Shared<T> {
     ghost use Rattle.jh_turn.specs.Ports.{opened_value, all_callers, port_caller, seen_by, IsPortOf, AreAllPorts};
     ghost use Rattle.jh_turn.specs.Closing.{HasCaller, HasHands, IsLast};
 
-    /// Gives the value back, once all its ports are here.
+    /// Gives the value back. It takes all ports of this object, in any order.
     pub fn close(self, ports: Vec<Port<T>>) -> T
         requires { AreAllPorts self ports.items }
         ensures origin { T.origin result ≡ T.origin (opened_value self) }
@@ -23,7 +23,7 @@ impl<T: Turner> Shared<T> {
         ensures no_others { (who : ℕ) → ¬ (Contains (all_callers self) who) → entries_of T.whose who (T.history result) ≡ entries_of T.whose who (T.history (opened_value self)) }
     {
         let seat = self.gather(ports);
-        self.last(seat)
+        self.last_value(seat)
     }
 
     // One seat with the hands of all ports.
@@ -46,7 +46,7 @@ impl<T: Turner> Shared<T> {
     }
 
     // The value, once one seat has all callers' hands.
-    fn last(self, seat: Seat<Option<Box<T>>, View<T, T::Entry>>) -> T
+    fn last_value(self, seat: Seat<Option<Box<T>>, View<T, T::Entry>>) -> T
         requires own { seat.table_id ≡ self.table.shared.table_id }
         requires waits { seat.me.0.holding ≡ false }
         requires all { All (HasCaller seat.me.0.hands) (all_callers self) }

@@ -48,11 +48,7 @@ impl<T: Turner> Shared<T> {
     ghost use Rattle.jh_turn.specs.Opened.{IsOpenedAs, HasToGive, IsNewPort};
 
     /// Opens a value for these callers, with a port for each, in their order. It hands the value back for want of memory alone.
-    pub fn open(
-        alloc: Global,
-        value: T,
-        callers: &[u8],
-    ) -> Result<(Shared<T>, Vec<Port<T>>), T>
+    pub fn open(alloc: Global, value: T, callers: &[u8]) -> Result<(Shared<T>, Vec<Port<T>>), T>
         requires some { 0 < length callers.now }
         requires differ { AllPairs (λ a b. a ≢ b) callers.now }
         requires served { All (λ who. T.serves (T.origin value) who) callers.now }
@@ -66,13 +62,13 @@ impl<T: Turner> Shared<T> {
             return Err(value);
         };
         let entries = value.length();
-        let (shared, seat) = Shared::first(alloc, value, callers, entries)?;
+        let (shared, seat) = Shared::first_seat(alloc, value, callers, entries)?;
         let ports = shared.deal(seat, callers, entries, ports);
         Ok((shared, ports))
     }
 
     // The table, with the seat that has every caller's hand.
-    fn first(
+    fn first_seat(
         alloc: Global,
         value: T,
         callers: &[u8],
@@ -116,13 +112,13 @@ impl<T: Turner> Shared<T> {
         ensures callers { map port_caller result.items ≡ callers.now }
     {
         for i in 0..callers.len() {
-            ports.push_reserved(self.port(&mut seat, &callers[i..], entries));
+            ports.push_reserved(self.next_port(&mut seat, &callers[i..], entries));
         }
         ports
     }
 
     // The port of the first caller that is left.
-    fn port(
+    fn next_port(
         &self,
         seat: &mut Seat<Option<Box<T>>, View<T, T::Entry>>,
         left: &[u8],

@@ -15,7 +15,7 @@ impl<T: Turner> Shared<T> {
     ghost use Rattle.jh_turn.specs.Rule.{Claimed};
     ghost use Rattle.jh_turn.specs.Stages.{IsSameSeat, IsWaiting, IsAtWork, HasDone, MayReturn};
 
-    /// A turn of the port's caller. It waits while another caller has the turn.
+    /// A turn of the port's caller. It waits while another caller has the turn, and may wait for ever.
     pub fn turn<R: Wait>(&self, rt: &R, port: &mut Port<T>) -> T::Answer
         requires { IsPortOf self.now port.old }
         ensures port { IsPortOf self.now port.new × (port_caller port.new ≡ port_caller port.old) }
@@ -33,12 +33,7 @@ impl<T: Turner> Shared<T> {
     }
 
     // Takes the turn. A claim that fails is tried again.
-    fn claim<R: Wait>(
-        &self,
-        rt: &R,
-        seat: &mut Seat<Option<Box<T>>, View<T, T::Entry>>,
-        caller: u8,
-    )
+    fn claim<R: Wait>(&self, rt: &R, seat: &mut Seat<Option<Box<T>>, View<T, T::Entry>>, caller: u8)
         requires own { seat.old.table_id ≡ self.now.table.shared.table_id }
         requires waits { IsWaiting caller seat.old.me }
         ensures same { IsSameSeat seat.old seat.new }

@@ -4,7 +4,7 @@ use mathlib.Core.Option.{some-injective}
 use Rattle.jh_turn.specs.Closing.{HasCaller, IsLast}
 use Rattle.jh_turn.specs.Ports.{opened_value, all_callers}
 use Rattle.jh_turn.proofs.Seating.{closes}
-use Rattle.jh_turn.proofs.shared.Shared.last.Goals as goal
+use Rattle.jh_turn.proofs.shared.Shared.last_value.Goals as goal
 
 pub unreachable-requires : goal.unreachable-requires
 unreachable-requires g c = let t = g.T.Turner in

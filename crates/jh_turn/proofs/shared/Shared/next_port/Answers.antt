@@ -1,6 +1,6 @@
 use Rattle.std.proofs.Common.{rules}
 use Rattle.jh_turn.proofs.Opens.{splits_first}
-use Rattle.jh_turn.proofs.shared.Shared.port.Goals as goal
+use Rattle.jh_turn.proofs.shared.Shared.next_port.Goals as goal
 
 pub split_seat-seat-requires : goal.split_seat-seat-requires
 split_seat-seat-requires g c = let t = g.T.Turner in (
