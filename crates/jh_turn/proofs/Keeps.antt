@@ -1,18 +1,18 @@
 -- The steps of a turn keep the lock's rule.
-use Rattle.std.proofs.Common.{◌≡◌, ◌≢◌, ◌⊎◌, ℕ, ◌+◌, ◌<◌, ◌≤◌, eqb, Bool, true, false, List, [], ◌∷◌, length, get_or, set, Contains, Option, Some, None, Box, Global, refl, ap, sym, subst, ◌∙◌, inl, inr, ⊎_elim, true≢false, arith, ne_eqb}
+use Rattle.std.proofs.Common.{◌≡◌, ◌≢◌, ℕ, ◌<◌, eqb, Bool, true, false, List, [], ◌∷◌, length, get_or, set, Contains, Option, Some, None, Box, Global, refl, ap, sym, subst, ◌∙◌, inl, inr, ⊎_elim, true≢false, arith, ne_eqb}
 use mathlib.Core.Option as maybe
 use mathlib.Core.List.{IsPrefix}
 use lib.ListN.{get_elem?}
 use lib.Seq.{set-get_or}
 use prog.Atomic.{either}
-use Rattle.atomic_table.specs.Table.{State, Me, step, keeps, takes, gives, stepped, put_back, rest, Allows}
+use Rattle.atomic_table.specs.Table.{State, step, keeps, takes, gives, stepped, put_back, Allows}
 use Rattle.atomic_table.proofs.Lists.{set_here, set_again}
 use Rattle.jh_turn.specs.declared.rule.Hand.{Hand}
 use Rattle.jh_turn.specs.declared.rule.View.{View}
 use Rattle.jh_turn.specs.declared.rule.Opening.{Opening}
 use Rattle.jh_turn.specs.Hands.{hand, caller_of, seen_of}
 use Rattle.jh_turn.specs.Histories.{entries_of, Grows}
-use Rattle.jh_turn.specs.Rule.{free, Slot, Seated, view, HandFits, Fits, IsFree, IsHeld, Kept, Claimed, claims, notes, releases}
+use Rattle.jh_turn.specs.Rule.{free, Slot, Seated, view, HandFits, Fits, IsFree, IsHeld, Kept, claims, notes, releases}
 use Rattle.jh_turn.proofs.Prefixes.{prefix_self, prefix_trans, others_stay, grows_on}
 use Rattle.jh_turn.proofs.Seats.{inside, seats_stay, one_there, contains_one, contains_head, not_true}
 

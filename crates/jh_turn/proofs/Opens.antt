@@ -1,11 +1,11 @@
 -- The first seat gives the callers' hands away, one after another.
-use Rattle.std.proofs.Common.{◌≡◌, ◌≢◌, ℕ, suc, ◌+◌, ◌<◌, ◌≤◌, Bool, true, false, List, [], ◌∷◌, ◌++◌, length, get_or, slice_index, take, drop, map, Contains, AllPairs, Some, refl, ap, sym, subst, ◌∙◌, arith, get_or-drop, length-drop}
-use Rattle.atomic_table.specs.Table.{State, Splits}
+use Rattle.std.proofs.Common.{◌≡◌, ◌≢◌, ℕ, suc, ◌+◌, ◌<◌, false, List, [], ◌∷◌, length, get_or, slice_index, take, drop, map, Contains, AllPairs, Some, refl, ap, sym, subst, ◌∙◌, arith, get_or-drop, length-drop}
+use Rattle.atomic_table.specs.Table.{Splits}
 use Rattle.jh_turn.specs.declared.rule.Hand.{Hand}
 use Rattle.jh_turn.specs.declared.rule.View.{View}
 use Rattle.jh_turn.specs.declared.rule.Opening.{Opening}
 use Rattle.jh_turn.specs.Hands.{hand}
-use Rattle.jh_turn.specs.Rule.{Slot, view, without_first, only_first, Kept}
+use Rattle.jh_turn.specs.Rule.{view, without_first, only_first, Kept}
 use Rattle.jh_turn.proofs.Seats.{contains_map}
 use Rattle.jh_turn.proofs.Seating.{split_keeps}
 

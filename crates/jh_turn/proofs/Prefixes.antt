@@ -1,5 +1,5 @@
 -- Beginnings of one history, and the entries of one caller in them.
-use Rattle.std.proofs.Common.{◌≡◌, ◌≢◌, ◌⊎◌, ℕ, ◌+◌, ◌≤◌, ◌<◌, ◌==◌, Bool, true, false, cond, List, [], ◌∷◌, ◌++◌, length, filter, All, refl, ap, sym, subst, ◌∙◌, inl, inr, arith, append_assoc, append-nil, length-append, eq-eqb, ne_eqb, get_or}
+use Rattle.std.proofs.Common.{◌≡◌, ◌≢◌, ℕ, ◌≤◌, ◌==◌, Bool, cond, List, [], ◌∷◌, ◌++◌, length, All, refl, ap, sym, ◌∙◌, inl, inr, arith, append_assoc, append-nil, length-append, eq-eqb, ne_eqb}
 use Rattle.std.proofs.lemmas.List.{append_cancel_left, nil_from_length}
 use Rattle.std.proofs.lemmas.List.Elements.{filter-append, All-nil, All-cons}
 use mathlib.Core.List.{IsPrefix}

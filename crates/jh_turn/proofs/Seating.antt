@@ -1,5 +1,5 @@
 -- Making seats, and joining them, keep the lock's rule.
-use Rattle.std.proofs.Common.{◌≡◌, ◌≢◌, ◌⊎◌, ℕ, ◌<◌, eqb, Bool, true, false, cond, List, [], ◌∷◌, ◌++◌, length, get_or, set, take, drop, map, Contains, Option, Some, None, Box, Global, refl, ap, sym, subst, ◌∙◌, inl, inr, ⊎_elim, true≢false, eq-eqb, ne_eqb}
+use Rattle.std.proofs.Common.{◌≡◌, ◌≢◌, ℕ, eqb, Bool, true, false, cond, List, [], ◌∷◌, length, set, take, drop, Contains, Some, Box, Global, refl, ap, sym, subst, ◌∙◌, inl, inr, ⊎_elim, true≢false, eq-eqb, ne_eqb}
 use Rattle.std.proofs.lemmas.List.Elements.{Contains-append_cases}
 use mathlib.Core.Option as maybe
 use mathlib.Core.List.{IsPrefix}
@@ -12,9 +12,9 @@ use Rattle.jh_turn.specs.declared.rule.Opening.{Opening}
 use Rattle.jh_turn.specs.Closing.{HasCaller, IsLast}
 use Rattle.jh_turn.specs.Hands.{hand}
 use Rattle.jh_turn.specs.Histories.{entries_of}
-use Rattle.jh_turn.specs.Rule.{free, Slot, Seated, view, without_first, only_first, together, spent_view, opening_view, HandFits, Fits, IsFree, IsHeld, Kept}
+use Rattle.jh_turn.specs.Rule.{free, Slot, without_first, only_first, together, spent_view, opening_view, HandFits, Fits, Kept}
 use Rattle.jh_turn.proofs.Prefixes.{prefix_self}
-use Rattle.jh_turn.proofs.Seats.{seats_stay, seats_and_one, only_seat, one_there, contains_one, contains_head, contains_more, contains_none, contains_map}
+use Rattle.jh_turn.proofs.Seats.{seats_stay, seats_and_one, only_seat, contains_one, contains_head, contains_more, contains_none, contains_map}
 use Rattle.jh_turn.proofs.Keeps.{hand_fits, not_holder}
 
 module _ {T E O : Type 0} (whose : E → ℕ) (origin : T → O) (serves : O → ℕ → Type 0) (history : T → List E) (key : Opening T) where

@@ -1,5 +1,5 @@
 -- A value as it was opened, and its first seat.
-use Rattle.std.specs.Prelude.{◌≡◌, ◌≢◌, ℕ, false, List, [], ◌∷◌, All, AllPairs, Some, drop, map}
+use Rattle.std.specs.Prelude.{◌≡◌, ℕ, false, List, Some, map}
 use Rattle.atomic_table.specs.declared.shared.Seat.{Seat}
 use Rattle.jh_turn.specs.declared.turner.Turner.{Ghosts}
 use Rattle.jh_turn.specs.declared.shared.Shared.{Shared}
@@ -7,7 +7,7 @@ use Rattle.jh_turn.specs.declared.shared.Port.{Port}
 use Rattle.jh_turn.specs.declared.rule.View.{View}
 use Rattle.jh_turn.specs.Hands.{hand}
 use Rattle.jh_turn.specs.Rule.{Slot, view}
-use Rattle.jh_turn.specs.Ports.{opened_value, all_callers, port_caller, seen_by, IsPortOf}
+use Rattle.jh_turn.specs.Ports.{opened_value, all_callers, seen_by, IsPortOf}
 
 module _ {T E A : Type 0} where
   abbrev pub IsOpenedAs : T → List ℕ → Shared T E A → Type 0

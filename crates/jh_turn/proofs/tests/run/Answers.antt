@@ -1,4 +1,4 @@
-use Rattle.std.proofs.Common.{◌≡◌, length, drop, take_at, sym, subst, ◌∙◌}
+use Rattle.std.proofs.Common.{length, drop, take_at, sym, subst, ◌∙◌}
 use Rattle.jh_turn.specs.Ports.{AreAllPorts}
 use Rattle.jh_turn.proofs.PortSets.{all_still}
 use Rattle.jh_turn.proofs.tests.run.Goals as goal

@@ -1,4 +1,4 @@
-use Rattle.std.proofs.Common.{◌≡◌, ◌∷◌, [], List, Contains, Some, ap, ◌∙◌, sym, subst, length, Option, Box, Global}
+use Rattle.std.proofs.Common.{◌∷◌, [], List, Contains, ap, ◌∙◌, sym, subst, length, Option, Box, Global}
 use Rattle.std.proofs.lemmas.List.Elements.{All-contains}
 use Rattle.atomic_table.specs.Table.{opening}
 use Rattle.jh_turn.specs.Rule.{Kept, opening_view}

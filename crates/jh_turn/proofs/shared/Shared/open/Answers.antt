@@ -1,4 +1,4 @@
-use Rattle.std.proofs.Common.{◌≡◌, ℕ, List, Contains, All, map, sym, subst₂, ◌∙◌, subst}
+use Rattle.std.proofs.Common.{ℕ, List, Contains, All, sym, subst}
 use Rattle.std.proofs.lemmas.List.Elements.{All-weaker, All-contains_itself}
 use Rattle.jh_turn.specs.Opened.{IsNewPort}
 use Rattle.jh_turn.specs.Ports.{IsPortOf, opened_value}

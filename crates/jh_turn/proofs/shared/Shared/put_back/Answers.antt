@@ -1,4 +1,4 @@
-use Rattle.std.proofs.Common.{rules, Some, ap, ◌∙◌, ◌∷◌, sym}
+use Rattle.std.proofs.Common.{rules, Some, ap, ◌∙◌, ◌∷◌}
 use Rattle.atomic_table.specs.Table.{rest}
 use Rattle.jh_turn.specs.Hands.{hand, caller_of}
 use Rattle.jh_turn.proofs.Keeps.{note_keeps, release_keeps}

@@ -1,4 +1,4 @@
-use Rattle.std.proofs.Common.{rules, Some, ap, ◌∙◌, ◌∷◌, sym}
+use Rattle.std.proofs.Common.{Some, ap, ◌∙◌, ◌∷◌, sym}
 use Rattle.atomic_table.specs.Table.{rest}
 use Rattle.jh_turn.proofs.shared.Shared.take.Goals as goal
 
