@@ -1,0 +1,5 @@
+use Rattle.jh_turn.specs.PortSets.{IsSameSet}
+use Rattle.jh_turn.proofs.tests.take_turns.Given as goal
+
+abbrev pub invariant-loop : goal.invariant-loop
+invariant-loop g l = IsSameSet l.shared l.initial.ports l.ports

@@ -1,0 +1,27 @@
+-- Histories: lists of entries, each of which is one caller's.
+use Rattle.std.specs.Prelude.{◌≡◌, ◌≢◌, ◌⊎◌, ℕ, ◌==◌, List, [], ◌∷◌, ◌++◌, filter, All}
+
+module _ {E : Type 0} (whose : E → ℕ) where
+  -- the entries of one caller, in their order
+  abbrev pub entries_of : ℕ → List E → List E
+  entries_of who entries = filter (λ e. whose e == who) entries
+
+  -- a turn leaves the history, or adds one entry of the caller at its end
+  abbrev pub Grows : ℕ → List E → List E → Type 0
+  Grows who before after = (after ≡ before) ⊎ ((e : E) × (whose e ≡ who) × (after ≡ before ++ e ∷ []))
+
+  -- one entry of the caller, or none
+  abbrev pub IsMadeBy : ℕ → List E → Type 0
+  IsMadeBy who made = (made ≡ []) ⊎ ((e : E) × (whose e ≡ who) × (made ≡ e ∷ []))
+
+  -- A turn at a port. Just before it the history is what the port had seen, and then what others added, of which nothing is the caller's.
+  -- What the port has seen now is the history just after it: one entry more, which the turn made, or none.
+  pub record IsTurn {A : Type 0} (answers : List E → List E → A → Type 0) (who : ℕ) (seen : List E) (answer : A) (now : List E) : Type 0 where
+    pub others : List E
+    pub made : List E
+    pub foreign : All (λ e. whose e ≢ who) others
+    pub one_at_most : IsMadeBy who made
+    pub after : now ≡ (seen ++ others) ++ made
+    pub answered : answers (seen ++ others) now answer
+    -- of the caller's own entries, what the turn made is all that is new
+    pub own : entries_of who now ≡ entries_of who seen ++ made

@@ -1,0 +1,116 @@
+-- The rule of the lock's table, and what each step tells.
+-- Word 0 is the number of the caller that holds the turn, or `free`. Word 1 is the length of the history. The slot has the value, or nothing while it is out.
+use Rattle.std.specs.Prelude.{◌≡◌, ◌≢◌, ◌⊎◌, ℕ, ◌<◌, Bool, true, false, List, [], ◌∷◌, ◌++◌, length, take, drop, map, Contains, Option, Some, None, Box}
+use Rattle.std.specs.Global.{Global}
+use mathlib.Core.Option as maybe
+use mathlib.Core.List.{IsPrefix}
+use lib.ListN.{get_elem?}
+use Rattle.atomic_table.specs.Table.{State, Me, Step, rest}
+use Rattle.jh_turn.specs.declared.rule.Hand.{Hand}
+use Rattle.jh_turn.specs.declared.rule.View.{View}
+use Rattle.jh_turn.specs.declared.rule.Opening.{Opening}
+use Rattle.jh_turn.specs.Histories.{entries_of}
+use Rattle.jh_turn.specs.Hands.{hand, caller_of, seen_of}
+
+abbrev pub free : ℕ
+free = 256
+
+-- what lies in the slot
+abbrev pub Slot : Type 0 → Type 0
+Slot T = Option (Box T Global)
+
+-- what a seat knows, and what it has in hand
+abbrev pub Seated : Type 0 → Type 0 → Type 0
+Seated T E = Me (Slot T) (View T E)
+
+module _ {T E : Type 0} where
+  abbrev pub view : Option T → List (Hand E) → Bool → View T E
+  view opened hands holding = record { opened = opened; hands = hands; holding = holding }
+
+  -- the seat gives its first hand away
+  abbrev pub without_first : View T E → View T E
+  without_first v = view v.opened (drop 1 v.hands) v.holding
+
+  -- and the new seat has it
+  abbrev pub only_first : View T E → View T E
+  only_first v = view v.opened (take 1 v.hands) false
+
+  -- the seat has the hands of both
+  abbrev pub together : View T E → View T E → View T E
+  together v w = view v.opened (v.hands ++ w.hands) v.holding
+
+  abbrev pub spent_view : View T E
+  spent_view = view None [] false
+
+  -- one seat holds the turn, and the value is out with it
+  pub record IsHeld (log : List E) (s : State (Slot T) (View T E)) : Type 0 where
+    pub seat : ℕ
+    pub who : ℕ
+    pub holder : View T E
+    pub words : s.words ≡ who ∷ length log ∷ []
+    pub taken : who < free
+    pub homes : s.homes ≡ maybe.none ∷ []
+    pub there : get_elem? s.views seat ≡ maybe.some holder
+    pub whole : holder.hands ≡ hand who log ∷ []
+    pub holds_it : holder.holding ≡ true
+    pub one_holds : (j : ℕ) (v : View T E) → get_elem? s.views j ≡ maybe.some v → v.holding ≡ true → j ≡ seat
+
+  abbrev pub releases : Seated T E → Seated T E → Type 0
+  releases before after = after ≡ (view before.0.opened before.0.hands false, rest before.1)
+
+module _ {T E : Type 0} (history : T → List E) where
+  -- the first seat has every caller's hand, which has seen the opened history
+  abbrev pub opening_view : Opening T → View T E
+  opening_view key = view (Some key.value.value) (map (λ who. hand who (history key.value.value)) key.callers.items) false
+
+  -- what the seat has seen is the history of the value in hand
+  abbrev pub notes : Seated T E → Seated T E → Type 0
+  notes before after = (value : Box T Global) → before.1 ≡ (0, Some value) ∷ [] → after ≡ (view before.0.opened (hand (caller_of before.0.hands) (history value.value) ∷ []) true, before.1)
+
+module _ {T E O : Type 0} (origin : T → O) (history : T → List E) where
+  -- no seat holds the turn, and the value is at home
+  pub record IsFree (opened : T) (log : List E) (s : State (Slot T) (View T E)) : Type 0 where
+    pub value : Box T Global
+    pub words : s.words ≡ free ∷ length log ∷ []
+    pub homes : s.homes ≡ maybe.some (Some value) ∷ []
+    pub all_entries : history value.value ≡ log
+    pub same_origin : origin value.value ≡ origin opened
+    pub none_holds : (seat : ℕ) (v : View T E) → get_elem? s.views seat ≡ maybe.some v → v.holding ≡ false
+
+module _ {E : Type 0} (whose : E → ℕ) where
+  -- What a caller has seen is a beginning of the history, and all entries of its own stand in it. A caller has one seat.
+  pub record HandFits (callers : List ℕ) (log : List E) (owner : ℕ → ℕ) (seat : ℕ) (h : Hand E) : Type 0 where
+    pub named : Contains callers h.caller
+    pub one_seat : owner h.caller ≡ seat
+    pub seen : IsPrefix h.seen log
+    pub own : entries_of whose h.caller log ≡ entries_of whose h.caller h.seen
+
+module _ {T E : Type 0} (whose : E → ℕ) where
+  pub record Fits (opened : T) (callers : List ℕ) (log : List E) (owner : ℕ → ℕ) (seat : ℕ) (v : View T E) : Type 0 where
+    pub same : (x : T) → v.opened ≡ Some x → x ≡ opened
+    pub each_hand : (h : Hand E) → Contains v.hands h → HandFits whose callers log owner seat h
+
+module _ {T E O : Type 0} (whose : E → ℕ) (origin : T → O) (serves : O → ℕ → Type 0) (history : T → List E) where
+  -- There is one history, `log`. It begins with the opened one, and past that has entries of the callers alone.
+  pub record Kept (key : Opening T) (s : State (Slot T) (View T E)) : Type 0 where
+    pub log : List E
+    pub owner : ℕ → ℕ
+    pub begins : IsPrefix (history key.value.value) log
+    pub served : (who : ℕ) → Contains key.callers.items who → serves (origin key.value.value) who
+    pub no_others : (who : ℕ) → ¬ (Contains key.callers.items who) → entries_of whose who log ≡ entries_of whose who (history key.value.value)
+    pub each_seat : (seat : ℕ) (v : View T E) → get_elem? s.views seat ≡ maybe.some v → Fits whose key.value.value key.callers.items log owner seat v
+    pub lock : IsFree origin history key.value.value log s ⊎ IsHeld log s
+
+  -- the turn is the seat's, which has the value in hand and has seen its whole history
+  pub record Claimed (who : ℕ) (before after : Seated T E) : Type 0 where
+    pub value : Box T Global
+    pub in_hand : after.1 ≡ (0, Some value) ∷ before.1
+    pub knows : after.0 ≡ view before.0.opened (hand who (history value.value) ∷ []) true
+    pub seen : IsPrefix (seen_of before.0.hands) (history value.value)
+    pub own : entries_of whose who (history value.value) ≡ entries_of whose who (seen_of before.0.hands)
+    pub serves_it : serves (origin value.value) who
+    pub same_origin : (x : T) → before.0.opened ≡ Some x → origin value.value ≡ origin x
+
+  -- the first operand is `free`, the second the caller
+  abbrev pub claims : Step (Slot T) → Seated T E → ℕ → Seated T E → Type 0
+  claims step before found after = (found ≡ free → Claimed step.second before after) × (found ≢ free → after ≡ before)
