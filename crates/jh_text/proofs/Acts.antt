@@ -125,8 +125,8 @@ attempted width at value ok h small fits =
     let narrow : width ≤ 8 = width_le width h in
     let below : value < 2 ^ 64 = omega (arith, widest width h) in
     attempt_again (decimal width) (hexadecimal at) (hexadecimal value) (ok_text ok) width at value ok
-        (decimal_lacks width (omega arith)) (hexadecimal_lacks at small) (hexadecimal_lacks value below)
-        (width_again width h) (hexadecimal_again max_u64 at small (omega arith)) (hexadecimal_again (256 ^ width - 1) value below (below_value width value h fits)) (ok_again ok)
+    (decimal_lacks width (omega arith)) (hexadecimal_lacks at small) (hexadecimal_lacks value below)
+    (width_again width h) (hexadecimal_again max_u64 at small (omega arith)) (hexadecimal_again (256 ^ width - 1) value below (below_value width value h fits)) (ok_again ok)
 
 -- the words of each act lead to the act
 pub act_again : (act : Act) → IsReadableAct act → act_of (join_with_byte 32 (act_words act)) ≡ Some act
@@ -134,27 +134,27 @@ unfolding named_of
 act_again (Read width at got) (h, small, fits) =
     let narrow : width ≤ 8 = width_le width h in
     named (codes "read") _ _ (record { none = refl }) refl refl
-        (read_again (decimal width) (hexadecimal at) (got_text got) width at got (decimal_lacks width (omega arith)) (hexadecimal_lacks at small)
-            (width_again width h) (hexadecimal_again max_u64 at small (omega arith)) (got_again (256 ^ width - 1) got (room width h) (got_below width got fits)))
+    (read_again (decimal width) (hexadecimal at) (got_text got) width at got (decimal_lacks width (omega arith)) (hexadecimal_lacks at small)
+    (width_again width h) (hexadecimal_again max_u64 at small (omega arith)) (got_again (256 ^ width - 1) got (room width h) (got_below width got fits)))
 act_again (Write width at value ok) (h, small, fits) =
     named (codes "write") _ _ (record { none = refl }) refl refl (write_again _ width at value ok (attempted width at value ok h small fits))
 act_again (Fetch at got) (small, fits) =
     named (codes "fetch") _ _ (record { none = refl }) refl refl
-        (fetch_again (hexadecimal at) (got_text got) at got (hexadecimal_lacks at small) (hexadecimal_again max_u64 at small (omega arith)) (got_again (2 ^ 32 - 1) got (omega arith) (instruction_below got fits)))
+    (fetch_again (hexadecimal at) (got_text got) at got (hexadecimal_lacks at small) (hexadecimal_again max_u64 at small (omega arith)) (got_again (2 ^ 32 - 1) got (omega arith) (instruction_below got fits)))
 act_again (Await width at value ok) (h, small, fits) =
     named (codes "await") _ _ (record { none = refl }) refl refl (await_again _ width at value ok (attempted width at value ok h small fits))
 act_again (Irq device vector) (d, v) =
     named (codes "irq") _ _ (record { none = refl }) refl refl
-        (irq_again (decimal device) (decimal vector) device vector (decimal_lacks device (omega arith)) (decimal_again (2 ^ 32 - 1) device (omega arith) (omega arith)) (decimal_again 255 vector (omega arith) (omega arith)))
+    (irq_again (decimal device) (decimal vector) device vector (decimal_lacks device (omega arith)) (decimal_again (2 ^ 32 - 1) device (omega arith) (omega arith)) (decimal_again 255 vector (omega arith) (omega arith)))
 act_again (Hvc code a b answer) (c, x, y, z) =
     named (codes "hvc") _ _ (record { none = refl }) refl refl
-        (call_again (decimal code) (hexadecimal a) (hexadecimal b) (signed_decimal answer) code a b answer (decimal_lacks code c) (hexadecimal_lacks a x) (hexadecimal_lacks b y)
-            (decimal_again max_u64 code c (omega arith)) (hexadecimal_again max_u64 a x (omega arith)) (hexadecimal_again max_u64 b y (omega arith))
-            (answer_is_not answer 98 (101 ∷ 103 ∷ 105 ∷ 110 ∷ []) z (omega arith) (omega arith)) (answer_again answer z))
+    (call_again (decimal code) (hexadecimal a) (hexadecimal b) (signed_decimal answer) code a b answer (decimal_lacks code c) (hexadecimal_lacks a x) (hexadecimal_lacks b y)
+    (decimal_again max_u64 code c (omega arith)) (hexadecimal_again max_u64 a x (omega arith)) (hexadecimal_again max_u64 b y (omega arith))
+    (answer_is_not answer 98 (101 ∷ 103 ∷ 105 ∷ 110 ∷ []) z (omega arith) (omega arith)) (answer_again answer z))
 act_again (Begin code a b) (c, x, y) =
     named (codes "hvc") _ _ (record { none = refl }) refl refl
-        (begin_again (decimal code) (hexadecimal a) (hexadecimal b) code a b (decimal_lacks code c) (hexadecimal_lacks a x) (hexadecimal_lacks b y)
-            (decimal_again max_u64 code c (omega arith)) (hexadecimal_again max_u64 a x (omega arith)) (hexadecimal_again max_u64 b y (omega arith)))
+    (begin_again (decimal code) (hexadecimal a) (hexadecimal b) code a b (decimal_lacks code c) (hexadecimal_lacks a x) (hexadecimal_lacks b y)
+    (decimal_again max_u64 code c (omega arith)) (hexadecimal_again max_u64 a x (omega arith)) (hexadecimal_again max_u64 b y (omega arith)))
 act_again Stop h = stop_again
 act_again (Decide refused) fits = named (codes "decide") _ _ (record { none = refl }) refl refl (decide_again (decision_text refused) refused (decision_again refused fits))
 act_again (Settle how) h = named (codes "settle") _ _ (record { none = refl }) refl refl (settle_again (settled_text how) how (settled_again how))
@@ -162,7 +162,7 @@ act_again Commit h = commit_again
 act_again (Note id) small = named (codes "note") _ _ (record { none = refl }) refl refl (note_again (decimal id) id (decimal_again (2 ^ 32 - 1) id (omega arith) (omega arith)))
 act_again (Noted id how) small =
     named (codes "noted") _ _ (record { none = refl }) refl refl
-        (noted_again (decimal id) (heard_text how) id how (decimal_lacks id (omega arith)) (decimal_again (2 ^ 32 - 1) id (omega arith) (omega arith)) (heard_again how))
+    (noted_again (decimal id) (heard_text how) id how (decimal_lacks id (omega arith)) (decimal_again (2 ^ 32 - 1) id (omega arith) (omega arith)) (heard_again how))
 act_again (Finish answer) z = named (codes "finish") _ _ (record { none = refl }) refl refl (finish_again (signed_decimal answer) answer (answer_again answer z))
 
 -- after the CPU and the cell comes the act
@@ -195,4 +195,4 @@ entry_again entry h =
     let i = h.cell in
     ap entry_of (text_parts (decimal entry.cpu) (decimal entry.cell) entry.act)
     ∙ parts_again (decimal entry.cpu) (decimal entry.cell) (join_with_byte 32 (act_words entry.act)) entry.cpu entry.cell entry.act
-        (decimal_lacks entry.cpu (omega arith)) (decimal_lacks entry.cell (omega arith)) (decimal_again 15 entry.cpu (omega arith) (omega arith)) (decimal_again (2 ^ 32 - 1) entry.cell (omega arith) (omega arith)) (act_again entry.act h.act)
+    (decimal_lacks entry.cpu (omega arith)) (decimal_lacks entry.cell (omega arith)) (decimal_again 15 entry.cpu (omega arith) (omega arith)) (decimal_again (2 ^ 32 - 1) entry.cell (omega arith) (omega arith)) (act_again entry.act h.act)

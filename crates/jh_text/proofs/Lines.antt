@@ -141,9 +141,9 @@ text_push (first ∷ entries) entry rest =
 -- one line more than a journal may have
 pub too_long : (text rest after : List ℕ) (entries : List Entry) (entry : Entry) → AllByRecursion IsReadable entries → IsReadable entry → length entries ≡ MAX_ENTRIES → text ≡ journal_text entries ++ rest → rest ≡ line entry ++ after → IsTooLong text
 too_long text rest after entries entry all h full whole next = record {
-    first = entries ++ entry ∷ [];
-    rest = after;
-    readable = all_push entries entry all h;
-    long = omega (arith, length-append entries (entry ∷ []));
-    whole = whole ∙ ap (λ t. journal_text entries ++ t) next ∙ sym (text_push entries entry after)
-  }
+  first = entries ++ entry ∷ [];
+  rest = after;
+  readable = all_push entries entry all h;
+  long = omega (arith, length-append entries (entry ∷ []));
+  whole = whole ∙ ap (λ t. journal_text entries ++ t) next ∙ sym (text_push entries entry after);
+}

@@ -34,8 +34,8 @@ split_once-front byte word rest h =
 
 pub Lacks-append : (byte : ℕ) (front back : List ℕ) → Lacks byte front → Lacks byte back → Lacks byte (front ++ back)
 Lacks-append byte front back f b = record {
-    none = prefix_len-append (differs byte) front back ∙ rw (f.none, eq-eqb (length front) (length front) refl, b.none, length-append front back) refl
-  }
+  none = prefix_len-append (differs byte) front back ∙ rw (f.none, eq-eqb (length front) (length front) refl, b.none, length-append front back) refl;
+}
 
 pub Lacks-cons : (byte c : ℕ) (bytes : List ℕ) → eqb c byte ≡ false → Lacks byte bytes → Lacks byte (c ∷ bytes)
 Lacks-cons byte c bytes e h = record { none = rw (e, h.none) (omega arith) }

@@ -10,4 +10,4 @@ returns-then-len-eq-MAX_ENTRIES-clause-err c =
     let next : c.loop-rest.rest.now ≡ line c.in-Some.entry ++ c.in-Some.after.now = search rules in
     let before = c.loop-rest.invariant in
     too_long c.args.text.now c.loop-rest.rest.now c.in-Some.after.now c.loop-rest.journal.entries c.in-Some.entry
-        before.readable readable (search rules) before.whole next
+    before.readable readable (search rules) before.whole next
