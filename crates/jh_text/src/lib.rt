@@ -4,6 +4,7 @@
 mod entries;
 mod fault;
 mod laws;
+mod outcomes;
 mod print;
 mod read;
 mod words;
