@@ -13,3 +13,6 @@ pub use fault::{JournalFault, MAX_ENTRIES};
 pub use laws::{one_answer, texts_differ, texts_go_both_ways};
 pub use print::{print_entry, print_journal};
 pub use read::read_journal;
+
+#[cfg(test)]
+mod tests;
