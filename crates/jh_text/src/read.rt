@@ -1,7 +1,8 @@
 //! From a text to its entries.
-ghost use Rattle.std.specs.Prelude.{◌≡◌, ◌≢◌, ◌++◌, ◌↔◌, ℕ, List, IfOk, IfErr, IfSome, IfNone, IsOkAnd};
+ghost use Rattle.std.specs.Prelude.{◌≡◌, ◌≢◌, ◌++◌, ◌↔◌, ℕ, List, length, IsTrue, IfOk, IfErr, IfSome, IfNone, IsOkAnd};
 ghost use Rattle.jh_history.specs.declared.entry.Entry.{Entry};
-ghost use Rattle.jh_text.specs.Text.{line};
+ghost use Rattle.std.specs.Str.{bytes_eq};
+ghost use Rattle.jh_text.specs.Text.{entry_text, line};
 ghost use Rattle.jh_text.specs.Ranges.{IsReadable};
 ghost use Rattle.jh_text.specs.Faults.{BeginsWithNoLine, IsFault, IsFirstBadLine, IsJournalText, IsTooLong};
 
@@ -50,12 +51,27 @@ fn first_line<'a>(
     let Some(entry) = entry(front) else {
         return Ok(None);
     };
-    printed.clear();
-    push_entry(printed, &entry)?;
-    if !is(front, printed.as_str()) {
+    let same = is_text_of(printed, &entry, front)?;
+    if !same {
         return Ok(None);
     }
     Ok(Some((entry, rest)))
+}
+
+/// Whether this is the entry's text, which is printed for it.
+fn is_text_of(printed: &mut String, entry: &Entry, text: &[u8]) -> Result<bool, NoMemory>
+    ensures { IfOk result (λ same. same ≡ bytes_eq text.now (entry_text entry.now)) }
+{
+    printed.clear();
+    push_entry(printed, entry)?;
+    Ok(is(text, printed.as_str()))
+}
+
+/// Whether the journal has as many entries as it may.
+fn is_full(journal: &Journal) -> bool
+    ensures { IsTrue result ↔ (length journal.now.entries ≡ MAX_ENTRIES) }
+{
+    journal.len() == MAX_ENTRIES
 }
 
 /// The entries of the text, or its first fault.
@@ -72,7 +88,7 @@ fn entries(alloc: Global, text: &[u8]) -> Result<Journal, JournalFault>
                 number: journal.len() as u32 + 1,
             });
         };
-        if journal.len() == MAX_ENTRIES {
+        if is_full(&journal) {
             return Err(JournalFault::TooLong);
         }
         journal.push(entry)?;
