@@ -1,8 +1,8 @@
 -- The text of each entry leads to the entry.
-use Rattle.std.proofs.Common.{◌≡◌, ℕ, ◌+◌, ◌-◌, ◌^◌, ◌<◌, ◌≤◌, ℤ, Bool, true, false, List, [], ◌∷◌, ◌++◌, Option, Some, None, refl, sym, ap, ◌∙◌, suc, pos, negsuc, arith, IsTrue, FitsSigned, w64, codes}
-use Rattle.std.specs.Option.{IfSome, option_map}
-use Rattle.std.specs.List.{join_with_byte, AllByRecursion}
-use Rattle.std.specs.Fmt.{digits, decimal, signed_decimal}
+use Rattle.std.proofs.Common.{◌≡◌, ℕ, ◌-◌, ◌^◌, ◌<◌, ◌≤◌, ℤ, Bool, false, List, [], ◌∷◌, ◌++◌, Option, Some, None, refl, ap, ◌∙◌, arith, IsTrue, codes}
+use Rattle.std.specs.Option.{IfSome}
+use Rattle.std.specs.List.{join_with_byte}
+use Rattle.std.specs.Fmt.{decimal, signed_decimal}
 use Rattle.std.specs.Str.{bytes_eq}
 use Rattle.jh_history.specs.declared.entry.Entry.{Entry}
 use Rattle.jh_history.specs.declared.entry.Act.{Act}
@@ -10,10 +10,10 @@ use Rattle.jh_history.specs.declared.entry.Act.TheVariants.{Read, Write, Fetch, 
 use Rattle.jh_history.specs.declared.entry.Settled.{Settled}
 use Rattle.jh_history.specs.declared.entry.Heard.{Heard}
 use Rattle.jh_text.specs.Ranges.{is_width, IsReadableAct, IsReadable}
-use Rattle.jh_text.specs.Text.{hexadecimal, got_text, ok_text, decision_text, settled_text, heard_text, act_words, entry_words, entry_text}
+use Rattle.jh_text.specs.Text.{hexadecimal, got_text, ok_text, decision_text, settled_text, heard_text, act_words, entry_text}
 use Rattle.jh_text.specs.Reading.{max_u64, split_once, number_of, hexadecimal_of, answer_of, width_of, got_of, ok_of, decision_of, settled_of, heard_of, read_of, attempt_of, write_of, await_of, fetch_of, irq_of, call_of, decide_of, settle_of, note_of, noted_of, finish_of, named_of, act_of, entry_of}
 use Rattle.jh_text.proofs.Numbers.{Lacks-digits}
-use Rattle.jh_text.proofs.Splits.{Lacks, Lacks-cons, Lacks-append, split_once-front}
+use Rattle.jh_text.proofs.Splits.{Lacks, Lacks-cons, split_once-front}
 use Rattle.jh_text.proofs.Spellings.{decimal_again, hexadecimal_again, answer_again, answer_is_not, width_again, width_le, widest, got_again, ok_again, decision_again, settled_again, heard_again}
 
 -- no word of a number has a space

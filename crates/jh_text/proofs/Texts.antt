@@ -1,12 +1,11 @@
 -- A text has one answer.
-use Rattle.std.proofs.Common.{◌≡◌, ◌≢◌, ℕ, ◌+◌, ◌<◌, ◌≤◌, List, [], ◌∷◌, ◌++◌, length, Result, Ok, Err, refl, sym, ap, ◌∙◌, subst, arith, append_assoc, length-append, ◌⊎◌, inl, inr, ⊎_elim}
+use Rattle.std.proofs.Common.{◌≡◌, ◌≢◌, ℕ, ◌≤◌, List, [], ◌∷◌, ◌++◌, length, Result, Ok, Err, refl, sym, ap, ◌∙◌, subst, arith, append_assoc, length-append, ◌⊎◌, inl, inr, ⊎_elim}
 use Rattle.std.specs.Result.{IfOk, IfErr, IsOkAnd}
 use Rattle.std.specs.List.{AllByRecursion}
 use Rattle.std.proofs.lemmas.List.{append-nil}
 use Rattle.std.proofs.lemmas.Bool.{cases_lt}
 use Rattle.jh_history.specs.Log.{Log}
 use Rattle.jh_history.specs.declared.entry.Entry.{Entry}
-use Rattle.jh_text.specs.declared.fault.TheConstants.{MAX_ENTRIES}
 use Rattle.jh_text.specs.declared.fault.JournalFault.{JournalFault}
 use Rattle.jh_text.specs.declared.fault.JournalFault.TheVariants.{Line, TooLong, NoMemory}
 use Rattle.jh_text.specs.Ranges.{IsReadable}

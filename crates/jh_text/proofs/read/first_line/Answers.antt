@@ -1,5 +1,4 @@
-use Rattle.std.proofs.Common.{rules, arith, ◌≡◌, ◌≢◌, true, false, None, Some, sym, ◌∙◌}
-use Rattle.std.proofs.lemmas.Grind.{common_steps}
+use Rattle.std.proofs.Common.{rules, ◌≡◌, true, false, None, Some, sym, ◌∙◌}
 use Rattle.std.specs.Str.{bytes_eq}
 use Rattle.std.proofs.lemmas.Slice.Eq.{bytes_eq-Decides}
 use Rattle.std.proofs.lemmas.Bool.{false≢true}
@@ -26,7 +25,7 @@ returns-then-not-same-clause-none c =
     let told : entry_of front ≡ Some c.in-Some-entry.entry = search rules in
     let differ : bytes_eq front (entry_text c.in-Some-entry.entry) ≡ false = search rules in
     no_line_other c.args.text.now front c.in-Some.rest.now c.in-Some-entry.entry split told
-        (λ e. false≢true (sym differ ∙ (bytes_eq-Decides front (entry_text c.in-Some-entry.entry)).1 (sym e)))
+    (λ e. false≢true (sym differ ∙ (bytes_eq-Decides front (entry_text c.in-Some-entry.entry)).1 (sym e)))
 
 pub returns-clause-whole : goal.returns-clause-whole
 returns-clause-whole c =
@@ -34,4 +33,4 @@ returns-clause-whole c =
     let split : split_once 10 c.args.text.now ≡ Some (front, c.in-Some.rest.now) = search rules in
     let same : bytes_eq front (entry_text c.in-Some-entry.entry) ≡ true = search rules in
     line_found c.args.text.now front c.in-Some.rest.now c.in-Some-entry.entry split
-        (sym ((bytes_eq-Decides front (entry_text c.in-Some-entry.entry)).0 same))
+    (sym ((bytes_eq-Decides front (entry_text c.in-Some-entry.entry)).0 same))
