@@ -1,8 +1,8 @@
 -- The text of each entry leads to the entry.
-use Rattle.std.proofs.Common.{◌≡◌, ℕ, ◌+◌, ◌-◌, ◌^◌, ◌<◌, ◌≤◌, ℤ, Bool, true, false, List, [], ◌∷◌, ◌++◌, Option, Some, None, refl, sym, ap, ◌∙◌, suc, pos, negsuc, arith, IsTrue, FitsSigned, w64, codes}
-use Rattle.std.specs.Option.{IfSome, option_map}
-use Rattle.std.specs.List.{join_with_byte, AllByRecursion}
-use Rattle.std.specs.Fmt.{digits, decimal, signed_decimal}
+use Rattle.std.proofs.Common.{◌≡◌, ℕ, ◌-◌, ◌^◌, ◌<◌, ◌≤◌, ℤ, Bool, false, List, [], ◌∷◌, ◌++◌, Option, Some, None, refl, ap, ◌∙◌, arith, IsTrue, codes}
+use Rattle.std.specs.Option.{IfSome}
+use Rattle.std.specs.List.{join_with_byte}
+use Rattle.std.specs.Fmt.{decimal, signed_decimal}
 use Rattle.std.specs.Str.{bytes_eq}
 use Rattle.jh_history.specs.declared.entry.Entry.{Entry}
 use Rattle.jh_history.specs.declared.entry.Act.{Act}
@@ -10,10 +10,10 @@ use Rattle.jh_history.specs.declared.entry.Act.TheVariants.{Read, Write, Fetch, 
 use Rattle.jh_history.specs.declared.entry.Settled.{Settled}
 use Rattle.jh_history.specs.declared.entry.Heard.{Heard}
 use Rattle.jh_text.specs.Ranges.{is_width, IsReadableAct, IsReadable}
-use Rattle.jh_text.specs.Text.{hexadecimal, got_text, ok_text, decision_text, settled_text, heard_text, act_words, entry_words, entry_text}
+use Rattle.jh_text.specs.Text.{hexadecimal, got_text, ok_text, decision_text, settled_text, heard_text, act_words, entry_text}
 use Rattle.jh_text.specs.Reading.{max_u64, split_once, number_of, hexadecimal_of, answer_of, width_of, got_of, ok_of, decision_of, settled_of, heard_of, read_of, attempt_of, write_of, await_of, fetch_of, irq_of, call_of, decide_of, settle_of, note_of, noted_of, finish_of, named_of, act_of, entry_of}
 use Rattle.jh_text.proofs.Numbers.{Lacks-digits}
-use Rattle.jh_text.proofs.Splits.{Lacks, Lacks-cons, Lacks-append, split_once-front}
+use Rattle.jh_text.proofs.Splits.{Lacks, Lacks-cons, split_once-front}
 use Rattle.jh_text.proofs.Spellings.{decimal_again, hexadecimal_again, answer_again, answer_is_not, width_again, width_le, widest, got_again, ok_again, decision_again, settled_again, heard_again}
 
 -- no word of a number has a space
@@ -125,8 +125,8 @@ attempted width at value ok h small fits =
     let narrow : width ≤ 8 = width_le width h in
     let below : value < 2 ^ 64 = omega (arith, widest width h) in
     attempt_again (decimal width) (hexadecimal at) (hexadecimal value) (ok_text ok) width at value ok
-        (decimal_lacks width (omega arith)) (hexadecimal_lacks at small) (hexadecimal_lacks value below)
-        (width_again width h) (hexadecimal_again max_u64 at small (omega arith)) (hexadecimal_again (256 ^ width - 1) value below (below_value width value h fits)) (ok_again ok)
+    (decimal_lacks width (omega arith)) (hexadecimal_lacks at small) (hexadecimal_lacks value below)
+    (width_again width h) (hexadecimal_again max_u64 at small (omega arith)) (hexadecimal_again (256 ^ width - 1) value below (below_value width value h fits)) (ok_again ok)
 
 -- the words of each act lead to the act
 pub act_again : (act : Act) → IsReadableAct act → act_of (join_with_byte 32 (act_words act)) ≡ Some act
@@ -134,27 +134,27 @@ unfolding named_of
 act_again (Read width at got) (h, small, fits) =
     let narrow : width ≤ 8 = width_le width h in
     named (codes "read") _ _ (record { none = refl }) refl refl
-        (read_again (decimal width) (hexadecimal at) (got_text got) width at got (decimal_lacks width (omega arith)) (hexadecimal_lacks at small)
-            (width_again width h) (hexadecimal_again max_u64 at small (omega arith)) (got_again (256 ^ width - 1) got (room width h) (got_below width got fits)))
+    (read_again (decimal width) (hexadecimal at) (got_text got) width at got (decimal_lacks width (omega arith)) (hexadecimal_lacks at small)
+    (width_again width h) (hexadecimal_again max_u64 at small (omega arith)) (got_again (256 ^ width - 1) got (room width h) (got_below width got fits)))
 act_again (Write width at value ok) (h, small, fits) =
     named (codes "write") _ _ (record { none = refl }) refl refl (write_again _ width at value ok (attempted width at value ok h small fits))
 act_again (Fetch at got) (small, fits) =
     named (codes "fetch") _ _ (record { none = refl }) refl refl
-        (fetch_again (hexadecimal at) (got_text got) at got (hexadecimal_lacks at small) (hexadecimal_again max_u64 at small (omega arith)) (got_again (2 ^ 32 - 1) got (omega arith) (instruction_below got fits)))
+    (fetch_again (hexadecimal at) (got_text got) at got (hexadecimal_lacks at small) (hexadecimal_again max_u64 at small (omega arith)) (got_again (2 ^ 32 - 1) got (omega arith) (instruction_below got fits)))
 act_again (Await width at value ok) (h, small, fits) =
     named (codes "await") _ _ (record { none = refl }) refl refl (await_again _ width at value ok (attempted width at value ok h small fits))
 act_again (Irq device vector) (d, v) =
     named (codes "irq") _ _ (record { none = refl }) refl refl
-        (irq_again (decimal device) (decimal vector) device vector (decimal_lacks device (omega arith)) (decimal_again (2 ^ 32 - 1) device (omega arith) (omega arith)) (decimal_again 255 vector (omega arith) (omega arith)))
+    (irq_again (decimal device) (decimal vector) device vector (decimal_lacks device (omega arith)) (decimal_again (2 ^ 32 - 1) device (omega arith) (omega arith)) (decimal_again 255 vector (omega arith) (omega arith)))
 act_again (Hvc code a b answer) (c, x, y, z) =
     named (codes "hvc") _ _ (record { none = refl }) refl refl
-        (call_again (decimal code) (hexadecimal a) (hexadecimal b) (signed_decimal answer) code a b answer (decimal_lacks code c) (hexadecimal_lacks a x) (hexadecimal_lacks b y)
-            (decimal_again max_u64 code c (omega arith)) (hexadecimal_again max_u64 a x (omega arith)) (hexadecimal_again max_u64 b y (omega arith))
-            (answer_is_not answer 98 (101 ∷ 103 ∷ 105 ∷ 110 ∷ []) z (omega arith) (omega arith)) (answer_again answer z))
+    (call_again (decimal code) (hexadecimal a) (hexadecimal b) (signed_decimal answer) code a b answer (decimal_lacks code c) (hexadecimal_lacks a x) (hexadecimal_lacks b y)
+    (decimal_again max_u64 code c (omega arith)) (hexadecimal_again max_u64 a x (omega arith)) (hexadecimal_again max_u64 b y (omega arith))
+    (answer_is_not answer 98 (101 ∷ 103 ∷ 105 ∷ 110 ∷ []) z (omega arith) (omega arith)) (answer_again answer z))
 act_again (Begin code a b) (c, x, y) =
     named (codes "hvc") _ _ (record { none = refl }) refl refl
-        (begin_again (decimal code) (hexadecimal a) (hexadecimal b) code a b (decimal_lacks code c) (hexadecimal_lacks a x) (hexadecimal_lacks b y)
-            (decimal_again max_u64 code c (omega arith)) (hexadecimal_again max_u64 a x (omega arith)) (hexadecimal_again max_u64 b y (omega arith)))
+    (begin_again (decimal code) (hexadecimal a) (hexadecimal b) code a b (decimal_lacks code c) (hexadecimal_lacks a x) (hexadecimal_lacks b y)
+    (decimal_again max_u64 code c (omega arith)) (hexadecimal_again max_u64 a x (omega arith)) (hexadecimal_again max_u64 b y (omega arith)))
 act_again Stop h = stop_again
 act_again (Decide refused) fits = named (codes "decide") _ _ (record { none = refl }) refl refl (decide_again (decision_text refused) refused (decision_again refused fits))
 act_again (Settle how) h = named (codes "settle") _ _ (record { none = refl }) refl refl (settle_again (settled_text how) how (settled_again how))
@@ -162,7 +162,7 @@ act_again Commit h = commit_again
 act_again (Note id) small = named (codes "note") _ _ (record { none = refl }) refl refl (note_again (decimal id) id (decimal_again (2 ^ 32 - 1) id (omega arith) (omega arith)))
 act_again (Noted id how) small =
     named (codes "noted") _ _ (record { none = refl }) refl refl
-        (noted_again (decimal id) (heard_text how) id how (decimal_lacks id (omega arith)) (decimal_again (2 ^ 32 - 1) id (omega arith) (omega arith)) (heard_again how))
+    (noted_again (decimal id) (heard_text how) id how (decimal_lacks id (omega arith)) (decimal_again (2 ^ 32 - 1) id (omega arith) (omega arith)) (heard_again how))
 act_again (Finish answer) z = named (codes "finish") _ _ (record { none = refl }) refl refl (finish_again (signed_decimal answer) answer (answer_again answer z))
 
 -- after the CPU and the cell comes the act
@@ -195,4 +195,4 @@ entry_again entry h =
     let i = h.cell in
     ap entry_of (text_parts (decimal entry.cpu) (decimal entry.cell) entry.act)
     ∙ parts_again (decimal entry.cpu) (decimal entry.cell) (join_with_byte 32 (act_words entry.act)) entry.cpu entry.cell entry.act
-        (decimal_lacks entry.cpu (omega arith)) (decimal_lacks entry.cell (omega arith)) (decimal_again 15 entry.cpu (omega arith) (omega arith)) (decimal_again (2 ^ 32 - 1) entry.cell (omega arith) (omega arith)) (act_again entry.act h.act)
+    (decimal_lacks entry.cpu (omega arith)) (decimal_lacks entry.cell (omega arith)) (decimal_again 15 entry.cpu (omega arith) (omega arith)) (decimal_again (2 ^ 32 - 1) entry.cell (omega arith) (omega arith)) (act_again entry.act h.act)

@@ -3,3 +3,4 @@ pub mod Lines
 pub mod Numbers
 pub mod Spellings
 pub mod Splits
+pub mod Texts

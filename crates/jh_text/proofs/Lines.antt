@@ -1,8 +1,8 @@
 -- Lines, and the texts that they make.
-use Rattle.std.proofs.Common.{◌≡◌, ◌≢◌, ℕ, ◌+◌, ◌-◌, ◌^◌, ◌<◌, ◌≤◌, ℤ, pos, negsuc, suc, Bool, true, false, List, [], ◌∷◌, ◌++◌, length, Option, Some, None, refl, sym, ap, ◌∙◌, subst, arith, FitsSigned, w64, codes, append_assoc, length-append}
+use Rattle.std.proofs.Common.{◌≡◌, ◌≢◌, ℕ, ◌^◌, ◌<◌, ◌≤◌, ℤ, pos, negsuc, suc, Bool, true, false, List, [], ◌∷◌, ◌++◌, length, Option, Some, None, refl, sym, ap, ◌∙◌, arith, FitsSigned, w64, append_assoc, length-append}
 use Rattle.std.specs.Option.{IfSome}
-use Rattle.std.specs.List.{join_with_byte, AllByRecursion, flat_map}
-use Rattle.std.specs.Fmt.{digits, decimal, signed_decimal}
+use Rattle.std.specs.List.{join_with_byte, AllByRecursion}
+use Rattle.std.specs.Fmt.{decimal, signed_decimal}
 use Rattle.std.proofs.lemmas.Int.{ints}
 use Rattle.std.proofs.lemmas.Option.{none-some, same_Some}
 use Rattle.jh_history.specs.declared.entry.Entry.{Entry}
@@ -12,7 +12,7 @@ use Rattle.jh_history.specs.declared.entry.Settled.{Settled}
 use Rattle.jh_history.specs.declared.entry.Settled.TheVariants as settled
 use Rattle.jh_history.specs.declared.entry.Heard.{Heard}
 use Rattle.jh_history.specs.declared.entry.Heard.TheVariants as heard
-use Rattle.jh_text.specs.Ranges.{is_width, IsReadableAct, IsReadable}
+use Rattle.jh_text.specs.Ranges.{IsReadableAct, IsReadable}
 use Rattle.jh_text.specs.Text.{hexadecimal, got_text, ok_text, decision_text, settled_text, heard_text, act_words, entry_words, entry_text, line, journal_text}
 use Rattle.jh_text.specs.declared.fault.TheConstants.{MAX_ENTRIES}
 use Rattle.jh_text.specs.Faults.{BeginsWithNoLine, IsTooLong}
@@ -141,9 +141,9 @@ text_push (first ∷ entries) entry rest =
 -- one line more than a journal may have
 pub too_long : (text rest after : List ℕ) (entries : List Entry) (entry : Entry) → AllByRecursion IsReadable entries → IsReadable entry → length entries ≡ MAX_ENTRIES → text ≡ journal_text entries ++ rest → rest ≡ line entry ++ after → IsTooLong text
 too_long text rest after entries entry all h full whole next = record {
-    first = entries ++ entry ∷ [];
-    rest = after;
-    readable = all_push entries entry all h;
-    long = omega (arith, length-append entries (entry ∷ []));
-    whole = whole ∙ ap (λ t. journal_text entries ++ t) next ∙ sym (text_push entries entry after)
-  }
+  first = entries ++ entry ∷ [];
+  rest = after;
+  readable = all_push entries entry all h;
+  long = omega (arith, length-append entries (entry ∷ []));
+  whole = whole ∙ ap (λ t. journal_text entries ++ t) next ∙ sym (text_push entries entry after);
+}

@@ -1,5 +1,5 @@
 -- Which entries a text may hold: those whose numbers are within their ranges.
-use Rattle.std.specs.Prelude.{ℕ, ◌^◌, ◌<◌, Bool, ◌||◌, ◌==◌, IsTrue, IfSome, Option, None, Some, FitsSigned}
+use Rattle.std.specs.Prelude.{ℕ, ◌^◌, ◌<◌, Bool, ◌||◌, ◌==◌, IsTrue, IfSome, FitsSigned}
 use Rattle.std.specs.Int.{w64}
 use Rattle.jh_history.specs.declared.entry.Entry.{Entry}
 use Rattle.jh_history.specs.declared.entry.Act.{Act}

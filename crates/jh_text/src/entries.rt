@@ -3,13 +3,13 @@
 //! These functions go by the places of the words, and take some words that no entry's text has: a number
 //! with leading zeros or in upper case, anything in the place of an equals sign. Whether the line is the
 //! text of the entry that they find is then seen by printing it.
-ghost use Rattle.std.specs.Prelude.{◌≡◌, ◌^◌, ◌<◌, ◌≤◌, IfSome, IsTrue, FitsSigned};
-ghost use Rattle.std.specs.Int.{w64};
+ghost use Rattle.std.specs.Prelude.{◌≡◌, ◌^◌, ◌<◌, IfSome, IsTrue};
 ghost use Rattle.jh_text.specs.Ranges.{is_width, IsReadableAct, IsReadable};
-ghost use Rattle.jh_text.specs.Reading.{got_of, ok_of, decision_of, settled_of, heard_of, read_of, attempt_of, write_of, await_of, fetch_of, irq_of, call_of, decide_of, settle_of, note_of, noted_of, finish_of, named_of, act_of, entry_of};
+ghost use Rattle.jh_text.specs.Reading.{read_of, attempt_of, write_of, await_of, fetch_of, irq_of, call_of, decide_of, settle_of, note_of, noted_of, finish_of, named_of, act_of, entry_of};
 
+use crate::outcomes::{read_decision, read_got, read_heard, read_ok, read_settled};
 use crate::words::{answer, decimal, hexadecimal, is, max_of_width, split_once, width};
-use jh_history::{Act, Entry, Heard, Settled};
+use jh_history::{Act, Entry};
 
 #[tactic(auto, unfolding(crate::specs::Reading::entry_of))]
 pub(crate) fn entry(line: &[u8]) -> Option<Entry>
@@ -90,7 +90,7 @@ fn read(rest: &[u8]) -> Option<Act>
     let (_, got_word) = split_once(rest, b' ')?;
     let width = width(width_word)?;
     let at = hexadecimal(at, u64::MAX)?;
-    let got = got(max_of_width(width), got_word)?;
+    let got = read_got(max_of_width(width), got_word)?;
     Some(Act::Read { width, at, got })
 }
 
@@ -137,7 +137,7 @@ fn attempt(rest: &[u8]) -> Option<(u8, u64, u64, bool)>
     let width = width(width_word)?;
     let at = hexadecimal(at, u64::MAX)?;
     let value = hexadecimal(value, max_of_width(width))?;
-    let ok = ok(ok_word)?;
+    let ok = read_ok(ok_word)?;
     Some((width, at, value, ok))
 }
 
@@ -149,7 +149,7 @@ fn fetch(rest: &[u8]) -> Option<Act>
     let (at, rest) = split_once(rest, b' ')?;
     let (_, got_word) = split_once(rest, b' ')?;
     let at = hexadecimal(at, u64::MAX)?;
-    let got = got(u32::MAX as u64, got_word)?;
+    let got = read_got(u32::MAX as u64, got_word)?;
     Some(Act::Fetch { at, got })
 }
 
@@ -190,7 +190,7 @@ fn decide(rest: &[u8]) -> Option<Act>
     ensures readable { IfSome result IsReadableAct }
 {
     let (_, word) = split_once(rest, b' ')?;
-    let refused = decision(word)?;
+    let refused = read_decision(word)?;
     Some(Act::Decide { refused })
 }
 
@@ -200,7 +200,7 @@ fn settle(rest: &[u8]) -> Option<Act>
     ensures readable { IfSome result IsReadableAct }
 {
     let (_, word) = split_once(rest, b' ')?;
-    let how = settled(word)?;
+    let how = read_settled(word)?;
     Some(Act::Settle { how })
 }
 
@@ -221,7 +221,7 @@ fn noted(rest: &[u8]) -> Option<Act>
     let (id, rest) = split_once(rest, b' ')?;
     let (_, word) = split_once(rest, b' ')?;
     let id = decimal(id, u32::MAX as u64)? as u32;
-    let how = heard(word)?;
+    let how = read_heard(word)?;
     Some(Act::Noted { id, how })
 }
 
@@ -233,78 +233,4 @@ fn finish(rest: &[u8]) -> Option<Act>
     let (_, word) = split_once(rest, b' ')?;
     let answer = answer(word)?;
     Some(Act::Finish { answer })
-}
-
-/// What a read or a fetch gave; without a value where it was a violation.
-#[tactic(auto, unfolding(crate::specs::Reading::got_of))]
-fn got(most: u64, word: &[u8]) -> Option<Option<u64>>
-    ensures value { result ≡ got_of most word.now }
-    ensures bound { IfSome result (λ got. IfSome got (λ value. value ≤ most)) }
-{
-    if is(word, "violation") {
-        return Some(None);
-    }
-    let value = hexadecimal(word, most)?;
-    Some(Some(value))
-}
-
-#[tactic(auto, unfolding(crate::specs::Reading::ok_of))]
-fn ok(word: &[u8]) -> Option<bool>
-    ensures { result ≡ ok_of word.now }
-{
-    if is(word, "ok") {
-        return Some(true);
-    }
-    if is(word, "violation") {
-        return Some(false);
-    }
-    None
-}
-
-/// The number with which a call is refused; without one where it goes on.
-#[tactic(auto, unfolding(crate::specs::Reading::decision_of))]
-fn decision(word: &[u8]) -> Option<Option<i64>>
-    ensures value { result ≡ decision_of word.now }
-    ensures fits { IfSome result (λ refused. IfSome refused (FitsSigned w64)) }
-{
-    if is(word, "go") {
-        return Some(None);
-    }
-    let number = answer(word)?;
-    Some(Some(number))
-}
-
-#[tactic(auto, unfolding(crate::specs::Reading::settled_of))]
-fn settled(word: &[u8]) -> Option<Settled>
-    ensures { result ≡ settled_of word.now }
-{
-    if is(word, "agreed") {
-        return Some(Settled::Agreed);
-    }
-    if is(word, "denied") {
-        return Some(Settled::Denied);
-    }
-    if is(word, "timeout") {
-        return Some(Settled::Timeout);
-    }
-    None
-}
-
-#[tactic(auto, unfolding(crate::specs::Reading::heard_of))]
-fn heard(word: &[u8]) -> Option<Heard>
-    ensures { result ≡ heard_of word.now }
-{
-    if is(word, "received") {
-        return Some(Heard::Received);
-    }
-    if is(word, "down") {
-        return Some(Heard::Down);
-    }
-    if is(word, "other") {
-        return Some(Heard::Other);
-    }
-    if is(word, "timeout") {
-        return Some(Heard::Timeout);
-    }
-    None
 }

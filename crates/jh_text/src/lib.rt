@@ -3,9 +3,16 @@
 
 mod entries;
 mod fault;
+mod laws;
+mod outcomes;
 mod print;
 mod read;
 mod words;
 
 pub use fault::{JournalFault, MAX_ENTRIES};
+pub use laws::{one_answer, texts_differ, texts_go_both_ways};
 pub use print::{print_entry, print_journal};
+pub use read::read_journal;
+
+#[cfg(test)]
+mod tests;

@@ -1,9 +1,10 @@
 //! From entries to their text.
 ghost use Rattle.std.specs.Prelude.{◌≡◌, ◌++◌, OnOk, IfOk, string_bytes};
-ghost use Rattle.jh_text.specs.Text.{act_words, entry_text, journal_text, ok_text, settled_text, heard_text};
+ghost use Rattle.jh_text.specs.Text.{act_words, entry_text, journal_text};
 ghost use Rattle.std.specs.List.{join_with_byte};
 
-use jh_history::{Act, Entry, Heard, Journal, Settled};
+use crate::outcomes::{Decision, Got, heard_word, ok_word, settled_word};
+use jh_history::{Act, Entry, Journal};
 use jh_num::NoMemory;
 use std::alloc::Global;
 
@@ -43,85 +44,30 @@ fn push_act(text: &mut String, act: Act) -> Result<(), NoMemory>
     ensures { OnOk result (string_bytes text.new ≡ string_bytes text.old ++ join_with_byte 32 (act_words act)) }
 {
     match act {
-        Act::Read {
-            width,
-            at,
-            got: Some(value),
-        } => write!(text, "read {width} 0x{at:x} = 0x{value:x}")?,
-        Act::Read {
-            width,
-            at,
-            got: None,
-        } => write!(text, "read {width} 0x{at:x} = violation")?,
+        Act::Read { width, at, got } => write!(text, "read {width} 0x{at:x} = {}", Got(got))?,
         Act::Write {
             width,
             at,
             value,
             ok,
-        } => {
-            let outcome = ok_word(ok);
-            write!(text, "write {width} 0x{at:x} 0x{value:x} = {outcome}")?;
-        }
-        Act::Fetch {
-            at,
-            got: Some(value),
-        } => write!(text, "fetch 0x{at:x} = 0x{value:x}")?,
-        Act::Fetch { at, got: None } => write!(text, "fetch 0x{at:x} = violation")?,
+        } => write!(text, "write {width} 0x{at:x} 0x{value:x} = {}", ok_word(ok))?,
+        Act::Fetch { at, got } => write!(text, "fetch 0x{at:x} = {}", Got(got))?,
         Act::Await {
             width,
             at,
             value,
             ok,
-        } => {
-            let outcome = ok_word(ok);
-            write!(text, "await {width} 0x{at:x} 0x{value:x} = {outcome}")?;
-        }
+        } => write!(text, "await {width} 0x{at:x} 0x{value:x} = {}", ok_word(ok))?,
         Act::Irq { device, vector } => write!(text, "irq = {device} {vector}")?,
         Act::Hvc { code, a, b, answer } => write!(text, "hvc {code} 0x{a:x} 0x{b:x} = {answer}")?,
         Act::Begin { code, a, b } => write!(text, "hvc {code} 0x{a:x} 0x{b:x} = begin")?,
         Act::Stop => text.push_str("stop")?,
-        Act::Decide { refused: None } => text.push_str("decide = go")?,
-        Act::Decide {
-            refused: Some(number),
-        } => write!(text, "decide = {number}")?,
-        Act::Settle { how } => {
-            let outcome = settled_word(how);
-            write!(text, "settle = {outcome}")?;
-        }
+        Act::Decide { refused } => write!(text, "decide = {}", Decision(refused))?,
+        Act::Settle { how } => write!(text, "settle = {}", settled_word(how))?,
         Act::Commit => text.push_str("commit")?,
         Act::Note { id } => write!(text, "note {id}")?,
-        Act::Noted { id, how } => {
-            let outcome = heard_word(how);
-            write!(text, "noted {id} = {outcome}")?;
-        }
+        Act::Noted { id, how } => write!(text, "noted {id} = {}", heard_word(how))?,
         Act::Finish { answer } => write!(text, "finish = {answer}")?,
     }
     Ok(())
-}
-
-fn ok_word(ok: bool) -> &'static str
-    ensures { result.now ≡ ok_text ok }
-{
-    if ok { "ok" } else { "violation" }
-}
-
-fn settled_word(how: Settled) -> &'static str
-    ensures { result.now ≡ settled_text how }
-{
-    match how {
-        Settled::Agreed => "agreed",
-        Settled::Denied => "denied",
-        Settled::Timeout => "timeout",
-    }
-}
-
-fn heard_word(how: Heard) -> &'static str
-    ensures { result.now ≡ heard_text how }
-{
-    match how {
-        Heard::Received => "received",
-        Heard::Down => "down",
-        Heard::Other => "other",
-        Heard::Timeout => "timeout",
-    }
 }

@@ -1,8 +1,10 @@
 //! From a text to its entries.
-ghost use Rattle.std.specs.Prelude.{◌≡◌, ◌≢◌, ◌++◌, ◌<◌, ◌↔◌, length, IfOk, IfErr, IfSome, IfNone};
-ghost use Rattle.jh_text.specs.Text.{line};
+ghost use Rattle.std.specs.Prelude.{◌≡◌, ◌≢◌, ◌++◌, ◌↔◌, ℕ, List, length, IsTrue, IfOk, IfErr, IfSome, IfNone, IsOkAnd};
+ghost use Rattle.jh_history.specs.declared.entry.Entry.{Entry};
+ghost use Rattle.std.specs.Str.{bytes_eq};
+ghost use Rattle.jh_text.specs.Text.{entry_text, line};
 ghost use Rattle.jh_text.specs.Ranges.{IsReadable};
-ghost use Rattle.jh_text.specs.Faults.{BeginsWithNoLine, IsJournalText, IsFault};
+ghost use Rattle.jh_text.specs.Faults.{BeginsWithNoLine, IsFault, IsFirstBadLine, IsJournalText, IsTooLong};
 
 use crate::entries::entry;
 use crate::fault::{JournalFault, MAX_ENTRIES};
@@ -11,6 +13,27 @@ use crate::words::{is, split_once};
 use jh_history::{Entry, Journal};
 use jh_num::NoMemory;
 use std::alloc::Global;
+
+/// The journal whose text this is. An entry's numbers are within their ranges where the CPU is below 16, ids and
+/// devices are below 2^32, vectors below 256, widths 1, 2, 4 or 8, values as wide as their access (4 bytes of a
+/// fetch), codes, addresses and arguments below 2^64, and answers numbers of 64 bits with a sign.
+///
+/// # Errors
+///
+/// The first line that isn't such an entry's, counted from 1, or a line of an entry behind the last that a journal
+/// may have, whichever comes first in the text; or want of memory.
+pub fn read_journal(alloc: Global, text: &[u8]) -> Result<Journal, JournalFault>
+    ensures ok { IfOk result (λ journal. IsJournalText text.now journal.entries) }
+    ensures only { result ≢ Err JournalFault.NoMemory
+        → (entries : List Entry) → IsJournalText text.now entries
+        → IsOkAnd result (λ journal. journal.entries ≡ entries) }
+    ensures line { result ≢ Err JournalFault.NoMemory
+        → (number : ℕ) → (result ≡ Err (JournalFault.Line number)) ↔ IsFirstBadLine text.now number }
+    ensures too_long { result ≢ Err JournalFault.NoMemory
+        → (result ≡ Err JournalFault.TooLong) ↔ IsTooLong text.now }
+{
+    entries(alloc, text)
+}
 
 /// The entry of the first line, and what stands behind the line; `None` where the text begins with the
 /// line of no entry. What `printed` holds before and after doesn't matter.
@@ -28,12 +51,27 @@ fn first_line<'a>(
     let Some(entry) = entry(front) else {
         return Ok(None);
     };
-    printed.clear();
-    push_entry(printed, &entry)?;
-    if !is(front, printed.as_str()) {
+    let same = is_text_of(printed, &entry, front)?;
+    if !same {
         return Ok(None);
     }
     Ok(Some((entry, rest)))
+}
+
+/// Whether this is the entry's text, which is printed for it.
+fn is_text_of(printed: &mut String, entry: &Entry, text: &[u8]) -> Result<bool, NoMemory>
+    ensures { IfOk result (λ same. same ≡ bytes_eq text.now (entry_text entry.now)) }
+{
+    printed.clear();
+    push_entry(printed, entry)?;
+    Ok(is(text, printed.as_str()))
+}
+
+/// Whether the journal has as many entries as it may.
+fn is_full(journal: &Journal) -> bool
+    ensures { IsTrue result ↔ (length journal.now.entries ≡ MAX_ENTRIES) }
+{
+    journal.len() == MAX_ENTRIES
 }
 
 /// The entries of the text, or its first fault.
@@ -50,7 +88,7 @@ fn entries(alloc: Global, text: &[u8]) -> Result<Journal, JournalFault>
                 number: journal.len() as u32 + 1,
             });
         };
-        if journal.len() == MAX_ENTRIES {
+        if is_full(&journal) {
             return Err(JournalFault::TooLong);
         }
         journal.push(entry)?;

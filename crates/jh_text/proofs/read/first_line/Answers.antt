@@ -1,5 +1,4 @@
-use Rattle.std.proofs.Common.{rules, arith, ◌≡◌, ◌≢◌, true, false, None, Some, sym, ◌∙◌}
-use Rattle.std.proofs.lemmas.Grind.{common_steps}
+use Rattle.std.proofs.Common.{rules, ◌≡◌, true, false, None, Some, sym, ◌∙◌}
 use Rattle.std.specs.Str.{bytes_eq}
 use Rattle.std.proofs.lemmas.Slice.Eq.{bytes_eq-Decides}
 use Rattle.std.proofs.lemmas.Bool.{false≢true}
@@ -19,21 +18,19 @@ returns-in_default-entry-clause-none c =
     let none : entry_of c.in-Some.front.now ≡ None = search rules in
     no_line_untold c.args.text.now c.in-Some.front.now c.in-Some.rest.now split none
 
-pub returns-then-not-is-clause-none : goal.returns-then-not-is-clause-none
-returns-then-not-is-clause-none c =
+pub returns-then-not-same-clause-none : goal.returns-then-not-same-clause-none
+returns-then-not-same-clause-none c =
     let front = c.in-Some.front.now in
     let split : split_once 10 c.args.text.now ≡ Some (front, c.in-Some.rest.now) = search rules in
     let told : entry_of front ≡ Some c.in-Some-entry.entry = search rules in
-    let shown : c.as_str.result.now ≡ entry_text c.in-Some-entry.entry = grind (arith, common_steps) in
-    let differ : bytes_eq front c.as_str.result.now ≡ false = search rules in
+    let differ : bytes_eq front (entry_text c.in-Some-entry.entry) ≡ false = search rules in
     no_line_other c.args.text.now front c.in-Some.rest.now c.in-Some-entry.entry split told
-        (λ e. false≢true (sym differ ∙ (bytes_eq-Decides front c.as_str.result.now).1 (sym e ∙ sym shown)))
+    (λ e. false≢true (sym differ ∙ (bytes_eq-Decides front (entry_text c.in-Some-entry.entry)).1 (sym e)))
 
 pub returns-clause-whole : goal.returns-clause-whole
 returns-clause-whole c =
     let front = c.in-Some.front.now in
     let split : split_once 10 c.args.text.now ≡ Some (front, c.in-Some.rest.now) = search rules in
-    let shown : c.as_str.result.now ≡ entry_text c.in-Some-entry.entry = grind (arith, common_steps) in
-    let same : bytes_eq front c.as_str.result.now ≡ true = search rules in
+    let same : bytes_eq front (entry_text c.in-Some-entry.entry) ≡ true = search rules in
     line_found c.args.text.now front c.in-Some.rest.now c.in-Some-entry.entry split
-        (sym shown ∙ sym ((bytes_eq-Decides front c.as_str.result.now).0 same))
+    (sym ((bytes_eq-Decides front (entry_text c.in-Some-entry.entry)).0 same))

@@ -1,0 +1,124 @@
+-- A text has one answer.
+use Rattle.std.proofs.Common.{◌≡◌, ◌≢◌, ℕ, ◌≤◌, List, [], ◌∷◌, ◌++◌, length, Result, Ok, Err, refl, sym, ap, ◌∙◌, subst, arith, append_assoc, length-append, ◌⊎◌, inl, inr, ⊎_elim}
+use Rattle.std.specs.Result.{IfOk, IfErr, IsOkAnd}
+use Rattle.std.specs.List.{AllByRecursion}
+use Rattle.std.proofs.lemmas.List.{append-nil}
+use Rattle.std.proofs.lemmas.Bool.{cases_lt}
+use Rattle.jh_history.specs.Log.{Log}
+use Rattle.jh_history.specs.declared.entry.Entry.{Entry}
+use Rattle.jh_text.specs.declared.fault.JournalFault.{JournalFault}
+use Rattle.jh_text.specs.declared.fault.JournalFault.TheVariants.{Line, TooLong, NoMemory}
+use Rattle.jh_text.specs.Ranges.{IsReadable}
+use Rattle.jh_text.specs.Text.{entry_text, line, journal_text}
+use Rattle.jh_text.specs.Faults.{IsJournalText, BeginsWithNoLine, IsFirstBadLine, IsTooLong, IsFault}
+use Rattle.jh_text.proofs.Lines.{one_line}
+
+either_way : (m n : ℕ) → (m ≤ n) ⊎ (n ≤ m)
+either_way m n = ⊎_elim (λ l. inl (omega arith)) inr (cases_lt m n)
+
+-- more entries than those of the front, and what stands behind them all
+record Goes (front whole : List Entry) (rest end : List ℕ) : Type 0 where
+  more : List Entry
+  readable : AllByRecursion IsReadable more
+  entries : whole ≡ front ++ more
+  text : rest ≡ journal_text more ++ end
+
+-- of two runs of lines at the front of one text, the shorter is a part of the longer
+goes_on : (front whole : List Entry) (rest end : List ℕ) → AllByRecursion IsReadable front → AllByRecursion IsReadable whole → length front ≤ length whole → journal_text front ++ rest ≡ journal_text whole ++ end → Goes front whole rest end
+goes_on [] whole rest end f w le e = record { more = whole; readable = w; entries = refl; text = e }
+goes_on (x ∷ front) [] rest end f w le e = absurd (omega arith)
+goes_on (x ∷ front) (y ∷ whole) rest end f w le e =
+    let first = one_line x y (journal_text front ++ rest) (journal_text whole ++ end) f.0 w.0 (sym (append_assoc (line x) (journal_text front) rest) ∙ e ∙ append_assoc (line y) (journal_text whole) end) in
+    let on = goes_on front whole rest end f.1 w.1 (omega arith) first.1 in
+    record { more = on.more; readable = on.readable; entries = λ i. sym first.0 i ∷ on.entries i; text = on.text }
+
+-- lines are not nothing
+nothing : (entries : List Entry) (end : List ℕ) → [] ≡ journal_text entries ++ end → (entries ≡ []) × (end ≡ [])
+nothing [] end e = (refl, sym e)
+nothing (first ∷ entries) end e =
+    absurd (omega (arith, ap length e, length-append (line first ++ journal_text entries) end, length-append (line first) (journal_text entries), length-append (entry_text first) (10 ∷ [])))
+
+whole_text : (entries : List Entry) (text : List ℕ) → text ≡ journal_text entries → journal_text entries ++ [] ≡ text
+whole_text entries text e = append-nil (journal_text entries) ∙ sym e
+
+shorter_is : (text : List ℕ) (es fs : List Entry) → IsJournalText text es → IsJournalText text fs → length es ≤ length fs → fs ≡ es
+shorter_is text es fs j k le =
+    let on = goes_on es fs [] [] j.readable k.readable le (whole_text es text j.whole ∙ sym (whole_text fs text k.whole)) in
+    on.entries ∙ ap (λ gs. es ++ gs) (nothing on.more [] on.text).0 ∙ append-nil es
+
+-- a text has the entries of one journal
+pub one_journal : (text : List ℕ) (es fs : List Entry) → IsJournalText text es → IsJournalText text fs → es ≡ fs
+one_journal text es fs j k = ⊎_elim (λ l. sym (shorter_is text es fs j k l)) (λ l. shorter_is text fs es k j l) (either_way (length es) (length fs))
+
+-- what begins with no line ends each run of lines
+stops : (text rest end : List ℕ) (before fs : List Entry) → AllByRecursion IsReadable before → AllByRecursion IsReadable fs → BeginsWithNoLine rest → text ≡ journal_text before ++ rest → text ≡ journal_text fs ++ end → length before ≤ length fs → (fs ≡ before) × (rest ≡ end)
+stops text rest end before fs b f bad e d le =
+    let on = goes_on before fs rest end b f le (sym e ∙ d) in
+    by on.more on.readable on.entries on.text
+  where
+    by : (more : List Entry) → AllByRecursion IsReadable more → fs ≡ before ++ more → rest ≡ journal_text more ++ end → (fs ≡ before) × (rest ≡ end)
+    by [] m es t = (es ∙ append-nil before, t)
+    by (x ∷ more) m es t = absurd (bad x (journal_text more ++ end) m.0 (t ∙ append_assoc (line x) (journal_text more) end))
+
+pub journal_not_bad : (text : List ℕ) (es : List Entry) (number : ℕ) → IsJournalText text es → IsFirstBadLine text number → ⊥
+journal_not_bad text es number j b = ⊎_elim
+    (λ l. b.more (stops text b.rest [] b.before es b.readable j.readable b.bad b.whole (sym (whole_text es text j.whole)) l).1)
+    (λ l. let on = goes_on es b.before [] b.rest j.readable b.readable l (whole_text es text j.whole ∙ b.whole) in
+    b.more (nothing on.more b.rest on.text).1)
+    (either_way (length b.before) (length es))
+
+pub one_bad_line : (text : List ℕ) (m n : ℕ) → IsFirstBadLine text m → IsFirstBadLine text n → m ≡ n
+one_bad_line text m n a b = ⊎_elim
+    (λ l. omega (arith, a.number_is, b.number_is, ap length (stops text a.rest b.rest a.before b.before a.readable b.readable a.bad a.whole b.whole l).0))
+    (λ l. omega (arith, a.number_is, b.number_is, ap length (stops text b.rest a.rest b.before a.before b.readable a.readable b.bad b.whole a.whole l).0))
+    (either_way (length a.before) (length b.before))
+
+pub bad_not_long : (text : List ℕ) (number : ℕ) → IsFirstBadLine text number → IsTooLong text → ⊥
+bad_not_long text number b t =
+    omega (arith, b.within, t.long, ap length (stops text b.rest t.rest b.before t.first b.readable t.readable b.bad b.whole t.whole (omega (arith, b.within, t.long))).0)
+
+pub journal_not_long : (text : List ℕ) (es : List Entry) → IsJournalText text es → IsTooLong text → ⊥
+journal_not_long text es j t =
+    let on = goes_on es t.first [] t.rest j.readable t.readable (omega (arith, j.within, t.long)) (whole_text es text j.whole ∙ t.whole) in
+    omega (arith, j.within, t.long, ap length (on.entries ∙ ap (λ gs. es ++ gs) (nothing on.more t.rest on.text).0 ∙ append-nil es))
+
+-- an answer that is right is the one that is right
+pub only_journal : (text : List ℕ) (r : Result Log JournalFault) → IfOk r (λ journal. IsJournalText text journal.entries) → IfErr r (IsFault text) → r ≢ Err NoMemory
+    → (entries : List Entry) → IsJournalText text entries → IsOkAnd r (λ journal. journal.entries ≡ entries)
+only_journal text (Ok journal) ok err room entries j = one_journal text journal.entries entries ok j
+only_journal text (Err (Line number)) ok err room entries j = absurd (journal_not_bad text entries number j err)
+only_journal text (Err TooLong) ok err room entries j = absurd (journal_not_long text entries j err)
+only_journal text (Err NoMemory) ok err room entries j = absurd (room refl)
+
+pub only_line : (text : List ℕ) (r : Result Log JournalFault) → IfOk r (λ journal. IsJournalText text journal.entries) → IfErr r (IsFault text) → r ≢ Err NoMemory
+    → (number : ℕ) → IsFirstBadLine text number → r ≡ Err (Line number)
+only_line text (Ok journal) ok err room number b = absurd (journal_not_bad text journal.entries number ok b)
+only_line text (Err (Line other)) ok err room number b = ap (λ n. Err (Line n)) (one_bad_line text other number err b)
+only_line text (Err TooLong) ok err room number b = absurd (bad_not_long text number b err)
+only_line text (Err NoMemory) ok err room number b = absurd (room refl)
+
+pub only_too_long : (text : List ℕ) (r : Result Log JournalFault) → IfOk r (λ journal. IsJournalText text journal.entries) → IfErr r (IsFault text) → r ≢ Err NoMemory
+    → IsTooLong text → r ≡ Err TooLong
+only_too_long text (Ok journal) ok err room t = absurd (journal_not_long text journal.entries ok t)
+only_too_long text (Err (Line other)) ok err room t = absurd (bad_not_long text other err t)
+only_too_long text (Err TooLong) ok err room t = refl
+only_too_long text (Err NoMemory) ok err room t = absurd (room refl)
+
+pub line_is : (text : List ℕ) (r : Result Log JournalFault) → IfErr r (IsFault text) → (number : ℕ) → r ≡ Err (Line number) → IsFirstBadLine text number
+line_is text r err number e = let P : Result Log JournalFault → Type 0 = λ x. IfErr x (IsFault text) in subst P e err
+
+pub too_long_is : (text : List ℕ) (r : Result Log JournalFault) → IfErr r (IsFault text) → r ≡ Err TooLong → IsTooLong text
+too_long_is text r err e = let P : Result Log JournalFault → Type 0 = λ x. IfErr x (IsFault text) in subst P e err
+
+-- entries with the same text
+pub one_entry : (a b : Entry) → IsReadable a → IsReadable b → entry_text a ≡ entry_text b → a ≡ b
+one_entry a b h k e = (one_line a b [] [] h k (ap (λ t. (t ++ 10 ∷ []) ++ []) e)).0
+
+-- journals with the same text, of any length
+pub one_list : (a b : List Entry) → AllByRecursion IsReadable a → AllByRecursion IsReadable b → journal_text a ≡ journal_text b → a ≡ b
+one_list a b h k e = ⊎_elim (λ l. sym (part a b h k e l)) (λ l. part b a k h (sym e) l) (either_way (length a) (length b))
+  where
+    part : (es fs : List Entry) → AllByRecursion IsReadable es → AllByRecursion IsReadable fs → journal_text es ≡ journal_text fs → length es ≤ length fs → fs ≡ es
+    part es fs j k t le =
+        let on = goes_on es fs [] [] j k le (ap (λ x. x ++ []) t) in
+        on.entries ∙ ap (λ gs. es ++ gs) (nothing on.more [] on.text).0 ∙ append-nil es

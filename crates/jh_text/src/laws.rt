@@ -1,0 +1,33 @@
+//! What holds of all texts of journals, as the contracts of functions that do nothing.
+ghost use Rattle.std.specs.Prelude.{◌≡◌, ◌≤◌, ℕ, List, length};
+ghost use Rattle.std.specs.List.{AllByRecursion};
+ghost use Rattle.jh_history.specs.declared.entry.Entry.{Entry};
+ghost use Rattle.jh_text.specs.Text.{entry_text, journal_text};
+ghost use Rattle.jh_text.specs.Ranges.{IsReadable};
+ghost use Rattle.jh_text.specs.Faults.{IsFirstBadLine, IsJournalText, IsTooLong};
+
+use crate::fault::MAX_ENTRIES;
+
+/// Entries with the same text are the same, and so are journals with the same text.
+pub fn texts_differ()
+    ensures entries { (a b : Entry) → IsReadable a → IsReadable b → entry_text a ≡ entry_text b → a ≡ b }
+    ensures journals { (a b : List Entry) → AllByRecursion IsReadable a → AllByRecursion IsReadable b
+        → journal_text a ≡ journal_text b → a ≡ b }
+{}
+
+/// What is printed of a journal is its text and no other journal's, and what is read is printed as the same bytes.
+pub fn texts_go_both_ways()
+    ensures printed { (entries : List Entry) → AllByRecursion IsReadable entries → length entries ≤ MAX_ENTRIES
+        → IsJournalText (journal_text entries) entries }
+    ensures one { (text : List ℕ) (a b : List Entry) → IsJournalText text a → IsJournalText text b → a ≡ b }
+    ensures read { (text : List ℕ) (entries : List Entry) → IsJournalText text entries → journal_text entries ≡ text }
+{}
+
+/// No text has two answers: it is a journal's, or has one first bad line, or is too long.
+pub fn one_answer()
+    ensures good_or_bad { (text : List ℕ) (entries : List Entry) (number : ℕ)
+        → IsJournalText text entries → IsFirstBadLine text number → ⊥ }
+    ensures good_or_long { (text : List ℕ) (entries : List Entry) → IsJournalText text entries → IsTooLong text → ⊥ }
+    ensures bad_or_long { (text : List ℕ) (number : ℕ) → IsFirstBadLine text number → IsTooLong text → ⊥ }
+    ensures one_line { (text : List ℕ) (m n : ℕ) → IsFirstBadLine text m → IsFirstBadLine text n → m ≡ n }
+{}
