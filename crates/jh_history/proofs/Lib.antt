@@ -8,3 +8,4 @@ pub mod PositionLemmas
 pub mod ItemsLemmas
 pub mod ApartLemmas
 pub mod AdmitLemmas
+pub mod LegalLemmas

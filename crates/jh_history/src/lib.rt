@@ -10,6 +10,7 @@ mod entry;
 mod grants;
 mod journal;
 mod known;
+mod laws;
 mod next;
 mod past;
 
@@ -23,5 +24,9 @@ pub use entry::{Act, Entry, Heard, Settled};
 pub use grants::{Grants, reach};
 pub use journal::Journal;
 pub use known::Known;
+pub use laws::{
+    beginnings_are_legal, cpus_determine_the_journal, legal_entries_are_due,
+    nothing_extends_a_quiet_journal,
+};
 pub use next::{next_of, none_due};
 pub use past::{due, entry_cpu, opening_cpu, quiet};
