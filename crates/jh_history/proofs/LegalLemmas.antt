@@ -1,7 +1,8 @@
 -- Legal journals, and their parts.
 use Rattle.std.proofs.Common.{◌≡◌, ◌≢◌, ℕ, List, [], ◌∷◌, ◌++◌, map, Option, Some, None, refl, sym, ap, ◌∙◌}
 use Rattle.std.specs.List.{fold}
-use Rattle.std.proofs.lemmas.Option.{none-some, same_Some}
+use Rattle.std.proofs.lemmas.Option.{same_Some}
+use Rattle.std.proofs.lemmas.List.Sums.{fold-append}
 use Rattle.jh_script.specs.declared.image.Image.{Image}
 use Rattle.jh_history.specs.declared.entry.Entry.{Entry}
 use Rattle.jh_history.specs.Facts.{Facts, start, after, facts}
@@ -57,3 +58,16 @@ same_from image f (x ∷ xs) (y ∷ ys) legal_x legal_y e =
 pub IsLegal-same : (image : Image) (xs ys : List Entry) → IsLegal image xs → IsLegal image ys → cpus xs ≡ cpus ys → xs ≡ ys
 unfolding IsLegal
 IsLegal-same image xs ys legal_x legal_y e = same_from image (start image) xs ys legal_x legal_y e
+
+rest_from : (image : Image) (f : Facts) (before rest : List Entry) → IsLegalFrom image f (before ++ rest) → IsLegalFrom image (fold (after image) f before) rest
+rest_from image f [] rest legal = legal
+rest_from image f (first ∷ before) rest legal = rest_from image (after image f first) before rest legal.1
+
+-- the rest of a legal journal is legal from the facts of what is before it
+pub IsLegal-rest : (image : Image) (before rest : List Entry) → IsLegal image (before ++ rest) → IsLegalFrom image (facts image before) rest
+unfolding IsLegal facts
+IsLegal-rest image before rest legal = rest_from image (start image) before rest legal
+
+pub facts-append : (image : Image) (before rest : List Entry) → facts image (before ++ rest) ≡ fold (after image) (facts image before) rest
+unfolding facts
+facts-append image before rest = fold-append (after image) (start image) before rest

@@ -9,3 +9,4 @@ pub mod ItemsLemmas
 pub mod ApartLemmas
 pub mod AdmitLemmas
 pub mod LegalLemmas
+pub mod MadeLemmas

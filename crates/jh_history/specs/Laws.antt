@@ -10,6 +10,7 @@ use Rattle.jh_history.specs.declared.entry.Entry.{Entry}
 use Rattle.jh_history.specs.declared.entry.Act.{Act}
 use Rattle.jh_history.specs.declared.entry.Act.TheVariants.{Read, Write, Fetch, Await}
 use Rattle.jh_history.specs.declared.cpu.Cpu.{Cpu}
+use Rattle.jh_history.specs.declared.cpu.Mode.TheVariants.{Failed}
 use Rattle.jh_history.specs.Access.{right_of}
 use Rattle.jh_history.specs.Facts.{facts}
 
@@ -71,6 +72,13 @@ is_violation (Fetch at got) = not (is_some got)
 is_violation (Write width at value ok) = not ok
 is_violation (Await width at value ok) = not ok
 is_violation _ = false
+
+-- the CPU one operation further, and the CPU failed; nothing else of it changes
+abbrev pub moved : Cpu → Cpu
+moved cpu = record cpu { position = cpu.position + 1 }
+
+abbrev pub failed : Cpu → Cpu
+failed cpu = record cpu { mode = Failed }
 
 -- the byte is that of the value which a write puts at the place: byte k, of 256 ^ k, at the place that
 -- is granted at the k-th address

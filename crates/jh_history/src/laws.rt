@@ -1,13 +1,12 @@
 //! The laws that every journal obeys, in the words of the subject: what a reader may believe without the
 //! fold over the entries. Each function does nothing; its contract is the law.
-ghost use Rattle.std.specs.Prelude.{◌≡◌, ◌≢◌, ℕ, ◌+◌, ◌-◌, ◌↔◌, List, [], ◌∷◌, ◌++◌, map, Some, None, All, Contains, IsTrue, false, slice_index};
+ghost use Rattle.std.specs.Prelude.{◌≡◌, ◌≢◌, ℕ, ◌+◌, ◌-◌, ◌↔◌, List, [], ◌∷◌, ◌++◌, map, Some, None, All, Contains, IsTrue, true, false, slice_index};
 ghost use Rattle.jh_script.specs.declared.image.Image.{Image as TheImage};
 ghost use Rattle.jh_script.specs.declared.image.Preload.{Preload};
 ghost use Rattle.jh_history.specs.declared.entry.Entry.{Entry as TheEntry};
-ghost use Rattle.jh_history.specs.declared.cpu.Mode.TheVariants.{Failed};
 ghost use Rattle.jh_history.specs.Admitted.{IsAdmitted, has_byte_at};
 ghost use Rattle.jh_history.specs.Due.{due, IsLegal, IsQuiet};
-ghost use Rattle.jh_history.specs.Laws.{byte_at, cpu_at, HasItsOutcome, is_violation, Writes, WritesNot};
+ghost use Rattle.jh_history.specs.Laws.{byte_at, cpu_at, HasItsOutcome, is_violation, moved, failed, Writes, WritesNot};
 
 /// A journal is legal exactly where each of its entries is the one due to its CPU after those before it.
 pub fn legal_entries_are_due()
@@ -31,5 +30,21 @@ pub fn cpus_determine_the_journal()
 /// Nothing legal extends a quiet journal.
 pub fn nothing_extends_a_quiet_journal()
     ensures { (image : TheImage) (before rest : List TheEntry) (entry : TheEntry) → IsQuiet image before → IsLegal image (before ++ entry ∷ rest) → ⊥ }
+{
+}
+
+/// An entry that is no violation moves its CPU's position by one. No entry changes another CPU.
+pub fn entries_move_their_cpu()
+    ensures moved { (image : TheImage) (before rest : List TheEntry) (entry : TheEntry) → IsAdmitted image → IsLegal image (before ++ entry ∷ rest) → is_violation entry.act ≡ false → cpu_at image (before ++ entry ∷ []) entry.cpu ≡ moved (cpu_at image before entry.cpu) }
+    ensures others { (image : TheImage) (before rest : List TheEntry) (entry : TheEntry) → IsAdmitted image → IsLegal image (before ++ entry ∷ rest) → (cpu : ℕ) → cpu ≢ entry.cpu → cpu_at image (before ++ entry ∷ []) cpu ≡ cpu_at image before cpu }
+{
+}
+
+/// A violation changes no byte and fails its CPU, which then makes no entry any more.
+pub fn violations_end_their_cpu()
+    ensures bytes { (image : TheImage) (before rest : List TheEntry) (entry : TheEntry) → IsAdmitted image → IsLegal image (before ++ entry ∷ rest) → is_violation entry.act ≡ true → (place : ℕ) → byte_at image (before ++ entry ∷ []) place ≡ byte_at image before place }
+    ensures failed { (image : TheImage) (before rest : List TheEntry) (entry : TheEntry) → IsAdmitted image → IsLegal image (before ++ entry ∷ rest) → is_violation entry.act ≡ true → cpu_at image (before ++ entry ∷ []) entry.cpu ≡ failed (cpu_at image before entry.cpu) }
+    ensures last { (image : TheImage) (before rest : List TheEntry) (entry : TheEntry) → IsAdmitted image → IsLegal image (before ++ entry ∷ rest) → is_violation entry.act ≡ true → All (λ (later : TheEntry). later.cpu ≢ entry.cpu) rest }
+    ensures never { (image : TheImage) (before rest : List TheEntry) (entry : TheEntry) → IsAdmitted image → IsLegal image (before ++ entry ∷ rest) → is_violation entry.act ≡ true → due image (before ++ entry ∷ rest) entry.cpu ≡ None }
 {
 }
