@@ -10,3 +10,7 @@ pub mod ApartLemmas
 pub mod AdmitLemmas
 pub mod LegalLemmas
 pub mod MadeLemmas
+pub mod FindLemmas
+pub mod ListedLemmas
+pub mod GrantLemmas
+pub mod OutcomeLemmas

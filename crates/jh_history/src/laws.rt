@@ -48,3 +48,10 @@ pub fn violations_end_their_cpu()
     ensures never { (image : TheImage) (before rest : List TheEntry) (entry : TheEntry) → IsAdmitted image → IsLegal image (before ++ entry ∷ rest) → is_violation entry.act ≡ true → due image (before ++ entry ∷ rest) entry.cpu ≡ None }
 {
 }
+
+/// An access succeeds exactly when each of its bytes is granted, and a value that it reads is the number
+/// of the bytes at the places granted, the lowest first. A violation is what any other access is.
+pub fn accesses_go_by_grants()
+    ensures { (image : TheImage) (before rest : List TheEntry) (entry : TheEntry) → IsAdmitted image → IsLegal image (before ++ entry ∷ rest) → HasItsOutcome image before entry.act }
+{
+}

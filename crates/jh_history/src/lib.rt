@@ -25,7 +25,7 @@ pub use grants::{Grants, reach};
 pub use journal::Journal;
 pub use known::Known;
 pub use laws::{
-    beginnings_are_legal, cpus_determine_the_journal, entries_move_their_cpu, legal_entries_are_due,
+    accesses_go_by_grants, beginnings_are_legal, cpus_determine_the_journal, entries_move_their_cpu, legal_entries_are_due,
     nothing_extends_a_quiet_journal, violations_end_their_cpu,
 };
 pub use next::{next_of, none_due};
