@@ -14,3 +14,4 @@ pub mod FindLemmas
 pub mod ListedLemmas
 pub mod GrantLemmas
 pub mod OutcomeLemmas
+pub mod ByteLemmas

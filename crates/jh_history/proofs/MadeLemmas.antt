@@ -137,10 +137,10 @@ roots_stepped : (image : Image) (state : Cpu) (good : Bool) → IsRoots image st
 roots_stepped image state true roots = record { owner = roots.owner; asked = roots.asked; stopped = roots.stopped }
 roots_stepped image state false roots = record { owner = roots.owner; asked = roots.asked; stopped = roots.stopped }
 
-abbrev AllRoots : Image → Facts → Type 0
+abbrev pub AllRoots : Image → Facts → Type 0
 AllRoots image f = (cpu : ℕ) → IsRoots image (f.cpu cpu)
 
-roots_after : (image : Image) (f : Facts) (entry : Entry) → IsMade image f entry → AllRoots image f → AllRoots image (after image f entry)
+pub roots_after : (image : Image) (f : Facts) (entry : Entry) → IsMade image f entry → AllRoots image f → AllRoots image (after image f entry)
 unfolding after
 roots_after image f entry made roots cpu =
     let own : own_after entry.act (f.cpu cpu) ≡ stepped (not (is_violation entry.act)) (f.cpu cpu) = own_after-access image f entry.cell entry.act (f.cpu cpu) made.act in

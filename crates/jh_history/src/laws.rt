@@ -2,7 +2,7 @@
 //! fold over the entries. Each function does nothing; its contract is the law.
 ghost use Rattle.std.specs.Prelude.{◌≡◌, ◌≢◌, ℕ, ◌+◌, ◌-◌, ◌↔◌, List, [], ◌∷◌, ◌++◌, map, Some, None, All, Contains, IsTrue, true, false, slice_index};
 ghost use Rattle.jh_script.specs.declared.image.Image.{Image as TheImage};
-ghost use Rattle.jh_script.specs.declared.image.Preload.{Preload};
+ghost use Rattle.jh_script.specs.declared.image.Preload.{Preload as ThePreload};
 ghost use Rattle.jh_history.specs.declared.entry.Entry.{Entry as TheEntry};
 ghost use Rattle.jh_history.specs.Admitted.{IsAdmitted, has_byte_at};
 ghost use Rattle.jh_history.specs.Due.{due, IsLegal, IsQuiet};
@@ -53,5 +53,26 @@ pub fn violations_end_their_cpu()
 /// of the bytes at the places granted, the lowest first. A violation is what any other access is.
 pub fn accesses_go_by_grants()
     ensures { (image : TheImage) (before rest : List TheEntry) (entry : TheEntry) → IsAdmitted image → IsLegal image (before ++ entry ∷ rest) → HasItsOutcome image before entry.act }
+{
+}
+
+/// At opening a byte is the preload's where one puts one there, and 0 elsewhere.
+pub fn memory_opens_with_the_preloads()
+    ensures put { (image : TheImage) (place : ℕ) (preload : ThePreload) → IsAdmitted image → Contains image.preloads preload → IsTrue (has_byte_at preload place) → byte_at image [] place ≡ slice_index preload.bytes (place - preload.at) }
+    ensures zero { (image : TheImage) (place : ℕ) → IsAdmitted image → ((preload : ThePreload) → Contains image.preloads preload → IsTrue (has_byte_at preload place) → ⊥) → byte_at image [] place ≡ 0 }
+{
+}
+
+/// An entry gives each place that it writes the byte that it writes there, and no other place changes.
+pub fn entries_write_their_bytes()
+    ensures written { (image : TheImage) (before rest : List TheEntry) (entry : TheEntry) → IsAdmitted image → IsLegal image (before ++ entry ∷ rest) → (place byte : ℕ) → Writes image entry.act place byte → byte_at image (before ++ entry ∷ []) place ≡ byte }
+    ensures others { (image : TheImage) (before rest : List TheEntry) (entry : TheEntry) → IsAdmitted image → IsLegal image (before ++ entry ∷ rest) → (place : ℕ) → WritesNot image place entry → byte_at image (before ++ entry ∷ []) place ≡ byte_at image before place }
+{
+}
+
+/// Each byte has the value that the last entry which wrote it gave it, and its opening value where none did.
+pub fn bytes_are_the_last_written()
+    ensures last { (image : TheImage) (before rest : List TheEntry) (entry : TheEntry) → IsAdmitted image → IsLegal image (before ++ entry ∷ rest) → (place byte : ℕ) → Writes image entry.act place byte → All (WritesNot image place) rest → byte_at image (before ++ entry ∷ rest) place ≡ byte }
+    ensures opening { (image : TheImage) (entries : List TheEntry) → IsAdmitted image → IsLegal image entries → (place : ℕ) → All (WritesNot image place) entries → byte_at image entries place ≡ byte_at image [] place }
 {
 }
