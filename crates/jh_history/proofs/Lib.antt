@@ -8,3 +8,10 @@ pub mod PositionLemmas
 pub mod ItemsLemmas
 pub mod ApartLemmas
 pub mod AdmitLemmas
+pub mod LegalLemmas
+pub mod MadeLemmas
+pub mod FindLemmas
+pub mod ListedLemmas
+pub mod GrantLemmas
+pub mod OutcomeLemmas
+pub mod ByteLemmas

@@ -26,12 +26,12 @@ choose : (b : Bool) (ops : List Op) → AllByRecursion IsPlain ops → AllByRecu
 choose true ops all = all
 choose false ops all = tt
 
-ops_of-plain : (image : Image) (cell cpu : ℕ) → IsAdmitted image → AllByRecursion IsPlain (ops_of image cell cpu)
+pub ops_of-plain : (image : Image) (cell cpu : ℕ) → IsAdmitted image → AllByRecursion IsPlain (ops_of image cell cpu)
 ops_of-plain image cell cpu admitted =
     let ops = program_of image (name_of image.system.root) cpu in
     choose (eqb cell image.system.root.id) ops (recursion_from_All IsPlain ops (program_of-plain image (name_of image.system.root) cpu admitted))
 
-at_place : (ops : List Op) (i : ℕ) → AllByRecursion IsPlain ops → IfSome (slice_get ops i) IsPlain
+pub at_place : (ops : List Op) (i : ℕ) → AllByRecursion IsPlain ops → IfSome (slice_get ops i) IsPlain
 at_place [] i all = tt
 at_place (op ∷ ops) zero all = all.0
 at_place (op ∷ ops) (suc i) all = at_place ops i all.1

@@ -7,3 +7,4 @@ pub mod Items
 pub mod Admitted
 pub mod PastView
 pub mod Apart
+pub mod Laws

@@ -10,6 +10,7 @@ mod entry;
 mod grants;
 mod journal;
 mod known;
+mod laws;
 mod next;
 mod past;
 
@@ -23,5 +24,11 @@ pub use entry::{Act, Entry, Heard, Settled};
 pub use grants::{Grants, reach};
 pub use journal::Journal;
 pub use known::Known;
+pub use laws::{
+    accesses_go_by_grants, beginnings_are_legal, bytes_are_the_last_written,
+    cpus_determine_the_journal, entries_move_their_cpu, entries_write_their_bytes,
+    legal_entries_are_due, memory_opens_with_the_preloads, nothing_extends_a_quiet_journal,
+    violations_end_their_cpu,
+};
 pub use next::{next_of, none_due};
 pub use past::{due, entry_cpu, opening_cpu, quiet};
