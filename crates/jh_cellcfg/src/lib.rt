@@ -3,9 +3,21 @@
 #![tactic(auto)]
 
 mod config;
+mod fault;
 mod flags;
+mod header;
+mod limits;
+mod reader;
+mod record;
 mod region;
+mod writer;
 
 pub use config::{CellConfig, Console, Irqchip, PciDevice, SystemConfig};
+pub use fault::{ConfigFault, Which};
 pub use flags::{CellFlags, RegionFlags};
+pub use header::{Counts, Header};
+pub use limits::{fits, is_name};
+pub use reader::Reader;
+pub use record::{Record, read_list, write_list};
 pub use region::Region;
+pub use writer::{put_bytes, put_u16, put_u32, put_u64, put_u8};
