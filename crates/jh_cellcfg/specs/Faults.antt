@@ -1,7 +1,8 @@
 -- The first fault of bytes that are no configuration. It reads the header's numbers where they stand.
-use Rattle.std.specs.Prelude.{ℕ, ◌+◌, ◌-◌, Bool, not, ◌==◌, nat_lt, nat_eq, if◌then◌else◌, List, [], ◌∷◌, length, take, drop, slice_range, codes, Option, Some, None, Result, Ok, Err}
+use Rattle.std.specs.Prelude.{◌≡◌, ℕ, ◌+◌, ◌-◌, Bool, not, ◌==◌, nat_lt, nat_eq, if◌then◌else◌, List, [], ◌∷◌, length, take, drop, slice_range, codes, Option, Some, None, Result, Ok, Err, IfOk}
 use Rattle.std.specs.List.{starts_with}
 use Rattle.std.specs.Int.{w16, w32, from_le_bytes}
+use Rattle.jh_cellcfg.specs.declared.config.CellConfig.{CellConfig}
 use Rattle.jh_cellcfg.specs.declared.fault.ConfigFault.{ConfigFault}
 use Rattle.jh_cellcfg.specs.declared.fault.ConfigFault.TheVariants.{Short, Signature, Revision, Name, Count, Trailing, NoMemory}
 use Rattle.jh_cellcfg.specs.declared.fault.Which.{Which}
@@ -34,7 +35,7 @@ abbrev pub over : Which → ℕ → ℕ → Option ConfigFault
 over which most found = fault_if (nat_lt most found) (Count which found)
 
 -- the first count that is past its limit
-abbrev pub count_fault : Counts → Option ConfigFault
+unfoldable pub count_fault : Counts → Option ConfigFault
 count_fault n = first_of (
       fault_if (n.cpu_set == 0) (Count CpuSet 0)
     ∷ over CpuSet 64 n.cpu_set
@@ -56,7 +57,7 @@ abbrev pub u32_at : List ℕ → ℕ → ℕ
 u32_at bytes place = from_le_bytes w32 (slice_range bytes place (place + 4))
 
 -- the counts of a header; the places count from its name
-abbrev pub counts_at : List ℕ → Counts
+unfoldable pub counts_at : List ℕ → Counts
 counts_at body = record {
     cpu_set = u32_at body 40;
     memory_regions = u32_at body 44;
@@ -68,12 +69,12 @@ counts_at body = record {
     stream_ids = u32_at body 68;
   }
 
--- the first fault of a header from its name on
-abbrev pub limits_fault : List ℕ → Option ConfigFault
-limits_fault body = first_of (fault_if (not (is_name (take 32 body))) Name ∷ count_fault (counts_at body) ∷ [])
+-- the first fault of a header's name and counts
+unfoldable pub limits_fault : List ℕ → Counts → Option ConfigFault
+limits_fault name counts = first_of (fault_if (not (is_name name)) Name ∷ count_fault counts ∷ [])
 
 -- the bytes are fewer than needed, or more
-abbrev pub length_fault : ℕ → ℕ → Option ConfigFault
+unfoldable pub length_fault : ℕ → ℕ → Option ConfigFault
 length_fault need len = first_of (
       fault_if (nat_lt len need) (Short need)
     ∷ fault_if (nat_lt need len) (Trailing (len - need))
@@ -82,12 +83,12 @@ length_fault need len = first_of (
 -- the first fault of the bytes from a header's name on, which stand behind `front` others
 abbrev pub body_fault : ℕ → List ℕ → Option ConfigFault
 body_fault front body = first_of (
-      limits_fault body
+      limits_fault (take 32 body) (counts_at body)
     ∷ length_fault (front + 124 + parts_size (counts_at body)) (front + length body)
     ∷ [])
 
 -- the fault of what stands before the name
-abbrev pub start_fault : List ℕ → Option ConfigFault
+unfoldable pub start_fault : List ℕ → Option ConfigFault
 start_fault bytes = first_of (
       fault_if (not (starts_with nat_eq bytes (codes "JHCELL"))) Signature
     ∷ fault_if (not (u16_at bytes 6 == 13)) (Revision (u16_at bytes 6))
@@ -95,7 +96,7 @@ start_fault bytes = first_of (
 
 -- the first fault of a whole header, and the size of the whole by its counts
 abbrev pub header_fault : List ℕ → Option ConfigFault
-header_fault header = first_of (start_fault header ∷ limits_fault (drop 8 header) ∷ [])
+header_fault header = first_of (start_fault header ∷ limits_fault (slice_range header 8 40) (counts_at (drop 8 header)) ∷ [])
 
 abbrev pub header_size : List ℕ → ℕ
 header_size header = whole_size (counts_at (drop 8 header))
@@ -107,3 +108,8 @@ first_fault bytes = first_of (
     ∷ start_fault bytes
     ∷ body_fault 8 (drop 8 bytes)
     ∷ [])
+
+-- the call answered this configuration, unless memory ran out
+pub record Gives (answer : Result CellConfig ConfigFault) (config : CellConfig) : Type 0 where
+  pub unrefused : refusal answer ≡ None
+  pub found : IfOk answer (λ other. other ≡ config)

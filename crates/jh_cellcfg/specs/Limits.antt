@@ -18,7 +18,7 @@ is_name_to name None = false
 is_name_to name (Some len) = nat_lt 0 len && list_all is_printable (take len name) && list_all is_zero (drop len name)
 
 -- 1 to 31 printable characters, and then zero bytes
-abbrev pub is_name : List ℕ → Bool
+unfoldable pub is_name : List ℕ → Bool
 is_name name = is_name_to name (position is_zero name)
 
 -- the bytes of the parts, which stand behind the header

@@ -1,14 +1,15 @@
 //! How many records a part may have, how large the whole may be, and what a name is.
-ghost use Rattle.std.specs.Prelude.{◌≡◌, ◌≤◌, ◌<◌, ◌↔◌, not, [], ◌∷◌, length, IfOk, IfSome, IfErr, OnOk, OnErr, IsTrue};
+ghost use Rattle.std.specs.Prelude.{◌≡◌, ◌≤◌, ◌<◌, ◌↔◌, length, IfOk, IfSome, IfErr, OnOk, OnErr, IsTrue};
 ghost use Rattle.std.specs.List.{list_all, position};
 ghost use Rattle.jh_cellcfg.specs.Limits.{is_name, is_printable, is_zero, whole_size, AreWithinLimits, IsWithinLimits};
-ghost use Rattle.jh_cellcfg.specs.Faults.{count_fault, fault_if, fault_of, first_of};
+ghost use Rattle.jh_cellcfg.specs.Faults.{count_fault, limits_fault, fault_of, refusal};
 
 use crate::config::CellConfig;
 use crate::fault::{ConfigFault, Which};
 use crate::header::{Counts, Header};
 
 /// Whether the bytes are a name: 1 to 31 printable characters, and then zero bytes.
+#[tactic(auto, unfolding(crate::specs::Limits::is_name))]
 pub fn is_name(name: &[u8; 32]) -> bool
     ensures { result ≡ is_name name.now }
 {
@@ -50,10 +51,12 @@ fn within(which: Which, most: u32, found: u32) -> Result<(), ConfigFault>
 
 impl Counts {
     /// The bytes of the whole, from the signature on; or the first count past its limit.
+    #[tactic(auto, unfolding(crate::specs::Faults::count_fault))]
     pub fn size(&self) -> Result<u32, ConfigFault>
         ensures size { IfOk result (λ size. size ≡ whole_size self.now) }
         ensures limits { OnOk result (AreWithinLimits self.now) }
         ensures fault { fault_of result ≡ count_fault self.now }
+        ensures memory { refusal result ≡ fault_of result }
     {
         if self.cpu_set == 0 {
             return Err(ConfigFault::Count {
@@ -85,11 +88,13 @@ impl Counts {
 
 impl Header {
     /// The bytes of the whole, from the signature on; or the header's first fault from its name on.
+    #[tactic(auto, unfolding(crate::specs::Faults::limits_fault))]
     pub fn size(&self) -> Result<u32, ConfigFault>
         ensures size { IfOk result (λ size. size ≡ whole_size self.now.counts) }
         ensures limits { OnOk result (AreWithinLimits self.now.counts) }
         ensures name { OnOk result (IsTrue (is_name self.now.name)) }
-        ensures fault { fault_of result ≡ first_of (fault_if (not (is_name self.now.name)) ConfigFault.Name ∷ count_fault self.now.counts ∷ []) }
+        ensures fault { fault_of result ≡ limits_fault self.now.name self.now.counts }
+        ensures memory { refusal result ≡ fault_of result }
     {
         if !is_name(&self.name) {
             return Err(ConfigFault::Name);

@@ -3,6 +3,7 @@ ghost use Rattle.std.specs.Prelude.{◌≡◌, ◌+◌, ◌<◌, ◌≤◌, ◌^
 ghost use Rattle.jh_cellcfg.specs.Spelling.{u16_bytes, u32_bytes, u64_bytes};
 
 /// Bytes of which each call takes some from the front.
+#[derive(Drop)]
 pub struct Reader<'a> {
     pub rest: &'a [u8],
 }
