@@ -10,12 +10,12 @@ use Rattle.jh_cellcfg.specs.Widths.{IsHeader, AreCounts}
 use Rattle.jh_cellcfg.specs.Faults.{u32_at, counts_at}
 
 -- what stands behind the name
-abbrev behind_name : Header → List ℕ → List ℕ
+abbrev pub behind_name : Header → List ℕ → List ℕ
 behind_name h rest =
     u32_bytes h.id ++ (u32_bytes h.flags ++ (counts_bytes h.counts ++ (u32_bytes h.vpci_irq_base
     ++ (u64_bytes h.cpu_reset_address ++ (u64_bytes h.msg_reply_timeout ++ (h.console ++ rest))))))
 
-regrouped : (h : Header) (rest : List ℕ) → header_bytes h ++ rest ≡ h.name ++ behind_name h rest
+pub regrouped : (h : Header) (rest : List ℕ) → header_bytes h ++ rest ≡ h.name ++ behind_name h rest
 regrouped h rest = simp append_assoc
 
 -- a number behind the name

@@ -1,2 +1,4 @@
 pub mod Lists
 pub mod Headers
+pub mod Splits
+pub mod Faultless

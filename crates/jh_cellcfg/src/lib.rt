@@ -6,6 +6,7 @@ mod config;
 mod fault;
 mod flags;
 mod header;
+mod laws;
 mod limits;
 mod read;
 mod reader;
@@ -18,6 +19,9 @@ pub use config::{CellConfig, Console, Irqchip, PciDevice, SystemConfig};
 pub use fault::{ConfigFault, Which};
 pub use flags::{CellFlags, RegionFlags};
 pub use header::{Counts, Header};
+pub use laws::{
+    body_has_no_fault, one_body, one_spelling, size_is_length, spelling_has_no_fault,
+};
 pub use limits::{fits, is_name};
 pub use read::{cell_size, read_body, read_cell};
 pub use reader::Reader;

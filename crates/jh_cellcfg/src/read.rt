@@ -3,7 +3,8 @@ ghost use Rattle.std.specs.Prelude.{◌≡◌, ◌+◌, ◌≤◌, ◌<◌, ◌^
 ghost use Rattle.jh_cellcfg.specs.Spelling.{u16_bytes, header_bytes, header_of, parts_bytes, body_bytes, spelling};
 ghost use Rattle.jh_cellcfg.specs.Widths.{IsHeader, IsCell};
 ghost use Rattle.jh_cellcfg.specs.Limits.{whole_size, parts_size, AreWithinLimits, IsWithinLimits};
-ghost use Rattle.jh_cellcfg.specs.Faults.{counts_at, fault_of, refusal, start_fault, body_fault, header_fault, header_size, first_fault};
+ghost use Rattle.jh_cellcfg.specs.Faults.{counts_at, fault_of, refusal, start_fault, body_fault, header_fault, header_size, first_fault, Gives};
+ghost use Rattle.jh_cellcfg.specs.declared.config.CellConfig.{CellConfig};
 
 use crate::config::CellConfig;
 use crate::fault::ConfigFault;
@@ -116,9 +117,7 @@ fn check_start(bytes: &[u8]) -> Result<(), ConfigFault>
     Ok(())
 }
 
-/// Reads a cell's configuration, all of the bytes. A refusal is the first fault, in the order of
-/// [`ConfigFault`]'s variants, but for a length that doesn't fit the counts, which comes last.
-pub fn read_cell(alloc: Global, bytes: &[u8]) -> Result<CellConfig, ConfigFault>
+fn read_whole(alloc: Global, bytes: &[u8]) -> Result<CellConfig, ConfigFault>
     ensures typed { IfOk result IsCell }
     ensures limits { IfOk result IsWithinLimits }
     ensures spelled { IfOk result (λ config. bytes.now ≡ spelling config) }
@@ -129,6 +128,22 @@ pub fn read_cell(alloc: Global, bytes: &[u8]) -> Result<CellConfig, ConfigFault>
     }
     check_start(bytes)?;
     read_body(alloc, 8, &bytes[8..])
+}
+
+/// Reads a cell's configuration, all of the bytes. A refusal is the first fault: fewer bytes than a
+/// header, signature, revision, name, the counts in the header's order, the total, fewer bytes than
+/// the total, and more.
+pub fn read_cell(alloc: Global, bytes: &[u8]) -> Result<CellConfig, ConfigFault>
+    // What is read is spelled so.
+    ensures typed { IfOk result IsCell }
+    ensures limits { IfOk result IsWithinLimits }
+    ensures spelled { IfOk result (λ config. bytes.now ≡ spelling config) }
+    // What is spelled so is read, unless memory runs out.
+    ensures only { (config : CellConfig) → IsCell config → IsWithinLimits config → bytes.now ≡ spelling config → Gives result config }
+    // Which fault it is.
+    ensures fault { refusal result ≡ first_fault bytes.now }
+{
+    read_whole(alloc, bytes)
 }
 
 /// The bytes of the whole, by its header.
