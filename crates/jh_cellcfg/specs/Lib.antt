@@ -3,3 +3,4 @@ pub mod Spelling
 pub mod Widths
 pub mod Limits
 pub mod Faults
+pub mod Texts

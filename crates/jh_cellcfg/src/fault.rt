@@ -44,6 +44,11 @@ impl From<NoMemory> for ConfigFault {
 }
 
 impl fmt::Display for Which {
+    ghost use Rattle.std.specs.Prelude.{Some};
+    ghost use Rattle.jh_cellcfg.specs.Texts.{count_text};
+
+    ghost output = { λ which. Some (count_text which) };
+
     /// The header's name of the count, or `total`.
     fn fmt<W: fmt::Write>(&self, f: &mut fmt::Formatter<W>) -> fmt::Result {
         let field = match self {
@@ -62,6 +67,11 @@ impl fmt::Display for Which {
 }
 
 impl fmt::Display for ConfigFault {
+    ghost use Rattle.std.specs.Prelude.{Some};
+    ghost use Rattle.jh_cellcfg.specs.Texts.{fault_text};
+
+    ghost output = { λ fault. Some (fault_text fault) };
+
     fn fmt<W: fmt::Write>(&self, f: &mut fmt::Formatter<W>) -> fmt::Result {
         match self {
             ConfigFault::Short { need } => write!(f, "short {need}"),
