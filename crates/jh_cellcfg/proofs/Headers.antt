@@ -1,13 +1,12 @@
 -- The counts and the name stand in a header's bytes where they are looked for.
-use Rattle.std.proofs.Common.{◌≡◌, ℕ, ◌+◌, ◌<◌, ◌^◌, List, [], ◌∷◌, ◌++◌, length, take, drop, refl, sym, ap, ◌∙◌, append_assoc, arith}
+use Rattle.std.proofs.Common.{◌≡◌, ℕ, ◌+◌, ◌<◌, ◌^◌, List, ◌++◌, length, take, drop, refl, sym, ap, ◌∙◌, append_assoc}
 use Rattle.std.specs.Int.{w32, from_le_bytes}
 use Rattle.std.proofs.lemmas.List.{take_at, drop_at, drop-drop}
 use Rattle.std.proofs.lemmas.Nat.{from_le_bytes-to_le_bytes_4}
-use Rattle.jh_cellcfg.specs.declared.header.Counts.{Counts}
 use Rattle.jh_cellcfg.specs.declared.header.Header.{Header}
 use Rattle.jh_cellcfg.specs.Spelling.{u32_bytes, u64_bytes, counts_bytes, header_bytes}
-use Rattle.jh_cellcfg.specs.Widths.{IsHeader, AreCounts}
-use Rattle.jh_cellcfg.specs.Faults.{u32_at, counts_at}
+use Rattle.jh_cellcfg.specs.Widths.{IsHeader}
+use Rattle.jh_cellcfg.specs.Faults.{counts_at}
 
 -- what stands behind the name
 abbrev pub behind_name : Header → List ℕ → List ℕ
@@ -33,7 +32,7 @@ header_counts h rest fits =
     let more = behind_name h rest in
     let n = h.counts in
     let at : (k value : ℕ) → take 4 (drop k more) ≡ u32_bytes value → value < 2 ^ 32 → from_le_bytes w32 (take 4 (drop (32 + k) (h.name ++ more))) ≡ value
-      = λ k value is lt. number_past h.name more value k fits.name is lt in
+    = λ k value is lt. number_past h.name more value k fits.name is lt in
     ap counts_at (regrouped h rest) ∙ λ i. record {
       cpu_set = at 8 n.cpu_set refl fits.counts.cpu_set i;
       memory_regions = at 12 n.memory_regions refl fits.counts.memory_regions i;

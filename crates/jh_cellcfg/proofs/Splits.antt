@@ -1,17 +1,13 @@
 -- Where two spellings with something behind them are equal, both the records and what is behind are.
-use Rattle.std.proofs.Common.{◌≡◌, ℕ, zero, suc, ◌+◌, ◌<◌, ◌^◌, List, [], ◌∷◌, ◌++◌, length, take, drop, refl, sym, ap, ◌∙◌, append_assoc, arith}
+use Rattle.std.proofs.Common.{◌≡◌, ℕ, ◌<◌, ◌^◌, List, [], ◌∷◌, ◌++◌, length, take, drop, refl, sym, ap, ◌∙◌, append_assoc, arith}
 use Rattle.std.specs.Int.{w16, w32, w64, from_le_bytes}
 use Rattle.std.specs.List.{flat_map, AllByRecursion}
 use Rattle.std.proofs.lemmas.List.{take_at, drop_at}
 use Rattle.std.proofs.lemmas.Nat.{from_le_bytes-to_le_bytes_2, from_le_bytes-to_le_bytes_4, from_le_bytes-to_le_bytes_8}
-use Rattle.jh_cellcfg.specs.declared.region.Region.{Region}
-use Rattle.jh_cellcfg.specs.declared.config.Irqchip.{Irqchip}
 use Rattle.jh_cellcfg.specs.declared.config.PciDevice.{PciDevice}
-use Rattle.jh_cellcfg.specs.declared.header.Counts.{Counts}
-use Rattle.jh_cellcfg.specs.declared.header.Header.{Header}
 use Rattle.jh_cellcfg.specs.Spelling.{u8_bytes, u16_bytes, u32_bytes, u64_bytes, region_bytes, irqchip_bytes, device_bytes, counts_bytes, header_bytes}
 use Rattle.jh_cellcfg.proofs.Headers.{behind_name, regrouped}
-use Rattle.jh_cellcfg.specs.Widths.{IsRegion, IsIrqchip, IsDevice, IsWordArray, AreCounts, IsHeader}
+use Rattle.jh_cellcfg.specs.Widths.{IsRegion, IsIrqchip, IsDevice, AreCounts, IsHeader}
 
 -- two records and what stands behind them
 pub record Same {R : Type 0} (a b : R) (x y : List ℕ) : Type 0 where
@@ -27,27 +23,27 @@ u8_splits a b x y e = record { record_is = cc; rest_is = cc }
 
 pub u16_splits : Splits u16_bytes (λ n. n < 2 ^ 16)
 u16_splits a b x y fa fb e = record {
-    record_is = sym (from_le_bytes-to_le_bytes_2 a fa) ∙ ap (λ (l : List ℕ). from_le_bytes w16 (take 2 l)) e ∙ from_le_bytes-to_le_bytes_2 b fb;
-    rest_is = ap (drop 2) e;
-  }
+  record_is = sym (from_le_bytes-to_le_bytes_2 a fa) ∙ ap (λ (l : List ℕ). from_le_bytes w16 (take 2 l)) e ∙ from_le_bytes-to_le_bytes_2 b fb;
+  rest_is = ap (drop 2) e;
+}
 
 pub u32_splits : Splits u32_bytes (λ n. n < 2 ^ 32)
 u32_splits a b x y fa fb e = record {
-    record_is = sym (from_le_bytes-to_le_bytes_4 a fa) ∙ ap (λ (l : List ℕ). from_le_bytes w32 (take 4 l)) e ∙ from_le_bytes-to_le_bytes_4 b fb;
-    rest_is = ap (drop 4) e;
-  }
+  record_is = sym (from_le_bytes-to_le_bytes_4 a fa) ∙ ap (λ (l : List ℕ). from_le_bytes w32 (take 4 l)) e ∙ from_le_bytes-to_le_bytes_4 b fb;
+  rest_is = ap (drop 4) e;
+}
 
 pub u64_splits : Splits u64_bytes (λ n. n < 2 ^ 64)
 u64_splits a b x y fa fb e = record {
-    record_is = sym (from_le_bytes-to_le_bytes_8 a fa) ∙ ap (λ (l : List ℕ). from_le_bytes w64 (take 8 l)) e ∙ from_le_bytes-to_le_bytes_8 b fb;
-    rest_is = ap (drop 8) e;
-  }
+  record_is = sym (from_le_bytes-to_le_bytes_8 a fa) ∙ ap (λ (l : List ℕ). from_le_bytes w64 (take 8 l)) e ∙ from_le_bytes-to_le_bytes_8 b fb;
+  rest_is = ap (drop 8) e;
+}
 
 pub array_splits : (n : ℕ) → Splits (λ (bytes : List ℕ). bytes) (λ bytes. length bytes ≡ n)
 array_splits n a b x y fa fb e = record {
-    record_is = sym (take_at a x n fa) ∙ ap (take n) e ∙ take_at b y n fb;
-    rest_is = sym (drop_at a x n fa) ∙ ap (drop n) e ∙ drop_at b y n fb;
-  }
+  record_is = sym (take_at a x n fa) ∙ ap (take n) e ∙ take_at b y n fb;
+  rest_is = sym (drop_at a x n fa) ∙ ap (drop n) e ∙ drop_at b y n fb;
+}
 
 pub list_splits : {R : Type 0} (f : R → List ℕ) (Fits : R → Type 0) → Splits f Fits → (xs ys : List R) (x y : List ℕ)
     → AllByRecursion Fits xs → AllByRecursion Fits ys → length xs ≡ length ys → flat_map f xs ++ x ≡ flat_map f ys ++ y → Same xs ys x y
@@ -90,7 +86,7 @@ device_splits a b x y fa fb e =
     let s_bdf = u16_splits a.bdf b.bdf _ _ fa.bdf fb.bdf s_domain.rest_is in
     let mask = flat_map u32_bytes in
     let s_bar_mask = list_splits u32_bytes (λ n. n < 2 ^ 32) u32_splits a.bar_mask b.bar_mask (behind_mask a ++ x) (behind_mask b ++ y) fa.bar_mask.each fb.bar_mask.each (fa.bar_mask.count ∙ sym fb.bar_mask.count)
-      (sym (append_assoc (mask a.bar_mask) (behind_mask a) x) ∙ s_bdf.rest_is ∙ append_assoc (mask b.bar_mask) (behind_mask b) y) in
+    (sym (append_assoc (mask a.bar_mask) (behind_mask a) x) ∙ s_bdf.rest_is ∙ append_assoc (mask b.bar_mask) (behind_mask b) y) in
     let s_caps_start = u16_splits a.caps_start b.caps_start _ _ fa.caps_start fb.caps_start s_bar_mask.rest_is in
     let s_num_caps = u16_splits a.num_caps b.num_caps _ _ fa.num_caps fb.num_caps s_caps_start.rest_is in
     let s_num_msi_vectors = u8_splits a.num_msi_vectors b.num_msi_vectors _ _ s_num_caps.rest_is in

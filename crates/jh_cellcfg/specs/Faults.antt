@@ -37,7 +37,7 @@ over which most found = fault_if (nat_lt most found) (Count which found)
 -- the first count that is past its limit
 unfoldable pub count_fault : Counts → Option ConfigFault
 count_fault n = first_of (
-      fault_if (n.cpu_set == 0) (Count CpuSet 0)
+    fault_if (n.cpu_set == 0) (Count CpuSet 0)
     ∷ over CpuSet 64 n.cpu_set
     ∷ over MemoryRegions 1024 n.memory_regions
     ∷ over CacheRegions 1024 n.cache_regions
@@ -59,15 +59,15 @@ u32_at bytes place = from_le_bytes w32 (slice_range bytes place (place + 4))
 -- the counts of a header; the places count from its name
 unfoldable pub counts_at : List ℕ → Counts
 counts_at body = record {
-    cpu_set = u32_at body 40;
-    memory_regions = u32_at body 44;
-    cache_regions = u32_at body 48;
-    irqchips = u32_at body 52;
-    pio_regions = u32_at body 56;
-    pci_devices = u32_at body 60;
-    pci_caps = u32_at body 64;
-    stream_ids = u32_at body 68;
-  }
+  cpu_set = u32_at body 40;
+  memory_regions = u32_at body 44;
+  cache_regions = u32_at body 48;
+  irqchips = u32_at body 52;
+  pio_regions = u32_at body 56;
+  pci_devices = u32_at body 60;
+  pci_caps = u32_at body 64;
+  stream_ids = u32_at body 68;
+}
 
 -- the first fault of a header's name and counts
 unfoldable pub limits_fault : List ℕ → Counts → Option ConfigFault
@@ -76,21 +76,21 @@ limits_fault name counts = first_of (fault_if (not (is_name name)) Name ∷ coun
 -- the bytes are fewer than needed, or more
 unfoldable pub length_fault : ℕ → ℕ → Option ConfigFault
 length_fault need len = first_of (
-      fault_if (nat_lt len need) (Short need)
+    fault_if (nat_lt len need) (Short need)
     ∷ fault_if (nat_lt need len) (Trailing (len - need))
     ∷ [])
 
 -- the first fault of the bytes from a header's name on, which stand behind `front` others
 abbrev pub body_fault : ℕ → List ℕ → Option ConfigFault
 body_fault front body = first_of (
-      limits_fault (take 32 body) (counts_at body)
+    limits_fault (take 32 body) (counts_at body)
     ∷ length_fault (front + 124 + parts_size (counts_at body)) (front + length body)
     ∷ [])
 
 -- the fault of what stands before the name
 unfoldable pub start_fault : List ℕ → Option ConfigFault
 start_fault bytes = first_of (
-      fault_if (not (starts_with nat_eq bytes (codes "JHCELL"))) Signature
+    fault_if (not (starts_with nat_eq bytes (codes "JHCELL"))) Signature
     ∷ fault_if (not (u16_at bytes 6 == 13)) (Revision (u16_at bytes 6))
     ∷ [])
 
@@ -104,7 +104,7 @@ header_size header = whole_size (counts_at (drop 8 header))
 -- the first fault of all the bytes, if they have one
 abbrev pub first_fault : List ℕ → Option ConfigFault
 first_fault bytes = first_of (
-      fault_if (nat_lt (length bytes) 132) (Short 132)
+    fault_if (nat_lt (length bytes) 132) (Short 132)
     ∷ start_fault bytes
     ∷ body_fault 8 (drop 8 bytes)
     ∷ [])

@@ -51,27 +51,27 @@ console_bytes c =
 -- the records of a configuration's parts
 abbrev pub counts_of : CellConfig → Counts
 counts_of c = record {
-    cpu_set = length c.cpu_set;
-    memory_regions = length c.memory_regions;
-    cache_regions = length c.cache_regions;
-    irqchips = length c.irqchips;
-    pio_regions = length c.pio_regions;
-    pci_devices = length c.pci_devices;
-    pci_caps = length c.pci_caps;
-    stream_ids = length c.stream_ids;
-  }
+  cpu_set = length c.cpu_set;
+  memory_regions = length c.memory_regions;
+  cache_regions = length c.cache_regions;
+  irqchips = length c.irqchips;
+  pio_regions = length c.pio_regions;
+  pci_devices = length c.pci_devices;
+  pci_caps = length c.pci_caps;
+  stream_ids = length c.stream_ids;
+}
 
 abbrev pub header_of : CellConfig → Header
 header_of c = record {
-    name = c.name;
-    id = c.id;
-    flags = c.flags;
-    counts = counts_of c;
-    vpci_irq_base = c.vpci_irq_base;
-    cpu_reset_address = c.cpu_reset_address;
-    msg_reply_timeout = c.msg_reply_timeout;
-    console = c.console;
-  }
+  name = c.name;
+  id = c.id;
+  flags = c.flags;
+  counts = counts_of c;
+  vpci_irq_base = c.vpci_irq_base;
+  cpu_reset_address = c.cpu_reset_address;
+  msg_reply_timeout = c.msg_reply_timeout;
+  console = c.console;
+}
 
 -- the counts in a header: 32 bytes
 abbrev pub counts_bytes : Counts → List ℕ

@@ -8,7 +8,7 @@ use crate::config::{Console, Irqchip, PciDevice};
 use crate::header::{Counts, Header};
 use crate::reader::Reader;
 use crate::region::Region;
-use crate::writer::{put_bytes, put_u16, put_u32, put_u64, put_u8};
+use crate::writer::{put_bytes, put_u8, put_u16, put_u32, put_u64};
 use jh_num::{NoMemory, Seq};
 use std::alloc::Global;
 
