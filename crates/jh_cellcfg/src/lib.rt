@@ -27,3 +27,6 @@ pub use record::{Record, read_list, write_list};
 pub use region::Region;
 pub use write::{write_body, write_cell};
 pub use writer::{put_bytes, put_u8, put_u16, put_u32, put_u64};
+
+#[cfg(test)]
+mod tests;
