@@ -3,9 +3,30 @@
 #![tactic(auto)]
 
 mod config;
+mod fault;
 mod flags;
+mod header;
+mod laws;
+mod limits;
+mod read;
+mod reader;
+mod record;
 mod region;
+mod write;
+mod writer;
 
 pub use config::{CellConfig, Console, Irqchip, PciDevice, SystemConfig};
+pub use fault::{ConfigFault, Which};
 pub use flags::{CellFlags, RegionFlags};
+pub use header::{Counts, Header};
+pub use laws::{body_has_no_fault, one_body, one_spelling, size_is_length, spelling_has_no_fault};
+pub use limits::{fits, is_name};
+pub use read::{cell_size, read_body, read_cell};
+pub use reader::Reader;
+pub use record::{Record, read_list, write_list};
 pub use region::Region;
+pub use write::{write_body, write_cell};
+pub use writer::{put_bytes, put_u8, put_u16, put_u32, put_u64};
+
+#[cfg(test)]
+mod tests;

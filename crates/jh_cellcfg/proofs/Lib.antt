@@ -1,0 +1,6 @@
+pub mod Lists
+pub mod Headers
+pub mod Splits
+pub mod Faultless
+pub mod Fields
+pub mod Found

@@ -1,0 +1,5 @@
+use Rattle.jh_cellcfg.proofs.Faultless.{body_unfaulted}
+use Rattle.jh_cellcfg.proofs.laws.body_has_no_fault.Goals as goal
+
+pub returns : goal.returns
+returns c = body_unfaulted

@@ -1,0 +1,5 @@
+use Rattle.jh_cellcfg.proofs.Faultless.{one_body}
+use Rattle.jh_cellcfg.proofs.laws.one_body.Goals as goal
+
+pub returns : goal.returns
+returns c = one_body

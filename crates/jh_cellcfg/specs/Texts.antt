@@ -1,0 +1,27 @@
+-- The words for a fault.
+use Rattle.std.specs.Prelude.{ℕ, List, ◌++◌, codes, decimal}
+use Rattle.jh_cellcfg.specs.declared.fault.ConfigFault.{ConfigFault}
+use Rattle.jh_cellcfg.specs.declared.fault.ConfigFault.TheVariants.{Short, Signature, Revision, Name, Count, Trailing, NoMemory}
+use Rattle.jh_cellcfg.specs.declared.fault.Which.{Which}
+use Rattle.jh_cellcfg.specs.declared.fault.Which.TheVariants.{CpuSet, MemoryRegions, CacheRegions, Irqchips, PioRegions, PciDevices, PciCaps, StreamIds, Total}
+
+-- the header's name of a count, or `total`
+abbrev pub count_text : Which → List ℕ
+count_text CpuSet = codes "cpu_set_size"
+count_text MemoryRegions = codes "num_memory_regions"
+count_text CacheRegions = codes "num_cache_regions"
+count_text Irqchips = codes "num_irqchips"
+count_text PioRegions = codes "num_pio_regions"
+count_text PciDevices = codes "num_pci_devices"
+count_text PciCaps = codes "num_pci_caps"
+count_text StreamIds = codes "num_stream_ids"
+count_text Total = codes "total"
+
+abbrev pub fault_text : ConfigFault → List ℕ
+fault_text (Short need) = codes "short " ++ decimal need
+fault_text Signature = codes "signature"
+fault_text (Revision found) = codes "revision " ++ decimal found
+fault_text Name = codes "name"
+fault_text (Count which found) = codes "count " ++ (count_text which ++ (codes " " ++ decimal found))
+fault_text (Trailing extra) = codes "trailing " ++ decimal extra
+fault_text NoMemory = codes "out of memory"

@@ -1,0 +1,86 @@
+//! Why bytes are no configuration.
+ghost use Rattle.std.specs.Prelude.{◌≡◌};
+ghost use Rattle.jh_cellcfg.specs.declared.fault.ConfigFault.TheVariants.{NoMemory as OutOfMemory};
+
+use jh_num::NoMemory;
+use std::fmt;
+
+/// The first fault of the bytes, in the order of the variants, or want of memory.
+#[derive(Clone, Copy, PartialEq, Eq, Debug)]
+pub enum ConfigFault {
+    /// There are fewer bytes than the header has, or than the whole has by the header's counts.
+    Short { need: u32 },
+    Signature,
+    Revision { found: u16 },
+    /// The name isn't 1 to 31 printable characters and then zero bytes.
+    Name,
+    /// A count or the total is past its limit, or the CPU bitmap has no byte.
+    Count { which: Which, found: u32 },
+    /// So many bytes stand behind the whole.
+    Trailing { extra: u64 },
+    NoMemory,
+}
+
+/// What is counted: the parts by the header's order, and last the bytes of the whole.
+#[derive(Clone, Copy, PartialEq, Eq, Debug)]
+pub enum Which {
+    CpuSet,
+    MemoryRegions,
+    CacheRegions,
+    Irqchips,
+    PioRegions,
+    PciDevices,
+    PciCaps,
+    StreamIds,
+    Total,
+}
+
+impl From<NoMemory> for ConfigFault {
+    ghost from_gives = { λ _ e. e ≡ OutOfMemory };
+
+    fn from(_e: NoMemory) -> ConfigFault {
+        ConfigFault::NoMemory
+    }
+}
+
+impl fmt::Display for Which {
+    ghost use Rattle.std.specs.Prelude.{Some};
+    ghost use Rattle.jh_cellcfg.specs.Texts.{count_text};
+
+    ghost output = { λ which. Some (count_text which) };
+
+    /// The header's name of the count, or `total`.
+    fn fmt<W: fmt::Write>(&self, f: &mut fmt::Formatter<W>) -> fmt::Result {
+        let field = match self {
+            Which::CpuSet => "cpu_set_size",
+            Which::MemoryRegions => "num_memory_regions",
+            Which::CacheRegions => "num_cache_regions",
+            Which::Irqchips => "num_irqchips",
+            Which::PioRegions => "num_pio_regions",
+            Which::PciDevices => "num_pci_devices",
+            Which::PciCaps => "num_pci_caps",
+            Which::StreamIds => "num_stream_ids",
+            Which::Total => "total",
+        };
+        f.write_str(field)
+    }
+}
+
+impl fmt::Display for ConfigFault {
+    ghost use Rattle.std.specs.Prelude.{Some};
+    ghost use Rattle.jh_cellcfg.specs.Texts.{fault_text};
+
+    ghost output = { λ fault. Some (fault_text fault) };
+
+    fn fmt<W: fmt::Write>(&self, f: &mut fmt::Formatter<W>) -> fmt::Result {
+        match self {
+            ConfigFault::Short { need } => write!(f, "short {need}"),
+            ConfigFault::Signature => f.write_str("signature"),
+            ConfigFault::Revision { found } => write!(f, "revision {found}"),
+            ConfigFault::Name => f.write_str("name"),
+            ConfigFault::Count { which, found } => write!(f, "count {which} {found}"),
+            ConfigFault::Trailing { extra } => write!(f, "trailing {extra}"),
+            ConfigFault::NoMemory => f.write_str("out of memory"),
+        }
+    }
+}

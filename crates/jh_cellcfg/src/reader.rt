@@ -1,0 +1,76 @@
+//! Numbers and arrays at the front of bytes.
+ghost use Rattle.std.specs.Prelude.{◌≡◌, ◌+◌, ◌<◌, ◌≤◌, ◌^◌, ◌++◌, ◌∷◌, length};
+ghost use Rattle.jh_cellcfg.specs.Spelling.{u16_bytes, u32_bytes, u64_bytes};
+
+/// Bytes of which each call takes some from the front.
+#[derive(Drop)]
+pub struct Reader<'a> {
+    pub rest: &'a [u8],
+}
+
+impl<'a> Reader<'a> {
+    pub fn u8(&mut self) -> u8
+        requires { 1 ≤ length self.old.rest.now }
+        ensures taken { self.old.rest.now ≡ result ∷ self.new.rest.now }
+        ensures fits { result < 2 ^ 8 }
+    {
+        let (front, rest) = self.rest.split_at(1);
+        self.rest = rest;
+        front[0]
+    }
+
+    pub fn u16(&mut self) -> u16
+        requires { 2 ≤ length self.old.rest.now }
+        ensures taken { self.old.rest.now ≡ u16_bytes result ++ self.new.rest.now }
+        ensures fits { result < 2 ^ 16 }
+    {
+        let (front, rest) = self.rest.split_at(2);
+        self.rest = rest;
+        u16::from_le_bytes([front[0], front[1]])
+    }
+
+    pub fn u32(&mut self) -> u32
+        requires { 4 ≤ length self.old.rest.now }
+        ensures taken { self.old.rest.now ≡ u32_bytes result ++ self.new.rest.now }
+        ensures fits { result < 2 ^ 32 }
+    {
+        let (front, rest) = self.rest.split_at(4);
+        self.rest = rest;
+        u32::from_le_bytes([front[0], front[1], front[2], front[3]])
+    }
+
+    pub fn u64(&mut self) -> u64
+        requires { 8 ≤ length self.old.rest.now }
+        ensures taken { self.old.rest.now ≡ u64_bytes result ++ self.new.rest.now }
+        ensures fits { result < 2 ^ 64 }
+    {
+        let (front, rest) = self.rest.split_at(8);
+        self.rest = rest;
+        u64::from_le_bytes([
+            front[0], front[1], front[2], front[3], front[4], front[5], front[6], front[7],
+        ])
+    }
+
+    /// So many bytes, as they are.
+    pub fn array<const N: usize>(&mut self) -> [u8; N]
+        requires { N ≤ length self.old.rest.now }
+        ensures taken { self.old.rest.now ≡ result ++ self.new.rest.now }
+        ensures fits { length result ≡ N }
+    {
+        let (front, rest) = self.rest.split_at(N);
+        self.rest = rest;
+        let mut bytes = [0; N];
+        bytes.copy_from_slice(front);
+        bytes
+    }
+    /// So many bytes, which stay where they are.
+    pub fn bytes(&mut self, count: usize) -> &'a [u8]
+        requires { count ≤ length self.old.rest.now }
+        ensures taken { self.old.rest.now ≡ result.now ++ self.new.rest.now }
+        ensures count { length result.now ≡ count }
+    {
+        let (front, rest) = self.rest.split_at(count);
+        self.rest = rest;
+        front
+    }
+}
