@@ -6,9 +6,9 @@ mod limits;
 mod lines;
 mod send;
 mod status;
-mod told;
 #[cfg(test)]
 mod tests;
+mod told;
 mod top;
 
 pub use command::{Play, command_of};

@@ -10,7 +10,9 @@ pub fn usage_line(alloc: Global) -> Result<Vec<u8>, NoMemory>
     ensures { IfOk result (λ text. text.items ≡ usage_line_lem) }
 {
     let mut text = Vec::new(alloc);
-    text.extend_from_slice(b"usage: jailhouse check SYSTEM CELL... | pack SPEC | play BOARD SCHEDULE | run BOARD | map BOARD SCHEDULE | tables BOARD SCHEDULE | audit BOARD JOURNAL | soak N")?;
+    text.extend_from_slice(
+        b"usage: jailhouse check SYSTEM CELL... | pack SPEC | play BOARD SCHEDULE | run BOARD | map BOARD SCHEDULE | tables BOARD SCHEDULE | audit BOARD JOURNAL | soak N",
+    )?;
     text.push(b'\n')?;
     Ok(text)
 }

@@ -7,13 +7,16 @@ use std::alloc::Global;
 use std::process::Abort;
 use std::test::Fail;
 
-const BOARD: &str = "{\"system\":\"s.sys\",\"programs\":[{\"cell\":\"root\",\"cpu\":0,\"file\":\"p.txt\"}]}";
+const BOARD: &str =
+    "{\"system\":\"s.sys\",\"programs\":[{\"cell\":\"root\",\"cpu\":0,\"file\":\"p.txt\"}]}";
 
 const PROGRAM: &str = "write 8 0x40000000 0x1122334455667788\nread 4 0x40000004\n";
 
-const JOURNAL: &str = "0 0 write 8 0x40000000 0x1122334455667788 = ok\n0 0 read 4 0x40000004 = 0x11223344\n";
+const JOURNAL: &str =
+    "0 0 write 8 0x40000000 0x1122334455667788 = ok\n0 0 read 4 0x40000004 = 0x11223344\n";
 
-const USAGE: &str = "usage: jailhouse check SYSTEM CELL... | pack SPEC | play BOARD SCHEDULE | run BOARD | map BOARD SCHEDULE | tables BOARD SCHEDULE | audit BOARD JOURNAL | soak N\n";
+const USAGE: &str =
+    "usage: jailhouse check SYSTEM CELL... | pack SPEC | play BOARD SCHEDULE | run BOARD | map BOARD SCHEDULE | tables BOARD SCHEDULE | audit BOARD JOURNAL | soak N\n";
 
 /// The system of the first form whose root has memory from 0x40000000 to 0x7fc00000.
 fn system(alloc: Global) -> Result<Vec<u8>, NoMemory> {

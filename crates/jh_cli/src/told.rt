@@ -18,8 +18,8 @@ use crate::limits::{JOURNAL_LIMIT, MOST};
 use crate::lines::{fault_line, refusal_line, usage_line};
 use crate::status::Status;
 use jh_board::{Ended, play as play_board};
-use jh_first::{BoardNames, make_image, read_board, read_program, read_system};
 use jh_cellcfg::SystemConfig;
+use jh_first::{BoardNames, make_image, read_board, read_program, read_system};
 use jh_num::{NoMemory, Seq};
 use jh_outside::{FileFault, Files};
 use jh_script::{Image, Op};
@@ -234,12 +234,7 @@ fn play_system<F: Files>(
 }
 
 /// Reads the board, and plays it by the schedule.
-fn play<F: Files>(
-    alloc: Global,
-    files: &mut F,
-    board: &str,
-    items: &str,
-) -> Result<Told, Stop>
+fn play<F: Files>(alloc: Global, files: &mut F, board: &str, items: &str) -> Result<Told, Stop>
     ensures ok { IfOk result (λ told. Plays (F.contents files.old) board.now items.now (said_of told)) }
     ensures err { IfErr result (λ stop. OnEnded stop (Plays (F.contents files.old) board.now items.now)) }
     ensures counted_ok { IfOk result (λ told. IsCounted (F.faults files.old) (F.faults files.new) (F.failed files.new) (said_of told)) }

@@ -60,7 +60,7 @@ unfolding names_of
 names_again names end s p =
     let rest : List ℕ = names.program ++ 34 ∷ (codes "}]}" ++ end) in
     let front : split_once 34 (drop 11 (board_text names ++ end)) ≡ Some (names.system, middle ++ rest) =
-        ap (split_once 34) (to_right names.system (34 ∷ middle) names.program (codes "\"}]}") end) ∙ split_once-front 34 names.system (middle ++ rest) (name_lacks names.system s.plain) in
+    ap (split_once 34) (to_right names.system (34 ∷ middle) names.program (codes "\"}]}") end) ∙ split_once-front 34 names.system (middle ++ rest) (name_lacks names.system s.plain) in
     let back : split_once 34 rest ≡ Some (names.program, codes "}]}" ++ end) = split_once-front 34 names.program (codes "}]}" ++ end) (name_lacks names.program p.plain) in
     rw (front, back) refl
 

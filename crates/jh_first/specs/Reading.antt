@@ -34,9 +34,11 @@ names_of bytes = do
 -- the region of a record
 unfoldable pub region_at : List ℕ → Region
 region_at bytes = record {
-    phys_start = from_le_bytes w64 (slice_range bytes 0 8); virt_start = from_le_bytes w64 (slice_range bytes 8 16);
-    size = from_le_bytes w64 (slice_range bytes 16 24); flags = from_le_bytes w64 (slice_range bytes 24 32)
-  }
+  phys_start = from_le_bytes w64 (slice_range bytes 0 8);
+  virt_start = from_le_bytes w64 (slice_range bytes 8 16);
+  size = from_le_bytes w64 (slice_range bytes 16 24);
+  flags = from_le_bytes w64 (slice_range bytes 24 32);
+}
 
 abbrev pub next_number : ℕ → ℕ → ℕ → ℕ → Option ℕ
 next_number radix most n c =

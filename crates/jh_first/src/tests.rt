@@ -30,8 +30,11 @@ const TINY: &[u8; 260] = b"\
 
 /// Where the numbers of the region stand in the file.
 const PHYS_START: usize = 228;
+
 const VIRT_START: usize = 236;
+
 const SIZE: usize = 244;
+
 const FLAGS: usize = 252;
 
 /// A name of 64 bytes.
@@ -39,7 +42,8 @@ const LONG: &str = "0123456789abcdefghijklmnopqrstuvwxyzABCDEFGHIJKLMNOPQRSTUVWX
 
 #[test]
 fn the_names_of_a_board_are_told_in_their_places(rt: HostRuntime) -> Result<(), Fail> {
-    let text = "{\"system\":\"t.sys\",\"programs\":[{\"cell\":\"root\",\"cpu\":0,\"file\":\"p_1.txt\"}]}";
+    let text =
+        "{\"system\":\"t.sys\",\"programs\":[{\"cell\":\"root\",\"cpu\":0,\"file\":\"p_1.txt\"}]}";
     let names = read_board(rt.alloc(), text.as_bytes())?.ok_or("no board")?;
     assert_eq!(rt; names.system.as_str(), "t.sys");
     assert_eq!(rt; names.program.as_str(), "p_1.txt");
@@ -64,8 +68,13 @@ fn boards_are_told_by_their_names_and_their_text(rt: HostRuntime) -> Result<(), 
         ("s", "\\n", "}]}", false),
         ("s", "p", ",\"a\":1}]}", false),
     ] {
-        let text = format!(in rt.alloc(); "{{\"system\":\"{system}\",\"programs\":[{{\"cell\":\"root\",\"cpu\":0,\"file\":\"{program}\"{end}")?;
-        assert_eq!(rt; read_board(rt.alloc(), text.as_bytes())?.is_some(), is_board);
+        let text = format!(in rt.alloc();
+            "{{\"system\":\"{system}\",\"programs\":[{{\"cell\":\"root\",\"cpu\":0,\"file\":\"{program}\"{end}"
+        )?;
+        assert_eq!(rt;
+            read_board(rt.alloc(), text.as_bytes())?.is_some(),
+            is_board
+        );
     }
     Ok(())
 }
@@ -117,8 +126,20 @@ fn systems_are_told_by_their_region(rt: HostRuntime) -> Result<(), Fail> {
         ([0, 0, 0, 0], [0, 0, 0xc0, 0x7f], 260, 0, true),
         ([0, 0xf0, 0xbf, 0x7f], [0, 0x10, 0, 0], 260, 0, true),
         ([0, 0, 0xc0, 0x7f], [0, 0x10, 0, 0], 260, 0, false),
-        ([0, 0, 0, 0x40], [0, 0x10, 0, 0], PHYS_START + 1, 0x10, false),
-        ([0, 0, 0, 0x40], [0, 0x10, 0, 0], VIRT_START + 1, 0x10, false),
+        (
+            [0, 0, 0, 0x40],
+            [0, 0x10, 0, 0],
+            PHYS_START + 1,
+            0x10,
+            false,
+        ),
+        (
+            [0, 0, 0, 0x40],
+            [0, 0x10, 0, 0],
+            VIRT_START + 1,
+            0x10,
+            false,
+        ),
         ([0, 0, 0, 0x40], [0, 0x10, 0, 0], SIZE + 7, 0x80, false),
         ([0, 0, 0, 0x40], [0, 0x10, 0, 0], FLAGS, 7, false),
         ([0, 0, 0, 0x40], [0, 0x10, 0, 0], FLAGS + 7, 1, false),
@@ -128,7 +149,10 @@ fn systems_are_told_by_their_region(rt: HostRuntime) -> Result<(), Fail> {
         ([0, 0, 0, 0x40], [0, 0x10, 0, 0], 227, 1, false),
     ] {
         let bytes = changed(start, size, at, byte);
-        assert_eq!(rt; read_system(rt.alloc(), bytes.as_slice())?.is_some(), is_system);
+        assert_eq!(rt;
+            read_system(rt.alloc(), bytes.as_slice())?.is_some(),
+            is_system
+        );
     }
     Ok(())
 }
@@ -192,7 +216,10 @@ fn programs_are_told_by_their_lines(rt: HostRuntime) -> Result<(), Fail> {
         ("# read\n", false),
         ("read 4 0x0\nread 4 0x0\nhvc 1 0x0 0x0\n", false),
     ] {
-        assert_eq!(rt; read_program(rt.alloc(), text.as_bytes())?.is_some(), is_program);
+        assert_eq!(rt;
+            read_program(rt.alloc(), text.as_bytes())?.is_some(),
+            is_program
+        );
     }
     Ok(())
 }

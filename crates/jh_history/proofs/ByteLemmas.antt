@@ -37,7 +37,7 @@ written_places : (image : Image) (f : Facts) (at width value place : ℕ) → Is
     → write_of f.byte (reach image f image.system.root.id ToWrite at width) value place ≡ over (listed (λ k. at + k) width) value place (f.byte place)
 written_places image f at width value place admitted some granted =
     let reached : reach image f image.system.root.id ToWrite at width ≡ Memory (listed (λ k. at + k) width)
-      = reach-root image f ToWrite at width ∙ reach_by-listed image ToWrite at width (λ k. at + k) admitted some (granted_at image at width admitted granted) in
+    = reach-root image f ToWrite at width ∙ reach_by-listed image ToWrite at width (λ k. at + k) admitted some (granted_at image at width admitted granted) in
     ap (λ (r : Reach). write_of f.byte r value place) reached ∙ written-over f.byte (listed (λ k. at + k) width) value place
 
 byte_written : (image : Image) (f : Facts) (act : Act) (place byte : ℕ) → IsAdmitted image → IsAccess image f image.system.root.id act → Writes image act place byte → byte_after image f image.system.root.id act place ≡ byte
@@ -60,7 +60,7 @@ byte_kept image f (Write width at value true) place admitted access none =
     let P : ℕ → ℕ → Type 0 = λ a p. IsGranted image ToWrite a p in
     written_places image f at width value place admitted some granted
     ∙ over-other (λ j. at + j) width value place (f.byte place)
-      (λ k lt h. none (value / 256 ^ k % 256) (refl, record { index = k; within = lt; granted = subst (P (at + k)) (sym h) (granted_at image at width admitted granted k lt); is = refl }))
+    (λ k lt h. none (value / 256 ^ k % 256) (refl, record { index = k; within = lt; granted = subst (P (at + k)) (sym h) (granted_at image at width admitted granted k lt); is = refl }))
 byte_kept image f (Write width at value false) place admitted access none = refl
 byte_kept image f _ place admitted access none = refl
 

@@ -158,10 +158,10 @@ got_by : (image : Image) (entries : List Entry) (access : Access) (at width : �
 got_by image entries access at width (Memory ps) admitted some is = record {
   granted = (λ _. granted-reach_by image access at width ps admitted is, λ _. refl);
   reads = λ value e place granted.
-    let places : reach_by (place_of (regions image) access) at width ≡ Memory (listed place width) = reach_by-listed image access at width place admitted some granted in
-    let read : read_of (byte_at image entries) (Memory ps) ≡ read_of (byte_at image entries) (Memory (listed place width)) = ap (read_of (byte_at image entries)) (sym is ∙ places) in
-    let spelt : Some value ≡ Some (spelled (map (byte_at image entries) (listed place width))) = sym e ∙ read in
-    same_Some value (spelled (map (byte_at image entries) (listed place width))) spelt ∙ spelled-listed (byte_at image entries) place width;
+      let places : reach_by (place_of (regions image) access) at width ≡ Memory (listed place width) = reach_by-listed image access at width place admitted some granted in
+      let read : read_of (byte_at image entries) (Memory ps) ≡ read_of (byte_at image entries) (Memory (listed place width)) = ap (read_of (byte_at image entries)) (sym is ∙ places) in
+      let spelt : Some value ≡ Some (spelled (map (byte_at image entries) (listed place width))) = sym e ∙ read in
+      same_Some value (spelled (map (byte_at image entries) (listed place width))) spelt ∙ spelled-listed (byte_at image entries) place width;
 }
 got_by image entries access at width Nothing admitted some is = record {
   granted = (

@@ -18,7 +18,7 @@ places_from-listed f place at zero each = refl
 places_from-listed f place at (suc count) each =
     let here : f at ≡ Some (place 0) = (let e : at ≡ at + 0 = omega arith in ap f e) ∙ each 0 (omega arith) in
     let rest : places_from f (at + 1) count ≡ Some (listed (λ k. place (k + 1)) count) = places_from-listed f (λ k. place (k + 1)) (at + 1) count
-      (λ k lt. (let e : (at + 1) + k ≡ at + (k + 1) = omega arith in ap f e) ∙ each (k + 1) (omega arith)) in
+    (λ k lt. (let e : (at + 1) + k ≡ at + (k + 1) = omega arith in ap f e) ∙ each (k + 1) (omega arith)) in
     rw (here, rest) refl
 
 -- where there are places, each address has one
@@ -88,5 +88,5 @@ over-at place (suc count) value q b (suc k) lt same only =
     let part : value / 256 / 256 ^ k ≡ value / 256 ^ suc k = div-div-eq-div-mul value 256 (256 ^ k) ∙ ap (λ (n : ℕ). value / n) (sym (pow-succ' 256 k)) in
     let next : q ≡ place (k + 1) = same ∙ ap place (sym (add-one k)) in
     let rest : over (listed (λ k. place (k + 1)) count) (value / 256) q b ≡ value / 256 / 256 ^ k % 256 = over-at (λ k. place (k + 1)) count (value / 256) q b k (omega arith) next
-      (λ j below h. let e : j + 1 ≡ suc k = only (j + 1) (omega arith) h in omega arith) in
+    (λ j below h. let e : j + 1 ≡ suc k = only (j + 1) (omega arith) h in omega arith) in
     one_over place count value q b false ne ∙ rest ∙ ap (λ (n : ℕ). n % 256) part

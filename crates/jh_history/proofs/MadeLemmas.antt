@@ -104,7 +104,7 @@ entry_made image f cpu entry (Some act) admitted roots e h =
 board_made : (image : Image) (f : Facts) (cpu : ℕ) (entry : Entry) (b : Bool) → IsAdmitted image → IsRoots image (f.cpu cpu) → is_on_board image cpu ≡ b → due_at image f cpu ≡ Some entry → IsMade image f entry
 board_made image f cpu entry true admitted roots e h =
     let by_mode : entry_of image f (f.cpu cpu) cpu ≡ option_map (entry_by cpu (f.cpu cpu).owner) (act_in_mode (f.cpu cpu).mode image f (f.cpu cpu) cpu)
-      = ap (option_map (entry_by cpu (f.cpu cpu).owner)) (act_by_mode image f (f.cpu cpu) cpu roots) in
+    = ap (option_map (entry_by cpu (f.cpu cpu).owner)) (act_by_mode image f (f.cpu cpu) cpu roots) in
     entry_made image f cpu entry (act_in_mode (f.cpu cpu).mode image f (f.cpu cpu) cpu) admitted roots refl (sym by_mode ∙ (sym (due_at-present image f cpu e) ∙ h))
 board_made image f cpu entry false admitted roots e h = absurd (none-some entry (sym (due_at-absent image f cpu e) ∙ h))
 
