@@ -1,0 +1,54 @@
+-- A journal of the first form never reaches its limit.
+use Rattle.std.proofs.Common.{◌≡◌, ◌≢◌, ℕ, zero, suc, ◌+◌, ◌/◌, ◌%◌, ◌^◌, ◌<◌, ◌≤◌, List, [], ◌∷◌, ◌++◌, Bool, true, false, not, cond, Option, Some, None, length, refl, sym, ◌∙◌, ap, subst, arith, eqb, inl, inr}
+use Rattle.std.specs.Prelude.{fold, nat_lt, IsTrue, bit_and, codes}
+use Rattle.std.proofs.lemmas.Bool.{cases_eq, cases_lt, false≢true}
+use Rattle.std.proofs.lemmas.Bool.Decides.{nat_tests}
+use Rattle.jh_cellcfg.specs.declared.region.Region.{Region}
+use Rattle.jh_cellcfg.specs.declared.config.SystemConfig.{SystemConfig}
+use Rattle.jh_script.specs.declared.image.Image.{Image}
+use Rattle.jh_script.specs.declared.op.Op.{Op}
+use Rattle.jh_history.specs.declared.entry.Entry.{Entry}
+use Rattle.jh_history.specs.Cells.{is_on_board, program_of, name_of, is_cpu_set}
+use Rattle.jh_history.specs.Facts.{facts}
+use Rattle.jh_history.specs.Due.{due, ops_of, IsLegal}
+use Rattle.jh_history.specs.Items.{Reached, with_due, with_item, items, rounds, cpus_of, played}
+use Rattle.jh_history.proofs.FactsLemmas.{IsLegal-nil}
+use Rattle.jh_history.proofs.DueLemmas.{IsLegal-made}
+use Rattle.jh_cli.proofs.FewLemmas.{few_entries}
+
+-- what items keep: the journal is legal, and it is at the limit where they stopped
+record Kept (image : Image) (limit : ℕ) (r : Reached) : Type 0 where
+  legal : IsLegal image r.entries
+  stopped : r.full ≡ true → limit ≤ length r.entries
+
+kept_made : (image : Image) (limit cpu : ℕ) (es : List Entry) (entry : Entry) (b : Bool) → nat_lt (length es) limit ≡ b → IsLegal image es → due image es cpu ≡ Some entry
+    → Kept image limit (cond b (record { entries = es ++ entry ∷ []; full = false }) (record { entries = es; full = true }))
+kept_made image limit cpu es entry true e legal made = record { legal = IsLegal-made image es (es ++ entry ∷ []) cpu entry legal made refl; stopped = λ h. absurd (false≢true h) }
+kept_made image limit cpu es entry false e legal made = record { legal = legal; stopped = λ _. grind (arith, nat_tests) }
+
+kept_due : (image : Image) (limit cpu : ℕ) (es : List Entry) (o : Option Entry) → IsLegal image es → due image es cpu ≡ o → Kept image limit (with_due limit es o)
+kept_due image limit cpu es None legal made = record { legal = legal; stopped = λ h. absurd (false≢true h) }
+kept_due image limit cpu es (Some entry) legal made = kept_made image limit cpu es entry (nat_lt (length es) limit) refl legal made
+
+kept_choice : (image : Image) (limit cpu : ℕ) (r : Reached) (b : Bool) → Kept image limit r → Kept image limit (cond b r (with_due limit r.entries (due image r.entries cpu)))
+kept_choice image limit cpu r true kept = kept
+kept_choice image limit cpu r false kept = kept_due image limit cpu r.entries (due image r.entries cpu) kept.legal refl
+
+kept_items : (image : Image) (limit : ℕ) (cpus : List ℕ) (r : Reached) → Kept image limit r → Kept image limit (fold (with_item image limit) r cpus)
+kept_items image limit [] r kept = kept
+kept_items image limit (cpu ∷ cpus) r kept = kept_items image limit cpus (with_item image limit r cpu) (kept_choice image limit cpu r r.full kept)
+
+kept_played : (image : Image) (limit : ℕ) (schedule : List ℕ) → Kept image limit (played image limit schedule)
+unfolding played items
+kept_played image limit schedule =
+    kept_items image limit (schedule ++ rounds (limit + 1) (cpus_of image)) (record { entries = []; full = false }) (record { legal = IsLegal-nil image; stopped = λ h. absurd (false≢true h) })
+
+at_limit : (b : Bool) (n m limit : ℕ) → (b ≡ true → limit ≤ m) → m ≤ n → n < limit → b ≡ false
+at_limit true n m limit stopped few below = let le : limit ≤ m = stopped refl in absurd (omega arith)
+at_limit false n m limit stopped few below = refl
+
+-- a board of CPU 0 alone, with fewer operations than the limit, plays without reaching it
+pub never_full : (image : Image) (n limit : ℕ) (schedule : List ℕ) → ((cpu : ℕ) → cpu ≢ 0 → is_on_board image cpu ≡ false) → ((cell : ℕ) → length (ops_of image cell 0) ≤ n) → n < limit → (played image limit schedule).full ≡ false
+never_full image n limit schedule alone few below =
+    let kept = kept_played image limit schedule in
+    at_limit (played image limit schedule).full n (length (played image limit schedule).entries) limit kept.stopped (few_entries image n (played image limit schedule).entries alone few kept.legal) below
