@@ -1,5 +1,5 @@
 -- A board's text and the names that it may have.
-use Rattle.std.proofs.Common.{◌≡◌, ◌≢◌, ℕ, zero, suc, ◌<◌, ◌≤◌, get_or, lit<, Bool, true, false, ◌&&◌, eqb, List, [], ◌∷◌, ◌++◌, length, drop, Option, Some, None, ◌⊎◌, ⊎_elim, refl, sym, ap, ◌∙◌, subst, arith, codes, append_assoc, IsTrue}
+use Rattle.std.proofs.Common.{◌≡◌, ℕ, zero, suc, ◌<◌, ◌≤◌, get_or, lit<, Bool, true, false, ◌&&◌, eqb, List, [], ◌∷◌, ◌++◌, length, drop, Some, None, ⊎_elim, refl, sym, ap, ◌∙◌, subst, arith, codes, append_assoc}
 use Rattle.std.specs.List.{list_all}
 use Rattle.std.specs.Bool.{MatchBool}
 use Rattle.std.specs.Str.{IsAscii, IsUtf8}
@@ -60,7 +60,7 @@ unfolding names_of
 names_again names end s p =
     let rest : List ℕ = names.program ++ 34 ∷ (codes "}]}" ++ end) in
     let front : split_once 34 (drop 11 (board_text names ++ end)) ≡ Some (names.system, middle ++ rest) =
-        ap (split_once 34) (to_right names.system (34 ∷ middle) names.program (codes "\"}]}") end) ∙ split_once-front 34 names.system (middle ++ rest) (name_lacks names.system s.plain) in
+    ap (split_once 34) (to_right names.system (34 ∷ middle) names.program (codes "\"}]}") end) ∙ split_once-front 34 names.system (middle ++ rest) (name_lacks names.system s.plain) in
     let back : split_once 34 rest ≡ Some (names.program, codes "}]}" ++ end) = split_once-front 34 names.program (codes "}]}" ++ end) (name_lacks names.program p.plain) in
     rw (front, back) refl
 

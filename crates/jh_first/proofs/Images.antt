@@ -1,16 +1,15 @@
 -- The image of files in the first form may be opened.
-use Rattle.std.proofs.Common.{◌≡◌, ◌≢◌, ℕ, zero, suc, ◌+◌, ◌-◌, ◌/◌, ◌%◌, ◌^◌, ◌<◌, ◌≤◌, Bool, true, false, not, ◌&&◌, ◌==◌, List, [], ◌∷◌, length, get_or, refl, sym, ap, ◌∙◌, subst, arith, rules, inl, inr, ⊎_elim, lit<, lit≤}
+use Rattle.std.proofs.Common.{◌≡◌, ◌≢◌, ℕ, zero, suc, ◌/◌, ◌%◌, ◌^◌, ◌<◌, ◌≤◌, true, not, ◌==◌, List, [], ◌∷◌, length, get_or, refl, sym, ap, ◌∙◌, subst, arith, ⊎_elim, lit<, lit≤}
 use Rattle.std.specs.Prelude.{All, AllPairs, IsTrue, bit_and, codes}
 use Rattle.std.specs.Int.Bits.{and_zero_l}
 use Rattle.std.specs.List.{AllByRecursion}
 use Rattle.std.proofs.lemmas.Bool.{cases_lt, false≢true}
 use Rattle.std.proofs.lemmas.Bool.Decides.{nat_tests}
 use Rattle.std.proofs.lemmas.List.Elements.{All-nil, All-from_recursion}
-use Rattle.jh_num.specs.declared.address.TheConstants.{ADDRESS_END, PAGE_SIZE}
 use Rattle.jh_cellcfg.specs.declared.region.Region.{Region}
 use Rattle.jh_cellcfg.specs.declared.config.PciDevice.{PciDevice}
 use Rattle.jh_cellcfg.specs.declared.config.SystemConfig.{SystemConfig}
-use Rattle.jh_cellcfg.specs.Regions.{has_flags, has_place, is_page_mapped, is_comm, IsWithin}
+use Rattle.jh_cellcfg.specs.Regions.{is_page_mapped}
 use Rattle.jh_script.specs.declared.image.Image.{Image}
 use Rattle.jh_script.specs.declared.image.Program.{Program}
 use Rattle.jh_script.specs.declared.image.Preload.{Preload}
@@ -46,7 +45,7 @@ sound_region r h =
       clear = clear r h;
       identity = h.identity;
       no_comm = ap (λ f. bit_and f 0x20 == 0x20) h.flags;
-      readable = λ _. ap (λ f. bit_and f 0x1 == 0x1) h.flags
+      readable = λ _. ap (λ f. bit_and f 0x1 == 0x1) h.flags;
     }
 
 zero_past : (n k : ℕ) → get_or (zeros n) k 0 ≡ 0
@@ -64,7 +63,7 @@ no_bit m h = false≢true (sym (ap (λ b. not (b == 0)) (and_zero_l m)) ∙ h)
 few_cpus : (cpu : ℕ) → IsTrue (is_cpu_set root_cpus cpu) → cpu < 16
 few_cpus cpu set = ⊎_elim (λ lt. lt)
     (λ le. let zero_byte = zero_behind (cpu / 8) (omega arith) in
-        absurd (no_bit (2 ^ (cpu % 8)) (ap (λ b. not (bit_and b (2 ^ (cpu % 8)) == 0)) (sym zero_byte) ∙ set)))
+    absurd (no_bit (2 ^ (cpu % 8)) (ap (λ b. not (bit_and b (2 ^ (cpu % 8)) == 0)) (sym zero_byte) ∙ set)))
     (cases_lt cpu 16)
 
 sound_cpus : IsSoundCpuSet root_cpus
@@ -72,12 +71,12 @@ sound_cpus = record { some = (0, refl); few = few_cpus }
 
 sound_system : (r : Region) → IsFirstRegion r → IsAdmittedSystem (system_of r)
 sound_system r h = record {
-    memory = sound_memory;
-    regions = alone (λ (s : Region). 0 < s.size → IsSoundRegion hypervisor s) r (λ _. sound_region r h);
-    addresses = pairless SharesNoAddress r;
-    places = pairless SharesNoPlace r;
-    cpus = sound_cpus
-  }
+  memory = sound_memory;
+  regions = alone (λ (s : Region). 0 < s.size → IsSoundRegion hypervisor s) r (λ _. sound_region r h);
+  addresses = pairless SharesNoAddress r;
+  places = pairless SharesNoPlace r;
+  cpus = sound_cpus;
+}
 
 plain_op : (op : Op) → IsFirstOp op → IsPlain op × IsNoCall op
 plain_op (Read width at) h = (h.0, tt)
@@ -96,12 +95,12 @@ plain_ops (op ∷ ops) all =
 
 admitted : (r : Region) (ops : List Op) → IsFirstRegion r → length ops ≤ 4096 → AllByRecursion IsFirstOp ops → IsAdmitted (image_of (system_of r) ops)
 admitted r ops h few first = record {
-    system = sound_system r h;
-    preloads = All-nil (IsSoundPreload hypervisor);
-    apart = empty_pairless IsOtherPreload;
-    programs = alone IsSoundProgram _ (record { few = few; plain = All-from_recursion IsPlain ops (plain_ops ops first).0 });
-    owned = pairless IsOtherProgram _
-  }
+  system = sound_system r h;
+  preloads = All-nil (IsSoundPreload hypervisor);
+  apart = empty_pairless IsOtherPreload;
+  programs = alone IsSoundProgram _ (record { few = few; plain = All-from_recursion IsPlain ops (plain_ops ops first).0 });
+  owned = pairless IsOtherProgram _;
+}
 
 built : (r : Region) (ops : List Op) → IsFirstRegion r → AllByRecursion IsFirstOp ops → IsBuilt (image_of (system_of r) ops)
 built r ops h first =
@@ -110,7 +109,7 @@ built r ops h first =
       regions = alone (λ (s : Region). IsTrue (is_page_mapped s)) r (grind (arith, nat_tests));
       window = refl;
       devices = All-nil (λ (d : PciDevice). d.kind ≢ 3);
-      calls = alone (λ (p : Program). All IsNoCall p.ops) _ (All-from_recursion IsNoCall ops (plain_ops ops first).1)
+      calls = alone (λ (p : Program). All IsNoCall p.ops) _ (All-from_recursion IsNoCall ops (plain_ops ops first).1);
     }
 
 pub image_admitted : (bytes text : List ℕ) (system : SystemConfig) (ops : List Op) → IsSystem bytes system → IsProgram text ops → IsAdmitted (image_of system ops)

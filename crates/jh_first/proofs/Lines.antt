@@ -1,5 +1,5 @@
 -- Lines, and the operations that they tell.
-use Rattle.std.proofs.Common.{◌≡◌, ◌≢◌, ℕ, ◌+◌, ◌-◌, ◌^◌, ◌<◌, ◌≤◌, List, [], ◌∷◌, ◌++◌, length, Option, Some, None, refl, sym, ap, ◌∙◌, arith, codes, append_assoc}
+use Rattle.std.proofs.Common.{◌≡◌, ◌≢◌, ℕ, ◌-◌, ◌^◌, ◌<◌, ◌≤◌, List, [], ◌∷◌, ◌++◌, Option, Some, None, refl, sym, ap, ◌∙◌, arith, codes, append_assoc}
 use Rattle.std.specs.List.{join_with_byte, AllByRecursion}
 use Rattle.std.specs.Fmt.{decimal}
 use Rattle.std.proofs.lemmas.Option.{none-some, same_Some}
@@ -54,14 +54,14 @@ op_again (Read width at) (h, small) =
     let narrow : width ≤ 8 = width_le width h in
     let rest : List ℕ = decimal width ++ 32 ∷ hexadecimal at in
     named (codes "read") rest (Some (Read width at)) (record { none = refl })
-        (read_named rest ∙ read_again (decimal width) (hexadecimal at) width at (decimal_spaceless width (omega arith)) (width_again width h) (hexadecimal_again max_u64 at small (omega arith)))
+    (read_named rest ∙ read_again (decimal width) (hexadecimal at) width at (decimal_spaceless width (omega arith)) (width_again width h) (hexadecimal_again max_u64 at small (omega arith)))
 op_again (Write width at value) (h, small, fits) =
     let narrow : width ≤ 8 = width_le width h in
     let wide = widest width h in
     let rest : List ℕ = decimal width ++ 32 ∷ (hexadecimal at ++ 32 ∷ hexadecimal value) in
     named (codes "write") rest (Some (Write width at value)) (record { none = refl })
-        (write_named rest ∙ write_again (decimal width) (hexadecimal at) (hexadecimal value) width at value (decimal_spaceless width (omega arith)) (hexadecimal_spaceless at small)
-            (width_again width h) (hexadecimal_again max_u64 at small (omega arith)) (hexadecimal_again (256 ^ width - 1) value (omega arith) (omega arith)))
+    (write_named rest ∙ write_again (decimal width) (hexadecimal at) (hexadecimal value) width at value (decimal_spaceless width (omega arith)) (hexadecimal_spaceless at small)
+    (width_again width h) (hexadecimal_again max_u64 at small (omega arith)) (hexadecimal_again (256 ^ width - 1) value (omega arith) (omega arith)))
 op_again (Fetch at) h = absurd h
 op_again (Await width at value) h = absurd h
 op_again Irq h = absurd h

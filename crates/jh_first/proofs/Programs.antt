@@ -1,5 +1,5 @@
 -- A program's text and the operations that it may have.
-use Rattle.std.proofs.Common.{◌≡◌, ◌≢◌, ℕ, ◌+◌, ◌<◌, ◌≤◌, List, [], ◌∷◌, ◌++◌, length, refl, sym, ap, ◌∙◌, arith, lit≤, subst, append_assoc, length-append}
+use Rattle.std.proofs.Common.{◌≡◌, ◌≢◌, ℕ, ◌<◌, ◌≤◌, List, [], ◌∷◌, ◌++◌, length, refl, sym, ap, ◌∙◌, arith, lit≤, subst, append_assoc, length-append}
 use Rattle.std.specs.List.{AllByRecursion}
 use Rattle.std.proofs.lemmas.List.{append-nil}
 use Rattle.jh_script.specs.declared.op.Op.{Op}
@@ -23,9 +23,11 @@ pub record Stands (text : List ℕ) (ops : List Op) (rest : List ℕ) : Type 0 w
 
 pub begins : (text : List ℕ) → Stands text [] text
 begins text = record {
-    first = tt; few = lit≤ tt; whole = refl;
-    only = λ program p. record { more = program; first = p.first; ops = refl; text = p.text }
-  }
+  first = tt;
+  few = lit≤ tt;
+  whole = refl;
+  only = λ program p. record { more = program; first = p.first; ops = refl; text = p.text };
+}
 
 -- a line is not nothing
 line_some : (op : Op) (rest : List ℕ) → 0 < length (op_line op ++ rest)
@@ -69,11 +71,11 @@ all_push (x ∷ front) op all h = (all.0, all_push front op all.1 h)
 -- after one line more
 pub stands_on : (text rest after : List ℕ) (ops next : List Op) (op : Op) → Stands text ops rest → IsFirstOp op → rest ≡ op_line op ++ after → length ops ≢ 4096 → next ≡ ops ++ op ∷ [] → Stands text next after
 stands_on text rest after ops next op s h e room is = let P : List Op → Type 0 = λ n. Stands text n after in subst P (sym is) (record {
-    first = all_push ops op s.first h;
-    few = let few = s.few in omega (arith, length-append ops (op ∷ []));
-    whole = s.whole ∙ ap (λ t. program_text ops ++ t) e ∙ sym (text_push ops op after);
-    only = λ program p. goes_on ops program rest after op h e (s.only program p)
-  })
+  first = all_push ops op s.first h;
+  few = let few = s.few in omega (arith, length-append ops (op ∷ []));
+  whole = s.whole ∙ ap (λ t. program_text ops ++ t) e ∙ sym (text_push ops op after);
+  only = λ program p. goes_on ops program rest after op h e (s.only program p);
+})
 
 -- where there is more text, but no line, there is no program
 pub stands_badly : (text rest : List ℕ) (ops : List Op) → Stands text ops rest → 0 < length rest → BeginsWithNoLine rest → (program : List Op) → IsProgram text program → ⊥

@@ -1,7 +1,6 @@
 -- A system's file and the region that it may have.
-use Rattle.std.proofs.Common.{◌≡◌, ◌≢◌, ℕ, ◌+◌, ◌-◌, ◌^◌, ◌<◌, ◌≤◌, List, [], ◌∷◌, ◌++◌, length, get_or, take, drop, refl, sym, ap, ◌∙◌, arith, ⊎_elim, length-take, length-drop, append_assoc}
+use Rattle.std.proofs.Common.{◌≡◌, ℕ, ◌+◌, ◌^◌, ◌<◌, ◌≤◌, List, ◌++◌, length, get_or, take, drop, refl, sym, ap, ◌∙◌, arith, ⊎_elim, length-take, length-drop, append_assoc}
 use Rattle.std.specs.Int.{w64, to_le_bytes, from_le_bytes}
-use Rattle.std.specs.List.{slice_range}
 use Rattle.std.proofs.lemmas.Bool.{cases_lt}
 use Rattle.std.proofs.lemmas.List.{take-append-drop, take_all, get_or-take, get_or-drop, get_or_past}
 use Rattle.std.proofs.lemmas.List.Folds.{drop_split}
@@ -15,9 +14,11 @@ use Rattle.jh_first.specs.Reading.{region_at}
 region_again : (r : Region) → r.phys_start < 2 ^ 64 → r.virt_start < 2 ^ 64 → r.size < 2 ^ 64 → r.flags < 2 ^ 64 → region_at (region_bytes r) ≡ r
 unfolding region_at
 region_again r p v s f = λ i. record {
-    phys_start = from_le_bytes-to_le_bytes_8 r.phys_start p i; virt_start = from_le_bytes-to_le_bytes_8 r.virt_start v i;
-    size = from_le_bytes-to_le_bytes_8 r.size s i; flags = from_le_bytes-to_le_bytes_8 r.flags f i
-  }
+  phys_start = from_le_bytes-to_le_bytes_8 r.phys_start p i;
+  virt_start = from_le_bytes-to_le_bytes_8 r.virt_start v i;
+  size = from_le_bytes-to_le_bytes_8 r.size s i;
+  flags = from_le_bytes-to_le_bytes_8 r.flags f i;
+}
 
 first_again : (r : Region) → IsFirstRegion r → region_at (region_bytes r) ≡ r
 first_again r h =
@@ -38,7 +39,7 @@ small_part : (xs : List ℕ) (a n : ℕ) → ((i : ℕ) → get_or xs i 0 < 256)
 small_part xs a n small i = ⊎_elim {C = get_or (take n (drop a xs)) i 0 < 256}
     (λ lt. let e = get_or-take n (drop a xs) i 0 lt ∙ get_or-drop a xs i 0 in omega (arith, e, small (a + i)))
     (λ le. let past : length (take n (drop a xs)) ≤ i = omega (arith, length-take n (drop a xs)) in
-        omega (arith, get_or_past (take n (drop a xs)) i 0 past))
+    omega (arith, get_or_past (take n (drop a xs)) i 0 past))
     (cases_lt i n)
 
 -- eight bytes are those of their number

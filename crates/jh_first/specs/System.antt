@@ -61,17 +61,36 @@ no_console = record { address = 0; size = 0; kind = 0; flags = 0; divider = 0; g
 
 abbrev pub root_of : Region → CellConfig
 root_of region = record {
-    name = root_name; id = 0; flags = 0; vpci_irq_base = 0; cpu_reset_address = 0; msg_reply_timeout = 0; console = zeros 32;
-    cpu_set = root_cpus; memory_regions = region ∷ []; cache_regions = []; irqchips = []; pio_regions = [];
-    pci_devices = []; pci_caps = []; stream_ids = []
-  }
+  name = root_name;
+  id = 0;
+  flags = 0;
+  vpci_irq_base = 0;
+  cpu_reset_address = 0;
+  msg_reply_timeout = 0;
+  console = zeros 32;
+  cpu_set = root_cpus;
+  memory_regions = region ∷ [];
+  cache_regions = [];
+  irqchips = [];
+  pio_regions = [];
+  pci_devices = [];
+  pci_caps = [];
+  stream_ids = [];
+}
 
 -- the system that the file tells of
 abbrev pub system_of : Region → SystemConfig
 system_of region = record {
-    flags = 0; hypervisor_memory = hypervisor; debug_console = no_console; pci_mmconfig_base = 0; pci_mmconfig_end_bus = 0;
-    pci_is_virtual = 0; pci_domain = 0; root_head = zeros 8; root = root_of region
-  }
+  flags = 0;
+  hypervisor_memory = hypervisor;
+  debug_console = no_console;
+  pci_mmconfig_base = 0;
+  pci_mmconfig_end_bus = 0;
+  pci_is_virtual = 0;
+  pci_domain = 0;
+  root_head = zeros 8;
+  root = root_of region;
+}
 
 -- the bytes are a system's file in the first form, and this is the system
 pub record IsSystem (bytes : List ℕ) (system : SystemConfig) : Type 0 where

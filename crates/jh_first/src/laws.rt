@@ -9,17 +9,14 @@ ghost use Rattle.jh_first.specs.System.{IsSystem};
 /// A board has one pair of names.
 pub fn one_board()
     ensures { (bytes : List ℕ) (a b : Names) → IsBoard bytes a → IsBoard bytes b → a ≡ b }
-{
-}
+{}
 
 /// A system's file tells of one system.
 pub fn one_system()
     ensures { (bytes : List ℕ) (a b : SystemConfig) → IsSystem bytes a → IsSystem bytes b → a ≡ b }
-{
-}
+{}
 
 /// A program's text has one list of operations.
 pub fn one_program()
     ensures { (bytes : List ℕ) (a b : List Op) → IsProgram bytes a → IsProgram bytes b → a ≡ b }
-{
-}
+{}

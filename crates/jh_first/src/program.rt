@@ -40,10 +40,7 @@ pub fn read_program(alloc: Global, bytes: &[u8]) -> Result<Option<Seq<Op>>, NoMe
 
 /// The operation of the first line, and what stands behind the line; `None` where the text begins with the
 /// line of no operation. What `printed` holds before and after doesn't matter.
-fn first_line<'a>(
-    printed: &mut String,
-    text: &'a [u8],
-) -> Result<Option<(Op, &'a [u8])>, NoMemory>
+fn first_line<'a>(printed: &mut String, text: &'a [u8]) -> Result<Option<(Op, &'a [u8])>, NoMemory>
     ensures first { IfOk result (λ found. IfSome found (λ x. IsFirstOp x.0)) }
     ensures whole { IfOk result (λ found. IfSome found (λ x. text.now ≡ op_line x.0 ++ x.1.now)) }
     ensures none { IfOk result (λ found. IfNone found (BeginsWithNoLine text.now)) }

@@ -1,4 +1,4 @@
-use Rattle.std.proofs.Common.{rules, arith, ◌≡◌, ◌≢◌, true, false, None, Some, sym, ◌∙◌}
+use Rattle.std.proofs.Common.{rules, arith, ◌≡◌, true, false, None, Some, sym, ◌∙◌}
 use Rattle.std.proofs.lemmas.Grind.{common_steps}
 use Rattle.std.specs.Str.{bytes_eq}
 use Rattle.std.proofs.lemmas.Slice.Eq.{bytes_eq-Decides}
@@ -27,7 +27,7 @@ returns-then-not-is-clause-none c =
     let shown : c.as_str.result.now ≡ op_text c.in-Some-op.op = grind (arith, common_steps) in
     let differ : bytes_eq front c.as_str.result.now ≡ false = search rules in
     no_line_other c.args.text.now front c.in-Some.rest.now c.in-Some-op.op split told
-        (λ e. false≢true (sym differ ∙ (bytes_eq-Decides front c.as_str.result.now).1 (sym e ∙ sym shown)))
+    (λ e. false≢true (sym differ ∙ (bytes_eq-Decides front c.as_str.result.now).1 (sym e ∙ sym shown)))
 
 pub returns-clause-whole : goal.returns-clause-whole
 returns-clause-whole c =
@@ -36,4 +36,4 @@ returns-clause-whole c =
     let shown : c.as_str.result.now ≡ op_text c.in-Some-op.op = grind (arith, common_steps) in
     let same : bytes_eq front c.as_str.result.now ≡ true = search rules in
     line_found c.args.text.now front c.in-Some.rest.now c.in-Some-op.op split
-        (sym shown ∙ sym ((bytes_eq-Decides front c.as_str.result.now).0 same))
+    (sym shown ∙ sym ((bytes_eq-Decides front c.as_str.result.now).0 same))

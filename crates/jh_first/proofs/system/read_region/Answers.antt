@@ -1,4 +1,4 @@
-use Rattle.std.proofs.Common.{rules, arith, ◌≡◌, ℕ, ◌<◌, ◌++◌, true, false, length, get_or, take, drop, sym, ap, ◌∙◌, subst}
+use Rattle.std.proofs.Common.{rules, arith, ◌≡◌, ℕ, ◌<◌, ◌++◌, length, get_or, drop, sym, ap, ◌∙◌, subst}
 use Rattle.std.proofs.lemmas.Bool.{false≢true}
 use Rattle.std.proofs.lemmas.Slice.Eq.{bytes_eq-Decides}
 use Rattle.jh_cellcfg.specs.declared.region.Region.{Region}
@@ -26,6 +26,6 @@ returns-else-eq c = λ r h e.
     let head : c.as_slice.result.now ≡ system_head ++ root_bytes = search rules in
     let front : c.split_at.result.0.now ≡ c.as_slice.result.now = c.split_at.ensures.front ∙ system_front bytes r e ∙ sym head in
     elim c.else-eq.branch [
-        else-eq-via-then-eq+else-is_first_region w ↦ w.if-is_first_region.ensures (let P : Region → Type 0 = λ x. IsFirstRegion x in subst P same h)
+      | else-eq-via-then-eq+else-is_first_region w ↦ w.if-is_first_region.ensures (let P : Region → Type 0 = λ x. IsFirstRegion x in subst P same h)
       | else-eq-via-else-eq w ↦ false≢true (w.if-eq.ensures ∙ (bytes_eq-Decides c.split_at.result.0.now c.as_slice.result.now).1 front)
     ]
