@@ -1,6 +1,6 @@
 -- How the readers find what a file may tell, as functions on lists. They may find something where the file isn't in
 -- the first form: the readers then see that its text is another. No public clause rests on this file.
-use Rattle.std.specs.Prelude.{◌≡◌, ◌&&◌, ℕ, ◌+◌, ◌-◌, ◌*◌, ◌^◌, Bool, ◌||◌, ◌==◌, nat_le, nat_lt, if◌then◌else◌, Option, Some, None, option_and_then, option_map, position, List, [], ◌∷◌, take, drop, codes}
+use Rattle.std.specs.Prelude.{◌≡◌, ◌&&◌, ℕ, ◌+◌, ◌-◌, ◌*◌, ◌^◌, ◌==◌, nat_le, nat_lt, if◌then◌else◌, Option, Some, None, option_and_then, option_map, position, List, [], ◌∷◌, take, drop, codes}
 use Rattle.std.specs.Char.{digit_value}
 use Rattle.std.specs.Int.{w64, from_le_bytes}
 use Rattle.std.specs.Str.{bytes_eq}

@@ -1,6 +1,7 @@
 //! Files just inside and just outside the first form.
 
 use crate::{make_image, read_board, read_program, read_system};
+use byteorder::{ByteOrder, LittleEndian};
 use jh_script::Op;
 use std::alloc::Global;
 use std::test::Fail;
@@ -37,8 +38,14 @@ const SIZE: usize = 244;
 
 const FLAGS: usize = 252;
 
+/// A place behind the file.
+const NOWHERE: usize = 260;
+
 /// A name of 64 bytes.
 const LONG: &str = "0123456789abcdefghijklmnopqrstuvwxyzABCDEFGHIJKLMNOPQRSTUVWXYZ.-";
+
+/// A name of 65 bytes.
+const LONGER: &str = "0123456789abcdefghijklmnopqrstuvwxyzABCDEFGHIJKLMNOPQRSTUVWXYZ.-_";
 
 #[test]
 fn the_names_of_a_board_are_told_in_their_places(rt: HostRuntime) -> Result<(), Fail> {
@@ -60,6 +67,8 @@ fn boards_are_told_by_their_names_and_their_text(rt: HostRuntime) -> Result<(), 
         ("s", "p", "}]} ", false),
         ("s", "p", "}]", false),
         (LONG, LONG, "}]}", true),
+        (LONGER, "p", "}]}", false),
+        ("s", LONGER, "}]}", false),
         ("", "p", "}]}", false),
         ("s", "", "}]}", false),
         ("a/b", "p", "}]}", false),
@@ -83,30 +92,23 @@ fn boards_are_told_by_their_names_and_their_text(rt: HostRuntime) -> Result<(), 
 fn texts_of_other_forms_are_no_boards(rt: HostRuntime) -> Result<(), Fail> {
     for text in [
         "",
-        "{\"system\": \"s\",\"programs\":[{\"cell\":\"root\",\"cpu\":0,\"file\":\"p\"}]}",
-        "{\"System\":\"s\",\"programs\":[{\"cell\":\"root\",\"cpu\":0,\"file\":\"p\"}]}",
-        "{\"system\":\"s\",\"programs\":[{\"cell\":\"root\",\"cpu\":1,\"file\":\"p\"}]}",
-        "{\"system\":\"s\",\"programs\":[{\"cell\":\"boot\",\"cpu\":0,\"file\":\"p\"}]}",
-        "{\"system\":\"s\",\"programs\":[{\"cpu\":0,\"cell\":\"root\",\"file\":\"p\"}]}",
         "{\"system\":\"s\",\"programs\":[]}",
-        // the names have 65 bytes
-        "{\"system\":\"0123456789abcdefghijklmnopqrstuvwxyzABCDEFGHIJKLMNOPQRSTUVWXYZ.-_\",\"programs\":[{\"cell\":\"root\",\"cpu\":0,\"file\":\"p\"}]}",
-        "{\"system\":\"s\",\"programs\":[{\"cell\":\"root\",\"cpu\":0,\"file\":\"0123456789abcdefghijklmnopqrstuvwxyzABCDEFGHIJKLMNOPQRSTUVWXYZ.-_\"}]}",
+        "{\"system\": \"s\",\"programs\":[{\"cell\":\"root\",\"cpu\":0,\"file\":\"p\"}]}",
+        "{\"system\":\"s\",\"programs\":[{\"cell\":\"root\",\"cpu\":1,\"file\":\"p\"}]}",
     ] {
         assert!(rt; read_board(rt.alloc(), text.as_bytes())?.is_none());
     }
     Ok(())
 }
 
-/// The file with other bytes of the region and of the rest.
-fn changed(start: [u8; 4], size: [u8; 4], at: usize, byte: u8) -> [u8; 260] {
+/// The file with a region that begins and is as long as this, and with another byte where there is such a
+/// place.
+fn changed(start: u32, size: u32, at: usize, byte: u8) -> [u8; 260] {
     let mut bytes = *TINY;
-    for i in 0..4 {
-        bytes[PHYS_START + i] = start[i];
-        bytes[VIRT_START + i] = start[i];
-        bytes[SIZE + i] = size[i];
-    }
-    if at < 260 {
+    LittleEndian::write_u32(&mut bytes[PHYS_START..], start);
+    LittleEndian::write_u32(&mut bytes[VIRT_START..], start);
+    LittleEndian::write_u32(&mut bytes[SIZE..], size);
+    if at < NOWHERE {
         bytes[at] = byte;
     }
     bytes
@@ -115,38 +117,19 @@ fn changed(start: [u8; 4], size: [u8; 4], at: usize, byte: u8) -> [u8; 260] {
 #[test]
 fn systems_are_told_by_their_region(rt: HostRuntime) -> Result<(), Fail> {
     for (start, size, at, byte, is_system) in [
-        ([0, 0, 0, 0x40], [0, 0, 0xc0, 0x3f], 260, 0, true),
-        ([0, 0, 0, 0x40], [0, 0x10, 0, 0], 260, 0, true),
-        ([0, 0, 0, 0x40], [0, 0, 0, 0], 260, 0, false),
-        ([0, 0, 0, 0x40], [0, 8, 0, 0], 260, 0, false),
-        ([0, 0, 0, 0x40], [0, 0x10, 0xc0, 0x3f], 260, 0, false),
-        ([0, 0x10, 0, 0x40], [0, 0, 0xc0, 0x3f], 260, 0, false),
-        ([0, 0x10, 0, 0x40], [0, 0xf0, 0xbf, 0x3f], 260, 0, true),
-        ([0, 8, 0, 0x40], [0, 0x10, 0, 0], 260, 0, false),
-        ([0, 0, 0, 0], [0, 0, 0xc0, 0x7f], 260, 0, true),
-        ([0, 0xf0, 0xbf, 0x7f], [0, 0x10, 0, 0], 260, 0, true),
-        ([0, 0, 0xc0, 0x7f], [0, 0x10, 0, 0], 260, 0, false),
-        (
-            [0, 0, 0, 0x40],
-            [0, 0x10, 0, 0],
-            PHYS_START + 1,
-            0x10,
-            false,
-        ),
-        (
-            [0, 0, 0, 0x40],
-            [0, 0x10, 0, 0],
-            VIRT_START + 1,
-            0x10,
-            false,
-        ),
-        ([0, 0, 0, 0x40], [0, 0x10, 0, 0], SIZE + 7, 0x80, false),
-        ([0, 0, 0, 0x40], [0, 0x10, 0, 0], FLAGS, 7, false),
-        ([0, 0, 0, 0x40], [0, 0x10, 0, 0], FLAGS + 7, 1, false),
-        ([0, 0, 0, 0x40], [0, 0x10, 0, 0], 0, b'K', false),
-        ([0, 0, 0, 0x40], [0, 0x10, 0, 0], 6, 12, false),
-        ([0, 0, 0, 0x40], [0, 0x10, 0, 0], 88, 1, false),
-        ([0, 0, 0, 0x40], [0, 0x10, 0, 0], 227, 1, false),
+        (0x4000_0000, 0x3fc0_0000, NOWHERE, 0, true),
+        (0x4000_0000, 0, NOWHERE, 0, false),
+        (0x4000_0000, 0x800, NOWHERE, 0, false),
+        (0x4000_1000, 0x3fc0_0000, NOWHERE, 0, false),
+        (0x4000_1000, 0x3fbf_f000, NOWHERE, 0, true),
+        (0x4000_0800, 0x1000, NOWHERE, 0, false),
+        (0, 0x7fc0_0000, NOWHERE, 0, true),
+        (0x7fbf_f000, 0x1000, NOWHERE, 0, true),
+        (0x4000_0000, 0x1000, PHYS_START + 1, 0x10, false),
+        (0x4000_0000, 0x1000, VIRT_START + 1, 0x10, false),
+        (0x4000_0000, 0x1000, FLAGS, 7, false),
+        (0x4000_0000, 0x1000, 0, b'K', false),
+        (0x4000_0000, 0x1000, 227, 1, false),
     ] {
         let bytes = changed(start, size, at, byte);
         assert_eq!(rt;
@@ -242,20 +225,9 @@ fn a_program_has_4096_lines_at_most(rt: HostRuntime) -> Result<(), Fail> {
 }
 
 #[test]
-fn files_make_an_image(rt: HostRuntime) -> Result<(), Fail> {
+fn the_operations_of_a_program_are_told_in_order(rt: HostRuntime) -> Result<(), Fail> {
     let text = b"write 8 0x40000000 0x1122334455667788\nread 4 0x40000004\n";
-    let system = read_system(rt.alloc(), TINY.as_slice())?.ok_or("no system")?;
     let ops = read_program(rt.alloc(), text.as_slice())?.ok_or("no program")?;
-    let image = make_image(rt.alloc(), system, ops)?;
-    assert_eq!(rt; image.system.hypervisor_memory.phys_start, 0x7fc0_0000);
-    assert_eq!(rt; image.system.hypervisor_memory.size, 0x40_0000);
-    let regions = image.system.root.memory_regions.as_slice();
-    assert_eq!(rt; regions.len(), 1);
-    assert_eq!(rt; regions[0].virt_start, 0x4000_0000);
-    assert_eq!(rt; regions[0].size, 0x3fc0_0000);
-    let programs = image.programs.as_slice();
-    assert_eq!(rt; programs.len(), 1);
-    assert_eq!(rt; programs[0].cell.as_slice(), b"root".as_slice());
     let write = Op::Write {
         width: 8,
         at: 0x4000_0000,
@@ -265,6 +237,17 @@ fn files_make_an_image(rt: HostRuntime) -> Result<(), Fail> {
         width: 4,
         at: 0x4000_0004,
     };
-    assert_eq!(rt; programs[0].ops.as_slice(), [write, read].as_slice());
+    assert_eq!(rt; ops.as_slice(), [write, read].as_slice());
+    Ok(())
+}
+
+#[test]
+fn files_make_an_image(rt: HostRuntime) -> Result<(), Fail> {
+    let file = changed(0x4000_0000, 0x3fc0_0000, NOWHERE, 0);
+    let system = read_system(rt.alloc(), file.as_slice())?.ok_or("no system")?;
+    let ops = read_program(rt.alloc(), b"read 4 0x0\n")?.ok_or("no program")?;
+    let image = make_image(rt.alloc(), system, ops)?;
+    assert_eq!(rt; image.system.root.memory_regions.len(), 1);
+    assert_eq!(rt; image.programs.len(), 1);
     Ok(())
 }

@@ -1,4 +1,4 @@
-use Rattle.std.proofs.Common.{rules, ◌≡◌, ◌++◌, [], ◌∷◌, None, Some, ◌⊎◌, sym, ◌∙◌, subst, string_bytes}
+use Rattle.std.proofs.Common.{rules, ◌≡◌, ◌++◌, [], ◌∷◌, None, ◌⊎◌, sym, ◌∙◌, subst, string_bytes}
 use Rattle.std.proofs.lemmas.Bool.{false≢true}
 use Rattle.jh_first.specs.Board.{Names, board_text}
 use Rattle.jh_first.specs.Reading.{names_of}

@@ -1,4 +1,4 @@
-use Rattle.std.proofs.Common.{rules, ◌≡◌, [], ◌∷◌, List}
+use Rattle.std.proofs.Common.{rules, ◌≡◌, [], ◌∷◌}
 use Rattle.std.specs.Prelude.{codes}
 use Rattle.jh_script.specs.declared.image.Program.{Program}
 use Rattle.jh_first.proofs.Images.{image_admitted, image_from}

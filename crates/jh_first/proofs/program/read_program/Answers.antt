@@ -1,4 +1,4 @@
-use Rattle.std.proofs.Common.{rules, arith, ◌≡◌, ◌≢◌, ◌++◌, ◌<◌, length}
+use Rattle.std.proofs.Common.{rules, ◌≡◌, ◌≢◌, ◌++◌, ◌<◌, length}
 use Rattle.jh_first.specs.Lines.{BeginsWithNoLine}
 use Rattle.jh_first.specs.Program.{IsFirstOp, op_line}
 use Rattle.jh_first.proofs.Programs.{stands_on, stands_badly}
