@@ -1,0 +1,6 @@
+pub mod AnyLemmas
+pub mod HoldersLemmas
+pub mod WantLemmas
+pub mod SteadyLemmas
+pub mod CountLemmas
+pub mod OrderLemmas

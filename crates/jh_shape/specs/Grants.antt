@@ -1,0 +1,2 @@
+-- What a cell is granted, byte by byte.
+use Rattle.std.specs.Prelude.{◌≡◌, ℕ, Bool, IsTrue}
