@@ -4,3 +4,4 @@ pub mod WantLemmas
 pub mod SteadyLemmas
 pub mod CountLemmas
 pub mod OrderLemmas
+pub mod GrantLemmas

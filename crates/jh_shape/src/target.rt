@@ -40,6 +40,7 @@ impl<'a> Target<'a> {
     ghost use Rattle.jh_shape.specs.Claims.{held_from, one_more};
     ghost use Rattle.jh_cellcfg.specs.Regions.{is_comm, place_in};
     ghost use Rattle.jh_shape.specs.Shapes.{are_cut, is_closed, may_be_block, is_leaf_by, leaf_region, is_met, is_met_by, is_table, leaf_of, slot_size, want_of};
+    ghost use Rattle.jh_shape.specs.Grants.{Tells};
     ghost use Rattle.jh_shape.specs.Suits.{IsSound, IsSlot};
     ghost use Rattle.jh_shape.specs.Pages.{tables_at, tables_of};
 
@@ -207,7 +208,8 @@ impl<'a> Target<'a> {
         requires cells { length self.now.cells.now ≤ 15 }
         requires sound { IsSound (claims_of self.now) }
         requires slot { IsSlot level start }
-        ensures { result ≡ want_of (claims_of self.now) level start }
+        ensures value { result ≡ want_of (claims_of self.now) level start }
+        ensures tells { Tells (claims_of self.now) level start result }
     {
         match self.leaf_region(level, start) {
             Some(region) => self.leaf_of(&region, start),
