@@ -12,3 +12,6 @@ pub use laws::{a_new_cell_frees_no_page, loadable_cells_change_no_shape};
 pub use level::{FIRST_LEVEL, LAST_LEVEL};
 pub use target::Target;
 pub use want::Want;
+
+#[cfg(test)]
+mod tests;
