@@ -1,23 +1,22 @@
 -- A descriptor tells of its slot what each byte is granted.
-use Rattle.std.proofs.Common.{◌≡◌, ℕ, ◌+◌, ◌-◌, ◌*◌, ◌<◌, ◌≤◌, ◌==◌, ◌%◌, ◌^◌, zero, suc, Bool, true, false, not, ◌&&◌, ◌||◌, cond, nat_lt, nat_le, List, [], ◌∷◌, length, get_or, Option, Some, None, All, AllPairs, Contains, IsTrue, ⊎_elim, refl, sym, ap, subst, ◌∙◌, arith}
+use Rattle.std.proofs.Common.{◌≡◌, ℕ, ◌+◌, ◌-◌, ◌*◌, ◌<◌, ◌≤◌, ◌==◌, ◌%◌, ◌^◌, Bool, true, false, not, ◌&&◌, ◌||◌, cond, nat_lt, nat_le, List, [], ◌∷◌, get_or, Some, None, AllPairs, Contains, IsTrue, ⊎_elim, refl, sym, ap, subst, ◌∙◌, arith}
 use Rattle.std.specs.Option.{is_none}
-use Rattle.std.specs.List.{find, list_any}
-use Rattle.std.proofs.lemmas.Bool.{and_parts, and_from, or_parts, or_cases, or_left, or_right, cases_Bool, cases_order, both_ways, not-true, not_from_false, ltb-true, leb-true, lt-ltb, le-leb, and_right, cond-true, cond-false, eqb-true, cases_eq, eq-eqb}
+use Rattle.std.specs.List.{list_any}
+use Rattle.std.proofs.lemmas.Bool.{and_parts, and_from, or_parts, or_cases, or_left, cases_Bool, cases_order, both_ways, not-true, not_from_false, ltb-true, leb-true, lt-ltb, le-leb, and_right, cond-true, cond-false, eqb-true, cases_eq, eq-eqb}
 use Rattle.std.proofs.Math.Nat.{pow-le-pow_right}
 use Rattle.std.proofs.lemmas.Nat.{pow_pos}
 use Rattle.std.proofs.lemmas.List.{get_or_default}
 use Rattle.std.proofs.lemmas.List.Elements.{All-contains_itself}
 use Rattle.std.proofs.lemmas.List.Folds.{list_any_at, Any-from_list_any}
-use Rattle.jh_num.specs.declared.rights.Rights.{Rights}
 use Rattle.jh_cellcfg.specs.declared.region.Region.{Region}
 use Rattle.jh_cellcfg.specs.Regions.{virt_end, phys_end, has_address, has_place, place_in, is_comm, is_page_mapped, is_unshared, is_loadable, is_device, may_have_blocks, rights_of}
 use Rattle.jh_shape.specs.declared.want.Want.{Want}
-use Rattle.jh_shape.specs.declared.want.Want.TheVariants.{Nothing, Table, Leaf}
+use Rattle.jh_shape.specs.declared.want.Want.TheVariants.{Nothing, Leaf}
 use Rattle.jh_shape.specs.Claims.{Claims, Holder}
 use Rattle.jh_shape.specs.Intervals.{touches, spans}
-use Rattle.jh_shape.specs.Shapes.{slot_size, is_mapped, meets_in_part, are_cut, takes, is_closed, may_be_block, is_leaf_by, leaf_region, is_met, is_met_by, is_kept_from, leaf_of, not_leaf, want_from, want_of, out_of}
+use Rattle.jh_shape.specs.Shapes.{slot_size, is_mapped, meets_in_part, are_cut, takes, is_closed, may_be_block, is_leaf_by, leaf_region, is_met, is_met_by, is_kept_from, leaf_of, out_of}
 use Rattle.jh_shape.specs.Suits.{AreDisjoint, IsFit, IsWhole, IsSound, IsSlot}
-use Rattle.jh_shape.specs.Grants.{place_at, IsGrantedBy, IsGranted, Tells}
+use Rattle.jh_shape.specs.Grants.{place_at, Tells}
 use Rattle.jh_shape.proofs.WantLemmas.{LeafBy, found, leaf_parts}
 use Rattle.jh_shape.proofs.OrderLemmas.{same_test}
 use Rattle.jh_shape.proofs.SteadyLemmas.{place_later, is_none-find}

@@ -1,5 +1,5 @@
 //! Pages of the example cells, shapes of single slots, and descriptors.
-ghost use Rattle.std.specs.Prelude.{◌≡◌, ◌≤◌, length};
+ghost use Rattle.std.specs.Prelude.{◌≡◌, ◌≤◌, length, true, IfOk};
 ghost use Rattle.jh_shape.specs.Suits.{IsSlot};
 
 use crate::{Target, Want};
@@ -24,7 +24,9 @@ fn region(phys_start: u64, virt_start: u64, size: u64, flags: u64) -> Region
     }
 }
 
-fn cell(alloc: Global, regions: &[Region]) -> Result<CellConfig, AllocError> {
+fn cell(alloc: Global, regions: &[Region]) -> Result<CellConfig, AllocError>
+    ensures { IfOk result (λ cell. cell.memory_regions ≡ regions.now) }
+{
     Ok(CellConfig {
         name: [0; 32],
         id: 1,
@@ -217,4 +219,50 @@ fn descriptors_lead_down_to_pages(rt: HostRuntime) {
     assert_eq!(rt; small_want(3, BASE + 0x1000), leaf);
     assert_eq!(rt; small_want(3, BASE + 0x2000), Want::Nothing);
     assert_eq!(rt; small_want(1, 0), Want::Nothing);
+}
+
+/// Root beside cells of which the first holds.
+fn beside<'a>(regions: &'a [Region], cells: &'a [CellConfig], loadable: u16) -> Target<'a>
+    ensures regions { result.regions.now ≡ regions.now }
+    ensures cells { result.cells.now ≡ cells.now }
+    ensures root { result.root ≡ true }
+    ensures held { result.held ≡ 1 }
+    ensures loadable { result.loadable ≡ loadable }
+    ensures extra { result.extra ≡ None }
+    ensures comm { result.comm ≡ 0 }
+{
+    Target {
+        regions,
+        root: true,
+        cells,
+        held: 1,
+        loadable,
+        extra: None,
+        comm: 0,
+    }
+}
+
+/// Root's descriptor of a slot that one other cell holds whole, in a region that may be loadable.
+fn taken_want(alloc: Global, loadable: u16) -> Result<Want, AllocError> {
+    let cells = [cell(alloc, &[region(BASE, 0, BLOCK, 0x47)])?];
+    let regions = [region(BASE, BASE, BLOCK, 7)];
+    let target = beside(&regions, &cells, loadable);
+    Ok(target.want(2, BASE))
+}
+
+#[test]
+fn root_keeps_a_loadable_region_while_it_loads(rt: HostRuntime) -> Result<(), Fail> {
+    assert_eq!(rt; taken_want(rt.alloc(), 0)?, Want::Nothing);
+    let rights = Rights {
+        read: true,
+        write: true,
+        execute: true,
+    };
+    let leaf = Want::Leaf {
+        out: BASE,
+        rights,
+        device: false,
+    };
+    assert_eq!(rt; taken_want(rt.alloc(), 1)?, leaf);
+    Ok(())
 }

@@ -1,4 +1,4 @@
-use Rattle.std.proofs.Common.{◌≡◌, ℕ, ◌+◌, ◌-◌, ◌*◌, ◌^◌, ◌%◌, ◌≤◌, zero, suc, refl, arith}
+use Rattle.std.proofs.Common.{◌≡◌, ℕ, ◌-◌, ◌*◌, ◌^◌, ◌%◌, ◌≤◌, zero, suc, refl, arith}
 use Rattle.jh_shape.specs.Shapes.{slot_size}
 use Rattle.jh_shape.proofs.level.slot_size.Goals as goal
 

@@ -1,4 +1,4 @@
-use Rattle.std.proofs.Common.{◌≡◌, ℕ, ◌++◌, drop}
+use Rattle.std.proofs.Common.{◌≡◌, ◌++◌, drop}
 use Rattle.jh_shape.specs.Claims.{held_from, one_more}
 use Rattle.jh_shape.specs.Shapes.{is_closed}
 use Rattle.jh_shape.proofs.target.Target.is_closed.Given as goal

@@ -2,7 +2,7 @@ use Rattle.std.proofs.Common.{◌≡◌, true, not, ◌&&◌, sym, ap, ◌∙◌
 use Rattle.std.specs.Option.{is_none}
 use Rattle.jh_cellcfg.specs.declared.region.Region.{Region}
 use Rattle.jh_shape.specs.Claims.{claims_of}
-use Rattle.jh_shape.specs.Shapes.{is_leaf, is_leaf_by, is_met, is_table}
+use Rattle.jh_shape.specs.Shapes.{is_leaf, is_leaf_by, is_met}
 use Rattle.jh_shape.proofs.SteadyLemmas.{is_none-find}
 use Rattle.jh_shape.proofs.target.Target.is_table.Goals as goal
 

@@ -1,4 +1,4 @@
-use Rattle.jh_shape.proofs.HoldersLemmas.{SteadyCells, steady_one_more, steady_all}
+use Rattle.jh_shape.proofs.HoldersLemmas.{steady_one_more, steady_all}
 use Rattle.jh_shape.proofs.target.Target.steady_places.Goals as goal
 
 pub loop-i-preserved : goal.loop-i-preserved
