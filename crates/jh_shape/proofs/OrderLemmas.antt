@@ -1,0 +1,181 @@
+-- Holders that cut more leave fewer leaves and more tables.
+use Rattle.std.proofs.Common.{◌≡◌, ℕ, ◌+◌, ◌-◌, ◌*◌, ◌/◌, ◌≤◌, ◌==◌, ◌%◌, zero, suc, Bool, true, false, not, ◌&&◌, ◌||◌, cond, nat_lt, List, [], ◌∷◌, ◌++◌, map, ⊎_elim, refl, sym, ap, subst, ◌∙◌, arith}
+use Rattle.std.specs.List.{list_any}
+use Rattle.std.proofs.lemmas.Bool.{and_parts, and_from, or_cases, or_left, or_right, cases_Bool, both_ways, false_from_ne_true, not-true, not_from_false}
+use Rattle.std.proofs.lemmas.List.{map-append}
+use Rattle.std.proofs.lemmas.List.Sums.{sum_by-append}
+use Rattle.jh_num.specs.declared.address.TheConstants.{ADDRESS_END}
+use Rattle.jh_cellcfg.specs.declared.config.CellConfig.{CellConfig}
+use Rattle.jh_cellcfg.specs.declared.region.Region.{Region}
+use Rattle.jh_cellcfg.specs.Regions.{virt_end, is_comm, may_have_blocks, place_in}
+use Rattle.jh_shape.specs.declared.target.Target.{Target}
+use Rattle.jh_shape.specs.declared.level.TheConstants.{FIRST_LEVEL, LAST_LEVEL}
+use Rattle.jh_shape.specs.Claims.{Claims, Holder, has_bit, held_from, one_more, claims_of}
+use Rattle.jh_shape.specs.Intervals.{spans}
+use Rattle.jh_shape.specs.Shapes.{slot_size, is_mapped, meets_in_part, are_cut, may_be_block, is_leaf_by, is_leaf, is_met, is_met_by, is_table}
+use Rattle.jh_shape.specs.Pages.{count_below, tables_at, tables_from, tables_of, holder_of, root_claims, cell_claims, pages_of}
+use Rattle.jh_shape.proofs.HoldersLemmas.{are_cut-append}
+
+-- the same cell, whose second holders cut whatever the first cut
+pub record CutsMore (few many : Claims) : Type 0 where
+  pub regions : many.regions ≡ few.regions
+  pub root : many.root ≡ few.root
+  pub cut : (place size : ℕ) → are_cut few.holders place size ≡ true → are_cut many.holders place size ≡ true
+
+-- a test that gets stricter
+any_weaker : (p q : Region → Bool) → ((r : Region) → p r ≡ true → q r ≡ true) → (xs : List Region) → list_any p xs ≡ true → list_any q xs ≡ true
+any_weaker p q h [] e = e
+any_weaker p q h (x ∷ xs) e =
+    ⊎_elim
+    (λ yes. or_left (q x) (list_any q xs) (h x yes))
+    (λ rest. or_right (q x) (list_any q xs) (any_weaker p q h xs rest))
+    (or_cases (p x) (list_any p xs) e)
+
+not_both : (root root' cut cut' : Bool) → root' ≡ root → (cut ≡ true → cut' ≡ true) → not (root' && cut') ≡ true → not (root && cut) ≡ true
+not_both root root' cut cut' same h e =
+    ⊎_elim
+    (λ yes.
+    let p = and_parts root cut yes in
+    let both : (root' && cut') ≡ true = and_from root' cut' (same ∙ p.0) (h p.1) in
+    absurd (both_ways (root' && cut') (not-true (root' && cut') e) both))
+    (λ no. not_from_false (root && cut) no)
+    (cases_Bool (root && cut))
+
+block_fewer : (few many : Claims) → CutsMore few many → (level start : ℕ) (region : Region) → may_be_block many level start region ≡ true → may_be_block few level start region ≡ true
+block_fewer few many h level start region e =
+    let place = place_in region start in
+    let size = slot_size level in
+    let free : Claims → Bool = λ c. not (c.root && are_cut c.holders place size) in
+    let aligned = (region.phys_start % size) == (region.virt_start % size) in
+    let plain = not (is_comm region) in
+    let blocks = may_have_blocks region in
+    let a = and_parts (nat_lt 0 level) (blocks && (plain && (aligned && free many))) e in
+    let b = and_parts blocks (plain && (aligned && free many)) a.1 in
+    let c = and_parts plain (aligned && free many) b.1 in
+    let d = and_parts aligned (free many) c.1 in
+    let kept : free few ≡ true = not_both few.root many.root (are_cut few.holders place size) (are_cut many.holders place size) h.root (h.cut place size) d.1 in
+    and_from (nat_lt 0 level) (blocks && (plain && (aligned && free few))) a.0
+    (and_from blocks (plain && (aligned && free few)) b.0
+    (and_from plain (aligned && free few) c.0 (and_from aligned (free few) d.0 kept)))
+
+pub leaf_fewer : (few many : Claims) → CutsMore few many → (level start : ℕ) (region : Region) → is_leaf_by many level start region ≡ true → is_leaf_by few level start region ≡ true
+leaf_fewer few many h level start region e =
+    let s = spans region.virt_start (virt_end region) start (slot_size level) in
+    let last = level == 3 in
+    let bm = may_be_block many level start region in
+    let bf = may_be_block few level start region in
+    let a = and_parts (is_mapped region) (s && (last || bm)) e in
+    let b = and_parts s (last || bm) a.1 in
+    and_from (is_mapped region) (s && (last || bf)) a.0
+    (and_from s (last || bf) b.0
+    (⊎_elim
+    (λ yes. or_left last bf yes)
+    (λ block. or_right last bf (block_fewer few many h level start region block))
+    (or_cases last bm b.1)))
+
+pub any_leaf_fewer : (few many : Claims) → CutsMore few many → (level start : ℕ) → is_leaf many level start ≡ true → is_leaf few level start ≡ true
+any_leaf_fewer few many h level start e =
+    any_weaker (λ (region : Region). is_leaf_by many level start region) (λ (region : Region). is_leaf_by few level start region) (leaf_fewer few many h level start) few.regions
+    (let P : List Region → Type 0 = λ xs. list_any (λ (region : Region). is_leaf_by many level start region) xs ≡ true in subst P h.regions e)
+
+pub table_more : (few many : Claims) → CutsMore few many → (level start : ℕ) → is_table few level start ≡ true → is_table many level start ≡ true
+table_more few many h level start e =
+    let a = and_parts (is_met few level start) (not (is_leaf few level start)) e in
+    let met : is_met many level start ≡ true = (let P : List Region → Type 0 = λ xs. list_any (λ (region : Region). is_met_by level start region) xs ≡ true in subst P (sym h.regions) a.0) in
+    let none : is_leaf many level start ≡ false =
+    false_from_ne_true (is_leaf many level start) (λ yes. both_ways (is_leaf few level start) (not-true (is_leaf few level start) a.1) (any_leaf_fewer few many h level start yes)) in
+    and_from (is_met many level start) (not (is_leaf many level start)) met (not_from_false (is_leaf many level start) none)
+
+pub count_below-le_by : (p q : ℕ → Bool) → ((n : ℕ) → p n ≡ true → q n ≡ true) → (n : ℕ) → count_below p n ≤ count_below q n
+unfolding count_below
+count_below-le_by p q h zero = omega arith
+count_below-le_by p q h (suc n) = one (p n) (q n) (count_below p n) (count_below q n) (h n) (count_below-le_by p q h n)
+  where
+    one : (a b : Bool) (m n : ℕ) → (a ≡ true → b ≡ true) → m ≤ n → m + cond a 1 0 ≤ n + cond b 1 0
+    one true true m n i l = omega arith
+    one true false m n i l = absurd (both_ways false refl (i refl))
+    one false true m n i l = omega arith
+    one false false m n i l = omega arith
+
+tables_at-more : (few many : Claims) → CutsMore few many → (level : ℕ) → tables_at few level ≤ tables_at many level
+unfolding tables_at
+tables_at-more few many h level =
+    count_below-le_by (λ n. is_table few level (n * slot_size level)) (λ n. is_table many level (n * slot_size level)) (λ n. table_more few many h level (n * slot_size level)) (ADDRESS_END / slot_size level)
+
+tables_from-more : (few many : Claims) → CutsMore few many → (level more : ℕ) → tables_from few level more ≤ tables_from many level more
+tables_from-more few many h level zero = omega arith
+tables_from-more few many h level (suc more) =
+    let a = tables_at-more few many h level in let b = tables_from-more few many h (level + 1) more in omega arith
+
+pub tables_of-more : (few many : Claims) → CutsMore few many → tables_of few ≤ tables_of many
+unfolding tables_of
+tables_of-more few many h = let a = tables_from-more few many h FIRST_LEVEL (LAST_LEVEL - FIRST_LEVEL) in omega arith
+
+-- one cell more among the holders
+new_cell : (regions : List Region) (cells : List CellConfig) (new : CellConfig) → CutsMore (root_claims regions cells) (root_claims regions (cells ++ new ∷ []))
+new_cell regions cells new =
+    record {
+      regions = refl;
+      root = refl;
+      cut = λ place size e.
+          ap (λ hs. are_cut hs place size) (map-append holder_of cells (new ∷ []))
+          ∙ are_cut-append (map holder_of cells) (map holder_of (new ∷ [])) place size
+          ∙ or_left (are_cut (map holder_of cells) place size) (are_cut (map holder_of (new ∷ [])) place size) e;
+    }
+
+pub pages_of-more : (regions : List Region) (cells : List CellConfig) (new : CellConfig) → pages_of regions cells ≤ pages_of regions (cells ++ new ∷ [])
+pages_of-more regions cells new =
+    let a = tables_of-more (root_claims regions cells) (root_claims regions (cells ++ new ∷ [])) (new_cell regions cells new) in
+    let b = sum_by-append (λ (cell : CellConfig). tables_of (cell_claims cell) + 1) cells (new ∷ []) in
+    omega arith
+
+-- two tests that hold together are equal
+pub same_test : (a b : Bool) → (a ≡ true → b ≡ true) → (b ≡ true → a ≡ true) → a ≡ b
+same_test true b h k = sym (h refl)
+same_test false true h k = k refl
+same_test false false h k = refl
+
+-- cells that hold the same regions, loadable or not
+cut_alike : (b : Bool) (regions : List Region) (one other : Bool) (xs ys : List Holder) (place size : ℕ) → are_cut xs place size ≡ are_cut ys place size → are_cut (cond b (record { regions = regions; loadable = one } ∷ xs) xs) place size ≡ are_cut (cond b (record { regions = regions; loadable = other } ∷ ys) ys) place size
+cut_alike true regions one other xs ys place size e = ap (λ v. list_any (λ (region : Region). meets_in_part region place size) regions || v) e
+cut_alike false regions one other xs ys place size e = e
+
+held_alike : (held one other index : ℕ) (cells : List CellConfig) (place size : ℕ) → are_cut (held_from held one index cells) place size ≡ are_cut (held_from held other index cells) place size
+held_alike held one other index [] place size = refl
+held_alike held one other index (cell ∷ cells) place size =
+    cut_alike (has_bit held index) cell.memory_regions (has_bit one index) (has_bit other index) (held_from held one (index + 1) cells) (held_from held other (index + 1) cells) place size
+    (held_alike held one other (index + 1) cells place size)
+
+-- the same target with other cells loadable
+abbrev pub with_loadable : Target → ℕ → Claims
+with_loadable target loadable = claims_of (record target { loadable = loadable })
+
+loadable_alike : (target : Target) (one other : ℕ) → CutsMore (with_loadable target one) (with_loadable target other)
+loadable_alike target one other =
+    record {
+      regions = refl;
+      root = refl;
+      cut = λ place size e.
+          are_cut-append (held_from target.held other 0 target.cells.now) (one_more target.extra) place size
+          ∙ ap (λ v. v || are_cut (one_more target.extra) place size) (held_alike target.held other one 0 target.cells.now place size)
+          ∙ sym (are_cut-append (held_from target.held one 0 target.cells.now) (one_more target.extra) place size)
+          ∙ e;
+    }
+
+pub leaves_alike : (target : Target) (one other level start : ℕ) → is_leaf (with_loadable target one) level start ≡ is_leaf (with_loadable target other) level start
+leaves_alike target one other level start =
+    same_test _ _
+    (any_leaf_fewer (with_loadable target other) (with_loadable target one) (loadable_alike target other one) level start)
+    (any_leaf_fewer (with_loadable target one) (with_loadable target other) (loadable_alike target one other) level start)
+
+pub tables_alike : (target : Target) (one other level start : ℕ) → is_table (with_loadable target one) level start ≡ is_table (with_loadable target other) level start
+tables_alike target one other level start =
+    same_test _ _
+    (table_more (with_loadable target one) (with_loadable target other) (loadable_alike target one other) level start)
+    (table_more (with_loadable target other) (with_loadable target one) (loadable_alike target other one) level start)
+
+pub pages_alike : (target : Target) (one other : ℕ) → tables_of (with_loadable target one) ≡ tables_of (with_loadable target other)
+pages_alike target one other =
+    let a = tables_of-more (with_loadable target one) (with_loadable target other) (loadable_alike target one other) in
+    let b = tables_of-more (with_loadable target other) (with_loadable target one) (loadable_alike target other one) in
+    omega arith

@@ -1,0 +1,47 @@
+-- What a cell's tables are made from.
+use Rattle.std.specs.Prelude.{ℕ, ◌+◌, Bool, false, List, [], ◌∷◌, ◌++◌, Option, Some, None, nat_eq, if◌then◌else◌}
+use Rattle.std.specs.Borrow.{Bor}
+use Rattle.std.specs.Int.{bit_at}
+use Rattle.jh_cellcfg.specs.declared.config.CellConfig.{CellConfig}
+use Rattle.jh_cellcfg.specs.declared.region.Region.{Region}
+use Rattle.jh_shape.specs.declared.target.Target.{Target}
+
+-- a live cell besides root, as far as root's tables depend on it
+pub record Holder : Type 0 where
+  pub regions : List Region
+  pub loadable : Bool
+
+-- the regions of the cell, whether it is root, the other live cells besides root, and where the cell's
+-- communication page lies
+pub record Claims : Type 0 where
+  pub regions : List Region
+  pub root : Bool
+  pub holders : List Holder
+  pub comm : ℕ
+
+-- the bit of that number is set
+abbrev pub has_bit : ℕ → ℕ → Bool
+has_bit mask index = nat_eq (bit_at mask index) 1
+
+-- the cells whose bit is set in `held`, counted from `index` on; those are loadable whose bit is set in
+-- `loadable`
+abbrev pub held_from : ℕ → ℕ → ℕ → List CellConfig → List Holder
+held_from held loadable index [] = []
+held_from held loadable index (cell ∷ cells) =
+    if has_bit held index
+    then record { regions = cell.memory_regions; loadable = has_bit loadable index } ∷ held_from held loadable (index + 1) cells
+    else held_from held loadable (index + 1) cells
+
+-- one cell more, which isn't loadable
+abbrev pub one_more : Option (Bor CellConfig) → List Holder
+one_more None = []
+one_more (Some cell) = record { regions = cell.now.memory_regions; loadable = false } ∷ []
+
+abbrev pub claims_of : Target → Claims
+claims_of target =
+    record {
+      regions = target.regions.now;
+      root = target.root;
+      holders = held_from target.held target.loadable 0 target.cells.now ++ one_more target.extra;
+      comm = target.comm;
+    }

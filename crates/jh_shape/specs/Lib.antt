@@ -1,0 +1,6 @@
+pub mod Claims
+pub mod Grants
+pub mod Intervals
+pub mod Pages
+pub mod Shapes
+pub mod Suits

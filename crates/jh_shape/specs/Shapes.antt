@@ -1,0 +1,91 @@
+-- The shape of a slot of a cell's stage-2 tables, and what a descriptor there says (VMSAv8-64, 4 KB
+-- granule).
+use Rattle.std.specs.Prelude.{ℕ, ◌-◌, ◌*◌, ◌^◌, ◌%◌, Bool, ◌&&◌, ◌||◌, not, ◌==◌, nat_lt, List, Option, Some, None, if◌then◌else◌}
+use Rattle.std.specs.List.{find, list_any}
+use Rattle.jh_cellcfg.specs.declared.region.Region.{Region}
+use Rattle.jh_cellcfg.specs.Regions.{virt_end, phys_end, has_place, place_in, is_page_mapped, is_comm, is_unshared, is_loadable, is_device, may_have_blocks, rights_of}
+use Rattle.jh_shape.specs.declared.want.Want.{Want}
+use Rattle.jh_shape.specs.declared.want.Want.TheVariants.{Nothing, Table, Leaf}
+use Rattle.jh_shape.specs.Claims.{Claims, Holder}
+use Rattle.jh_shape.specs.Intervals.{touches, spans}
+
+-- the bytes of a slot: 1 GB at level 1, 2 MB at level 2, 4 KB at level 3, the last, and 512 times that
+-- of level 1 at level 0
+abbrev pub slot_size : ℕ → ℕ
+slot_size level = 2 ^ (39 - 9 * level)
+
+-- tables map the regions whose addresses are whole pages; one of size 0 has no address
+abbrev pub is_mapped : Region → Bool
+is_mapped region = nat_lt 0 region.size && is_page_mapped region
+
+-- a region of another cell, which nobody else may hold, meets those places and doesn't cover them
+abbrev pub meets_in_part : Region → ℕ → ℕ → Bool
+meets_in_part region place size =
+    is_unshared region && (touches region.phys_start (phys_end region) place size && not (spans region.phys_start (phys_end region) place size))
+
+abbrev pub are_cut : List Holder → ℕ → ℕ → Bool
+are_cut holders place size = list_any (λ (holder : Holder). list_any (λ (region : Region). meets_in_part region place size) holder.regions) holders
+
+-- the place is taken from root by an unshared region of another cell, except by a loadable region of a
+-- cell that is loadable
+abbrev pub takes : Bool → Region → ℕ → Bool
+takes loadable region place = is_unshared region && (not (loadable && is_loadable region) && has_place region place)
+
+abbrev pub is_closed : List Holder → ℕ → Bool
+is_closed holders place = list_any (λ (holder : Holder). list_any (λ (region : Region). takes holder.loadable region place) holder.regions) holders
+
+-- a block may map the slot of addresses from `start` on: blocks stand at levels 1 and 2, for plain
+-- memory whose places are aligned like its addresses, and, for root, none where another cell's unshared
+-- region meets the slot's places in part
+abbrev pub may_be_block : Claims → ℕ → ℕ → Region → Bool
+may_be_block claims level start region =
+    nat_lt 0 level && (may_have_blocks region && (not (is_comm region) && (((region.phys_start % slot_size level) == (region.virt_start % slot_size level)) && not (claims.root && are_cut claims.holders (place_in region start) (slot_size level)))))
+
+-- one descriptor of that level maps the whole slot, by this region
+abbrev pub is_leaf_by : Claims → ℕ → ℕ → Region → Bool
+is_leaf_by claims level start region =
+    is_mapped region && (spans region.virt_start (virt_end region) start (slot_size level) && ((level == 3) || may_be_block claims level start region))
+
+-- the region that makes the slot a leaf
+abbrev pub leaf_region : Claims → ℕ → ℕ → Option Region
+leaf_region claims level start = find (λ (region : Region). is_leaf_by claims level start region) claims.regions
+
+-- a region that tables map has an address in the slot
+abbrev pub is_met_by : ℕ → ℕ → Region → Bool
+is_met_by level start region = is_mapped region && touches region.virt_start (virt_end region) start (slot_size level)
+
+abbrev pub is_met : Claims → ℕ → ℕ → Bool
+is_met claims level start = list_any (λ (region : Region). is_met_by level start region) claims.regions
+
+-- one of the regions makes the slot a leaf; a slot that is met is a leaf, or else a table; one that
+-- isn't met is empty
+abbrev pub is_leaf : Claims → ℕ → ℕ → Bool
+is_leaf claims level start = list_any (λ (region : Region). is_leaf_by claims level start region) claims.regions
+
+abbrev pub is_table : Claims → ℕ → ℕ → Bool
+is_table claims level start = is_met claims level start && not (is_leaf claims level start)
+
+-- where the leaf leads: to the region's place, or to the cell's communication page
+abbrev pub out_of : Claims → Region → ℕ → ℕ
+out_of claims region start = if is_comm region then claims.comm else place_in region start
+
+-- root's leaf at a closed place is invalid, and every other one valid
+abbrev pub is_kept_from : Claims → Region → ℕ → Bool
+is_kept_from claims region start = claims.root && (not (is_comm region) && is_closed claims.holders (place_in region start))
+
+abbrev pub leaf_of : Claims → Region → ℕ → Want
+leaf_of claims region start =
+    if is_kept_from claims region start
+    then Nothing
+    else Leaf (out_of claims region start) (rights_of region) (is_device region)
+
+-- what stands in a slot where no region makes a leaf
+abbrev pub not_leaf : Bool → Want
+not_leaf met = if met then Table else Nothing
+
+abbrev pub want_from : Claims → ℕ → ℕ → Option Region → Want
+want_from claims level start None = not_leaf (is_met claims level start)
+want_from claims level start (Some region) = leaf_of claims region start
+
+abbrev pub want_of : Claims → ℕ → ℕ → Want
+want_of claims level start = want_from claims level start (leaf_region claims level start)

@@ -1,0 +1,302 @@
+//! The tables that a cell is to have.
+ghost use Rattle.std.specs.Prelude.{◌≡◌, ℕ, ◌+◌, ◌*◌, ◌^◌, ◌<◌, ◌≤◌, [], ◌∷◌, false, length};
+
+use crate::level::{FIRST_LEVEL, LAST_LEVEL, slot_size};
+use crate::region::{
+    addresses, any_in_part, any_met, any_takes, is_mapped, place_in, steady_among,
+};
+use crate::want::Want;
+use jh_cellcfg::{CellConfig, Region};
+use jh_num::ADDRESS_END;
+
+/// What a cell's tables are made from: its regions, whether it is root, and the other cells.
+///
+/// The holders, whose unshared regions root lacks, are the cells of `cells` whose bit, by their index,
+/// is set in `held`, and `extra`. A holder of `cells` is loadable where its bit is set in `loadable`,
+/// and `extra` isn't. There are at most 15 cells.
+#[derive(Clone, Copy)]
+pub struct Target<'a> {
+    pub regions: &'a [Region],
+    pub root: bool,
+    pub cells: &'a [CellConfig],
+    pub held: u16,
+    pub loadable: u16,
+    pub extra: Option<&'a CellConfig>,
+    /// The physical place of the cell's communication page.
+    pub comm: u64,
+}
+
+/// Whether the bit of that number is set.
+fn has_bit(mask: u16, index: usize) -> bool
+    requires { index < 16 }
+    ensures { result ≡ has_bit mask index }
+{
+    mask >> index & 1 == 1
+}
+
+ghost use Rattle.jh_shape.specs.Claims.{claims_of, has_bit};
+
+impl<'a> Target<'a> {
+    ghost use Rattle.jh_shape.specs.Claims.{held_from, one_more};
+    ghost use Rattle.jh_cellcfg.specs.Regions.{is_comm, place_in};
+    ghost use Rattle.jh_shape.specs.Shapes.{are_cut, is_closed, may_be_block, is_leaf_by, leaf_region, is_met, is_met_by, is_table, leaf_of, slot_size, want_of};
+    ghost use Rattle.jh_shape.specs.Grants.{Tells};
+    ghost use Rattle.jh_shape.specs.Suits.{IsSound, IsSlot};
+    ghost use Rattle.jh_shape.specs.Pages.{tables_at, tables_of};
+
+    /// Whether an unshared region of a holder has some of those places but not all.
+    fn are_cut(&self, place: u128, size: u128) -> bool
+        requires cells { length self.now.cells.now ≤ 15 }
+        requires fits { place + size < 2 ^ 128 }
+        ensures { result ≡ are_cut (claims_of self.now).holders place size }
+    {
+        for (i, cell) in self.cells.iter().enumerate() {
+            if has_bit(self.held, i) && any_in_part(cell.memory_regions.as_slice(), place, size) {
+                return true;
+            }
+        }
+        match self.extra {
+            Some(cell) => any_in_part(cell.memory_regions.as_slice(), place, size),
+            None => false,
+        }
+    }
+
+    /// Whether a holder's unshared region takes the place from root.
+    fn is_closed(&self, place: u64) -> bool
+        requires cells { length self.now.cells.now ≤ 15 }
+        ensures { result ≡ is_closed (claims_of self.now).holders place }
+    {
+        for (i, cell) in self.cells.iter().enumerate() {
+            if has_bit(self.held, i)
+                && any_takes(
+                    cell.memory_regions.as_slice(),
+                    has_bit(self.loadable, i),
+                    place,
+                )
+            {
+                return true;
+            }
+        }
+        match self.extra {
+            Some(cell) => any_takes(cell.memory_regions.as_slice(), false, place),
+            None => false,
+        }
+    }
+
+    /// For how many slots of that size, from the one at `place` on, the cell beyond the list cuts them
+    /// or doesn't.
+    fn steady_extra(&self, place: u128, size: u128) -> u128
+        requires some { 0 < size }
+        requires fits { place + size < 2 ^ 128 }
+        ensures more { 0 < result }
+        ensures same { (k : ℕ) → k < result → are_cut (one_more self.now.extra) (place + k * size) size ≡ are_cut (one_more self.now.extra) place size }
+    {
+        match self.extra {
+            Some(cell) => steady_among(cell.memory_regions.as_slice(), place, size),
+            None => u128::MAX,
+        }
+    }
+
+    /// The same for a cell of the list.
+    fn steady_cell(&self, index: usize, cell: &CellConfig, place: u128, size: u128) -> u128
+        requires index { index ≤ 15 }
+        requires some { 0 < size }
+        requires fits { place + size < 2 ^ 128 }
+        ensures more { 0 < result }
+        ensures same { (k : ℕ) → k < result → are_cut (held_from self.now.held self.now.loadable index (cell.now ∷ [])) (place + k * size) size ≡ are_cut (held_from self.now.held self.now.loadable index (cell.now ∷ [])) place size }
+    {
+        if has_bit(self.held, index) {
+            steady_among(cell.memory_regions.as_slice(), place, size)
+        } else {
+            u128::MAX
+        }
+    }
+
+    /// For how many slots of that size, from the one at `place` on, [`Self::are_cut`] stays as it is.
+    fn steady_places(&self, place: u128, size: u128) -> u128
+        requires cells { length self.now.cells.now ≤ 15 }
+        requires some { 0 < size }
+        requires fits { place + size < 2 ^ 128 }
+        ensures more { 0 < result }
+        ensures same { (k : ℕ) → k < result → are_cut (claims_of self.now).holders (place + k * size) size ≡ are_cut (claims_of self.now).holders place size }
+    {
+        let mut run = self.steady_extra(place, size);
+        for (i, cell) in self.cells.iter().enumerate() {
+            run = run.min(self.steady_cell(i, cell, place, size));
+        }
+        run
+    }
+
+    /// Whether a block may map the slot.
+    fn may_be_block(&self, level: u8, start: u64, region: &Region) -> bool
+        requires cells { length self.now.cells.now ≤ 15 }
+        requires level { level ≤ LAST_LEVEL }
+        ensures { result ≡ may_be_block (claims_of self.now) level start region.now }
+    {
+        let size = slot_size(level);
+        level > 0
+            && region.may_have_blocks()
+            && !region.is_comm()
+            && region.phys_start % size == region.virt_start % size
+            && !(self.root && self.are_cut(place_in(region, start), u128::from(size)))
+    }
+
+    /// Whether the region makes the slot a leaf.
+    fn is_leaf_by(&self, level: u8, start: u64, region: &Region) -> bool
+        requires cells { length self.now.cells.now ≤ 15 }
+        requires level { level ≤ LAST_LEVEL }
+        ensures { result ≡ is_leaf_by (claims_of self.now) level start region.now }
+    {
+        let size = u128::from(slot_size(level));
+        is_mapped(region)
+            && addresses(region).spans(u128::from(start), size)
+            && (level == LAST_LEVEL || self.may_be_block(level, start, region))
+    }
+
+    /// The region that makes the slot a leaf.
+    fn leaf_region(&self, level: u8, start: u64) -> Option<Region>
+        requires cells { length self.now.cells.now ≤ 15 }
+        requires level { level ≤ LAST_LEVEL }
+        ensures { result ≡ leaf_region (claims_of self.now) level start }
+    {
+        for region in self.regions {
+            if self.is_leaf_by(level, start, region) {
+                return Some(*region);
+            }
+        }
+        None
+    }
+
+    /// Whether tables map a region that has an address in the slot.
+    fn is_met(&self, level: u8, start: u64) -> bool
+        requires level { level ≤ LAST_LEVEL }
+        ensures { result ≡ is_met (claims_of self.now) level start }
+    {
+        any_met(self.regions, level, start)
+    }
+
+    /// What the region's leaf says.
+    fn leaf_of(&self, region: &Region, start: u64) -> Want
+        requires cells { length self.now.cells.now ≤ 15 }
+        requires fits { is_comm region.now ≡ false → place_in region.now start < 2 ^ 64 }
+        ensures { result ≡ leaf_of (claims_of self.now) region.now start }
+    {
+        let rights = region.rights();
+        let device = region.is_device();
+        if region.is_comm() {
+            let out = self.comm;
+            return Want::Leaf {
+                out,
+                rights,
+                device,
+            };
+        }
+        let out = region.phys_start + start.saturating_sub(region.virt_start);
+        if self.root && self.is_closed(out) {
+            Want::Nothing
+        } else {
+            Want::Leaf {
+                out,
+                rights,
+                device,
+            }
+        }
+    }
+
+    /// What the descriptor of the slot is to be that begins at the address `start`.
+    pub fn want(&self, level: u8, start: u64) -> Want
+        requires cells { length self.now.cells.now ≤ 15 }
+        requires sound { IsSound (claims_of self.now) }
+        requires slot { IsSlot level start }
+        ensures value { result ≡ want_of (claims_of self.now) level start }
+        ensures tells { Tells (claims_of self.now) level start result }
+    {
+        match self.leaf_region(level, start) {
+            Some(region) => self.leaf_of(&region, start),
+            None => {
+                if self.is_met(level, start) {
+                    Want::Table
+                } else {
+                    Want::Nothing
+                }
+            }
+        }
+    }
+
+    /// For how many slots of the level, from the one at `start` on, the region meets each or none, and
+    /// makes each a leaf or none.
+    fn steady_by(&self, level: u8, start: u64, region: &Region) -> u128
+        requires cells { length self.now.cells.now ≤ 15 }
+        requires level { level ≤ LAST_LEVEL }
+        ensures more { 0 < result }
+        ensures met { (k : ℕ) → k < result → is_met_by level (start + k * slot_size level) region.now ≡ is_met_by level start region.now }
+        ensures leaf { (k : ℕ) → k < result → is_leaf_by (claims_of self.now) level (start + k * slot_size level) region.now ≡ is_leaf_by (claims_of self.now) level start region.now }
+    {
+        let size = u128::from(slot_size(level));
+        let its = addresses(region);
+        let run = its.steady(u128::from(start), size);
+        if self.root && its.spans(u128::from(start), size) {
+            run.min(self.steady_places(place_in(region, start), size))
+        } else {
+            run
+        }
+    }
+
+    /// For how many slots of the level, from the one at `start` on, all are tables or none.
+    fn steady_from(&self, level: u8, start: u64) -> u128
+        requires cells { length self.now.cells.now ≤ 15 }
+        requires level { level ≤ LAST_LEVEL }
+        ensures more { 0 < result }
+        ensures same { (k : ℕ) → k < result → is_table (claims_of self.now) level (start + k * slot_size level) ≡ is_table (claims_of self.now) level start }
+    {
+        let mut run = u128::MAX;
+        for region in self.regions {
+            run = run.min(self.steady_by(level, start, region));
+        }
+        run
+    }
+
+    /// Whether the slot's descriptor leads to a table.
+    fn is_table(&self, level: u8, start: u64) -> bool
+        requires cells { length self.now.cells.now ≤ 15 }
+        requires level { level ≤ LAST_LEVEL }
+        ensures { result ≡ is_table (claims_of self.now) level start }
+    {
+        self.is_met(level, start) && self.leaf_region(level, start).is_none()
+    }
+
+    /// How many slots of the level are tables. It looks once at each stretch of slots that are alike.
+    fn tables_at(&self, level: u8) -> u64
+        requires cells { length self.now.cells.now ≤ 15 }
+        requires level { level ≤ LAST_LEVEL }
+        ensures value { result ≡ tables_at (claims_of self.now) level }
+        ensures bound { result ≤ ADDRESS_END }
+    {
+        let size = slot_size(level);
+        let end = ADDRESS_END / size;
+        let mut count = 0;
+        let mut slot = 0;
+        'slots: while slot < end {
+            let start = slot * size;
+            let run = self.steady_from(level, start).min(u128::from(end - slot)) as u64;
+            if self.is_table(level, start) {
+                count += run;
+            }
+            slot += run;
+        }
+        count
+    }
+
+    /// How many pages the tables take: the first table, and one for each slot that is a table. The
+    /// communication page isn't counted.
+    pub fn tables(&self) -> u64
+        requires { length self.now.cells.now ≤ 15 }
+        ensures { result ≡ tables_of (claims_of self.now) }
+    {
+        let mut pages = 1;
+        for level in FIRST_LEVEL..LAST_LEVEL {
+            pages += self.tables_at(level);
+        }
+        pages
+    }
+}
