@@ -2,6 +2,7 @@
 #![tactic(auto)]
 
 mod command;
+mod laws;
 mod limits;
 mod lines;
 mod send;
@@ -12,6 +13,7 @@ mod told;
 mod top;
 
 pub use command::{Play, command_of};
+pub use laws::first_form_never_fills_a_journal;
 pub use limits::{JOURNAL_LIMIT, MOST};
 pub use status::Status;
 pub use top::jailhouse;
