@@ -105,6 +105,6 @@ cell_few false ops n few = omega arith
 pub first_never_full : (bytes text : List ℕ) (system : SystemConfig) (ops : List Op) (cpus : List ℕ) → IsSystem bytes system → IsProgram text ops → (played (image_of system ops) JOURNAL_LIMIT cpus).full ≡ false
 first_never_full bytes text system ops cpus is_system is_program =
     let few : (cell : ℕ) → length (ops_of (image_of system ops) cell 0) ≤ 4096 = λ cell.
-        cell_few (eqb cell system.root.id) (program_of (image_of system ops) (name_of system.root) 0) 4096 (program_few system ops (name_of system.root) 4096 is_program.few) in
+    cell_few (eqb cell system.root.id) (program_of (image_of system ops) (name_of system.root) 0) 4096 (program_few system ops (name_of system.root) 4096 is_program.few) in
     let P : SystemConfig → Type 0 = λ s. (cpu : ℕ) → cpu ≢ 0 → is_on_board (image_of s ops) cpu ≡ false in
     never_full (image_of system ops) 4096 JOURNAL_LIMIT cpus (subst P (sym is_system.is) alone) few (lit< tt)

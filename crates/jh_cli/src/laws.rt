@@ -10,8 +10,6 @@ ghost use Rattle.jh_cli.specs.declared.limits.TheConstants.{JOURNAL_LIMIT};
 
 /// A journal that is played from files in the first form never stops at its limit, so the status
 /// `Full` doesn't come from them.
-#[tactic(auto, using(crate::proofs::LimitLemmas::first_never_full))]
 pub fn first_form_never_fills_a_journal()
     ensures { (bytes text : List ℕ) (system : SystemConfig) (ops : List Op) (cpus : List ℕ) → IsSystem bytes system → IsProgram text ops → (played (image_of system ops) JOURNAL_LIMIT cpus).full ≡ false }
-{
-}
+{}
