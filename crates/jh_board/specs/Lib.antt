@@ -5,3 +5,5 @@ pub mod BoardView
 pub mod Turns
 pub mod Stands
 pub mod Plays
+pub mod Indexed
+pub mod IsIndexed

@@ -8,6 +8,7 @@ ghost use Rattle.jh_board.specs.Pages.{byte_at};
 ghost use Rattle.jh_board.specs.Means.{Means};
 ghost use Rattle.jh_board.specs.Turns.{Turns, Refuses, Advances};
 
+use crate::indexed::IndexedImage;
 use crate::memory::Memory;
 use crate::state::{is_quiet, next_of};
 use crate::steps::make;
@@ -20,7 +21,7 @@ use std::marker::Model;
 
 #[derive(Drop)]
 pub struct Board {
-    image: Image,
+    image: IndexedImage,
     limit: u32,
     memory: Memory,
     cpus: [Cpu; 16],
@@ -41,7 +42,7 @@ impl Model for Board {
 
 /// Makes the entry that is due to the CPU, if any.
 fn advance(
-    image: &Image,
+    image: &IndexedImage,
     memory: &mut Memory,
     cpus: &mut [Cpu],
     journal: &mut Journal,
@@ -93,16 +94,25 @@ impl Board {
         ensures err { IfErr result (λ back. back ≡ image) }
     {
         let cpus = [opening_cpu(&image); 16];
-        match load(alloc, &image) {
-            Ok(memory) => Ok(Board {
-                image,
-                limit,
-                memory,
-                cpus,
-                journal: Journal::new(alloc),
-            }),
-            Err(_) => Err(image),
-        }
+        let memory = match load(alloc, &image) {
+            Ok(memory) => memory,
+            Err(_) => return Err(image),
+        };
+        let image = IndexedImage::new(alloc, image)?;
+        Ok(Board {
+            image,
+            limit,
+            memory,
+            cpus,
+            journal: Journal::new(alloc),
+        })
+    }
+
+    /// Whether the board has the CPU.
+    pub fn has_cpu(&self, cpu: u8) -> bool
+        ensures { result ≡ is_on_board self.now.image cpu }
+    {
+        self.image.has_cpu(cpu)
     }
 
     /// The entries made so far, each the one that was due.

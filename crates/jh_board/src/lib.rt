@@ -2,6 +2,7 @@
 #![tactic(auto)]
 
 mod board;
+mod indexed;
 mod memory;
 mod page;
 mod schedule;

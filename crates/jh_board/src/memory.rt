@@ -75,8 +75,13 @@ impl Memory {
         ensures bytes { (q : ℕ) → byte_at self.new q ≡ byte_at self.old q }
         ensures held { OnOk result (All (Holds self.new) places.now) }
     {
+        let mut last = None;
         for place in places {
-            self.hold(*place)?;
+            let number = *place / 4096;
+            if last != Some(number) {
+                self.hold(*place)?;
+                last = Some(number);
+            }
         }
         Ok(())
     }

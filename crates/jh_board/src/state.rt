@@ -5,17 +5,16 @@ ghost use Rattle.jh_history.specs.Due.{due_at};
 ghost use Rattle.jh_history.specs.Admitted.{IsAdmitted, IsPlainAct};
 ghost use Rattle.jh_board.specs.Means.{Means};
 
+use crate::indexed::IndexedImage;
 use crate::memory::Memory;
-use jh_history::{
-    Access, Cpu, Entry, ImageGrants, Known, Reach, is_on_board, none_due, op_at, reach,
-};
-use jh_script::{Image, Op};
+use jh_history::{Access, Cpu, Entry, Known, Reach, none_due};
+use jh_script::Op;
 use std::marker::Model;
 
 /// What a board holds, lent to what reads it.
 #[derive(Drop)]
 struct State<'a> {
-    image: &'a Image,
+    image: &'a IndexedImage,
     memory: &'a Memory,
     cpus: &'a [Cpu],
 }
@@ -39,7 +38,7 @@ impl<'a> Known for State<'a> {
     ghost Knows = { λ s i f. (i ≡ s.image) × Means s.held f };
 
     fn has_cpu(&self, cpu: u8) -> bool {
-        is_on_board(self.image, cpu)
+        self.image.has_cpu(cpu)
     }
 
     fn cpu(&self, cpu: u8) -> Cpu {
@@ -47,11 +46,11 @@ impl<'a> Known for State<'a> {
     }
 
     fn operation(&self, cpu: u8, state: Cpu) -> Option<Op> {
-        op_at(self.image, state, cpu)
+        self.image.operation(cpu, state)
     }
 
     fn reach(&self, cell: u32, access: Access, at: u64, width: u8) -> Reach {
-        reach(&ImageGrants::new(self.image), cell, access, at, width)
+        self.image.reach(cell, access, at, width)
     }
 
     fn byte(&self, place: u64) -> u8 {
@@ -60,7 +59,7 @@ impl<'a> Known for State<'a> {
 }
 
 /// The entry that the CPU makes next.
-pub fn next_of(image: &Image, memory: &Memory, cpus: &[Cpu], cpu: u8) -> Option<Entry>
+pub fn next_of(image: &IndexedImage, memory: &Memory, cpus: &[Cpu], cpu: u8) -> Option<Entry>
     requires admitted { IsAdmitted image.now }
     requires cpus { length cpus.now ≡ 16 }
     requires cpu { cpu < 16 }
@@ -77,7 +76,7 @@ pub fn next_of(image: &Image, memory: &Memory, cpus: &[Cpu], cpu: u8) -> Option<
 }
 
 /// Whether nothing is due to any CPU.
-pub fn is_quiet(image: &Image, memory: &Memory, cpus: &[Cpu]) -> bool
+pub fn is_quiet(image: &IndexedImage, memory: &Memory, cpus: &[Cpu]) -> bool
     requires admitted { IsAdmitted image.now }
     requires cpus { length cpus.now ≡ 16 }
     ensures { (f : Facts) → Means (record { pages = memory.now; states = cpus.now }) f → IsTrue result ↔ ((cpu : ℕ) → due_at image.now f cpu ≡ None) }

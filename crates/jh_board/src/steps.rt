@@ -6,10 +6,10 @@ ghost use Rattle.jh_history.specs.Access.{write_of};
 ghost use Rattle.jh_board.specs.Pages.{byte_at};
 ghost use Rattle.jh_board.specs.Means.{Means};
 
+use crate::indexed::IndexedImage;
 use crate::memory::Memory;
-use jh_history::{Access, Act, Cpu, Entry, ImageGrants, Reach, entry_cpu, reach};
+use jh_history::{Access, Act, Cpu, Entry, Reach, entry_cpu};
 use jh_num::NoMemory;
-use jh_script::Image;
 
 /// Writes the value where it reaches.
 fn make_write(memory: &mut Memory, reach: &Reach, value: u64) -> Result<(), NoMemory>
@@ -27,7 +27,7 @@ fn make_write(memory: &mut Memory, reach: &Reach, value: u64) -> Result<(), NoMe
 }
 
 /// Writes what the entry writes.
-fn make_bytes(image: &Image, memory: &mut Memory, entry: &Entry) -> Result<(), NoMemory>
+fn make_bytes(image: &IndexedImage, memory: &mut Memory, entry: &Entry) -> Result<(), NoMemory>
     requires admitted { IsAdmitted image.now }
     requires plain { IsPlainAct entry.now.act }
     ensures ok { OnOk result ((f : Facts) → ((q : ℕ) → byte_at memory.old q ≡ f.byte q) → (q : ℕ) → byte_at memory.new q ≡ byte_after image.now f entry.now.cell entry.now.act q) }
@@ -41,8 +41,7 @@ fn make_bytes(image: &Image, memory: &mut Memory, entry: &Entry) -> Result<(), N
             ok,
         } => {
             if ok {
-                let grants = ImageGrants::new(image);
-                let places = reach(&grants, entry.cell, Access::Write, at, width);
+                let places = image.reach(entry.cell, Access::Write, at, width);
                 make_write(memory, &places, value)?;
             }
             Ok(())
@@ -65,7 +64,7 @@ fn make_cpus(cpus: &mut [Cpu], entry: &Entry)
 
 /// Makes the entry in what a board holds.
 pub fn make(
-    image: &Image,
+    image: &IndexedImage,
     memory: &mut Memory,
     cpus: &mut [Cpu],
     entry: Entry,

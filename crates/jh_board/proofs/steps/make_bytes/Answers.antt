@@ -5,5 +5,4 @@ use Rattle.jh_board.proofs.steps.make_bytes.Goals as goal
 
 pub returns-in_ok-make_write-in-Write-clause-ok : goal.returns-in_ok-make_write-in-Write-clause-ok
 returns-in_ok-make_write-in-Write-clause-ok c = λ f h q.
-    let reached = rw c.new-grants.ensures at c.reach-places.ensures in
-    rw (c.in-Write.is, c.if-ok.true, ← same_function (byte_at c.args.memory.now) f.byte h, ← reached) (c.in_ok-make_write-in-Write.ensures.ok q)
+    rw (c.in-Write.is, c.if-ok.true, ← same_function (byte_at c.args.memory.now) f.byte h, ← c.reach-places.ensures) (c.in_ok-make_write-in-Write.ensures.ok q)
