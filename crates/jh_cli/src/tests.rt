@@ -1,7 +1,10 @@
 //! The top call over files and a sink in memory.
 
 use crate::{Status, jailhouse};
-use jh_num::NoMemory;
+use jh_board::{Board, Turn, TurnFault};
+use jh_first::{make_image, read_program, read_system};
+use jh_history::is_on_board;
+use jh_num::{NoMemory, Steps};
 use jh_outside::{Files, MemFiles, MemSink, Sink};
 use std::alloc::Global;
 use std::process::Abort;
@@ -91,6 +94,11 @@ fn programs_end_by_their_form(rt: HostRuntime) -> Result<(), Fail> {
             Status::Good,
             "0 0 read 4 0x0 = violation\n",
         ),
+        (
+            "write 8 0x7fbffffc 0x1122334455667788\nread 4 0x7fbffffc\n",
+            Status::Good,
+            "0 0 write 8 0x7fbffffc 0x1122334455667788 = violation\n",
+        ),
         ("fetch 0x40000000\n", Status::Refused, refused),
         ("read 4 0x40000000", Status::Refused, refused),
         ("read 3 0x40000000\n", Status::Refused, refused),
@@ -146,5 +154,39 @@ fn a_sink_that_fills_up_has_a_front_of_the_text(rt: HostRuntime) -> Result<(), F
         assert_eq!(rt; out.bytes(), &JOURNAL.as_bytes()[..room]);
         assert_eq!(rt; out.faults(), 1);
     }
+    Ok(())
+}
+
+#[test]
+fn a_missing_program_is_named(rt: HostRuntime) -> Result<(), Fail> {
+    let mut files = MemFiles::new(rt.alloc());
+    files.add("b.json", BOARD.as_bytes())?;
+    files.add("s.sys", system(rt.alloc())?.as_slice())?;
+    files.add("s.txt", b"")?;
+    let line = "read fault: p.txt\n";
+    ends(&rt, rt.alloc(), &mut files, &PLAY, Status::ReadFault, line)?;
+    Ok(())
+}
+
+#[test]
+fn a_full_board_refuses_a_turn_and_goes_on(rt: HostRuntime) -> Result<(), Fail> {
+    let alloc = rt.alloc();
+    let Some(system) = read_system(alloc, system(alloc)?.as_slice())? else {
+        return Err("the system is in the first form")?;
+    };
+    let Some(ops) = read_program(alloc, PROGRAM.as_bytes())? else {
+        return Err("the program is in the first form")?;
+    };
+    let image = make_image(alloc, system, ops)?;
+    assert!(rt; is_on_board(&image, 0));
+    let Ok(mut board) = Board::open(alloc, image, 1) else {
+        return Err("memory is ample")?;
+    };
+    let mut steps = Steps::new();
+    let first = board.turn(0, &mut steps);
+    assert!(rt; matches!(&first, Ok(Turn::Made(_))));
+    assert_eq!(rt; board.turn(0, &mut steps), Err(TurnFault::Full));
+    assert_eq!(rt; board.turn(0, &mut steps), Err(TurnFault::Full));
+    assert_eq!(rt; board.journal().len(), 1);
     Ok(())
 }
