@@ -1,3 +1,4 @@
 pub mod FewLemmas
 pub mod LimitLemmas
+pub mod PlayedLemmas
 pub mod StopLemmas
