@@ -1,10 +1,7 @@
 //! The top call over files and a sink in memory.
 
 use crate::{Status, jailhouse};
-use jh_board::{Board, Turn, TurnFault};
-use jh_first::{make_image, read_program, read_system};
-use jh_history::is_on_board;
-use jh_num::{NoMemory, Steps};
+use jh_num::NoMemory;
 use jh_outside::{Files, MemFiles, MemSink, Sink};
 use std::alloc::Global;
 use std::process::Abort;
@@ -165,28 +162,5 @@ fn a_missing_program_is_named(rt: HostRuntime) -> Result<(), Fail> {
     files.add("s.txt", b"")?;
     let line = "read fault: p.txt\n";
     ends(&rt, rt.alloc(), &mut files, &PLAY, Status::ReadFault, line)?;
-    Ok(())
-}
-
-#[test]
-fn a_full_board_refuses_a_turn_and_goes_on(rt: HostRuntime) -> Result<(), Fail> {
-    let alloc = rt.alloc();
-    let Some(system) = read_system(alloc, system(alloc)?.as_slice())? else {
-        return Err("the system is in the first form")?;
-    };
-    let Some(ops) = read_program(alloc, PROGRAM.as_bytes())? else {
-        return Err("the program is in the first form")?;
-    };
-    let image = make_image(alloc, system, ops)?;
-    assert!(rt; is_on_board(&image, 0));
-    let Ok(mut board) = Board::open(alloc, image, 1) else {
-        return Err("memory is ample")?;
-    };
-    let mut steps = Steps::new();
-    let first = board.turn(0, &mut steps);
-    assert!(rt; matches!(&first, Ok(Turn::Made(_))));
-    assert_eq!(rt; board.turn(0, &mut steps), Err(TurnFault::Full));
-    assert_eq!(rt; board.turn(0, &mut steps), Err(TurnFault::Full));
-    assert_eq!(rt; board.journal().len(), 1);
     Ok(())
 }
