@@ -2,7 +2,7 @@
 
 use crate::{Status, jailhouse};
 use jh_num::NoMemory;
-use jh_outside::{Files, MemFiles, MemSink, Sink};
+use jh_outside::{MemFiles, MemSink};
 use std::alloc::Global;
 use std::process::Abort;
 use std::test::Fail;
@@ -82,31 +82,6 @@ fn play_reads_back_what_it_wrote(rt: HostRuntime) -> Result<(), Fail> {
 }
 
 #[test]
-fn programs_end_by_their_form(rt: HostRuntime) -> Result<(), Fail> {
-    let refused = "refused: p.txt: not built\n";
-    for (program, status, text) in [
-        ("", Status::Good, ""),
-        (
-            "read 4 0x0\nread 4 0x40000000\n",
-            Status::Good,
-            "0 0 read 4 0x0 = violation\n",
-        ),
-        (
-            "write 8 0x7fbffffc 0x1122334455667788\nread 4 0x7fbffffc\n",
-            Status::Good,
-            "0 0 write 8 0x7fbffffc 0x1122334455667788 = violation\n",
-        ),
-        ("fetch 0x40000000\n", Status::Refused, refused),
-        ("read 4 0x40000000", Status::Refused, refused),
-        ("read 3 0x40000000\n", Status::Refused, refused),
-    ] {
-        let mut files = files(rt.alloc(), program)?;
-        ends(&rt, rt.alloc(), &mut files, &PLAY, status, text)?;
-    }
-    Ok(())
-}
-
-#[test]
 fn words_without_a_command_give_the_usage_line(rt: HostRuntime) -> Result<(), Fail> {
     let mut files = files(rt.alloc(), PROGRAM)?;
     for texts in [
@@ -120,47 +95,5 @@ fn words_without_a_command_give_the_usage_line(rt: HostRuntime) -> Result<(), Fa
     ] {
         ends(&rt, rt.alloc(), &mut files, texts, Status::Usage, USAGE)?;
     }
-    Ok(())
-}
-
-#[test]
-fn each_read_that_fails_is_named(rt: HostRuntime) -> Result<(), Fail> {
-    for (number, line) in [
-        (0u64, "read fault: b.json\n"),
-        (1, "read fault: s.sys\n"),
-        (2, "read fault: p.txt\n"),
-        (3, "read fault: s.txt\n"),
-    ] {
-        let mut files = files(rt.alloc(), PROGRAM)?;
-        files.fail(number)?;
-        ends(&rt, rt.alloc(), &mut files, &PLAY, Status::ReadFault, line)?;
-        assert_eq!(rt; files.faults(), 1);
-    }
-    Ok(())
-}
-
-#[test]
-fn a_sink_that_fills_up_has_a_front_of_the_text(rt: HostRuntime) -> Result<(), Fail> {
-    let alloc = rt.alloc();
-    let words = words(alloc, &PLAY)?;
-    for room in 0..JOURNAL.len() {
-        let mut files = files(alloc, PROGRAM)?;
-        let mut out = MemSink::new(alloc, room)?;
-        let status = jailhouse(alloc, words.as_slice(), &mut files, &mut out);
-        assert_eq!(rt; status, Status::WriteFault);
-        assert_eq!(rt; out.bytes(), &JOURNAL.as_bytes()[..room]);
-        assert_eq!(rt; out.faults(), 1);
-    }
-    Ok(())
-}
-
-#[test]
-fn a_missing_program_is_named(rt: HostRuntime) -> Result<(), Fail> {
-    let mut files = MemFiles::new(rt.alloc());
-    files.add("b.json", BOARD.as_bytes())?;
-    files.add("s.sys", system(rt.alloc())?.as_slice())?;
-    files.add("s.txt", b"")?;
-    let line = "read fault: p.txt\n";
-    ends(&rt, rt.alloc(), &mut files, &PLAY, Status::ReadFault, line)?;
     Ok(())
 }
