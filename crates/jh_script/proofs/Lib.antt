@@ -1,0 +1,4 @@
+pub mod NumberLemmas
+pub mod OperationLemmas
+pub mod ProgramLemmas
+pub mod WordLemmas

@@ -1,0 +1,17 @@
+use Rattle.std.proofs.Common.{◌≡◌, ◌≤◌, ◌<◌, ◌++◌, length, IsTrue}
+use Rattle.std.specs.List.{All}
+use Rattle.jh_script.specs.declared.fault.TheConstants.{MAX_ITEMS}
+use Rattle.jh_script.specs.Schedules.{items_of, first_refusal, cpus_of, has_cpu}
+use Rattle.jh_script.proofs.schedule.read_schedule.Given as goal
+
+-- the items that are left have the fault of all, and the CPUs behind those so far
+abbrev pub invariant-loop-item : goal.invariant-loop-item
+invariant-loop-item l = record {
+  faults : first_refusal 0 (items_of l.cpus l.text) ≡ first_refusal (length l.items) (items_of l.cpus l.rest);
+  found : cpus_of (items_of l.cpus l.text) ≡ l.items ++ cpus_of (items_of l.cpus l.rest);
+  few : length l.items ≤ MAX_ITEMS;
+  present : All (λ cpu. (cpu < 16) × IsTrue (has_cpu l.cpus cpu)) l.items;
+}
+
+abbrev pub decreases-loop-item : goal.decreases-loop-item
+decreases-loop-item l = length l.rest

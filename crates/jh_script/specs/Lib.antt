@@ -1,0 +1,7 @@
+pub mod FaultText
+pub mod Numbers
+pub mod Operations
+pub mod Programs
+pub mod Reading
+pub mod Schedules
+pub mod Words
