@@ -1,5 +1,5 @@
 -- What the text of a schedule tells.
-use Rattle.std.specs.Prelude.{◌&&◌, ℕ, ◌+◌, Bool, ◌==◌, nat_lt, if◌then◌else◌, Option, Some, None, Result, List, [], ◌∷◌, map}
+use Rattle.std.specs.Prelude.{◌&&◌, ℕ, ◌+◌, ◌<◌, IsTrue, Bool, ◌==◌, nat_lt, if◌then◌else◌, Option, Some, None, Result, List, [], ◌∷◌, map}
 use Rattle.std.specs.Int.{bit_at}
 use Rattle.jh_script.specs.declared.fault.TheConstants.{MAX_ITEMS}
 use Rattle.jh_script.specs.declared.fault.ScheduleFault.{ScheduleFault}
@@ -11,6 +11,10 @@ use Rattle.jh_script.specs.Programs.{unless}
 -- bit n of the set says that the board has CPU n
 abbrev pub has_cpu : ℕ → ℕ → Bool
 has_cpu cpus n = bit_at cpus n == 1
+
+-- a CPU of the board; there are 16 numbers
+abbrev pub IsPresent : ℕ → ℕ → Type 0
+IsPresent cpus n = (n < 16) × IsTrue (has_cpu cpus n)
 
 -- the CPU of the board that the number is
 abbrev pub cpu_of : ℕ → Option ℕ → Option ℕ

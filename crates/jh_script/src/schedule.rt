@@ -1,6 +1,6 @@
 //! From a schedule's text to its CPUs.
-ghost use Rattle.std.specs.Prelude.{◌≡◌, ◌≢◌, ◌≤◌, ◌<◌, All, length, IfOk, IfSome, MatchOption, [], ◌∷◌, ◌++◌, IsTrue};
-ghost use Rattle.jh_script.specs.Schedules.{cpu_of, items_of, schedule_of, has_cpu};
+ghost use Rattle.std.specs.Prelude.{◌≡◌, ◌≢◌, ◌≤◌, ◌<◌, All, length, IfOk, IfSome, MatchOption, [], ◌∷◌};
+ghost use Rattle.jh_script.specs.Schedules.{cpu_of, items_of, schedule_of, IsPresent};
 ghost use Rattle.jh_script.specs.Numbers.{decimal_of};
 
 use crate::fault::{MAX_ITEMS, ScheduleFault};
@@ -21,7 +21,7 @@ const SPACES: &[u8] = b" \t\n\r";
 pub fn read_schedule(alloc: Global, text: &[u8], cpus: u16) -> Result<Seq<u8>, ScheduleFault>
     ensures exact { result ≢ Err ScheduleFault.NoMemory → result ≡ schedule_of cpus text.now }
     ensures few { IfOk result (λ items. length items ≤ MAX_ITEMS) }
-    ensures present { IfOk result (All (λ cpu. (cpu < 16) × IsTrue (has_cpu cpus cpu))) }
+    ensures present { IfOk result (All (IsPresent cpus)) }
 {
     let mut items = Seq::new(alloc);
     let mut rest = text;
@@ -45,6 +45,7 @@ pub fn read_schedule(alloc: Global, text: &[u8], cpus: u16) -> Result<Seq<u8>, S
 fn first_item(text: &[u8], cpus: u16) -> Option<(Option<u8>, &[u8])>
     ensures items { MatchOption result (items_of cpus text.now ≡ [])
         (λ x. items_of cpus text.now ≡ x.0 ∷ items_of cpus x.1.now) }
+    ensures present { IfSome result (λ x. IfSome x.0 (IsPresent cpus)) }
     ensures shorter { IfSome result (λ x. length x.1.now < length text.now) }
 {
     let (word, rest) = next_word(SPACES, text)?;
@@ -53,7 +54,8 @@ fn first_item(text: &[u8], cpus: u16) -> Option<(Option<u8>, &[u8])>
 
 /// The CPU of the board that the word is.
 fn cpu(word: &[u8], cpus: u16) -> Option<u8>
-    ensures { result ≡ cpu_of cpus (decimal_of word.now) }
+    ensures value { result ≡ cpu_of cpus (decimal_of word.now) }
+    ensures present { IfSome result (IsPresent cpus) }
 {
     let n = decimal(word)?;
     if n < 16 && (cpus >> n) & 1 == 1 {

@@ -1,7 +1,7 @@
-use Rattle.std.proofs.Common.{◌≡◌, ◌≤◌, ◌<◌, ◌++◌, length, IsTrue}
+use Rattle.std.proofs.Common.{◌≡◌, ◌≤◌, ◌++◌, length}
 use Rattle.std.specs.List.{All}
 use Rattle.jh_script.specs.declared.fault.TheConstants.{MAX_ITEMS}
-use Rattle.jh_script.specs.Schedules.{items_of, first_refusal, cpus_of, has_cpu}
+use Rattle.jh_script.specs.Schedules.{items_of, first_refusal, cpus_of, IsPresent}
 use Rattle.jh_script.proofs.schedule.read_schedule.Given as goal
 
 -- the items that are left have the fault of all, and the CPUs behind those so far
@@ -10,7 +10,7 @@ invariant-loop-item l = record {
   faults : first_refusal 0 (items_of l.cpus l.text) ≡ first_refusal (length l.items) (items_of l.cpus l.rest);
   found : cpus_of (items_of l.cpus l.text) ≡ l.items ++ cpus_of (items_of l.cpus l.rest);
   few : length l.items ≤ MAX_ITEMS;
-  present : All (λ cpu. (cpu < 16) × IsTrue (has_cpu l.cpus cpu)) l.items;
+  present : All (IsPresent l.cpus) l.items;
 }
 
 abbrev pub decreases-loop-item : goal.decreases-loop-item
