@@ -55,7 +55,7 @@ pub blank_ops : (text : List ℕ) (ops : List Op) (lines more : List Line) → o
 unfolding ops_of
 blank_ops text ops lines more found e = found ∙ ap (λ x. ops ++ ops_of x) e
 
-op_room : (n room : ℕ) (op : Op) (more : List Line) → 0 < room → first_fault n room (Operation op ∷ more) ≡ first_fault (line_number n) (room - 1) more
+pub op_room : (n room : ℕ) (op : Op) (more : List Line) → 0 < room → first_fault n room (Operation op ∷ more) ≡ first_fault (line_number n) (room - 1) more
 unfolding first_fault
 op_room n room op more some = rw (ne_eqb room 0 (λ e. omega arith)) refl
 
@@ -79,7 +79,7 @@ item_refused : (cpus : ℕ) (text : List ℕ) (fault : ScheduleFault) → schedu
 unfolding schedule_of
 item_refused cpus text fault e = ap (λ x. unless x (cpus_of (items_of cpus text))) e
 
-full_of : (item : Option ℕ) (more : List (Option ℕ)) → first_refusal MAX_ITEMS (item ∷ more) ≡ Some refusals.TooLong
+pub full_of : (item : Option ℕ) (more : List (Option ℕ)) → first_refusal MAX_ITEMS (item ∷ more) ≡ Some refusals.TooLong
 unfolding first_refusal
 full_of None more = refl
 full_of (Some cpu) more = refl
@@ -88,11 +88,11 @@ pub schedule_too_long : (cpus : ℕ) (text : List ℕ) (n : ℕ) (items more : L
 schedule_too_long cpus text n items more item h e full =
     item_refused cpus text refusals.TooLong (h ∙ ap (first_refusal n) e ∙ ap (λ k. first_refusal k (item ∷ more)) full ∙ full_of item more)
 
-refused_item : (n : ℕ) (more : List (Option ℕ)) → n < MAX_ITEMS → first_refusal n (None ∷ more) ≡ Some (refusals.Item (n + 1))
+pub refused_item : (n : ℕ) (more : List (Option ℕ)) → n < MAX_ITEMS → first_refusal n (None ∷ more) ≡ Some (refusals.Item (n + 1))
 unfolding first_refusal
 refused_item n more few = rw (ne_eqb n MAX_ITEMS (λ e. omega arith)) refl
 
-good_item : (n cpu : ℕ) (more : List (Option ℕ)) → n < MAX_ITEMS → first_refusal n (Some cpu ∷ more) ≡ first_refusal (n + 1) more
+pub good_item : (n cpu : ℕ) (more : List (Option ℕ)) → n < MAX_ITEMS → first_refusal n (Some cpu ∷ more) ≡ first_refusal (n + 1) more
 unfolding first_refusal
 good_item n cpu more few = rw (ne_eqb n MAX_ITEMS (λ e. omega arith)) refl
 

@@ -1,4 +1,5 @@
 pub mod FaultText
+pub mod Laws
 pub mod Numbers
 pub mod Operations
 pub mod Programs
