@@ -5,7 +5,6 @@ use Rattle.std.proofs.lemmas.Bool.{eqb-true, ne_eqb, eq-eqb, false≢true}
 use Rattle.jh_script.specs.declared.op.Op.{Op}
 use Rattle.jh_script.specs.declared.line.Line.{Line}
 use Rattle.jh_script.specs.declared.line.Line.TheVariants.{Blank, Operation, Syntax, Width}
-use Rattle.jh_script.specs.declared.fault.TheConstants.{MAX_OPS, MAX_ITEMS}
 use Rattle.jh_script.specs.declared.fault.ScriptFault.{ScriptFault}
 use Rattle.jh_script.specs.declared.fault.ScriptFault.TheVariants as faults
 use Rattle.jh_script.specs.declared.fault.ScheduleFault.{ScheduleFault}
@@ -14,6 +13,7 @@ use Rattle.jh_script.specs.Laws.{IsGood, IsProgram, IsFirstBad, HasTooMany, IsSc
 use Rattle.jh_script.specs.Programs.{lines_of, line_number, first_fault, ops_of, unless, program_of}
 use Rattle.jh_script.specs.Schedules.{items_of, first_refusal, cpus_of, schedule_of}
 use Rattle.jh_script.proofs.ProgramLemmas.{op_room, good_item, refused_item, full_of}
+use Rattle.jh_script.specs.Limits.{most_ops, most_items}
 
 unless_ok : {X F : Type 0} (f : Option F) (x y : X) → unless f x ≡ Ok y → (f ≡ None) × (x ≡ y)
 unless_ok None x y e = (refl, cc)
@@ -124,22 +124,22 @@ behind_good (Operation op ∷ before) lines n room good few small =
 behind_good (Syntax ∷ before) lines n room good few small = absurd good.0
 behind_good (Width ∷ before) lines n room good few small = absurd good.0
 
-at_good : (before lines : List Line) (text : List ℕ) → lines_of text ≡ before ++ lines → AllByRecursion IsGood before → length (ops_of before) ≤ MAX_OPS → first_fault 0 MAX_OPS (lines_of text) ≡ first_fault (min (length before) (2 ^ 32 - 1)) (MAX_OPS - length (ops_of before)) lines
+at_good : (before lines : List Line) (text : List ℕ) → lines_of text ≡ before ++ lines → AllByRecursion IsGood before → length (ops_of before) ≤ most_ops → first_fault 0 most_ops (lines_of text) ≡ first_fault (min (length before) (2 ^ 32 - 1)) (most_ops - length (ops_of before)) lines
 at_good before lines text e good few =
     let same : min (0 + length before) (2 ^ 32 - 1) ≡ min (length before) (2 ^ 32 - 1) = omega arith in
-    ap (first_fault 0 MAX_OPS) e ∙ behind_good before lines 0 MAX_OPS good few (omega arith) ∙ ap (λ k. first_fault k (MAX_OPS - length (ops_of before)) lines) same
+    ap (first_fault 0 most_ops) e ∙ behind_good before lines 0 most_ops good few (omega arith) ∙ ap (λ k. first_fault k (most_ops - length (ops_of before)) lines) same
 
-told : (text : List ℕ) (f : Option ScriptFault) → first_fault 0 MAX_OPS (lines_of text) ≡ f → FaultOf 0 MAX_OPS (lines_of text) f
-told text f e = subst (FaultOf 0 MAX_OPS (lines_of text)) e (fault_of (lines_of text) 0 MAX_OPS)
+told : (text : List ℕ) (f : Option ScriptFault) → first_fault 0 most_ops (lines_of text) ≡ f → FaultOf 0 most_ops (lines_of text) f
+told text f e = subst (FaultOf 0 most_ops (lines_of text)) e (fault_of (lines_of text) 0 most_ops)
 
-answers : (text : List ℕ) (f : Option ScriptFault) → first_fault 0 MAX_OPS (lines_of text) ≡ f → program_of text ≡ unless f (ops_of (lines_of text))
+answers : (text : List ℕ) (f : Option ScriptFault) → first_fault 0 most_ops (lines_of text) ≡ f → program_of text ≡ unless f (ops_of (lines_of text))
 unfolding program_of
 answers text f e = ap (λ x. unless x (ops_of (lines_of text))) e
 
 pub program_to : (text : List ℕ) (ops : List Op) → program_of text ≡ Ok ops → IsProgram text ops
 unfolding program_of
 program_to text ops e =
-    let parts = unless_ok (first_fault 0 MAX_OPS (lines_of text)) (ops_of (lines_of text)) ops e in
+    let parts = unless_ok (first_fault 0 most_ops (lines_of text)) (ops_of (lines_of text)) ops e in
     let h = told text None parts.0 in
     record { good = h.0; few = omega (arith, h.1, ap length parts.1); are = sym parts.1 }
 
@@ -150,10 +150,10 @@ append_none (x ∷ xs) = ap (λ ys. x ∷ ys) (append_none xs)
 pub program_from : (text : List ℕ) (ops : List Op) → IsProgram text ops → program_of text ≡ Ok ops
 unfolding first_fault
 program_from text ops p =
-    let few : length (ops_of (lines_of text)) ≤ MAX_OPS = omega (arith, p.few, ap length p.are) in
+    let few : length (ops_of (lines_of text)) ≤ most_ops = omega (arith, p.few, ap length p.are) in
     answers text None (at_good (lines_of text) [] text (sym (append_none (lines_of text))) p.good few) ∙ ap Ok (sym p.are)
 
-bad_is : (text : List ℕ) (bad : Line) (number : ℕ) → BadAt 0 MAX_OPS (lines_of text) bad number → IsFirstBad text bad number
+bad_is : (text : List ℕ) (bad : Line) (number : ℕ) → BadAt 0 most_ops (lines_of text) bad number → IsFirstBad text bad number
 bad_is text bad number h = record {
   before = h.before;
   rest = h.rest;
@@ -165,11 +165,11 @@ bad_is text bad number h = record {
 
 pub syntax_to : (text : List ℕ) (number : ℕ) → program_of text ≡ Err (faults.Syntax number) → IsFirstBad text Syntax number
 unfolding program_of
-syntax_to text number e = bad_is text Syntax number (told text (Some (faults.Syntax number)) (unless_err (first_fault 0 MAX_OPS (lines_of text)) (ops_of (lines_of text)) (faults.Syntax number) e))
+syntax_to text number e = bad_is text Syntax number (told text (Some (faults.Syntax number)) (unless_err (first_fault 0 most_ops (lines_of text)) (ops_of (lines_of text)) (faults.Syntax number) e))
 
 pub width_to : (text : List ℕ) (number : ℕ) → program_of text ≡ Err (faults.Width number) → IsFirstBad text Width number
 unfolding program_of
-width_to text number e = bad_is text Width number (told text (Some (faults.Width number)) (unless_err (first_fault 0 MAX_OPS (lines_of text)) (ops_of (lines_of text)) (faults.Width number) e))
+width_to text number e = bad_is text Width number (told text (Some (faults.Width number)) (unless_err (first_fault 0 most_ops (lines_of text)) (ops_of (lines_of text)) (faults.Width number) e))
 
 capped : (k number : ℕ) → number ≡ min (k + 1) (2 ^ 32 - 1) → line_number (min k (2 ^ 32 - 1)) ≡ number
 capped k number e = omega arith
@@ -187,7 +187,7 @@ width_from text number b =
 pub too_long_to : (text : List ℕ) → program_of text ≡ Err faults.TooLong → HasTooMany text
 unfolding program_of
 too_long_to text e =
-    let h = told text (Some faults.TooLong) (unless_err (first_fault 0 MAX_OPS (lines_of text)) (ops_of (lines_of text)) faults.TooLong e) in
+    let h = told text (Some faults.TooLong) (unless_err (first_fault 0 most_ops (lines_of text)) (ops_of (lines_of text)) faults.TooLong e) in
     record { before = h.before; op = h.op; rest = h.rest; lines = h.lines_are; good = h.good; full = h.full }
 
 no_room : (n room : ℕ) (op : Op) (more : List Line) → room ≡ 0 → first_fault n room (Operation op ∷ more) ≡ Some faults.TooLong
@@ -198,7 +198,7 @@ pub too_long_from : (text : List ℕ) → HasTooMany text → program_of text �
 too_long_from text h =
     let full = h.full in
     answers text (Some faults.TooLong) (at_good h.before (Operation h.op ∷ h.rest) text h.lines h.good (omega arith)
-    ∙ no_room (min (length h.before) (2 ^ 32 - 1)) (MAX_OPS - length (ops_of h.before)) h.op h.rest (omega arith))
+    ∙ no_room (min (length h.before) (2 ^ 32 - 1)) (most_ops - length (ops_of h.before)) h.op h.rest (omega arith))
 
 -- ---- schedules
 
@@ -206,7 +206,7 @@ record RefusedAt (n : ℕ) (items : List (Option ℕ)) (number : ℕ) : Type 0 w
   before : List ℕ
   rest : List (Option ℕ)
   items_are : items ≡ map Some before ++ None ∷ rest
-  few : n + length before < MAX_ITEMS
+  few : n + length before < most_items
   number_is : number ≡ n + length before + 1
 
 record LongItems (n : ℕ) (items : List (Option ℕ)) : Type 0 where
@@ -214,11 +214,11 @@ record LongItems (n : ℕ) (items : List (Option ℕ)) : Type 0 where
   item : Option ℕ
   rest : List (Option ℕ)
   items_are : items ≡ map Some before ++ item ∷ rest
-  full : n + length before ≡ MAX_ITEMS
+  full : n + length before ≡ most_items
 
 record AllCpus (n : ℕ) (items : List (Option ℕ)) : Type 0 where
   are : items ≡ map Some (cpus_of items)
-  few : n + length (cpus_of items) ≤ MAX_ITEMS
+  few : n + length (cpus_of items) ≤ most_items
 
 abbrev RefusalOf : ℕ → List (Option ℕ) → Option ScheduleFault → Type 0
 RefusalOf n items None = AllCpus n items
@@ -245,15 +245,15 @@ cpu_later n cpu more (Some refusals.TooLong) h = record {
 }
 cpu_later n cpu more (Some refusals.NoMemory) h = absurd h
 
-below : (n : ℕ) → n ≤ MAX_ITEMS → eqb n MAX_ITEMS ≡ false → n < MAX_ITEMS
+below : (n : ℕ) → n ≤ most_items → eqb n most_items ≡ false → n < most_items
 below n most e =
-    let other : (n ≡ MAX_ITEMS) → ⊥ = λ z. false≢true (sym e ∙ eq-eqb n MAX_ITEMS z) in
+    let other : (n ≡ most_items) → ⊥ = λ z. false≢true (sym e ∙ eq-eqb n most_items z) in
     omega arith
 
-item_first : (n : ℕ) (item : Option ℕ) (more : List (Option ℕ)) → (n < MAX_ITEMS → RefusalOf (n + 1) more (first_refusal (n + 1) more)) → n ≤ MAX_ITEMS
-    → (t : Bool) → eqb n MAX_ITEMS ≡ t → RefusalOf n (item ∷ more) (first_refusal n (item ∷ more))
+item_first : (n : ℕ) (item : Option ℕ) (more : List (Option ℕ)) → (n < most_items → RefusalOf (n + 1) more (first_refusal (n + 1) more)) → n ≤ most_items
+    → (t : Bool) → eqb n most_items ≡ t → RefusalOf n (item ∷ more) (first_refusal n (item ∷ more))
 item_first n item more h most true e =
-    let full : n ≡ MAX_ITEMS = eqb-true n MAX_ITEMS e in
+    let full : n ≡ most_items = eqb-true n most_items e in
     let is : first_refusal n (item ∷ more) ≡ Some refusals.TooLong = ap (λ k. first_refusal k (item ∷ more)) full ∙ full_of item more in
     subst (RefusalOf n (item ∷ more)) (sym is) (record { before = []; item = item; rest = more; items_are = refl; full = omega arith })
 item_first n None more h most false e =
@@ -263,12 +263,12 @@ item_first n (Some cpu) more h most false e =
     let few = below n most e in
     subst (RefusalOf n (Some cpu ∷ more)) (sym (good_item n cpu more few)) (cpu_later n cpu more (first_refusal (n + 1) more) (h few))
 
-refusal_of : (items : List (Option ℕ)) (n : ℕ) → n ≤ MAX_ITEMS → RefusalOf n items (first_refusal n items)
+refusal_of : (items : List (Option ℕ)) (n : ℕ) → n ≤ most_items → RefusalOf n items (first_refusal n items)
 unfolding first_refusal cpus_of
 refusal_of [] n most = record { are = refl; few = omega arith }
-refusal_of (item ∷ more) n most = item_first n item more (λ few. refusal_of more (n + 1) (omega arith)) most (eqb n MAX_ITEMS) refl
+refusal_of (item ∷ more) n most = item_first n item more (λ few. refusal_of more (n + 1) (omega arith)) most (eqb n most_items) refl
 
-behind_cpus : (before : List ℕ) (items : List (Option ℕ)) (n : ℕ) → n + length before ≤ MAX_ITEMS → first_refusal n (map Some before ++ items) ≡ first_refusal (n + length before) items
+behind_cpus : (before : List ℕ) (items : List (Option ℕ)) (n : ℕ) → n + length before ≤ most_items → first_refusal n (map Some before ++ items) ≡ first_refusal (n + length before) items
 behind_cpus [] items n few =
     let same : n + 0 ≡ n = omega arith in
     ap (λ k. first_refusal k items) (sym same)
@@ -283,7 +283,7 @@ items_answer : (cpus : ℕ) (text : List ℕ) (f : Option ScheduleFault) → fir
 unfolding schedule_of
 items_answer cpus text f e = ap (λ x. unless x (cpus_of (items_of cpus text))) e
 
-at_cpus : (cpus : ℕ) (text before : List ℕ) (items : List (Option ℕ)) → items_of cpus text ≡ map Some before ++ items → length before ≤ MAX_ITEMS → first_refusal 0 (items_of cpus text) ≡ first_refusal (length before) items
+at_cpus : (cpus : ℕ) (text before : List ℕ) (items : List (Option ℕ)) → items_of cpus text ≡ map Some before ++ items → length before ≤ most_items → first_refusal 0 (items_of cpus text) ≡ first_refusal (length before) items
 at_cpus cpus text before items e few =
     let same : 0 + length before ≡ length before = omega arith in
     ap (first_refusal 0) e ∙ behind_cpus before items 0 (omega arith) ∙ ap (λ k. first_refusal k items) same

@@ -4,13 +4,13 @@ use Rattle.std.proofs.lemmas.Bool.{ne_eqb, eq-eqb}
 use Rattle.jh_script.specs.declared.op.Op.{Op}
 use Rattle.jh_script.specs.declared.line.Line.{Line}
 use Rattle.jh_script.specs.declared.line.Line.TheVariants.{Blank, Operation, Syntax, Width}
-use Rattle.jh_script.specs.declared.fault.TheConstants.{MAX_OPS, MAX_ITEMS}
 use Rattle.jh_script.specs.declared.fault.ScriptFault.{ScriptFault}
 use Rattle.jh_script.specs.declared.fault.ScriptFault.TheVariants as faults
 use Rattle.jh_script.specs.declared.fault.ScheduleFault.{ScheduleFault}
 use Rattle.jh_script.specs.declared.fault.ScheduleFault.TheVariants as refusals
 use Rattle.jh_script.specs.Programs.{lines_of, line_number, first_fault, ops_of, unless, program_of}
 use Rattle.jh_script.specs.Schedules.{items_of, first_refusal, cpus_of, schedule_of}
+use Rattle.jh_script.specs.Limits.{most_ops, most_items}
 
 append_none : {A : Type 0} (xs : List A) → xs ++ [] ≡ xs
 append_none [] = refl
@@ -19,17 +19,17 @@ append_none (x ∷ xs) = ap (λ ys. x ∷ ys) (append_none xs)
 -- ---- programs
 
 abbrev program_fault : List ℕ → Option ScriptFault
-program_fault text = first_fault 0 MAX_OPS (lines_of text)
+program_fault text = first_fault 0 most_ops (lines_of text)
 
 refused : (text : List ℕ) (fault : ScriptFault) → program_fault text ≡ Some fault → program_of text ≡ Err fault
 unfolding program_of
 refused text fault e = ap (λ x. unless x (ops_of (lines_of text))) e
 
-pub program_too_long : (text : List ℕ) (n : ℕ) (ops : List Op) (lines more : List Line) (op : Op) → program_fault text ≡ first_fault n (MAX_OPS - length ops) lines → lines ≡ Operation op ∷ more → length ops ≡ MAX_OPS → program_of text ≡ Err faults.TooLong
+pub program_too_long : (text : List ℕ) (n : ℕ) (ops : List Op) (lines more : List Line) (op : Op) → program_fault text ≡ first_fault n (most_ops - length ops) lines → lines ≡ Operation op ∷ more → length ops ≡ most_ops → program_of text ≡ Err faults.TooLong
 unfolding first_fault
 program_too_long text n ops lines more op h e full =
-    let none : MAX_OPS - length ops ≡ 0 = omega arith in
-    refused text faults.TooLong (h ∙ ap (first_fault n (MAX_OPS - length ops)) e ∙ ap (λ room. first_fault n room (Operation op ∷ more)) none)
+    let none : most_ops - length ops ≡ 0 = omega arith in
+    refused text faults.TooLong (h ∙ ap (first_fault n (most_ops - length ops)) e ∙ ap (λ room. first_fault n room (Operation op ∷ more)) none)
 
 pub program_syntax : (text : List ℕ) (n next room : ℕ) (lines more : List Line) → program_fault text ≡ first_fault n room lines → lines ≡ Syntax ∷ more → next ≡ line_number n → program_of text ≡ Err (faults.Syntax next)
 unfolding first_fault
@@ -59,11 +59,11 @@ pub op_room : (n room : ℕ) (op : Op) (more : List Line) → 0 < room → first
 unfolding first_fault
 op_room n room op more some = rw (ne_eqb room 0 (λ e. omega arith)) refl
 
-pub op_fault : (text : List ℕ) (n next : ℕ) (ops pushed : List Op) (lines more : List Line) (op : Op) → program_fault text ≡ first_fault n (MAX_OPS - length ops) lines → lines ≡ Operation op ∷ more → next ≡ line_number n → length ops < MAX_OPS → pushed ≡ ops ++ op ∷ [] → program_fault text ≡ first_fault next (MAX_OPS - length pushed) more
+pub op_fault : (text : List ℕ) (n next : ℕ) (ops pushed : List Op) (lines more : List Line) (op : Op) → program_fault text ≡ first_fault n (most_ops - length ops) lines → lines ≡ Operation op ∷ more → next ≡ line_number n → length ops < most_ops → pushed ≡ ops ++ op ∷ [] → program_fault text ≡ first_fault next (most_ops - length pushed) more
 op_fault text n next ops pushed lines more op h e number few push =
-    let left : MAX_OPS - length ops - 1 ≡ MAX_OPS - length pushed = omega (arith, ap length push, length-append ops (op ∷ [])) in
-    h ∙ ap (first_fault n (MAX_OPS - length ops)) e ∙ op_room n (MAX_OPS - length ops) op more (omega arith)
-    ∙ ap (λ k. first_fault k (MAX_OPS - length ops - 1) more) (sym number) ∙ ap (λ room. first_fault next room more) left
+    let left : most_ops - length ops - 1 ≡ most_ops - length pushed = omega (arith, ap length push, length-append ops (op ∷ [])) in
+    h ∙ ap (first_fault n (most_ops - length ops)) e ∙ op_room n (most_ops - length ops) op more (omega arith)
+    ∙ ap (λ k. first_fault k (most_ops - length ops - 1) more) (sym number) ∙ ap (λ room. first_fault next room more) left
 
 pub op_ops : (text : List ℕ) (ops pushed : List Op) (lines more : List Line) (op : Op) → ops_of (lines_of text) ≡ ops ++ ops_of lines → lines ≡ Operation op ∷ more → pushed ≡ ops ++ op ∷ [] → ops_of (lines_of text) ≡ pushed ++ ops_of more
 unfolding ops_of
@@ -79,24 +79,24 @@ item_refused : (cpus : ℕ) (text : List ℕ) (fault : ScheduleFault) → schedu
 unfolding schedule_of
 item_refused cpus text fault e = ap (λ x. unless x (cpus_of (items_of cpus text))) e
 
-pub full_of : (item : Option ℕ) (more : List (Option ℕ)) → first_refusal MAX_ITEMS (item ∷ more) ≡ Some refusals.TooLong
+pub full_of : (item : Option ℕ) (more : List (Option ℕ)) → first_refusal most_items (item ∷ more) ≡ Some refusals.TooLong
 unfolding first_refusal
 full_of None more = refl
 full_of (Some cpu) more = refl
 
-pub schedule_too_long : (cpus : ℕ) (text : List ℕ) (n : ℕ) (items more : List (Option ℕ)) (item : Option ℕ) → schedule_fault cpus text ≡ first_refusal n items → items ≡ item ∷ more → n ≡ MAX_ITEMS → schedule_of cpus text ≡ Err refusals.TooLong
+pub schedule_too_long : (cpus : ℕ) (text : List ℕ) (n : ℕ) (items more : List (Option ℕ)) (item : Option ℕ) → schedule_fault cpus text ≡ first_refusal n items → items ≡ item ∷ more → n ≡ most_items → schedule_of cpus text ≡ Err refusals.TooLong
 schedule_too_long cpus text n items more item h e full =
     item_refused cpus text refusals.TooLong (h ∙ ap (first_refusal n) e ∙ ap (λ k. first_refusal k (item ∷ more)) full ∙ full_of item more)
 
-pub refused_item : (n : ℕ) (more : List (Option ℕ)) → n < MAX_ITEMS → first_refusal n (None ∷ more) ≡ Some (refusals.Item (n + 1))
+pub refused_item : (n : ℕ) (more : List (Option ℕ)) → n < most_items → first_refusal n (None ∷ more) ≡ Some (refusals.Item (n + 1))
 unfolding first_refusal
-refused_item n more few = rw (ne_eqb n MAX_ITEMS (λ e. omega arith)) refl
+refused_item n more few = rw (ne_eqb n most_items (λ e. omega arith)) refl
 
-pub good_item : (n cpu : ℕ) (more : List (Option ℕ)) → n < MAX_ITEMS → first_refusal n (Some cpu ∷ more) ≡ first_refusal (n + 1) more
+pub good_item : (n cpu : ℕ) (more : List (Option ℕ)) → n < most_items → first_refusal n (Some cpu ∷ more) ≡ first_refusal (n + 1) more
 unfolding first_refusal
-good_item n cpu more few = rw (ne_eqb n MAX_ITEMS (λ e. omega arith)) refl
+good_item n cpu more few = rw (ne_eqb n most_items (λ e. omega arith)) refl
 
-pub schedule_item : (cpus : ℕ) (text : List ℕ) (n : ℕ) (items more : List (Option ℕ)) → schedule_fault cpus text ≡ first_refusal n items → items ≡ None ∷ more → n < MAX_ITEMS → schedule_of cpus text ≡ Err (refusals.Item (n + 1))
+pub schedule_item : (cpus : ℕ) (text : List ℕ) (n : ℕ) (items more : List (Option ℕ)) → schedule_fault cpus text ≡ first_refusal n items → items ≡ None ∷ more → n < most_items → schedule_of cpus text ≡ Err (refusals.Item (n + 1))
 schedule_item cpus text n items more h e few =
     item_refused cpus text (refusals.Item (n + 1)) (h ∙ ap (first_refusal n) e ∙ refused_item n more few)
 
@@ -106,7 +106,7 @@ schedule_done cpus text n found items h all e =
     ap (λ x. unless x (cpus_of (items_of cpus text))) (h ∙ ap (first_refusal n) e)
     ∙ ap Ok (all ∙ ap (λ x. found ++ cpus_of x) e ∙ append_none found)
 
-pub cpu_fault : (cpus : ℕ) (text : List ℕ) (found pushed : List ℕ) (items more : List (Option ℕ)) (cpu : ℕ) → schedule_fault cpus text ≡ first_refusal (length found) items → items ≡ Some cpu ∷ more → length found < MAX_ITEMS → pushed ≡ found ++ cpu ∷ [] → schedule_fault cpus text ≡ first_refusal (length pushed) more
+pub cpu_fault : (cpus : ℕ) (text : List ℕ) (found pushed : List ℕ) (items more : List (Option ℕ)) (cpu : ℕ) → schedule_fault cpus text ≡ first_refusal (length found) items → items ≡ Some cpu ∷ more → length found < most_items → pushed ≡ found ++ cpu ∷ [] → schedule_fault cpus text ≡ first_refusal (length pushed) more
 cpu_fault cpus text found pushed items more cpu h e few push =
     let next : length found + 1 ≡ length pushed = omega (arith, ap length push, length-append found (cpu ∷ [])) in
     h ∙ ap (first_refusal (length found)) e ∙ good_item (length found) cpu more few ∙ ap (λ k. first_refusal k more) next

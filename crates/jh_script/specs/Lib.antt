@@ -1,5 +1,6 @@
 pub mod FaultText
 pub mod Laws
+pub mod Limits
 pub mod Numbers
 pub mod Operations
 pub mod Programs

@@ -4,10 +4,10 @@ use Rattle.std.specs.Str.Lines.{lines}
 use Rattle.jh_script.specs.declared.op.Op.{Op}
 use Rattle.jh_script.specs.declared.line.Line.{Line}
 use Rattle.jh_script.specs.declared.line.Line.TheVariants.{Blank, Operation, Syntax, Width}
-use Rattle.jh_script.specs.declared.fault.TheConstants.{MAX_OPS}
 use Rattle.jh_script.specs.declared.fault.ScriptFault.{ScriptFault}
 use Rattle.jh_script.specs.declared.fault.ScriptFault.TheVariants as faults
 use Rattle.jh_script.specs.Operations.{line_of}
+use Rattle.jh_script.specs.Limits.{most_ops}
 
 -- the text's lines are cut at line feeds, and lose a carriage return before it; the last may lack its line feed, and
 -- keeps a carriage return then
@@ -40,4 +40,4 @@ unless (Some fault) x = Err fault
 
 -- the operations of the text, or its first fault
 unfoldable pub program_of : List ℕ → Result (List Op) ScriptFault
-program_of text = unless (first_fault 0 MAX_OPS (lines_of text)) (ops_of (lines_of text))
+program_of text = unless (first_fault 0 most_ops (lines_of text)) (ops_of (lines_of text))

@@ -1,12 +1,12 @@
 -- What the text of a schedule tells.
 use Rattle.std.specs.Prelude.{◌&&◌, ℕ, ◌+◌, ◌<◌, IsTrue, Bool, ◌==◌, nat_lt, if◌then◌else◌, Option, Some, None, Result, List, [], ◌∷◌, map}
 use Rattle.std.specs.Int.{bit_at}
-use Rattle.jh_script.specs.declared.fault.TheConstants.{MAX_ITEMS}
 use Rattle.jh_script.specs.declared.fault.ScheduleFault.{ScheduleFault}
 use Rattle.jh_script.specs.declared.fault.ScheduleFault.TheVariants as faults
 use Rattle.jh_script.specs.Numbers.{decimal_of}
 use Rattle.jh_script.specs.Words.{words, spaces}
 use Rattle.jh_script.specs.Programs.{unless}
+use Rattle.jh_script.specs.Limits.{most_items}
 
 -- bit n of the set says that the board has CPU n
 abbrev pub has_cpu : ℕ → ℕ → Bool
@@ -28,8 +28,8 @@ items_of cpus text = map (λ word. cpu_of cpus (decimal_of word)) (words spaces 
 -- the first fault of items that stand behind others; items count from 1
 unfoldable pub first_refusal : ℕ → List (Option ℕ) → Option ScheduleFault
 first_refusal before [] = None
-first_refusal before (None ∷ more) = if before == MAX_ITEMS then Some faults.TooLong else Some (faults.Item (before + 1))
-first_refusal before (Some cpu ∷ more) = if before == MAX_ITEMS then Some faults.TooLong else first_refusal (before + 1) more
+first_refusal before (None ∷ more) = if before == most_items then Some faults.TooLong else Some (faults.Item (before + 1))
+first_refusal before (Some cpu ∷ more) = if before == most_items then Some faults.TooLong else first_refusal (before + 1) more
 
 unfoldable pub cpus_of : List (Option ℕ) → List ℕ
 cpus_of [] = []

@@ -19,7 +19,7 @@ use std::alloc::Global;
 /// The first fault of the text, or want of memory.
 pub fn read_program(alloc: Global, text: &[u8]) -> Result<Seq<Op>, ScriptFault>
     ensures exact { result ≢ Err ScriptFault.NoMemory → result ≡ program_of text.now }
-    ensures few { IfOk result (λ ops. length ops ≤ MAX_OPS) }
+    ensures few { IfOk result (λ ops. length ops ≤ 4096) }
     ensures plain { IfOk result (λ ops. All IsPlain ops) }
 {
     let mut ops = Seq::new(alloc);

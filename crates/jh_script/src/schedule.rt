@@ -20,7 +20,7 @@ const SPACES: &[u8] = b" \t\n\r";
 /// The first fault of the text, or want of memory.
 pub fn read_schedule(alloc: Global, text: &[u8], cpus: u16) -> Result<Seq<u8>, ScheduleFault>
     ensures exact { result ≢ Err ScheduleFault.NoMemory → result ≡ schedule_of cpus text.now }
-    ensures few { IfOk result (λ items. length items ≤ MAX_ITEMS) }
+    ensures few { IfOk result (λ items. length items ≤ 262144) }
     ensures present { IfOk result (All (IsPresent cpus)) }
 {
     let mut items = Seq::new(alloc);

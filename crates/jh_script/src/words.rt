@@ -56,12 +56,11 @@ pub(crate) fn next_word<'a>(gaps: &[u8], text: &'a [u8]) -> Option<(&'a [u8], &'
     let Some(start) = word_start(gaps, text) else {
         return None;
     };
-    let text = behind(text, start);
-    let Some(end) = word_end(gaps, text) else {
-        return Some((text, &[]));
+    let word = behind(text, start);
+    let Some(end) = word_end(gaps, word) else {
+        return Some((word, &[]));
     };
-    let (word, rest) = text.split_at(end);
-    Some((word, rest))
+    Some(word.split_at(end))
 }
 
 /// Where the first byte stands that parts no words.

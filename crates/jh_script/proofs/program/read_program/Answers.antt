@@ -1,17 +1,17 @@
 use Rattle.std.proofs.Common.{◌≡◌, ◌<◌, ◌≤◌, [], ◌∷◌, ◌++◌, length, rules, arith, length-append, sym, ap, subst}
 use Rattle.std.specs.List.{All}
 use Rattle.std.proofs.lemmas.List.Elements.{All-push}
-use Rattle.jh_script.specs.declared.fault.TheConstants.{MAX_OPS}
 use Rattle.jh_script.specs.declared.line.Line.TheVariants.{Blank, Operation, Syntax, Width}
 use Rattle.jh_script.specs.Operations.{IsPlain}
 use Rattle.jh_script.specs.Programs.{lines_of, line_number}
 use Rattle.jh_script.proofs.ProgramLemmas.{program_too_long, program_syntax, program_width, program_done, blank_fault, blank_ops, op_fault, op_ops}
 use Rattle.jh_script.proofs.program.read_program.Goals as goal
+use Rattle.jh_script.specs.Limits.{most_ops}
 
 pub returns-then-len-eq-MAX_OPS-clause-exact : goal.returns-then-len-eq-MAX_OPS-clause-exact
 returns-then-len-eq-MAX_OPS-clause-exact c = λ room.
     let lines : lines_of c.loop-line.rest.now ≡ Operation c.in-Operation.op ∷ lines_of c.in-Some.after.now = search rules in
-    let full : length c.loop-line.ops ≡ MAX_OPS = search rules in
+    let full : length c.loop-line.ops ≡ most_ops = search rules in
     sym (program_too_long c.args.text.now c.loop-line.number c.loop-line.ops (lines_of c.loop-line.rest.now) (lines_of c.in-Some.after.now) c.in-Operation.op c.loop-line.invariant.faults lines full)
 
 pub returns-in-Syntax-clause-exact : goal.returns-in-Syntax-clause-exact
@@ -46,7 +46,7 @@ loop-line-preserved c =
     let push : c.push.new.self ≡ c.loop-line.ops ++ op ∷ [] = search rules in
     let sound : IsPlain op = search rules in
     let before = c.loop-line.invariant in
-    let few : length c.loop-line.ops < MAX_OPS = omega arith in
+    let few : length c.loop-line.ops < most_ops = omega arith in
     record {
       faults = op_fault c.args.text.now c.loop-line.number c.saturating_add-number.result c.loop-line.ops c.push.new.self (lines_of c.loop-line.rest.now) (lines_of c.in-Some.after.now) op before.faults lines number few push;
       found = op_ops c.args.text.now c.loop-line.ops c.push.new.self (lines_of c.loop-line.rest.now) (lines_of c.in-Some.after.now) op before.found lines push;

@@ -1,16 +1,16 @@
 use Rattle.std.proofs.Common.{◌≡◌, ◌≤◌, ◌-◌, ◌++◌, length}
 use Rattle.std.specs.List.{All}
-use Rattle.jh_script.specs.declared.fault.TheConstants.{MAX_OPS}
 use Rattle.jh_script.specs.Operations.{IsPlain}
 use Rattle.jh_script.specs.Programs.{lines_of, first_fault, ops_of}
 use Rattle.jh_script.proofs.program.read_program.Given as goal
+use Rattle.jh_script.specs.Limits.{most_ops}
 
 -- the lines that are left have the fault of all, and the operations behind those so far
 abbrev pub invariant-loop-line : goal.invariant-loop-line
 invariant-loop-line l = record {
-  faults : first_fault 0 MAX_OPS (lines_of l.text) ≡ first_fault l.number (MAX_OPS - length l.ops) (lines_of l.rest);
+  faults : first_fault 0 most_ops (lines_of l.text) ≡ first_fault l.number (most_ops - length l.ops) (lines_of l.rest);
   found : ops_of (lines_of l.text) ≡ l.ops ++ ops_of (lines_of l.rest);
-  few : length l.ops ≤ MAX_OPS;
+  few : length l.ops ≤ most_ops;
   plain : All IsPlain l.ops;
 }
 

@@ -11,13 +11,13 @@ returns-in_default-clause-words c =
 pub returns-in_default-word_end-clause-words : goal.returns-in_default-word_end-clause-words
 returns-in_default-word_end-clause-words c =
     let start : position (λ b. not (is_gap c.args.gaps.now b)) c.args.text.now ≡ Some c.in-Some.start = search rules in
-    let word : c.behind-text.result.now ≡ drop c.in-Some.start c.args.text.now = search rules in
-    let none : position (is_gap c.args.gaps.now) c.behind-text.result.now ≡ None = search rules in
-    words_last c.args.gaps.now c.args.text.now c.behind-text.result.now c.in-Some.start start word none
+    let word : c.behind-word.result.now ≡ drop c.in-Some.start c.args.text.now = search rules in
+    let none : position (is_gap c.args.gaps.now) c.behind-word.result.now ≡ None = search rules in
+    words_last c.args.gaps.now c.args.text.now c.behind-word.result.now c.in-Some.start start word none
 
 pub returns-clause-words : goal.returns-clause-words
 returns-clause-words c =
-    let text = c.behind-text.result.now in
+    let text = c.behind-word.result.now in
     let end = c.in-Some-word_end.end in
     let start : position (λ b. not (is_gap c.args.gaps.now b)) c.args.text.now ≡ Some c.in-Some.start = search rules in
     let word : text ≡ drop c.in-Some.start c.args.text.now = search rules in
@@ -30,7 +30,7 @@ returns-clause-words c =
 
 pub returns-clause-shorter : goal.returns-clause-shorter
 returns-clause-shorter c =
-    let text = c.behind-text.result.now in
+    let text = c.behind-word.result.now in
     let end = c.in-Some-word_end.end in
     let start : position (λ b. not (is_gap c.args.gaps.now b)) c.args.text.now ≡ Some c.in-Some.start = search rules in
     let word : text ≡ drop c.in-Some.start c.args.text.now = search rules in
