@@ -1,3 +1,4 @@
+pub mod GrammarLemmas
 pub mod LawLemmas
 pub mod NumberLemmas
 pub mod OperationLemmas

@@ -1,4 +1,5 @@
 pub mod FaultText
+pub mod Grammar
 pub mod Laws
 pub mod Limits
 pub mod Numbers

@@ -1,13 +1,18 @@
 //! The definitions of programs and schedules, in the words of the subject. Each function does nothing; its
 //! contract is the law.
-ghost use Rattle.std.specs.Prelude.{◌≡◌, ◌↔◌, ◌<◌, ◌^◌, ℕ, List, Some, Ok, Err};
+ghost use Rattle.std.specs.Prelude.{◌≡◌, ◌↔◌, ℕ, nat_lt, true, List, Some, Ok, Err};
 ghost use Rattle.jh_script.specs.declared.op.Op.{Op as TheOp};
 ghost use Rattle.jh_script.specs.declared.line.Line.TheVariants as lines;
 ghost use Rattle.jh_script.specs.declared.fault.ScriptFault.TheVariants as faults;
 ghost use Rattle.jh_script.specs.declared.fault.ScheduleFault.TheVariants as refusals;
 ghost use Rattle.jh_script.specs.Laws.{IsProgram, IsFirstBad, HasTooMany, IsSchedule, IsFirstRefused, HasTooManyItems};
+ghost use Rattle.jh_script.specs.Grammar.{IsNumber, Writes};
+ghost use Rattle.jh_script.specs.Numbers.{number_of};
+ghost use Rattle.jh_script.specs.Operations.{IsPlain, line_of};
 ghost use Rattle.jh_script.specs.Programs.{program_of};
 ghost use Rattle.jh_script.specs.Schedules.{schedule_of};
+ghost use Rattle.jh_script.specs.Words.{blanks, words};
+ghost use Rattle.std.specs.List.{list_all};
 
 /// A text is a program where none of its lines has a fault and the operations aren't too many; else the first
 /// line with a fault decides, or the first operation that is one too many, whichever comes first.
@@ -24,4 +29,15 @@ pub fn first_fault_of_a_schedule_decides()
     ensures schedule { (cpus : ℕ) (text items : List ℕ) → (schedule_of cpus text ≡ Ok items) ↔ IsSchedule cpus text items }
     ensures item { (cpus : ℕ) (text : List ℕ) (number : ℕ) → (schedule_of cpus text ≡ Err (refusals.Item number)) ↔ IsFirstRefused cpus text number }
     ensures too_long { (cpus : ℕ) (text : List ℕ) → (schedule_of cpus text ≡ Err refusals.TooLong) ↔ HasTooManyItems cpus text }
+{}
+
+/// A line is that of an operation exactly where its bytes are below 128, its words are the operation's and it is
+/// within its limits; where it isn't within them, the line's fault is its width. A word is a number where it is the
+/// number in decimal, or `0x` and hexadecimal digits that write it.
+pub fn lines_are_words_of_operations()
+    ensures operation { (text : List ℕ) (op : TheOp) → (line_of text ≡ lines.Operation op)
+        ↔ ((list_all (λ byte. nat_lt byte 128) text ≡ true) × Writes (words blanks text) op × IsPlain op) }
+    ensures width { (text : List ℕ) (op : TheOp) → list_all (λ byte. nat_lt byte 128) text ≡ true
+        → Writes (words blanks text) op → (IsPlain op → ⊥) → line_of text ≡ lines.Width }
+    ensures number { (word : List ℕ) (n : ℕ) → (number_of word ≡ Some n) ↔ IsNumber word n }
 {}

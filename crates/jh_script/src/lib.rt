@@ -16,7 +16,10 @@ mod words;
 
 pub use fault::{MAX_ITEMS, MAX_OPS, ScheduleFault, ScriptFault};
 pub use image::{Image, Preload, Program};
-pub use laws::{first_fault_of_a_program_decides, first_fault_of_a_schedule_decides};
+pub use laws::{
+    first_fault_of_a_program_decides, first_fault_of_a_schedule_decides,
+    lines_are_words_of_operations,
+};
 pub use op::Op;
 pub use program::read_program;
 pub use schedule::read_schedule;
