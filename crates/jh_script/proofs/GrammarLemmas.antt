@@ -20,7 +20,7 @@ use Rattle.jh_script.specs.declared.line.Line.TheVariants.{Blank, Operation, Syn
 use Rattle.jh_script.specs.Numbers.{are_digits, value_of, decimal_of, hexadecimal_of, number_of}
 use Rattle.jh_script.specs.Words.{words, blanks}
 use Rattle.jh_script.specs.Operations.{none_of, one_of, two_of, three_of, op_of, is_plain, IsPlain, line_of, line_of_op, line_of_words}
-use Rattle.jh_script.specs.Grammar.{IsDecimal, IsHexadecimal, IsNumber, IsCallOf0, IsCallOf1, IsCallOf2, IsCallOf3, Writes}
+use Rattle.jh_script.specs.Grammar.{IsDecimal, IsHexadecimal, IsNumber, IsCallOf0, IsCallOf1, IsCallOf2, IsCallOf3, are_ascii, IsSkipped, IsTooWide, Writes}
 use Rattle.jh_script.proofs.OperationLemmas.{both, plain, plain_from}
 
 -- ---- numbers
@@ -264,9 +264,6 @@ op_from ws (Hvc code a b) w = ap line_of_words w.are ∙ ap (λ o. line_of_op (o
 
 -- ---- lines
 
-abbrev are_ascii : List ℕ → Bool
-are_ascii text = list_all (λ byte. ltb byte 128) text
-
 same_op : (o op : Op) → Operation o ≡ Operation op → o ≡ op
 same_op o op e = cc
 
@@ -317,6 +314,71 @@ wide_line op h = by (is_plain op) refl
     by true e = absurd (h (plain op e))
     by false e = refl
 
-pub width_line : (text : List ℕ) (op : Op) → are_ascii text ≡ true → Writes (words blanks text) op → (IsPlain op → ⊥) → line_of text ≡ Width
+op_wide : (o : Option Op) → line_of_op o ≡ Width → (op : Op) × (o ≡ Some op) × (IsPlain op → ⊥)
+unfolding line_of_op
+op_wide None e = cc
+op_wide (Some o) e = by (is_plain o) refl e
+  where
+    by : (t : Bool) → is_plain o ≡ t → cond t (Operation o) Width ≡ Width → (op : Op) × (Some o ≡ Some op) × (IsPlain op → ⊥)
+    by true h e = cc
+    by false h e = (o, refl, λ p. false≢true (sym h ∙ plain_from o p))
+
+words_wide : (ws : List (List ℕ)) → line_of_words ws ≡ Width → (op : Op) × Writes ws op × (IsPlain op → ⊥)
+unfolding line_of_words
+words_wide [] e = cc
+words_wide (name ∷ behind) e = by (starts_with nat_eq name (codes "#")) e
+  where
+    by : (t : Bool) → cond t Blank (line_of_op (op_of name behind)) ≡ Width → (op : Op) × Writes (name ∷ behind) op × (IsPlain op → ⊥)
+    by true e = cc
+    by false e =
+        let wide = op_wide (op_of name behind) e in
+        (wide.0, op_to name behind wide.0 wide.1, wide.2)
+
+pub width_to : (text : List ℕ) → line_of text ≡ Width → IsTooWide text
 unfolding line_of
-width_line text op ascii w wide = rw ascii (op_from (words blanks text) op w ∙ wide_line op wide)
+width_to text e = by (are_ascii text) refl e
+  where
+    by : (t : Bool) → are_ascii text ≡ t → cond t (line_of_words (words blanks text)) Syntax ≡ Width → IsTooWide text
+    by false h e = cc
+    by true h e =
+        let wide = words_wide (words blanks text) e in
+        record { ascii = h; op = wide.0; written = wide.1; wide = wide.2 }
+
+pub width_from : (text : List ℕ) → IsTooWide text → line_of text ≡ Width
+unfolding line_of
+width_from text w = rw (w.ascii) (op_from (words blanks text) w.op w.written ∙ wide_line w.op w.wide)
+
+no_blank : (o : Option Op) → line_of_op o ≡ Blank → ⊥
+unfolding line_of_op
+no_blank None e = cc
+no_blank (Some o) e = by (is_plain o) e
+  where
+    by : (t : Bool) → cond t (Operation o) Width ≡ Blank → ⊥
+    by true e = cc
+    by false e = cc
+
+words_blank : (ws : List (List ℕ)) → line_of_words ws ≡ Blank → IsSkipped ws
+unfolding line_of_words
+words_blank [] e = tt
+words_blank (name ∷ behind) e = by (starts_with nat_eq name (codes "#")) refl e
+  where
+    by : (t : Bool) → starts_with nat_eq name (codes "#") ≡ t → cond t Blank (line_of_op (op_of name behind)) ≡ Blank → starts_with nat_eq name (codes "#") ≡ true
+    by true h e = h
+    by false h e = absurd (no_blank (op_of name behind) e)
+
+skipped : (ws : List (List ℕ)) → IsSkipped ws → line_of_words ws ≡ Blank
+unfolding line_of_words
+skipped [] h = refl
+skipped (name ∷ behind) h = ap (λ t. cond t Blank (line_of_op (op_of name behind))) h
+
+pub blank_to : (text : List ℕ) → line_of text ≡ Blank → (are_ascii text ≡ true) × IsSkipped (words blanks text)
+unfolding line_of
+blank_to text e = by (are_ascii text) refl e
+  where
+    by : (t : Bool) → are_ascii text ≡ t → cond t (line_of_words (words blanks text)) Syntax ≡ Blank → (are_ascii text ≡ true) × IsSkipped (words blanks text)
+    by false h e = cc
+    by true h e = (h, words_blank (words blanks text) e)
+
+pub blank_from : (text : List ℕ) → (are_ascii text ≡ true) × IsSkipped (words blanks text) → line_of text ≡ Blank
+unfolding line_of
+blank_from text h = rw (h.0) (skipped (words blanks text) h.1)

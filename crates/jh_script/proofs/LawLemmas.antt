@@ -333,3 +333,39 @@ many_items_from cpus text h =
     let full = h.full in
     items_answer cpus text (Some refusals.TooLong) (at_cpus cpus text h.before (h.item ∷ h.rest) h.items (omega arith)
     ∙ ap (λ k. first_refusal k (h.item ∷ h.rest)) h.full ∙ full_of h.item h.rest)
+
+-- ---- blank lines
+
+good_skip : (before after : List Line) → AllByRecursion IsGood (before ++ Blank ∷ after) → AllByRecursion IsGood (before ++ after)
+good_skip [] after good = good.1
+good_skip (line ∷ before) after good = (good.0, good_skip before after good.1)
+
+good_insert : (before after : List Line) → AllByRecursion IsGood (before ++ after) → AllByRecursion IsGood (before ++ Blank ∷ after)
+good_insert [] after good = (tt, good)
+good_insert (line ∷ before) after good = (good.0, good_insert before after good.1)
+
+ops_skip : (before after : List Line) → ops_of (before ++ Blank ∷ after) ≡ ops_of (before ++ after)
+unfolding ops_of
+ops_skip [] after = refl
+ops_skip (Blank ∷ before) after = ops_skip before after
+ops_skip (Operation op ∷ before) after = ap (λ ops. op ∷ ops) (ops_skip before after)
+ops_skip (Syntax ∷ before) after = ops_skip before after
+ops_skip (Width ∷ before) after = ops_skip before after
+
+pub without_blank : (one other : List ℕ) (before after : List Line) → lines_of one ≡ before ++ Blank ∷ after → lines_of other ≡ before ++ after → (ops : List Op) → program_of one ≡ Ok ops → program_of other ≡ Ok ops
+without_blank one other before after e f ops h =
+    let p = program_to one ops h in
+    program_from other ops (record {
+      good = subst (AllByRecursion IsGood) (sym f) (good_skip before after (subst (AllByRecursion IsGood) e p.good));
+      few = p.few;
+      are = p.are ∙ ap ops_of e ∙ ops_skip before after ∙ ap ops_of (sym f);
+    })
+
+pub with_blank : (one other : List ℕ) (before after : List Line) → lines_of one ≡ before ++ Blank ∷ after → lines_of other ≡ before ++ after → (ops : List Op) → program_of other ≡ Ok ops → program_of one ≡ Ok ops
+with_blank one other before after e f ops h =
+    let p = program_to other ops h in
+    program_from one ops (record {
+      good = subst (AllByRecursion IsGood) (sym e) (good_insert before after (subst (AllByRecursion IsGood) f p.good));
+      few = p.few;
+      are = p.are ∙ ap ops_of f ∙ sym (ops_skip before after) ∙ ap ops_of (sym e);
+    })

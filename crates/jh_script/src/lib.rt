@@ -17,8 +17,9 @@ mod words;
 pub use fault::{MAX_ITEMS, MAX_OPS, ScheduleFault, ScriptFault};
 pub use image::{Image, Preload, Program};
 pub use laws::{
-    first_fault_of_a_program_decides, first_fault_of_a_schedule_decides,
-    lines_are_words_of_operations,
+    blank_lines_change_nothing, first_fault_of_a_program_decides,
+    first_fault_of_a_schedule_decides, lines_are_words_of_operations,
+    numbers_are_decimal_or_hexadecimal,
 };
 pub use op::Op;
 pub use program::read_program;
