@@ -1,0 +1,47 @@
+//! The cells that are checked together.
+ghost use Rattle.std.specs.Prelude.{◌≡◌, ◌+◌, ◌<◌, ◌≤◌, ◌∷◌, length, slice_index_or};
+
+use jh_cellcfg::{CellConfig, Region, SystemConfig};
+
+/// A system and the cells besides root.
+#[derive(Clone, Copy)]
+pub(crate) struct Setup<'a> {
+    pub(crate) hypervisor: &'a Region,
+    pub(crate) root: &'a CellConfig,
+    pub(crate) cells: &'a [CellConfig],
+}
+
+impl<'a> Setup<'a> {
+    ghost use Rattle.jh_check.specs.Cells.{cells_of};
+
+    pub(crate) fn new(system: &'a SystemConfig, cells: &'a [CellConfig]) -> Setup<'a>
+        ensures hypervisor { result.hypervisor.now ≡ system.now.hypervisor_memory }
+        ensures cells { cells_of result ≡ system.now.root ∷ cells.now }
+    {
+        Setup {
+            hypervisor: &system.hypervisor_memory,
+            root: &system.root,
+            cells,
+        }
+    }
+
+    /// How many cells there are, root too.
+    pub(crate) fn count(&self) -> u32
+        requires { length self.now.cells.now ≤ 15 }
+        ensures { result ≡ length (cells_of self.now) }
+    {
+        self.cells.len() as u32 + 1
+    }
+
+    /// The cell of that number.
+    pub(crate) fn cell(&self, number: u32) -> &'a CellConfig
+        requires { number < length (cells_of self.now) }
+        ensures { result.now ≡ slice_index_or (cells_of self.now) number result.now }
+    {
+        if number == 0 {
+            self.root
+        } else {
+            &self.cells[number as usize - 1]
+        }
+    }
+}
