@@ -3,6 +3,7 @@ pub mod Devices
 pub mod Cells
 pub mod Sites
 pub mod Lists
+pub mod Spans
 pub mod Findings
 pub mod Texts
 pub mod Verdicts

@@ -9,6 +9,7 @@ mod pairs;
 mod regions;
 mod rule;
 mod setup;
+mod spans;
 mod verdict;
 
 pub use finding::Finding;

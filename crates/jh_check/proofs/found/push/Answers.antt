@@ -1,7 +1,6 @@
-use Rattle.std.proofs.Common.{◌≡◌, ◌++◌, [], ◌∷◌, ap, rules}
-use Rattle.jh_check.specs.Lists.{capped}
+use Rattle.std.proofs.Common.{◌≡◌, ◌++◌, [], ◌∷◌, arith}
 use Rattle.jh_check.proofs.ListLemmas.{capped-full}
 use Rattle.jh_check.proofs.found.push.Goals as goal
 
-pub returns-then-len : goal.returns-then-len
-returns-then-len c = ?
+pub returns-then-len-ge-MAX_FINDINGS : goal.returns-then-len-ge-MAX_FINDINGS
+returns-then-len-ge-MAX_FINDINGS c = capped-full c.args.found.now (c.args.finding ∷ []) (omega arith)
