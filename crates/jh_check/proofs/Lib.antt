@@ -1,2 +1,5 @@
 pub mod BoolLemmas
 pub mod ListLemmas
+pub mod BreakLemmas
+pub mod SpanLemmas
+pub mod LawLemmas

@@ -1,10 +1,10 @@
 -- Lists of findings, one item more at a time.
-use Rattle.std.proofs.Common.{◌≡◌, ℕ, ◌+◌, ◌-◌, ◌<◌, ◌≤◌, zero, suc, Bool, ◌&&◌, true, false, ◌||◌, List, [], ◌∷◌, ◌++◌, length, get_or, take, drop, refl, sym, ap, subst, ◌∙◌, append_assoc, arith}
+use Rattle.std.proofs.Common.{◌≡◌, ℕ, ◌+◌, ◌-◌, ◌<◌, ◌≤◌, zero, suc, Bool, ◌&&◌, true, false, ◌||◌, List, [], ◌∷◌, ◌++◌, length, get_or, take, drop, refl, sym, ap, subst, ◌∙◌, append_assoc, add-zero, arith}
 use Rattle.std.proofs.lemmas.List.{take-append-le, drop_more, get_or-take, length-take}
 use Rattle.std.specs.List.{list_all}
 use Rattle.std.proofs.Math.ListN.{drop_of_length-le}
 use Rattle.jh_check.specs.declared.finding.Finding.{Finding}
-use Rattle.jh_check.specs.declared.check.TheConstants.{MAX_FINDINGS}
+use Rattle.jh_check.specs.declared.checking.TheConstants.{MAX_FINDINGS}
 use Rattle.jh_check.specs.Lists.{found_from, only_if, capped, is_any}
 
 pub append_nil : {X : Type 0} (xs : List X) → xs ++ [] ≡ xs
@@ -33,9 +33,9 @@ capped-append a b more e =
     sym (take-take-append MAX_FINDINGS a more) ∙ ap (λ xs. take MAX_FINDINGS (xs ++ more)) e ∙ take-take-append MAX_FINDINGS b more
 
 -- where there are a thousand, no more are told
-pub capped-full : (found more : List Finding) → MAX_FINDINGS ≤ length found → capped found ≡ capped (found ++ more)
+pub capped_full : (found more : List Finding) → MAX_FINDINGS ≤ length found → capped found ≡ capped (found ++ more)
 unfolding capped
-capped-full found more h = sym (take-append-le MAX_FINDINGS found more h)
+capped_full found more h = sym (take-append-le MAX_FINDINGS found more h)
 
 -- a step of a loop over a list, and its end; `goal` is what the whole leads to
 pub found-step : {X : Type 0} (found : ℕ → X → List Finding) (xs : List X) (i : ℕ) (d : X) (old new goal : List Finding) → i < length xs → capped new ≡ capped (old ++ found i (get_or xs i d)) → capped (old ++ found_from found i (drop i xs)) ≡ goal → capped (new ++ found_from found (i + 1) (drop (i + 1) xs)) ≡ goal
@@ -60,3 +60,40 @@ all-drop_take p xs n i x h k e =
     let within : i < length (take n xs) = omega (arith, length-take n xs) in
     let here : get_or (take n xs) i x ≡ x = get_or-take n xs i x h ∙ sym e in
     ap (list_all p) (drop_more (take n xs) i x within) ∙ ap (λ y. p y && list_all p (drop (i + 1) (take n xs))) here
+
+-- nothing is found where each item gives nothing
+pub found-none : {X : Type 0} (found : ℕ → X → List Finding) (n : ℕ) (xs : List X) (d : X) → ((i : ℕ) → i < length xs → found (n + i) (get_or xs i d) ≡ []) → found_from found n xs ≡ []
+unfolding found_from
+found-none found n [] d h = refl
+found-none found n (x ∷ xs) d h =
+    let here : found n x ≡ [] = subst (λ m. found m x ≡ []) (add-zero n) (h 0 (omega arith)) in
+    let later : (i : ℕ) → i < length xs → found ((n + 1) + i) (get_or xs i d) ≡ [] = λ i k. subst (λ m. found m (get_or xs i d) ≡ []) (let e : n + suc i ≡ (n + 1) + i = omega arith in e) (h (suc i) (omega arith)) in
+    ap (λ ys. ys ++ found_from found (n + 1) xs) here ∙ found-none found (n + 1) xs d later
+
+-- the same from the number 0 on
+pub found-none0 : {X : Type 0} (found : ℕ → X → List Finding) (xs : List X) (d : X) → ((i : ℕ) → i < length xs → found i (get_or xs i d) ≡ []) → found_from found 0 xs ≡ []
+found-none0 found xs d h = found-none found 0 xs d (λ i k. subst (λ m. found m (get_or xs i d) ≡ []) (let e : i ≡ 0 + i = omega arith in e) (h i k))
+
+is_any-append : (xs ys : List Finding) → is_any (xs ++ ys) ≡ (is_any xs || is_any ys)
+is_any-append [] ys = refl
+is_any-append (x ∷ xs) ys = refl
+
+-- whether anything is found, one item on, and at the end
+pub any-step : {X : Type 0} (found : ℕ → X → List Finding) (xs : List X) (i : ℕ) (d : X) (goal : Bool) → i < length xs → is_any (found i (get_or xs i d)) ≡ false → is_any (found_from found i (drop i xs)) ≡ goal → is_any (found_from found (i + 1) (drop (i + 1) xs)) ≡ goal
+any-step found xs i d goal h e g =
+    let rest = found_from found (i + 1) (drop (i + 1) xs) in
+    sym (ap is_any (found-drop found xs i d h) ∙ is_any-append (found i (get_or xs i d)) rest ∙ ap (λ b. b || is_any rest) e) ∙ g
+
+pub any-hit : {X : Type 0} (found : ℕ → X → List Finding) (xs : List X) (i : ℕ) (d : X) (goal : Bool) → i < length xs → is_any (found i (get_or xs i d)) ≡ true → is_any (found_from found i (drop i xs)) ≡ goal → true ≡ goal
+any-hit found xs i d goal h e g =
+    let rest = found_from found (i + 1) (drop (i + 1) xs) in
+    sym (ap is_any (found-drop found xs i d h) ∙ is_any-append (found i (get_or xs i d)) rest ∙ ap (λ b. b || is_any rest) e) ∙ g
+
+pub any-done : {X : Type 0} (found : ℕ → X → List Finding) (xs : List X) (i : ℕ) (goal : Bool) → length xs ≤ i → is_any (found_from found i (drop i xs)) ≡ goal → false ≡ goal
+any-done found xs i goal h g = sym (ap is_any (found-end found xs i h)) ∙ g
+
+-- a finding stands alone exactly where its test says so
+pub any-only : (test : Bool) (finding : Finding) → is_any (only_if test finding) ≡ test
+unfolding only_if
+any-only true finding = refl
+any-only false finding = refl

@@ -7,3 +7,4 @@ pub mod Spans
 pub mod Findings
 pub mod Texts
 pub mod Verdicts
+pub mod Laws

@@ -1,7 +1,7 @@
 -- Lists of findings, made from numbered items.
 use Rattle.std.specs.Prelude.{ℕ, ◌+◌, Bool, true, false, List, [], ◌∷◌, ◌++◌, take, if◌then◌else◌}
 use Rattle.jh_check.specs.declared.finding.Finding.{Finding}
-use Rattle.jh_check.specs.declared.check.TheConstants.{MAX_FINDINGS}
+use Rattle.jh_check.specs.declared.checking.TheConstants.{MAX_FINDINGS}
 
 -- what is found at each item in turn; they are numbered from `n` on
 unfoldable pub found_from : {X : Type 0} → (ℕ → X → List Finding) → ℕ → List X → List Finding

@@ -4,11 +4,11 @@ ghost use Rattle.jh_check.specs.Cells.{cells_of};
 ghost use Rattle.jh_check.specs.Sites.{spot_of};
 ghost use Rattle.jh_check.specs.Lists.{capped, only_if};
 ghost use Rattle.jh_check.specs.Regions.{pair_breaks, hypervisor_breaks};
-ghost use Rattle.jh_check.specs.Findings.{item_of, finding_of, beside, between, from_cell, in_pairs, in_cell, in_regions, in_hypervisor, in_devices_of, in_devices, in_cpus, found_by};
+ghost use Rattle.jh_check.specs.Findings.{item_of, finding_of, beside, between, from_cell, in_pairs, in_cell, in_regions, in_hypervisor, in_devices_of, in_devices, in_cpus};
 
-use crate::check::MAX_FINDINGS;
+use crate::checking::MAX_FINDINGS;
 use crate::devices::{cpus_break, device_breaks};
-use crate::finding::Finding;
+use crate::finding::{Finding, HYPERVISOR};
 use crate::pairs::{Site, pair_breaks};
 use crate::regions::{hypervisor_breaks, region_breaks};
 use crate::rule::Rule;
@@ -16,9 +16,6 @@ use crate::setup::Setup;
 use jh_cellcfg::{CellConfig, Region};
 use jh_num::{NoMemory, Seq};
 use std::alloc::Global;
-
-/// The cell that stands for the hypervisor's memory.
-const HYPERVISOR: u32 = 16;
 
 /// The number of an item as a finding tells it.
 fn item_of(n: usize) -> u32
@@ -87,7 +84,7 @@ fn beside(
 }
 
 /// Each region of a cell with each of another.
-fn between(
+pub(crate) fn between(
     found: &mut Seq<Finding>,
     rule: Rule,
     a: u32,
@@ -127,7 +124,7 @@ fn in_cell(
 }
 
 /// Each region of all cells by such a rule.
-fn in_regions(found: &mut Seq<Finding>, rule: Rule, setup: &Setup) -> Result<(), NoMemory>
+pub(crate) fn in_regions(found: &mut Seq<Finding>, rule: Rule, setup: &Setup) -> Result<(), NoMemory>
     requires { length setup.now.cells.now ≤ 15 }
     ensures { OnOk result (capped found.new ≡ capped (found.old ++ in_regions rule setup.now.hypervisor.now (cells_of setup.now))) }
 {
@@ -140,7 +137,7 @@ fn in_regions(found: &mut Seq<Finding>, rule: Rule, setup: &Setup) -> Result<(),
 
 /// The hypervisor's memory.
 #[tactic(auto, unfolding(crate::specs::Findings::in_hypervisor))]
-fn in_hypervisor(found: &mut Seq<Finding>, rule: Rule, setup: &Setup) -> Result<(), NoMemory>
+pub(crate) fn in_hypervisor(found: &mut Seq<Finding>, rule: Rule, setup: &Setup) -> Result<(), NoMemory>
     ensures { OnOk result (capped found.new ≡ capped (found.old ++ in_hypervisor rule setup.now.hypervisor.now)) }
 {
     let breaks = hypervisor_breaks(rule, setup.hypervisor);
@@ -166,7 +163,7 @@ fn in_devices_of(
 }
 
 /// Each device of all cells.
-fn in_devices(found: &mut Seq<Finding>, setup: &Setup) -> Result<(), NoMemory>
+pub(crate) fn in_devices(found: &mut Seq<Finding>, setup: &Setup) -> Result<(), NoMemory>
     requires { length setup.now.cells.now ≤ 15 }
     ensures { OnOk result (capped found.new ≡ capped (found.old ++ in_devices (cells_of setup.now))) }
 {
@@ -177,7 +174,7 @@ fn in_devices(found: &mut Seq<Finding>, setup: &Setup) -> Result<(), NoMemory>
 }
 
 /// The CPUs of all cells.
-fn in_cpus(found: &mut Seq<Finding>, setup: &Setup) -> Result<(), NoMemory>
+pub(crate) fn in_cpus(found: &mut Seq<Finding>, setup: &Setup) -> Result<(), NoMemory>
     requires { length setup.now.cells.now ≤ 15 }
     ensures { OnOk result (capped found.new ≡ capped (found.old ++ in_cpus (cells_of setup.now))) }
 {

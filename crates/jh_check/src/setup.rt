@@ -1,5 +1,5 @@
 //! The cells that are checked together.
-ghost use Rattle.std.specs.Prelude.{◌≡◌, ◌+◌, ◌<◌, ◌≤◌, ◌∷◌, length, slice_index_or};
+ghost use Rattle.std.specs.Prelude.{◌≡◌, ◌+◌, ◌<◌, ◌≤◌, length, slice_index_or};
 
 use jh_cellcfg::{CellConfig, Region, SystemConfig};
 
@@ -16,7 +16,8 @@ impl<'a> Setup<'a> {
 
     pub(crate) fn new(system: &'a SystemConfig, cells: &'a [CellConfig]) -> Setup<'a>
         ensures hypervisor { result.hypervisor.now ≡ system.now.hypervisor_memory }
-        ensures cells { cells_of result ≡ system.now.root ∷ cells.now }
+        ensures root { result.root.now ≡ system.now.root }
+        ensures cells { result.cells.now ≡ cells.now }
     {
         Setup {
             hypervisor: &system.hypervisor_memory,

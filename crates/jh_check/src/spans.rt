@@ -1,5 +1,5 @@
 //! An index of a cell's regions, by which pairs that can't break a rule are told at once.
-ghost use Rattle.std.specs.Prelude.{◌≡◌, ℕ, ◌<◌, ◌≤◌, true, false, length, take, IfOk, IfSome, IsTrue, Contains};
+ghost use Rattle.std.specs.Prelude.{◌≡◌, ◌-◌, ◌<◌, ◌≤◌, true, false, length, slice_index_or, OnOk, IfOk, IfSome, Contains};
 ghost use Rattle.jh_check.specs.declared.spans.Span.{Span};
 ghost use Rattle.jh_check.specs.Spans.{takes_part, span_of, spans_meet, HasEach, AreApart, IsIndex};
 
@@ -49,28 +49,50 @@ pub(crate) fn span_of(rule: Rule, item: usize, region: &Region) -> Span
     }
 }
 
+/// Appends the region's span if the region takes part.
+fn push(
+    spans: &mut Vec<Span>,
+    rule: Rule,
+    item: usize,
+    region: &Region,
+) -> Result<(), NoMemory>
+    ensures kept { (x : Span) → Contains spans.old.items x → Contains spans.new.items x }
+    ensures has { OnOk result (takes_part rule region.now ≡ true → Contains spans.new.items (span_of rule item region.now)) }
+{
+    if takes_part(rule, region) {
+        spans.push(span_of(rule, item, region))?;
+    }
+    Ok(())
+}
+
 /// The spans of the regions that take part, in the order of their starts.
 fn sorted(alloc: Global, rule: Rule, regions: &[Region]) -> Result<Vec<Span>, NoMemory>
     ensures { IfOk result (λ spans. HasEach rule regions.now spans.items) }
 {
     let mut spans = Vec::new(alloc);
     for (item, region) in regions.iter().enumerate() {
-        if takes_part(rule, region) {
-            spans.push(span_of(rule, item, region))?;
-        }
+        push(&mut spans, rule, item, region)?;
     }
     spans.sort_unstable_by_key(|span| span.start);
     Ok(spans)
+}
+
+/// Whether the span of that number ends behind its start, and begins behind the one before it.
+fn is_behind(spans: &[Span], k: usize) -> bool
+    requires { k < length spans.now }
+    ensures ordered { result ≡ true → (d : Span) → (slice_index_or spans.now k d).start ≤ (slice_index_or spans.now k d).end }
+    ensures apart { result ≡ true → (d : Span) → 0 < k → (slice_index_or spans.now (k - 1) d).end ≤ (slice_index_or spans.now k d).start }
+{
+    let start = u128::from(spans[k].start);
+    start <= spans[k].end && (k == 0 || spans[k - 1].end <= start)
 }
 
 /// Whether each ends before those behind it begin.
 fn are_apart(spans: &[Span]) -> bool
     ensures { result ≡ true → AreApart spans.now }
 {
-    for k in 1..spans.len() {
-        if spans[k - 1].end > u128::from(spans[k].start)
-            || u128::from(spans[k].start) > spans[k].end
-        {
+    for k in 0..spans.len() {
+        if !is_behind(spans, k) {
             return false;
         }
     }
@@ -94,7 +116,7 @@ pub(crate) fn index(
 }
 
 /// Whether one of the spans that are apart may meet that one; only then may it be told so.
-fn may_meet(spans: &[Span], other: Span) -> bool
+pub(crate) fn may_meet(spans: &[Span], other: Span) -> bool
     requires { AreApart spans.now }
     ensures { (x : Span) → Contains spans.now x → result ≡ false → spans_meet x other ≡ false }
 {
