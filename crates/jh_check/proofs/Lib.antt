@@ -3,3 +3,4 @@ pub mod ListLemmas
 pub mod BreakLemmas
 pub mod SpanLemmas
 pub mod LawLemmas
+pub mod VerdictLemmas

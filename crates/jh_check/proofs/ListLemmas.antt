@@ -74,7 +74,7 @@ found-none found n (x ∷ xs) d h =
 pub found-none0 : {X : Type 0} (found : ℕ → X → List Finding) (xs : List X) (d : X) → ((i : ℕ) → i < length xs → found i (get_or xs i d) ≡ []) → found_from found 0 xs ≡ []
 found-none0 found xs d h = found-none found 0 xs d (λ i k. subst (λ m. found m (get_or xs i d) ≡ []) (let e : i ≡ 0 + i = omega arith in e) (h i k))
 
-is_any-append : (xs ys : List Finding) → is_any (xs ++ ys) ≡ (is_any xs || is_any ys)
+pub is_any-append : (xs ys : List Finding) → is_any (xs ++ ys) ≡ (is_any xs || is_any ys)
 is_any-append [] ys = refl
 is_any-append (x ∷ xs) ys = refl
 

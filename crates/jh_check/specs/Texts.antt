@@ -1,14 +1,13 @@
 -- A finding as a line of text, without its line feed.
-use Rattle.std.specs.Prelude.{ℕ, List, [], ◌++◌, codes, decimal, ◌==◌, if◌then◌else◌, Option, Some, None}
-use Rattle.std.specs.List.{find}
-use Rattle.jh_check.specs.Findings.{number_of, rules_in_order}
+use Rattle.std.specs.Prelude.{ℕ, List, [], ◌++◌, codes, decimal, ◌==◌, if◌then◌else◌, ◌-◌, ◌||◌, nat_lt, slice_index_or, Option, Some, None}
+use Rattle.jh_check.specs.Findings.{rules_in_order}
 use Rattle.jh_check.specs.declared.finding.Finding.{Finding}
 use Rattle.jh_check.specs.declared.rule.Rule.{Rule}
 use Rattle.jh_check.specs.declared.rule.Rule.TheVariants.{VirtOverlap, PhysOverlap, Hypervisor, OutOfRange, RootNotIdentity, CommInRoot, CommShape, ExecuteWithoutRead, SubpageTaken, CellsOverlap, Shmem, NoCpu, PhysAlign}
 
 -- the rule of that number
 abbrev pub rule_of : ℕ → Option Rule
-rule_of number = find (λ rule. number_of rule == number) rules_in_order
+rule_of number = if number == 0 || nat_lt 13 number then None else Some (slice_index_or rules_in_order (number - 1) VirtOverlap)
 
 abbrev pub name_of : Rule → List ℕ
 name_of VirtOverlap = codes "VirtOverlap"

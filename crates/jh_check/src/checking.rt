@@ -7,7 +7,7 @@ ghost use Rattle.jh_check.specs.Findings.{in_regions, in_hypervisor, found_by, f
 use crate::finding::Finding;
 use crate::found::{in_cpus, in_devices, in_hypervisor, in_regions};
 use crate::pairing::in_pairs;
-use crate::rule::{RULES, Rule};
+use crate::rule::{RULES, Rule, rule_at};
 use crate::setup::Setup;
 use jh_cellcfg::{CellConfig, SystemConfig};
 use jh_num::{NoMemory, Seq};
@@ -26,7 +26,8 @@ fn also_in_hypervisor(
     ensures { OnOk result (capped found.new ≡ capped (found.old ++ (in_regions rule setup.now.hypervisor.now (cells_of setup.now) ++ in_hypervisor rule setup.now.hypervisor.now))) }
 {
     in_regions(found, rule, setup)?;
-    in_hypervisor(found, rule, setup)
+    in_hypervisor(found, rule, setup)?;
+    Ok(())
 }
 
 /// What is found by the rule.
@@ -60,7 +61,7 @@ fn found_in(alloc: Global, setup: &Setup) -> Result<Seq<Finding>, NoMemory>
 {
     let mut found = Seq::new(alloc);
     for i in 0..RULES.len() {
-        found_by(alloc, &mut found, RULES[i], setup)?;
+        found_by(alloc, &mut found, rule_at(i), setup)?;
     }
     Ok(found)
 }
@@ -75,7 +76,12 @@ pub fn check(
     requires { length cells.now ≤ 15 }
     ensures { IfOk result (λ found. found ≡ capped (findings system.now cells.now)) }
 {
-    let found = found_in(alloc, &Setup::new(system, cells))?;
+    let setup = Setup {
+        hypervisor: &system.hypervisor_memory,
+        root: &system.root,
+        cells,
+    };
+    let found = found_in(alloc, &setup)?;
     let mut first = found.into_vec();
     first.truncate(MAX_FINDINGS);
     Ok(Seq::from_vec(first))

@@ -2,7 +2,7 @@
 ghost use Rattle.std.specs.Prelude.{◌≡◌};
 ghost use Rattle.jh_check.specs.Texts.{rule_of};
 
-use crate::rule::{RULES, Rule};
+use crate::rule::{Rule, rule_at};
 use std::fmt;
 
 /// The cell that stands for the hypervisor's memory.
@@ -28,12 +28,11 @@ pub struct Finding {
 fn rule_of(number: u8) -> Option<Rule>
     ensures { result ≡ rule_of number }
 {
-    for i in 0..RULES.len() {
-        if RULES[i].number() == number {
-            return Some(RULES[i]);
-        }
+    if number == 0 || number > 13 {
+        None
+    } else {
+        Some(rule_at(usize::from(number) - 1))
     }
-    None
 }
 
 /// A region of a cell, or the hypervisor's memory.

@@ -104,6 +104,26 @@ fn visit(
     }
 }
 
+/// The regions of a cell, of which there is that index, with those of each.
+fn from_indexed(
+    found: &mut Seq<Finding>,
+    rule: Rule,
+    setup: &Setup,
+    index: &Option<Vec<Span>>,
+    a: u32,
+    one: &CellConfig,
+) -> Result<(), NoMemory>
+    requires count { length setup.now.cells.now ≤ 15 }
+    requires index { IfSome index.now (λ spans. IsIndex rule one.now.memory_regions spans.items) }
+    requires one { one.now ≡ slice_index_or (cells_of setup.now) a one.now }
+    ensures { OnOk result (capped found.new ≡ capped (found.old ++ from_cell rule (cells_of setup.now) a one.now)) }
+{
+    for b in 0..setup.count() {
+        visit(found, rule, index, a, one, b, setup.cell(b))?;
+    }
+    Ok(())
+}
+
 /// The regions of a cell with those of each.
 fn from_cell(
     alloc: Global,
@@ -117,11 +137,8 @@ fn from_cell(
     requires one { one.now ≡ slice_index_or (cells_of setup.now) a one.now }
     ensures { OnOk result (capped found.new ≡ capped (found.old ++ from_cell rule (cells_of setup.now) a one.now)) }
 {
-    let index = index(alloc, rule, one.memory_regions.as_slice())?;
-    for b in 0..setup.count() {
-        visit(found, rule, &index, a, one, b, setup.cell(b))?;
-    }
-    Ok(())
+    let known = index(alloc, rule, one.memory_regions.as_slice())?;
+    from_indexed(found, rule, setup, &known, a, one)
 }
 
 /// All pairs of regions by the rule.

@@ -1,5 +1,6 @@
 //! The rules by number.
-ghost use Rattle.std.specs.Prelude.{◌≡◌};
+ghost use Rattle.std.specs.Prelude.{◌≡◌, ◌<◌, length, slice_index_or};
+ghost use Rattle.jh_check.specs.Findings.{rules_in_order};
 
 /// The rules of the check. Each speaks of one or two regions, of one device, or of a cell's CPUs.
 #[derive(Clone, Copy, PartialEq, Eq, Debug)]
@@ -48,6 +49,14 @@ pub(crate) const RULES: [Rule; 13] = [
     Rule::NoCpu,
     Rule::PhysAlign,
 ];
+
+/// The rule that stands at that place of the order.
+pub(crate) fn rule_at(place: usize) -> Rule
+    requires { place < length rules_in_order }
+    ensures { result ≡ slice_index_or rules_in_order place VirtOverlap }
+{
+    RULES[place]
+}
 
 impl Rule {
     ghost use Rattle.jh_check.specs.Findings.{number_of};

@@ -1,7 +1,7 @@
 //! The cells that are checked together.
 ghost use Rattle.std.specs.Prelude.{◌≡◌, ◌+◌, ◌<◌, ◌≤◌, length, slice_index_or};
 
-use jh_cellcfg::{CellConfig, Region, SystemConfig};
+use jh_cellcfg::{CellConfig, Region};
 
 /// A system and the cells besides root.
 #[derive(Clone, Copy)]
@@ -13,18 +13,6 @@ pub(crate) struct Setup<'a> {
 
 impl<'a> Setup<'a> {
     ghost use Rattle.jh_check.specs.Cells.{cells_of};
-
-    pub(crate) fn new(system: &'a SystemConfig, cells: &'a [CellConfig]) -> Setup<'a>
-        ensures hypervisor { result.hypervisor.now ≡ system.now.hypervisor_memory }
-        ensures root { result.root.now ≡ system.now.root }
-        ensures cells { result.cells.now ≡ cells.now }
-    {
-        Setup {
-            hypervisor: &system.hypervisor_memory,
-            root: &system.root,
-            cells,
-        }
-    }
 
     /// How many cells there are, root too.
     pub(crate) fn count(&self) -> u32

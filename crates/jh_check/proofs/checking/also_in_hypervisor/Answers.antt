@@ -4,4 +4,5 @@ use Rattle.jh_check.proofs.ListLemmas.{capped-then}
 use Rattle.jh_check.proofs.checking.also_in_hypervisor.Goals as goal
 
 pub returns : goal.returns
-returns c = ?
+returns c =
+    capped-then c.args.found.now c.in_regions.new.found c.in_hypervisor.new.found (in_regions c.args.rule c.args.setup.now.hypervisor.now (cells_of c.args.setup.now)) (in_hypervisor c.args.rule c.args.setup.now.hypervisor.now) c.in_ok-in_regions.ensures c.in_ok-in_hypervisor.ensures

@@ -4,7 +4,7 @@ use Rattle.jh_check.specs.Cells.{cells_of}
 use Rattle.jh_check.specs.Lists.{capped}
 use Rattle.jh_check.specs.Findings.{between, from_cell}
 use Rattle.jh_check.proofs.ListLemmas.{found-step, found-done}
-use Rattle.jh_check.proofs.pairing.from_cell.Goals as goal
+use Rattle.jh_check.proofs.pairing.from_indexed.Goals as goal
 
 pub loop-b-init : goal.loop-b-init
 unfolding from_cell
