@@ -122,8 +122,8 @@ unfolding between beside only_if
 between-none rule a one b other h =
     let none : Region = record { phys_start = 0; virt_start = 0; size = 0; flags = 0 } in
     found-none0 (between_at rule a one b other) one.memory_regions none (λ r i.
-        found-none0 (beside_at rule (spot a one r (get_or one.memory_regions r none)) b other) other.memory_regions none (λ s j.
-            ap (λ t. only_if t (finding_of rule a r b s)) (false-from_not (pair_breaks rule (spot a one r (get_or one.memory_regions r none)) (spot b other s (get_or other.memory_regions s none))) (h r s none i j))))
+    found-none0 (beside_at rule (spot a one r (get_or one.memory_regions r none)) b other) other.memory_regions none (λ s j.
+    ap (λ t. only_if t (finding_of rule a r b s)) (false-from_not (pair_breaks rule (spot a one r (get_or one.memory_regions r none)) (spot b other s (get_or other.memory_regions s none))) (h r s none i j))))
 
 -- cells of which the rule doesn't speak
 pub between-apart : (rule : Rule) (a : ℕ) (one : CellConfig) (b : ℕ) (other : CellConfig) → joins rule a b ≡ false → between rule a one b other ≡ []
@@ -159,24 +159,24 @@ meeting-same rule r s x y spans apart p q m = span-same spans (span_of rule r x)
 pub between-indexed : (rule : Rule) (a : ℕ) (one : CellConfig) (spans : List Span) → is_within rule ≡ true → IsIndex rule one.memory_regions spans → between rule a one a one ≡ []
 between-indexed rule a one spans w index =
     between-none rule a one a one (λ r s d i j t.
-        let x = get_or one.memory_regions r d in
-        let y = get_or one.memory_regions s d in
-        let o : nat_lt r s ≡ true = pair-order rule (spot a one r x) (spot a one s y) w t in
-        let m = pair-meets rule (spot a one r x) (spot a one s y) t in
-        let p = index.each r d i (pair-takes_part rule (spot a one r x) (spot a one s y) t) in
-        let q = index.each s d j (pair-second rule (spot a one r x) (spot a one s y) w t) in
-        let same : r ≡ s = meeting-same rule r s x y spans index.apart p q m in
-        let less : r < s = ltb-true r s o in
-        omega arith)
+    let x = get_or one.memory_regions r d in
+    let y = get_or one.memory_regions s d in
+    let o : nat_lt r s ≡ true = pair-order rule (spot a one r x) (spot a one s y) w t in
+    let m = pair-meets rule (spot a one r x) (spot a one s y) t in
+    let p = index.each r d i (pair-takes_part rule (spot a one r x) (spot a one s y) t) in
+    let q = index.each s d j (pair-second rule (spot a one r x) (spot a one s y) w t) in
+    let same : r ≡ s = meeting-same rule r s x y spans index.apart p q m in
+    let less : r < s = ltb-true r s o in
+    omega arith)
 
 -- another cell, none of whose regions meets the index of the one
 pub between-unmet : (rule : Rule) (a : ℕ) (one : CellConfig) (b : ℕ) (other : CellConfig) (spans : List Span) → IsIndex rule one.memory_regions spans → ((s : ℕ) (d : Region) (x : Span) → s < length other.memory_regions → Contains spans x → spans_meet x (span_of rule s (get_or other.memory_regions s d)) ≡ false) → between rule a one b other ≡ []
 between-unmet rule a one b other spans index h =
     between-none rule a one b other (λ r s d i j t.
-        let x = get_or one.memory_regions r d in
-        let y = get_or other.memory_regions s d in
-        let p = pair-takes_part rule (spot a one r x) (spot b other s y) t in
-        not-both (spans_meet (span_of rule r x) (span_of rule s y)) (pair-meets rule (spot a one r x) (spot b other s y) t) (h s d (span_of rule r x) j (index.each r d i p)))
+    let x = get_or one.memory_regions r d in
+    let y = get_or other.memory_regions s d in
+    let p = pair-takes_part rule (spot a one r x) (spot b other s y) t in
+    not-both (spans_meet (span_of rule r x) (span_of rule s y)) (pair-meets rule (spot a one r x) (spot b other s y) t) (h s d (span_of rule r x) j (index.each r d i p)))
 
 -- cells that a rule about two regions of one cell joins are one
 pub joins-same : (rule : Rule) (a b : ℕ) → is_within rule ≡ true → joins rule a b ≡ true → a ≡ b

@@ -151,12 +151,12 @@ cells-apart system cells h a b one other above below na nb r s x y ir is ux uy p
     let ps = at-place other.memory_regions s y is in
     let e = no-pair CellsOverlap all (none-overlap system cells h) a b one other r s x y pa.0 pb.0 pa.1 pb.1 pr.0 ps.0 pr.1 ps.1 in
     true-from_not (are_same_section one r other s) (λ f.
-        let cx = and-left (not (is_comm x)) (not (has_flags 0x80 x)) ux in
-        let cy = and-left (not (is_comm y)) (not (has_flags 0x80 y)) uy in
-        let sx = and-right (not (is_comm x)) (not (has_flags 0x80 x)) ux in
-        let own : not (both_shared x y) ≡ true = ap not (and-first (has_flags 0x80 x) (has_flags 0x80 y) (not-true (has_flags 0x80 x) sx)) in
-        let share = and-both (not (is_comm x)) (not (is_comm y) && phys_meet x y) cx (and-both (not (is_comm y)) (phys_meet x y) cy (phys-common x y place hx hy)) in
-        let last = and-both (not (both_shared x y)) (not (are_same_section one r other s)) own (ap not f) in
-        let rest = and-both (share_places x y) (not (both_shared x y) && not (are_same_section one r other s)) share last in
-        let order = and-both (nat_lt a b) (share_places x y && (not (both_shared x y) && not (are_same_section one r other s))) (lt-ltb a b below) rest in
-        not-both (nat_lt 0 a && (nat_lt a b && (share_places x y && (not (both_shared x y) && not (are_same_section one r other s))))) (and-both (nat_lt 0 a) (nat_lt a b && (share_places x y && (not (both_shared x y) && not (are_same_section one r other s)))) (lt-ltb 0 a above) order) e)
+    let cx = and-left (not (is_comm x)) (not (has_flags 0x80 x)) ux in
+    let cy = and-left (not (is_comm y)) (not (has_flags 0x80 y)) uy in
+    let sx = and-right (not (is_comm x)) (not (has_flags 0x80 x)) ux in
+    let own : not (both_shared x y) ≡ true = ap not (and-first (has_flags 0x80 x) (has_flags 0x80 y) (not-true (has_flags 0x80 x) sx)) in
+    let share = and-both (not (is_comm x)) (not (is_comm y) && phys_meet x y) cx (and-both (not (is_comm y)) (phys_meet x y) cy (phys-common x y place hx hy)) in
+    let last = and-both (not (both_shared x y)) (not (are_same_section one r other s)) own (ap not f) in
+    let rest = and-both (share_places x y) (not (both_shared x y) && not (are_same_section one r other s)) share last in
+    let order = and-both (nat_lt a b) (share_places x y && (not (both_shared x y) && not (are_same_section one r other s))) (lt-ltb a b below) rest in
+    not-both (nat_lt 0 a && (nat_lt a b && (share_places x y && (not (both_shared x y) && not (are_same_section one r other s))))) (and-both (nat_lt 0 a) (nat_lt a b && (share_places x y && (not (both_shared x y) && not (are_same_section one r other s)))) (lt-ltb 0 a above) order) e)

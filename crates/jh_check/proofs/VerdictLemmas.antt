@@ -120,8 +120,8 @@ between-false-by : (p : Finding → Bool) (rule : Rule) (a : ℕ) (one : CellCon
 unfolding between beside
 between-false-by p rule a one b other true e h =
     any-none0 p (between_at rule a one b other) one.memory_regions (λ r d i.
-        any-none0 p (beside_at rule (spot a one r (get_or one.memory_regions r d)) b other) other.memory_regions (λ s f j.
-            only-false p (pair_breaks rule (spot a one r (get_or one.memory_regions r d)) (spot b other s (get_or other.memory_regions s f))) (finding_of rule a r b s) (h e r s)))
+    any-none0 p (beside_at rule (spot a one r (get_or one.memory_regions r d)) b other) other.memory_regions (λ s f j.
+    only-false p (pair_breaks rule (spot a one r (get_or one.memory_regions r d)) (spot b other s (get_or other.memory_regions s f))) (finding_of rule a r b s) (h e r s)))
 between-false-by p rule a one b other false e h = ap (list_any p) (between-apart rule a one b other e)
 
 between-false : (p : Finding → Bool) (rule : Rule) (a : ℕ) (one : CellConfig) (b : ℕ) (other : CellConfig) → (joins rule a b ≡ true → (r s : ℕ) → p (finding_of rule a r b s) ≡ false) → list_any p (between rule a one b other) ≡ false
@@ -131,8 +131,8 @@ between-true : (p : Finding → Bool) (rule : Rule) (a : ℕ) (one : CellConfig)
 unfolding between beside
 between-true p rule a one b other h =
     any-all p (between_at rule a one b other) 0 one.memory_regions (λ r x.
-        any-all p (beside_at rule (spot a one r x) b other) 0 other.memory_regions (λ s y.
-            only-true p (pair_breaks rule (spot a one r x) (spot b other s y)) (finding_of rule a r b s) (h r s)))
+    any-all p (beside_at rule (spot a one r x) b other) 0 other.memory_regions (λ s y.
+    only-true p (pair_breaks rule (spot a one r x) (spot b other s y)) (finding_of rule a r b s) (h r s)))
 
 -- a rule about two regions of one cell
 pub invalid-within : (rule : Rule) (xs : List CellConfig) (new : CellConfig) → is_within rule ≡ true → (number_of rule == 10) ≡ false → list_any (is_invalid (length xs)) (in_pairs rule (xs ++ new ∷ [])) ≡ is_any (between rule (length xs) new (length xs) new)
@@ -142,14 +142,14 @@ invalid-within rule xs new w e =
     let p = is_invalid n in
     let all = xs ++ new ∷ [] in
     any-last p (from_cell rule all) xs new (λ i d k.
-        any-none0 p (between rule i (get_or xs i d)) all (λ b f l.
-            between-false p rule i (get_or xs i d) b (get_or all b f) (λ j r s.
-                let same = joins-same rule i b w j in
-                invalid-other rule n i r b s (λ q. omega arith) (λ q. omega arith))))
+    any-none0 p (between rule i (get_or xs i d)) all (λ b f l.
+    between-false p rule i (get_or xs i d) b (get_or all b f) (λ j r s.
+    let same = joins-same rule i b w j in
+    invalid-other rule n i r b s (λ q. omega arith) (λ q. omega arith))))
     ∙ any-last p (between rule n new) xs new (λ b f l.
-        between-false p rule n new b (get_or xs b f) (λ j r s.
-            let same = joins-same rule n b w j in
-            absurd (omega arith)))
+    between-false p rule n new b (get_or xs b f) (λ j r s.
+    let same = joins-same rule n b w j in
+    absurd (omega arith)))
     ∙ between-true p rule n new n new (λ r s. invalid-own rule n r n s e)
 
 joins-root : (a b : ℕ) → joins SubpageTaken a b ≡ true → b ≡ 0
@@ -164,14 +164,14 @@ invalid-taken root live new =
     let p = is_invalid n in
     let all = xs ++ new ∷ [] in
     any-last p (from_cell SubpageTaken all) xs new (λ i d k.
-        any-none0 p (between SubpageTaken i (get_or xs i d)) all (λ b f l.
-            between-false p SubpageTaken i (get_or xs i d) b (get_or all b f) (λ j r s.
-                let first = joins-root i b j in
-                invalid-other SubpageTaken n i r b s (λ q. omega arith) (λ q. omega arith))))
+    any-none0 p (between SubpageTaken i (get_or xs i d)) all (λ b f l.
+    between-false p SubpageTaken i (get_or xs i d) b (get_or all b f) (λ j r s.
+    let first = joins-root i b j in
+    invalid-other SubpageTaken n i r b s (λ q. omega arith) (λ q. omega arith))))
     ∙ any-first p (between SubpageTaken n new) root (live ++ new ∷ []) (λ i d k.
-        between-false p SubpageTaken n new (1 + i) (get_or (live ++ new ∷ []) i d) (λ j r s.
-            let first = joins-root n (1 + i) j in
-            absurd (omega arith)))
+    between-false p SubpageTaken n new (1 + i) (get_or (live ++ new ∷ []) i d) (λ j r s.
+    let first = joins-root n (1 + i) j in
+    absurd (omega arith)))
     ∙ between-true p SubpageTaken n new 0 root (λ r s. invalid-own SubpageTaken n r 0 s refl)
 
 -- a rule about one region
@@ -181,11 +181,11 @@ invalid-regions rule h xs new some e =
     let n = length xs in
     let p = is_invalid n in
     any-last p (in_regions_at rule h) xs new (λ i d k.
-        let regions = (get_or xs i d).memory_regions in
-        any-none0 p (in_cell_at rule h i regions) regions (λ r f j.
-            only-false p (region_breaks rule h i (take r regions) (get_or regions r f)) (finding_of rule i r 0 0) (invalid-other rule n i r 0 0 (λ q. omega arith) (λ q. omega arith))))
+    let regions = (get_or xs i d).memory_regions in
+    any-none0 p (in_cell_at rule h i regions) regions (λ r f j.
+    only-false p (region_breaks rule h i (take r regions) (get_or regions r f)) (finding_of rule i r 0 0) (invalid-other rule n i r 0 0 (λ q. omega arith) (λ q. omega arith))))
     ∙ any-all p (in_cell_at rule h n new.memory_regions) 0 new.memory_regions (λ r x.
-        only-true p (region_breaks rule h n (take r new.memory_regions) x) (finding_of rule n r 0 0) (invalid-own rule n r 0 0 e))
+    only-true p (region_breaks rule h n (take r new.memory_regions) x) (finding_of rule n r 0 0) (invalid-own rule n r 0 0 e))
 
 -- or about the hypervisor's memory too
 pub invalid-both : (rule : Rule) (h : Region) (xs : List CellConfig) (new : CellConfig) → 0 < length xs → length xs < 16 → (number_of rule == 10) ≡ false → list_any (is_invalid (length xs)) (in_regions rule h (xs ++ new ∷ []) ++ in_hypervisor rule h) ≡ is_any (in_cell rule h (length xs) new.memory_regions)
@@ -203,11 +203,11 @@ invalid-devices xs new some =
     let p = is_invalid n in
     let all = xs ++ new ∷ [] in
     any-last p (in_devices_at all) xs new (λ i d k.
-        let cell = get_or xs i d in
-        any-none0 p (device_at (take i all) i cell) cell.pci_devices (λ m f j.
-            only-false p (device_breaks (take i all) cell (take m cell.pci_devices) (get_or cell.pci_devices m f)) (finding_of Shmem i m 0 0) (invalid-other Shmem n i m 0 0 (λ q. omega arith) (λ q. omega arith))))
+    let cell = get_or xs i d in
+    any-none0 p (device_at (take i all) i cell) cell.pci_devices (λ m f j.
+    only-false p (device_breaks (take i all) cell (take m cell.pci_devices) (get_or cell.pci_devices m f)) (finding_of Shmem i m 0 0) (invalid-other Shmem n i m 0 0 (λ q. omega arith) (λ q. omega arith))))
     ∙ any-all p (device_at (take n all) n new) 0 new.pci_devices (λ m x.
-        only-true p (device_breaks (take n all) new (take m new.pci_devices) x) (finding_of Shmem n m 0 0) (invalid-own Shmem n m 0 0 refl))
+    only-true p (device_breaks (take n all) new (take m new.pci_devices) x) (finding_of Shmem n m 0 0) (invalid-own Shmem n m 0 0 refl))
     ∙ ap (λ lower. is_any (found_from (device_at lower n new) 0 new.pci_devices)) (take-append_seam xs (new ∷ []))
 
 -- the rule about CPUs
@@ -217,7 +217,7 @@ invalid-cpus xs new some =
     let n = length xs in
     let p = is_invalid n in
     any-last p in_cpus_at xs new (λ i d k.
-        only-false p (cpus_break (get_or xs i d).cpu_set) (finding_of NoCpu i 0 0 0) (invalid-other NoCpu n i 0 0 0 (λ q. omega arith) (λ q. omega arith)))
+    only-false p (cpus_break (get_or xs i d).cpu_set) (finding_of NoCpu i 0 0 0) (invalid-other NoCpu n i 0 0 0 (λ q. omega arith) (λ q. omega arith)))
     ∙ only-true p (cpus_break new.cpu_set) (finding_of NoCpu n 0 0 0) (invalid-own NoCpu n 0 0 0 refl)
     ∙ any-only (cpus_break new.cpu_set) (finding_of NoCpu n 0 0 0)
 
@@ -226,8 +226,8 @@ pairs-false : (p : Finding → Bool) (rule : Rule) (all : List CellConfig) → (
 unfolding in_pairs from_cell
 pairs-false p rule all f =
     any-none0 p (from_cell rule all) all (λ a d k.
-        any-none0 p (between rule a (get_or all a d)) all (λ b e l.
-            between-false p rule a (get_or all a d) b (get_or all b e) (λ j r s. f a r b s)))
+    any-none0 p (between rule a (get_or all a d)) all (λ b e l.
+    between-false p rule a (get_or all a d) b (get_or all b e) (λ j r s. f a r b s)))
 
 pub invalid-crossing : (n : ℕ) (all : List CellConfig) → list_any (is_invalid n) (in_pairs CellsOverlap all) ≡ false
 invalid-crossing n all = pairs-false (is_invalid n) CellsOverlap all (invalid-overlap n)
@@ -236,9 +236,9 @@ regions-false : (p : Finding → Bool) (rule : Rule) (h : Region) (all : List Ce
 unfolding in_regions in_cell
 regions-false p rule h all f =
     any-none0 p (in_regions_at rule h) all (λ a d k.
-        let regions = (get_or all a d).memory_regions in
-        any-none0 p (in_cell_at rule h a regions) regions (λ r e j.
-            only-false p (region_breaks rule h a (take r regions) (get_or regions r e)) (finding_of rule a r 0 0) (f a r 0 0)))
+    let regions = (get_or all a d).memory_regions in
+    any-none0 p (in_cell_at rule h a regions) regions (λ r e j.
+    only-false p (region_breaks rule h a (take r regions) (get_or regions r e)) (finding_of rule a r 0 0) (f a r 0 0)))
 
 both-false : (p : Finding → Bool) (rule : Rule) (h : Region) (all : List CellConfig) → ((a r b s : ℕ) → p (finding_of rule a r b s) ≡ false) → list_any p (in_regions rule h all ++ in_hypervisor rule h) ≡ false
 unfolding in_hypervisor
@@ -250,9 +250,9 @@ devices-false : (p : Finding → Bool) (all : List CellConfig) → ((a r b s : �
 unfolding in_devices in_devices_of
 devices-false p all f =
     any-none0 p (in_devices_at all) all (λ a d k.
-        let cell = get_or all a d in
-        any-none0 p (device_at (take a all) a cell) cell.pci_devices (λ m e j.
-            only-false p (device_breaks (take a all) cell (take m cell.pci_devices) (get_or cell.pci_devices m e)) (finding_of Shmem a m 0 0) (f a m 0 0)))
+    let cell = get_or all a d in
+    any-none0 p (device_at (take a all) a cell) cell.pci_devices (λ m e j.
+    only-false p (device_breaks (take a all) cell (take m cell.pci_devices) (get_or cell.pci_devices m e)) (finding_of Shmem a m 0 0) (f a m 0 0)))
 
 cpus-false : (p : Finding → Bool) (all : List CellConfig) → ((a r b s : ℕ) → p (finding_of NoCpu a r b s) ≡ false) → list_any p (in_cpus all) ≡ false
 unfolding in_cpus
@@ -287,10 +287,10 @@ busy-rules n h all =
     ∙ skip p (in_regions ExecuteWithoutRead h all) r9 (regions-false p ExecuteWithoutRead h all (busy-rule ExecuteWithoutRead n refl))
     ∙ skip p (in_pairs SubpageTaken all) r10 (pairs-false p SubpageTaken all (busy-rule SubpageTaken n refl))
     ∙ keep p (in_pairs CellsOverlap all) r11 (
-        skip p (in_devices all) r12 (devices-false p all (busy-rule Shmem n refl))
-        ∙ skip p (in_cpus all) r13 (cpus-false p all (busy-rule NoCpu n refl))
-        ∙ keep p (in_regions PhysAlign h all ++ in_hypervisor PhysAlign h) [] refl
-        ∙ f13)
+    skip p (in_devices all) r12 (devices-false p all (busy-rule Shmem n refl))
+    ∙ skip p (in_cpus all) r13 (cpus-false p all (busy-rule NoCpu n refl))
+    ∙ keep p (in_regions PhysAlign h all ++ in_hypervisor PhysAlign h) [] refl
+    ∙ f13)
 
 -- the overlaps of one live cell with the new one
 pub busy-at : (xs : List CellConfig) (new : CellConfig) (a : ℕ) (one : CellConfig) → a < length xs → list_any (is_busy (length xs)) (from_cell CellsOverlap (xs ++ new ∷ []) a one) ≡ is_any (between CellsOverlap a one (length xs) new)
@@ -299,7 +299,7 @@ busy-at xs new a one k =
     let n = length xs in
     let p = is_busy n in
     any-last p (between CellsOverlap a one) xs new (λ b d l.
-        between-false p CellsOverlap a one b (get_or xs b d) (λ j r s. busy-other n a r b s (λ q. omega arith) (λ q. omega arith)))
+    between-false p CellsOverlap a one b (get_or xs b d) (λ j r s. busy-other n a r b s (λ q. omega arith) (λ q. omega arith)))
     ∙ between-true p CellsOverlap a one n new (λ r s. busy-own n a r s)
 
 -- the new cell is the last, so it is the other of each pair
@@ -310,10 +310,10 @@ busy-last xs new one =
     let p = is_busy n in
     let all = xs ++ new ∷ [] in
     any-none0 p (between CellsOverlap n one) all (λ b d l.
-        between-false p CellsOverlap n one b (get_or all b d) (λ j r s.
-            let above = ltb-true n b (and-right (nat_lt 0 n) (nat_lt n b) j) in
-            let size = length-append xs (new ∷ []) in
-            absurd (omega arith)))
+    between-false p CellsOverlap n one b (get_or all b d) (λ j r s.
+    let above = ltb-true n b (and-right (nat_lt 0 n) (nat_lt n b) j) in
+    let size = length-append xs (new ∷ []) in
+    absurd (omega arith)))
 
 -- such findings, one item on
 pub list-step : {X : Type 0} (p : Finding → Bool) (found : ℕ → X → List Finding) (xs : List X) (i : ℕ) (d : X) (goal : Bool) → i < length xs → list_any p (found i (get_or xs i d)) ≡ false → list_any p (found_from found i (drop i xs)) ≡ goal → list_any p (found_from found (i + 1) (drop (i + 1) xs)) ≡ goal

@@ -17,11 +17,7 @@ use std::alloc::Global;
 pub const MAX_FINDINGS: usize = 1000;
 
 /// What is found by a rule that the hypervisor's memory may break too.
-fn also_in_hypervisor(
-    found: &mut Seq<Finding>,
-    rule: Rule,
-    setup: &Setup,
-) -> Result<(), NoMemory>
+fn also_in_hypervisor(found: &mut Seq<Finding>, rule: Rule, setup: &Setup) -> Result<(), NoMemory>
     requires { length setup.now.cells.now ≤ 15 }
     ensures { OnOk result (capped found.new ≡ capped (found.old ++ (in_regions rule setup.now.hypervisor.now (cells_of setup.now) ++ in_hypervisor rule setup.now.hypervisor.now))) }
 {

@@ -77,10 +77,12 @@ pub(crate) fn are_same_section(
 ) -> bool
     ensures { result ≡ are_same_section one.now item other.now other_item }
 {
-    one.pci_devices
-        .as_slice()
-        .iter()
-        .any(|device| any_section(item, device, other_item, other.pci_devices.as_slice()))
+    one.pci_devices.as_slice().iter().any(|device| any_section(
+        item,
+        device,
+        other_item,
+        other.pci_devices.as_slice(),
+    ))
 }
 
 /// Those of the device's sections that exist.
@@ -95,9 +97,7 @@ fn sections_of<'a>(regions: &'a [Region], device: &PciDevice) -> &'a [Region]
 fn has_good_peers(device: &PciDevice) -> bool
     ensures { result ≡ has_good_peers device.now }
 {
-    2 <= device.shmem_peers
-        && device.shmem_peers <= 16
-        && device.shmem_dev_id < device.shmem_peers
+    2 <= device.shmem_peers && device.shmem_peers <= 16 && device.shmem_dev_id < device.shmem_peers
 }
 
 fn has_good_bars(device: &PciDevice) -> bool
@@ -263,10 +263,12 @@ fn agrees_with(
 fn agrees_with_cell(regions: &[Region], device: &PciDevice, cell: &CellConfig) -> bool
     ensures { result ≡ list_all (λ other. agrees_with regions.now device.now cell.now.memory_regions other) cell.now.pci_devices }
 {
-    cell.pci_devices
-        .as_slice()
-        .iter()
-        .all(|other| agrees_with(regions, device, cell.memory_regions.as_slice(), other))
+    cell.pci_devices.as_slice().iter().all(|other| agrees_with(
+        regions,
+        device,
+        cell.memory_regions.as_slice(),
+        other,
+    ))
 }
 
 /// Whether each device of each cell with a lower number than that does.

@@ -53,11 +53,7 @@ fn push(found: &mut Seq<Finding>, finding: Finding) -> Result<(), NoMemory>
 fn put(found: &mut Seq<Finding>, test: bool, finding: Finding) -> Result<(), NoMemory>
     ensures { OnOk result (capped found.new ≡ capped (found.old ++ only_if test finding)) }
 {
-    if test {
-        push(found, finding)
-    } else {
-        Ok(())
-    }
+    if test { push(found, finding) } else { Ok(()) }
 }
 
 /// A region with each of another cell.
@@ -124,7 +120,11 @@ fn in_cell(
 }
 
 /// Each region of all cells by such a rule.
-pub(crate) fn in_regions(found: &mut Seq<Finding>, rule: Rule, setup: &Setup) -> Result<(), NoMemory>
+pub(crate) fn in_regions(
+    found: &mut Seq<Finding>,
+    rule: Rule,
+    setup: &Setup,
+) -> Result<(), NoMemory>
     requires { length setup.now.cells.now ≤ 15 }
     ensures { OnOk result (capped found.new ≡ capped (found.old ++ in_regions rule setup.now.hypervisor.now (cells_of setup.now))) }
 {
@@ -137,7 +137,11 @@ pub(crate) fn in_regions(found: &mut Seq<Finding>, rule: Rule, setup: &Setup) ->
 
 /// The hypervisor's memory.
 #[tactic(auto, unfolding(crate::specs::Findings::in_hypervisor))]
-pub(crate) fn in_hypervisor(found: &mut Seq<Finding>, rule: Rule, setup: &Setup) -> Result<(), NoMemory>
+pub(crate) fn in_hypervisor(
+    found: &mut Seq<Finding>,
+    rule: Rule,
+    setup: &Setup,
+) -> Result<(), NoMemory>
     ensures { OnOk result (capped found.new ≡ capped (found.old ++ in_hypervisor rule setup.now.hypervisor.now)) }
 {
     let breaks = hypervisor_breaks(rule, setup.hypervisor);

@@ -44,9 +44,7 @@ pub(crate) fn pair_breaks(rule: Rule, one: &Site, other: &Site) -> bool
 {
     match rule {
         Rule::VirtOverlap => {
-            one.cell == other.cell
-                && one.item < other.item
-                && virt_meet(one.region, other.region)
+            one.cell == other.cell && one.item < other.item && virt_meet(one.region, other.region)
         }
         Rule::PhysOverlap => {
             one.cell == other.cell

@@ -49,7 +49,9 @@ pub(crate) fn phys_meet(one: &Region, other: &Region) -> bool
 fn has_comm(regions: &[Region]) -> bool
     ensures { result ≡ list_any is_counted_comm regions.now }
 {
-    regions.iter().any(|region| region.size > 0 && region.is_comm())
+    regions
+        .iter()
+        .any(|region| region.size > 0 && region.is_comm())
 }
 
 /// Whether a communication region isn't one whole page, or isn't its cell's first.
@@ -110,8 +112,7 @@ pub(crate) fn hypervisor_breaks(rule: Rule, memory: &Region) -> bool
                 || phys_end(memory) > u128::from(ADDRESS_END)
         }
         Rule::PhysAlign => {
-            memory.size > 0
-                && (memory.phys_start % PAGE_SIZE != 0 || memory.size % PAGE_SIZE != 0)
+            memory.size > 0 && (memory.phys_start % PAGE_SIZE != 0 || memory.size % PAGE_SIZE != 0)
         }
         _ => false,
     }

@@ -1,6 +1,7 @@
 //! The rules by number.
 ghost use Rattle.std.specs.Prelude.{◌≡◌, ◌<◌, length, slice_index_or};
 ghost use Rattle.jh_check.specs.Findings.{rules_in_order};
+ghost use Rattle.jh_check.specs.declared.rule.Rule.TheVariants.{VirtOverlap};
 
 /// The rules of the check. Each speaks of one or two regions, of one device, or of a cell's CPUs.
 #[derive(Clone, Copy, PartialEq, Eq, Debug)]

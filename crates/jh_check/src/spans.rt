@@ -50,12 +50,7 @@ pub(crate) fn span_of(rule: Rule, item: usize, region: &Region) -> Span
 }
 
 /// Appends the region's span if the region takes part.
-fn push(
-    spans: &mut Vec<Span>,
-    rule: Rule,
-    item: usize,
-    region: &Region,
-) -> Result<(), NoMemory>
+fn push(spans: &mut Vec<Span>, rule: Rule, item: usize, region: &Region) -> Result<(), NoMemory>
     ensures kept { (x : Span) → Contains spans.old.items x → Contains spans.new.items x }
     ensures has { OnOk result (takes_part rule region.now ≡ true → Contains spans.new.items (span_of rule item region.now)) }
 {

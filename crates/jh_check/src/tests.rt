@@ -153,7 +153,15 @@ fn told_of_root(alloc: Global, regions: &[Region]) -> Result<String, Fail> {
 /// What the check of a cell with this region, and one more, tells, beside a root with a page-mapped and a
 /// subpage region.
 fn told_of_cell(alloc: Global, one: Region, other: Region) -> Result<String, Fail> {
-    let root = cell(alloc, 1, &[plain(0x4000_0000, 0x1000_0000, 0xf), plain(0x900_0040, 0x40, 0x3)], &[])?;
+    let root = cell(
+        alloc,
+        1,
+        &[
+            plain(0x4000_0000, 0x1000_0000, 0xf),
+            plain(0x900_0040, 0x40, 0x3),
+        ],
+        &[],
+    )?;
     let cells = Vec::from_array(alloc, [cell(alloc, 2, &[one, other], &[])?])?;
     told(alloc, &system(root, HYPERVISOR), cells.as_slice())
 }
@@ -171,9 +179,15 @@ fn demo_beside_q_is_clean_and_twice_it_overlaps(rt: HostRuntime) -> Result<(), F
             demo(alloc, 0x7f90_0000, device(1, 3))?,
         ],
     )?;
-    assert_eq!(rt; told(alloc, &system, two.as_slice())?.as_str(), "10 CellsOverlap 1.0 2.0; 11 Shmem 2.d0; ");
+    assert_eq!(rt;
+        told(alloc, &system, two.as_slice())?.as_str(),
+        "10 CellsOverlap 1.0 2.0; 11 Shmem 2.d0; "
+    );
     let inside = Vec::from_array(alloc, [demo(alloc, 0x7fbf_f000, device(1, 3))?])?;
-    assert_eq!(rt; told(alloc, &system, inside.as_slice())?.as_str(), "3 Hypervisor 1.0; ");
+    assert_eq!(rt;
+        told(alloc, &system, inside.as_slice())?.as_str(),
+        "3 Hypervisor 1.0; "
+    );
     Ok(())
 }
 
@@ -183,7 +197,10 @@ fn regions_of_one_cell_meet_or_dont(rt: HostRuntime) -> Result<(), Fail> {
     let memory = plain(0x4000_0000, 0x3fc0_0000, 0xf);
     let uart = plain(0x900_0000, 0x1000, 0x13);
     let meeting = told_of_root(alloc, &[memory, uart, plain(0x900_0fff, 0x10, 0x4_0013)])?;
-    assert_eq!(rt; meeting.as_str(), "1 VirtOverlap 0.1 0.2; 2 PhysOverlap 0.1 0.2; ");
+    assert_eq!(rt;
+        meeting.as_str(),
+        "1 VirtOverlap 0.1 0.2; 2 PhysOverlap 0.1 0.2; "
+    );
     let behind = told_of_root(alloc, &[memory, uart, plain(0x900_1000, 0x10, 0x4_0013)])?;
     assert_eq!(rt; behind.as_str(), "");
     let empty = told_of_root(alloc, &[memory, uart, plain(0x900_0fff, 0, 0x4_0013)])?;
@@ -196,18 +213,59 @@ fn rules_of_one_region_just_inside_and_outside(rt: HostRuntime) -> Result<(), Fa
     let alloc = rt.alloc();
     let end = 0x80_0000_0000;
     let good = plain(0x4000_0000, 0x1000, 0xf);
-    assert_eq!(rt; told_of_root(alloc, &[plain(end - 0x1000, 0x1000, 0x3)])?.as_str(), "");
-    assert_eq!(rt; told_of_root(alloc, &[plain(end - 0x1000, 0x1001, 0x3)])?.as_str(), "4 OutOfRange 0.0; ");
-    assert_eq!(rt; told_of_root(alloc, &[region(0x1000, 0x2000, 0x1000, 0x3)])?.as_str(), "5 RootNotIdentity 0.0; ");
-    assert_eq!(rt; told_of_root(alloc, &[plain(0x1000, 0x1000, 0x23)])?.as_str(), "6 CommInRoot 0.0; ");
-    assert_eq!(rt; told_of_root(alloc, &[plain(0x1000, 0x1000, 0x6)])?.as_str(), "8 ExecuteWithoutRead 0.0; ");
-    assert_eq!(rt; told_of_cell(alloc, good, region(0, 0x8000_0000, 0x1000, 0x23))?.as_str(), "");
-    assert_eq!(rt; told_of_cell(alloc, good, region(0, 0x8000_0000, 0x2000, 0x23))?.as_str(), "7 CommShape 1.1; ");
-    assert_eq!(rt; told_of_cell(alloc, region(0, 0x9000_0000, 0x1000, 0x23), region(0, 0x8000_0000, 0x1000, 0x23))?.as_str(), "7 CommShape 1.1; ");
-    assert_eq!(rt; told_of_cell(alloc, good, region(0x4000_2000, 0, 0x800, 0x3))?.as_str(), "9 SubpageTaken 1.1 0.0; ");
-    assert_eq!(rt; told_of_cell(alloc, good, region(0x4000_2000, 0, 0x800, 0x83))?.as_str(), "");
-    assert_eq!(rt; told_of_cell(alloc, good, region(0x900_0040, 0, 0x40, 0x3))?.as_str(), "");
-    assert_eq!(rt; told_of_cell(alloc, good, region(0x4000_2800, 0, 0x1000, 0x3))?.as_str(), "13 PhysAlign 1.1; ");
+    assert_eq!(rt;
+        told_of_root(alloc, &[plain(end - 0x1000, 0x1000, 0x3)])?.as_str(),
+        ""
+    );
+    assert_eq!(rt;
+        told_of_root(alloc, &[plain(end - 0x1000, 0x1001, 0x3)])?.as_str(),
+        "4 OutOfRange 0.0; "
+    );
+    assert_eq!(rt;
+        told_of_root(alloc, &[region(0x1000, 0x2000, 0x1000, 0x3)])?.as_str(),
+        "5 RootNotIdentity 0.0; "
+    );
+    assert_eq!(rt;
+        told_of_root(alloc, &[plain(0x1000, 0x1000, 0x23)])?.as_str(),
+        "6 CommInRoot 0.0; "
+    );
+    assert_eq!(rt;
+        told_of_root(alloc, &[plain(0x1000, 0x1000, 0x6)])?.as_str(),
+        "8 ExecuteWithoutRead 0.0; "
+    );
+    assert_eq!(rt;
+        told_of_cell(alloc, good, region(0, 0x8000_0000, 0x1000, 0x23))?.as_str(),
+        ""
+    );
+    assert_eq!(rt;
+        told_of_cell(alloc, good, region(0, 0x8000_0000, 0x2000, 0x23))?.as_str(),
+        "7 CommShape 1.1; "
+    );
+    assert_eq!(rt;
+        told_of_cell(
+            alloc,
+            region(0, 0x9000_0000, 0x1000, 0x23),
+            region(0, 0x8000_0000, 0x1000, 0x23)
+        )?
+        .as_str(),
+        "7 CommShape 1.1; "
+    );
+    assert_eq!(rt;
+        told_of_cell(alloc, good, region(0x4000_2000, 0, 0x800, 0x3))?.as_str(),
+        "9 SubpageTaken 1.1 0.0; "
+    );
+    assert_eq!(rt;
+        told_of_cell(alloc, good, region(0x4000_2000, 0, 0x800, 0x83))?.as_str(),
+        ""
+    );
+    assert_eq!(rt;
+        told_of_cell(alloc, good, region(0x900_0040, 0, 0x40, 0x3))?.as_str(),
+        ""
+    );
+    assert_eq!(rt;
+        told_of_cell(alloc, good, region(0x4000_2800, 0, 0x1000, 0x3))?.as_str(),
+        "13 PhysAlign 1.1; "
+    );
     Ok(())
 }
 
@@ -220,11 +278,26 @@ fn told_of_hypervisor(alloc: Global, cpus: u8, at: u64, size: u64) -> Result<Str
 #[test]
 fn the_hypervisors_memory_and_cpus(rt: HostRuntime) -> Result<(), Fail> {
     let alloc = rt.alloc();
-    assert_eq!(rt; told_of_hypervisor(alloc, 1, 0x7000_0000, 0x400_0000)?.as_str(), "");
-    assert_eq!(rt; told_of_hypervisor(alloc, 1, 0x7000_0000, 0x400_1000)?.as_str(), "4 OutOfRange h; ");
-    assert_eq!(rt; told_of_hypervisor(alloc, 1, 0x7000_0001, 0)?.as_str(), "4 OutOfRange h; ");
-    assert_eq!(rt; told_of_hypervisor(alloc, 1, 0x7000_0001, 0x1000)?.as_str(), "13 PhysAlign h; ");
-    assert_eq!(rt; told_of_hypervisor(alloc, 0, 0x7000_0000, 0x1000)?.as_str(), "12 NoCpu 0; ");
+    assert_eq!(rt;
+        told_of_hypervisor(alloc, 1, 0x7000_0000, 0x400_0000)?.as_str(),
+        ""
+    );
+    assert_eq!(rt;
+        told_of_hypervisor(alloc, 1, 0x7000_0000, 0x400_1000)?.as_str(),
+        "4 OutOfRange h; "
+    );
+    assert_eq!(rt;
+        told_of_hypervisor(alloc, 1, 0x7000_0001, 0)?.as_str(),
+        "4 OutOfRange h; "
+    );
+    assert_eq!(rt;
+        told_of_hypervisor(alloc, 1, 0x7000_0001, 0x1000)?.as_str(),
+        "13 PhysAlign h; "
+    );
+    assert_eq!(rt;
+        told_of_hypervisor(alloc, 0, 0x7000_0000, 0x1000)?.as_str(),
+        "12 NoCpu 0; "
+    );
     Ok(())
 }
 
@@ -240,14 +313,79 @@ fn devices_break_rules_by_their_numbers(rt: HostRuntime) -> Result<(), Fail> {
     let good = device(1, 3);
     let breaks = "11 Shmem 1.d0; ";
     assert_eq!(rt; told_of_device(alloc, good)?.as_str(), "");
-    assert_eq!(rt; told_of_device(alloc, device(2, 3))?.as_str(), breaks, "its number among the peers");
-    assert_eq!(rt; told_of_device(alloc, device(0, 3))?.as_str(), breaks, "the number of a linked one");
-    assert_eq!(rt; told_of_device(alloc, PciDevice { shmem_peers: 17, ..good })?.as_str(), breaks, "too many peers");
-    assert_eq!(rt; told_of_device(alloc, PciDevice { num_msix_vectors: 16, ..good })?.as_str(), "");
-    assert_eq!(rt; told_of_device(alloc, PciDevice { num_msix_vectors: 17, ..good })?.as_str(), breaks);
-    assert_eq!(rt; told_of_device(alloc, PciDevice { num_msix_vectors: 0, ..good })?.as_str(), breaks, "a BAR of no vectors");
-    assert_eq!(rt; told_of_device(alloc, device(1, 4))?.as_str(), breaks, "a section is missing");
-    assert_eq!(rt; told_of_device(alloc, PciDevice { kind: 1, ..device(0, 9) })?.as_str(), "", "no ivshmem device");
+    assert_eq!(rt;
+        told_of_device(alloc, device(2, 3))?.as_str(),
+        breaks,
+        "its number among the peers"
+    );
+    assert_eq!(rt;
+        told_of_device(alloc, device(0, 3))?.as_str(),
+        breaks,
+        "the number of a linked one"
+    );
+    assert_eq!(rt;
+        told_of_device(
+            alloc,
+            PciDevice {
+                shmem_peers: 17,
+                ..good
+            }
+        )?
+        .as_str(),
+        breaks,
+        "too many peers"
+    );
+    assert_eq!(rt;
+        told_of_device(
+            alloc,
+            PciDevice {
+                num_msix_vectors: 16,
+                ..good
+            }
+        )?
+        .as_str(),
+        ""
+    );
+    assert_eq!(rt;
+        told_of_device(
+            alloc,
+            PciDevice {
+                num_msix_vectors: 17,
+                ..good
+            }
+        )?
+        .as_str(),
+        breaks
+    );
+    assert_eq!(rt;
+        told_of_device(
+            alloc,
+            PciDevice {
+                num_msix_vectors: 0,
+                ..good
+            }
+        )?
+        .as_str(),
+        breaks,
+        "a BAR of no vectors"
+    );
+    assert_eq!(rt;
+        told_of_device(alloc, device(1, 4))?.as_str(),
+        breaks,
+        "a section is missing"
+    );
+    assert_eq!(rt;
+        told_of_device(
+            alloc,
+            PciDevice {
+                kind: 1,
+                ..device(0, 9)
+            }
+        )?
+        .as_str(),
+        "",
+        "no ivshmem device"
+    );
     Ok(())
 }
 
@@ -272,10 +410,16 @@ fn a_new_cell_is_clean_invalid_or_busy(rt: HostRuntime) -> Result<(), Fail> {
     let system = q(alloc)?;
     let new = demo(alloc, 0x7f90_0000, device(1, 3))?;
     assert_eq!(rt; clean_with(&system, &[], &new), NewCell::Clean);
-    let other = Vec::from_array(alloc, [cell(alloc, 2, &[region(0x7f90_f000, 0, 0x1000, 0xf)], &[])?])?;
+    let other = Vec::from_array(
+        alloc,
+        [cell(alloc, 2, &[region(0x7f90_f000, 0, 0x1000, 0xf)], &[])?],
+    )?;
     assert_eq!(rt; other.len(), 1);
     assert_eq!(rt; clean_with(&system, other.as_slice(), &new), NewCell::Busy);
     let outside = demo(alloc, 0x7fbf_f000, device(1, 3))?;
-    assert_eq!(rt; clean_with(&system, other.as_slice(), &outside), NewCell::Invalid);
+    assert_eq!(rt;
+        clean_with(&system, other.as_slice(), &outside),
+        NewCell::Invalid
+    );
     Ok(())
 }

@@ -17,7 +17,7 @@ returns-then-not-is_within c = λ e.
     let Q : List Span → List Region → Type 0 = λ xs ys. (s : ℕ) (d : Region) (x : Span) → s < length ys → Contains xs x → spans_meet x (span_of c.args.rule s (get_or ys s d)) ≡ false in
     let q : Q c.as_slice.result.now c.as_slice-then-not-is_within.result.now = c.any_may_meet.ensures e in
     between-unmet c.args.rule c.args.a c.args.one.now c.args.b c.args.other.now c.in-Some.spans.items k
-        (subst (λ ys. Q c.in-Some.spans.items ys) c.as_slice-then-not-is_within.ensures.value (subst (λ xs. Q xs c.as_slice-then-not-is_within.result.now) c.as_slice.ensures.value q))
+    (subst (λ ys. Q c.in-Some.spans.items ys) c.as_slice-then-not-is_within.ensures.value (subst (λ xs. Q xs c.as_slice-then-not-is_within.result.now) c.as_slice.ensures.value q))
 
 pub returns-else-not-is_within : goal.returns-else-not-is_within
 returns-else-not-is_within c = λ e.

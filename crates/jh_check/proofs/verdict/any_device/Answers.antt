@@ -18,8 +18,21 @@ returns-then-device_breaks c =
     let found = device_at (take c.args.number (cells_of c.args.setup.now)) c.args.number c.args.cell.now in
     let items = c.args.cell.now.pci_devices in
     let none : PciDevice = record {
-      kind = 0; iommu = 0; domain = 0; bdf = 0; bar_mask = []; caps_start = 0; num_caps = 0; num_msi_vectors = 0; msi_bits = 0;
-      num_msix_vectors = 0; msix_region_size = 0; msix_address = 0; shmem_regions_start = 0; shmem_dev_id = 0; shmem_peers = 0;
+      kind = 0;
+      iommu = 0;
+      domain = 0;
+      bdf = 0;
+      bar_mask = [];
+      caps_start = 0;
+      num_caps = 0;
+      num_msi_vectors = 0;
+      msi_bits = 0;
+      num_msix_vectors = 0;
+      msix_region_size = 0;
+      msix_address = 0;
+      shmem_regions_start = 0;
+      shmem_dev_id = 0;
+      shmem_peers = 0;
       shmem_protocol = 0;
     } in
     let v = c.as_slice-devices.ensures.value in
@@ -36,8 +49,21 @@ loop-n-preserved c =
     let found = device_at (take c.args.number (cells_of c.args.setup.now)) c.args.number c.args.cell.now in
     let items = c.args.cell.now.pci_devices in
     let none : PciDevice = record {
-      kind = 0; iommu = 0; domain = 0; bdf = 0; bar_mask = []; caps_start = 0; num_caps = 0; num_msi_vectors = 0; msi_bits = 0;
-      num_msix_vectors = 0; msix_region_size = 0; msix_address = 0; shmem_regions_start = 0; shmem_dev_id = 0; shmem_peers = 0;
+      kind = 0;
+      iommu = 0;
+      domain = 0;
+      bdf = 0;
+      bar_mask = [];
+      caps_start = 0;
+      num_caps = 0;
+      num_msi_vectors = 0;
+      msi_bits = 0;
+      num_msix_vectors = 0;
+      msix_region_size = 0;
+      msix_address = 0;
+      shmem_regions_start = 0;
+      shmem_dev_id = 0;
+      shmem_peers = 0;
       shmem_protocol = 0;
     } in
     let v = c.as_slice-devices.ensures.value in
