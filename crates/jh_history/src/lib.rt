@@ -32,3 +32,6 @@ pub use laws::{
 };
 pub use next::{next_of, none_due};
 pub use past::{due, entry_cpu, opening_cpu, quiet};
+
+#[cfg(test)]
+mod tests;
