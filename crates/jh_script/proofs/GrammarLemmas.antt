@@ -1,11 +1,11 @@
 -- Numbers and lines, from what they write to their text and back.
-use Rattle.std.proofs.Common.{◌≡◌, ◌≢◌, ℕ, zero, suc, ◌+◌, ◌^◌, ◌<◌, ◌≤◌, ◌⊎◌, inl, inr, Bool, true, false, cond, eqb, ltb, leb, ◌&&◌, List, [], ◌∷◌, ◌++◌, length, get_or, drop, Option, Some, None, refl, sym, ap, ◌∙◌, subst, arith, codes, nat_eq, option_and_then}
+use Rattle.std.proofs.Common.{◌≡◌, ◌≢◌, ℕ, zero, suc, ◌^◌, ◌<◌, ◌≤◌, inl, inr, Bool, true, false, cond, eqb, ltb, leb, ◌&&◌, List, [], ◌∷◌, length, get_or, drop, Option, Some, None, refl, sym, ap, ◌∙◌, subst, arith, codes, nat_eq, option_and_then}
 use Rattle.std.specs.Option.{option_map}
 use Rattle.std.specs.Char.{digit_value}
 use Rattle.std.specs.Fmt.{decimal}
 use Rattle.std.specs.Str.{bytes_eq}
 use Rattle.std.specs.Str.Parse.{AllDigits, digits_value}
-use Rattle.std.specs.List.{list_all, starts_with}
+use Rattle.std.specs.List.{starts_with}
 use Rattle.std.proofs.lemmas.Bool.{lt-ltb, ltb-true, le-leb, leb-true, eqb-true, eq-eqb, ne_eqb, false≢true}
 use Rattle.std.proofs.lemmas.Option.{none-some, same_Some}
 use Rattle.std.proofs.lemmas.Slice.Eq.{bytes_eq-Decides}
@@ -15,12 +15,11 @@ use Rattle.std.proofs.lemmas.Int.Digits.{digits_value-lt}
 use Rattle.std.proofs.Math.Nat.{pow-le-pow_right}
 use Rattle.jh_script.specs.declared.op.Op.{Op}
 use Rattle.jh_script.specs.declared.op.Op.TheVariants.{Read, Write, Fetch, Await, Irq, Hvc}
-use Rattle.jh_script.specs.declared.line.Line.{Line}
 use Rattle.jh_script.specs.declared.line.Line.TheVariants.{Blank, Operation, Syntax, Width}
 use Rattle.jh_script.specs.Numbers.{are_digits, value_of, decimal_of, hexadecimal_of, number_of}
 use Rattle.jh_script.specs.Words.{words, blanks}
 use Rattle.jh_script.specs.Operations.{none_of, one_of, two_of, three_of, op_of, is_plain, IsPlain, line_of, line_of_op, line_of_words}
-use Rattle.jh_script.specs.Grammar.{IsDecimal, IsHexadecimal, IsNumber, IsCallOf0, IsCallOf1, IsCallOf2, IsCallOf3, are_ascii, IsSkipped, IsTooWide, Writes}
+use Rattle.jh_script.specs.Grammar.{IsDecimal, IsNumber, IsCallOf0, IsCallOf1, IsCallOf2, IsCallOf3, are_ascii, IsSkipped, IsTooWide, Writes}
 use Rattle.jh_script.proofs.OperationLemmas.{both, plain, plain_from}
 
 -- ---- numbers

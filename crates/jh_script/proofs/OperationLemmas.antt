@@ -1,10 +1,9 @@
 -- The operations that lines tell are within their limits.
-use Rattle.std.proofs.Common.{◌≡◌, ℕ, ◌^◌, ◌%◌, Bool, true, false, cond, ltb, eqb, ◌&&◌, IsTrue, Option, Some, None, refl}
+use Rattle.std.proofs.Common.{◌≡◌, ◌^◌, ◌%◌, Bool, true, false, cond, ltb, ◌&&◌, Option, Some, None, refl}
 use Rattle.std.proofs.lemmas.Bool.{lt-ltb, eq-eqb, ltb-true, eqb-true, false≢true}
 use Rattle.jh_script.specs.declared.op.Op.{Op}
 use Rattle.jh_script.specs.declared.op.Op.TheVariants.{Read, Write, Fetch, Await, Irq, Hvc}
-use Rattle.jh_script.specs.declared.line.Line.{Line}
-use Rattle.jh_script.specs.declared.line.Line.TheVariants.{Blank, Operation, Syntax, Width}
+use Rattle.jh_script.specs.declared.line.Line.TheVariants.{Operation, Width}
 use Rattle.jh_script.specs.Operations.{IsPlain, IsPlainLine, is_plain, is_width, line_of_op}
 
 pub both : (a b : Bool) → (a && b) ≡ true → (a ≡ true) × (b ≡ true)

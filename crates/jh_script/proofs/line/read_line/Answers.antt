@@ -1,6 +1,4 @@
 use Rattle.std.proofs.Common.{◌≡◌, rules, sym, subst}
-use Rattle.std.specs.Prelude.{nat_eq}
-use Rattle.jh_script.specs.declared.line.Line.{Line}
 use Rattle.jh_script.specs.Operations.{IsPlainLine, line_of_op, op_of}
 use Rattle.jh_script.specs.Words.{words, blanks}
 use Rattle.jh_script.proofs.OperationLemmas.{op_is_plain}

@@ -1,4 +1,4 @@
-use Rattle.std.proofs.Common.{◌≡◌, ◌<◌, ◌≤◌, ◌+◌, [], ◌∷◌, ◌++◌, length, rules, arith, length-append, sym, ap, ◌∙◌, subst, Some, None, Err}
+use Rattle.std.proofs.Common.{◌≡◌, ◌<◌, ◌+◌, [], ◌∷◌, ◌++◌, length, rules, arith, length-append, sym, ap, ◌∙◌, subst, Some, None, Err}
 use Rattle.std.specs.List.{All}
 use Rattle.std.proofs.lemmas.List.Elements.{All-push}
 use Rattle.jh_script.specs.declared.fault.ScheduleFault.TheVariants.{Item}
