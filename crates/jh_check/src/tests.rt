@@ -144,282 +144,275 @@ fn told(alloc: Global, system: &SystemConfig, cells: &[CellConfig]) -> Result<St
     lines(alloc, found.as_slice())
 }
 
-/// What the check of a root with these regions tells.
-fn told_of_root(alloc: Global, regions: &[Region]) -> Result<String, Fail> {
+/// Whether the check of a root with these regions tells that.
+fn root_is_told(alloc: Global, regions: &[Region], want: &str) -> Result<bool, Fail> {
     let root = cell(alloc, 1, regions, &[])?;
-    told(alloc, &system(root, HYPERVISOR), &[])
+    Ok(told(alloc, &system(root, HYPERVISOR), &[])?.as_str() == want)
 }
 
-/// What the check of a cell with this region, and one more, tells, beside a root with a page-mapped and a
+/// Whether the check of a cell with these regions tells that, beside a root with a page-mapped and a
 /// subpage region.
-fn told_of_cell(alloc: Global, one: Region, other: Region) -> Result<String, Fail> {
-    let root = cell(
-        alloc,
-        1,
-        &[
-            plain(0x4000_0000, 0x1000_0000, 0xf),
-            plain(0x900_0040, 0x40, 0x3),
-        ],
-        &[],
-    )?;
-    let cells = Vec::from_array(alloc, [cell(alloc, 2, &[one, other], &[])?])?;
-    told(alloc, &system(root, HYPERVISOR), cells.as_slice())
+fn cell_is_told(alloc: Global, regions: &[Region], want: &str) -> Result<bool, Fail> {
+    let of_root = [
+        plain(0x4000_0000, 0x1000_0000, 0xf),
+        plain(0x900_0040, 0x40, 0x3),
+    ];
+    let root = cell(alloc, 1, &of_root, &[])?;
+    let mut cells = Vec::new(alloc);
+    cells.push(cell(alloc, 2, regions, &[])?)?;
+    Ok(told(alloc, &system(root, HYPERVISOR), cells.as_slice())?.as_str() == want)
+}
+
+/// Whether the check of a root with that many CPUs and that memory of the hypervisor tells that.
+fn hypervisor_is_told(
+    alloc: Global,
+    cpus: u8,
+    at: u64,
+    size: u64,
+    want: &str,
+) -> Result<bool, Fail> {
+    let root = cell(alloc, cpus, &[plain(0x4000_0000, 0x1000, 0xf)], &[])?;
+    Ok(told(alloc, &system(root, region(at, 0, size, 0x3)), &[])?.as_str() == want)
+}
+
+/// Whether the check of `q` and as many of `demo`, with its first region there and that device, tells that.
+fn demo_is_told(
+    alloc: Global,
+    count: usize,
+    at: u64,
+    device: PciDevice,
+    want: &str,
+) -> Result<bool, Fail> {
+    let mut cells = Vec::new(alloc);
+    for _ in 0..count {
+        cells.push(demo(alloc, at, device)?)?;
+    }
+    Ok(told(alloc, &q(alloc)?, cells.as_slice())?.as_str() == want)
 }
 
 #[test]
 fn demo_beside_q_is_clean_and_twice_it_overlaps(rt: HostRuntime) -> Result<(), Fail> {
-    let alloc = rt.alloc();
-    let system = q(alloc)?;
-    let one = Vec::from_array(alloc, [demo(alloc, 0x7f90_0000, device(1, 3))?])?;
-    assert_eq!(rt; told(alloc, &system, one.as_slice())?.as_str(), "");
-    let two = Vec::from_array(
-        alloc,
-        [
-            demo(alloc, 0x7f90_0000, device(1, 3))?,
-            demo(alloc, 0x7f90_0000, device(1, 3))?,
-        ],
-    )?;
-    assert_eq!(rt;
-        told(alloc, &system, two.as_slice())?.as_str(),
-        "10 CellsOverlap 1.0 2.0; 11 Shmem 2.d0; "
-    );
-    let inside = Vec::from_array(alloc, [demo(alloc, 0x7fbf_f000, device(1, 3))?])?;
-    assert_eq!(rt;
-        told(alloc, &system, inside.as_slice())?.as_str(),
-        "3 Hypervisor 1.0; "
-    );
+    let good = device(1, 3);
+    let rows = [
+        (1, 0x7f90_0000, ""),
+        (2, 0x7f90_0000, "10 CellsOverlap 1.0 2.0; 11 Shmem 2.d0; "),
+        (1, 0x7fbf_f000, "3 Hypervisor 1.0; "),
+    ];
+    for (count, at, want) in rows {
+        let is = demo_is_told(rt.alloc(), count, at, good, want)?;
+        assert!(rt; is, "{want}");
+    }
     Ok(())
 }
 
 #[test]
 fn regions_of_one_cell_meet_or_dont(rt: HostRuntime) -> Result<(), Fail> {
-    let alloc = rt.alloc();
-    let memory = plain(0x4000_0000, 0x3fc0_0000, 0xf);
-    let uart = plain(0x900_0000, 0x1000, 0x13);
-    let meeting = told_of_root(alloc, &[memory, uart, plain(0x900_0fff, 0x10, 0x4_0013)])?;
-    assert_eq!(rt;
-        meeting.as_str(),
-        "1 VirtOverlap 0.1 0.2; 2 PhysOverlap 0.1 0.2; "
-    );
-    let behind = told_of_root(alloc, &[memory, uart, plain(0x900_1000, 0x10, 0x4_0013)])?;
-    assert_eq!(rt; behind.as_str(), "");
-    let empty = told_of_root(alloc, &[memory, uart, plain(0x900_0fff, 0, 0x4_0013)])?;
-    assert_eq!(rt; empty.as_str(), "");
+    let rows = [
+        (
+            0x900_0fff,
+            0x10,
+            "1 VirtOverlap 0.1 0.2; 2 PhysOverlap 0.1 0.2; ",
+        ),
+        (0x900_1000, 0x10, ""),
+        (0x900_0fff, 0, ""),
+    ];
+    for (at, size, want) in rows {
+        let regions = [
+            plain(0x4000_0000, 0x3fc0_0000, 0xf),
+            plain(0x900_0000, 0x1000, 0x13),
+            plain(at, size, 0x4_0013),
+        ];
+        let is = root_is_told(rt.alloc(), &regions, want)?;
+        assert!(rt; is, "{want}");
+    }
     Ok(())
 }
 
 #[test]
-fn rules_of_one_region_just_inside_and_outside(rt: HostRuntime) -> Result<(), Fail> {
-    let alloc = rt.alloc();
-    let end = 0x80_0000_0000;
-    let good = plain(0x4000_0000, 0x1000, 0xf);
-    assert_eq!(rt;
-        told_of_root(alloc, &[plain(end - 0x1000, 0x1000, 0x3)])?.as_str(),
-        ""
-    );
-    assert_eq!(rt;
-        told_of_root(alloc, &[plain(end - 0x1000, 0x1001, 0x3)])?.as_str(),
-        "4 OutOfRange 0.0; "
-    );
-    assert_eq!(rt;
-        told_of_root(alloc, &[region(0x1000, 0x2000, 0x1000, 0x3)])?.as_str(),
-        "5 RootNotIdentity 0.0; "
-    );
-    assert_eq!(rt;
-        told_of_root(alloc, &[plain(0x1000, 0x1000, 0x23)])?.as_str(),
-        "6 CommInRoot 0.0; "
-    );
-    assert_eq!(rt;
-        told_of_root(alloc, &[plain(0x1000, 0x1000, 0x6)])?.as_str(),
-        "8 ExecuteWithoutRead 0.0; "
-    );
-    assert_eq!(rt;
-        told_of_cell(alloc, good, region(0, 0x8000_0000, 0x1000, 0x23))?.as_str(),
-        ""
-    );
-    assert_eq!(rt;
-        told_of_cell(alloc, good, region(0, 0x8000_0000, 0x2000, 0x23))?.as_str(),
-        "7 CommShape 1.1; "
-    );
-    assert_eq!(rt;
-        told_of_cell(
-            alloc,
-            region(0, 0x9000_0000, 0x1000, 0x23),
-            region(0, 0x8000_0000, 0x1000, 0x23)
-        )?
-        .as_str(),
-        "7 CommShape 1.1; "
-    );
-    assert_eq!(rt;
-        told_of_cell(alloc, good, region(0x4000_2000, 0, 0x800, 0x3))?.as_str(),
-        "9 SubpageTaken 1.1 0.0; "
-    );
-    assert_eq!(rt;
-        told_of_cell(alloc, good, region(0x4000_2000, 0, 0x800, 0x83))?.as_str(),
-        ""
-    );
-    assert_eq!(rt;
-        told_of_cell(alloc, good, region(0x900_0040, 0, 0x40, 0x3))?.as_str(),
-        ""
-    );
-    assert_eq!(rt;
-        told_of_cell(alloc, good, region(0x4000_2800, 0, 0x1000, 0x3))?.as_str(),
-        "13 PhysAlign 1.1; "
-    );
+fn rules_of_a_region_of_root(rt: HostRuntime) -> Result<(), Fail> {
+    let rows = [
+        (plain(0x7f_ffff_f000, 0x1000, 0x3), ""),
+        (plain(0x7f_ffff_f000, 0x1001, 0x3), "4 OutOfRange 0.0; "),
+        (
+            region(0x1000, 0x2000, 0x1000, 0x3),
+            "5 RootNotIdentity 0.0; ",
+        ),
+        (plain(0x1000, 0x1000, 0x23), "6 CommInRoot 0.0; "),
+        (plain(0x1000, 0x1000, 0x6), "8 ExecuteWithoutRead 0.0; "),
+    ];
+    for (one, want) in rows {
+        let is = root_is_told(rt.alloc(), &[one], want)?;
+        assert!(rt; is, "{want}");
+    }
     Ok(())
 }
 
-/// What the check of `q` with that memory of the hypervisor, and a root without a CPU if there is none, tells.
-fn told_of_hypervisor(alloc: Global, cpus: u8, at: u64, size: u64) -> Result<String, Fail> {
-    let root = cell(alloc, cpus, &[plain(0x4000_0000, 0x1000, 0xf)], &[])?;
-    told(alloc, &system(root, region(at, 0, size, 0x3)), &[])
+#[test]
+fn rules_of_a_region_of_another_cell(rt: HostRuntime) -> Result<(), Fail> {
+    let comm = region(0, 0x9000_0000, 0x1000, 0x23);
+    let rows = [
+        (region(0x4000_0000, 0, 0x1000, 0x3), ""),
+        (region(0, 0x8000_0000, 0x1000, 0x23), "7 CommShape 1.1; "),
+        (
+            region(0x4000_2000, 0, 0x800, 0x3),
+            "9 SubpageTaken 1.1 0.0; ",
+        ),
+        (region(0x4000_2000, 0, 0x800, 0x83), ""),
+        (region(0x900_0040, 0, 0x40, 0x3), ""),
+        (region(0x4000_2800, 0, 0x1000, 0x3), "13 PhysAlign 1.1; "),
+    ];
+    for (other, want) in rows {
+        let is = cell_is_told(rt.alloc(), &[comm, other], want)?;
+        assert!(rt; is, "{want}");
+    }
+    Ok(())
 }
 
 #[test]
 fn the_hypervisors_memory_and_cpus(rt: HostRuntime) -> Result<(), Fail> {
-    let alloc = rt.alloc();
-    assert_eq!(rt;
-        told_of_hypervisor(alloc, 1, 0x7000_0000, 0x400_0000)?.as_str(),
-        ""
-    );
-    assert_eq!(rt;
-        told_of_hypervisor(alloc, 1, 0x7000_0000, 0x400_1000)?.as_str(),
-        "4 OutOfRange h; "
-    );
-    assert_eq!(rt;
-        told_of_hypervisor(alloc, 1, 0x7000_0001, 0)?.as_str(),
-        "4 OutOfRange h; "
-    );
-    assert_eq!(rt;
-        told_of_hypervisor(alloc, 1, 0x7000_0001, 0x1000)?.as_str(),
-        "13 PhysAlign h; "
-    );
-    assert_eq!(rt;
-        told_of_hypervisor(alloc, 0, 0x7000_0000, 0x1000)?.as_str(),
-        "12 NoCpu 0; "
-    );
+    let rows = [
+        (1, 0x7000_0000, 0x400_0000, ""),
+        (1, 0x7000_0000, 0x400_1000, "4 OutOfRange h; "),
+        (1, 0x7000_0001, 0, "4 OutOfRange h; "),
+        (1, 0x7000_0001, 0x1000, "13 PhysAlign h; "),
+        (0, 0x7000_0000, 0x1000, "12 NoCpu 0; "),
+    ];
+    for (cpus, at, size, want) in rows {
+        let is = hypervisor_is_told(rt.alloc(), cpus, at, size, want)?;
+        assert!(rt; is, "{want}");
+    }
     Ok(())
 }
 
-/// What the check of `q` and `demo` with this device tells.
-fn told_of_device(alloc: Global, device: PciDevice) -> Result<String, Fail> {
-    let cells = Vec::from_array(alloc, [demo(alloc, 0x7f90_0000, device)?])?;
-    told(alloc, &q(alloc)?, cells.as_slice())
-}
-
-#[test]
-fn devices_break_rules_by_their_numbers(rt: HostRuntime) -> Result<(), Fail> {
-    let alloc = rt.alloc();
+/// Devices in place of that of `demo`, and what is told of them. The first is good and each other changes
+/// one thing: its number among the peers (past them, and that of the linked one), too many peers, as many
+/// vectors as there may be and one more, no vectors beside a BAR for them, a missing section, another kind.
+fn devices() -> [(PciDevice, &'static str); 9] {
     let good = device(1, 3);
     let breaks = "11 Shmem 1.d0; ";
-    assert_eq!(rt; told_of_device(alloc, good)?.as_str(), "");
-    assert_eq!(rt;
-        told_of_device(alloc, device(2, 3))?.as_str(),
-        breaks,
-        "its number among the peers"
-    );
-    assert_eq!(rt;
-        told_of_device(alloc, device(0, 3))?.as_str(),
-        breaks,
-        "the number of a linked one"
-    );
-    assert_eq!(rt;
-        told_of_device(
-            alloc,
-            PciDevice {
-                shmem_peers: 17,
-                ..good
-            }
-        )?
-        .as_str(),
-        breaks,
-        "too many peers"
-    );
-    assert_eq!(rt;
-        told_of_device(
-            alloc,
-            PciDevice {
-                num_msix_vectors: 16,
-                ..good
-            }
-        )?
-        .as_str(),
-        ""
-    );
-    assert_eq!(rt;
-        told_of_device(
-            alloc,
-            PciDevice {
-                num_msix_vectors: 17,
-                ..good
-            }
-        )?
-        .as_str(),
-        breaks
-    );
-    assert_eq!(rt;
-        told_of_device(
-            alloc,
-            PciDevice {
-                num_msix_vectors: 0,
-                ..good
-            }
-        )?
-        .as_str(),
-        breaks,
-        "a BAR of no vectors"
-    );
-    assert_eq!(rt;
-        told_of_device(alloc, device(1, 4))?.as_str(),
-        breaks,
-        "a section is missing"
-    );
-    assert_eq!(rt;
-        told_of_device(
-            alloc,
-            PciDevice {
-                kind: 1,
-                ..device(0, 9)
-            }
-        )?
-        .as_str(),
-        "",
-        "no ivshmem device"
-    );
-    Ok(())
+    let mut peers = good;
+    peers.shmem_peers = 17;
+    let mut most = good;
+    most.num_msix_vectors = 16;
+    let mut more = good;
+    more.num_msix_vectors = 17;
+    let mut none = good;
+    none.num_msix_vectors = 0;
+    let mut other = device(0, 9);
+    other.kind = 1;
+    [
+        (good, ""),
+        (device(2, 3), breaks),
+        (device(0, 3), breaks),
+        (peers, breaks),
+        (most, ""),
+        (more, breaks),
+        (none, breaks),
+        (device(1, 4), breaks),
+        (other, ""),
+    ]
 }
 
 #[test]
-fn a_thousand_findings_are_told(rt: HostRuntime) -> Result<(), Fail> {
-    let alloc = rt.alloc();
+fn rules_of_a_device(rt: HostRuntime) -> Result<(), Fail> {
+    for (device, want) in devices() {
+        let is = demo_is_told(rt.alloc(), 1, 0x7f90_0000, device, want)?;
+        assert!(rt; is, "{want}");
+    }
+    Ok(())
+}
+
+/// How many findings are told of a root with so many regions that may be executed and not read.
+fn told_of_many(alloc: Global, count: u64) -> Result<usize, Fail> {
     let mut regions = Vec::new(alloc);
-    for i in 0..1001 {
+    for i in 0..count.min(2000) {
         regions.push(plain(0x4000_0000 + 0x1000 * i, 0x1000, 0x4))?;
     }
     let root = cell(alloc, 1, regions.as_slice(), &[])?;
     let found = check(alloc, &system(root, HYPERVISOR), &[])
         .ok()
         .ok_or("memory suffices")?;
-    assert_eq!(rt; found.len(), 1000);
+    Ok(found.len())
+}
+
+#[test]
+fn a_thousand_findings_are_told(rt: HostRuntime) -> Result<(), Fail> {
+    let fewer = told_of_many(rt.alloc(), 999)?;
+    assert_eq!(rt; fewer, 999);
+    let more = told_of_many(rt.alloc(), 1001)?;
+    assert_eq!(rt; more, 1000);
     Ok(())
+}
+
+/// What is said of `demo` with its first region there as a new cell, beside `q` and a cell with a region at
+/// 0x7f90f000.
+fn verdict_at(alloc: Global, at: u64) -> Result<NewCell, Fail> {
+    let new = demo(alloc, at, device(1, 3))?;
+    let mut live = Vec::new(alloc);
+    live.push(cell(alloc, 2, &[region(0x7f90_f000, 0, 0x1000, 0xf)], &[])?)?;
+    let system = q(alloc)?;
+    if live.len() > 14 {
+        return Err("one cell".into());
+    }
+    Ok(clean_with(&system, live.as_slice(), &new))
 }
 
 #[test]
 fn a_new_cell_is_clean_invalid_or_busy(rt: HostRuntime) -> Result<(), Fail> {
-    let alloc = rt.alloc();
-    let system = q(alloc)?;
-    let new = demo(alloc, 0x7f90_0000, device(1, 3))?;
-    assert_eq!(rt; clean_with(&system, &[], &new), NewCell::Clean);
-    let other = Vec::from_array(
-        alloc,
-        [cell(alloc, 2, &[region(0x7f90_f000, 0, 0x1000, 0xf)], &[])?],
-    )?;
-    assert_eq!(rt; other.len(), 1);
-    assert_eq!(rt; clean_with(&system, other.as_slice(), &new), NewCell::Busy);
-    let outside = demo(alloc, 0x7fbf_f000, device(1, 3))?;
-    assert_eq!(rt;
-        clean_with(&system, other.as_slice(), &outside),
-        NewCell::Invalid
-    );
+    let rows = [
+        (0x7f91_0000, NewCell::Clean),
+        (0x7f90_0000, NewCell::Busy),
+        (0x7fbf_f000, NewCell::Invalid),
+    ];
+    for (at, want) in rows {
+        let verdict = verdict_at(rt.alloc(), at)?;
+        assert!(rt; verdict == want, "{want:?}");
+    }
+    Ok(())
+}
+
+/// Whether the check of a cell with four sections, of which one is changed, and these devices tells that.
+fn sections_are_told(
+    alloc: Global,
+    changed: usize,
+    section: Region,
+    devices: &[PciDevice],
+    want: &str,
+) -> Result<bool, Fail> {
+    let mut sections = [
+        plain(0x1000_0000, 0x1000, 0x1),
+        plain(0x1000_1000, 0x9000, 0x3),
+        plain(0x1000_a000, 0x2000, 0x3),
+        plain(0x1000_c000, 0x2000, 0x1),
+    ];
+    if changed < 4 {
+        sections[changed] = section;
+    }
+    let root = cell(alloc, 1, &[], &[])?;
+    let mut cells = Vec::new(alloc);
+    cells.push(cell(alloc, 2, &sections, devices)?)?;
+    Ok(told(alloc, &system(root, HYPERVISOR), cells.as_slice())?.as_str() == want)
+}
+
+#[test]
+fn rules_of_sections(rt: HostRuntime) -> Result<(), Fail> {
+    let breaks = "11 Shmem 1.d0; ";
+    let rows = [
+        (0, plain(0x1000_0000, 0x1000, 0x1), ""),
+        (0, plain(0x1000_0000, 0x1000, 0x3), breaks),
+        (1, plain(0x1000_1000, 0x9000, 0x43), breaks),
+        (1, plain(0x1000_1000, 0, 0x3), breaks),
+        (2, plain(0x1000_a000, 0x2000, 0x1), ""),
+        (3, plain(0x1000_c000, 0x2000, 0x3), breaks),
+        (3, plain(0x1000_c000, 0x1000, 0x1), breaks),
+        (3, plain(0x1000_d000, 0x2000, 0x1), breaks),
+    ];
+    for (changed, section, want) in rows {
+        let is = sections_are_told(rt.alloc(), changed, section, &[device(0, 0)], want)?;
+        assert!(rt; is, "{want}");
+    }
+    let twice = [device(0, 0), device(0, 0)];
+    let is = sections_are_told(rt.alloc(), 4, HYPERVISOR, &twice, "11 Shmem 1.d1; ")?;
+    assert!(rt; is, "two devices of one number");
     Ok(())
 }
