@@ -1,0 +1,2 @@
+pub mod AbsentLemmas
+pub mod JudgeLemmas

@@ -1,0 +1,10 @@
+//! A journal that anybody hands in, judged: legal, or the first entry that wasn't due.
+#![tactic(auto)]
+
+mod judge;
+#[cfg(test)]
+mod tests;
+mod verdict;
+
+pub use judge::{AUDIT_LIMIT, audit};
+pub use verdict::Verdict;
