@@ -1,4 +1,7 @@
 pub mod Words
 pub mod Lines
+pub mod Reading
+pub mod Check
+pub mod Play
 pub mod Outcome
 pub mod Stopped
