@@ -13,3 +13,8 @@ mod turn;
 pub use board::Board;
 pub use schedule::{Ended, follow, play};
 pub use turn::{Turn, TurnFault};
+
+#[cfg(test)]
+mod plain;
+#[cfg(test)]
+mod tests;
