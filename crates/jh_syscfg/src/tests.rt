@@ -121,13 +121,25 @@ fn written(alloc: Global, system: &SystemConfig) -> Result<Vec<u8>, Fail> {
     Ok(write_system(alloc, system).ok().ok_or("memory suffices")?)
 }
 
+/// What `tiny` by its description is written as.
+fn tiny_written(alloc: Global) -> Result<Vec<u8>, Fail> {
+    let regions = vec![in alloc; region(0x4000_0000, 0x3fc0_0000, 0xf)]?;
+    let root = root(alloc, 1, regions, Seq::new(alloc))?;
+    written(alloc, &system(0, root))
+}
+
+/// What `q` by its description is written as.
+fn q_written(alloc: Global) -> Result<Vec<u8>, Fail> {
+    let system = q(alloc)?;
+    written(alloc, &system)
+}
+
 #[test]
 fn tiny_and_q_write_their_bytes(rt: HostRuntime) -> Result<(), Fail> {
-    let alloc = rt.alloc();
-    let regions = vec![in alloc; region(0x4000_0000, 0x3fc0_0000, 0xf)]?;
-    let tiny = system(0, root(alloc, 1, regions, Seq::new(alloc))?);
-    assert_eq!(rt; written(alloc, &tiny)?.as_slice(), bytes::tiny());
-    assert_eq!(rt; written(alloc, &q(alloc)?)?.as_slice(), bytes::q());
+    let tiny = tiny_written(rt.alloc())?;
+    assert_eq!(rt; tiny.as_slice(), bytes::tiny());
+    let q = q_written(rt.alloc())?;
+    assert_eq!(rt; q.as_slice(), bytes::q());
     Ok(())
 }
 

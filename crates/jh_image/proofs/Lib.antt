@@ -1,0 +1,3 @@
+pub mod Unlisted
+pub mod Marks
+pub mod ListsTold
