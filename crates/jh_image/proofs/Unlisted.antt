@@ -1,5 +1,5 @@
 -- The names of an object that aren't listed, over the keys of its map.
-use Rattle.std.proofs.Common.{◌≡◌, ℕ, List, [], ◌∷◌, Bool, true, false, map, nat_eq, Option, Some, None, refl, ap, ◌∙◌}
+use Rattle.std.proofs.Common.{◌≡◌, ℕ, List, [], ◌∷◌, Bool, true, false, map, nat_eq, Option, Some, None, Bor, refl, sym, ap, ◌∙◌}
 use Rattle.std.specs.Prelude.{String, string_bytes, if◌then◌else◌, ◌||◌}
 use Rattle.std.specs.declared.alloc.Global.{Global}
 use Rattle.std.specs.List.{list_any}
@@ -20,3 +20,13 @@ first_unlisted-keys names (e ∷ es) =
 pub list_any-map : {X Y : Type 0} (f : X → Y) (p : Y → Bool) (xs : List X) → list_any p (map f xs) ≡ list_any (λ x. p (f x)) xs
 list_any-map f p [] = refl
 list_any-map f p (x ∷ xs) = ap (λ (b : Bool). p (f x) || b) (list_any-map f p xs)
+
+-- the test of the next key
+pub next_key : (names : List (Bor (List ℕ))) (key : String Global) (keys : List (String Global)) (text : List ℕ) (found : Bool)
+    → text ≡ string_bytes key → found ≡ list_any (λ listed. pointwise nat_eq listed.now text) names
+    → key_unlisted (map (λ listed. listed.now) names) (key ∷ keys) ≡ (if found then key_unlisted (map (λ listed. listed.now) names) keys else Some (string_bytes key))
+next_key names key keys text found is test =
+    let tests : list_any (λ listed. pointwise nat_eq listed (string_bytes key)) (map (λ listed. listed.now) names) ≡ found
+    = list_any-map (λ listed. listed.now) (λ listed. pointwise nat_eq listed (string_bytes key)) names
+      ∙ ap (λ (t : List ℕ). list_any (λ listed. pointwise nat_eq listed.now t) names) (sym is) ∙ sym test in
+    ap (λ (b : Bool). if b then key_unlisted (map (λ listed. listed.now) names) keys else Some (string_bytes key)) tests
