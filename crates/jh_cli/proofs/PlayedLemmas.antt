@@ -13,7 +13,8 @@ use Rattle.jh_board.specs.declared.schedule.Ended.TheVariants.{Quiet, Full}
 use Rattle.jh_cli.specs.declared.limits.TheConstants.{JOURNAL_LIMIT}
 use Rattle.jh_cli.specs.declared.status.Status.{Status}
 use Rattle.jh_cli.specs.declared.status.Status.TheVariants.{Good}
-use Rattle.jh_cli.specs.Outcome.{Said, IsPlayed, played_status}
+use Rattle.jh_cli.specs.Reading.{Said}
+use Rattle.jh_cli.specs.Play.{IsPlayed, played_status}
 
 good_is_quiet : (ended : Ended) → played_status (is_full ended) ≡ Good → ended ≡ Quiet
 good_is_quiet Quiet h = refl

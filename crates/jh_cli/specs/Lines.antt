@@ -22,6 +22,6 @@ usage_line = codes "usage: jailhouse check SYSTEM CELL... | pack SPEC | play BOA
 abbrev pub fault_line : List ℕ → List ℕ
 fault_line name = codes "read fault: " ++ name ++ 10 ∷ []
 
--- a file isn't in the form that is built
-abbrev pub refusal_line : List ℕ → List ℕ
-refusal_line name = codes "refused: " ++ name ++ codes ": not built" ++ 10 ∷ []
+-- a file is refused for what the words say
+abbrev pub refusal_line : List ℕ → List ℕ → List ℕ
+refusal_line name words = codes "refused: " ++ name ++ codes ": " ++ words ++ 10 ∷ []

@@ -8,7 +8,7 @@ use Rattle.jh_cli.specs.declared.told.Stop.{Stop}
 use Rattle.jh_cli.specs.declared.told.Stop.TheVariants.{Ended, NoMemory}
 use Rattle.jh_cli.specs.declared.status.Status.TheVariants.{ReadFault}
 use Rattle.jh_cli.specs.Lines.{fault_line}
-use Rattle.jh_cli.specs.Outcome.{Said}
+use Rattle.jh_cli.specs.Reading.{Said}
 
 -- the status and the text that are told
 abbrev pub said_of : Told → Said

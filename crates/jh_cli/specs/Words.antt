@@ -1,10 +1,14 @@
 -- The words of the command line.
-use Rattle.std.specs.Prelude.{ℕ, Bool, true, false, ◌&&◌, not, ◌==◌, if◌then◌else◌, List, [], ◌∷◌, nat_eq, Option, Some, None, codes}
+use Rattle.std.specs.Prelude.{ℕ, Bool, true, false, ◌&&◌, not, ◌==◌, nat_le, if◌then◌else◌, List, [], ◌∷◌, length, map, string_bytes, nat_eq, Option, Some, None, ⊤, ◌≤◌, codes}
+use Rattle.std.specs.List.{list_all}
 use Rattle.std.specs.Cmp.Lexicographic.{pointwise}
-use Rattle.jh_cli.specs.declared.command.Play.{Play}
+use Rattle.jh_cli.specs.declared.command.Command.{Command}
+use Rattle.jh_cli.specs.declared.command.Command.TheVariants.{Check, Pack, Play}
 
 -- what a command asks for, with the names of its files
 pub data Asked : Type 0 where
+  CheckOf : List ℕ → List (List ℕ) → Asked
+  PackOf : List ℕ → Asked
   PlayOf : List ℕ → List ℕ → Asked
 
 -- a word that begins with `-` is no operand
@@ -12,19 +16,49 @@ abbrev pub is_operand : List ℕ → Bool
 is_operand [] = true
 is_operand (byte ∷ bytes) = not (byte == 45)
 
--- the command `play` with its two operands
-abbrev pub play_of : List ℕ → List ℕ → List ℕ → Option Asked
-play_of word board schedule = if pointwise nat_eq word (codes "play") && is_operand board && is_operand schedule then Some (PlayOf board schedule) else None
+-- the two words are one letter for letter
+abbrev pub is_word : List ℕ → List ℕ → Bool
+is_word word other = pointwise nat_eq word other
+
+-- `check` has a system and 0 to 15 cells
+abbrev pub check_of : List (List ℕ) → Option Asked
+check_of [] = None
+check_of (system ∷ cells) = if nat_le (length cells) 15 then Some (CheckOf system cells) else None
+
+-- `pack` has a SPEC
+abbrev pub pack_of : List (List ℕ) → Option Asked
+pack_of [] = None
+pack_of (spec ∷ []) = Some (PackOf spec)
+pack_of (spec ∷ other ∷ more) = None
+
+-- `play` has a board and a schedule
+abbrev pub play_of : List (List ℕ) → Option Asked
+play_of [] = None
+play_of (board ∷ []) = None
+play_of (board ∷ schedule ∷ []) = Some (PlayOf board schedule)
+play_of (board ∷ schedule ∷ other ∷ more) = None
+
+-- the command of this word with these operands; those that aren't built yet have none
+abbrev pub asked_for : List ℕ → List (List ℕ) → Option Asked
+asked_for word operands =
+    if is_word word (codes "check") then check_of operands
+    else (if is_word word (codes "pack") then pack_of operands
+    else (if is_word word (codes "play") then play_of operands
+    else None))
 
 -- the command of the words: the program's name, the command's word letter for letter, and its operands
 abbrev pub command_of : List (List ℕ) → Option Asked
 command_of [] = None
 command_of (name ∷ []) = None
-command_of (name ∷ word ∷ []) = None
-command_of (name ∷ word ∷ board ∷ []) = None
-command_of (name ∷ word ∷ board ∷ schedule ∷ []) = play_of word board schedule
-command_of (name ∷ word ∷ board ∷ schedule ∷ other ∷ more) = None
+command_of (name ∷ word ∷ operands) = if list_all is_operand operands then asked_for word operands else None
 
 -- what the command that was read asks for
-abbrev pub asked_by : Play → Asked
-asked_by play = PlayOf play.board.now play.schedule.now
+abbrev pub asked_by : Command → Asked
+asked_by (Check system cells) = CheckOf system.now (map string_bytes cells.now)
+asked_by (Pack spec) = PackOf spec.now
+asked_by (Play board schedule) = PlayOf board.now schedule.now
+
+-- it has at most 15 cells
+abbrev pub HasFewCells : Command → Type 0
+HasFewCells (Check system cells) = length cells.now ≤ 15
+HasFewCells _ = ⊤

@@ -1,13 +1,24 @@
 //! The words of the command line.
 ghost use Rattle.std.specs.Prelude.{◌≡◌, ◌==◌, IfSome, None, map, string_bytes, not, slice_get, Bool};
+ghost use Rattle.std.specs.List.{list_all};
 ghost use Rattle.std.specs.Option.{option_map};
-ghost use Rattle.jh_cli.specs.Words.{is_operand as is_operand_lem, command_of as command_of_lem, asked_by, play_of as play_of_lem};
+ghost use Rattle.jh_cli.specs.Words.{is_operand as is_operand_lem, check_of as check_of_lem, pack_of as pack_of_lem, play_of as play_of_lem, asked_for as asked_for_lem, command_of as command_of_lem, asked_by, HasFewCells};
 
-/// The command `play` with its operands, the one that is built: plays a board by a schedule.
+/// How many cells are checked at most.
+const MOST_CELLS: usize = 15;
+
+/// A command with the names of its files.
 #[derive(Clone, Copy)]
-pub struct Play<'a> {
-    pub board: &'a str,
-    pub schedule: &'a str,
+pub enum Command<'a> {
+    /// Checks a system and up to 15 cells.
+    Check {
+        system: &'a str,
+        cells: &'a [String],
+    },
+    /// Writes the configuration that a SPEC describes.
+    Pack { spec: &'a str },
+    /// Plays a board by a schedule.
+    Play { board: &'a str, schedule: &'a str },
 }
 
 /// Whether the word may be an operand: it doesn't begin with `-`. An empty word may.
@@ -20,23 +31,78 @@ fn is_operand(word: &str) -> bool
     }
 }
 
-/// The command of the words, of which the first is the program's name.
-pub fn command_of(words: &[String]) -> Option<Play<'_>>
-    ensures { option_map asked_by result ≡ command_of_lem (map string_bytes words.now) }
+fn are_operands(words: &[String]) -> bool
+    ensures { result ≡ list_all is_operand_lem (map string_bytes words.now) }
 {
-    match words {
-        [_, word, board, schedule] => play_of(word.as_str(), board.as_str(), schedule.as_str()),
+    for word in words {
+        if !is_operand(word.as_str()) {
+            return false;
+        }
+    }
+    true
+}
+
+fn check_of(operands: &[String]) -> Option<Command<'_>>
+    ensures command { option_map asked_by result ≡ check_of_lem (map string_bytes operands.now) }
+    ensures few { IfSome result HasFewCells }
+{
+    match operands {
+        [system, cells @ ..] if cells.len() <= MOST_CELLS => Some(Command::Check {
+            system: system.as_str(),
+            cells,
+        }),
         _ => None,
     }
 }
 
-/// The command `play`, if the word and its operands are such.
-fn play_of<'a>(word: &str, board: &'a str, schedule: &'a str) -> Option<Play<'a>>
-    ensures { option_map asked_by result ≡ play_of_lem word.now board.now schedule.now }
+fn pack_of(operands: &[String]) -> Option<Command<'_>>
+    ensures command { option_map asked_by result ≡ pack_of_lem (map string_bytes operands.now) }
+    ensures few { IfSome result HasFewCells }
 {
-    if word == "play" && is_operand(board) && is_operand(schedule) {
-        Some(Play { board, schedule })
+    match operands {
+        [spec] => Some(Command::Pack {
+            spec: spec.as_str(),
+        }),
+        _ => None,
+    }
+}
+
+fn play_of(operands: &[String]) -> Option<Command<'_>>
+    ensures command { option_map asked_by result ≡ play_of_lem (map string_bytes operands.now) }
+    ensures few { IfSome result HasFewCells }
+{
+    match operands {
+        [board, schedule] => Some(Command::Play {
+            board: board.as_str(),
+            schedule: schedule.as_str(),
+        }),
+        _ => None,
+    }
+}
+
+/// The command of this word with these operands.
+fn asked_for<'a>(word: &str, operands: &'a [String]) -> Option<Command<'a>>
+    ensures command { option_map asked_by result ≡ asked_for_lem word.now (map string_bytes operands.now) }
+    ensures few { IfSome result HasFewCells }
+{
+    if word == "check" {
+        check_of(operands)
+    } else if word == "pack" {
+        pack_of(operands)
+    } else if word == "play" {
+        play_of(operands)
     } else {
         None
+    }
+}
+
+/// The command of the words, of which the first is the program's name.
+pub fn command_of(words: &[String]) -> Option<Command<'_>>
+    ensures command { option_map asked_by result ≡ command_of_lem (map string_bytes words.now) }
+    ensures few { IfSome result HasFewCells }
+{
+    match words {
+        [_, word, operands @ ..] if are_operands(operands) => asked_for(word.as_str(), operands),
+        _ => None,
     }
 }

@@ -28,14 +28,15 @@ pub fn fault_line(alloc: Global, name: &str) -> Result<Vec<u8>, NoMemory>
     Ok(text)
 }
 
-/// The file of this name isn't in the form that is built.
-pub fn refusal_line(alloc: Global, name: &str) -> Result<Vec<u8>, NoMemory>
-    ensures { IfOk result (λ text. text.items ≡ refusal_line_lem name.now) }
+/// The file of this name is refused for what the words say.
+pub fn refusal_line(alloc: Global, name: &str, words: &[u8]) -> Result<Vec<u8>, NoMemory>
+    ensures { IfOk result (λ text. text.items ≡ refusal_line_lem name.now words.now) }
 {
     let mut text = Vec::new(alloc);
     text.extend_from_slice(b"refused: ")?;
     text.extend_from_slice(name.as_bytes())?;
-    text.extend_from_slice(b": not built")?;
+    text.extend_from_slice(b": ")?;
+    text.extend_from_slice(words)?;
     text.push(b'\n')?;
     Ok(text)
 }

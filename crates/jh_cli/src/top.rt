@@ -8,7 +8,7 @@ ghost use Rattle.jh_cli.specs.Outcome.{Ends};
 
 use crate::send::send;
 use crate::status::Status;
-use crate::told::tell;
+use crate::tell::tell;
 use jh_num::NoMemory;
 use jh_outside::{Files, Sink};
 use std::alloc::Global;

@@ -1,0 +1,89 @@
+-- What `check` ends with.
+use Rattle.std.specs.Prelude.{◌≡◌, ◌<◌, ℕ, ◌⊎◌, if◌then◌else◌, List, [], ◌∷◌, ◌++◌, length, ⊤, Some, codes, decimal}
+use Rattle.std.specs.List.{flat_map}
+use Rattle.jh_cellcfg.specs.declared.config.CellConfig.{CellConfig}
+use Rattle.jh_cellcfg.specs.declared.config.SystemConfig.{SystemConfig}
+use Rattle.jh_cellcfg.specs.declared.fault.ConfigFault.{ConfigFault}
+use Rattle.jh_cellcfg.specs.Faults.{first_fault}
+use Rattle.jh_cellcfg.specs.Limits.{IsWithinLimits}
+use Rattle.jh_cellcfg.specs.Spelling.{spelling}
+use Rattle.jh_cellcfg.specs.Texts.{fault_text}
+use Rattle.jh_cellcfg.specs.Widths.{IsCell}
+use Rattle.jh_syscfg.specs.Layout.{system_spelling, IsSystem, IsSystemWithinLimits}
+use Rattle.jh_syscfg.specs.SystemFaults.{system_fault}
+use Rattle.jh_check.specs.declared.finding.Finding.{Finding}
+use Rattle.jh_check.specs.Findings.{findings}
+use Rattle.jh_check.specs.Lists.{capped, is_any}
+use Rattle.jh_check.specs.Texts.{finding_text}
+use Rattle.jh_cli.specs.Reading.{Said, Contents, Spells, Stops, Reads, IsOversize}
+use Rattle.jh_cli.specs.declared.status.Status.{Status}
+use Rattle.jh_cli.specs.declared.status.Status.TheVariants.{Good, Found}
+use Rattle.jh_cli.specs.declared.limits.TheConstants.{MOST}
+
+-- the bytes of a file are those of this cell
+pub record IsCellFile (bytes : List ℕ) (cell : CellConfig) : Type 0 where
+  pub typed : IsCell cell
+  pub limits : IsWithinLimits cell
+  pub spelled : bytes ≡ spelling cell
+
+-- they are of no cell, for the fault that these words tell
+pub record IsNoCell (bytes words : List ℕ) : Type 0 where
+  pub within : length bytes < MOST
+  pub fault : ConfigFault
+  pub first : first_fault bytes ≡ Some fault
+  pub told : words ≡ fault_text fault
+
+abbrev pub CellRefusal : List ℕ → List ℕ → Type 0
+CellRefusal bytes words = IsOversize bytes words ⊎ IsNoCell bytes words
+
+-- the same of a system
+pub record IsSystemFile (bytes : List ℕ) (system : SystemConfig) : Type 0 where
+  pub typed : IsSystem system
+  pub limits : IsSystemWithinLimits system
+  pub spelled : bytes ≡ system_spelling system
+
+pub record IsNoSystem (bytes words : List ℕ) : Type 0 where
+  pub within : length bytes < MOST
+  pub fault : ConfigFault
+  pub first : system_fault bytes ≡ Some fault
+  pub told : words ≡ fault_text fault
+
+abbrev pub SystemRefusal : List ℕ → List ℕ → Type 0
+SystemRefusal bytes words = IsOversize bytes words ⊎ IsNoSystem bytes words
+
+-- the files of these names spell these cells, one each
+abbrev pub SpellCells : Contents → List (List ℕ) → List CellConfig → Type 0
+SpellCells contents [] [] = ⊤
+SpellCells contents (name ∷ names) (cell ∷ cells) = Spells contents name IsCellFile cell × SpellCells contents names cells
+SpellCells contents _ _ = ⊥
+
+-- one of the files stops the call, and those before it spell cells
+pub record StopsAmong (contents : Contents) (names : List (List ℕ)) (said : Said) : Type 0 where
+  pub before : List (List ℕ)
+  pub name : List ℕ
+  pub rest : List (List ℕ)
+  pub split : names ≡ before ++ name ∷ rest
+  pub cells : List CellConfig
+  pub spelled : SpellCells contents before cells
+  pub stops : Stops contents name CellRefusal said
+
+-- a line for each finding, and their number
+abbrev pub findings_text : List Finding → List ℕ
+findings_text found = flat_map (λ f. finding_text f ++ 10 ∷ []) found ++ (codes "findings " ++ (decimal (length found) ++ 10 ∷ []))
+
+abbrev pub checked_status : List Finding → Status
+checked_status found = if is_any found then Found else Good
+
+-- what a check of the system and the cells tells
+abbrev pub checked : SystemConfig → List CellConfig → Said
+checked system cells = record { status = checked_status (capped (findings system cells)); text = findings_text (capped (findings system cells)) }
+
+-- the files of the cells are read, and all is checked
+abbrev pub ChecksCells : Contents → List (List ℕ) → SystemConfig → Said → Type 0
+ChecksCells contents names system said =
+    StopsAmong contents names said ⊎ ((cells : List CellConfig) × SpellCells contents names cells × (said ≡ checked system cells))
+
+-- what a check of these files ends with: they are read in the order of the words, and the first that stops
+-- the call ends it
+abbrev pub Checks : Contents → List ℕ → List (List ℕ) → Said → Type 0
+Checks contents system names = Reads contents system SystemRefusal IsSystemFile (ChecksCells contents names)

@@ -1,0 +1,44 @@
+-- Where a call ends at a file, and where it goes on with what the file spells.
+use Rattle.std.specs.Prelude.{◌≡◌, ◌<◌, ◌≤◌, ℕ, ◌⊎◌, List, length, codes}
+use Rattle.jh_outside.specs.Reads.{Told, HandsOut}
+use Rattle.jh_cli.specs.Lines.{fault_line, refusal_line}
+use Rattle.jh_cli.specs.declared.status.Status.{Status}
+use Rattle.jh_cli.specs.declared.status.Status.TheVariants.{Refused, ReadFault}
+use Rattle.jh_cli.specs.declared.limits.TheConstants.{MOST}
+
+-- a status, and what is written before it
+pub record Said : Type 0 where
+  pub status : Status
+  pub text : List ℕ
+
+-- what files tell of each name
+abbrev pub Contents : Type 0
+Contents = List ℕ → Told
+
+
+-- the file of this name is refused by these words
+pub record IsRefused (contents : Contents) (name : List ℕ) (Why : List ℕ → List ℕ → Type 0) (said : Said) : Type 0 where
+  pub bytes : List ℕ
+  pub handed : HandsOut (contents name) MOST bytes
+  pub words : List ℕ
+  pub why : Why bytes words
+  pub told : said ≡ record { status = Refused; text = refusal_line name words }
+
+-- the call ends at this file: it could not be read, or is refused
+abbrev pub Stops : Contents → List ℕ → (List ℕ → List ℕ → Type 0) → Said → Type 0
+Stops contents name Why said = (said ≡ record { status = ReadFault; text = fault_line name }) ⊎ IsRefused contents name Why said
+
+module _ {A : Type 0} where
+  -- the file hands out bytes that spell this value
+  pub record Spells (contents : Contents) (name : List ℕ) (Form : List ℕ → A → Type 0) (value : A) : Type 0 where
+    pub bytes : List ℕ
+    pub handed : HandsOut (contents name) MOST bytes
+    pub spelled : Form bytes value
+
+  -- the file is read: the call ends at it, or goes on with what it spells
+  abbrev pub Reads : Contents → List ℕ → (List ℕ → List ℕ → Type 0) → (List ℕ → A → Type 0) → (A → Said → Type 0) → Said → Type 0
+  Reads contents name Why Form next said = Stops contents name Why said ⊎ ((value : A) × Spells contents name Form value × next value said)
+
+-- a file has at most 1 MiB
+abbrev pub IsOversize : List ℕ → List ℕ → Type 0
+IsOversize bytes words = (MOST ≤ length bytes) × (words ≡ codes "oversize")

@@ -1,0 +1,146 @@
+//! Checking a system and its cells.
+ghost use Rattle.std.specs.Prelude.{◌≡◌, ◌≤◌, ◌⊎◌, length, map, string_bytes, IfOk, IfErr, OnOk, ◌++◌};
+ghost use Rattle.jh_cellcfg.specs.Texts.{fault_text};
+ghost use Rattle.jh_check.specs.Findings.{findings};
+ghost use Rattle.jh_check.specs.Lists.{capped};
+ghost use Rattle.jh_check.specs.Texts.{finding_text};
+ghost use Rattle.jh_cli.specs.Lines.{refusal_line as refusal_line_lem};
+ghost use Rattle.jh_cli.specs.Reading.{Spells, Stops};
+ghost use Rattle.jh_cli.specs.Check.{IsCellFile, CellRefusal, IsSystemFile, SystemRefusal, SpellCells, StopsAmong, ChecksCells, Checks, checked, checked_status, findings_text as findings_text_lem};
+ghost use Rattle.jh_cli.specs.Stopped.{said_of, OnEnded, IsCounted};
+
+use crate::status::Status;
+use crate::told::{Stop, Told, read_whole, refused};
+use jh_cellcfg::{CellConfig, ConfigFault, SystemConfig, read_cell};
+use jh_check::{Finding, check as check_all};
+use jh_num::NoMemory;
+use jh_outside::Files;
+use jh_syscfg::read_system;
+use std::alloc::Global;
+
+/// The call ends since the configuration in the file of this name has this fault.
+fn faulty(alloc: Global, name: &str, fault: &ConfigFault) -> Stop
+    ensures { OnEnded result (λ said. said ≡ record { status = Status.Refused; text = refusal_line_lem name.now (fault_text fault.now) }) }
+{
+    let mut words = String::new(alloc);
+    match write!(words, "{fault}") {
+        Ok(()) => refused(alloc, name, words.as_bytes()),
+        Err(_) => Stop::NoMemory,
+    }
+}
+
+/// The cell in the file of this name.
+fn cell<F: Files>(alloc: Global, files: &mut F, name: &str) -> Result<CellConfig, Stop>
+    ensures ok { IfOk result (Spells (F.contents files.old) name.now IsCellFile) }
+    ensures err { IfErr result (λ stop. OnEnded stop (Stops (F.contents files.old) name.now CellRefusal)) }
+    ensures counted { IfErr result (λ stop. OnEnded stop (IsCounted (F.faults files.old) (F.faults files.new) (F.failed files.new))) }
+    ensures never_falls { F.faults files.old ≤ F.faults files.new }
+    ensures kept { F.contents files.new ≡ F.contents files.old }
+{
+    let bytes = read_whole(alloc, files, name)?;
+    match read_cell(alloc, bytes.as_slice()) {
+        Ok(cell) => Ok(cell),
+        Err(ConfigFault::NoMemory) => Err(Stop::NoMemory),
+        Err(fault) => Err(faulty(alloc, name, &fault)),
+    }
+}
+
+/// The system in the file of this name.
+fn system<F: Files>(alloc: Global, files: &mut F, name: &str) -> Result<SystemConfig, Stop>
+    ensures ok { IfOk result (Spells (F.contents files.old) name.now IsSystemFile) }
+    ensures err { IfErr result (λ stop. OnEnded stop (Stops (F.contents files.old) name.now SystemRefusal)) }
+    ensures counted { IfErr result (λ stop. OnEnded stop (IsCounted (F.faults files.old) (F.faults files.new) (F.failed files.new))) }
+    ensures never_falls { F.faults files.old ≤ F.faults files.new }
+    ensures kept { F.contents files.new ≡ F.contents files.old }
+{
+    let bytes = read_whole(alloc, files, name)?;
+    match read_system(alloc, bytes.as_slice()) {
+        Ok(system) => Ok(system),
+        Err(ConfigFault::NoMemory) => Err(Stop::NoMemory),
+        Err(fault) => Err(faulty(alloc, name, &fault)),
+    }
+}
+
+/// The cells in the files of these names, read in their order.
+fn cells<F: Files>(
+    alloc: Global,
+    files: &mut F,
+    names: &[String],
+) -> Result<Vec<CellConfig>, Stop>
+    ensures ok { IfOk result (λ cells. SpellCells (F.contents files.old) (map string_bytes names.now) cells.items) }
+    ensures few { IfOk result (λ cells. length cells.items ≡ length names.now) }
+    ensures err { IfErr result (λ stop. OnEnded stop (StopsAmong (F.contents files.old) (map string_bytes names.now))) }
+    ensures counted { IfErr result (λ stop. OnEnded stop (IsCounted (F.faults files.old) (F.faults files.new) (F.failed files.new))) }
+    ensures never_falls { F.faults files.old ≤ F.faults files.new }
+{
+    let mut cells = Vec::new(alloc);
+    for name in names {
+        cells.push(cell(alloc, files, name.as_str())?)?;
+    }
+    Ok(cells)
+}
+
+/// A line for each finding, and their number.
+fn findings_text(alloc: Global, found: &[Finding]) -> Result<Vec<u8>, NoMemory>
+    ensures { IfOk result (λ text. text.items ≡ findings_text_lem found.now) }
+{
+    let mut text = String::new(alloc);
+    for finding in found {
+        write!(text, "{finding}\n")?;
+    }
+    write!(text, "findings {}\n", found.len())?;
+    Ok(text.into_bytes())
+}
+
+/// What a check of the system and the cells tells.
+fn tell_findings(
+    alloc: Global,
+    system: &SystemConfig,
+    cells: &[CellConfig],
+) -> Result<Told, NoMemory>
+    requires { length cells.now ≤ 15 }
+    ensures { IfOk result (λ told. said_of told ≡ checked system.now cells.now) }
+{
+    let found = check_all(alloc, system, cells)?;
+    let text = findings_text(alloc, found.as_slice())?;
+    let status = if found.is_empty() {
+        Status::Good
+    } else {
+        Status::Found
+    };
+    Ok(Told { status, text })
+}
+
+/// Reads the cells, and checks them with the system.
+fn check_cells<F: Files>(
+    alloc: Global,
+    files: &mut F,
+    system: &SystemConfig,
+    names: &[String],
+) -> Result<Told, Stop>
+    requires { length names.now ≤ 15 }
+    ensures ok { IfOk result (λ told. ChecksCells (F.contents files.old) (map string_bytes names.now) system.now (said_of told)) }
+    ensures err { IfErr result (λ stop. OnEnded stop (ChecksCells (F.contents files.old) (map string_bytes names.now) system.now)) }
+    ensures counted_ok { IfOk result (λ told. IsCounted (F.faults files.old) (F.faults files.new) (F.failed files.new) (said_of told)) }
+    ensures counted { IfErr result (λ stop. OnEnded stop (IsCounted (F.faults files.old) (F.faults files.new) (F.failed files.new))) }
+{
+    let cells = cells(alloc, files, names)?;
+    Ok(tell_findings(alloc, system, cells.as_slice())?)
+}
+
+/// Reads the system and the cells, and checks them.
+pub fn check<F: Files>(
+    alloc: Global,
+    files: &mut F,
+    system_name: &str,
+    names: &[String],
+) -> Result<Told, Stop>
+    requires { length names.now ≤ 15 }
+    ensures ok { IfOk result (λ told. Checks (F.contents files.old) system_name.now (map string_bytes names.now) (said_of told)) }
+    ensures err { IfErr result (λ stop. OnEnded stop (Checks (F.contents files.old) system_name.now (map string_bytes names.now))) }
+    ensures counted_ok { IfOk result (λ told. IsCounted (F.faults files.old) (F.faults files.new) (F.failed files.new) (said_of told)) }
+    ensures counted { IfErr result (λ stop. OnEnded stop (IsCounted (F.faults files.old) (F.faults files.new) (F.failed files.new))) }
+{
+    let system = system(alloc, files, system_name)?;
+    check_cells(alloc, files, &system, names)
+}
