@@ -1,0 +1,3 @@
+pub mod Platforms
+pub mod Systems
+pub mod SystemsFound

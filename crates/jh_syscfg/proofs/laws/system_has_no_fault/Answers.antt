@@ -1,0 +1,5 @@
+use Rattle.jh_syscfg.proofs.Systems.{system_unfaulted}
+use Rattle.jh_syscfg.proofs.laws.system_has_no_fault.Goals as goal
+
+pub returns : goal.returns
+returns c = system_unfaulted

@@ -1,0 +1,51 @@
+-- The bytes of a system's configuration, from its fields. Numbers have their lowest byte first.
+use Rattle.std.specs.Prelude.{◌≡◌, ℕ, ◌<◌, ◌^◌, List, ◌++◌, length, codes}
+use Rattle.jh_cellcfg.specs.declared.region.Region.{Region}
+use Rattle.jh_cellcfg.specs.declared.config.Console.{Console}
+use Rattle.jh_cellcfg.specs.declared.config.SystemConfig.{SystemConfig}
+use Rattle.jh_cellcfg.specs.Spelling.{u8_bytes, u16_bytes, u32_bytes, u64_bytes, region_bytes, console_bytes, body_bytes}
+use Rattle.jh_cellcfg.specs.Widths.{IsRegion, IsConsole, IsCell}
+use Rattle.jh_cellcfg.specs.Limits.{IsWithinLimits}
+use Rattle.jh_syscfg.specs.declared.platform.Platform.{Platform}
+
+-- what stands between the revision and root's name: 88 bytes
+abbrev pub platform_bytes : Platform → List ℕ
+platform_bytes p =
+    u32_bytes p.flags ++ (region_bytes p.hypervisor_memory ++ (console_bytes p.debug_console ++ (u64_bytes p.pci_mmconfig_base
+    ++ (u8_bytes p.pci_mmconfig_end_bus ++ (u8_bytes p.pci_is_virtual ++ (u16_bytes p.pci_domain ++ p.root_head))))))
+
+-- a system's fields but root
+abbrev pub platform_of : SystemConfig → Platform
+platform_of s = record {
+  flags = s.flags;
+  hypervisor_memory = s.hypervisor_memory;
+  debug_console = s.debug_console;
+  pci_mmconfig_base = s.pci_mmconfig_base;
+  pci_mmconfig_end_bus = s.pci_mmconfig_end_bus;
+  pci_is_virtual = s.pci_is_virtual;
+  pci_domain = s.pci_domain;
+  root_head = s.root_head;
+}
+
+-- the one spelling of a system's configuration
+abbrev pub system_spelling : SystemConfig → List ℕ
+system_spelling s = codes "JHSYST" ++ (u16_bytes 13 ++ (platform_bytes (platform_of s) ++ body_bytes s.root))
+
+-- the fields' values have their types
+pub record IsPlatform (p : Platform) : Type 0 where
+  pub flags : p.flags < 2 ^ 32
+  pub hypervisor_memory : IsRegion p.hypervisor_memory
+  pub debug_console : IsConsole p.debug_console
+  pub pci_mmconfig_base : p.pci_mmconfig_base < 2 ^ 64
+  pub pci_mmconfig_end_bus : p.pci_mmconfig_end_bus < 2 ^ 8
+  pub pci_is_virtual : p.pci_is_virtual < 2 ^ 8
+  pub pci_domain : p.pci_domain < 2 ^ 16
+  pub root_head : length p.root_head ≡ 8
+
+pub record IsSystem (s : SystemConfig) : Type 0 where
+  pub platform : IsPlatform (platform_of s)
+  pub root : IsCell s.root
+
+-- what a system may have is what root may have; the size is counted from root's head on
+pub record IsSystemWithinLimits (s : SystemConfig) : Type 0 where
+  pub root : IsWithinLimits s.root

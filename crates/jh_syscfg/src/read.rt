@@ -1,0 +1,93 @@
+//! Reading a system's configuration.
+ghost use Rattle.std.specs.Prelude.{◌≡◌, ◌≤◌, ◌++◌, length, drop, codes, IfOk, OnOk};
+ghost use Rattle.jh_cellcfg.specs.declared.config.SystemConfig.{SystemConfig};
+ghost use Rattle.jh_cellcfg.specs.Faults.{fault_of, refusal};
+ghost use Rattle.jh_cellcfg.specs.Spelling.{u16_bytes};
+ghost use Rattle.jh_syscfg.specs.Layout.{platform_bytes, platform_of, system_spelling, IsPlatform, IsSystem, IsSystemWithinLimits};
+ghost use Rattle.jh_syscfg.specs.SystemFaults.{system_start_fault, system_fault, GivesSystem};
+
+use crate::platform::Platform;
+use jh_cellcfg::{CellConfig, ConfigFault, Reader, Record, SystemConfig, read_body};
+use std::alloc::Global;
+
+impl Platform {
+    /// What stands behind the revision, and the bytes from root's name on.
+    fn at(bytes: &[u8]) -> (Platform, &[u8])
+        requires { 88 ≤ length bytes.now }
+        ensures taken { bytes.now ≡ platform_bytes result.0 ++ result.1.now }
+        ensures fits { IsPlatform result.0 }
+        ensures behind { result.1.now ≡ drop 88 bytes.now }
+    {
+        let mut reader = Reader { rest: bytes };
+        let platform = Platform::read(&mut reader);
+        (platform, reader.rest)
+    }
+
+    /// The system of these fields and this root.
+    fn with(self, root: CellConfig) -> SystemConfig
+        ensures platform { platform_of result ≡ self }
+        ensures root { result.root ≡ root }
+    {
+        let root_head = self.root_head;
+        SystemConfig {
+            flags: self.flags,
+            hypervisor_memory: self.hypervisor_memory,
+            debug_console: self.debug_console,
+            pci_mmconfig_base: self.pci_mmconfig_base,
+            pci_mmconfig_end_bus: self.pci_mmconfig_end_bus,
+            pci_is_virtual: self.pci_is_virtual,
+            pci_domain: self.pci_domain,
+            root_head,
+            root,
+        }
+    }
+}
+
+/// The signature and the revision.
+#[tactic(auto, unfolding(crate::specs::SystemFaults::system_start_fault))]
+fn check_start(bytes: &[u8]) -> Result<(), ConfigFault>
+    requires { 8 ≤ length bytes.now }
+    ensures start { OnOk result (bytes.now ≡ codes "JHSYST" ++ (u16_bytes 13 ++ drop 8 bytes.now)) }
+    ensures fault { fault_of result ≡ system_start_fault bytes.now }
+    ensures memory { refusal result ≡ fault_of result }
+{
+    if !bytes.starts_with(b"JHSYST") {
+        return Err(ConfigFault::Signature);
+    }
+    let found = u16::from_le_bytes([bytes[6], bytes[7]]);
+    if found != 13 {
+        return Err(ConfigFault::Revision { found });
+    }
+    Ok(())
+}
+
+fn read_whole(alloc: Global, bytes: &[u8]) -> Result<SystemConfig, ConfigFault>
+    ensures typed { IfOk result IsSystem }
+    ensures limits { IfOk result IsSystemWithinLimits }
+    ensures spelled { IfOk result (λ system. bytes.now ≡ system_spelling system) }
+    ensures fault { refusal result ≡ system_fault bytes.now }
+{
+    if bytes.len() < 220 {
+        return Err(ConfigFault::Short { need: 220 });
+    }
+    check_start(bytes)?;
+    let (platform, body) = Platform::at(&bytes[8..]);
+    let root = read_body(alloc, 96, body)?;
+    Ok(platform.with(root))
+}
+
+/// Reads a system's configuration, all of the bytes. A refusal is the first fault: fewer bytes than
+/// stand before root's parts, signature, revision, root's name, its counts in their order, the total
+/// (counted from root's head on), fewer bytes than the total, and more.
+pub fn read_system(alloc: Global, bytes: &[u8]) -> Result<SystemConfig, ConfigFault>
+    // What is read is spelled so.
+    ensures typed { IfOk result IsSystem }
+    ensures limits { IfOk result IsSystemWithinLimits }
+    ensures spelled { IfOk result (λ system. bytes.now ≡ system_spelling system) }
+    // What is spelled so is read, unless memory runs out.
+    ensures only { (system : SystemConfig) → IsSystem system → IsSystemWithinLimits system → bytes.now ≡ system_spelling system → GivesSystem result system }
+    // Which fault it is.
+    ensures fault { refusal result ≡ system_fault bytes.now }
+{
+    read_whole(alloc, bytes)
+}

@@ -1,0 +1,40 @@
+//! Writing a system's configuration.
+ghost use Rattle.std.specs.Prelude.{◌≡◌, IfOk};
+ghost use Rattle.jh_syscfg.specs.Layout.{platform_of, system_spelling, IsSystemWithinLimits};
+
+use crate::platform::Platform;
+use jh_cellcfg::{Record, SystemConfig, put_bytes, put_u16, write_body};
+use jh_num::NoMemory;
+use std::alloc::Global;
+
+impl Platform {
+    /// A system's fields but root.
+    pub fn of(system: &SystemConfig) -> Platform
+        ensures { result ≡ platform_of system.now }
+    {
+        let root_head = system.root_head;
+        Platform {
+            flags: system.flags,
+            hypervisor_memory: system.hypervisor_memory,
+            debug_console: system.debug_console,
+            pci_mmconfig_base: system.pci_mmconfig_base,
+            pci_mmconfig_end_bus: system.pci_mmconfig_end_bus,
+            pci_is_virtual: system.pci_is_virtual,
+            pci_domain: system.pci_domain,
+            root_head,
+        }
+    }
+}
+
+/// The one spelling of a system that [`system_fits`](crate::system_fits).
+pub fn write_system(alloc: Global, system: &SystemConfig) -> Result<Vec<u8>, NoMemory>
+    requires { IsSystemWithinLimits system.now }
+    ensures { IfOk result (λ bytes. bytes.items ≡ system_spelling system.now) }
+{
+    let mut out = Vec::new(alloc);
+    put_bytes(&mut out, b"JHSYST")?;
+    put_u16(&mut out, 13)?;
+    Platform::of(system).write(&mut out)?;
+    write_body(&system.root, &mut out)?;
+    Ok(out)
+}
