@@ -15,7 +15,6 @@ pub record Said : Type 0 where
 abbrev pub Contents : Type 0
 Contents = List ℕ → Told
 
-
 -- the file of this name is refused by these words
 pub record IsRefused (contents : Contents) (name : List ℕ) (Why : List ℕ → List ℕ → Type 0) (said : Said) : Type 0 where
   pub bytes : List ℕ

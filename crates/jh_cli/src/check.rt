@@ -13,7 +13,7 @@ use crate::status::Status;
 use crate::told::{Stop, Told, read_whole, refused};
 use jh_cellcfg::{CellConfig, ConfigFault, SystemConfig, read_cell};
 use jh_check::{Finding, check as check_all};
-use jh_num::NoMemory;
+use jh_num::{NoMemory, Seq};
 use jh_outside::Files;
 use jh_syscfg::read_system;
 use std::alloc::Global;
@@ -66,14 +66,14 @@ fn cells<F: Files>(
     alloc: Global,
     files: &mut F,
     names: &[String],
-) -> Result<Vec<CellConfig>, Stop>
-    ensures ok { IfOk result (λ cells. SpellCells (F.contents files.old) (map string_bytes names.now) cells.items) }
-    ensures few { IfOk result (λ cells. length cells.items ≡ length names.now) }
+) -> Result<Seq<CellConfig>, Stop>
+    ensures ok { IfOk result (SpellCells (F.contents files.old) (map string_bytes names.now)) }
+    ensures few { IfOk result (λ cells. length cells ≡ length names.now) }
     ensures err { IfErr result (λ stop. OnEnded stop (StopsAmong (F.contents files.old) (map string_bytes names.now))) }
     ensures counted { IfErr result (λ stop. OnEnded stop (IsCounted (F.faults files.old) (F.faults files.new) (F.failed files.new))) }
     ensures never_falls { F.faults files.old ≤ F.faults files.new }
 {
-    let mut cells = Vec::new(alloc);
+    let mut cells = Seq::new(alloc);
     for name in names {
         cells.push(cell(alloc, files, name.as_str())?)?;
     }

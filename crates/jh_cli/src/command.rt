@@ -16,9 +16,14 @@ pub enum Command<'a> {
         cells: &'a [String],
     },
     /// Writes the configuration that a SPEC describes.
-    Pack { spec: &'a str },
+    Pack {
+        spec: &'a str,
+    },
     /// Plays a board by a schedule.
-    Play { board: &'a str, schedule: &'a str },
+    Play {
+        board: &'a str,
+        schedule: &'a str,
+    },
 }
 
 /// Whether the word may be an operand: it doesn't begin with `-`. An empty word may.
@@ -34,12 +39,10 @@ fn is_operand(word: &str) -> bool
 fn are_operands(words: &[String]) -> bool
     ensures { result ≡ list_all is_operand_lem (map string_bytes words.now) }
 {
-    for word in words {
-        if !is_operand(word.as_str()) {
-            return false;
-        }
+    match words {
+        [word, rest @ ..] => is_operand(word.as_str()) && are_operands(rest),
+        [] => true,
     }
-    true
 }
 
 fn check_of(operands: &[String]) -> Option<Command<'_>>

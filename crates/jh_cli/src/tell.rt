@@ -19,8 +19,8 @@ use std::alloc::Global;
 /// Does what the command asks for.
 fn obey<F: Files>(alloc: Global, command: Command<'_>, files: &mut F) -> Result<Told, Stop>
     requires { HasFewCells command }
-    ensures ok { IfOk result (λ told. Outcome (F.contents files.old) (Some (asked_by command)) (said_of told)) }
-    ensures err { IfErr result (λ stop. OnEnded stop (Outcome (F.contents files.old) (Some (asked_by command)))) }
+    ensures ok { IfOk result (λ told. Outcome (F.contents files.old) (Some (asked_by command.entry)) (said_of told)) }
+    ensures err { IfErr result (λ stop. OnEnded stop (Outcome (F.contents files.old) (Some (asked_by command.entry)))) }
     ensures counted_ok { IfOk result (λ told. IsCounted (F.faults files.old) (F.faults files.new) (F.failed files.new) (said_of told)) }
     ensures counted { IfErr result (λ stop. OnEnded stop (IsCounted (F.faults files.old) (F.faults files.new) (F.failed files.new))) }
 {

@@ -79,11 +79,7 @@ pub fn read_file<F: Files>(alloc: Global, files: &mut F, name: &str) -> Result<S
 }
 
 /// What the file of this name hands out, which is at most as much as a file may have.
-pub fn read_whole<F: Files>(
-    alloc: Global,
-    files: &mut F,
-    name: &str,
-) -> Result<Seq<u8>, Stop>
+pub fn read_whole<F: Files>(alloc: Global, files: &mut F, name: &str) -> Result<Seq<u8>, Stop>
     ensures ok { IfOk result (λ bytes. HandsOut (F.contents files.old name.now) MOST bytes) }
     ensures within { IfOk result (λ bytes. length bytes < MOST) }
     ensures err { IfErr result (λ stop. OnEnded stop (Stops (F.contents files.old) name.now IsOversize)) }
