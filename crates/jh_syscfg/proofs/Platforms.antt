@@ -107,8 +107,8 @@ platform_field =
     let parts = (both u32_field (both region_field (both console_field (both u64_field (both u8_field (both u8_field (both u16_field (array_field 8)))))))) in
     record {
       len = λ x h. parts.len
-      (x.flags, (x.hypervisor_memory, (x.debug_console, (x.pci_mmconfig_base, (x.pci_mmconfig_end_bus, (x.pci_is_virtual, (x.pci_domain, x.root_head)))))))
-      (h.flags, (h.hypervisor_memory, (h.debug_console, (h.pci_mmconfig_base, (h.pci_mmconfig_end_bus, (h.pci_is_virtual, (h.pci_domain, h.root_head)))))));
+          (x.flags, (x.hypervisor_memory, (x.debug_console, (x.pci_mmconfig_base, (x.pci_mmconfig_end_bus, (x.pci_is_virtual, (x.pci_domain, x.root_head)))))))
+          (h.flags, (h.hypervisor_memory, (h.debug_console, (h.pci_mmconfig_base, (h.pci_mmconfig_end_bus, (h.pci_is_virtual, (h.pci_domain, h.root_head)))))));
       takes = λ bytes all long.
           let t = parts.takes bytes all long in
           record {

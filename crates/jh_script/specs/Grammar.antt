@@ -1,0 +1,77 @@
+-- The lines of operations, from the operation to its words: a text may write each operation in many ways, and each
+-- line writes one operation at most.
+use Rattle.std.specs.Prelude.{◌≡◌, ℕ, ◌^◌, ◌<◌, ◌≤◌, ◌⊎◌, Bool, true, nat_lt, nat_eq, List, [], ◌∷◌, ◌++◌, length, codes}
+use Rattle.std.specs.List.{list_all, starts_with}
+use Rattle.std.specs.Fmt.{decimal}
+use Rattle.std.specs.Str.Parse.{AllDigits, digits_value}
+use Rattle.jh_script.specs.declared.op.Op.{Op}
+use Rattle.jh_script.specs.declared.op.Op.TheVariants.{Read, Write, Fetch, Await, Irq, Hvc}
+use Rattle.jh_script.specs.Operations.{IsPlain}
+use Rattle.jh_script.specs.Words.{blanks, words}
+
+-- the word is the number in decimal
+pub record IsDecimal (word : List ℕ) (n : ℕ) : Type 0 where
+  pub small : n < 2 ^ 64
+  pub text : word ≡ decimal n
+
+-- the word is `0x` and 1 to 16 hexadecimal digits that write the number
+pub record IsHexadecimal (word : List ℕ) (n : ℕ) : Type 0 where
+  pub digits : List ℕ
+  pub text : word ≡ codes "0x" ++ digits
+  pub some : 0 < length digits
+  pub few : length digits ≤ 16
+  pub are : AllDigits 16 digits
+  pub value : n ≡ digits_value 16 digits
+
+abbrev pub IsNumber : List ℕ → ℕ → Type 0
+IsNumber word n = IsDecimal word n ⊎ IsHexadecimal word n
+
+-- the words are a name and numbers
+pub record IsCallOf0 (name : List ℕ) (words : List (List ℕ)) : Type 0 where
+  pub are : words ≡ name ∷ []
+
+pub record IsCallOf1 (name : List ℕ) (words : List (List ℕ)) (x : ℕ) : Type 0 where
+  pub a : List ℕ
+  pub are : words ≡ name ∷ a ∷ []
+  pub first : IsNumber a x
+
+pub record IsCallOf2 (name : List ℕ) (words : List (List ℕ)) (x y : ℕ) : Type 0 where
+  pub a : List ℕ
+  pub b : List ℕ
+  pub are : words ≡ name ∷ a ∷ b ∷ []
+  pub first : IsNumber a x
+  pub second : IsNumber b y
+
+pub record IsCallOf3 (name : List ℕ) (words : List (List ℕ)) (x y z : ℕ) : Type 0 where
+  pub a : List ℕ
+  pub b : List ℕ
+  pub c : List ℕ
+  pub are : words ≡ name ∷ a ∷ b ∷ c ∷ []
+  pub first : IsNumber a x
+  pub second : IsNumber b y
+  pub third : IsNumber c z
+
+-- the words write the operation
+abbrev pub Writes : List (List ℕ) → Op → Type 0
+Writes words (Read width at) = IsCallOf2 (codes "read") words width at
+Writes words (Write width at value) = IsCallOf3 (codes "write") words width at value
+Writes words (Fetch at) = IsCallOf1 (codes "fetch") words at
+Writes words (Await width at value) = IsCallOf3 (codes "await") words width at value
+Writes words Irq = IsCallOf0 (codes "irq") words
+Writes words (Hvc code a b) = IsCallOf3 (codes "hvc") words code a b
+
+-- a line without words, or a comment
+abbrev pub IsSkipped : List (List ℕ) → Type 0
+IsSkipped [] = Unit {0}
+IsSkipped (word ∷ more) = starts_with nat_eq word (codes "#") ≡ true
+
+-- the line's bytes are below 128
+abbrev pub are_ascii : List ℕ → Bool
+are_ascii text = list_all (λ byte. nat_lt byte 128) text
+
+-- the line is that of an operation that isn't within its limits
+pub record IsTooWide (text : List ℕ) : Type 0 where
+  pub ascii : are_ascii text ≡ true
+  pub op : Op
+  pub written : Writes (words blanks text) op
+  pub wide : IsPlain op → ⊥
