@@ -1,5 +1,8 @@
 -- Cells that are read one after another.
-use Rattle.std.proofs.Common.{◌≡◌, ◌≢◌, ℕ, List, [], ◌∷◌, ◌++◌, Result, Ok, Err, Some, None, refl, sym, ◌∙◌, ap}
+use Rattle.std.proofs.Common.{◌≡◌, ◌≢◌, ℕ, suc, ◌+◌, ◌<◌, List, [], ◌∷◌, ◌++◌, length, get_or, Result, Ok, Err, Some, refl, sym, ◌∙◌, ap, subst, arith}
+use Rattle.std.specs.Prelude.{map, take, drop}
+use Rattle.std.proofs.Math.Seq.{split_at, take-suc}
+use Rattle.std.proofs.lemmas.List.{map-append}
 use Rattle.jh_cellcfg.specs.declared.config.CellConfig.{CellConfig}
 use Rattle.jh_cellcfg.specs.declared.fault.ConfigFault.{ConfigFault}
 use Rattle.jh_cellcfg.specs.declared.fault.ConfigFault.TheVariants.{Short, Signature, Revision, Name, Count, Trailing, NoMemory}
@@ -34,3 +37,21 @@ is_refusal r Name is other = ap refusal is
 is_refusal r (Count which found) is other = ap refusal is
 is_refusal r (Trailing extra) is other = ap refusal is
 is_refusal r NoMemory is other = absurd (other refl)
+
+-- after so many names, the cells that were read; `f` gives a name's bytes
+pub spell_next : {X : Type 0} (f : X → List ℕ) (contents : Contents) (names : List X) (i : ℕ) (d : X) (cells : List CellConfig) (cell : CellConfig)
+    → i < length names → SpellCells contents (map f (take i names)) cells → Spells contents (f (get_or names i d)) IsCellFile cell → SpellCells contents (map f (take (i + 1) names)) (cells ++ cell ∷ [])
+spell_next {X} f contents names i d cells cell lt all one =
+    let next : i + 1 ≡ suc i = omega arith in
+    let more : take (i + 1) names ≡ take i names ++ get_or names i d ∷ [] = ap (λ n. take n names) next ∙ take-suc names i d lt in
+    let mapped : map f (take (i + 1) names) ≡ map f (take i names) ++ f (get_or names i d) ∷ [] = ap (λ (xs : List X). map f xs) more ∙ map-append f (take i names) (get_or names i d ∷ []) in
+    subst (λ (ns : List (List ℕ)). SpellCells contents ns (cells ++ cell ∷ [])) (sym mapped) (spell_more contents (map f (take i names)) cells (f (get_or names i d)) cell all one)
+
+-- the next name's file stops the call
+pub stops_next : {X : Type 0} (f : X → List ℕ) (contents : Contents) (names : List X) (i : ℕ) (d : X) (cells : List CellConfig)
+    → i < length names → SpellCells contents (map f (take i names)) cells
+    → (stop : Stop) → OnEnded stop (Stops contents (f (get_or names i d)) CellRefusal) → OnEnded stop (StopsAmong contents (map f names))
+stops_next {X} f contents names i d cells lt all stop h =
+    let split : map f names ≡ map f (take i names) ++ f (get_or names i d) ∷ map f (drop (suc i) names) =
+    ap (λ (xs : List X). map f xs) (split_at names i d lt) ∙ map-append f (take i names) (get_or names i d ∷ drop (suc i) names) in
+    stops_among contents (map f names) (map f (take i names)) (f (get_or names i d)) (map f (drop (suc i) names)) cells split all stop h

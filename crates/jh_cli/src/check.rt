@@ -62,11 +62,7 @@ fn system<F: Files>(alloc: Global, files: &mut F, name: &str) -> Result<SystemCo
 }
 
 /// The cells in the files of these names, read in their order.
-fn cells<F: Files>(
-    alloc: Global,
-    files: &mut F,
-    names: &[String],
-) -> Result<Seq<CellConfig>, Stop>
+fn cells<F: Files>(alloc: Global, files: &mut F, names: &[String]) -> Result<Seq<CellConfig>, Stop>
     ensures ok { IfOk result (SpellCells (F.contents files.old) (map string_bytes names.now)) }
     ensures few { IfOk result (λ cells. length cells ≡ length names.now) }
     ensures err { IfErr result (λ stop. OnEnded stop (StopsAmong (F.contents files.old) (map string_bytes names.now))) }
@@ -75,7 +71,10 @@ fn cells<F: Files>(
 {
     let mut cells = Seq::new(alloc);
     for name in names {
-        cells.push(cell(alloc, files, name.as_str())?)?;
+        match cell(alloc, files, name.as_str()) {
+            Ok(cell) => cells.push(cell)?,
+            Err(stop) => return Err(stop),
+        }
     }
     Ok(cells)
 }

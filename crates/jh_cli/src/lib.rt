@@ -6,13 +6,10 @@ mod command;
 mod laws;
 mod limits;
 mod lines;
-mod pack;
 mod play;
 mod send;
 mod status;
 mod tell;
-#[cfg(test)]
-mod tests;
 mod told;
 mod top;
 

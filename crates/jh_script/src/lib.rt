@@ -1,26 +1,8 @@
-//! What a board runs: operations, programs, preloads, and the image of them all. The texts of programs and
-//! schedules are read here.
+//! What a board runs: operations, programs, preloads, and the image of them all.
 #![tactic(auto)]
 
-mod fault;
 mod image;
-mod laws;
-mod line;
-mod number;
 mod op;
-mod program;
-mod schedule;
-#[cfg(test)]
-mod tests;
-mod words;
 
-pub use fault::{MAX_ITEMS, MAX_OPS, ScheduleFault, ScriptFault};
 pub use image::{Image, Preload, Program};
-pub use laws::{
-    blank_lines_change_nothing, first_fault_of_a_program_decides,
-    first_fault_of_a_schedule_decides, lines_are_words_of_operations,
-    numbers_are_decimal_or_hexadecimal,
-};
 pub use op::Op;
-pub use program::read_program;
-pub use schedule::read_schedule;

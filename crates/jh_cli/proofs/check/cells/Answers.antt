@@ -1,0 +1,24 @@
+-- Each file gives a cell, or stops the call.
+use Rattle.std.proofs.Common.{◌≡◌, ◌≤◌, ◌+◌, [], ◌∷◌, length, ◌∙◌, ap, arith}
+use Rattle.std.specs.Prelude.{string_bytes}
+use Rattle.std.proofs.lemmas.List.{length-append}
+use Rattle.jh_cli.proofs.CellLemmas.{spell_next, stops_next}
+use Rattle.jh_cli.proofs.check.cells.Goals as goal
+
+pub returns-in-Err-clause-err : goal.returns-in-Err-clause-err
+returns-in-Err-clause-err g c =
+    let stops = rw (c.loop-name.invariant.kept, c.as_str.ensures.value, c.name-item.is) at c.in-Err.ensures.err in
+    stops_next string_bytes (g.F.Files.contents c.args.files.now) c.args.names.now c.loop-name.name-index _ c.loop-name.cells c.loop-name-test.true c.loop-name.invariant.spelled c.in-Err.stop stops
+
+pub loop-name-preserved : goal.loop-name-preserved
+loop-name-preserved g c =
+    let contents = g.F.Files.contents c.args.files.now in
+    let one = rw (c.loop-name.invariant.kept, c.as_str.ensures.value, c.name-item.is) at c.in-Ok.ensures.ok in
+    let counted = c.loop-name.invariant.counted in
+    let more = c.cell.ensures.never_falls in
+    record {
+      spelled = rw c.in_ok-push-in-Ok.ensures.ok (spell_next string_bytes contents c.args.names.now c.loop-name.name-index _ c.loop-name.cells c.in-Ok.cell c.loop-name-test.true c.loop-name.invariant.spelled one);
+      few = ap length c.in_ok-push-in-Ok.ensures.ok ∙ length-append c.loop-name.cells (c.in-Ok.cell ∷ []) ∙ ap (λ n. n + 1) c.loop-name.invariant.few;
+      kept = c.cell.ensures.kept ∙ c.loop-name.invariant.kept;
+      counted = omega arith;
+    }

@@ -1,6 +1,0 @@
-pub mod GrammarLemmas
-pub mod LawLemmas
-pub mod NumberLemmas
-pub mod OperationLemmas
-pub mod ProgramLemmas
-pub mod WordLemmas
