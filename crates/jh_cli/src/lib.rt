@@ -10,6 +10,8 @@ mod play;
 mod send;
 mod status;
 mod tell;
+#[cfg(test)]
+mod tests;
 mod told;
 mod top;
 

@@ -25,7 +25,6 @@ fn obey<F: Files>(alloc: Global, command: Command<'_>, files: &mut F) -> Result<
 {
     match command {
         Command::Check { system, cells } => check(alloc, files, system, cells),
-        Command::Pack { .. } => Err(Stop::NoMemory),
         Command::Play { board, schedule } => play(alloc, files, board, schedule),
     }
 }

@@ -1,0 +1,259 @@
+//! The top call over files and a sink in memory.
+
+use crate::{Status, jailhouse};
+use jh_board::{Board, Turn, TurnFault};
+use jh_first::{make_image, read_program, read_system};
+use jh_num::{NoMemory, Steps};
+use jh_outside::{Files, MemFiles, MemSink, Sink};
+use std::alloc::Global;
+use std::process::Abort;
+use std::test::Fail;
+
+const BOARD: &str =
+    "{\"system\":\"s.sys\",\"programs\":[{\"cell\":\"root\",\"cpu\":0,\"file\":\"p.txt\"}]}";
+
+const PROGRAM: &str = "write 8 0x40000000 0x1122334455667788\nread 4 0x40000004\n";
+
+const JOURNAL: &str =
+    "0 0 write 8 0x40000000 0x1122334455667788 = ok\n0 0 read 4 0x40000004 = 0x11223344\n";
+
+const USAGE: &str =
+    "usage: jailhouse check SYSTEM CELL... | pack SPEC | play BOARD SCHEDULE | run BOARD | map BOARD SCHEDULE | tables BOARD SCHEDULE | audit BOARD JOURNAL | soak N\n";
+
+/// The system of the first form whose root has memory from 0x40000000 to 0x7fc00000.
+fn system(alloc: Global) -> Result<Vec<u8>, NoMemory> {
+    let mut bytes = Vec::new(alloc);
+    bytes.extend_from_slice(b"JHSYST\x0d\x00\x00\x00\x00\x00")?;
+    bytes.extend_from_slice(&0x7fc0_0000u64.to_le_bytes())?;
+    bytes.extend_from_slice(&0u64.to_le_bytes())?;
+    bytes.extend_from_slice(&0x40_0000u64.to_le_bytes())?;
+    bytes.extend_from_slice(&[0; 60])?;
+    bytes.extend_from_slice(b"root")?;
+    bytes.extend_from_slice(&[0; 36])?;
+    bytes.extend_from_slice(&8u32.to_le_bytes())?;
+    bytes.extend_from_slice(&1u32.to_le_bytes())?;
+    bytes.extend_from_slice(&[0; 76])?;
+    bytes.extend_from_slice(&1u64.to_le_bytes())?;
+    for number in [0x4000_0000u64, 0x4000_0000, 0x3fc0_0000, 0xf] {
+        bytes.extend_from_slice(&number.to_le_bytes())?;
+    }
+    Ok(bytes)
+}
+
+/// The four files, with this program.
+fn files(alloc: Global, program: &str) -> Result<MemFiles, NoMemory> {
+    let mut files = MemFiles::new(alloc);
+    files.add("b.json", BOARD.as_bytes())?;
+    files.add("s.sys", system(alloc)?.as_slice())?;
+    files.add("p.txt", program.as_bytes())?;
+    files.add("s.txt", b"")?;
+    Ok(files)
+}
+
+fn words(alloc: Global, texts: &[&str]) -> Result<Vec<String>, NoMemory> {
+    let mut words = Vec::new(alloc);
+    for text in texts {
+        words.push(String::from_str(alloc, text)?)?;
+    }
+    Ok(words)
+}
+
+/// Calls with these words, and compares the status and the text.
+fn ends(
+    rt: &impl Abort,
+    alloc: Global,
+    files: &mut MemFiles,
+    texts: &[&str],
+    status: Status,
+    text: &str,
+) -> Result<(), NoMemory> {
+    let mut out = MemSink::new(alloc, 4096)?;
+    let got = jailhouse(alloc, words(alloc, texts)?.as_slice(), files, &mut out);
+    assert_eq!(rt; got, status);
+    assert_eq!(rt; out.bytes(), text.as_bytes());
+    Ok(())
+}
+
+/// Plays this program, and compares how that ends.
+fn plays(
+    rt: &impl Abort,
+    alloc: Global,
+    program: &str,
+    status: Status,
+    text: &str,
+) -> Result<(), NoMemory> {
+    let mut files = files(alloc, program)?;
+    ends(rt, alloc, &mut files, &PLAY, status, text)
+}
+
+/// Plays with the read of this number failing, and compares the line that is told.
+fn fails(rt: &impl Abort, alloc: Global, number: u64, line: &str) -> Result<(), NoMemory> {
+    let mut files = files(alloc, PROGRAM)?;
+    files.fail(number)?;
+    ends(rt, alloc, &mut files, &PLAY, Status::ReadFault, line)?;
+    assert_eq!(rt; files.faults(), 1);
+    Ok(())
+}
+
+/// Plays into a sink with this much room, and compares what stands in it then.
+fn fills(rt: &impl Abort, alloc: Global, room: usize, status: Status) -> Result<(), NoMemory> {
+    let mut files = files(alloc, PROGRAM)?;
+    let mut out = MemSink::new(alloc, room)?;
+    let got = jailhouse(alloc, words(alloc, &PLAY)?.as_slice(), &mut files, &mut out);
+    assert_eq!(rt; got, status);
+    assert!(rt; JOURNAL.as_bytes().starts_with(out.bytes()));
+    assert_eq!(rt; out.bytes().len(), room);
+    Ok(())
+}
+
+/// A board of the image of the first form with this program, and with a journal of at most `limit`
+/// entries.
+fn board(alloc: Global, program: &str, limit: u32) -> Result<Option<Board>, NoMemory> {
+    let Some(system) = read_system(alloc, system(alloc)?.as_slice())? else {
+        return Ok(None);
+    };
+    let Some(ops) = read_program(alloc, program.as_bytes())? else {
+        return Ok(None);
+    };
+    Ok(Board::open(alloc, make_image(alloc, system, ops)?, limit).ok())
+}
+
+const PLAY: [&str; 4] = ["jailhouse", "play", "b.json", "s.txt"];
+
+#[test]
+fn play_reads_back_what_it_wrote(rt: HostRuntime) -> Result<(), Fail> {
+    let mut files = files(rt.alloc(), PROGRAM)?;
+    ends(&rt, rt.alloc(), &mut files, &PLAY, Status::Good, JOURNAL)?;
+    Ok(())
+}
+
+#[test]
+fn words_without_a_command_give_the_usage_line(rt: HostRuntime) -> Result<(), Fail> {
+    let mut files = files(rt.alloc(), PROGRAM)?;
+    for texts in [
+        ["jailhouse"].as_slice(),
+        ["jailhouse", "run"].as_slice(),
+        ["jailhouse", "run", "-x"].as_slice(),
+        ["jailhouse", "play", "b.json"].as_slice(),
+        ["jailhouse", "play", "-b", "s.txt"].as_slice(),
+        ["jailhouse", "play", "b.json", "s.txt", "more"].as_slice(),
+        ["jailhouse", "Play", "b.json", "s.txt"].as_slice(),
+        ["jailhouse", "check"].as_slice(),
+        ["jailhouse", "check", "s.sys", "-c"].as_slice(),
+    ] {
+        ends(&rt, rt.alloc(), &mut files, texts, Status::Usage, USAGE)?;
+    }
+    Ok(())
+}
+
+/// Checks the system of these bytes alone, and compares how that ends.
+fn checks(
+    rt: &impl Abort,
+    alloc: Global,
+    system: &[u8],
+    status: Status,
+    text: &str,
+) -> Result<(), NoMemory> {
+    let mut files = MemFiles::new(alloc);
+    files.add("s.sys", system)?;
+    ends(
+        rt,
+        alloc,
+        &mut files,
+        &["jailhouse", "check", "s.sys"],
+        status,
+        text,
+    )
+}
+
+#[test]
+fn a_check_tells_findings_and_their_number(rt: HostRuntime) -> Result<(), Fail> {
+    let alloc = rt.alloc();
+    let mut bytes = system(alloc)?;
+    checks(&rt, alloc, bytes.as_slice(), Status::Good, "findings 0\n")?;
+    // the region one page longer reaches into the hypervisor's memory
+    if let Some(byte) = bytes.get_mut(245) {
+        *byte = 0x10;
+    }
+    let found = "3 Hypervisor 0.0\nfindings 1\n";
+    checks(&rt, alloc, bytes.as_slice(), Status::Found, found)?;
+    bytes.push(0)?;
+    let refused = "refused: s.sys: trailing 1\n";
+    checks(&rt, alloc, bytes.as_slice(), Status::Refused, refused)?;
+    Ok(())
+}
+
+#[test]
+fn programs_end_by_their_form(rt: HostRuntime) -> Result<(), Fail> {
+    let alloc = rt.alloc();
+    let refused = "refused: p.txt: not built\n";
+    plays(&rt, alloc, "", Status::Good, "")?;
+    plays(&rt, alloc, "fetch 0x40000000\n", Status::Refused, refused)?;
+    plays(&rt, alloc, "read 4 0x40000000", Status::Refused, refused)?;
+    plays(&rt, alloc, "read 3 0x40000000\n", Status::Refused, refused)?;
+    Ok(())
+}
+
+#[test]
+fn a_violation_stores_nothing_and_ends_the_cpu(rt: HostRuntime) -> Result<(), Fail> {
+    let alloc = rt.alloc();
+    plays(
+        &rt,
+        alloc,
+        "read 4 0x0\nread 4 0x40000000\n",
+        Status::Good,
+        "0 0 read 4 0x0 = violation\n",
+    )?;
+    plays(
+        &rt,
+        alloc,
+        "write 8 0x7fbffffc 0x1122334455667788\nread 4 0x7fbffffc\n",
+        Status::Good,
+        "0 0 write 8 0x7fbffffc 0x1122334455667788 = violation\n",
+    )?;
+    Ok(())
+}
+
+#[test]
+fn each_read_that_fails_is_named(rt: HostRuntime) -> Result<(), Fail> {
+    fails(&rt, rt.alloc(), 0, "read fault: b.json\n")?;
+    fails(&rt, rt.alloc(), 1, "read fault: s.sys\n")?;
+    fails(&rt, rt.alloc(), 2, "read fault: p.txt\n")?;
+    fails(&rt, rt.alloc(), 3, "read fault: s.txt\n")?;
+    Ok(())
+}
+
+#[test]
+fn a_missing_program_is_named(rt: HostRuntime) -> Result<(), Fail> {
+    let mut files = MemFiles::new(rt.alloc());
+    files.add("b.json", BOARD.as_bytes())?;
+    files.add("s.sys", system(rt.alloc())?.as_slice())?;
+    files.add("s.txt", b"")?;
+    let line = "read fault: p.txt\n";
+    ends(&rt, rt.alloc(), &mut files, &PLAY, Status::ReadFault, line)?;
+    Ok(())
+}
+
+#[test]
+fn a_sink_that_fills_up_has_a_front_of_the_text(rt: HostRuntime) -> Result<(), Fail> {
+    for room in 0..JOURNAL.len() {
+        fills(&rt, rt.alloc(), room, Status::WriteFault)?;
+    }
+    fills(&rt, rt.alloc(), JOURNAL.len(), Status::Good)?;
+    Ok(())
+}
+
+#[test]
+fn a_full_board_refuses_a_turn_and_goes_on(rt: HostRuntime) -> Result<(), Fail> {
+    let Some(mut board) = board(rt.alloc(), PROGRAM, 1)? else {
+        return Err("the board is in the first form")?;
+    };
+    assert!(rt; board.has_cpu(0));
+    let mut steps = Steps::new();
+    let first = board.turn(0, &mut steps);
+    assert!(rt; matches!(&first, Ok(Turn::Made(_))));
+    assert_eq!(rt; board.turn(0, &mut steps), Err(TurnFault::Full));
+    assert_eq!(rt; board.turn(0, &mut steps), Err(TurnFault::Full));
+    assert_eq!(rt; board.journal().len(), 1);
+    Ok(())
+}
