@@ -4,6 +4,7 @@ use Rattle.jh_cellcfg.specs.declared.config.SystemConfig.{SystemConfig}
 use Rattle.jh_script.specs.declared.image.Image.{Image}
 use Rattle.jh_script.specs.declared.op.Op.{Op}
 use Rattle.jh_history.specs.Items.{played}
+use Rattle.jh_image.specs.declared.spec.Spec.{Spec}
 use Rattle.jh_first.specs.Board.{Names, IsBoard}
 use Rattle.jh_first.specs.System.{IsSystem}
 use Rattle.jh_first.specs.Program.{IsProgram}
@@ -14,9 +15,10 @@ use Rattle.jh_check.specs.Findings.{findings}
 use Rattle.jh_cli.specs.declared.status.Status.{Status}
 use Rattle.jh_cli.specs.declared.status.Status.TheVariants.{Good, Found, Usage, Refused, ReadFault, WriteFault, Full}
 use Rattle.jh_cli.specs.Lines.{number_of}
-use Rattle.jh_cli.specs.Words.{Asked, CheckOf, PlayOf}
+use Rattle.jh_cli.specs.Words.{Asked, CheckOf, PackOf, PlayOf}
 use Rattle.jh_cli.specs.Reading.{Said, Contents, Spells, Stops, Reads}
 use Rattle.jh_cli.specs.Check.{IsSystemFile, SystemRefusal, CellRefusal, ChecksCells, checked_status}
+use Rattle.jh_cli.specs.Pack.{IsSpecFile, SpecRefusal, packed}
 use Rattle.jh_cli.specs.Play.{IsNotBuilt, IsSchedule, IsPlayed, played_status, PlaysBy, PlaysProgram, PlaysSystem}
 use Rattle.jh_cli.specs.declared.limits.TheConstants.{JOURNAL_LIMIT}
 use Rattle.jh_cli.specs.Outcome.{Outcome}
@@ -58,6 +60,8 @@ pub outcome_other : (contents : Contents) (asked : Option Asked) (said : Said) �
 outcome_other contents None said h = other said Usage (ap (λ (s : Said). s.status) h) (omega arith)
 outcome_other contents (Some (CheckOf system cells)) said h =
     reads_other contents system SystemRefusal IsSystemFile (ChecksCells contents cells) said (λ s rest. cells_other contents cells s said rest) h
+outcome_other contents (Some (PackOf name)) said h =
+    reads_other contents name SpecRefusal IsSpecFile (λ (spec : Spec) (s : Said). s ≡ record { status = Good; text = packed spec }) said (λ spec is. other said Good (ap (λ (s : Said). s.status) is) (omega arith)) h
 outcome_other contents (Some (PlayOf board schedule)) said h =
     reads_other contents board (IsNotBuilt IsBoard) IsBoard (λ (names : Names). PlaysSystem contents names schedule) said
     (λ names in_system. reads_other contents names.system (IsNotBuilt IsSystem) IsSystem (λ (system : SystemConfig). PlaysProgram contents system names.program schedule) said

@@ -6,6 +6,7 @@ mod command;
 mod laws;
 mod limits;
 mod lines;
+mod pack;
 mod play;
 mod send;
 mod status;

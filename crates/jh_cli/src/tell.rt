@@ -8,6 +8,7 @@ ghost use Rattle.jh_cli.specs.Stopped.{said_of, OnEnded, IsCounted};
 use crate::check::check;
 use crate::command::{Command, command_of};
 use crate::lines::usage_line;
+use crate::pack::pack;
 use crate::play::play;
 use crate::status::Status;
 use crate::told::{Stop, Told};
@@ -25,6 +26,7 @@ fn obey<F: Files>(alloc: Global, command: Command<'_>, files: &mut F) -> Result<
 {
     match command {
         Command::Check { system, cells } => check(alloc, files, system, cells),
+        Command::Pack { spec } => pack(alloc, files, spec),
         Command::Play { board, schedule } => play(alloc, files, board, schedule),
     }
 }

@@ -7,6 +7,12 @@ returns-in-Check-clause-ok g c = rw c.in-Check.is c.check.ensures.ok
 pub returns-in-Check-clause-err : goal.returns-in-Check-clause-err
 returns-in-Check-clause-err g c = rw c.in-Check.is c.check.ensures.err
 
+pub returns-in-Pack-clause-ok : goal.returns-in-Pack-clause-ok
+returns-in-Pack-clause-ok g c = rw c.in-Pack.is c.pack.ensures.ok
+
+pub returns-in-Pack-clause-err : goal.returns-in-Pack-clause-err
+returns-in-Pack-clause-err g c = rw c.in-Pack.is c.pack.ensures.err
+
 pub returns-in-Play-clause-ok : goal.returns-in-Play-clause-ok
 returns-in-Play-clause-ok g c = rw c.in-Play.is c.play.ensures.ok
 
