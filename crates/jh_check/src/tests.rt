@@ -190,24 +190,36 @@ fn demo_is_told(
     Ok(told(alloc, &q(alloc)?, cells.as_slice())?.as_str() == want)
 }
 
-#[test]
-fn demo_beside_q_is_clean_and_twice_it_overlaps(rt: HostRuntime) -> Result<(), Fail> {
-    let good = device(1, 3);
-    let rows = [
+/// How many of `demo`, where its first region lies, and what is told.
+fn demos() -> [(usize, u64, &'static str); 3] {
+    [
         (1, 0x7f90_0000, ""),
         (2, 0x7f90_0000, "10 CellsOverlap 1.0 2.0; 11 Shmem 2.d0; "),
         (1, 0x7fbf_f000, "3 Hypervisor 1.0; "),
-    ];
-    for (count, at, want) in rows {
-        let is = demo_is_told(rt.alloc(), count, at, good, want)?;
+    ]
+}
+
+#[test]
+fn demo_beside_q_is_clean_and_twice_it_overlaps(rt: HostRuntime) -> Result<(), Fail> {
+    for (count, at, want) in demos() {
+        let is = demo_is_told(rt.alloc(), count, at, device(1, 3), want)?;
         assert!(rt; is, "{want}");
     }
     Ok(())
 }
 
-#[test]
-fn regions_of_one_cell_meet_or_dont(rt: HostRuntime) -> Result<(), Fail> {
-    let rows = [
+/// Whether root's regions `memory`, `uart` and this one are told so.
+fn third_is_told(alloc: Global, at: u64, size: u64, want: &str) -> Result<bool, Fail> {
+    let mut regions = Vec::new(alloc);
+    regions.push(plain(0x4000_0000, 0x3fc0_0000, 0xf))?;
+    regions.push(plain(0x900_0000, 0x1000, 0x13))?;
+    regions.push(plain(at, size, 0x4_0013))?;
+    root_is_told(alloc, regions.as_slice(), want)
+}
+
+/// Where a third region of root begins, its size, and what is told.
+fn thirds() -> [(u64, u64, &'static str); 3] {
+    [
         (
             0x900_0fff,
             0x10,
@@ -215,22 +227,21 @@ fn regions_of_one_cell_meet_or_dont(rt: HostRuntime) -> Result<(), Fail> {
         ),
         (0x900_1000, 0x10, ""),
         (0x900_0fff, 0, ""),
-    ];
-    for (at, size, want) in rows {
-        let regions = [
-            plain(0x4000_0000, 0x3fc0_0000, 0xf),
-            plain(0x900_0000, 0x1000, 0x13),
-            plain(at, size, 0x4_0013),
-        ];
-        let is = root_is_told(rt.alloc(), &regions, want)?;
+    ]
+}
+
+#[test]
+fn regions_of_one_cell_meet_or_dont(rt: HostRuntime) -> Result<(), Fail> {
+    for (at, size, want) in thirds() {
+        let is = third_is_told(rt.alloc(), at, size, want)?;
         assert!(rt; is, "{want}");
     }
     Ok(())
 }
 
-#[test]
-fn rules_of_a_region_of_root(rt: HostRuntime) -> Result<(), Fail> {
-    let rows = [
+/// A region of root, and what is told of it.
+fn of_root() -> [(Region, &'static str); 5] {
+    [
         (plain(0x7f_ffff_f000, 0x1000, 0x3), ""),
         (plain(0x7f_ffff_f000, 0x1001, 0x3), "4 OutOfRange 0.0; "),
         (
@@ -239,18 +250,21 @@ fn rules_of_a_region_of_root(rt: HostRuntime) -> Result<(), Fail> {
         ),
         (plain(0x1000, 0x1000, 0x23), "6 CommInRoot 0.0; "),
         (plain(0x1000, 0x1000, 0x6), "8 ExecuteWithoutRead 0.0; "),
-    ];
-    for (one, want) in rows {
+    ]
+}
+
+#[test]
+fn rules_of_a_region_of_root(rt: HostRuntime) -> Result<(), Fail> {
+    for (one, want) in of_root() {
         let is = root_is_told(rt.alloc(), &[one], want)?;
         assert!(rt; is, "{want}");
     }
     Ok(())
 }
 
-#[test]
-fn rules_of_a_region_of_another_cell(rt: HostRuntime) -> Result<(), Fail> {
-    let comm = region(0, 0x9000_0000, 0x1000, 0x23);
-    let rows = [
+/// A region of another cell, behind a communication region, and what is told of it.
+fn of_another() -> [(Region, &'static str); 6] {
+    [
         (region(0x4000_0000, 0, 0x1000, 0x3), ""),
         (region(0, 0x8000_0000, 0x1000, 0x23), "7 CommShape 1.1; "),
         (
@@ -260,56 +274,63 @@ fn rules_of_a_region_of_another_cell(rt: HostRuntime) -> Result<(), Fail> {
         (region(0x4000_2000, 0, 0x800, 0x83), ""),
         (region(0x900_0040, 0, 0x40, 0x3), ""),
         (region(0x4000_2800, 0, 0x1000, 0x3), "13 PhysAlign 1.1; "),
-    ];
-    for (other, want) in rows {
+    ]
+}
+
+#[test]
+fn rules_of_a_region_of_another_cell(rt: HostRuntime) -> Result<(), Fail> {
+    for (other, want) in of_another() {
+        let comm = region(0, 0x9000_0000, 0x1000, 0x23);
         let is = cell_is_told(rt.alloc(), &[comm, other], want)?;
         assert!(rt; is, "{want}");
     }
     Ok(())
 }
 
-#[test]
-fn the_hypervisors_memory_and_cpus(rt: HostRuntime) -> Result<(), Fail> {
-    let rows = [
+/// Root's CPUs, where the hypervisor's memory begins, its size, and what is told.
+fn memories() -> [(u8, u64, u64, &'static str); 5] {
+    [
         (1, 0x7000_0000, 0x400_0000, ""),
         (1, 0x7000_0000, 0x400_1000, "4 OutOfRange h; "),
         (1, 0x7000_0001, 0, "4 OutOfRange h; "),
         (1, 0x7000_0001, 0x1000, "13 PhysAlign h; "),
         (0, 0x7000_0000, 0x1000, "12 NoCpu 0; "),
-    ];
-    for (cpus, at, size, want) in rows {
+    ]
+}
+
+#[test]
+fn the_hypervisors_memory_and_cpus(rt: HostRuntime) -> Result<(), Fail> {
+    for (cpus, at, size, want) in memories() {
         let is = hypervisor_is_told(rt.alloc(), cpus, at, size, want)?;
         assert!(rt; is, "{want}");
     }
     Ok(())
 }
 
-/// Devices in place of that of `demo`, and what is told of them. The first is good and each other changes
-/// one thing: its number among the peers (past them, and that of the linked one), too many peers, as many
-/// vectors as there may be and one more, no vectors beside a BAR for them, a missing section, another kind.
+/// The device of `demo` with that many peers and vectors, and of that kind.
+fn changed(kind: u8, peers: u8, vectors: u16) -> PciDevice {
+    let mut device = device(1, 3);
+    device.kind = kind;
+    device.shmem_peers = peers;
+    device.num_msix_vectors = vectors;
+    device
+}
+
+/// Devices in place of that of `demo`, and what is told of them: a good one; numbers past the peers and of
+/// the linked one; too many peers; as many vectors as there may be, one more, and none beside a BAR for
+/// them; a missing section; another kind.
 fn devices() -> [(PciDevice, &'static str); 9] {
-    let good = device(1, 3);
     let breaks = "11 Shmem 1.d0; ";
-    let mut peers = good;
-    peers.shmem_peers = 17;
-    let mut most = good;
-    most.num_msix_vectors = 16;
-    let mut more = good;
-    more.num_msix_vectors = 17;
-    let mut none = good;
-    none.num_msix_vectors = 0;
-    let mut other = device(0, 9);
-    other.kind = 1;
     [
-        (good, ""),
+        (device(1, 3), ""),
         (device(2, 3), breaks),
         (device(0, 3), breaks),
-        (peers, breaks),
-        (most, ""),
-        (more, breaks),
-        (none, breaks),
+        (changed(3, 17, 2), breaks),
+        (changed(3, 2, 16), ""),
+        (changed(3, 2, 17), breaks),
+        (changed(3, 2, 0), breaks),
         (device(1, 4), breaks),
-        (other, ""),
+        (changed(1, 17, 2), ""),
     ]
 }
 
@@ -319,6 +340,61 @@ fn rules_of_a_device(rt: HostRuntime) -> Result<(), Fail> {
         let is = demo_is_told(rt.alloc(), 1, 0x7f90_0000, device, want)?;
         assert!(rt; is, "{want}");
     }
+    Ok(())
+}
+
+/// Whether the check of a cell with four sections, of which one is changed, and these devices tells that.
+fn sections_are_told(
+    alloc: Global,
+    changed: usize,
+    section: Region,
+    devices: &[PciDevice],
+    want: &str,
+) -> Result<bool, Fail> {
+    let mut sections = [
+        plain(0x1000_0000, 0x1000, 0x1),
+        plain(0x1000_1000, 0x9000, 0x3),
+        plain(0x1000_a000, 0x2000, 0x3),
+        plain(0x1000_c000, 0x2000, 0x1),
+    ];
+    if changed < 4 {
+        sections[changed] = section;
+    }
+    let root = cell(alloc, 1, &[], &[])?;
+    let mut cells = Vec::new(alloc);
+    cells.push(cell(alloc, 2, &sections, devices)?)?;
+    Ok(told(alloc, &system(root, HYPERVISOR), cells.as_slice())?.as_str() == want)
+}
+
+/// Which section is changed to what, and what is told.
+fn sections() -> [(usize, Region, &'static str); 8] {
+    let breaks = "11 Shmem 1.d0; ";
+    [
+        (0, plain(0x1000_0000, 0x1000, 0x1), ""),
+        (0, plain(0x1000_0000, 0x1000, 0x3), breaks),
+        (1, plain(0x1000_1000, 0x9000, 0x43), breaks),
+        (1, plain(0x1000_1000, 0, 0x3), breaks),
+        (2, plain(0x1000_a000, 0x2000, 0x1), ""),
+        (3, plain(0x1000_c000, 0x2000, 0x3), breaks),
+        (3, plain(0x1000_c000, 0x1000, 0x1), breaks),
+        (3, plain(0x1000_d000, 0x2000, 0x1), breaks),
+    ]
+}
+
+#[test]
+fn rules_of_sections(rt: HostRuntime) -> Result<(), Fail> {
+    for (changed, section, want) in sections() {
+        let is = sections_are_told(rt.alloc(), changed, section, &[device(0, 0)], want)?;
+        assert!(rt; is, "{want}");
+    }
+    Ok(())
+}
+
+#[test]
+fn two_devices_of_one_number(rt: HostRuntime) -> Result<(), Fail> {
+    let twice = [device(0, 0), device(0, 0)];
+    let is = sections_are_told(rt.alloc(), 4, HYPERVISOR, &twice, "11 Shmem 1.d1; ")?;
+    assert!(rt; is);
     Ok(())
 }
 
@@ -359,60 +435,11 @@ fn verdict_at(alloc: Global, at: u64) -> Result<NewCell, Fail> {
 
 #[test]
 fn a_new_cell_is_clean_invalid_or_busy(rt: HostRuntime) -> Result<(), Fail> {
-    let rows = [
-        (0x7f91_0000, NewCell::Clean),
-        (0x7f90_0000, NewCell::Busy),
-        (0x7fbf_f000, NewCell::Invalid),
-    ];
-    for (at, want) in rows {
-        let verdict = verdict_at(rt.alloc(), at)?;
-        assert!(rt; verdict == want, "{want:?}");
-    }
-    Ok(())
-}
-
-/// Whether the check of a cell with four sections, of which one is changed, and these devices tells that.
-fn sections_are_told(
-    alloc: Global,
-    changed: usize,
-    section: Region,
-    devices: &[PciDevice],
-    want: &str,
-) -> Result<bool, Fail> {
-    let mut sections = [
-        plain(0x1000_0000, 0x1000, 0x1),
-        plain(0x1000_1000, 0x9000, 0x3),
-        plain(0x1000_a000, 0x2000, 0x3),
-        plain(0x1000_c000, 0x2000, 0x1),
-    ];
-    if changed < 4 {
-        sections[changed] = section;
-    }
-    let root = cell(alloc, 1, &[], &[])?;
-    let mut cells = Vec::new(alloc);
-    cells.push(cell(alloc, 2, &sections, devices)?)?;
-    Ok(told(alloc, &system(root, HYPERVISOR), cells.as_slice())?.as_str() == want)
-}
-
-#[test]
-fn rules_of_sections(rt: HostRuntime) -> Result<(), Fail> {
-    let breaks = "11 Shmem 1.d0; ";
-    let rows = [
-        (0, plain(0x1000_0000, 0x1000, 0x1), ""),
-        (0, plain(0x1000_0000, 0x1000, 0x3), breaks),
-        (1, plain(0x1000_1000, 0x9000, 0x43), breaks),
-        (1, plain(0x1000_1000, 0, 0x3), breaks),
-        (2, plain(0x1000_a000, 0x2000, 0x1), ""),
-        (3, plain(0x1000_c000, 0x2000, 0x3), breaks),
-        (3, plain(0x1000_c000, 0x1000, 0x1), breaks),
-        (3, plain(0x1000_d000, 0x2000, 0x1), breaks),
-    ];
-    for (changed, section, want) in rows {
-        let is = sections_are_told(rt.alloc(), changed, section, &[device(0, 0)], want)?;
-        assert!(rt; is, "{want}");
-    }
-    let twice = [device(0, 0), device(0, 0)];
-    let is = sections_are_told(rt.alloc(), 4, HYPERVISOR, &twice, "11 Shmem 1.d1; ")?;
-    assert!(rt; is, "two devices of one number");
+    let clean = verdict_at(rt.alloc(), 0x7f91_0000)?;
+    assert!(rt; clean == NewCell::Clean);
+    let busy = verdict_at(rt.alloc(), 0x7f90_0000)?;
+    assert!(rt; busy == NewCell::Busy);
+    let invalid = verdict_at(rt.alloc(), 0x7fbf_f000)?;
+    assert!(rt; invalid == NewCell::Invalid);
     Ok(())
 }
