@@ -1,19 +1,18 @@
 -- What it takes to break a rule about two regions.
-use Rattle.std.proofs.Common.{◌≡◌, ℕ, ◌+◌, ◌<◌, ◌≤◌, Bool, true, false, ◌&&◌, not, ◌==◌, nat_lt, List, [], ◌∷◌, ◌++◌, length, get_or, refl, sym, ap, subst, ◌∙◌, inl, inr, arith}
+use Rattle.std.proofs.Common.{◌≡◌, ℕ, ◌<◌, ◌≤◌, Bool, true, false, ◌&&◌, not, ◌==◌, nat_lt, List, [], length, get_or, sym, ap, subst, ◌∙◌, inl, inr, arith}
 use Rattle.std.specs.List.{Contains}
 use Rattle.std.proofs.lemmas.Bool.{false≢true, ltb-true, eqb-true, cases_order}
 use Rattle.std.proofs.lemmas.List.{get_or_default}
 use Rattle.jh_cellcfg.specs.declared.region.Region.{Region}
 use Rattle.jh_cellcfg.specs.declared.config.CellConfig.{CellConfig}
 use Rattle.jh_cellcfg.specs.Regions.{virt_end, phys_end, is_page_mapped, is_comm, is_unshared}
-use Rattle.jh_check.specs.declared.finding.Finding.{Finding}
 use Rattle.jh_check.specs.declared.rule.Rule.{Rule}
-use Rattle.jh_check.specs.declared.rule.Rule.TheVariants.{VirtOverlap, PhysOverlap, Hypervisor, OutOfRange, RootNotIdentity, CommInRoot, CommShape, ExecuteWithoutRead, SubpageTaken, CellsOverlap, Shmem, NoCpu, PhysAlign}
+use Rattle.jh_check.specs.declared.rule.Rule.TheVariants.{VirtOverlap, PhysOverlap, SubpageTaken, CellsOverlap}
 use Rattle.jh_check.specs.declared.spans.Span.{Span}
 use Rattle.jh_check.specs.Regions.{Spot, pair_breaks, has_size, virt_meet, phys_meet, share_places, takes_pages, both_shared}
 use Rattle.jh_check.specs.Devices.{are_same_section}
 use Rattle.jh_check.specs.Spans.{takes_part, span_of, spans_meet, joins, is_within, IsIndex, AreApart}
-use Rattle.jh_check.specs.Lists.{found_from, only_if}
+use Rattle.jh_check.specs.Lists.{only_if}
 use Rattle.jh_check.specs.Findings.{spot, beside, beside_at, between, between_at, finding_of}
 use Rattle.jh_check.proofs.BoolLemmas.{false-from_not, not-both, and-left, and-right, and-both}
 use Rattle.jh_check.proofs.ListLemmas.{found-none0}

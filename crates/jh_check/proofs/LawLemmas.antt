@@ -1,16 +1,15 @@
 -- What a list of findings that is empty says of each pair and each region.
-use Rattle.std.proofs.Common.{◌≡◌, ℕ, ◌+◌, ◌<◌, ◌≤◌, Bool, true, false, ◌&&◌, ◌||◌, not, ◌==◌, nat_lt, nat_le, List, [], ◌∷◌, ◌++◌, length, take, get_or, zero, suc, Some, slice_get, refl, sym, ap, subst, ◌∙◌, inl, inr, arith}
-use Rattle.std.proofs.lemmas.Bool.{false≢true, ltb-true, leb-true, lt-ltb, cases_order}
-use Rattle.std.proofs.lemmas.List.{get_or_default}
+use Rattle.std.proofs.Common.{◌≡◌, ℕ, ◌+◌, ◌<◌, Bool, true, false, ◌&&◌, not, ◌==◌, nat_lt, nat_le, List, [], ◌∷◌, ◌++◌, length, take, get_or, zero, suc, Some, slice_get, refl, ap, subst, inl, inr, arith}
+use Rattle.std.proofs.lemmas.Bool.{ltb-true, leb-true, lt-ltb, cases_order}
 use Rattle.std.proofs.lemmas.Option.{get_or_from_slice_get, slice_get_within}
 use Rattle.jh_cellcfg.specs.declared.region.Region.{Region}
 use Rattle.jh_cellcfg.specs.declared.config.CellConfig.{CellConfig}
 use Rattle.jh_cellcfg.specs.declared.config.SystemConfig.{SystemConfig}
-use Rattle.jh_cellcfg.specs.Regions.{has_flags, virt_end, phys_end, has_address, has_place, is_comm, is_unshared}
+use Rattle.jh_cellcfg.specs.Regions.{has_flags, phys_end, has_address, has_place, is_comm}
 use Rattle.jh_check.specs.declared.finding.Finding.{Finding}
 use Rattle.jh_check.specs.declared.rule.Rule.{Rule}
 use Rattle.jh_check.specs.declared.rule.Rule.TheVariants.{VirtOverlap, Hypervisor, CellsOverlap}
-use Rattle.jh_check.specs.Regions.{Spot, pair_breaks, region_breaks, has_size, virt_meet, phys_meet, share_places, both_shared}
+use Rattle.jh_check.specs.Regions.{pair_breaks, region_breaks, has_size, virt_meet, phys_meet, share_places, both_shared}
 use Rattle.jh_check.specs.Devices.{are_same_section}
 use Rattle.jh_check.specs.Laws.{AddressesAreSingle, HypervisorIsAlone, CellsAreApart}
 use Rattle.jh_check.specs.Lists.{found_from, only_if}

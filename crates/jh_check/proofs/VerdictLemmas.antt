@@ -1,13 +1,12 @@
 -- Which findings name a new cell.
-use Rattle.std.proofs.Common.{◌≡◌, ℕ, ◌+◌, ◌<◌, ◌≤◌, zero, suc, Bool, true, false, ◌&&◌, ◌||◌, not, ◌==◌, nat_lt, List, [], ◌∷◌, ◌++◌, length, take, drop, get_or, refl, sym, ap, subst, ◌∙◌, append_assoc, length-append, arith}
+use Rattle.std.proofs.Common.{◌≡◌, ℕ, ◌+◌, ◌<◌, ◌≤◌, suc, Bool, true, false, ◌||◌, not, ◌==◌, nat_lt, List, [], ◌∷◌, ◌++◌, length, take, drop, get_or, refl, sym, ap, subst, ◌∙◌, append_assoc, length-append, arith}
 use Rattle.std.specs.List.{list_any}
-use Rattle.std.proofs.lemmas.Bool.{false≢true, ltb-true, eqb-true, ne_eqb}
+use Rattle.std.proofs.lemmas.Bool.{ltb-true, eqb-true, ne_eqb}
 use Rattle.std.proofs.lemmas.List.Folds.{list_any-append}
 use Rattle.std.proofs.Math.Seq.{take-append_seam, take-length}
 use Rattle.std.proofs.lemmas.List.{get_or_append_left}
 use Rattle.jh_cellcfg.specs.declared.region.Region.{Region}
 use Rattle.jh_cellcfg.specs.declared.config.CellConfig.{CellConfig}
-use Rattle.jh_cellcfg.specs.declared.config.PciDevice.{PciDevice}
 use Rattle.jh_check.specs.declared.finding.Finding.{Finding}
 use Rattle.jh_check.specs.declared.rule.Rule.{Rule}
 use Rattle.jh_check.specs.declared.rule.Rule.TheVariants.{VirtOverlap, PhysOverlap, Hypervisor, OutOfRange, RootNotIdentity, CommInRoot, CommShape, ExecuteWithoutRead, SubpageTaken, CellsOverlap, Shmem, NoCpu, PhysAlign}
@@ -17,9 +16,9 @@ use Rattle.jh_check.specs.Spans.{is_within, joins}
 use Rattle.jh_check.specs.Lists.{found_from, only_if, is_any}
 use Rattle.jh_check.specs.Findings.{number_of, finding_of, spot, beside, beside_at, between, between_at, from_cell, in_pairs, in_cell, in_cell_at, in_regions, in_regions_at, in_hypervisor, in_devices_of, device_at, in_devices, in_devices_at, in_cpus, in_cpus_at, found_by, found_at, rules_in_order, findings}
 use Rattle.jh_check.specs.Verdicts.{is_invalid, is_busy, verdict_by, verdict_of}
-use Rattle.jh_check.specs.declared.verdict.NewCell.TheVariants.{Clean, Invalid, Busy}
+use Rattle.jh_check.specs.declared.verdict.NewCell.TheVariants.{Invalid}
 use Rattle.jh_cellcfg.specs.declared.config.SystemConfig.{SystemConfig}
-use Rattle.jh_check.proofs.BoolLemmas.{and-left, and-right, and-both, and-first, and-second, or-none, same-number}
+use Rattle.jh_check.proofs.BoolLemmas.{and-right, and-both, and-first, and-second, or-none, same-number}
 use Rattle.jh_check.proofs.ListLemmas.{append_nil, is_any-append, any-only, found-drop, found-end}
 use Rattle.jh_check.proofs.BreakLemmas.{between-apart, joins-same}
 

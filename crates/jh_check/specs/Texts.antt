@@ -1,5 +1,5 @@
 -- A finding as a line of text, without its line feed.
-use Rattle.std.specs.Prelude.{ℕ, List, [], ◌++◌, codes, decimal, ◌==◌, if◌then◌else◌, ◌-◌, ◌||◌, nat_lt, slice_index_or, Option, Some, None}
+use Rattle.std.specs.Prelude.{ℕ, List, ◌++◌, codes, decimal, ◌==◌, if◌then◌else◌, ◌-◌, ◌||◌, nat_lt, slice_index_or, Option, Some, None}
 use Rattle.jh_check.specs.Findings.{rules_in_order}
 use Rattle.jh_check.specs.declared.finding.Finding.{Finding}
 use Rattle.jh_check.specs.declared.rule.Rule.{Rule}

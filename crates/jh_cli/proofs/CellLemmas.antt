@@ -1,5 +1,5 @@
 -- Cells that are read one after another.
-use Rattle.std.proofs.Common.{◌≡◌, ◌≢◌, ℕ, suc, ◌+◌, ◌<◌, List, [], ◌∷◌, ◌++◌, length, get_or, Result, Ok, Err, Some, refl, sym, ◌∙◌, ap, subst, arith}
+use Rattle.std.proofs.Common.{◌≡◌, ◌≢◌, ℕ, suc, ◌+◌, ◌<◌, List, [], ◌∷◌, ◌++◌, length, get_or, Result, Err, Some, refl, sym, ◌∙◌, ap, subst, arith}
 use Rattle.std.specs.Prelude.{map, take, drop}
 use Rattle.std.proofs.Math.Seq.{split_at, take-suc}
 use Rattle.std.proofs.lemmas.List.{map-append}
@@ -8,7 +8,7 @@ use Rattle.jh_cellcfg.specs.declared.fault.ConfigFault.{ConfigFault}
 use Rattle.jh_cellcfg.specs.declared.fault.ConfigFault.TheVariants.{Short, Signature, Revision, Name, Count, Trailing, NoMemory}
 use Rattle.jh_cellcfg.specs.Faults.{refusal}
 use Rattle.jh_cli.specs.declared.told.Stop.{Stop}
-use Rattle.jh_cli.specs.Reading.{Said, Contents, Spells, Stops}
+use Rattle.jh_cli.specs.Reading.{Contents, Spells, Stops}
 use Rattle.jh_cli.specs.Check.{IsCellFile, CellRefusal, SpellCells, StopsAmong}
 use Rattle.jh_cli.specs.Stopped.{OnEnded}
 use Rattle.jh_cli.proofs.StopLemmas.{on_stop}

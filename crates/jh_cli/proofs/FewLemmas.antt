@@ -1,6 +1,6 @@
 -- A board of one CPU makes at most as many entries as its program has operations.
 use Rattle.std.proofs.Common.{◌≡◌, ◌≢◌, ℕ, ◌+◌, ◌<◌, ◌≤◌, List, [], ◌∷◌, Bool, true, false, cond, eqb, Option, Some, None, length, refl, sym, ◌∙◌, ap, subst, arith, inl, inr}
-use Rattle.std.specs.Prelude.{is_some, slice_get, option_map}
+use Rattle.std.specs.Prelude.{is_some, option_map}
 use Rattle.std.proofs.lemmas.Bool.{cases_eq, false≢true}
 use Rattle.std.proofs.lemmas.Option.{none-some, same_Some, slice_get_within}
 use Rattle.jh_script.specs.declared.image.Image.{Image}
@@ -15,7 +15,7 @@ use Rattle.jh_history.specs.declared.cpu.Mode.{Mode}
 use Rattle.jh_history.specs.declared.cpu.Mode.TheVariants.{Running, Parked, Failed}
 use Rattle.jh_history.specs.Access.{read_of, is_reached}
 use Rattle.jh_history.specs.Cells.{is_on_board}
-use Rattle.jh_history.specs.Facts.{Facts, start, after, facts, stepped, own_after, cpu_after, reach}
+use Rattle.jh_history.specs.Facts.{Facts, start, after, stepped, own_after, reach}
 use Rattle.jh_history.specs.Due.{ops_of, op_at, await_of, act_of, running_act, act_in_mode, act_marked, state_act, entry_by, due_at, IsLegal, IsLegalFrom}
 use Rattle.jh_history.proofs.DueLemmas.{due_at-absent, due_at-present}
 

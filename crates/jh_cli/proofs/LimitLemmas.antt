@@ -1,18 +1,16 @@
 -- A journal of the first form never reaches its limit.
 use Rattle.std.proofs.Common.{◌≡◌, ◌≢◌, ℕ, zero, suc, ◌+◌, ◌/◌, ◌%◌, ◌^◌, ◌<◌, ◌≤◌, List, [], ◌∷◌, ◌++◌, Bool, true, false, not, cond, Option, Some, None, length, get_or, refl, sym, ◌∙◌, ap, subst, arith, eqb, inl, inr, lit<}
-use Rattle.std.specs.Prelude.{fold, nat_lt, IsTrue, bit_and, codes}
-use Rattle.std.proofs.lemmas.Bool.{cases_eq, cases_lt, false≢true}
+use Rattle.std.specs.Prelude.{fold, nat_lt, bit_and, codes}
+use Rattle.std.proofs.lemmas.Bool.{cases_lt, false≢true}
 use Rattle.std.proofs.lemmas.Bool.Decides.{nat_tests}
 use Rattle.std.specs.Option.{option_map_or}
 use Rattle.std.specs.Int.Bits.{and_zero_l}
-use Rattle.jh_cellcfg.specs.declared.region.Region.{Region}
 use Rattle.jh_cellcfg.specs.declared.config.SystemConfig.{SystemConfig}
 use Rattle.jh_script.specs.declared.image.Image.{Image}
 use Rattle.jh_script.specs.declared.image.Program.{Program}
 use Rattle.jh_script.specs.declared.op.Op.{Op}
 use Rattle.jh_history.specs.declared.entry.Entry.{Entry}
 use Rattle.jh_history.specs.Cells.{is_on_board, is_program_of, program_of, name_of, is_cpu_set}
-use Rattle.jh_history.specs.Facts.{facts}
 use Rattle.jh_history.specs.Due.{due, ops_of, IsLegal}
 use Rattle.jh_history.specs.Items.{Reached, with_due, with_item, items, rounds, cpus_of, played}
 use Rattle.jh_history.proofs.FactsLemmas.{IsLegal-nil}

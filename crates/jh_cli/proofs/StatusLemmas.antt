@@ -8,14 +8,13 @@ use Rattle.jh_first.specs.Board.{Names, IsBoard}
 use Rattle.jh_first.specs.System.{IsSystem}
 use Rattle.jh_first.specs.Program.{IsProgram}
 use Rattle.jh_first.specs.Image.{image_of}
-use Rattle.jh_check.specs.declared.finding.Finding.{Finding}
 use Rattle.jh_check.specs.Lists.{is_any, capped}
 use Rattle.jh_check.specs.Findings.{findings}
 use Rattle.jh_cli.specs.declared.status.Status.{Status}
-use Rattle.jh_cli.specs.declared.status.Status.TheVariants.{Good, Found, Usage, Refused, ReadFault, WriteFault, Full}
+use Rattle.jh_cli.specs.declared.status.Status.TheVariants.{Good, Found, Usage, Refused, ReadFault, WriteFault}
 use Rattle.jh_cli.specs.Lines.{number_of}
 use Rattle.jh_cli.specs.Words.{Asked, CheckOf, PlayOf}
-use Rattle.jh_cli.specs.Reading.{Said, Contents, Spells, Stops, Reads}
+use Rattle.jh_cli.specs.Reading.{Said, Contents, Stops, Reads}
 use Rattle.jh_cli.specs.Check.{IsSystemFile, SystemRefusal, CellRefusal, ChecksCells, checked_status}
 use Rattle.jh_cli.specs.Play.{IsNotBuilt, IsSchedule, IsPlayed, played_status, PlaysBy, PlaysProgram, PlaysSystem}
 use Rattle.jh_cli.specs.declared.limits.TheConstants.{JOURNAL_LIMIT}

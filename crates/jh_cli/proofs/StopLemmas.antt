@@ -8,7 +8,7 @@ use Rattle.jh_cli.specs.declared.status.Status.TheVariants.{Refused}
 use Rattle.jh_cli.specs.declared.told.Stop.{Stop}
 use Rattle.jh_cli.specs.declared.told.Stop.TheVariants.{Ended, NoMemory}
 use Rattle.jh_cli.specs.Lines.{refusal_line}
-use Rattle.jh_cli.specs.Reading.{Contents, Said, Spells, IsRefused, Stops, Reads}
+use Rattle.jh_cli.specs.Reading.{Contents, Said, Spells, Stops, Reads}
 use Rattle.jh_cli.specs.Stopped.{OnEnded, said_of}
 
 -- what is said of every ended call carries over

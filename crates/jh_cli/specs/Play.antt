@@ -5,7 +5,7 @@ use Rattle.jh_script.specs.declared.image.Image.{Image}
 use Rattle.jh_script.specs.declared.op.Op.{Op}
 use Rattle.jh_history.specs.Admitted.{IsAdmitted}
 use Rattle.jh_history.specs.Due.{IsLegal, IsQuiet}
-use Rattle.jh_history.specs.Items.{Reached, played}
+use Rattle.jh_history.specs.Items.{played}
 use Rattle.jh_text.specs.Text.{journal_text}
 use Rattle.jh_first.specs.Board.{Names, IsBoard}
 use Rattle.jh_first.specs.System.{IsSystem}

@@ -1,5 +1,5 @@
 -- Where a call ends at a file, and where it goes on with what the file spells.
-use Rattle.std.specs.Prelude.{◌≡◌, ◌<◌, ◌≤◌, ℕ, ◌⊎◌, List, length, codes}
+use Rattle.std.specs.Prelude.{◌≡◌, ◌≤◌, ℕ, ◌⊎◌, List, length, codes}
 use Rattle.jh_outside.specs.Reads.{Told, HandsOut}
 use Rattle.jh_cli.specs.Lines.{fault_line, refusal_line}
 use Rattle.jh_cli.specs.declared.status.Status.{Status}

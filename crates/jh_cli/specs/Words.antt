@@ -1,5 +1,5 @@
 -- The words of the command line.
-use Rattle.std.specs.Prelude.{ℕ, Bool, true, false, ◌&&◌, not, ◌==◌, nat_le, if◌then◌else◌, List, [], ◌∷◌, length, map, string_bytes, nat_eq, Option, Some, None, ⊤, ◌≤◌, codes}
+use Rattle.std.specs.Prelude.{ℕ, Bool, true, not, ◌==◌, nat_le, if◌then◌else◌, List, [], ◌∷◌, length, map, string_bytes, nat_eq, Option, Some, None, ⊤, ◌≤◌, codes}
 use Rattle.std.specs.List.{list_all}
 use Rattle.std.specs.Cmp.Lexicographic.{pointwise}
 use Rattle.jh_cli.specs.declared.command.Command.{Command}

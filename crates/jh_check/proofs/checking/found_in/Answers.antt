@@ -1,8 +1,8 @@
-use Rattle.std.proofs.Common.{◌≡◌, ◌+◌, ◌<◌, ◌++◌, length, get_or, refl, arith}
+use Rattle.std.proofs.Common.{◌≡◌, ◌<◌, ◌++◌, length, get_or}
 use Rattle.jh_check.specs.declared.rule.Rule.TheVariants.{VirtOverlap}
 use Rattle.jh_check.specs.Cells.{cells_of}
 use Rattle.jh_check.specs.Lists.{capped}
-use Rattle.jh_check.specs.Findings.{found_at, found_by, rules_in_order}
+use Rattle.jh_check.specs.Findings.{found_at, rules_in_order}
 use Rattle.jh_check.proofs.ListLemmas.{found-step, found-done}
 use Rattle.jh_check.proofs.checking.found_in.Goals as goal
 

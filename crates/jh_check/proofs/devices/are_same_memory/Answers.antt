@@ -1,4 +1,4 @@
-use Rattle.std.proofs.Common.{◌≡◌, sym}
+use Rattle.std.proofs.Common.{sym}
 use Rattle.std.specs.Cmp.Lexicographic.{pointwise, as_long}
 use Rattle.jh_check.specs.Devices.{is_same_memory}
 use Rattle.jh_check.proofs.BoolLemmas.{false-from_not}

@@ -1,7 +1,7 @@
-use Rattle.std.proofs.Common.{◌≡◌, ◌+◌, ◌<◌, ◌++◌, length, get_or, refl, sym, subst, ap, ◌∙◌, arith}
+use Rattle.std.proofs.Common.{◌≡◌, ◌<◌, ◌++◌, length, get_or, refl}
 use Rattle.jh_cellcfg.specs.declared.region.Region.{Region}
 use Rattle.jh_check.specs.Sites.{spot_of}
-use Rattle.jh_check.specs.Lists.{capped, only_if}
+use Rattle.jh_check.specs.Lists.{capped}
 use Rattle.jh_check.specs.Findings.{beside, beside_at}
 use Rattle.jh_check.proofs.ListLemmas.{found-step, found-done}
 use Rattle.jh_check.proofs.found.beside.Goals as goal

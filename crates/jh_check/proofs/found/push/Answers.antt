@@ -1,4 +1,4 @@
-use Rattle.std.proofs.Common.{◌≡◌, ◌++◌, [], ◌∷◌, arith}
+use Rattle.std.proofs.Common.{[], ◌∷◌, arith}
 use Rattle.jh_check.proofs.ListLemmas.{capped_full}
 use Rattle.jh_check.proofs.found.push.Goals as goal
 

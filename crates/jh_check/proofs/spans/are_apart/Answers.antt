@@ -1,5 +1,4 @@
-use Rattle.std.proofs.Common.{◌≡◌, true, subst, arith}
-use Rattle.jh_check.specs.Spans.{AreApartTo}
+use Rattle.std.proofs.Common.{◌≡◌, true}
 use Rattle.jh_check.proofs.SpanLemmas.{apart-none, apart-more}
 use Rattle.jh_check.proofs.spans.are_apart.Goals as goal
 

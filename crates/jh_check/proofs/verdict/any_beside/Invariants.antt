@@ -1,4 +1,4 @@
-use Rattle.std.proofs.Common.{◌≡◌, drop, take}
+use Rattle.std.proofs.Common.{◌≡◌, drop}
 use Rattle.jh_check.specs.Sites.{spot_of}
 use Rattle.jh_check.specs.Lists.{found_from, is_any}
 use Rattle.jh_check.specs.Findings.{beside_at, beside}

@@ -1,10 +1,8 @@
-use Rattle.std.proofs.Common.{◌≡◌, ◌+◌, ◌<◌, true, false, [], take, length, get_or, refl, sym, ap, ◌∙◌, arith}
+use Rattle.std.proofs.Common.{◌≡◌, ◌<◌, true, false, take, length, get_or, refl}
 use Rattle.jh_cellcfg.specs.declared.region.Region.{Region}
-use Rattle.jh_check.specs.Regions.{pair_breaks, region_breaks}
-use Rattle.jh_check.specs.Devices.{device_breaks}
-use Rattle.jh_check.specs.declared.rule.Rule.TheVariants.{Shmem}
-use Rattle.jh_check.specs.Lists.{is_any, only_if}
-use Rattle.jh_check.specs.Findings.{in_cell_at, in_cell, spot, finding_of}
+use Rattle.jh_check.specs.Regions.{region_breaks}
+use Rattle.jh_check.specs.Lists.{is_any}
+use Rattle.jh_check.specs.Findings.{in_cell_at, in_cell, finding_of}
 use Rattle.jh_check.proofs.ListLemmas.{any-step, any-hit, any-done, any-only}
 use Rattle.jh_check.proofs.verdict.any_region.Goals as goal
 

@@ -1,5 +1,5 @@
 -- Each file gives a cell, or stops the call.
-use Rattle.std.proofs.Common.{◌≡◌, ◌≤◌, ◌+◌, [], ◌∷◌, length, ◌∙◌, ap, arith}
+use Rattle.std.proofs.Common.{◌+◌, [], ◌∷◌, length, ◌∙◌, ap, arith}
 use Rattle.std.specs.Prelude.{string_bytes}
 use Rattle.std.proofs.lemmas.List.{length-append}
 use Rattle.jh_cli.proofs.CellLemmas.{spell_next, stops_next}

@@ -1,0 +1,445 @@
+//! The check of the example cells, and one case for each number and each rule of an ivshmem device, just
+//! inside and just outside.
+
+use crate::{Finding, NewCell, check, clean_with};
+use jh_cellcfg::{CellConfig, Console, PciDevice, Region, SystemConfig};
+use jh_num::Seq;
+use std::alloc::{AllocError, Global};
+use std::test::Fail;
+
+const HYPERVISOR: Region = Region {
+    phys_start: 0x7fc0_0000,
+    virt_start: 0,
+    size: 0x40_0000,
+    flags: 0x3,
+};
+
+fn region(phys_start: u64, virt_start: u64, size: u64, flags: u64) -> Region {
+    Region {
+        phys_start,
+        virt_start,
+        size,
+        flags,
+    }
+}
+
+/// Memory at its own addresses.
+fn plain(at: u64, size: u64, flags: u64) -> Region {
+    region(at, at, size, flags)
+}
+
+/// The device of `demo`.
+fn device(dev_id: u8, start: u32) -> PciDevice {
+    PciDevice {
+        kind: 3,
+        iommu: 0,
+        domain: 0,
+        bdf: 0,
+        bar_mask: [0xffff_f000, 0xffff_fe00, 0, 0, 0, 0],
+        caps_start: 0,
+        num_caps: 0,
+        num_msi_vectors: 0,
+        msi_bits: 0,
+        num_msix_vectors: 2,
+        msix_region_size: 0,
+        msix_address: 0,
+        shmem_regions_start: start,
+        shmem_dev_id: dev_id,
+        shmem_peers: 2,
+        shmem_protocol: 1,
+    }
+}
+
+fn cell(
+    alloc: Global,
+    cpus: u8,
+    regions: &[Region],
+    devices: &[PciDevice],
+) -> Result<CellConfig, AllocError> {
+    Ok(CellConfig {
+        name: [0; 32],
+        id: 1,
+        flags: 0,
+        vpci_irq_base: 0,
+        cpu_reset_address: 0,
+        msg_reply_timeout: 0,
+        console: [0; 32],
+        cpu_set: Seq::from_vec(vec![in alloc; cpus, 0, 0, 0]?),
+        memory_regions: Seq::from_vec(Vec::from_slice(alloc, regions)?),
+        cache_regions: Seq::new(alloc),
+        irqchips: Seq::new(alloc),
+        pio_regions: Seq::new(alloc),
+        pci_devices: Seq::from_vec(Vec::from_slice(alloc, devices)?),
+        pci_caps: Seq::new(alloc),
+        stream_ids: Seq::new(alloc),
+    })
+}
+
+fn system(root: CellConfig, hypervisor_memory: Region) -> SystemConfig {
+    SystemConfig {
+        flags: 0,
+        hypervisor_memory,
+        debug_console: Console {
+            address: 0,
+            size: 0,
+            kind: 0,
+            flags: 0,
+            divider: 0,
+            gate_nr: 0,
+            clock_reg: 0,
+        },
+        pci_mmconfig_base: 0,
+        pci_mmconfig_end_bus: 0,
+        pci_is_virtual: 0,
+        pci_domain: 0,
+        root_head: [0; 8],
+        root,
+    }
+}
+
+/// `q`: root with an ivshmem device.
+fn q(alloc: Global) -> Result<SystemConfig, AllocError> {
+    let regions = [
+        plain(0x4000_0000, 0x3fb0_0000, 0xf),
+        plain(0x900_0000, 0x1000, 0x13),
+        plain(0x7fb0_0000, 0x1000, 0x1),
+        plain(0x7fb0_1000, 0x9000, 0x3),
+        plain(0x7fb0_a000, 0x2000, 0x3),
+        plain(0x7fb0_c000, 0x2000, 0x1),
+    ];
+    let root = cell(alloc, 7, &regions, &[device(0, 2)])?;
+    Ok(system(root, HYPERVISOR))
+}
+
+/// `demo`, its first region at that place, and with that device.
+fn demo(alloc: Global, at: u64, device: PciDevice) -> Result<CellConfig, AllocError> {
+    let regions = [
+        region(at, 0, 0x1_0000, 0x4f),
+        region(0, 0x8000_0000, 0x1000, 0x23),
+        plain(0x900_0000, 0x1000, 0x93),
+        plain(0x7fb0_0000, 0x1000, 0x81),
+        plain(0x7fb0_1000, 0x9000, 0x83),
+        plain(0x7fb0_a000, 0x2000, 0x81),
+        plain(0x7fb0_c000, 0x2000, 0x83),
+    ];
+    cell(alloc, 4, &regions, &[device])
+}
+
+/// The lines of the findings, each with `; ` behind it.
+fn lines(alloc: Global, found: &[Finding]) -> Result<String, Fail> {
+    let mut text = String::new(alloc);
+    for finding in found {
+        let line = format!(in alloc; "{finding}; ")?;
+        text.push_str(line.as_str())?;
+    }
+    Ok(text)
+}
+
+/// What the check of the system and at most two cells tells.
+fn told(alloc: Global, system: &SystemConfig, cells: &[CellConfig]) -> Result<String, Fail> {
+    if cells.len() > 15 {
+        return Err("at most 15 cells".into());
+    }
+    let found = check(alloc, system, cells).ok().ok_or("memory suffices")?;
+    lines(alloc, found.as_slice())
+}
+
+/// Whether the check of a root with these regions tells that.
+fn root_is_told(alloc: Global, regions: &[Region], want: &str) -> Result<bool, Fail> {
+    let root = cell(alloc, 1, regions, &[])?;
+    Ok(told(alloc, &system(root, HYPERVISOR), &[])?.as_str() == want)
+}
+
+/// Whether the check of a cell with these regions tells that, beside a root with a page-mapped and a
+/// subpage region.
+fn cell_is_told(alloc: Global, regions: &[Region], want: &str) -> Result<bool, Fail> {
+    let of_root = [
+        plain(0x4000_0000, 0x1000_0000, 0xf),
+        plain(0x900_0040, 0x40, 0x3),
+    ];
+    let root = cell(alloc, 1, &of_root, &[])?;
+    let mut cells = Vec::new(alloc);
+    cells.push(cell(alloc, 2, regions, &[])?)?;
+    Ok(told(alloc, &system(root, HYPERVISOR), cells.as_slice())?.as_str() == want)
+}
+
+/// Whether the check of a root with that many CPUs and that memory of the hypervisor tells that.
+fn hypervisor_is_told(
+    alloc: Global,
+    cpus: u8,
+    at: u64,
+    size: u64,
+    want: &str,
+) -> Result<bool, Fail> {
+    let root = cell(alloc, cpus, &[plain(0x4000_0000, 0x1000, 0xf)], &[])?;
+    Ok(told(alloc, &system(root, region(at, 0, size, 0x3)), &[])?.as_str() == want)
+}
+
+/// Whether the check of `q` and as many of `demo`, with its first region there and that device, tells that.
+fn demo_is_told(
+    alloc: Global,
+    count: usize,
+    at: u64,
+    device: PciDevice,
+    want: &str,
+) -> Result<bool, Fail> {
+    let mut cells = Vec::new(alloc);
+    for _ in 0..count {
+        cells.push(demo(alloc, at, device)?)?;
+    }
+    Ok(told(alloc, &q(alloc)?, cells.as_slice())?.as_str() == want)
+}
+
+/// How many of `demo`, where its first region lies, and what is told.
+fn demos() -> [(usize, u64, &'static str); 3] {
+    [
+        (1, 0x7f90_0000, ""),
+        (2, 0x7f90_0000, "10 CellsOverlap 1.0 2.0; 11 Shmem 2.d0; "),
+        (1, 0x7fbf_f000, "3 Hypervisor 1.0; "),
+    ]
+}
+
+#[test]
+fn demo_beside_q_is_clean_and_twice_it_overlaps(rt: HostRuntime) -> Result<(), Fail> {
+    for (count, at, want) in demos() {
+        let is = demo_is_told(rt.alloc(), count, at, device(1, 3), want)?;
+        assert!(rt; is, "{want}");
+    }
+    Ok(())
+}
+
+/// Whether root's regions `memory`, `uart` and this one are told so.
+fn third_is_told(alloc: Global, at: u64, size: u64, want: &str) -> Result<bool, Fail> {
+    let mut regions = Vec::new(alloc);
+    regions.push(plain(0x4000_0000, 0x3fc0_0000, 0xf))?;
+    regions.push(plain(0x900_0000, 0x1000, 0x13))?;
+    regions.push(plain(at, size, 0x4_0013))?;
+    root_is_told(alloc, regions.as_slice(), want)
+}
+
+/// Where a third region of root begins, its size, and what is told.
+fn thirds() -> [(u64, u64, &'static str); 3] {
+    [
+        (
+            0x900_0fff,
+            0x10,
+            "1 VirtOverlap 0.1 0.2; 2 PhysOverlap 0.1 0.2; ",
+        ),
+        (0x900_1000, 0x10, ""),
+        (0x900_0fff, 0, ""),
+    ]
+}
+
+#[test]
+fn regions_of_one_cell_meet_or_dont(rt: HostRuntime) -> Result<(), Fail> {
+    for (at, size, want) in thirds() {
+        let is = third_is_told(rt.alloc(), at, size, want)?;
+        assert!(rt; is, "{want}");
+    }
+    Ok(())
+}
+
+/// A region of root, and what is told of it.
+fn of_root() -> [(Region, &'static str); 5] {
+    [
+        (plain(0x7f_ffff_f000, 0x1000, 0x3), ""),
+        (plain(0x7f_ffff_f000, 0x1001, 0x3), "4 OutOfRange 0.0; "),
+        (
+            region(0x1000, 0x2000, 0x1000, 0x3),
+            "5 RootNotIdentity 0.0; ",
+        ),
+        (plain(0x1000, 0x1000, 0x23), "6 CommInRoot 0.0; "),
+        (plain(0x1000, 0x1000, 0x6), "8 ExecuteWithoutRead 0.0; "),
+    ]
+}
+
+#[test]
+fn rules_of_a_region_of_root(rt: HostRuntime) -> Result<(), Fail> {
+    for (one, want) in of_root() {
+        let is = root_is_told(rt.alloc(), &[one], want)?;
+        assert!(rt; is, "{want}");
+    }
+    Ok(())
+}
+
+/// A region of another cell, behind a communication region, and what is told of it.
+fn of_another() -> [(Region, &'static str); 6] {
+    [
+        (region(0x4000_0000, 0, 0x1000, 0x3), ""),
+        (region(0, 0x8000_0000, 0x1000, 0x23), "7 CommShape 1.1; "),
+        (
+            region(0x4000_2000, 0, 0x800, 0x3),
+            "9 SubpageTaken 1.1 0.0; ",
+        ),
+        (region(0x4000_2000, 0, 0x800, 0x83), ""),
+        (region(0x900_0040, 0, 0x40, 0x3), ""),
+        (region(0x4000_2800, 0, 0x1000, 0x3), "13 PhysAlign 1.1; "),
+    ]
+}
+
+#[test]
+fn rules_of_a_region_of_another_cell(rt: HostRuntime) -> Result<(), Fail> {
+    for (other, want) in of_another() {
+        let comm = region(0, 0x9000_0000, 0x1000, 0x23);
+        let is = cell_is_told(rt.alloc(), &[comm, other], want)?;
+        assert!(rt; is, "{want}");
+    }
+    Ok(())
+}
+
+/// Root's CPUs, where the hypervisor's memory begins, its size, and what is told.
+fn memories() -> [(u8, u64, u64, &'static str); 5] {
+    [
+        (1, 0x7000_0000, 0x400_0000, ""),
+        (1, 0x7000_0000, 0x400_1000, "4 OutOfRange h; "),
+        (1, 0x7000_0001, 0, "4 OutOfRange h; "),
+        (1, 0x7000_0001, 0x1000, "13 PhysAlign h; "),
+        (0, 0x7000_0000, 0x1000, "12 NoCpu 0; "),
+    ]
+}
+
+#[test]
+fn the_hypervisors_memory_and_cpus(rt: HostRuntime) -> Result<(), Fail> {
+    for (cpus, at, size, want) in memories() {
+        let is = hypervisor_is_told(rt.alloc(), cpus, at, size, want)?;
+        assert!(rt; is, "{want}");
+    }
+    Ok(())
+}
+
+/// The device of `demo` with that many peers and vectors, and of that kind.
+fn changed(kind: u8, peers: u8, vectors: u16) -> PciDevice {
+    let mut device = device(1, 3);
+    device.kind = kind;
+    device.shmem_peers = peers;
+    device.num_msix_vectors = vectors;
+    device
+}
+
+/// Devices in place of that of `demo`, and what is told of them: a good one; numbers past the peers and of
+/// the linked one; too many peers; as many vectors as there may be, one more, and none beside a BAR for
+/// them; a missing section; another kind.
+fn devices() -> [(PciDevice, &'static str); 9] {
+    let breaks = "11 Shmem 1.d0; ";
+    [
+        (device(1, 3), ""),
+        (device(2, 3), breaks),
+        (device(0, 3), breaks),
+        (changed(3, 17, 2), breaks),
+        (changed(3, 2, 16), ""),
+        (changed(3, 2, 17), breaks),
+        (changed(3, 2, 0), breaks),
+        (device(1, 4), breaks),
+        (changed(1, 17, 2), ""),
+    ]
+}
+
+#[test]
+fn rules_of_a_device(rt: HostRuntime) -> Result<(), Fail> {
+    for (device, want) in devices() {
+        let is = demo_is_told(rt.alloc(), 1, 0x7f90_0000, device, want)?;
+        assert!(rt; is, "{want}");
+    }
+    Ok(())
+}
+
+/// Whether the check of a cell with four sections, of which one is changed, and these devices tells that.
+fn sections_are_told(
+    alloc: Global,
+    changed: usize,
+    section: Region,
+    devices: &[PciDevice],
+    want: &str,
+) -> Result<bool, Fail> {
+    let mut sections = [
+        plain(0x1000_0000, 0x1000, 0x1),
+        plain(0x1000_1000, 0x9000, 0x3),
+        plain(0x1000_a000, 0x2000, 0x3),
+        plain(0x1000_c000, 0x2000, 0x1),
+    ];
+    if changed < 4 {
+        sections[changed] = section;
+    }
+    let root = cell(alloc, 1, &[], &[])?;
+    let mut cells = Vec::new(alloc);
+    cells.push(cell(alloc, 2, &sections, devices)?)?;
+    Ok(told(alloc, &system(root, HYPERVISOR), cells.as_slice())?.as_str() == want)
+}
+
+/// Which section is changed to what, and what is told.
+fn sections() -> [(usize, Region, &'static str); 8] {
+    let breaks = "11 Shmem 1.d0; ";
+    [
+        (0, plain(0x1000_0000, 0x1000, 0x1), ""),
+        (0, plain(0x1000_0000, 0x1000, 0x3), breaks),
+        (1, plain(0x1000_1000, 0x9000, 0x43), breaks),
+        (1, plain(0x1000_1000, 0, 0x3), breaks),
+        (2, plain(0x1000_a000, 0x2000, 0x1), ""),
+        (3, plain(0x1000_c000, 0x2000, 0x3), breaks),
+        (3, plain(0x1000_c000, 0x1000, 0x1), breaks),
+        (3, plain(0x1000_d000, 0x2000, 0x1), breaks),
+    ]
+}
+
+#[test]
+fn rules_of_sections(rt: HostRuntime) -> Result<(), Fail> {
+    for (changed, section, want) in sections() {
+        let is = sections_are_told(rt.alloc(), changed, section, &[device(0, 0)], want)?;
+        assert!(rt; is, "{want}");
+    }
+    Ok(())
+}
+
+#[test]
+fn two_devices_of_one_number(rt: HostRuntime) -> Result<(), Fail> {
+    let twice = [device(0, 0), device(0, 0)];
+    let is = sections_are_told(rt.alloc(), 4, HYPERVISOR, &twice, "11 Shmem 1.d1; ")?;
+    assert!(rt; is);
+    Ok(())
+}
+
+/// How many findings are told of a root with so many regions that may be executed and not read.
+fn told_of_many(alloc: Global, count: u64) -> Result<usize, Fail> {
+    let mut regions = Vec::new(alloc);
+    for i in 0..count.min(2000) {
+        regions.push(plain(0x4000_0000 + 0x1000 * i, 0x1000, 0x4))?;
+    }
+    let root = cell(alloc, 1, regions.as_slice(), &[])?;
+    let found = check(alloc, &system(root, HYPERVISOR), &[])
+        .ok()
+        .ok_or("memory suffices")?;
+    Ok(found.len())
+}
+
+#[test]
+fn a_thousand_findings_are_told(rt: HostRuntime) -> Result<(), Fail> {
+    let fewer = told_of_many(rt.alloc(), 999)?;
+    assert_eq!(rt; fewer, 999);
+    let more = told_of_many(rt.alloc(), 1001)?;
+    assert_eq!(rt; more, 1000);
+    Ok(())
+}
+
+/// What is said of `demo` with its first region there as a new cell, beside `q` and a cell with a region at
+/// 0x7f90f000.
+fn verdict_at(alloc: Global, at: u64) -> Result<NewCell, Fail> {
+    let new = demo(alloc, at, device(1, 3))?;
+    let mut live = Vec::new(alloc);
+    live.push(cell(alloc, 2, &[region(0x7f90_f000, 0, 0x1000, 0xf)], &[])?)?;
+    let system = q(alloc)?;
+    if live.len() > 14 {
+        return Err("one cell".into());
+    }
+    Ok(clean_with(&system, live.as_slice(), &new))
+}
+
+#[test]
+fn a_new_cell_is_clean_invalid_or_busy(rt: HostRuntime) -> Result<(), Fail> {
+    let clean = verdict_at(rt.alloc(), 0x7f91_0000)?;
+    assert!(rt; clean == NewCell::Clean);
+    let busy = verdict_at(rt.alloc(), 0x7f90_0000)?;
+    assert!(rt; busy == NewCell::Busy);
+    let invalid = verdict_at(rt.alloc(), 0x7fbf_f000)?;
+    assert!(rt; invalid == NewCell::Invalid);
+    Ok(())
+}
