@@ -18,3 +18,6 @@ pub use checking::{MAX_FINDINGS, check};
 pub use finding::Finding;
 pub use laws::{addresses_are_single, cells_are_apart, hypervisor_is_alone};
 pub use verdict::{NewCell, clean_with};
+
+#[cfg(test)]
+mod tests;

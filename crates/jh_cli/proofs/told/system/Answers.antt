@@ -1,9 +1,0 @@
--- Bytes that are no system stop the call.
-use Rattle.jh_first.specs.System.{IsSystem}
-use Rattle.jh_cli.proofs.StopLemmas.{refuses}
-use Rattle.jh_cli.proofs.told.system.Goals as goal
-
-pub returns-clause-err : goal.returns-clause-err
-returns-clause-err g c =
-    let none = rw c.in-None.is at c.in_ok-system.ensures in
-    refuses (g.F.Files.contents c.args.files.now) c.args.name.now IsSystem c.in_ok-bytes.bytes c.in_ok-bytes.ensures.ok (rw (← c.as_slice.ensures.value) none) c.refused.result c.refused.ensures
