@@ -1,8 +1,22 @@
-//! What a board runs: operations, programs, preloads, and the image of them all.
+//! What a board runs: operations, programs, preloads, and the image of them all. The texts of programs and
+//! schedules are read here.
 #![tactic(auto)]
 
+mod fault;
 mod image;
+mod laws;
+mod line;
+mod number;
 mod op;
+mod program;
+mod schedule;
+#[cfg(test)]
+mod tests;
+mod words;
 
+pub use fault::{MAX_ITEMS, MAX_OPS, ScheduleFault, ScriptFault};
 pub use image::{Image, Preload, Program};
+pub use laws::{first_fault_of_a_program_decides, first_fault_of_a_schedule_decides};
 pub use op::Op;
+pub use program::read_program;
+pub use schedule::read_schedule;

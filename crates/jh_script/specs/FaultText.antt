@@ -1,0 +1,18 @@
+-- The words for a fault.
+use Rattle.std.specs.Prelude.{ℕ, List, ◌++◌, codes}
+use Rattle.std.specs.Fmt.{decimal}
+use Rattle.jh_script.specs.declared.fault.ScriptFault.{ScriptFault}
+use Rattle.jh_script.specs.declared.fault.ScriptFault.TheVariants.{Syntax, TooLong, Width, NoMemory}
+use Rattle.jh_script.specs.declared.fault.ScheduleFault.{ScheduleFault}
+use Rattle.jh_script.specs.declared.fault.ScheduleFault.TheVariants.{Item, TooLong as ScheduleTooLong, NoMemory as ScheduleNoMemory}
+
+abbrev pub script_fault_text : ScriptFault → List ℕ
+script_fault_text (Syntax line) = codes "line " ++ (decimal line ++ codes ": syntax")
+script_fault_text TooLong = codes "program too long"
+script_fault_text (Width line) = codes "line " ++ (decimal line ++ codes ": width")
+script_fault_text NoMemory = codes "out of memory"
+
+abbrev pub schedule_fault_text : ScheduleFault → List ℕ
+schedule_fault_text (Item number) = codes "item " ++ decimal number
+schedule_fault_text ScheduleTooLong = codes "schedule too long"
+schedule_fault_text ScheduleNoMemory = codes "out of memory"

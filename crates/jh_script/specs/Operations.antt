@@ -1,0 +1,100 @@
+-- What a line of a program tells.
+use Rattle.std.specs.Prelude.{◌≡◌, ◌&&◌, ◌||◌, ℕ, ◌^◌, ◌%◌, ◌<◌, Bool, true, ◌==◌, nat_lt, if◌then◌else◌, IsTrue, Option, Some, None, option_and_then, List, [], ◌∷◌, codes, nat_eq}
+use Rattle.std.specs.Option.{option_map}
+use Rattle.std.specs.Str.{bytes_eq}
+use Rattle.std.specs.List.{list_all, starts_with}
+use Rattle.jh_script.specs.declared.op.Op.{Op}
+use Rattle.jh_script.specs.declared.op.Op.TheVariants.{Read, Write, Fetch, Await, Irq, Hvc}
+use Rattle.jh_script.specs.declared.line.Line.{Line}
+use Rattle.jh_script.specs.declared.line.Line.TheVariants.{Blank, Operation, Syntax, Width}
+use Rattle.jh_script.specs.Numbers.{number_of}
+use Rattle.jh_script.specs.Words.{words, blanks}
+
+infixl 10 ◌>>=◌
+abbrev pub ◌>>=◌ : {A B : Type 0} → Option A → (A → Option B) → Option B
+o >>= f = option_and_then f o
+
+-- no word, or just so many, each a number
+unfoldable pub none_of : List (List ℕ) → Option (Unit {0})
+none_of [] = Some tt
+none_of (a ∷ more) = None
+
+unfoldable pub one_of : List (List ℕ) → Option ℕ
+one_of [] = None
+one_of (a ∷ []) = number_of a
+one_of (a ∷ b ∷ more) = None
+
+unfoldable pub two_of : List (List ℕ) → Option (ℕ × ℕ)
+two_of [] = None
+two_of (a ∷ []) = None
+two_of (a ∷ b ∷ []) = do
+  x ← number_of a
+  y ← number_of b
+  Some (x, y)
+two_of (a ∷ b ∷ c ∷ more) = None
+
+unfoldable pub three_of : List (List ℕ) → Option (ℕ × ℕ × ℕ)
+three_of [] = None
+three_of (a ∷ []) = None
+three_of (a ∷ b ∷ []) = None
+three_of (a ∷ b ∷ c ∷ []) = do
+  x ← number_of a
+  y ← number_of b
+  z ← number_of c
+  Some (x, y, z)
+three_of (a ∷ b ∷ c ∷ d ∷ more) = None
+
+-- the operation with this name and these words behind it, whatever its numbers
+unfoldable pub op_of : List ℕ → List (List ℕ) → Option Op
+op_of name behind =
+    if bytes_eq name (codes "read") then option_map (λ n. Read n.0 n.1) (two_of behind)
+    else (if bytes_eq name (codes "write") then option_map (λ n. Write n.0 n.1 n.2) (three_of behind)
+    else (if bytes_eq name (codes "fetch") then option_map (λ n. Fetch n) (one_of behind)
+    else (if bytes_eq name (codes "await") then option_map (λ n. Await n.0 n.1 n.2) (three_of behind)
+    else (if bytes_eq name (codes "irq") then option_map (λ n. Irq) (none_of behind)
+    else (if bytes_eq name (codes "hvc") then option_map (λ n. Hvc n.0 n.1 n.2) (three_of behind)
+    else None)))))
+
+-- how many bytes an access may have
+abbrev pub is_width : ℕ → Bool
+is_width width = (width == 1) || (width == 2) || (width == 4) || (width == 8)
+
+-- the operation is within its limits: its width is one that an access may have, its value fits that
+-- width, and an instruction is fetched at a multiple of 4
+unfoldable pub is_plain : Op → Bool
+is_plain (Read width at) = is_width width
+is_plain (Write width at value) = is_width width && nat_lt value (256 ^ width)
+is_plain (Fetch at) = (at % 4) == 0
+is_plain (Await width at value) = is_width width && nat_lt value (256 ^ width)
+is_plain Irq = true
+is_plain (Hvc code a b) = true
+
+-- the same as a fact
+abbrev pub IsPlain : Op → Type 0
+IsPlain (Read width at) = IsTrue (is_width width)
+IsPlain (Write width at value) = IsTrue (is_width width) × (value < 256 ^ width)
+IsPlain (Fetch at) = at % 4 ≡ 0
+IsPlain (Await width at value) = IsTrue (is_width width) × (value < 256 ^ width)
+IsPlain Irq = Unit {0}
+IsPlain (Hvc code a b) = Unit {0}
+
+-- what a line of an operation tells, or one of none
+unfoldable pub line_of_op : Option Op → Line
+line_of_op None = Syntax
+line_of_op (Some op) = if is_plain op then Operation op else Width
+
+-- a word that begins with `#` begins a comment
+unfoldable pub line_of_words : List (List ℕ) → Line
+line_of_words [] = Blank
+line_of_words (name ∷ behind) = if starts_with nat_eq name (codes "#") then Blank else line_of_op (op_of name behind)
+
+-- a line is of bytes below 128, in a comment too
+unfoldable pub line_of : List ℕ → Line
+line_of line = if list_all (λ byte. nat_lt byte 128) line then line_of_words (words blanks line) else Syntax
+
+-- where the line is of an operation, that is within its limits
+abbrev pub IsPlainLine : Line → Type 0
+IsPlainLine Blank = Unit {0}
+IsPlainLine (Operation op) = IsPlain op
+IsPlainLine Syntax = Unit {0}
+IsPlainLine Width = Unit {0}

@@ -1,0 +1,213 @@
+//! What a line of a program tells.
+ghost use Rattle.std.specs.Prelude.{◌≡◌, ◌^◌, ◌-◌, nat_lt, IfSome, IfNone, IsTrue, SomeIff};
+ghost use Rattle.std.specs.List.{list_all};
+ghost use Rattle.std.specs.Option.{option_map};
+ghost use Rattle.jh_script.specs.declared.op.Op.TheVariants as ops;
+ghost use Rattle.jh_script.specs.Operations.{IsPlainLine, is_width, line_of, line_of_op, none_of, one_of, two_of, three_of, op_of};
+ghost use Rattle.jh_script.specs.Words.{words, blanks};
+
+use crate::number::number;
+use crate::op::Op;
+use crate::words::{is, next_word};
+
+/// The bytes that part the words of a line.
+const BLANKS: &[u8] = b" \t";
+
+/// What a line tells.
+#[derive(Clone, Copy, PartialEq, Eq, Debug)]
+pub(crate) enum Line {
+    /// It has no word, or its first begins with `#`.
+    Blank,
+    Operation(Op),
+    Syntax,
+    Width,
+}
+
+#[tactic(auto, unfolding(crate::specs::Operations::line_of, crate::specs::Operations::line_of_words))]
+pub(crate) fn read_line(text: &[u8]) -> Line
+    ensures value { result ≡ line_of text.now }
+    ensures plain { IsPlainLine result }
+{
+    if !is_ascii(text) {
+        return Line::Syntax;
+    }
+    let Some((name, behind)) = next_word(BLANKS, text) else {
+        return Line::Blank;
+    };
+    if name.starts_with(b"#") {
+        return Line::Blank;
+    }
+    operation(name, behind)
+}
+
+fn is_ascii(text: &[u8]) -> bool
+    ensures { result ≡ list_all (λ byte. nat_lt byte 128) text.now }
+{
+    text.iter().all(|byte| *byte < 128)
+}
+
+/// The operation with this name.
+#[tactic(auto, unfolding(crate::specs::Operations::op_of))]
+fn operation(name: &[u8], behind: &[u8]) -> Line
+    ensures { result ≡ line_of_op (op_of name.now (words blanks behind.now)) }
+{
+    if is(name, "read") {
+        return read(behind);
+    }
+    if is(name, "write") {
+        return write(behind);
+    }
+    if is(name, "fetch") {
+        return fetch(behind);
+    }
+    if is(name, "await") {
+        return wait(behind);
+    }
+    if is(name, "irq") {
+        return interrupt(behind);
+    }
+    if is(name, "hvc") {
+        return call(behind);
+    }
+    Line::Syntax
+}
+
+#[tactic(auto, unfolding(crate::specs::Operations::line_of_op, crate::specs::Operations::is_plain))]
+fn read(behind: &[u8]) -> Line
+    ensures { result ≡ line_of_op (option_map (λ n. ops.Read n.0 n.1) (two_of (words blanks behind.now))) }
+{
+    let Some((width, at)) = two_numbers(behind) else {
+        return Line::Syntax;
+    };
+    match access_width(width) {
+        Some(width) => Line::Operation(Op::Read { width, at }),
+        None => Line::Width,
+    }
+}
+
+#[tactic(auto, unfolding(crate::specs::Operations::line_of_op, crate::specs::Operations::is_plain))]
+fn write(behind: &[u8]) -> Line
+    ensures { result ≡ line_of_op (option_map (λ n. ops.Write n.0 n.1 n.2) (three_of (words blanks behind.now))) }
+{
+    let Some((width, at, value)) = three_numbers(behind) else {
+        return Line::Syntax;
+    };
+    match access_width(width) {
+        Some(width) if value <= max_of_width(width) => {
+            Line::Operation(Op::Write { width, at, value })
+        }
+        _ => Line::Width,
+    }
+}
+
+#[tactic(auto, unfolding(crate::specs::Operations::line_of_op, crate::specs::Operations::is_plain))]
+fn fetch(behind: &[u8]) -> Line
+    ensures { result ≡ line_of_op (option_map (λ n. ops.Fetch n) (one_of (words blanks behind.now))) }
+{
+    let Some(at) = one_number(behind) else {
+        return Line::Syntax;
+    };
+    if at % 4 == 0 {
+        Line::Operation(Op::Fetch { at })
+    } else {
+        Line::Width
+    }
+}
+
+#[tactic(auto, unfolding(crate::specs::Operations::line_of_op, crate::specs::Operations::is_plain))]
+fn wait(behind: &[u8]) -> Line
+    ensures { result ≡ line_of_op (option_map (λ n. ops.Await n.0 n.1 n.2) (three_of (words blanks behind.now))) }
+{
+    let Some((width, at, value)) = three_numbers(behind) else {
+        return Line::Syntax;
+    };
+    match access_width(width) {
+        Some(width) if value <= max_of_width(width) => {
+            Line::Operation(Op::Await { width, at, value })
+        }
+        _ => Line::Width,
+    }
+}
+
+#[tactic(auto, unfolding(crate::specs::Operations::line_of_op, crate::specs::Operations::is_plain, crate::specs::Operations::none_of))]
+fn interrupt(behind: &[u8]) -> Line
+    ensures { result ≡ line_of_op (option_map (λ n. ops.Irq) (none_of (words blanks behind.now))) }
+{
+    match next_word(BLANKS, behind) {
+        Some(_) => Line::Syntax,
+        None => Line::Operation(Op::Irq),
+    }
+}
+
+#[tactic(auto, unfolding(crate::specs::Operations::line_of_op, crate::specs::Operations::is_plain))]
+fn call(behind: &[u8]) -> Line
+    ensures { result ≡ line_of_op (option_map (λ n. ops.Hvc n.0 n.1 n.2) (three_of (words blanks behind.now))) }
+{
+    match three_numbers(behind) {
+        Some((code, a, b)) => Line::Operation(Op::Hvc { code, a, b }),
+        None => Line::Syntax,
+    }
+}
+
+/// The one word of the text, a number.
+#[tactic(auto, unfolding(crate::specs::Operations::one_of))]
+fn one_number(text: &[u8]) -> Option<u64>
+    ensures { result ≡ one_of (words blanks text.now) }
+{
+    let (a, rest) = next_word(BLANKS, text)?;
+    if next_word(BLANKS, rest).is_some() {
+        return None;
+    }
+    number(a)
+}
+
+/// The two words of the text, numbers both.
+#[tactic(auto, unfolding(crate::specs::Operations::two_of))]
+fn two_numbers(text: &[u8]) -> Option<(u64, u64)>
+    ensures { result ≡ two_of (words blanks text.now) }
+{
+    let (a, rest) = next_word(BLANKS, text)?;
+    let (b, rest) = next_word(BLANKS, rest)?;
+    if next_word(BLANKS, rest).is_some() {
+        return None;
+    }
+    Some((number(a)?, number(b)?))
+}
+
+/// The three words of the text, numbers all.
+#[tactic(auto, unfolding(crate::specs::Operations::three_of))]
+fn three_numbers(text: &[u8]) -> Option<(u64, u64, u64)>
+    ensures { result ≡ three_of (words blanks text.now) }
+{
+    let (a, rest) = next_word(BLANKS, text)?;
+    let (b, rest) = next_word(BLANKS, rest)?;
+    let (c, rest) = next_word(BLANKS, rest)?;
+    if next_word(BLANKS, rest).is_some() {
+        return None;
+    }
+    Some((number(a)?, number(b)?, number(c)?))
+}
+
+/// The number as the width of an access.
+fn access_width(width: u64) -> Option<u8>
+    ensures { SomeIff result (IsTrue (is_width width)) width }
+{
+    if width == 1 || width == 2 || width == 4 || width == 8 {
+        Some(width as u8)
+    } else {
+        None
+    }
+}
+
+/// The largest value of so many bytes.
+fn max_of_width(width: u8) -> u64
+    requires { IsTrue (is_width width) }
+    ensures { result ≡ 256 ^ width - 1 }
+{
+    match width {
+        1 => 0xff,
+        2 => 0xffff,
+        4 => 0xffff_ffff,
+        _ => u64::MAX,
+    }
+}
