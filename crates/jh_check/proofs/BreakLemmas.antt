@@ -1,0 +1,190 @@
+-- What it takes to break a rule about two regions.
+use Rattle.std.proofs.Common.{◌≡◌, ℕ, ◌+◌, ◌<◌, ◌≤◌, Bool, true, false, ◌&&◌, not, ◌==◌, nat_lt, List, [], ◌∷◌, ◌++◌, length, get_or, refl, sym, ap, subst, ◌∙◌, inl, inr, arith}
+use Rattle.std.specs.List.{Contains}
+use Rattle.std.proofs.lemmas.Bool.{false≢true, ltb-true, eqb-true, cases_order}
+use Rattle.std.proofs.lemmas.List.{get_or_default}
+use Rattle.jh_cellcfg.specs.declared.region.Region.{Region}
+use Rattle.jh_cellcfg.specs.declared.config.CellConfig.{CellConfig}
+use Rattle.jh_cellcfg.specs.Regions.{virt_end, phys_end, is_page_mapped, is_comm, is_unshared}
+use Rattle.jh_check.specs.declared.finding.Finding.{Finding}
+use Rattle.jh_check.specs.declared.rule.Rule.{Rule}
+use Rattle.jh_check.specs.declared.rule.Rule.TheVariants.{VirtOverlap, PhysOverlap, Hypervisor, OutOfRange, RootNotIdentity, CommInRoot, CommShape, ExecuteWithoutRead, SubpageTaken, CellsOverlap, Shmem, NoCpu, PhysAlign}
+use Rattle.jh_check.specs.declared.spans.Span.{Span}
+use Rattle.jh_check.specs.Regions.{Spot, pair_breaks, has_size, virt_meet, phys_meet, share_places, takes_pages, both_shared}
+use Rattle.jh_check.specs.Devices.{are_same_section}
+use Rattle.jh_check.specs.Spans.{takes_part, span_of, spans_meet, joins, is_within, IsIndex, AreApart}
+use Rattle.jh_check.specs.Lists.{found_from, only_if}
+use Rattle.jh_check.specs.Findings.{spot, beside, beside_at, between, between_at, finding_of}
+use Rattle.jh_check.proofs.BoolLemmas.{false-from_not, not-both, and-left, and-right, and-both}
+use Rattle.jh_check.proofs.ListLemmas.{found-none0}
+
+virt-parts : (one other : Region) → virt_meet one other ≡ true → ((has_size one && has_size other) ≡ true) × ((nat_lt one.virt_start (virt_end other) && nat_lt other.virt_start (virt_end one)) ≡ true)
+virt-parts one other h =
+    let sizes = has_size one && has_size other in
+    let ranges = nat_lt one.virt_start (virt_end other) && nat_lt other.virt_start (virt_end one) in
+    (and-left sizes ranges h, and-right sizes ranges h)
+
+phys-parts : (one other : Region) → phys_meet one other ≡ true → ((has_size one && has_size other) ≡ true) × ((nat_lt one.phys_start (phys_end other) && nat_lt other.phys_start (phys_end one)) ≡ true)
+phys-parts one other h =
+    let sizes = has_size one && has_size other in
+    let ranges = nat_lt one.phys_start (phys_end other) && nat_lt other.phys_start (phys_end one) in
+    (and-left sizes ranges h, and-right sizes ranges h)
+
+pub share-parts : (one other : Region) → share_places one other ≡ true → (not (is_comm one) ≡ true) × (not (is_comm other) ≡ true) × (phys_meet one other ≡ true)
+share-parts one other h =
+    let rest = not (is_comm other) && phys_meet one other in
+    let k = and-right (not (is_comm one)) rest h in
+    (and-left (not (is_comm one)) rest h, and-left (not (is_comm other)) (phys_meet one other) k, and-right (not (is_comm other)) (phys_meet one other) k)
+
+pages-parts : (one other : Region) → takes_pages one other ≡ true → ((is_unshared one && not (is_page_mapped one)) ≡ true) × (phys_meet one other ≡ true)
+pages-parts one other h =
+    let last = is_page_mapped other && phys_meet one other in
+    let rest = not (is_page_mapped one) && last in
+    let k = and-right (is_unshared one) rest h in
+    let m = and-right (not (is_page_mapped one)) last k in
+    (and-both (is_unshared one) (not (is_page_mapped one)) (and-left (is_unshared one) rest h) (and-left (not (is_page_mapped one)) last k), and-right (is_page_mapped other) (phys_meet one other) m)
+
+-- what a broken rule about two regions says of their cells, and of the regions
+pub within-parts : (one other : Spot) (rest : Bool) → ((one.cell == other.cell) && (nat_lt one.item other.item && rest)) ≡ true → ((one.cell == other.cell) ≡ true) × (nat_lt one.item other.item ≡ true) × (rest ≡ true)
+within-parts one other rest h =
+    let same = one.cell == other.cell in
+    let before = nat_lt one.item other.item in
+    let k = and-right same (before && rest) h in
+    (and-left same (before && rest) h, and-left before rest k, and-right before rest k)
+
+two-parts : (first second rest : Bool) → (first && (second && rest)) ≡ true → ((first && second) ≡ true) × (rest ≡ true)
+two-parts first second rest h =
+    let k = and-right first (second && rest) h in
+    (and-both first second (and-left first (second && rest) h) (and-left second rest k), and-right second rest k)
+
+-- the two regions of one cell stand in this order
+pub pair-order : (rule : Rule) (one other : Spot) → is_within rule ≡ true → pair_breaks rule one other ≡ true → nat_lt one.item other.item ≡ true
+unfolding pair_breaks
+pair-order VirtOverlap one other w h = (within-parts one other (virt_meet one.region other.region) h).1
+pair-order PhysOverlap one other w h = (within-parts one other (share_places one.region other.region) h).1
+pair-order _ one other w h = absurd (false≢true w)
+
+-- the rule speaks of such cells
+pub pair-joins : (rule : Rule) (one other : Spot) → pair_breaks rule one other ≡ true → joins rule one.cell other.cell ≡ true
+unfolding pair_breaks
+pair-joins VirtOverlap one other h = (within-parts one other (virt_meet one.region other.region) h).0
+pair-joins PhysOverlap one other h = (within-parts one other (share_places one.region other.region) h).0
+pair-joins SubpageTaken one other h = (two-parts (not (one.cell == 0)) (other.cell == 0) (takes_pages one.region other.region) h).0
+pair-joins CellsOverlap one other h =
+    (two-parts (nat_lt 0 one.cell) (nat_lt one.cell other.cell) (share_places one.region other.region && (not (both_shared one.region other.region) && not (are_same_section one.config one.item other.config other.item))) h).0
+pair-joins _ one other h = absurd (false≢true h)
+
+overlap-share : (one other : Spot) → pair_breaks CellsOverlap one other ≡ true → share_places one.region other.region ≡ true
+unfolding pair_breaks
+overlap-share one other h =
+    let rest = not (both_shared one.region other.region) && not (are_same_section one.config one.item other.config other.item) in
+    let k = (two-parts (nat_lt 0 one.cell) (nat_lt one.cell other.cell) (share_places one.region other.region && rest) h).1 in
+    and-left (share_places one.region other.region) rest k
+
+shared-takes_part : (one other : Region) → share_places one other ≡ true → (has_size one && not (is_comm one)) ≡ true
+shared-takes_part one other h =
+    let p = share-parts one other h in
+    and-both (has_size one) (not (is_comm one)) (and-left (has_size one) (has_size other) (phys-parts one other p.2).0) p.0
+
+-- the first region takes part
+pub pair-takes_part : (rule : Rule) (one other : Spot) → pair_breaks rule one other ≡ true → takes_part rule one.region ≡ true
+unfolding pair_breaks
+pair-takes_part VirtOverlap one other h = and-left (has_size one.region) (has_size other.region) (virt-parts one.region other.region (within-parts one other (virt_meet one.region other.region) h).2).0
+pair-takes_part PhysOverlap one other h = shared-takes_part one.region other.region (within-parts one other (share_places one.region other.region) h).2
+pair-takes_part SubpageTaken one other h =
+    let p = pages-parts one.region other.region (two-parts (not (one.cell == 0)) (other.cell == 0) (takes_pages one.region other.region) h).1 in
+    and-both (has_size one.region) (is_unshared one.region && not (is_page_mapped one.region)) (and-left (has_size one.region) (has_size other.region) (phys-parts one.region other.region p.1).0) p.0
+pair-takes_part CellsOverlap one other h = shared-takes_part one.region other.region (overlap-share one other h)
+pair-takes_part _ one other h = absurd (false≢true h)
+
+-- so does the second, where both are of one cell
+pub pair-second : (rule : Rule) (one other : Spot) → is_within rule ≡ true → pair_breaks rule one other ≡ true → takes_part rule other.region ≡ true
+unfolding pair_breaks
+pair-second VirtOverlap one other w h = and-right (has_size one.region) (has_size other.region) (virt-parts one.region other.region (within-parts one other (virt_meet one.region other.region) h).2).0
+pair-second PhysOverlap one other w h =
+    let p = share-parts one.region other.region (within-parts one other (share_places one.region other.region) h).2 in
+    and-both (has_size other.region) (not (is_comm other.region)) (and-right (has_size one.region) (has_size other.region) (phys-parts one.region other.region p.2).0) p.1
+pair-second _ one other w h = absurd (false≢true w)
+
+-- and the two meet
+pub pair-meets : (rule : Rule) (one other : Spot) → pair_breaks rule one other ≡ true → spans_meet (span_of rule one.item one.region) (span_of rule other.item other.region) ≡ true
+unfolding pair_breaks
+pair-meets VirtOverlap one other h = (virt-parts one.region other.region (within-parts one other (virt_meet one.region other.region) h).2).1
+pair-meets PhysOverlap one other h = (phys-parts one.region other.region (share-parts one.region other.region (within-parts one other (share_places one.region other.region) h).2).2).1
+pair-meets SubpageTaken one other h =
+    (phys-parts one.region other.region (pages-parts one.region other.region (two-parts (not (one.cell == 0)) (other.cell == 0) (takes_pages one.region other.region) h).1).1).1
+pair-meets CellsOverlap one other h = (phys-parts one.region other.region (share-parts one.region other.region (overlap-share one other h)).2).1
+pair-meets _ one other h = absurd (false≢true h)
+
+-- where no two of their regions break it, nothing is found between two cells
+pub between-none : (rule : Rule) (a : ℕ) (one : CellConfig) (b : ℕ) (other : CellConfig) → ((r s : ℕ) (d : Region) → r < length one.memory_regions → s < length other.memory_regions → pair_breaks rule (spot a one r (get_or one.memory_regions r d)) (spot b other s (get_or other.memory_regions s d)) ≡ true → ⊥) → between rule a one b other ≡ []
+unfolding between beside only_if
+between-none rule a one b other h =
+    let none : Region = record { phys_start = 0; virt_start = 0; size = 0; flags = 0 } in
+    found-none0 (between_at rule a one b other) one.memory_regions none (λ r i.
+    found-none0 (beside_at rule (spot a one r (get_or one.memory_regions r none)) b other) other.memory_regions none (λ s j.
+    ap (λ t. only_if t (finding_of rule a r b s)) (false-from_not (pair_breaks rule (spot a one r (get_or one.memory_regions r none)) (spot b other s (get_or other.memory_regions s none))) (h r s none i j))))
+
+-- cells of which the rule doesn't speak
+pub between-apart : (rule : Rule) (a : ℕ) (one : CellConfig) (b : ℕ) (other : CellConfig) → joins rule a b ≡ false → between rule a one b other ≡ []
+between-apart rule a one b other e =
+    between-none rule a one b other (λ r s d i j t. not-both (joins rule a b) (pair-joins rule (spot a one r (get_or one.memory_regions r d)) (spot b other s (get_or other.memory_regions s d)) t) e)
+
+-- spans that are apart and meet are one
+pub span-same : (spans : List Span) (x y : Span) → AreApart spans → Contains spans x → Contains spans y → spans_meet x y ≡ true → x.item ≡ y.item
+span-same spans x y apart cx cy m =
+    let p = cx.0 in
+    let q = cy.0 in
+    let ey : get_or spans q x ≡ y = get_or_default spans q x y cy.1 ∙ cy.2 in
+    let first : x.start < y.end = ltb-true x.start y.end (and-left (nat_lt x.start y.end) (nat_lt y.start x.end) m) in
+    let second : y.start < x.end = ltb-true y.start x.end (and-right (nat_lt x.start y.end) (nat_lt y.start x.end) m) in
+    elim (cases_order p q) [
+      | inl e ↦ ap (λ (s : Span). s.item) (sym cx.2 ∙ ap (λ k. get_or spans k x) e ∙ ey)
+      | inr (inl h) ↦
+          let P : Span → Span → Type 0 = λ s t. s.end ≤ t.start in
+          let k : x.end ≤ y.start = subst (λ s. P s y) cx.2 (subst (λ t. P (get_or spans p x) t) ey (apart.apart p q x h cy.1)) in
+          absurd (omega arith)
+      | inr (inr h) ↦
+          let P : Span → Span → Type 0 = λ s t. s.end ≤ t.start in
+          let k : y.end ≤ x.start = subst (λ s. P s x) ey (subst (λ t. P (get_or spans q x) t) cx.2 (apart.apart q p x h cx.1)) in
+          absurd (omega arith)
+    ]
+
+meeting-same : (rule : Rule) (r s : ℕ) (x y : Region) (spans : List Span) → AreApart spans → Contains spans (span_of rule r x) → Contains spans (span_of rule s y) → spans_meet (span_of rule r x) (span_of rule s y) ≡ true → r ≡ s
+meeting-same VirtOverlap r s x y spans apart p q m = span-same spans (span_of VirtOverlap r x) (span_of VirtOverlap s y) apart p q m
+meeting-same PhysOverlap r s x y spans apart p q m = span-same spans (span_of PhysOverlap r x) (span_of PhysOverlap s y) apart p q m
+meeting-same rule r s x y spans apart p q m = span-same spans (span_of rule r x) (span_of rule s y) apart p q m
+
+-- one cell, whose regions are in an index
+pub between-indexed : (rule : Rule) (a : ℕ) (one : CellConfig) (spans : List Span) → is_within rule ≡ true → IsIndex rule one.memory_regions spans → between rule a one a one ≡ []
+between-indexed rule a one spans w index =
+    between-none rule a one a one (λ r s d i j t.
+    let x = get_or one.memory_regions r d in
+    let y = get_or one.memory_regions s d in
+    let o : nat_lt r s ≡ true = pair-order rule (spot a one r x) (spot a one s y) w t in
+    let m = pair-meets rule (spot a one r x) (spot a one s y) t in
+    let p = index.each r d i (pair-takes_part rule (spot a one r x) (spot a one s y) t) in
+    let q = index.each s d j (pair-second rule (spot a one r x) (spot a one s y) w t) in
+    let same : r ≡ s = meeting-same rule r s x y spans index.apart p q m in
+    let less : r < s = ltb-true r s o in
+    omega arith)
+
+-- another cell, none of whose regions meets the index of the one
+pub between-unmet : (rule : Rule) (a : ℕ) (one : CellConfig) (b : ℕ) (other : CellConfig) (spans : List Span) → IsIndex rule one.memory_regions spans → ((s : ℕ) (d : Region) (x : Span) → s < length other.memory_regions → Contains spans x → spans_meet x (span_of rule s (get_or other.memory_regions s d)) ≡ false) → between rule a one b other ≡ []
+between-unmet rule a one b other spans index h =
+    between-none rule a one b other (λ r s d i j t.
+    let x = get_or one.memory_regions r d in
+    let y = get_or other.memory_regions s d in
+    let p = pair-takes_part rule (spot a one r x) (spot b other s y) t in
+    not-both (spans_meet (span_of rule r x) (span_of rule s y)) (pair-meets rule (spot a one r x) (spot b other s y) t) (h s d (span_of rule r x) j (index.each r d i p)))
+
+-- cells that a rule about two regions of one cell joins are one
+pub joins-same : (rule : Rule) (a b : ℕ) → is_within rule ≡ true → joins rule a b ≡ true → a ≡ b
+joins-same VirtOverlap a b w h = eqb-true a b h
+joins-same PhysOverlap a b w h = eqb-true a b h
+joins-same _ a b w h = absurd (false≢true w)
+
+pub between-same : (rule : Rule) (a : ℕ) (one : CellConfig) (b : ℕ) (other : CellConfig) (spans : List Span) → is_within rule ≡ true → joins rule a b ≡ true → (a ≡ b → one ≡ other) → IsIndex rule one.memory_regions spans → between rule a one b other ≡ []
+between-same rule a one b other spans w h same index =
+    let e = joins-same rule a b w h in
+    subst (λ b. between rule a one b other ≡ []) e (subst (λ other. between rule a one a other ≡ []) (same e) (between-indexed rule a one spans w index))

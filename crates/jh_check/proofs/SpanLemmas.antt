@@ -1,0 +1,78 @@
+-- Spans that are apart, and a search among them.
+use Rattle.std.proofs.Common.{◌≡◌, ℕ, ◌+◌, ◌-◌, ◌<◌, ◌≤◌, Bool, true, false, ◌&&◌, nat_lt, List, length, get_or, refl, sym, ap, subst, ◌∙◌, inl, inr, arith}
+use Rattle.std.specs.List.{Contains, AllWithin}
+use Rattle.std.specs.List.Sorted.{IsPartitionedBy}
+use Rattle.std.proofs.lemmas.Bool.{ltb-true, lt-ltb, le-ltb, cases_eq, cases_lt}
+use Rattle.jh_check.specs.declared.spans.Span.{Span}
+use Rattle.jh_check.specs.Spans.{spans_meet, AreApartTo, AreApart}
+use Rattle.jh_check.proofs.BoolLemmas.{and-first, and-second}
+
+-- none is apart from nothing, and one more
+pub apart-none : (spans : List Span) → AreApartTo spans 0
+apart-none spans = record { ordered = λ i d h. absurd (omega arith); apart = λ i j d h k. absurd (omega arith) }
+
+pub apart-more : (spans : List Span) (k : ℕ) → AreApartTo spans k → ((d : Span) → (get_or spans k d).start ≤ (get_or spans k d).end) → ((d : Span) → 0 < k → (get_or spans (k - 1) d).end ≤ (get_or spans k d).start) → AreApartTo spans (k + 1)
+apart-more spans k before ordered apart =
+    record {
+      ordered = λ i d h. elim (cases_eq i k) [
+        | inl e ↦ subst (λ i. (get_or spans i d).start ≤ (get_or spans i d).end) (sym e) (ordered d)
+        | inr n ↦ before.ordered i d (omega arith)
+      ];
+      apart = λ i j d h l. elim (cases_eq j k) [
+        | inl e ↦
+            subst (λ j. (get_or spans i d).end ≤ (get_or spans j d).start) (sym e) (
+            elim (cases_eq i (k - 1)) [
+              | inl f ↦ subst (λ i. (get_or spans i d).end ≤ (get_or spans k d).start) (sym f) (apart d (omega arith))
+              | inr n ↦
+                  let a = before.apart i (k - 1) d (omega arith) (omega arith) in
+                  let b = before.ordered (k - 1) d (omega arith) in
+                  let c = apart d (omega arith) in
+                  omega arith
+            ])
+        | inr n ↦ before.apart i j d h (omega arith)
+      ];
+    }
+
+-- starts rise, and so do ends
+starts-rise : (spans : List Span) → AreApart spans → (i j : ℕ) (d : Span) → i ≤ j → j < length spans → (get_or spans i d).start ≤ (get_or spans j d).start
+starts-rise spans apart i j d h k =
+    elim (cases_eq i j) [
+      | inl e ↦ subst (λ j. (get_or spans i d).start ≤ (get_or spans j d).start) e (omega arith)
+      | inr n ↦
+          let a = apart.ordered i d (omega arith) in
+          let b = apart.apart i j d (omega arith) k in
+          omega arith
+    ]
+
+ends-rise : (spans : List Span) → AreApart spans → (i j : ℕ) (d : Span) → i ≤ j → j < length spans → (get_or spans i d).end ≤ (get_or spans j d).end
+ends-rise spans apart i j d h k =
+    elim (cases_eq i j) [
+      | inl e ↦ subst (λ j. (get_or spans i d).end ≤ (get_or spans j d).end) e (omega arith)
+      | inr n ↦
+          let a = apart.apart i j d (omega arith) k in
+          let b = apart.ordered j d k in
+          omega arith
+    ]
+
+pub apart-parted : (spans : List Span) (limit : ℕ) → AreApart spans → IsPartitionedBy (λ (span : Span). nat_lt span.start limit) spans
+apart-parted spans limit apart = λ i j d h k p.
+    let rise = starts-rise spans apart i j d h k in
+    let less = ltb-true (get_or spans j d).start limit p in
+    lt-ltb (get_or spans i d).start limit (omega arith)
+
+-- where the last that begins before a span's end ends before it begins, none meets it
+pub unmet : (spans : List Span) (other : Span) (n : ℕ) → AreApart spans → n ≤ length spans → AllWithin (λ (span : Span). nat_lt span.start other.end ≡ false) spans n (length spans) → ((d : Span) → 0 < n → (get_or spans (n - 1) d).end ≤ other.start) → (x : Span) → Contains spans x → spans_meet x other ≡ false
+unmet spans other n apart bound after last x cx =
+    let k = cx.0 in
+    elim (cases_lt k n) [
+      | inl h ↦
+          let a = ends-rise spans apart k (n - 1) x (omega arith) (omega arith) in
+          let b = last x (omega arith) in
+          let P : Span → Type 0 = λ s. s.end ≤ other.start in
+          let c : (get_or spans k x).end ≤ other.start = omega arith in
+          let e : x.end ≤ other.start = subst P cx.2 c in
+          and-second (nat_lt x.start other.end) (nat_lt other.start x.end) (le-ltb other.start x.end e)
+      | inr h ↦
+          let P : Span → Type 0 = λ s. nat_lt s.start other.end ≡ false in
+          and-first (nat_lt x.start other.end) (nat_lt other.start x.end) (subst P cx.2 (after k x h cx.1))
+    ]

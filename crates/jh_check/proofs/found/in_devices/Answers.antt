@@ -1,0 +1,24 @@
+use Rattle.std.proofs.Common.{◌≡◌, ◌+◌, ◌<◌, ◌++◌, length, get_or, refl, sym, subst, ap, ◌∙◌, arith}
+use Rattle.jh_check.specs.Cells.{cells_of}
+use Rattle.jh_check.specs.Lists.{capped}
+use Rattle.jh_check.specs.Findings.{in_devices, in_devices_at}
+use Rattle.jh_check.proofs.ListLemmas.{found-step, found-done}
+use Rattle.jh_check.proofs.found.in_devices.Goals as goal
+
+pub loop-a-init : goal.loop-a-init
+unfolding in_devices
+loop-a-init c = refl
+
+pub loop-a-preserved : goal.loop-a-preserved
+loop-a-preserved c =
+    let found = in_devices_at (cells_of c.args.setup.now) in
+    let all = cells_of c.args.setup.now in
+    let v = c.cell.ensures in
+    let h : c.loop-a.a < length all = omega arith in
+    let a = c.in_ok-in_devices_of.ensures in
+    let e : capped c.in_devices_of.new.found ≡ capped (c.loop-a.found ++ found c.loop-a.a (get_or all c.loop-a.a c.cell.result.now)) = cc in
+    found-step found all c.loop-a.a c.cell.result.now c.loop-a.found c.in_devices_of.new.found _ h e c.loop-a.invariant
+
+pub returns : goal.returns
+returns c =
+    found-done (in_devices_at (cells_of c.args.setup.now)) (cells_of c.args.setup.now) c.loop-a.a c.loop-a.found _ (omega arith) c.loop-a.invariant

@@ -1,0 +1,5 @@
+use Rattle.jh_check.specs.Spans.{AreApartTo}
+use Rattle.jh_check.proofs.spans.are_apart.Given as goal
+
+abbrev pub invariant-loop-k : goal.invariant-loop-k
+invariant-loop-k l = AreApartTo l.spans l.k

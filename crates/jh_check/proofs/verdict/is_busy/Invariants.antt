@@ -1,0 +1,13 @@
+use Rattle.std.proofs.Common.{◌≡◌, ◌++◌, [], ◌∷◌, drop}
+use Rattle.std.specs.List.{list_any}
+use Rattle.jh_check.specs.declared.rule.Rule.TheVariants.{CellsOverlap}
+use Rattle.jh_check.specs.Cells.{cells_of}
+use Rattle.jh_check.specs.Lists.{found_from}
+use Rattle.jh_check.specs.Findings.{from_cell, in_pairs}
+use Rattle.jh_check.specs.Verdicts.{is_busy}
+use Rattle.jh_check.proofs.verdict.is_busy.Given as goal
+
+abbrev pub invariant-loop-a : goal.invariant-loop-a
+invariant-loop-a l =
+    list_any (is_busy l.number) (found_from (from_cell CellsOverlap (cells_of l.setup ++ l.new ∷ [])) l.a (drop l.a (cells_of l.setup ++ l.new ∷ [])))
+    ≡ list_any (is_busy l.number) (in_pairs CellsOverlap (cells_of l.setup ++ l.new ∷ []))

@@ -1,0 +1,125 @@
+-- The findings of a system and its cells: by number, then cells, then regions. Root has the number 0, and the
+-- others follow in order; the hypervisor's memory is told as cell 16, after all.
+use Rattle.std.specs.Prelude.{ℕ, List, [], ◌∷◌, ◌++◌, take, min}
+use Rattle.jh_cellcfg.specs.declared.region.Region.{Region}
+use Rattle.jh_cellcfg.specs.declared.config.PciDevice.{PciDevice}
+use Rattle.jh_cellcfg.specs.declared.config.CellConfig.{CellConfig}
+use Rattle.jh_cellcfg.specs.declared.config.SystemConfig.{SystemConfig}
+use Rattle.jh_check.specs.declared.finding.Finding.{Finding}
+use Rattle.jh_check.specs.declared.rule.Rule.{Rule}
+use Rattle.jh_check.specs.declared.rule.Rule.TheVariants.{VirtOverlap, PhysOverlap, Hypervisor, OutOfRange, RootNotIdentity, CommInRoot, CommShape, ExecuteWithoutRead, SubpageTaken, CellsOverlap, Shmem, NoCpu, PhysAlign}
+use Rattle.jh_check.specs.Regions.{Spot, pair_breaks, region_breaks, hypervisor_breaks}
+use Rattle.jh_check.specs.Devices.{device_breaks, cpus_break}
+use Rattle.jh_check.specs.Lists.{found_from, only_if}
+
+abbrev pub number_of : Rule → ℕ
+number_of VirtOverlap = 1
+number_of PhysOverlap = 2
+number_of Hypervisor = 3
+number_of OutOfRange = 4
+number_of RootNotIdentity = 5
+number_of CommInRoot = 6
+number_of CommShape = 7
+number_of ExecuteWithoutRead = 8
+number_of SubpageTaken = 9
+number_of CellsOverlap = 10
+number_of Shmem = 11
+number_of NoCpu = 12
+number_of PhysAlign = 13
+
+-- the number of an item as a finding tells it: of 32 bits, and the last of these for all past it
+abbrev pub item_of : ℕ → ℕ
+item_of n = min n 0xffffffff
+
+unfoldable pub finding_of : Rule → ℕ → ℕ → ℕ → ℕ → Finding
+finding_of rule cell item other_cell other_item =
+    record { number = number_of rule; cell = cell; item = item_of item; other_cell = other_cell; other_item = item_of other_item }
+
+abbrev pub spot : ℕ → CellConfig → ℕ → Region → Spot
+spot cell config item region = record { cell = cell; config = config; item = item; region = region }
+
+-- a region of the one cell with each of the other's
+abbrev pub beside_at : Rule → Spot → ℕ → CellConfig → ℕ → Region → List Finding
+beside_at rule one b other s y = only_if (pair_breaks rule one (spot b other s y)) (finding_of rule one.cell one.item b s)
+
+unfoldable pub beside : Rule → Spot → ℕ → CellConfig → List Finding
+beside rule one b other = found_from (beside_at rule one b other) 0 other.memory_regions
+
+-- each region of the one cell with each of the other's
+abbrev pub between_at : Rule → ℕ → CellConfig → ℕ → CellConfig → ℕ → Region → List Finding
+between_at rule a one b other r x = beside rule (spot a one r x) b other
+
+unfoldable pub between : Rule → ℕ → CellConfig → ℕ → CellConfig → List Finding
+between rule a one b other = found_from (between_at rule a one b other) 0 one.memory_regions
+
+-- a rule about two regions: in order of the one cell, the other, the one's region, and the other's
+unfoldable pub from_cell : Rule → List CellConfig → ℕ → CellConfig → List Finding
+from_cell rule all a one = found_from (between rule a one) 0 all
+
+unfoldable pub in_pairs : Rule → List CellConfig → List Finding
+in_pairs rule all = found_from (from_cell rule all) 0 all
+
+-- a rule about one region
+abbrev pub in_cell_at : Rule → Region → ℕ → List Region → ℕ → Region → List Finding
+in_cell_at rule h a regions r x = only_if (region_breaks rule h a (take r regions) x) (finding_of rule a r 0 0)
+
+unfoldable pub in_cell : Rule → Region → ℕ → List Region → List Finding
+in_cell rule h a regions = found_from (in_cell_at rule h a regions) 0 regions
+
+abbrev pub in_regions_at : Rule → Region → ℕ → CellConfig → List Finding
+in_regions_at rule h a cell = in_cell rule h a cell.memory_regions
+
+unfoldable pub in_regions : Rule → Region → List CellConfig → List Finding
+in_regions rule h all = found_from (in_regions_at rule h) 0 all
+
+-- a rule about the hypervisor's memory
+unfoldable pub in_hypervisor : Rule → Region → List Finding
+in_hypervisor rule h = only_if (hypervisor_breaks rule h) (finding_of rule 16 0 0 0)
+
+-- the rule about a device; `lower` are the cells with lower numbers
+abbrev pub device_at : List CellConfig → ℕ → CellConfig → ℕ → PciDevice → List Finding
+device_at lower a cell n device = only_if (device_breaks lower cell (take n cell.pci_devices) device) (finding_of Shmem a n 0 0)
+
+unfoldable pub in_devices_of : List CellConfig → ℕ → CellConfig → List Finding
+in_devices_of lower a cell = found_from (device_at lower a cell) 0 cell.pci_devices
+
+abbrev pub in_devices_at : List CellConfig → ℕ → CellConfig → List Finding
+in_devices_at all a cell = in_devices_of (take a all) a cell
+
+unfoldable pub in_devices : List CellConfig → List Finding
+in_devices all = found_from (in_devices_at all) 0 all
+
+-- the rule about a cell's CPUs
+abbrev pub in_cpus_at : ℕ → CellConfig → List Finding
+in_cpus_at a cell = only_if (cpus_break cell.cpu_set) (finding_of NoCpu a 0 0 0)
+
+unfoldable pub in_cpus : List CellConfig → List Finding
+in_cpus all = found_from in_cpus_at 0 all
+
+-- what is found by one rule
+unfoldable pub found_by : Rule → Region → List CellConfig → List Finding
+found_by VirtOverlap h all = in_pairs VirtOverlap all
+found_by PhysOverlap h all = in_pairs PhysOverlap all
+found_by Hypervisor h all = in_regions Hypervisor h all
+found_by OutOfRange h all = in_regions OutOfRange h all ++ in_hypervisor OutOfRange h
+found_by RootNotIdentity h all = in_regions RootNotIdentity h all
+found_by CommInRoot h all = in_regions CommInRoot h all
+found_by CommShape h all = in_regions CommShape h all
+found_by ExecuteWithoutRead h all = in_regions ExecuteWithoutRead h all
+found_by SubpageTaken h all = in_pairs SubpageTaken all
+found_by CellsOverlap h all = in_pairs CellsOverlap all
+found_by Shmem h all = in_devices all
+found_by NoCpu h all = in_cpus all
+found_by PhysAlign h all = in_regions PhysAlign h all ++ in_hypervisor PhysAlign h
+
+-- the rules by their numbers
+abbrev pub rules_in_order : List Rule
+rules_in_order =
+    VirtOverlap ∷ PhysOverlap ∷ Hypervisor ∷ OutOfRange ∷ RootNotIdentity ∷ CommInRoot ∷ CommShape
+    ∷ ExecuteWithoutRead ∷ SubpageTaken ∷ CellsOverlap ∷ Shmem ∷ NoCpu ∷ PhysAlign ∷ []
+
+abbrev pub found_at : Region → List CellConfig → ℕ → Rule → List Finding
+found_at h all n rule = found_by rule h all
+
+unfoldable pub findings : SystemConfig → List CellConfig → List Finding
+findings system cells = found_from (found_at system.hypervisor_memory (system.root ∷ cells)) 0 rules_in_order

@@ -1,0 +1,6 @@
+-- A region where the program finds it.
+use Rattle.jh_check.specs.declared.pairs.Site.{Site}
+use Rattle.jh_check.specs.Regions.{Spot}
+
+abbrev pub spot_of : Site → Spot
+spot_of site = record { cell = site.cell; config = site.config.now; item = site.item; region = site.region.now }

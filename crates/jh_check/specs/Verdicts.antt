@@ -1,0 +1,32 @@
+-- What a new cell is refused for: by the findings of the system, the live cells and the new one that name the
+-- new one.
+use Rattle.std.specs.Prelude.{ℕ, ◌+◌, Bool, ◌&&◌, ◌||◌, not, ◌==◌, List, [], ◌∷◌, ◌++◌, length, if◌then◌else◌}
+use Rattle.std.specs.List.{list_any}
+use Rattle.jh_cellcfg.specs.declared.config.CellConfig.{CellConfig}
+use Rattle.jh_cellcfg.specs.declared.config.SystemConfig.{SystemConfig}
+use Rattle.jh_check.specs.declared.finding.Finding.{Finding}
+use Rattle.jh_check.specs.declared.verdict.NewCell.{NewCell}
+use Rattle.jh_check.specs.declared.verdict.NewCell.TheVariants.{Clean, Invalid, Busy}
+use Rattle.jh_check.specs.Findings.{findings}
+
+-- the finding is about that cell, which isn't root
+abbrev pub names : ℕ → Finding → Bool
+names cell finding = (finding.cell == cell) || (finding.other_cell == cell)
+
+-- it says that two cells have a place in common
+abbrev pub is_overlap : Finding → Bool
+is_overlap finding = finding.number == 10
+
+abbrev pub is_invalid : ℕ → Finding → Bool
+is_invalid cell finding = names cell finding && not (is_overlap finding)
+
+abbrev pub is_busy : ℕ → Finding → Bool
+is_busy cell finding = names cell finding && is_overlap finding
+
+abbrev pub verdict_by : Bool → Bool → NewCell
+verdict_by invalid busy = if invalid then Invalid else (if busy then Busy else Clean)
+
+unfoldable pub verdict_of : SystemConfig → List CellConfig → CellConfig → NewCell
+verdict_of system live new =
+    let all = findings system (live ++ new ∷ []) in
+    verdict_by (list_any (is_invalid (length live + 1)) all) (list_any (is_busy (length live + 1)) all)

@@ -1,0 +1,334 @@
+//! The rules of ivshmem devices, their links and their sections (ivshmem v2), and the rule of CPUs.
+ghost use Rattle.std.specs.Prelude.{◌≡◌, ◌==◌, ◌||◌, not, ◌≤◌, ◌<◌, length, take};
+ghost use Rattle.std.specs.List.{list_any, list_all};
+ghost use Rattle.jh_cellcfg.specs.Regions.{has_flags};
+ghost use Rattle.jh_check.specs.Cells.{cells_of};
+ghost use Rattle.jh_check.specs.Devices.{is_shmem, are_linked, section_count, is_section, are_sections_of, are_same_section, sections_of, has_good_peers, has_good_bars, has_all_sections, is_good_table, has_good_table, is_plain, are_read_only, are_alike, follows, are_in_a_row, is_twice, is_same_memory, are_same_memory, agrees_with, agrees_with_all, has_good_sections, is_good_shmem, device_breaks, is_zero, cpus_break};
+
+use crate::regions::virt_end;
+use crate::setup::Setup;
+use jh_cellcfg::{CellConfig, PciDevice, Region, RegionFlags};
+
+/// The kind of ivshmem devices.
+const SHMEM: u8 = 3;
+
+const PAGE_BAR: u32 = 0xffff_f000;
+
+const VECTORS_BAR: u32 = 0xffff_fe00;
+
+fn is_shmem(device: &PciDevice) -> bool
+    ensures { result ≡ is_shmem device.now }
+{
+    device.kind == SHMEM
+}
+
+/// Whether the devices, which are of different cells, are linked.
+fn are_linked(one: &PciDevice, other: &PciDevice) -> bool
+    ensures { result ≡ are_linked one.now other.now }
+{
+    is_shmem(one) && is_shmem(other) && one.bdf == other.bdf
+}
+
+/// How many sections the device has.
+fn section_count(device: &PciDevice) -> usize
+    ensures value { result ≡ section_count device.now }
+    ensures bound { result < 258 }
+{
+    2 + usize::from(device.shmem_peers)
+}
+
+/// Whether the region of that number is one of its sections.
+fn is_section(device: &PciDevice, item: usize) -> bool
+    ensures { result ≡ is_section device.now item }
+{
+    let start = device.shmem_regions_start as usize;
+    start <= item && item - start < section_count(device)
+}
+
+/// Whether the regions of those numbers are sections of the two devices at the same offset, and the
+/// devices are linked.
+fn are_sections_of(item: usize, other_item: usize, one: &PciDevice, other: &PciDevice) -> bool
+    ensures { result ≡ are_sections_of item other_item one.now other.now }
+{
+    are_linked(one, other)
+        && is_section(one, item)
+        && is_section(other, other_item)
+        && item - one.shmem_regions_start as usize
+            == other_item - other.shmem_regions_start as usize
+}
+
+/// Whether the other region is a section of one of these devices at the same offset.
+fn any_section(item: usize, one: &PciDevice, other_item: usize, others: &[PciDevice]) -> bool
+    ensures { result ≡ list_any (λ e. are_sections_of item other_item one.now e) others.now }
+{
+    others
+        .iter()
+        .any(|other| are_sections_of(item, other_item, one, other))
+}
+
+/// Whether the region of the one cell and that of the other are sections at the same offset of two
+/// linked devices.
+#[tactic(auto, unfolding(crate::specs::Devices::are_same_section))]
+pub(crate) fn are_same_section(
+    one: &CellConfig,
+    item: usize,
+    other: &CellConfig,
+    other_item: usize,
+) -> bool
+    ensures { result ≡ are_same_section one.now item other.now other_item }
+{
+    one.pci_devices.as_slice().iter().any(|device| any_section(
+        item,
+        device,
+        other_item,
+        other.pci_devices.as_slice(),
+    ))
+}
+
+/// Those of the device's sections that exist.
+fn sections_of<'a>(regions: &'a [Region], device: &PciDevice) -> &'a [Region]
+    ensures { result.now ≡ sections_of regions.now device.now }
+{
+    let start = (device.shmem_regions_start as usize).min(regions.len());
+    let rest = &regions[start..];
+    &rest[..section_count(device).min(rest.len())]
+}
+
+fn has_good_peers(device: &PciDevice) -> bool
+    ensures { result ≡ has_good_peers device.now }
+{
+    2 <= device.shmem_peers && device.shmem_peers <= 16 && device.shmem_dev_id < device.shmem_peers
+}
+
+fn has_good_bars(device: &PciDevice) -> bool
+    ensures { result ≡ has_good_bars device.now }
+{
+    let vectors = if device.num_msix_vectors == 0 {
+        0
+    } else {
+        VECTORS_BAR
+    };
+    device.num_msix_vectors <= 16 && device.bar_mask == [PAGE_BAR, vectors, 0, 0, 0, 0]
+}
+
+fn has_all_sections(regions: &[Region], device: &PciDevice) -> bool
+    ensures { result ≡ has_all_sections regions.now device.now }
+{
+    device.shmem_regions_start as usize + section_count(device) <= regions.len()
+}
+
+fn is_good_table(region: &Region) -> bool
+    ensures { result ≡ is_good_table region.now }
+{
+    4096 <= region.size
+        && region.size <= 65_536
+        && region.has(RegionFlags::READ)
+        && !region.has(RegionFlags::WRITE)
+}
+
+fn has_good_table(sections: &[Region]) -> bool
+    ensures { result ≡ has_good_table sections.now }
+{
+    match sections {
+        [table, ..] => is_good_table(table),
+        [] => false,
+    }
+}
+
+fn is_plain(region: &Region) -> bool
+    ensures { result ≡ is_plain region.now }
+{
+    !region.is_comm() && !region.is_loadable() && region.is_page_mapped()
+}
+
+fn are_plain(sections: &[Region]) -> bool
+    ensures { result ≡ list_all is_plain sections.now }
+{
+    sections.iter().all(is_plain)
+}
+
+/// Whether the output section of that peer is the device's own, or can't be written.
+fn is_read_only(own: u8, peer: usize, section: &Region) -> bool
+    ensures { result ≡ (peer == own || not (has_flags 0x2 section.now)) }
+{
+    peer == usize::from(own) || !section.has(RegionFlags::WRITE)
+}
+
+/// Whether the output sections of other peers can't be written.
+fn are_read_only(own: u8, sections: &[Region]) -> bool
+    ensures { result ≡ are_read_only own 0 sections.now }
+{
+    for (peer, section) in sections.iter().enumerate() {
+        if !is_read_only(own, peer, section) {
+            return false;
+        }
+    }
+    true
+}
+
+/// Whether all have that size.
+fn are_sized(size: u64, sections: &[Region]) -> bool
+    ensures { result ≡ list_all (λ section. section.size == size) sections.now }
+{
+    sections.iter().all(|section| section.size == size)
+}
+
+/// Whether all are of one size.
+fn are_alike(sections: &[Region]) -> bool
+    ensures { result ≡ are_alike sections.now }
+{
+    match sections {
+        [first, others @ ..] => are_sized(first.size, others),
+        [] => true,
+    }
+}
+
+/// Whether each section that has a size begins where the one before it ended, from `end` on.
+fn follows(mut end: u128, sections: &[Region]) -> bool
+    ensures { result ≡ follows end sections.now }
+{
+    for section in sections {
+        if section.size == 0 {
+            continue;
+        }
+        if u128::from(section.virt_start) != end {
+            return false;
+        }
+        end = virt_end(section);
+    }
+    true
+}
+
+/// Whether those that have a size follow each other without a gap.
+fn are_in_a_row(sections: &[Region]) -> bool
+    ensures { result ≡ are_in_a_row sections.now }
+{
+    for (i, section) in sections.iter().enumerate() {
+        if section.size > 0 {
+            return follows(virt_end(section), &sections[i + 1..]);
+        }
+    }
+    true
+}
+
+/// Whether an earlier ivshmem device of the cell has its number.
+fn is_twice(earlier: &[PciDevice], device: &PciDevice) -> bool
+    ensures { result ≡ is_twice earlier.now device.now }
+{
+    earlier
+        .iter()
+        .any(|other| is_shmem(other) && other.bdf == device.bdf)
+}
+
+fn is_same_memory(one: &Region, other: &Region) -> bool
+    ensures { result ≡ is_same_memory one.now other.now }
+{
+    one.size == other.size && (one.size == 0 || one.phys_start == other.phys_start)
+}
+
+/// Whether all at the same offset are the same memory.
+fn are_same_memory(ones: &[Region], others: &[Region]) -> bool
+    ensures { result ≡ are_same_memory ones.now others.now }
+{
+    if ones.len() != others.len() {
+        return false;
+    }
+    for i in 0..ones.len() {
+        if !is_same_memory(&ones[i], &others[i]) {
+            return false;
+        }
+    }
+    true
+}
+
+/// Whether a device of another cell fits this one, if they are linked.
+fn agrees_with(
+    regions: &[Region],
+    device: &PciDevice,
+    other_regions: &[Region],
+    other: &PciDevice,
+) -> bool
+    ensures { result ≡ agrees_with regions.now device.now other_regions.now other.now }
+{
+    !are_linked(device, other)
+        || device.shmem_peers == other.shmem_peers
+            && device.shmem_dev_id != other.shmem_dev_id
+            && are_same_memory(
+                sections_of(regions, device),
+                sections_of(other_regions, other),
+            )
+}
+
+/// Whether each device of a cell with a lower number does.
+fn agrees_with_cell(regions: &[Region], device: &PciDevice, cell: &CellConfig) -> bool
+    ensures { result ≡ list_all (λ other. agrees_with regions.now device.now cell.now.memory_regions other) cell.now.pci_devices }
+{
+    cell.pci_devices.as_slice().iter().all(|other| agrees_with(
+        regions,
+        device,
+        cell.memory_regions.as_slice(),
+        other,
+    ))
+}
+
+/// Whether each device of each cell with a lower number than that does.
+fn agrees_with_lower(setup: &Setup, number: u32, regions: &[Region], device: &PciDevice) -> bool
+    requires { number ≤ length (cells_of setup.now) }
+    ensures { result ≡ agrees_with_all (take number (cells_of setup.now)) regions.now device.now }
+{
+    for lower in 0..number {
+        if !agrees_with_cell(regions, device, setup.cell(lower)) {
+            return false;
+        }
+    }
+    true
+}
+
+/// Whether the sections are as they must be in the device's own cell.
+fn has_good_sections(device: &PciDevice, sections: &[Region]) -> bool
+    ensures { result ≡ has_good_sections device.now sections.now }
+{
+    let outputs = &sections[sections.len().min(2)..];
+    has_good_table(sections)
+        && are_plain(sections)
+        && are_read_only(device.shmem_dev_id, outputs)
+        && are_alike(outputs)
+        && are_in_a_row(sections)
+}
+
+/// Whether the device is an ivshmem device that breaks a rule. It is of `cell`, which has that number;
+/// `earlier` are the devices before it there.
+#[tactic(auto, unfolding(crate::specs::Devices::device_breaks))]
+pub(crate) fn device_breaks(
+    setup: &Setup,
+    number: u32,
+    cell: &CellConfig,
+    earlier: &[PciDevice],
+    device: &PciDevice,
+) -> bool
+    requires { number ≤ length (cells_of setup.now) }
+    ensures { result ≡ device_breaks (take number (cells_of setup.now)) cell.now earlier.now device.now }
+{
+    let regions = cell.memory_regions.as_slice();
+    is_shmem(device)
+        && !(has_good_peers(device)
+            && has_good_bars(device)
+            && has_all_sections(regions, device)
+            && has_good_sections(device, sections_of(regions, device))
+            && !is_twice(earlier, device)
+            && agrees_with_lower(setup, number, regions, device))
+}
+
+fn are_zero(bytes: &[u8]) -> bool
+    ensures { result ≡ list_all is_zero bytes.now }
+{
+    bytes.iter().all(|byte| *byte == 0)
+}
+
+/// Whether the bitmap names no CPU, or one above 15.
+#[tactic(auto, unfolding(crate::specs::Devices::cpus_break))]
+pub(crate) fn cpus_break(set: &[u8]) -> bool
+    ensures { result ≡ cpus_break set.now }
+{
+    are_zero(set) || !are_zero(&set[set.len().min(2)..])
+}

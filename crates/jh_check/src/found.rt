@@ -1,0 +1,190 @@
+//! What is found, in its order.
+ghost use Rattle.std.specs.Prelude.{◌≡◌, ◌≤◌, ◌<◌, ◌++◌, length, take, OnOk, [], ◌∷◌};
+ghost use Rattle.jh_check.specs.Cells.{cells_of};
+ghost use Rattle.jh_check.specs.Sites.{spot_of};
+ghost use Rattle.jh_check.specs.Lists.{capped, only_if};
+ghost use Rattle.jh_check.specs.Regions.{pair_breaks, hypervisor_breaks};
+ghost use Rattle.jh_check.specs.Findings.{item_of, finding_of, beside, between, from_cell, in_pairs, in_cell, in_regions, in_hypervisor, in_devices_of, in_devices, in_cpus};
+
+use crate::checking::MAX_FINDINGS;
+use crate::devices::{cpus_break, device_breaks};
+use crate::finding::{Finding, HYPERVISOR};
+use crate::pairs::{Site, pair_breaks};
+use crate::regions::{hypervisor_breaks, region_breaks};
+use crate::rule::Rule;
+use crate::setup::Setup;
+use jh_cellcfg::{CellConfig, Region};
+use jh_num::{NoMemory, Seq};
+use std::alloc::Global;
+
+/// The number of an item as a finding tells it.
+fn item_of(n: usize) -> u32
+    ensures { result ≡ item_of n }
+{
+    n.min(u32::MAX as usize) as u32
+}
+
+#[tactic(auto, unfolding(crate::specs::Findings::finding_of))]
+fn finding(rule: Rule, cell: u32, item: usize, other_cell: u32, other_item: usize) -> Finding
+    ensures { result ≡ finding_of rule cell item other_cell other_item }
+{
+    Finding {
+        number: rule.number(),
+        cell,
+        item: item_of(item),
+        other_cell,
+        other_item: item_of(other_item),
+    }
+}
+
+/// Appends the finding where there is room for one.
+fn push(found: &mut Seq<Finding>, finding: Finding) -> Result<(), NoMemory>
+    ensures { OnOk result (capped found.new ≡ capped (found.old ++ finding ∷ [])) }
+{
+    if found.len() >= MAX_FINDINGS {
+        return Ok(());
+    }
+    found.push(finding)?;
+    Ok(())
+}
+
+/// Appends the finding where the test says so and there is room for one.
+#[tactic(auto, using(crate::proofs::ListLemmas::append_nil), unfolding(crate::specs::Lists::only_if))]
+fn put(found: &mut Seq<Finding>, test: bool, finding: Finding) -> Result<(), NoMemory>
+    ensures { OnOk result (capped found.new ≡ capped (found.old ++ only_if test finding)) }
+{
+    if test { push(found, finding) } else { Ok(()) }
+}
+
+/// A region with each of another cell.
+fn beside(
+    found: &mut Seq<Finding>,
+    rule: Rule,
+    one: &Site,
+    b: u32,
+    other: &CellConfig,
+) -> Result<(), NoMemory>
+    ensures { OnOk result (capped found.new ≡ capped (found.old ++ beside rule (spot_of one.now) b other.now)) }
+{
+    for (s, region) in other.memory_regions.as_slice().iter().enumerate() {
+        let second = Site {
+            cell: b,
+            config: other,
+            item: s,
+            region,
+        };
+        let breaks = pair_breaks(rule, one, &second);
+        put(found, breaks, finding(rule, one.cell, one.item, b, s))?;
+    }
+    Ok(())
+}
+
+/// Each region of a cell with each of another.
+pub(crate) fn between(
+    found: &mut Seq<Finding>,
+    rule: Rule,
+    a: u32,
+    one: &CellConfig,
+    b: u32,
+    other: &CellConfig,
+) -> Result<(), NoMemory>
+    ensures { OnOk result (capped found.new ≡ capped (found.old ++ between rule a one.now b other.now)) }
+{
+    for (r, region) in one.memory_regions.as_slice().iter().enumerate() {
+        let first = Site {
+            cell: a,
+            config: one,
+            item: r,
+            region,
+        };
+        beside(found, rule, &first, b, other)?;
+    }
+    Ok(())
+}
+
+/// Each region of a cell by a rule about one.
+fn in_cell(
+    found: &mut Seq<Finding>,
+    rule: Rule,
+    hypervisor: &Region,
+    a: u32,
+    regions: &[Region],
+) -> Result<(), NoMemory>
+    ensures { OnOk result (capped found.new ≡ capped (found.old ++ in_cell rule hypervisor.now a regions.now)) }
+{
+    for (r, region) in regions.iter().enumerate() {
+        let breaks = region_breaks(rule, hypervisor, a, &regions[..r], region);
+        put(found, breaks, finding(rule, a, r, 0, 0))?;
+    }
+    Ok(())
+}
+
+/// Each region of all cells by such a rule.
+pub(crate) fn in_regions(
+    found: &mut Seq<Finding>,
+    rule: Rule,
+    setup: &Setup,
+) -> Result<(), NoMemory>
+    requires { length setup.now.cells.now ≤ 15 }
+    ensures { OnOk result (capped found.new ≡ capped (found.old ++ in_regions rule setup.now.hypervisor.now (cells_of setup.now))) }
+{
+    for a in 0..setup.count() {
+        let regions = setup.cell(a).memory_regions.as_slice();
+        in_cell(found, rule, setup.hypervisor, a, regions)?;
+    }
+    Ok(())
+}
+
+/// The hypervisor's memory.
+#[tactic(auto, unfolding(crate::specs::Findings::in_hypervisor))]
+pub(crate) fn in_hypervisor(
+    found: &mut Seq<Finding>,
+    rule: Rule,
+    setup: &Setup,
+) -> Result<(), NoMemory>
+    ensures { OnOk result (capped found.new ≡ capped (found.old ++ in_hypervisor rule setup.now.hypervisor.now)) }
+{
+    let breaks = hypervisor_breaks(rule, setup.hypervisor);
+    put(found, breaks, finding(rule, HYPERVISOR, 0, 0, 0))
+}
+
+/// Each device of a cell.
+fn in_devices_of(
+    found: &mut Seq<Finding>,
+    setup: &Setup,
+    a: u32,
+    cell: &CellConfig,
+) -> Result<(), NoMemory>
+    requires { a ≤ length (cells_of setup.now) }
+    ensures { OnOk result (capped found.new ≡ capped (found.old ++ in_devices_of (take a (cells_of setup.now)) a cell.now)) }
+{
+    let devices = cell.pci_devices.as_slice();
+    for (n, device) in devices.iter().enumerate() {
+        let breaks = device_breaks(setup, a, cell, &devices[..n], device);
+        put(found, breaks, finding(Rule::Shmem, a, n, 0, 0))?;
+    }
+    Ok(())
+}
+
+/// Each device of all cells.
+pub(crate) fn in_devices(found: &mut Seq<Finding>, setup: &Setup) -> Result<(), NoMemory>
+    requires { length setup.now.cells.now ≤ 15 }
+    ensures { OnOk result (capped found.new ≡ capped (found.old ++ in_devices (cells_of setup.now))) }
+{
+    for a in 0..setup.count() {
+        in_devices_of(found, setup, a, setup.cell(a))?;
+    }
+    Ok(())
+}
+
+/// The CPUs of all cells.
+pub(crate) fn in_cpus(found: &mut Seq<Finding>, setup: &Setup) -> Result<(), NoMemory>
+    requires { length setup.now.cells.now ≤ 15 }
+    ensures { OnOk result (capped found.new ≡ capped (found.old ++ in_cpus (cells_of setup.now))) }
+{
+    for a in 0..setup.count() {
+        let breaks = cpus_break(setup.cell(a).cpu_set.as_slice());
+        put(found, breaks, finding(Rule::NoCpu, a, 0, 0, 0))?;
+    }
+    Ok(())
+}

@@ -1,0 +1,66 @@
+//! The rules about two regions.
+ghost use Rattle.std.specs.Prelude.{◌≡◌};
+ghost use Rattle.jh_check.specs.Sites.{spot_of};
+ghost use Rattle.jh_check.specs.Regions.{share_places, takes_pages, both_shared, pair_breaks};
+
+use crate::devices::are_same_section;
+use crate::regions::{phys_meet, virt_meet};
+use crate::rule::Rule;
+use jh_cellcfg::{CellConfig, Region, RegionFlags};
+
+/// A region in its place: the cell, and the region's number there.
+#[derive(Clone, Copy)]
+pub(crate) struct Site<'a> {
+    pub(crate) cell: u32,
+    pub(crate) config: &'a CellConfig,
+    pub(crate) item: usize,
+    pub(crate) region: &'a Region,
+}
+
+/// Whether neither is a communication region and a place is in both.
+fn share_places(one: &Region, other: &Region) -> bool
+    ensures { result ≡ share_places one.now other.now }
+{
+    !one.is_comm() && !other.is_comm() && phys_meet(one, other)
+}
+
+/// Whether the one is an unshared subpage region with a place of the other's pages.
+fn takes_pages(one: &Region, other: &Region) -> bool
+    ensures { result ≡ takes_pages one.now other.now }
+{
+    one.is_unshared() && !one.is_page_mapped() && other.is_page_mapped() && phys_meet(one, other)
+}
+
+fn both_shared(one: &Region, other: &Region) -> bool
+    ensures { result ≡ both_shared one.now other.now }
+{
+    one.has(RegionFlags::ROOTSHARED) && other.has(RegionFlags::ROOTSHARED)
+}
+
+/// Whether the two regions break the rule, which is about two.
+#[tactic(auto, unfolding(crate::specs::Regions::pair_breaks))]
+pub(crate) fn pair_breaks(rule: Rule, one: &Site, other: &Site) -> bool
+    ensures { result ≡ pair_breaks rule (spot_of one.now) (spot_of other.now) }
+{
+    match rule {
+        Rule::VirtOverlap => {
+            one.cell == other.cell && one.item < other.item && virt_meet(one.region, other.region)
+        }
+        Rule::PhysOverlap => {
+            one.cell == other.cell
+                && one.item < other.item
+                && share_places(one.region, other.region)
+        }
+        Rule::SubpageTaken => {
+            one.cell != 0 && other.cell == 0 && takes_pages(one.region, other.region)
+        }
+        Rule::CellsOverlap => {
+            0 < one.cell
+                && one.cell < other.cell
+                && share_places(one.region, other.region)
+                && !both_shared(one.region, other.region)
+                && !are_same_section(one.config, one.item, other.config, other.item)
+        }
+        _ => false,
+    }
+}

@@ -1,0 +1,84 @@
+//! The rules by number.
+ghost use Rattle.std.specs.Prelude.{◌≡◌, ◌<◌, length, slice_index_or};
+ghost use Rattle.jh_check.specs.Findings.{rules_in_order};
+ghost use Rattle.jh_check.specs.declared.rule.Rule.TheVariants.{VirtOverlap};
+
+/// The rules of the check. Each speaks of one or two regions, of one device, or of a cell's CPUs.
+#[derive(Clone, Copy, PartialEq, Eq, Debug)]
+pub(crate) enum Rule {
+    /// Two regions of a cell have an address in common.
+    VirtOverlap,
+    /// Two regions of a cell have a place in common.
+    PhysOverlap,
+    /// A region has a place of the hypervisor's memory.
+    Hypervisor,
+    /// A region, or the hypervisor's memory, ends past the last address.
+    OutOfRange,
+    /// A region of root isn't mapped to itself.
+    RootNotIdentity,
+    /// Root has a communication region.
+    CommInRoot,
+    /// A communication region isn't one page, or isn't the first.
+    CommShape,
+    /// A region may be executed and not read.
+    ExecuteWithoutRead,
+    /// A cell's subpage region takes a part of root's pages.
+    SubpageTaken,
+    /// Two cells hold a place.
+    CellsOverlap,
+    /// An ivshmem device breaks a rule of its own.
+    Shmem,
+    /// A cell has no CPU, or one that no board has.
+    NoCpu,
+    /// Whole pages of addresses have places that aren't.
+    PhysAlign,
+}
+
+/// The rules in the order of their numbers, from 1 on.
+pub(crate) const RULES: [Rule; 13] = [
+    Rule::VirtOverlap,
+    Rule::PhysOverlap,
+    Rule::Hypervisor,
+    Rule::OutOfRange,
+    Rule::RootNotIdentity,
+    Rule::CommInRoot,
+    Rule::CommShape,
+    Rule::ExecuteWithoutRead,
+    Rule::SubpageTaken,
+    Rule::CellsOverlap,
+    Rule::Shmem,
+    Rule::NoCpu,
+    Rule::PhysAlign,
+];
+
+/// The rule that stands at that place of the order.
+pub(crate) fn rule_at(place: usize) -> Rule
+    requires { place < length rules_in_order }
+    ensures { result ≡ slice_index_or rules_in_order place VirtOverlap }
+{
+    RULES[place]
+}
+
+impl Rule {
+    ghost use Rattle.jh_check.specs.Findings.{number_of};
+
+    pub(crate) fn number(&self) -> u8
+        ensures { result ≡ number_of self.now }
+    {
+        match self {
+            Rule::VirtOverlap => 1,
+            Rule::PhysOverlap => 2,
+            Rule::Hypervisor => 3,
+            Rule::OutOfRange => 4,
+            Rule::RootNotIdentity => 5,
+            Rule::CommInRoot => 6,
+            Rule::CommShape => 7,
+            Rule::ExecuteWithoutRead => 8,
+            Rule::SubpageTaken => 9,
+            Rule::CellsOverlap => 10,
+            Rule::Shmem => 11,
+            Rule::NoCpu => 12,
+            Rule::PhysAlign => 13,
+        }
+    }
+}

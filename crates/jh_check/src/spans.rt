@@ -1,0 +1,120 @@
+//! An index of a cell's regions, by which pairs that can't break a rule are told at once.
+ghost use Rattle.std.specs.Prelude.{◌≡◌, ◌-◌, ◌<◌, ◌≤◌, true, false, length, slice_index_or, OnOk, IfOk, IfSome, Contains};
+ghost use Rattle.jh_check.specs.declared.spans.Span.{Span};
+ghost use Rattle.jh_check.specs.Spans.{takes_part, span_of, spans_meet, HasEach, AreApart, IsIndex};
+
+use crate::regions::{phys_end, virt_end};
+use crate::rule::Rule;
+use jh_cellcfg::Region;
+use jh_num::NoMemory;
+use std::alloc::Global;
+
+/// The addresses or places of the region with that number: from `start` on, below `end`.
+#[derive(Clone, Copy, PartialEq, Eq, Debug)]
+pub(crate) struct Span {
+    pub(crate) start: u64,
+    pub(crate) end: u128,
+    pub(crate) item: usize,
+}
+
+/// Whether the region may break the rule as the one of a pair.
+fn takes_part(rule: Rule, region: &Region) -> bool
+    ensures { result ≡ takes_part rule region.now }
+{
+    match rule {
+        Rule::SubpageTaken => {
+            region.size > 0 && region.is_unshared() && !region.is_page_mapped()
+        }
+        Rule::PhysOverlap => region.size > 0 && !region.is_comm(),
+        Rule::CellsOverlap => region.size > 0 && !region.is_comm(),
+        _ => region.size > 0,
+    }
+}
+
+/// What the rule compares of the region.
+pub(crate) fn span_of(rule: Rule, item: usize, region: &Region) -> Span
+    ensures { result ≡ span_of rule item region.now }
+{
+    match rule {
+        Rule::VirtOverlap => Span {
+            start: region.virt_start,
+            end: virt_end(region),
+            item,
+        },
+        _ => Span {
+            start: region.phys_start,
+            end: phys_end(region),
+            item,
+        },
+    }
+}
+
+/// Appends the region's span if the region takes part.
+fn push(spans: &mut Vec<Span>, rule: Rule, item: usize, region: &Region) -> Result<(), NoMemory>
+    ensures kept { (x : Span) → Contains spans.old.items x → Contains spans.new.items x }
+    ensures has { OnOk result (takes_part rule region.now ≡ true → Contains spans.new.items (span_of rule item region.now)) }
+{
+    if takes_part(rule, region) {
+        spans.push(span_of(rule, item, region))?;
+    }
+    Ok(())
+}
+
+/// The spans of the regions that take part, in the order of their starts.
+fn sorted(alloc: Global, rule: Rule, regions: &[Region]) -> Result<Vec<Span>, NoMemory>
+    ensures { IfOk result (λ spans. HasEach rule regions.now spans.items) }
+{
+    let mut spans = Vec::new(alloc);
+    for (item, region) in regions.iter().enumerate() {
+        push(&mut spans, rule, item, region)?;
+    }
+    spans.sort_unstable_by_key(|span| span.start);
+    Ok(spans)
+}
+
+/// Whether the span of that number ends behind its start, and begins behind the one before it.
+fn is_behind(spans: &[Span], k: usize) -> bool
+    requires { k < length spans.now }
+    ensures ordered { result ≡ true → (d : Span) → (slice_index_or spans.now k d).start ≤ (slice_index_or spans.now k d).end }
+    ensures apart { result ≡ true → (d : Span) → 0 < k → (slice_index_or spans.now (k - 1) d).end ≤ (slice_index_or spans.now k d).start }
+{
+    let start = u128::from(spans[k].start);
+    start <= spans[k].end && (k == 0 || spans[k - 1].end <= start)
+}
+
+/// Whether each ends before those behind it begin.
+fn are_apart(spans: &[Span]) -> bool
+    ensures { result ≡ true → AreApart spans.now }
+{
+    for k in 0..spans.len() {
+        if !is_behind(spans, k) {
+            return false;
+        }
+    }
+    true
+}
+
+/// The index by that rule, unless regions that take part meet each other.
+pub(crate) fn index(
+    alloc: Global,
+    rule: Rule,
+    regions: &[Region],
+) -> Result<Option<Vec<Span>>, NoMemory>
+    ensures { IfOk result (λ index. IfSome index (λ spans. IsIndex rule regions.now spans.items)) }
+{
+    let spans = sorted(alloc, rule, regions)?;
+    if are_apart(spans.as_slice()) {
+        Ok(Some(spans))
+    } else {
+        Ok(None)
+    }
+}
+
+/// Whether one of the spans that are apart may meet that one; only then may it be told so.
+pub(crate) fn may_meet(spans: &[Span], other: Span) -> bool
+    requires { AreApart spans.now }
+    ensures { (x : Span) → Contains spans.now x → result ≡ false → spans_meet x other ≡ false }
+{
+    let n = spans.partition_point(|span| u128::from(span.start) < other.end);
+    n > 0 && spans[n - 1].end > u128::from(other.start)
+}
