@@ -1,10 +1,10 @@
 -- What loops over a JSON value's members and items have seen.
-use Rattle.std.proofs.Common.{◌≡◌, ℕ, ◌+◌, ◌<◌, ◌≤◌, List, [], ◌∷◌, ◌++◌, Bool, true, false, ◌&&◌, ◌||◌, not, length, get_or, take, drop, map, nat_eq, Option, Some, None, option_map, Bor, refl, sym, ap, ◌∙◌, append_assoc, arith}
+use Rattle.std.proofs.Common.{◌≡◌, ℕ, ◌+◌, ◌-◌, ◌<◌, ◌≤◌, length-drop, List, [], ◌∷◌, ◌++◌, Bool, true, false, ◌&&◌, ◌||◌, not, length, get_or, take, drop, map, nat_eq, Option, Some, None, option_map, Bor, refl, sym, ap, ◌∙◌, append_assoc, arith}
 use Rattle.std.specs.Prelude.{String, string_bytes, if◌then◌else◌, option_and_then}
 use Rattle.std.specs.declared.alloc.Global.{Global}
 use Rattle.std.specs.List.{list_any}
 use Rattle.std.specs.Cmp.Lexicographic.{pointwise}
-use Rattle.std.proofs.lemmas.List.{at_drop_more, at_drop_all, append-nil}
+use Rattle.std.proofs.lemmas.List.{at_drop_more, at_drop_all, append-nil, take_all}
 use Rattle.serde_json.specs.Data.{Data, Items, no_items, item}
 use Rattle.serde_json.specs.declared.value.Value.{Value}
 use Rattle.serde_json.specs.View.{view, items_view, members_view}
@@ -100,3 +100,6 @@ distinct-at files i file lt is =
 pub distinct-end : (files : List ProgramFile) (i : ℕ) → length files ≤ i → are_distinct (map seat_of (drop i files)) ≡ true
 unfolding are_distinct
 distinct-end files i le = at_drop_all (λ fs. are_distinct (map seat_of fs)) files i le
+
+pub later-is : (files : List ProgramFile) (i : ℕ) → i < length files → take (length files - (i + 1)) (drop (i + 1) files) ≡ drop (i + 1) files
+later-is files i lt = take_all (length files - (i + 1)) (drop (i + 1) files) (omega (arith, length-drop (i + 1) files))

@@ -85,7 +85,9 @@ fn object(alloc: Global, bytes: &[u8]) -> Result<Value, BoardFault>
 /// What an object's members tell.
 #[tactic(auto, unfolding(crate::specs::Boards::object_told))]
 fn members(alloc: Global, object: &Value) -> Result<Listing, BoardFault>
-    ensures { Answers (object_told (view object.now)) result }
+    ensures told { Answers (object_told (view object.now)) result }
+    ensures few { IfOk result (λ listing. length listing.preloads ≤ 64) }
+    ensures distinct { IfOk result (λ listing. are_distinct (map seat_of listing.programs) ≡ true) }
 {
     let Some(system) = text_at(object, "system") else {
         return Err(fault_of(alloc, "system"));

@@ -1,5 +1,5 @@
 //! A board's lists.
-ghost use Rattle.std.specs.Prelude.{◌≡◌, IfOk, Some, map, not};
+ghost use Rattle.std.specs.Prelude.{◌≡◌, ◌≤◌, IfOk, IfSome, length, map, not, true};
 ghost use Rattle.std.specs.List.{list_any};
 ghost use Rattle.jh_boards.specs.declared.board.ProgramFile.{ProgramFile as TheProgramFile};
 ghost use Rattle.serde_json.specs.Find.{get};
@@ -49,7 +49,8 @@ fn program_entries(alloc: Global, entries: &[Value]) -> Result<Option<Seq<Progra
 
 /// The preloads in a list that isn't too long.
 fn preload_list(alloc: Global, list: &Value) -> Result<Option<Seq<PreloadFile>>, NoMemory>
-    ensures { IfOk result (λ told. told ≡ list_told preload_told 64 (view list.now)) }
+    ensures told { IfOk result (λ told. told ≡ list_told preload_told 64 (view list.now)) }
+    ensures few { IfOk result (λ told. IfSome told (λ files. length files ≤ 64)) }
 {
     let Some(entries) = list.as_array() else {
         return Ok(None);
@@ -76,7 +77,8 @@ fn program_list(alloc: Global, list: &Value) -> Result<Option<Seq<ProgramFile>>,
 /// The board's preloads; none where the member is missing.
 #[tactic(auto, unfolding(crate::specs::Boards::preloads_told))]
 pub(crate) fn preloads(alloc: Global, object: &Value) -> Result<Option<Seq<PreloadFile>>, NoMemory>
-    ensures { IfOk result (λ told. told ≡ preloads_told (view object.now)) }
+    ensures told { IfOk result (λ told. told ≡ preloads_told (view object.now)) }
+    ensures few { IfOk result (λ told. IfSome told (λ files. length files ≤ 64)) }
 {
     match object.get("preloads") {
         Some(list) => preload_list(alloc, list),
@@ -111,9 +113,10 @@ fn are_distinct(files: &[ProgramFile]) -> bool
 }
 
 /// The board's programs; none where the member is missing.
-#[tactic(auto, unfolding(crate::specs::Boards::programs_told))]
+#[tactic(auto, unfolding(crate::specs::Boards::programs_told, crate::specs::Boards::are_distinct))]
 pub(crate) fn programs(alloc: Global, object: &Value) -> Result<Option<Seq<ProgramFile>>, NoMemory>
-    ensures { IfOk result (λ told. told ≡ programs_told (view object.now)) }
+    ensures told { IfOk result (λ told. told ≡ programs_told (view object.now)) }
+    ensures distinct { IfOk result (λ told. IfSome told (λ files. are_distinct (map seat_of files) ≡ true)) }
 {
     let Some(list) = object.get("programs") else {
         return Ok(Some(Seq::new(alloc)));

@@ -9,4 +9,4 @@ returns-in_err-preload-clause-err g c =
     let contents = g.F.Files.contents c.args.files.now in
     let board = c.args.board.now in
     let file = c.args.file.now in
-    on_refused (IsUnread contents file.file) (Stops contents board) c.in_err-preload.e (unread-stops contents board file.file (a_preload c.requires.next.0 c.args.system.now c.args.preloads.now file c.requires.next.1)) c.in_err-preload.ensures.err
+    on_refused (IsUnread contents file.file) (Stops contents board) c.in_err-preload.field-0 (unread-stops contents board file.file (a_preload c.requires.next.0 c.args.system.now c.args.preloads.now file c.requires.next.1)) c.in_err-preload.ensures.err

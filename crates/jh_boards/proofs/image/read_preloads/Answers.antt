@@ -8,5 +8,5 @@ pub loop-file-init : goal.loop-file-init
 loop-file-init g c = record {
   kept = refl;
   rises = omega arith;
-  so_far = rw c.new.ensures (loaded-start (g.F.Files.contents c.args.files.now) c.args.system.now.hypervisor_memory c.args.listing.now.preloads);
+  so_far = rw c.new-preloads.ensures (loaded-start (g.F.Files.contents c.args.files.now) c.args.system.now.hypervisor_memory c.args.listing.now.preloads);
 }

@@ -9,7 +9,7 @@ pub loop-file-init : goal.loop-file-init
 loop-file-init g c = record {
   kept = refl;
   rises = omega arith;
-  so_far = rw c.new.ensures (scripts-start (g.F.Files.contents c.args.files.now) c.args.listing.now.programs);
+  so_far = rw c.new-programs.ensures (scripts-start (g.F.Files.contents c.args.files.now) c.args.listing.now.programs);
 }
 
 pub returns-in_err-program-clause-err : goal.returns-in_err-program-clause-err
@@ -21,11 +21,11 @@ returns-in_err-program-clause-err g c =
     let preloads = c.args.preloads.now in
     let i = c.loop-file.file-index in
     let file = c.file-item.result in
-    let lt : i < length listing.programs = rw c.as_slice.ensures.value at c.loop-file-test.true in
-    let is : file ≡ get_or listing.programs i file = rw c.as_slice.ensures.value at c.file-item.is in
+    let lt : i < length listing.programs = rw c.as_slice-entries.ensures.value at c.loop-file-test.true in
+    let is : file ≡ get_or listing.programs i file = rw c.as_slice-entries.ensures.value at c.file-item.is in
     let next = scripts-next contents board listing system preloads i file c.loop-file.programs c.requires.loaded lt is c.loop-file.invariant.so_far in
     let unread = rw c.loop-file.invariant.kept at c.in_err-program.ensures.err in
-    on_refused (IsProgramUnread contents file.file) (Stops contents board) c.in_err-program.e (program-stops contents board listing system preloads c.loop-file.programs file next) unread
+    on_refused (IsProgramUnread contents file.file) (Stops contents board) c.in_err-program.field-0 (program-stops contents board listing system preloads c.loop-file.programs file next) unread
 
 pub loop-file-preserved : goal.loop-file-preserved
 loop-file-preserved g c =
@@ -33,8 +33,8 @@ loop-file-preserved g c =
     let listing = c.args.listing.now in
     let i = c.loop-file.file-index in
     let file = c.file-item.result in
-    let lt : i < length listing.programs = rw c.as_slice.ensures.value at c.loop-file-test.true in
-    let is : file ≡ get_or listing.programs i file = rw c.as_slice.ensures.value at c.file-item.is in
+    let lt : i < length listing.programs = rw c.as_slice-entries.ensures.value at c.loop-file-test.true in
+    let is : file ≡ get_or listing.programs i file = rw c.as_slice-entries.ensures.value at c.file-item.is in
     let of = rw c.loop-file.invariant.kept at c.in_ok-program.ensures.ok in
     record {
       kept = cc;
@@ -45,5 +45,5 @@ loop-file-preserved g c =
 pub returns-clause-owned : goal.returns-clause-owned
 returns-clause-owned g c =
     let listing = c.args.listing.now in
-    let le : length listing.programs ≤ c.loop-file.file-index = rw c.as_slice.ensures.value at c.loop-file-test.false in
+    let le : length listing.programs ≤ c.loop-file.file-index = rw c.as_slice-entries.ensures.value at c.loop-file-test.false in
     scripts-owned (g.F.Files.contents c.args.files.now) listing.programs c.loop-file.file-index c.loop-file.programs le c.requires.distinct c.loop-file.invariant.so_far

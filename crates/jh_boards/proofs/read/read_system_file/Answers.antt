@@ -9,6 +9,6 @@ pub returns-in_err-bytes-clause-err : goal.returns-in_err-bytes-clause-err
 returns-in_err-bytes-clause-err g c =
     let contents = g.F.Files.contents c.args.files.now in
     let board = c.args.board.now in
-    let name = c.as_str.result.now in
-    let comes : Comes contents board name = subst (λ n. Comes contents board n) (sym c.as_str.ensures) (the_system c.args.listing.now c.requires) in
-    on_refused (IsUnread contents name) (Stops contents board) c.in_err-bytes.e (unread-stops contents board name comes) c.in_err-bytes.ensures.err
+    let name = c.as_str-name.result.now in
+    let comes : Comes contents board name = subst (λ n. Comes contents board n) (sym c.as_str-name.ensures) (the_system c.args.listing.now c.requires) in
+    on_refused (IsUnread contents name) (Stops contents board) c.in_err-bytes.field-0 (unread-stops contents board name comes) c.in_err-bytes.ensures.err
