@@ -1,6 +1,6 @@
 -- What stops the reading of a board.
 use Rattle.std.proofs.Common.{◌≡◌, ◌≢◌, ℕ, ◌+◌, ◌<◌, ◌≤◌, List, [], length, take, subst, sym, refl, inl, inr, arith, Some, Ok, Err}
-use Rattle.std.specs.Prelude.{slice_get, OnOk, IfErr, Result}
+use Rattle.std.specs.Prelude.{slice_get, OnOk, IfErr, IsErrAnd, Result}
 use Rattle.jh_check.specs.Findings.{findings}
 use Rattle.jh_boards.specs.Opening.{MayBegin, root_pages, pool_pages}
 use Rattle.jh_cellcfg.specs.declared.config.SystemConfig.{SystemConfig}
@@ -19,6 +19,11 @@ use Rattle.jh_boards.specs.Boards.{Tells}
 use Rattle.jh_boards.specs.Files.{Contents, HasBytes}
 use Rattle.jh_boards.specs.Images.{HasSystem, IsNextProgram, Comes, a_program}
 use Rattle.jh_boards.specs.Causes.{IsBadBoard, IsNoProgram, Stops, OnRefused, IsCountedAt, IsCounted, IsUnread, IsRefusal, IsBoardRefusal, IsUnsound, IsPoolSmall, IsProgramUnread}
+
+-- an error that is passed up
+pub passed_up : {X E : Type 0} (r : Result X E) (e : E) (P : E → Type 0) → IsErrAnd r (λ y. y ≡ e) → P e → IfErr r P
+passed_up (Ok x) e P is p = tt
+passed_up (Err y) e P is p = subst P (sym is) p
 
 -- what holds of the file and the cause that are refused
 pub on_refusal : (P : List ℕ → ImageCause → Type 0) (name : List ℕ) (cause : ImageCause) (fault : ImageFault) → OnRefused (IsRefusal name cause) fault → P name cause → OnRefused P fault

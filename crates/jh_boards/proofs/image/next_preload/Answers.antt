@@ -1,7 +1,7 @@
 -- The preload's file can't be read, or is too large.
 use Rattle.jh_boards.specs.Images.{a_preload}
-use Rattle.jh_boards.specs.Causes.{IsUnread, Stops}
-use Rattle.jh_boards.proofs.StopLemmas.{on_refused, unread-stops}
+use Rattle.jh_boards.specs.Causes.{IsUnread, OnRefused, Stops}
+use Rattle.jh_boards.proofs.StopLemmas.{on_refused, unread-stops, passed_up}
 use Rattle.jh_boards.proofs.image.next_preload.Goals as goal
 
 pub returns-in_err-preload-clause-err : goal.returns-in_err-preload-clause-err
@@ -9,4 +9,5 @@ returns-in_err-preload-clause-err g c =
     let contents = g.F.Files.contents c.args.files.now in
     let board = c.args.board.now in
     let file = c.args.file.now in
-    on_refused (IsUnread contents file.file) (Stops contents board) c.in_err-preload.field-0 (unread-stops contents board file.file (a_preload c.requires.next.0 c.args.system.now c.args.preloads.now file c.requires.next.1)) c.in_err-preload.ensures.err
+    passed_up c.from_residual.result c.in_err-preload.field-0.0 (λ e. OnRefused (Stops contents board) e) c.from_residual.ensures.1
+    (on_refused (IsUnread contents file.file) (Stops contents board) c.in_err-preload.field-0.0 (unread-stops contents board file.file (a_preload c.requires.next.0 c.args.system.now c.args.preloads.now file c.requires.next.1)) c.in_err-preload.ensures.err)

@@ -1,8 +1,8 @@
 -- The system's file can't be read, or is too large.
 use Rattle.std.proofs.Common.{◌≡◌, sym, subst, List, ℕ}
 use Rattle.jh_boards.specs.Images.{Comes, the_system}
-use Rattle.jh_boards.specs.Causes.{IsUnread, Stops}
-use Rattle.jh_boards.proofs.StopLemmas.{on_refused, unread-stops}
+use Rattle.jh_boards.specs.Causes.{IsUnread, OnRefused, Stops}
+use Rattle.jh_boards.proofs.StopLemmas.{on_refused, unread-stops, passed_up}
 use Rattle.jh_boards.proofs.read.read_system_file.Goals as goal
 
 pub returns-in_err-bytes-clause-err : goal.returns-in_err-bytes-clause-err
@@ -11,4 +11,5 @@ returns-in_err-bytes-clause-err g c =
     let board = c.args.board.now in
     let name = c.as_str-name.result.now in
     let comes : Comes contents board name = subst (λ n. Comes contents board n) (sym c.as_str-name.ensures) (the_system c.args.listing.now c.requires) in
-    on_refused (IsUnread contents name) (Stops contents board) c.in_err-bytes.field-0 (unread-stops contents board name comes) c.in_err-bytes.ensures.err
+    passed_up c.from_residual.result c.in_err-bytes.field-0.0 (λ e. OnRefused (Stops contents board) e) c.from_residual.ensures.1
+    (on_refused (IsUnread contents name) (Stops contents board) c.in_err-bytes.field-0.0 (unread-stops contents board name comes) c.in_err-bytes.ensures.err)
