@@ -17,6 +17,7 @@ mod verdict;
 pub use checking::{MAX_FINDINGS, check};
 pub use finding::Finding;
 pub use laws::{addresses_are_single, cells_are_apart, hypervisor_is_alone};
+pub use rule::Rule;
 pub use verdict::{NewCell, clean_with};
 
 #[cfg(test)]

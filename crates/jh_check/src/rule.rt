@@ -5,7 +5,7 @@ ghost use Rattle.jh_check.specs.declared.rule.Rule.TheVariants.{VirtOverlap};
 
 /// The rules of the check. Each speaks of one or two regions, of one device, or of a cell's CPUs.
 #[derive(Clone, Copy, PartialEq, Eq, Debug)]
-pub(crate) enum Rule {
+pub enum Rule {
     /// Two regions of a cell have an address in common.
     VirtOverlap,
     /// Two regions of a cell have a place in common.

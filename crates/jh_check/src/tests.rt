@@ -52,7 +52,7 @@ fn device(dev_id: u8, start: u32) -> PciDevice {
 
 fn cell(
     alloc: Global,
-    cpus: u8,
+    cpus: u32,
     regions: &[Region],
     devices: &[PciDevice],
 ) -> Result<CellConfig, AllocError> {
@@ -64,7 +64,7 @@ fn cell(
         cpu_reset_address: 0,
         msg_reply_timeout: 0,
         console: [0; 32],
-        cpu_set: Seq::from_vec(vec![in alloc; cpus, 0, 0, 0]?),
+        cpu_set: Seq::from_vec(Vec::from_slice(alloc, &cpus.to_le_bytes())?),
         memory_regions: Seq::from_vec(Vec::from_slice(alloc, regions)?),
         cache_regions: Seq::new(alloc),
         irqchips: Seq::new(alloc),
@@ -166,7 +166,7 @@ fn cell_is_told(alloc: Global, regions: &[Region], want: &str) -> Result<bool, F
 /// Whether the check of a root with that many CPUs and that memory of the hypervisor tells that.
 fn hypervisor_is_told(
     alloc: Global,
-    cpus: u8,
+    cpus: u32,
     at: u64,
     size: u64,
     want: &str,
@@ -191,9 +191,10 @@ fn demo_is_told(
 }
 
 /// How many of `demo`, where its first region lies, and what is told.
-fn demos() -> [(usize, u64, &'static str); 3] {
+fn demos() -> [(usize, u64, &'static str); 4] {
     [
         (1, 0x7f90_0000, ""),
+        (1, 0x7fbf_0000, ""),
         (2, 0x7f90_0000, "10 CellsOverlap 1.0 2.0; 11 Shmem 2.d0; "),
         (1, 0x7fbf_f000, "3 Hypervisor 1.0; "),
     ]
@@ -288,13 +289,15 @@ fn rules_of_a_region_of_another_cell(rt: HostRuntime) -> Result<(), Fail> {
 }
 
 /// Root's CPUs, where the hypervisor's memory begins, its size, and what is told.
-fn memories() -> [(u8, u64, u64, &'static str); 5] {
+fn memories() -> [(u32, u64, u64, &'static str); 7] {
     [
         (1, 0x7000_0000, 0x400_0000, ""),
         (1, 0x7000_0000, 0x400_1000, "4 OutOfRange h; "),
         (1, 0x7000_0001, 0, "4 OutOfRange h; "),
         (1, 0x7000_0001, 0x1000, "13 PhysAlign h; "),
         (0, 0x7000_0000, 0x1000, "12 NoCpu 0; "),
+        (0x8000, 0x7000_0000, 0x1000, ""),
+        (0x1_0000, 0x7000_0000, 0x1000, "12 NoCpu 0; "),
     ]
 }
 
@@ -367,10 +370,13 @@ fn sections_are_told(
 }
 
 /// Which section is changed to what, and what is told.
-fn sections() -> [(usize, Region, &'static str); 8] {
+fn sections() -> [(usize, Region, &'static str); 11] {
     let breaks = "11 Shmem 1.d0; ";
     [
         (0, plain(0x1000_0000, 0x1000, 0x1), ""),
+        (0, plain(0x0fff_1000, 0x1_0000, 0x1), ""),
+        (0, plain(0x0fff_0000, 0x1_1000, 0x1), breaks),
+        (0, plain(0x1000_1000, 0, 0x1), breaks),
         (0, plain(0x1000_0000, 0x1000, 0x3), breaks),
         (1, plain(0x1000_1000, 0x9000, 0x43), breaks),
         (1, plain(0x1000_1000, 0, 0x3), breaks),
@@ -390,11 +396,124 @@ fn rules_of_sections(rt: HostRuntime) -> Result<(), Fail> {
     Ok(())
 }
 
+/// Whether the check of `q` and `demo`, with its read/write section there and outputs of that size, tells that.
+fn linked_is_told(alloc: Global, at: u64, size: u64, want: &str) -> Result<bool, Fail> {
+    let sections = [
+        plain(0x7fb0_0000, 0x1000, 0x81),
+        region(at, 0x7fb0_1000, 0x9000, 0x83),
+        plain(0x7fb0_a000, size, 0x81),
+        region(0x7fb0_c000, 0x7fb0_a000 + size, size, 0x83),
+    ];
+    let mut cells = Vec::new(alloc);
+    cells.push(cell(alloc, 4, &sections, &[device(1, 0)])?)?;
+    Ok(told(alloc, &q(alloc)?, cells.as_slice())?.as_str() == want)
+}
+
 #[test]
-fn two_devices_of_one_number(rt: HostRuntime) -> Result<(), Fail> {
-    let twice = [device(0, 0), device(0, 0)];
-    let is = sections_are_told(rt.alloc(), 4, HYPERVISOR, &twice, "11 Shmem 1.d1; ")?;
-    assert!(rt; is);
+fn linked_sections_have_one_place_and_size(rt: HostRuntime) -> Result<(), Fail> {
+    let same = linked_is_told(rt.alloc(), 0x7fb0_1000, 0x2000, "")?;
+    assert!(rt; same);
+    let elsewhere = linked_is_told(rt.alloc(), 0x7fb1_0000, 0x2000, "11 Shmem 1.d0; ")?;
+    assert!(rt; elsewhere);
+    let smaller = linked_is_told(rt.alloc(), 0x7fb0_1000, 0x1000, "11 Shmem 1.d0; ")?;
+    assert!(rt; smaller);
+    Ok(())
+}
+
+/// Whether the check of a cell with a page at 0x50000000 and of one with a page there, with these flags, tells
+/// that.
+fn two_are_told(
+    alloc: Global,
+    flags: u64,
+    at: u64,
+    other_flags: u64,
+    want: &str,
+) -> Result<bool, Fail> {
+    let root = cell(alloc, 1, &[plain(0x4000_0000, 0x3000_0000, 0xf)], &[])?;
+    let mut cells = Vec::new(alloc);
+    cells.push(cell(alloc, 2, &[region(0x5000_0000, 0, 0x1000, flags)], &[])?)?;
+    cells.push(cell(alloc, 4, &[region(at, 0, 0x1000, other_flags)], &[])?)?;
+    Ok(told(alloc, &system(root, HYPERVISOR), cells.as_slice())?.as_str() == want)
+}
+
+#[test]
+fn two_cells_share_where_both_say_so(rt: HostRuntime) -> Result<(), Fail> {
+    let beside = two_are_told(rt.alloc(), 0xf, 0x5000_1000, 0xf, "")?;
+    assert!(rt; beside);
+    let meeting = two_are_told(
+        rt.alloc(),
+        0xf,
+        0x5000_0000,
+        0xf,
+        "10 CellsOverlap 1.0 2.0; ",
+    )?;
+    assert!(rt; meeting);
+    let half = two_are_told(
+        rt.alloc(),
+        0x8f,
+        0x5000_0000,
+        0xf,
+        "10 CellsOverlap 1.0 2.0; ",
+    )?;
+    assert!(rt; half);
+    let shared = two_are_told(rt.alloc(), 0x8f, 0x5000_0000, 0x8f, "")?;
+    assert!(rt; shared);
+    Ok(())
+}
+
+/// The device at that place, of that cell's first section.
+fn placed(bdf: u16) -> PciDevice {
+    let mut device = device(0, 0);
+    device.bdf = bdf;
+    device
+}
+
+#[test]
+fn two_devices_of_one_cell_have_two_places(rt: HostRuntime) -> Result<(), Fail> {
+    let twice = [placed(8), placed(8)];
+    let same = sections_are_told(rt.alloc(), 4, HYPERVISOR, &twice, "11 Shmem 1.d1; ")?;
+    assert!(rt; same);
+    let two = [placed(8), placed(16)];
+    let other = sections_are_told(rt.alloc(), 4, HYPERVISOR, &two, "")?;
+    assert!(rt; other);
+    Ok(())
+}
+
+/// The last of so many peers, with that many vectors and that BAR for them.
+fn last_of(peers: u8, vectors: u16, bar: u32) -> PciDevice {
+    let mut device = device(peers.saturating_sub(1), 0);
+    device.shmem_peers = peers;
+    device.num_msix_vectors = vectors;
+    device.bar_mask[1] = bar;
+    device
+}
+
+/// Whether the check of a cell with that device and a section for each of its peers tells that.
+fn peers_are_told(alloc: Global, device: PciDevice, want: &str) -> Result<bool, Fail> {
+    let mut sections = Vec::new(alloc);
+    sections.push(plain(0x1000_0000, 0x1000, 0x1))?;
+    sections.push(plain(0x1000_1000, 0x1000, 0x3))?;
+    for peer in 0..device.shmem_peers as u64 {
+        sections.push(plain(0x1000_2000 + 0x1000 * peer, 0x1000, 0x1))?;
+    }
+    let root = cell(alloc, 1, &[], &[])?;
+    let mut cells = Vec::new(alloc);
+    cells.push(cell(alloc, 2, sections.as_slice(), &[device])?)?;
+    Ok(told(alloc, &system(root, HYPERVISOR), cells.as_slice())?.as_str() == want)
+}
+
+#[test]
+fn peers_and_vectors_have_their_limits(rt: HostRuntime) -> Result<(), Fail> {
+    let sixteen = peers_are_told(rt.alloc(), last_of(16, 16, 0xffff_fe00), "")?;
+    assert!(rt; sixteen);
+    let more = peers_are_told(rt.alloc(), last_of(17, 16, 0xffff_fe00), "11 Shmem 1.d0; ")?;
+    assert!(rt; more);
+    let alone = peers_are_told(rt.alloc(), last_of(1, 16, 0xffff_fe00), "11 Shmem 1.d0; ")?;
+    assert!(rt; alone);
+    let without_vectors = peers_are_told(rt.alloc(), last_of(2, 0, 0), "")?;
+    assert!(rt; without_vectors);
+    let without_a_bar = peers_are_told(rt.alloc(), last_of(2, 1, 0), "11 Shmem 1.d0; ")?;
+    assert!(rt; without_a_bar);
     Ok(())
 }
 

@@ -16,6 +16,7 @@ mod past;
 
 pub use access::{Access, Places, Reach};
 pub use admit::{is_admitted, is_built};
+pub use apart::has_none_of;
 pub use cells::{
     ImageGrants, is_cpu_set, is_on_board, name_of, op_at, ops_of, place_of, program_of, regions_of,
 };
