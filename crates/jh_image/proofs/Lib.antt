@@ -1,0 +1,6 @@
+pub mod ValueLemmas
+pub mod StopLemmas
+pub mod CappedLemmas
+pub mod LoadLemmas
+pub mod FindingLemmas
+pub mod SystemLemmas

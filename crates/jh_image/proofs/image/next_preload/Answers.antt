@@ -1,0 +1,13 @@
+-- The preload's file can't be read, or is too large.
+use Rattle.jh_image.specs.Images.{a_preload}
+use Rattle.jh_image.specs.Causes.{IsUnread, OnRefused, Stops}
+use Rattle.jh_image.proofs.StopLemmas.{on_refused, unread-stops, passed_up}
+use Rattle.jh_image.proofs.image.next_preload.Goals as goal
+
+pub returns-in_err-preload-clause-err : goal.returns-in_err-preload-clause-err
+returns-in_err-preload-clause-err g c =
+    let contents = g.F.Files.contents c.args.files.now in
+    let board = c.args.board.now in
+    let file = c.args.file.now in
+    passed_up c.from_residual.result c.in_err-preload.field-0.0 (λ e. OnRefused (Stops contents board) e) c.from_residual.ensures.1
+    (on_refused (IsUnread contents file.file) (Stops contents board) c.in_err-preload.field-0.0 (unread-stops contents board file.file (a_preload c.requires.next.0 c.args.system.now c.args.preloads.now file c.requires.next.1)) c.in_err-preload.ensures.err)

@@ -1,0 +1,11 @@
+-- The preloads so far are those of the first files, and none has a fault.
+use Rattle.std.proofs.Common.{◌≡◌, ◌≤◌}
+use Rattle.jh_image.proofs.LoadLemmas.{LoadedSoFar}
+use Rattle.jh_image.proofs.image.read_preloads.Given as goal
+
+abbrev pub invariant-loop-file : goal.invariant-loop-file
+invariant-loop-file g l = record {
+  kept : g.F.Files.contents l.files ≡ g.F.Files.contents l.fn.files;
+  rises : g.F.Files.faults l.fn.files ≤ g.F.Files.faults l.files;
+  so_far : LoadedSoFar (g.F.Files.contents l.fn.files) l.fn.system.hypervisor_memory l.fn.listing.preloads l.file-index l.preloads;
+}

@@ -1,0 +1,15 @@
+-- The system's file can't be read, or is too large.
+use Rattle.std.proofs.Common.{◌≡◌, sym, subst, List, ℕ}
+use Rattle.jh_image.specs.Images.{Comes, the_system}
+use Rattle.jh_image.specs.Causes.{IsUnread, OnRefused, Stops}
+use Rattle.jh_image.proofs.StopLemmas.{on_refused, unread-stops, passed_up}
+use Rattle.jh_image.proofs.read.read_system_file.Goals as goal
+
+pub returns-in_err-bytes-clause-err : goal.returns-in_err-bytes-clause-err
+returns-in_err-bytes-clause-err g c =
+    let contents = g.F.Files.contents c.args.files.now in
+    let board = c.args.board.now in
+    let name = c.as_str-name.result.now in
+    let comes : Comes contents board name = subst (λ n. Comes contents board n) (sym c.as_str-name.ensures) (the_system c.args.listing.now c.requires) in
+    passed_up c.from_residual.result c.in_err-bytes.field-0.0 (λ e. OnRefused (Stops contents board) e) c.from_residual.ensures.1
+    (on_refused (IsUnread contents name) (Stops contents board) c.in_err-bytes.field-0.0 (unread-stops contents board name comes) c.in_err-bytes.ensures.err)

@@ -1,0 +1,155 @@
+-- What the text of a board tells: the names of its files, and what each is for.
+use Rattle.std.specs.Prelude.{◌≡◌, ⊤, ℕ, Bool, true, false, ◌&&◌, not, ◌==◌, nat_lt, nat_le, nat_eq, List, [], ◌∷◌, length, map, codes, Option, Some, None, Result, Ok, Err, unwrap_or, is_some, option_and_then, if◌then◌else◌}
+use Rattle.std.specs.List.{list_any, list_all}
+use Rattle.std.specs.Cmp.Lexicographic.{pointwise}
+use Rattle.serde_json.specs.Data.{Data}
+use Rattle.serde_json.specs.Find.{get, as_str, as_object}
+use Rattle.jh_cellcfg.specs.Limits.{is_printable}
+use Rattle.jh_image.specs.declared.board.Listing.{Listing}
+use Rattle.jh_image.specs.declared.board.PreloadFile.{PreloadFile}
+use Rattle.jh_image.specs.declared.board.ProgramFile.{ProgramFile}
+use Rattle.jh_image.specs.declared.board.BoardFault.{BoardFault}
+use Rattle.jh_image.specs.declared.board.BoardFault.TheVariants.{Json, Member, NoMemory}
+use Rattle.jh_image.specs.Told.{IsText, told_at, told_or, unlisted, has_only, number_told, number_below, list_told}
+
+infixl 10 ◌>>=◌
+abbrev pub ◌>>=◌ : {A B : Type 0} → Option A → (A → Option B) → Option B
+o >>= f = option_and_then f o
+
+-- ---- entries: objects with these members and no others
+
+abbrev pub preload_names : List (List ℕ)
+preload_names = codes "file" ∷ codes "at" ∷ []
+
+abbrev pub preload_members : Data → Option PreloadFile
+preload_members d = do
+  file ← told_at as_str (codes "file") d
+  at ← told_at number_told (codes "at") d
+  Some (record { file = file; at = at })
+
+unfoldable pub preload_told : Data → Option PreloadFile
+preload_told d = if has_only preload_names d then preload_members d else None
+
+-- a cell's name: 1 to 31 characters from the space to the tilde
+abbrev pub is_cell_name : List ℕ → Bool
+is_cell_name text = nat_lt 0 (length text) && (nat_le (length text) 31 && list_all is_printable text)
+
+abbrev pub cell_told : Data → Option (List ℕ)
+cell_told d = option_and_then (λ text. if is_cell_name text then Some text else None) (as_str d)
+
+abbrev pub program_names : List (List ℕ)
+program_names = codes "cell" ∷ codes "cpu" ∷ codes "file" ∷ []
+
+abbrev pub program_members : Data → Option ProgramFile
+program_members d = do
+  cell ← told_at cell_told (codes "cell") d
+  cpu ← told_at (number_below 16) (codes "cpu") d
+  file ← told_at as_str (codes "file") d
+  Some (record { cell = cell; cpu = cpu; file = file })
+
+unfoldable pub program_told : Data → Option ProgramFile
+program_told d = if has_only program_names d then program_members d else None
+
+-- ---- the board's members
+
+-- a CPU of a cell
+pub record Seat : Type 0 where
+  pub cell : List ℕ
+  pub cpu : ℕ
+
+abbrev pub seat_of : ProgramFile → Seat
+seat_of file = record { cell = file.cell; cpu = file.cpu }
+
+abbrev pub is_seat : Seat → Seat → Bool
+is_seat one other = pointwise nat_eq one.cell other.cell && (one.cpu == other.cpu)
+
+-- no CPU of a cell stands twice
+unfoldable pub are_distinct : List Seat → Bool
+are_distinct [] = true
+are_distinct (seat ∷ seats) = not (list_any (is_seat seat) seats) && are_distinct seats
+
+abbrev pub where_distinct : List ProgramFile → Option (List ProgramFile)
+where_distinct files = if are_distinct (map seat_of files) then Some files else None
+
+-- the system's file, which must be there
+abbrev pub system_told : Data → Option (List ℕ)
+system_told d = told_at as_str (codes "system") d
+
+-- at most 64 preloads; none where the member is missing
+unfoldable pub preloads_told : Data → Option (List PreloadFile)
+preloads_told d = told_or (list_told preload_told 64) [] (get (codes "preloads") d)
+
+-- at most 256 programs, each of a CPU of its own; none where the member is missing
+unfoldable pub programs_told : Data → Option (List ProgramFile)
+programs_told d = option_and_then where_distinct (told_or (list_told program_told 256) [] (get (codes "programs") d))
+
+abbrev pub board_names : List (List ℕ)
+board_names = codes "system" ∷ codes "preloads" ∷ codes "programs" ∷ []
+
+-- ---- the board
+
+-- a member is at fault where it tells nothing
+abbrev pub fault_at : {X : Type 0} → List ℕ → Option X → Option (List ℕ)
+fault_at name (Some x) = None
+fault_at name None = Some name
+
+abbrev pub first_some : {X : Type 0} → List (Option X) → Option X
+first_some [] = None
+first_some (None ∷ rest) = first_some rest
+first_some (Some x ∷ rest) = Some x
+
+-- the first member that is at fault, else the first name that isn't listed
+abbrev pub member_fault : Data → Option (List ℕ)
+member_fault d = first_some (
+    fault_at (codes "system") (system_told d)
+    ∷ fault_at (codes "preloads") (preloads_told d)
+    ∷ fault_at (codes "programs") (programs_told d)
+    ∷ unlisted board_names d
+    ∷ [])
+
+-- the fault of the member of this name, or what is made where there is none
+abbrev pub unless_at_fault : {X : Type 0} → Option (List ℕ) → X → Result X BoardFault
+unless_at_fault None made = Ok made
+unless_at_fault (Some name) made = Err (Member name)
+
+-- what the faultless members make
+abbrev pub listing_made : Data → Listing
+listing_made d = record {
+  system = unwrap_or (system_told d) [];
+  preloads = unwrap_or (preloads_told d) [];
+  programs = unwrap_or (programs_told d) [];
+}
+
+-- what an object tells
+unfoldable pub object_told : Data → Result Listing BoardFault
+object_told d = unless_at_fault (member_fault d) (listing_made d)
+
+-- what a value tells, which must be an object
+abbrev pub board_told : Data → Result Listing BoardFault
+board_told d = if is_some (as_object d) then object_told d else Err Json
+
+-- an answer is the one that is wanted, or want of memory
+abbrev pub Answers : {X : Type 0} → Result X BoardFault → Result X BoardFault → Type 0
+Answers wanted (Ok x) = wanted ≡ Ok x
+Answers wanted (Err NoMemory) = ⊤
+Answers wanted (Err Json) = wanted ≡ Err Json
+Answers wanted (Err (Member name)) = wanted ≡ Err (Member name)
+
+-- why no object was read: the bytes are no object's text, or memory ran out
+abbrev pub IsUnread : List ℕ → BoardFault → Type 0
+IsUnread bytes Json = (d : Data) → IsText bytes d → board_told d ≡ Err Json
+IsUnread bytes (Member name) = ⊥
+IsUnread bytes NoMemory = ⊤
+
+-- what is answered to these bytes: what their value tells, or that they are no object's text
+abbrev pub Tells : List ℕ → Result Listing BoardFault → Type 0
+Tells bytes (Ok listing) = (d : Data) × IsText bytes d × (board_told d ≡ Ok listing)
+Tells bytes (Err Json) = (d : Data) → IsText bytes d → board_told d ≡ Err Json
+Tells bytes (Err (Member name)) = (d : Data) × IsText bytes d × (board_told d ≡ Err (Member name))
+Tells bytes (Err NoMemory) = ⊤
+
+-- an error is the fault of the member of this name, or want of memory
+abbrev pub IsFaultOf : List ℕ → BoardFault → Type 0
+IsFaultOf name (Member found) = found ≡ name
+IsFaultOf name Json = ⊥
+IsFaultOf name NoMemory = ⊤

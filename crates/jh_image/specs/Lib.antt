@@ -1,0 +1,7 @@
+pub mod Told
+pub mod Boards
+pub mod Opening
+pub mod Files
+pub mod Images
+pub mod Causes
+pub mod Texts

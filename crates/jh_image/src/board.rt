@@ -1,0 +1,123 @@
+//! From a board's text to the names of its files.
+ghost use Rattle.std.specs.Prelude.{◌≡◌, ◌≤◌, IfOk, IfErr, is_some, true, length, map};
+ghost use Rattle.serde_json.specs.Find.{as_object};
+ghost use Rattle.serde_json.specs.View.{view};
+ghost use Rattle.jh_image.specs.Told.{IsText};
+ghost use Rattle.jh_image.specs.Boards.{object_told, Answers, Tells, IsUnread, IsFaultOf, are_distinct, seat_of};
+ghost use Rattle.jh_image.specs.declared.board.BoardFault.TheVariants.{NoMemory as OutOfMemory};
+
+use crate::file_name::FileName;
+use crate::list::{preloads, programs};
+use crate::value::{first_unlisted, text_at};
+use jh_num::{NoMemory, Seq};
+use serde_json::Value;
+use std::alloc::Global;
+
+/// A file whose bytes stand in memory at opening, from the physical place `at` on.
+#[derive(Drop)]
+pub struct PreloadFile {
+    pub file: FileName,
+    pub at: u64,
+}
+
+/// A file with what a CPU does while it belongs to the cell of that name.
+#[derive(Drop)]
+pub struct ProgramFile {
+    /// 1 to 31 characters from the space to the tilde.
+    pub cell: Seq<u8>,
+    /// 0 to 15.
+    pub cpu: u8,
+    pub file: FileName,
+}
+
+/// What a board lists: the files that it is made from.
+#[derive(Drop)]
+pub struct Listing {
+    pub system: FileName,
+    /// At most 64.
+    pub preloads: Seq<PreloadFile>,
+    /// At most 256, no two of one CPU of one cell.
+    pub programs: Seq<ProgramFile>,
+}
+
+/// Why a text is no board.
+#[derive(Drop)]
+pub enum BoardFault {
+    /// The bytes are no JSON text, or its value is no object.
+    Json,
+    /// The member of this name, in UTF-8, is at fault.
+    Member(Seq<u8>),
+    NoMemory,
+}
+
+impl From<NoMemory> for BoardFault {
+    ghost from_gives = { λ _ e. e ≡ OutOfMemory };
+
+    fn from(_e: NoMemory) -> BoardFault {
+        BoardFault::NoMemory
+    }
+}
+
+/// The fault of the member of this name.
+fn fault_of(alloc: Global, name: &str) -> BoardFault
+    ensures { IsFaultOf name.now result }
+{
+    match Vec::from_slice(alloc, name.as_bytes()) {
+        Ok(bytes) => BoardFault::Member(Seq::from_vec(bytes)),
+        Err(_) => BoardFault::NoMemory,
+    }
+}
+
+/// The object that the bytes are the text of.
+fn object(alloc: Global, bytes: &[u8]) -> Result<Value, BoardFault>
+    ensures text { IfOk result (λ value. IsText bytes.now (view value)) }
+    ensures object { IfOk result (λ value. is_some (as_object (view value)) ≡ true) }
+    ensures fault { IfErr result (IsUnread bytes.now) }
+{
+    match Value::from_slice(alloc, bytes) {
+        Ok(value) if value.is_object() => Ok(value),
+        Ok(_) => Err(BoardFault::Json),
+        Err(e) if e.is_memory() => Err(BoardFault::NoMemory),
+        Err(_) => Err(BoardFault::Json),
+    }
+}
+
+/// What an object's members tell.
+#[tactic(auto, unfolding(crate::specs::Boards::object_told))]
+fn members(alloc: Global, object: &Value) -> Result<Listing, BoardFault>
+    ensures told { Answers (object_told (view object.now)) result }
+    ensures few { IfOk result (λ listing. length listing.preloads ≤ 64) }
+    ensures distinct { IfOk result (λ listing. are_distinct (map seat_of listing.programs) ≡ true) }
+{
+    let Some(system) = text_at(object, "system") else {
+        return Err(fault_of(alloc, "system"));
+    };
+    let system = FileName::new(alloc, system)?;
+    let Some(preloads) = preloads(alloc, object)? else {
+        return Err(fault_of(alloc, "preloads"));
+    };
+    let Some(programs) = programs(alloc, object)? else {
+        return Err(fault_of(alloc, "programs"));
+    };
+    match first_unlisted(object, &["system", "preloads", "programs"]) {
+        Some(name) => Err(fault_of(alloc, name)),
+        None => Ok(Listing {
+            system,
+            preloads,
+            programs,
+        }),
+    }
+}
+
+/// Reads a board's text, all of the bytes: an object with the members `system` (a file's name),
+/// `preloads` (a list of objects with `file` and `at`) and `programs` (a list of objects with `cell`,
+/// `cpu` and `file`), of which the lists may be missing. The first of these members with a fault
+/// decides, and then the least name, by its bytes, that isn't one of them.
+pub fn read_board(alloc: Global, bytes: &[u8]) -> Result<Listing, BoardFault>
+    ensures told { Tells bytes.now result }
+    ensures few { IfOk result (λ listing. length listing.preloads ≤ 64) }
+    ensures distinct { IfOk result (λ listing. are_distinct (map seat_of listing.programs) ≡ true) }
+{
+    let object = object(alloc, bytes)?;
+    members(alloc, &object)
+}

@@ -1,0 +1,83 @@
+//! The entries of a board's lists.
+ghost use Rattle.std.specs.Prelude.{◌≡◌, IfOk, None, option_map};
+ghost use Rattle.std.specs.List.{list_all};
+ghost use Rattle.serde_json.specs.View.{view};
+ghost use Rattle.jh_cellcfg.specs.Limits.{is_printable};
+ghost use Rattle.jh_image.specs.Told.{told_at};
+ghost use Rattle.jh_image.specs.Boards.{preload_told, program_told, is_cell_name, cell_told};
+
+use crate::board::{PreloadFile, ProgramFile};
+use crate::file_name::FileName;
+use crate::value::{cpu_at, has_only, number_at, text_at};
+use jh_num::{NoMemory, Seq};
+use serde_json::Value;
+use std::alloc::Global;
+
+/// The preload that an entry tells of.
+#[tactic(auto, unfolding(crate::specs::Boards::preload_told))]
+pub(crate) fn preload(alloc: Global, entry: &Value) -> Result<Option<PreloadFile>, NoMemory>
+    ensures { IfOk result (λ told. told ≡ preload_told (view entry.now)) }
+{
+    if !has_only(entry, &["file", "at"]) {
+        return Ok(None);
+    }
+    let Some(file) = text_at(entry, "file") else {
+        return Ok(None);
+    };
+    let Some(at) = number_at(entry, "at") else {
+        return Ok(None);
+    };
+    Ok(Some(PreloadFile {
+        file: FileName::new(alloc, file)?,
+        at,
+    }))
+}
+
+fn are_printable(bytes: &[u8]) -> bool
+    ensures { result ≡ list_all is_printable bytes.now }
+{
+    bytes.iter().all(|byte| *byte >= 0x20 && *byte <= 0x7e)
+}
+
+/// Whether the text is a cell's name: 1 to 31 characters from the space to the tilde.
+fn is_cell_name(text: &[u8]) -> bool
+    ensures { result ≡ is_cell_name text.now }
+{
+    !text.is_empty() && text.len() <= 31 && are_printable(text)
+}
+
+/// The cell's name that the member of this name is.
+fn cell_at<'v>(object: &'v Value, name: &str) -> Option<&'v str>
+    ensures { option_map (λ cell. cell.now) result ≡ told_at cell_told name.now (view object.now) }
+{
+    let text = text_at(object, name)?;
+    if is_cell_name(text.as_bytes()) {
+        Some(text)
+    } else {
+        None
+    }
+}
+
+/// The program that an entry tells of.
+#[tactic(auto, unfolding(crate::specs::Boards::program_told))]
+pub(crate) fn program(alloc: Global, entry: &Value) -> Result<Option<ProgramFile>, NoMemory>
+    ensures { IfOk result (λ told. told ≡ program_told (view entry.now)) }
+{
+    if !has_only(entry, &["cell", "cpu", "file"]) {
+        return Ok(None);
+    }
+    let Some(cell) = cell_at(entry, "cell") else {
+        return Ok(None);
+    };
+    let Some(cpu) = cpu_at(entry, "cpu") else {
+        return Ok(None);
+    };
+    let Some(file) = text_at(entry, "file") else {
+        return Ok(None);
+    };
+    Ok(Some(ProgramFile {
+        cell: Seq::from_vec(Vec::from_slice(alloc, cell.as_bytes())?),
+        cpu,
+        file: FileName::new(alloc, file)?,
+    }))
+}

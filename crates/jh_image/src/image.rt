@@ -1,0 +1,150 @@
+//! From a board to the image that its files make.
+ghost use Rattle.std.specs.Prelude.{◌≡◌, ◌≤◌, ◌<◌, true, IfOk, IfErr, All, AllPairs, length, map};
+ghost use Rattle.jh_image.specs.declared.board.Listing.{Listing as TheListing};
+ghost use Rattle.jh_history.specs.Admitted.{IsSoundPreload, IsOtherPreload, IsSoundProgram, IsOtherProgram, IsAdmitted, IsBuilt};
+ghost use Rattle.jh_image.specs.Boards.{are_distinct, seat_of};
+ghost use Rattle.jh_image.specs.Opening.{MayOpen, IsFit};
+ghost use Rattle.jh_image.specs.Files.{Lists, IsPreloadOf, Preloads, Programs};
+ghost use Rattle.jh_image.specs.Images.{IsReady, HasPreloads, IsNextPreload};
+ghost use Rattle.jh_image.specs.Causes.{Stops, OnRefused, Answers, IsCounted};
+
+use crate::admission::check_system;
+use crate::board::{Listing, PreloadFile};
+use crate::fault::{ImageCause, ImageFault};
+use crate::fit::is_fit;
+use crate::laws::admitted_images_are_taken;
+use crate::read::{read_listing, read_preload, read_program_file, read_system_file};
+use crate::refusal::refused;
+use jh_cellcfg::SystemConfig;
+use jh_history::is_built;
+use jh_num::Seq;
+use jh_outside::Files;
+use jh_script::{Image, Preload, Program};
+use std::alloc::Global;
+
+/// The system that the board names, where it is admitted.
+fn read_ready<F: Files>(
+    alloc: Global,
+    files: &mut F,
+    board: &str,
+    listing: &Listing,
+) -> Result<SystemConfig, ImageFault>
+    requires { Lists (F.contents files.old) board.now listing.now }
+    ensures ok { IfOk result (IsReady (F.contents files.old) board.now listing.now) }
+    ensures err { IfErr result (OnRefused (Stops (F.contents files.old) board.now)) }
+    ensures counted { IfErr result (IsCounted (F.faults files.old) (F.faults files.new) (F.failed files.new)) }
+    ensures never_falls { F.faults files.old ≤ F.faults files.new }
+    ensures kept { F.contents files.new ≡ F.contents files.old }
+{
+    let system = read_system_file(alloc, files, board, listing)?;
+    check_system(alloc, board, listing.system.as_str(), &system)?;
+    Ok(system)
+}
+
+/// The preload whose turn comes behind those that are read, where it has no fault.
+fn next_preload<F: Files>(
+    alloc: Global,
+    files: &mut F,
+    board: &str,
+    system: &SystemConfig,
+    preloads: &[Preload],
+    file: &PreloadFile,
+) -> Result<Preload, ImageFault>
+    requires next { (listing : TheListing) × IsNextPreload (F.contents files.old) board.now listing system.now preloads.now file.now }
+    requires few { length preloads.now < 64 }
+    ensures ok { IfOk result (IsPreloadOf (F.contents files.old) file.now) }
+    ensures fit { IfOk result (IsFit system.now.hypervisor_memory preloads.now) }
+    ensures err { IfErr result (OnRefused (Stops (F.contents files.old) board.now)) }
+    ensures counted { IfErr result (IsCounted (F.faults files.old) (F.faults files.new) (F.failed files.new)) }
+    ensures never_falls { F.faults files.old ≤ F.faults files.new }
+    ensures kept { F.contents files.new ≡ F.contents files.old }
+{
+    let preload = read_preload(alloc, files, file)?;
+    let number = preloads.len() as u32;
+    if !is_fit(&system.hypervisor_memory, preloads, &preload) {
+        return Err(refused(alloc, board, ImageCause::Preload { number }));
+    }
+    Ok(preload)
+}
+
+/// The preloads that the board names, where none has a fault.
+fn read_preloads<F: Files>(
+    alloc: Global,
+    files: &mut F,
+    board: &str,
+    listing: &Listing,
+    system: &SystemConfig,
+) -> Result<Seq<Preload>, ImageFault>
+    requires ready { IsReady (F.contents files.old) board.now listing.now system.now }
+    requires few { length listing.now.preloads ≤ 64 }
+    ensures ok { IfOk result (Preloads (F.contents files.old) system.now.hypervisor_memory listing.now.preloads) }
+    ensures sound { IfOk result (All (IsSoundPreload system.now.hypervisor_memory)) }
+    ensures apart { IfOk result (AllPairs IsOtherPreload) }
+    ensures err { IfErr result (OnRefused (Stops (F.contents files.old) board.now)) }
+    ensures counted { IfErr result (IsCounted (F.faults files.old) (F.faults files.new) (F.failed files.new)) }
+    ensures never_falls { F.faults files.old ≤ F.faults files.new }
+    ensures kept { F.contents files.new ≡ F.contents files.old }
+{
+    let mut preloads = Seq::new(alloc);
+    let entries = listing.preloads.as_slice();
+    for file in entries {
+        let preload = next_preload(alloc, files, board, system, preloads.as_slice(), file)?;
+        preloads.push(preload)?;
+    }
+    Ok(preloads)
+}
+
+/// The programs that the board names.
+fn read_programs<F: Files>(
+    alloc: Global,
+    files: &mut F,
+    board: &str,
+    listing: &Listing,
+    system: &SystemConfig,
+    preloads: &[Preload],
+) -> Result<Seq<Program>, ImageFault>
+    requires loaded { HasPreloads (F.contents files.old) board.now listing.now system.now preloads.now }
+    requires distinct { are_distinct (map seat_of listing.now.programs) ≡ true }
+    ensures ok { IfOk result (Programs (F.contents files.old) listing.now.programs) }
+    ensures sound { IfOk result (All IsSoundProgram) }
+    ensures owned { IfOk result (AllPairs IsOtherProgram) }
+    ensures err { IfErr result (OnRefused (Stops (F.contents files.old) board.now)) }
+    ensures counted { IfErr result (IsCounted (F.faults files.old) (F.faults files.new) (F.failed files.new)) }
+    ensures never_falls { F.faults files.old ≤ F.faults files.new }
+    ensures kept { F.contents files.new ≡ F.contents files.old }
+{
+    let mut programs = Seq::new(alloc);
+    let entries = listing.programs.as_slice();
+    for file in entries {
+        let program = read_program_file(alloc, files, file)?;
+        programs.push(program)?;
+    }
+    Ok(programs)
+}
+
+/// Reads the board of this name and the files that it names: the system's, then each preload's, then each
+/// program's, and makes the image of them. The first cause decides why there is none.
+pub fn read_image<F: Files>(alloc: Global, files: &mut F, name: &str) -> Result<Image, ImageFault>
+    ensures answers { Answers (F.contents files.old) name.now result }
+    ensures admitted { IfOk result MayOpen }
+    ensures opens { IfOk result IsAdmitted }
+    ensures built { IfOk result IsBuilt }
+    ensures counted { IfErr result (IsCounted (F.faults files.old) (F.faults files.new) (F.failed files.new)) }
+    ensures never_falls { F.faults files.old ≤ F.faults files.new }
+    ensures kept { F.contents files.new ≡ F.contents files.old }
+{
+    let listing = read_listing(alloc, files, name)?;
+    let system = read_ready(alloc, files, name, &listing)?;
+    let preloads = read_preloads(alloc, files, name, &listing, &system)?;
+    let programs = read_programs(alloc, files, name, &listing, &system, preloads.as_slice())?;
+    let image = Image {
+        system,
+        preloads,
+        programs,
+    };
+    if !is_built(&image) {
+        return Err(refused(alloc, name, ImageCause::NotBuilt));
+    }
+    admitted_images_are_taken(&image);
+    Ok(image)
+}

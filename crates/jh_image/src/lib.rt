@@ -1,0 +1,28 @@
+//! What a board's text tells, and the image that its files make.
+#![tactic(auto)]
+
+mod admission;
+mod board;
+mod entry;
+mod fault;
+mod file_name;
+mod fit;
+mod image;
+mod laws;
+mod list;
+mod read;
+mod refusal;
+mod text;
+mod value;
+
+pub use admission::admit;
+pub use board::{BoardFault, Listing, PreloadFile, ProgramFile, read_board};
+pub use fault::{ImageCause, ImageFault};
+pub use file_name::FileName;
+pub use image::read_image;
+pub use laws::admitted_images_are_taken;
+pub use read::MAX_FILE_SIZE;
+pub use text::cause_text;
+
+#[cfg(test)]
+mod tests;

@@ -1,0 +1,128 @@
+//! A board's lists.
+ghost use Rattle.std.specs.Prelude.{◌≡◌, ◌≤◌, IfOk, IfSome, length, map, not, true};
+ghost use Rattle.std.specs.List.{list_any};
+ghost use Rattle.jh_image.specs.declared.board.ProgramFile.{ProgramFile as TheProgramFile};
+ghost use Rattle.serde_json.specs.Find.{get};
+ghost use Rattle.serde_json.specs.View.{view, items_view};
+ghost use Rattle.jh_image.specs.Told.{items_told, list_told};
+ghost use Rattle.jh_image.specs.Boards.{preload_told, program_told, preloads_told, programs_told, are_distinct, seat_of, is_seat};
+
+use crate::board::{PreloadFile, ProgramFile};
+use crate::entry::{preload, program};
+use jh_num::{NoMemory, Seq};
+use serde_json::Value;
+use std::alloc::Global;
+
+/// The most preloads of a board.
+const MAX_PRELOADS: usize = 64;
+
+/// The most programs of a board.
+const MAX_PROGRAMS: usize = 256;
+
+/// The preloads that the entries tell of, where each tells of one.
+fn preload_entries(alloc: Global, entries: &[Value]) -> Result<Option<Seq<PreloadFile>>, NoMemory>
+    ensures { IfOk result (λ told. told ≡ items_told preload_told (items_view entries.now)) }
+{
+    let mut files = Seq::new(alloc);
+    for entry in entries {
+        match preload(alloc, entry)? {
+            Some(file) => files.push(file)?,
+            None => return Ok(None),
+        }
+    }
+    Ok(Some(files))
+}
+
+/// The programs that the entries tell of, where each tells of one.
+fn program_entries(alloc: Global, entries: &[Value]) -> Result<Option<Seq<ProgramFile>>, NoMemory>
+    ensures { IfOk result (λ told. told ≡ items_told program_told (items_view entries.now)) }
+{
+    let mut files = Seq::new(alloc);
+    for entry in entries {
+        match program(alloc, entry)? {
+            Some(file) => files.push(file)?,
+            None => return Ok(None),
+        }
+    }
+    Ok(Some(files))
+}
+
+/// The preloads in a list that isn't too long.
+fn preload_list(alloc: Global, list: &Value) -> Result<Option<Seq<PreloadFile>>, NoMemory>
+    ensures told { IfOk result (λ told. told ≡ list_told preload_told 64 (view list.now)) }
+    ensures few { IfOk result (λ told. IfSome told (λ files. length files ≤ 64)) }
+{
+    let Some(entries) = list.as_array() else {
+        return Ok(None);
+    };
+    match preload_entries(alloc, entries.as_slice())? {
+        Some(files) if files.len() <= MAX_PRELOADS => Ok(Some(files)),
+        _ => Ok(None),
+    }
+}
+
+/// The programs in a list that isn't too long.
+fn program_list(alloc: Global, list: &Value) -> Result<Option<Seq<ProgramFile>>, NoMemory>
+    ensures { IfOk result (λ told. told ≡ list_told program_told 256 (view list.now)) }
+{
+    let Some(entries) = list.as_array() else {
+        return Ok(None);
+    };
+    match program_entries(alloc, entries.as_slice())? {
+        Some(files) if files.len() <= MAX_PROGRAMS => Ok(Some(files)),
+        _ => Ok(None),
+    }
+}
+
+/// The board's preloads; none where the member is missing.
+#[tactic(auto, unfolding(crate::specs::Boards::preloads_told))]
+pub(crate) fn preloads(alloc: Global, object: &Value) -> Result<Option<Seq<PreloadFile>>, NoMemory>
+    ensures told { IfOk result (λ told. told ≡ preloads_told (view object.now)) }
+    ensures few { IfOk result (λ told. IfSome told (λ files. length files ≤ 64)) }
+{
+    match object.get("preloads") {
+        Some(list) => preload_list(alloc, list),
+        None => Ok(Some(Seq::new(alloc))),
+    }
+}
+
+/// Whether both are of one CPU of one cell.
+fn is_same_seat(one: &ProgramFile, other: &ProgramFile) -> bool
+    ensures { result ≡ is_seat (seat_of one.now) (seat_of other.now) }
+{
+    one.cell.as_slice() == other.cell.as_slice() && one.cpu == other.cpu
+}
+
+/// Whether none of the others is of the same CPU of the same cell.
+fn is_another(file: &ProgramFile, others: &[ProgramFile]) -> bool
+    ensures { result ≡ not (list_any (λ (other : TheProgramFile). is_seat (seat_of file.now) (seat_of other)) others.now) }
+{
+    !others.iter().any(|other| is_same_seat(file, other))
+}
+
+/// Whether no two are of one CPU of one cell.
+fn are_distinct(files: &[ProgramFile]) -> bool
+    ensures { result ≡ are_distinct (map seat_of files.now) }
+{
+    for i in 0..files.len() {
+        if !is_another(&files[i], &files[i + 1..]) {
+            return false;
+        }
+    }
+    true
+}
+
+/// The board's programs; none where the member is missing.
+#[tactic(auto, unfolding(crate::specs::Boards::programs_told, crate::specs::Boards::are_distinct))]
+pub(crate) fn programs(alloc: Global, object: &Value) -> Result<Option<Seq<ProgramFile>>, NoMemory>
+    ensures told { IfOk result (λ told. told ≡ programs_told (view object.now)) }
+    ensures distinct { IfOk result (λ told. IfSome told (λ files. are_distinct (map seat_of files) ≡ true)) }
+{
+    let Some(list) = object.get("programs") else {
+        return Ok(Some(Seq::new(alloc)));
+    };
+    match program_list(alloc, list)? {
+        Some(files) if are_distinct(files.as_slice()) => Ok(Some(files)),
+        _ => Ok(None),
+    }
+}

@@ -1,0 +1,31 @@
+//! Refusals by the name of a file.
+ghost use Rattle.jh_image.specs.Causes.{OnRefused, IsRefusal, IsBoardRefusal};
+
+use crate::board::BoardFault;
+use crate::fault::{ImageCause, ImageFault};
+use jh_num::Seq;
+use std::alloc::Global;
+
+/// The file of this name is refused for the cause.
+pub(crate) fn refused(alloc: Global, name: &str, cause: ImageCause) -> ImageFault
+    ensures { OnRefused (IsRefusal name.now cause) result }
+{
+    match Vec::from_slice(alloc, name.as_bytes()) {
+        Ok(bytes) => ImageFault::Refused {
+            file: Seq::from_vec(bytes),
+            cause,
+        },
+        Err(_) => ImageFault::NoMemory,
+    }
+}
+
+/// The board of this name is refused for its fault.
+pub(crate) fn refused_board(alloc: Global, name: &str, fault: BoardFault) -> ImageFault
+    ensures { OnRefused (IsBoardRefusal name.now fault) result }
+{
+    match fault {
+        BoardFault::Json => refused(alloc, name, ImageCause::Json),
+        BoardFault::Member(member) => refused(alloc, name, ImageCause::Member(member)),
+        BoardFault::NoMemory => ImageFault::NoMemory,
+    }
+}

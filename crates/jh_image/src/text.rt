@@ -1,0 +1,39 @@
+//! The words for a cause.
+ghost use Rattle.std.specs.Prelude.{◌≡◌, ◌++◌, IfOk};
+ghost use Rattle.jh_image.specs.Texts.{cause_text};
+
+use crate::fault::ImageCause;
+use jh_num::NoMemory;
+use std::alloc::Global;
+
+/// The word, and the bytes behind it.
+fn words(alloc: Global, word: &str, behind: &[u8]) -> Result<Vec<u8>, NoMemory>
+    ensures { IfOk result (λ text. text.items ≡ word.now ++ behind.now) }
+{
+    let mut text = Vec::from_slice(alloc, word.as_bytes())?;
+    text.extend_from_slice(behind)?;
+    Ok(text)
+}
+
+/// What stands behind the file's name in the line of a refusal, without its line feed. The name of a member is
+/// its UTF-8 bytes.
+pub fn cause_text(alloc: Global, cause: &ImageCause) -> Result<Vec<u8>, NoMemory>
+    ensures { IfOk result (λ text. text.items ≡ cause_text cause.now) }
+{
+    let text = match cause {
+        ImageCause::Member(name) => return words(alloc, "member ", name.as_slice()),
+        ImageCause::ReadFault => String::from_str(alloc, "read fault")?,
+        ImageCause::Oversize => String::from_str(alloc, "oversize")?,
+        ImageCause::Json => String::from_str(alloc, "json")?,
+        ImageCause::System(fault) => fault.to_string(alloc)?,
+        ImageCause::Findings(found) => {
+            let count = found.len();
+            format!(in alloc; "findings {count}")?
+        }
+        ImageCause::PoolSmall { need, have } => format!(in alloc; "pool {need} {have}")?,
+        ImageCause::Preload { number } => format!(in alloc; "preload {number}")?,
+        ImageCause::Program(fault) => fault.to_string(alloc)?,
+        ImageCause::NotBuilt => String::from_str(alloc, "not built")?,
+    };
+    Ok(text.into_bytes())
+}
