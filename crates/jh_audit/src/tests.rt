@@ -1,10 +1,10 @@
 //! Journals of a program of two lines, judged.
 
 use crate::{AUDIT_LIMIT, Verdict, audit};
-use jh_first::{make_image, read_program, read_system};
-use jh_history::{Act, Entry};
-use jh_num::NoMemory;
-use jh_script::Image;
+use jh_history::{Act, Entry, is_admitted, is_built};
+use jh_num::{NoMemory, Seq};
+use jh_script::{Image, Program, read_program};
+use jh_syscfg::read_system;
 use jh_text::read_journal;
 use std::alloc::Global;
 use std::process::Abort;
@@ -14,7 +14,7 @@ const PROGRAM: &str = "write 8 0x40000000 0x1122334455667788\nread 4 0x40000004\
 
 const FIRST: &str = "0 0 write 8 0x40000000 0x1122334455667788 = ok\n";
 
-/// The system of the first form whose root has memory from 0x40000000 to 0x7fc00000.
+/// A system whose root has memory from 0x40000000 to 0x7fc00000, and CPU 0.
 fn system(alloc: Global) -> Result<Vec<u8>, NoMemory> {
     let mut bytes = Vec::new(alloc);
     bytes.extend_from_slice(b"JHSYST\x0d\x00\x00\x00\x00\x00")?;
@@ -34,19 +34,37 @@ fn system(alloc: Global) -> Result<Vec<u8>, NoMemory> {
     Ok(bytes)
 }
 
+/// The image of that system and the program.
+fn image(alloc: Global) -> Result<Option<Image>, NoMemory> {
+    let Ok(system) = read_system(alloc, system(alloc)?.as_slice()) else {
+        return Ok(None);
+    };
+    let Ok(ops) = read_program(alloc, PROGRAM.as_bytes()) else {
+        return Ok(None);
+    };
+    let program = Program {
+        cell: Seq::from_vec(Vec::from_slice(alloc, b"root")?),
+        cpu: 0,
+        ops,
+    };
+    Ok(Some(Image {
+        system,
+        preloads: Seq::new(alloc),
+        programs: Seq::from_vec(vec![in alloc; program]?),
+    }))
+}
+
 /// What is found of the journal whose text is this behind its first line.
 fn judged(alloc: Global, rest: &str) -> Result<Option<Verdict>, NoMemory> {
     let mut text = String::from_str(alloc, FIRST)?;
     text.push_str(rest)?;
-    let Some(system) = read_system(alloc, system(alloc)?.as_slice())? else {
+    let Ok(journal) = read_journal(alloc, text.as_bytes()) else {
         return Ok(None);
     };
-    let Some(ops) = read_program(alloc, PROGRAM.as_bytes())? else {
-        return Ok(None);
-    };
-    match read_journal(alloc, text.as_bytes()) {
-        Ok(journal) if journal.len() <= AUDIT_LIMIT as usize => {
-            Ok(Some(audit(alloc, make_image(alloc, system, ops)?, &journal)?))
+    match image(alloc)? {
+        Some(image)
+            if is_admitted(&image) && is_built(&image) && journal.len() <= AUDIT_LIMIT as usize => {
+            Ok(Some(audit(alloc, image, &journal)?))
         }
         _ => Ok(None),
     }

@@ -1,6 +1,6 @@
+pub mod BoardLemmas
 pub mod CellLemmas
-pub mod FewLemmas
-pub mod LimitLemmas
+pub mod CpuLemmas
 pub mod PlayedLemmas
 pub mod StatusLemmas
 pub mod StopLemmas

@@ -2,7 +2,6 @@
 use Rattle.std.proofs.Common.{◌≡◌, ℕ, List, refl, sym, ◌∙◌, ap, subst}
 use Rattle.jh_script.specs.declared.image.Image.{Image}
 use Rattle.jh_history.specs.declared.entry.Entry.{Entry}
-use Rattle.jh_history.specs.Admitted.{IsAdmitted}
 use Rattle.jh_history.specs.Due.{IsLegal, IsQuiet}
 use Rattle.jh_history.specs.Items.{Reached, played}
 use Rattle.jh_text.specs.Text.{journal_text}
@@ -25,11 +24,11 @@ abbrev told_of : Reached → Said
 told_of reached = record { status = played_status reached.full; text = journal_text reached.entries }
 
 -- the board at the played journal, and how it ended, tell the play
-pub IsPlayed-from : (image : Image) (cpus : List ℕ) (board : BoardView) (ended : Ended) (status : Status) (text : List ℕ) → IsAdmitted image
+pub IsPlayed-from : (image : Image) (cpus : List ℕ) (board : BoardView) (ended : Ended) (status : Status) (text : List ℕ)
     → Plays image JOURNAL_LIMIT cpus board ended → IsLegal image board.entries → (ended ≡ Quiet → IsQuiet image board.entries)
     → status ≡ played_status (is_full ended) → text ≡ journal_text board.entries
     → IsPlayed image cpus (record { status = status; text = text })
-IsPlayed-from image cpus board ended status text admitted plays legal quiet is_status is_text =
+IsPlayed-from image cpus board ended status text plays legal quiet is_status is_text =
     let entries : board.entries ≡ (played image JOURNAL_LIMIT cpus).entries = ap (λ (r : Reached). r.entries) (sym plays.0) in
     let Legal : List Entry → Type 0 = λ es. IsLegal image es in
     let Quieted : List Entry → Type 0 = λ es. IsQuiet image es in
@@ -37,7 +36,6 @@ IsPlayed-from image cpus board ended status text admitted plays legal quiet is_s
     let of_text : List ℕ → Said = λ (t : List ℕ). record { status = played_status (is_full ended); text = t } in
     record {
       told = ap of_status is_status ∙ ap of_text is_text ∙ ap told_of (sym plays.0);
-      admitted = admitted;
       legal = subst Legal entries legal;
       quiet = λ good. subst Quieted entries (quiet (good_is_quiet ended (sym is_status ∙ good)));
     }

@@ -2,6 +2,8 @@ pub mod Words
 pub mod Lines
 pub mod Reading
 pub mod Check
+pub mod Boards
 pub mod Play
+pub mod Audit
 pub mod Outcome
 pub mod Stopped

@@ -15,29 +15,42 @@ pub record Said : Type 0 where
 abbrev pub Contents : Type 0
 Contents = List ℕ → Told
 
--- the file of this name is refused by these words
-pub record IsRefused (contents : Contents) (name : List ℕ) (Why : List ℕ → List ℕ → Type 0) (said : Said) : Type 0 where
+-- the file of this name, of which so many bytes are asked, is refused by these words
+pub record IsRefused (most : ℕ) (contents : Contents) (name : List ℕ) (Why : List ℕ → List ℕ → Type 0) (said : Said) : Type 0 where
   pub bytes : List ℕ
-  pub handed : HandsOut (contents name) MOST bytes
+  pub handed : HandsOut (contents name) most bytes
   pub words : List ℕ
   pub why : Why bytes words
   pub told : said ≡ record { status = Refused; text = refusal_line name words }
 
 -- the call ends at this file: it could not be read, or is refused
+abbrev pub StopsAt : ℕ → Contents → List ℕ → (List ℕ → List ℕ → Type 0) → Said → Type 0
+StopsAt most contents name Why said = (said ≡ record { status = ReadFault; text = fault_line name }) ⊎ IsRefused most contents name Why said
+
 abbrev pub Stops : Contents → List ℕ → (List ℕ → List ℕ → Type 0) → Said → Type 0
-Stops contents name Why said = (said ≡ record { status = ReadFault; text = fault_line name }) ⊎ IsRefused contents name Why said
+Stops contents name Why said = StopsAt MOST contents name Why said
 
 module _ {A : Type 0} where
-  -- the file hands out bytes that spell this value
-  pub record Spells (contents : Contents) (name : List ℕ) (Form : List ℕ → A → Type 0) (value : A) : Type 0 where
+  -- the file hands out bytes that spell this value, where so many are asked
+  pub record SpellsAt (most : ℕ) (contents : Contents) (name : List ℕ) (Form : List ℕ → A → Type 0) (value : A) : Type 0 where
     pub bytes : List ℕ
-    pub handed : HandsOut (contents name) MOST bytes
+    pub handed : HandsOut (contents name) most bytes
     pub spelled : Form bytes value
 
+  abbrev pub Spells : Contents → List ℕ → (List ℕ → A → Type 0) → A → Type 0
+  Spells contents name Form value = SpellsAt MOST contents name Form value
+
   -- the file is read: the call ends at it, or goes on with what it spells
+  abbrev pub ReadsAt : ℕ → Contents → List ℕ → (List ℕ → List ℕ → Type 0) → (List ℕ → A → Type 0) → (A → Said → Type 0) → Said → Type 0
+  ReadsAt most contents name Why Form next said = StopsAt most contents name Why said ⊎ ((value : A) × SpellsAt most contents name Form value × next value said)
+
   abbrev pub Reads : Contents → List ℕ → (List ℕ → List ℕ → Type 0) → (List ℕ → A → Type 0) → (A → Said → Type 0) → Said → Type 0
-  Reads contents name Why Form next said = Stops contents name Why said ⊎ ((value : A) × Spells contents name Form value × next value said)
+  Reads contents name Why Form next said = ReadsAt MOST contents name Why Form next said
+
+-- the file has more bytes than it may have: all those that were asked, of which one is too many
+abbrev pub IsOversizeAt : ℕ → List ℕ → List ℕ → Type 0
+IsOversizeAt most bytes words = (most ≤ length bytes) × (words ≡ codes "oversize")
 
 -- a file has at most 1 MiB
 abbrev pub IsOversize : List ℕ → List ℕ → Type 0
-IsOversize bytes words = (MOST ≤ length bytes) × (words ≡ codes "oversize")
+IsOversize bytes words = IsOversizeAt MOST bytes words

@@ -1,7 +1,5 @@
 -- What a step of a play says of the files and of how it stopped.
-use Rattle.std.specs.Prelude.{◌≡◌, ℕ, ⊤, List, string_bytes}
-use Rattle.jh_first.specs.Board.{Names}
-use Rattle.jh_first.specs.declared.board.BoardNames.{BoardNames}
+use Rattle.std.specs.Prelude.{◌≡◌, ℕ, ⊤, List}
 use Rattle.jh_outside.specs.Count.{Rose}
 use Rattle.jh_cli.specs.declared.told.Told.{Told}
 use Rattle.jh_cli.specs.declared.told.Stop.{Stop}
@@ -22,7 +20,3 @@ OnEnded NoMemory P = ⊤
 -- a fault of reading is told only where the count of faults rose, and its line names the read that failed
 abbrev pub IsCounted : ℕ → ℕ → List ℕ → Said → Type 0
 IsCounted old new failed said = said.status ≡ ReadFault → Rose old new × (said.text ≡ fault_line failed)
-
--- the names that a board was read to have
-abbrev pub names_of : BoardNames → Names
-names_of names = record { system = string_bytes names.system; program = string_bytes names.program }

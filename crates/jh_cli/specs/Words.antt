@@ -3,12 +3,13 @@ use Rattle.std.specs.Prelude.{ℕ, Bool, true, not, ◌==◌, nat_le, if◌then�
 use Rattle.std.specs.List.{list_all}
 use Rattle.std.specs.Cmp.Lexicographic.{pointwise}
 use Rattle.jh_cli.specs.declared.command.Command.{Command}
-use Rattle.jh_cli.specs.declared.command.Command.TheVariants.{Check, Play}
+use Rattle.jh_cli.specs.declared.command.Command.TheVariants.{Check, Play, Audit}
 
 -- what a command asks for, with the names of its files
 pub data Asked : Type 0 where
   CheckOf : List ℕ → List (List ℕ) → Asked
   PlayOf : List ℕ → List ℕ → Asked
+  AuditOf : List ℕ → List ℕ → Asked
 
 -- a word that begins with `-` is no operand
 abbrev pub is_operand : List ℕ → Bool
@@ -31,12 +32,20 @@ play_of (board ∷ []) = None
 play_of (board ∷ schedule ∷ []) = Some (PlayOf board schedule)
 play_of (board ∷ schedule ∷ other ∷ more) = None
 
+-- `audit` has a board and a journal
+abbrev pub audit_of : List (List ℕ) → Option Asked
+audit_of [] = None
+audit_of (board ∷ []) = None
+audit_of (board ∷ journal ∷ []) = Some (AuditOf board journal)
+audit_of (board ∷ journal ∷ other ∷ more) = None
+
 -- the command of this word with these operands; those that aren't built yet have none
 abbrev pub asked_for : List ℕ → List (List ℕ) → Option Asked
 asked_for word operands =
     if is_word word (codes "check") then check_of operands
     else (if is_word word (codes "play") then play_of operands
-    else None)
+    else (if is_word word (codes "audit") then audit_of operands
+    else None))
 
 -- the command of the words: the program's name, the command's word letter for letter, and its operands
 abbrev pub command_of : List (List ℕ) → Option Asked
@@ -48,6 +57,7 @@ command_of (name ∷ word ∷ operands) = if list_all is_operand operands then a
 abbrev pub asked_by : Command → Asked
 asked_by (Check system cells) = CheckOf system.now (map string_bytes cells.now)
 asked_by (Play board schedule) = PlayOf board.now schedule.now
+asked_by (Audit board journal) = AuditOf board.now journal.now
 
 -- it has at most 15 cells
 abbrev pub HasFewCells : Command → Type 0

@@ -24,7 +24,7 @@ fn faulty(alloc: Global, name: &str, fault: &ConfigFault) -> Stop
 {
     let mut words = String::new(alloc);
     match write!(words, "{fault}") {
-        Ok(()) => refused(alloc, name, words.as_bytes()),
+        Ok(()) => refused(alloc, name.as_bytes(), words.as_bytes()),
         Err(_) => Stop::NoMemory,
     }
 }

@@ -2,7 +2,7 @@
 ghost use Rattle.std.specs.Prelude.{◌≡◌, ◌==◌, IfSome, None, map, string_bytes, not, slice_get, Bool};
 ghost use Rattle.std.specs.List.{list_all};
 ghost use Rattle.std.specs.Option.{option_map};
-ghost use Rattle.jh_cli.specs.Words.{is_operand as is_operand_lem, check_of as check_of_lem, play_of as play_of_lem, asked_for as asked_for_lem, command_of as command_of_lem, asked_by, HasFewCells};
+ghost use Rattle.jh_cli.specs.Words.{is_operand as is_operand_lem, check_of as check_of_lem, play_of as play_of_lem, audit_of as audit_of_lem, asked_for as asked_for_lem, command_of as command_of_lem, asked_by, HasFewCells};
 
 /// How many cells are checked at most.
 const MOST_CELLS: usize = 15;
@@ -19,6 +19,11 @@ pub enum Command<'a> {
     Play {
         board: &'a str,
         schedule: &'a str,
+    },
+    /// Judges a journal by a board.
+    Audit {
+        board: &'a str,
+        journal: &'a str,
     },
 }
 
@@ -67,6 +72,19 @@ fn play_of(operands: &[String]) -> Option<Command<'_>>
     }
 }
 
+fn audit_of(operands: &[String]) -> Option<Command<'_>>
+    ensures command { option_map asked_by result ≡ audit_of_lem (map string_bytes operands.now) }
+    ensures few { IfSome result HasFewCells }
+{
+    match operands {
+        [board, journal] => Some(Command::Audit {
+            board: board.as_str(),
+            journal: journal.as_str(),
+        }),
+        _ => None,
+    }
+}
+
 /// The command of this word with these operands.
 fn asked_for<'a>(word: &str, operands: &'a [String]) -> Option<Command<'a>>
     ensures command { option_map asked_by result ≡ asked_for_lem word.now (map string_bytes operands.now) }
@@ -76,6 +94,8 @@ fn asked_for<'a>(word: &str, operands: &'a [String]) -> Option<Command<'a>>
         check_of(operands)
     } else if word == "play" {
         play_of(operands)
+    } else if word == "audit" {
+        audit_of(operands)
     } else {
         None
     }

@@ -1,12 +1,14 @@
 //! The program's one call: words and files in, a text and a status out.
 #![tactic(auto)]
 
+mod audit;
+mod boards;
 mod check;
 mod command;
-mod laws;
 mod limits;
 mod lines;
 mod play;
+mod schedule;
 mod send;
 mod status;
 mod tell;
@@ -16,7 +18,6 @@ mod told;
 mod top;
 
 pub use command::{Command, command_of};
-pub use laws::first_form_never_fills_a_journal;
-pub use limits::{JOURNAL_LIMIT, MOST};
+pub use limits::{JOURNAL_LIMIT, MOST, MOST_OF_A_JOURNAL};
 pub use status::Status;
 pub use top::jailhouse;

@@ -18,23 +18,23 @@ pub fn usage_line(alloc: Global) -> Result<Vec<u8>, NoMemory>
 }
 
 /// The file of this name could not be read.
-pub fn fault_line(alloc: Global, name: &str) -> Result<Vec<u8>, NoMemory>
+pub fn fault_line(alloc: Global, name: &[u8]) -> Result<Vec<u8>, NoMemory>
     ensures { IfOk result (λ text. text.items ≡ fault_line_lem name.now) }
 {
     let mut text = Vec::new(alloc);
     text.extend_from_slice(b"read fault: ")?;
-    text.extend_from_slice(name.as_bytes())?;
+    text.extend_from_slice(name)?;
     text.push(b'\n')?;
     Ok(text)
 }
 
 /// The file of this name is refused for what the words say.
-pub fn refusal_line(alloc: Global, name: &str, words: &[u8]) -> Result<Vec<u8>, NoMemory>
+pub fn refusal_line(alloc: Global, name: &[u8], words: &[u8]) -> Result<Vec<u8>, NoMemory>
     ensures { IfOk result (λ text. text.items ≡ refusal_line_lem name.now words.now) }
 {
     let mut text = Vec::new(alloc);
     text.extend_from_slice(b"refused: ")?;
-    text.extend_from_slice(name.as_bytes())?;
+    text.extend_from_slice(name)?;
     text.extend_from_slice(b": ")?;
     text.extend_from_slice(words)?;
     text.push(b'\n')?;

@@ -5,6 +5,7 @@ ghost use Rattle.jh_cli.specs.Lines.{usage_line as usage_line_lem};
 ghost use Rattle.jh_cli.specs.Outcome.{Outcome};
 ghost use Rattle.jh_cli.specs.Stopped.{said_of, OnEnded, IsCounted};
 
+use crate::audit::audit;
 use crate::check::check;
 use crate::command::{Command, command_of};
 use crate::lines::usage_line;
@@ -26,6 +27,7 @@ fn obey<F: Files>(alloc: Global, command: Command<'_>, files: &mut F) -> Result<
     match command {
         Command::Check { system, cells } => check(alloc, files, system, cells),
         Command::Play { board, schedule } => play(alloc, files, board, schedule),
+        Command::Audit { board, journal } => audit(alloc, files, board, journal),
     }
 }
 

@@ -1,9 +1,7 @@
 //! The top call over files and a sink in memory.
 
 use crate::{Status, jailhouse};
-use jh_board::{Board, Turn, TurnFault};
-use jh_first::{make_image, read_program, read_system};
-use jh_num::{NoMemory, Steps};
+use jh_num::NoMemory;
 use jh_outside::{Files, MemFiles, MemSink, Sink};
 use std::alloc::Global;
 use std::process::Abort;
@@ -20,7 +18,7 @@ const JOURNAL: &str =
 const USAGE: &str =
     "usage: jailhouse check SYSTEM CELL... | pack SPEC | play BOARD SCHEDULE | run BOARD | map BOARD SCHEDULE | tables BOARD SCHEDULE | audit BOARD JOURNAL | soak N\n";
 
-/// The system of the first form whose root has memory from 0x40000000 to 0x7fc00000.
+/// A system whose root has memory from 0x40000000 to 0x7fc00000, and CPU 0.
 fn system(alloc: Global) -> Result<Vec<u8>, NoMemory> {
     let mut bytes = Vec::new(alloc);
     bytes.extend_from_slice(b"JHSYST\x0d\x00\x00\x00\x00\x00")?;
@@ -106,18 +104,6 @@ fn fills(rt: &impl Abort, alloc: Global, room: usize, status: Status) -> Result<
     Ok(())
 }
 
-/// A board of the image of the first form with this program, and with a journal of at most `limit`
-/// entries.
-fn board(alloc: Global, program: &str, limit: u32) -> Result<Option<Board>, NoMemory> {
-    let Some(system) = read_system(alloc, system(alloc)?.as_slice())? else {
-        return Ok(None);
-    };
-    let Some(ops) = read_program(alloc, program.as_bytes())? else {
-        return Ok(None);
-    };
-    Ok(Board::open(alloc, make_image(alloc, system, ops)?, limit).ok())
-}
-
 const PLAY: [&str; 4] = ["jailhouse", "play", "b.json", "s.txt"];
 
 #[test]
@@ -140,6 +126,7 @@ fn words_without_a_command_give_the_usage_line(rt: HostRuntime) -> Result<(), Fa
         ["jailhouse", "Play", "b.json", "s.txt"].as_slice(),
         ["jailhouse", "check"].as_slice(),
         ["jailhouse", "check", "s.sys", "-c"].as_slice(),
+        ["jailhouse", "audit", "b.json"].as_slice(),
     ] {
         ends(&rt, rt.alloc(), &mut files, texts, Status::Usage, USAGE)?;
     }
@@ -184,13 +171,101 @@ fn a_check_tells_findings_and_their_number(rt: HostRuntime) -> Result<(), Fail> 
 }
 
 #[test]
-fn programs_end_by_their_form(rt: HostRuntime) -> Result<(), Fail> {
+fn programs_are_played_or_refused(rt: HostRuntime) -> Result<(), Fail> {
     let alloc = rt.alloc();
-    let refused = "refused: p.txt: not built\n";
     plays(&rt, alloc, "", Status::Good, "")?;
-    plays(&rt, alloc, "fetch 0x40000000\n", Status::Refused, refused)?;
-    plays(&rt, alloc, "read 4 0x40000000", Status::Refused, refused)?;
-    plays(&rt, alloc, "read 3 0x40000000\n", Status::Refused, refused)?;
+    plays(
+        &rt,
+        alloc,
+        "# a comment\r\nfetch 0x40000000",
+        Status::Good,
+        "0 0 fetch 0x40000000 = 0x0\n",
+    )?;
+    plays(
+        &rt,
+        alloc,
+        "irq\nread 3 0x0\n",
+        Status::Refused,
+        "refused: p.txt: line 2: width\n",
+    )?;
+    plays(
+        &rt,
+        alloc,
+        "hvc 5 0 0\n",
+        Status::Refused,
+        "refused: b.json: not built\n",
+    )?;
+    Ok(())
+}
+
+/// Plays by this schedule, and compares how that ends.
+fn plays_by(
+    rt: &impl Abort,
+    alloc: Global,
+    schedule: &str,
+    status: Status,
+    text: &str,
+) -> Result<(), NoMemory> {
+    let mut files = files(alloc, PROGRAM)?;
+    files.add("s.txt", schedule.as_bytes())?;
+    ends(rt, alloc, &mut files, &PLAY, status, text)
+}
+
+#[test]
+fn schedules_are_followed_or_refused(rt: HostRuntime) -> Result<(), Fail> {
+    let alloc = rt.alloc();
+    plays_by(&rt, alloc, "0\t0\r\n0", Status::Good, JOURNAL)?;
+    plays_by(
+        &rt,
+        alloc,
+        "0 1",
+        Status::Refused,
+        "refused: s.txt: item 2\n",
+    )?;
+    Ok(())
+}
+
+const AUDIT: [&str; 4] = ["jailhouse", "audit", "b.json", "j.txt"];
+
+/// Audits this journal, and compares how that ends.
+fn audits(
+    rt: &impl Abort,
+    alloc: Global,
+    journal: &str,
+    status: Status,
+    text: &str,
+) -> Result<(), NoMemory> {
+    let mut files = files(alloc, PROGRAM)?;
+    files.add("j.txt", journal.as_bytes())?;
+    ends(rt, alloc, &mut files, &AUDIT, status, text)
+}
+
+#[test]
+fn journals_are_judged(rt: HostRuntime) -> Result<(), Fail> {
+    let alloc = rt.alloc();
+    audits(&rt, alloc, JOURNAL, Status::Good, "legal 2 quiet\n")?;
+    audits(&rt, alloc, "", Status::Good, "legal 0 unfinished\n")?;
+    audits(
+        &rt,
+        alloc,
+        "0 0 write 8 0x40000000 0x1122334455667788 = ok\n0 0 read 4 0x40000004 = 0x11223345\n",
+        Status::Found,
+        "illegal line 2: due 0 0 read 4 0x40000004 = 0x11223344\n",
+    )?;
+    audits(
+        &rt,
+        alloc,
+        "1 0 stop\n",
+        Status::Found,
+        "illegal line 1: nothing due\n",
+    )?;
+    audits(
+        &rt,
+        alloc,
+        "0 0 stop",
+        Status::Refused,
+        "refused: j.txt: line 1\n",
+    )?;
     Ok(())
 }
 
@@ -240,20 +315,5 @@ fn a_sink_that_fills_up_has_a_front_of_the_text(rt: HostRuntime) -> Result<(), F
         fills(&rt, rt.alloc(), room, Status::WriteFault)?;
     }
     fills(&rt, rt.alloc(), JOURNAL.len(), Status::Good)?;
-    Ok(())
-}
-
-#[test]
-fn a_full_board_refuses_a_turn_and_goes_on(rt: HostRuntime) -> Result<(), Fail> {
-    let Some(mut board) = board(rt.alloc(), PROGRAM, 1)? else {
-        return Err("the board is in the first form")?;
-    };
-    assert!(rt; board.has_cpu(0));
-    let mut steps = Steps::new();
-    let first = board.turn(0, &mut steps);
-    assert!(rt; matches!(&first, Ok(Turn::Made(_))));
-    assert_eq!(rt; board.turn(0, &mut steps), Err(TurnFault::Full));
-    assert_eq!(rt; board.turn(0, &mut steps), Err(TurnFault::Full));
-    assert_eq!(rt; board.journal().len(), 1);
     Ok(())
 }

@@ -2,7 +2,7 @@
 ghost use Rattle.std.specs.Prelude.{◌≡◌, ◌≤◌, ◌<◌, ◌⊎◌, length, codes, OnOk, IfOk, IfErr};
 ghost use Rattle.jh_outside.specs.Reads.{HandsOut};
 ghost use Rattle.jh_cli.specs.Lines.{fault_line as fault_line_lem, refusal_line as refusal_line_lem};
-ghost use Rattle.jh_cli.specs.Reading.{Said, Stops, IsOversize};
+ghost use Rattle.jh_cli.specs.Reading.{Said, Stops, StopsAt, IsOversize, IsOversizeAt};
 ghost use Rattle.jh_cli.specs.Stopped.{said_of, OnEnded, IsCounted};
 
 use crate::limits::MOST;
@@ -38,7 +38,7 @@ impl From<NoMemory> for Stop {
 }
 
 /// The call ends since the file of this name could not be read.
-pub fn faulted(alloc: Global, name: &str) -> Stop
+pub fn faulted(alloc: Global, name: &[u8]) -> Stop
     ensures { OnEnded result (λ said. said ≡ record { status = Status.ReadFault; text = fault_line_lem name.now }) }
 {
     match fault_line(alloc, name) {
@@ -51,7 +51,7 @@ pub fn faulted(alloc: Global, name: &str) -> Stop
 }
 
 /// The call ends since the file of this name is refused for what the words say.
-pub fn refused(alloc: Global, name: &str, words: &[u8]) -> Stop
+pub fn refused(alloc: Global, name: &[u8], words: &[u8]) -> Stop
     ensures { OnEnded result (λ said. said ≡ record { status = Status.Refused; text = refusal_line_lem name.now words.now }) }
 {
     match refusal_line(alloc, name, words) {
@@ -63,22 +63,48 @@ pub fn refused(alloc: Global, name: &str, words: &[u8]) -> Stop
     }
 }
 
-/// What the file of this name hands out.
-pub fn read_file<F: Files>(alloc: Global, files: &mut F, name: &str) -> Result<Seq<u8>, Stop>
-    ensures ok { IfOk result (λ bytes. HandsOut (F.contents files.old name.now) MOST bytes) }
+/// What the file of this name hands out, where so many bytes are asked.
+fn read_file<F: Files>(
+    alloc: Global,
+    files: &mut F,
+    name: &str,
+    most: usize,
+) -> Result<Seq<u8>, Stop>
+    ensures ok { IfOk result (λ bytes. HandsOut (F.contents files.old name.now) most bytes) }
     ensures err { IfErr result (λ stop. OnEnded stop (λ said. said ≡ record { status = Status.ReadFault; text = fault_line_lem name.now })) }
     ensures counted { IfErr result (λ stop. OnEnded stop (IsCounted (F.faults files.old) (F.faults files.new) (F.failed files.new))) }
     ensures never_falls { F.faults files.old ≤ F.faults files.new }
     ensures kept { F.contents files.new ≡ F.contents files.old }
 {
-    match files.read(name, MOST) {
+    match files.read(name, most) {
         Ok(bytes) => Ok(bytes),
-        Err(FileFault::Fault) => Err(faulted(alloc, name)),
+        Err(FileFault::Fault) => Err(faulted(alloc, name.as_bytes())),
         Err(FileFault::NoMemory) => Err(Stop::NoMemory),
     }
 }
 
-/// What the file of this name hands out, which is at most as much as a file may have.
+/// What the file of this name hands out, which is less than `most` bytes.
+pub fn read_below<F: Files>(
+    alloc: Global,
+    files: &mut F,
+    name: &str,
+    most: usize,
+) -> Result<Seq<u8>, Stop>
+    ensures ok { IfOk result (λ bytes. HandsOut (F.contents files.old name.now) most bytes) }
+    ensures within { IfOk result (λ bytes. length bytes < most) }
+    ensures err { IfErr result (λ stop. OnEnded stop (StopsAt most (F.contents files.old) name.now (IsOversizeAt most))) }
+    ensures counted { IfErr result (λ stop. OnEnded stop (IsCounted (F.faults files.old) (F.faults files.new) (F.failed files.new))) }
+    ensures never_falls { F.faults files.old ≤ F.faults files.new }
+    ensures kept { F.contents files.new ≡ F.contents files.old }
+{
+    let bytes = read_file(alloc, files, name, most)?;
+    if bytes.len() >= most {
+        return Err(refused(alloc, name.as_bytes(), b"oversize"));
+    }
+    Ok(bytes)
+}
+
+/// What the file of this name hands out, which is at most 1 MiB.
 pub fn read_whole<F: Files>(alloc: Global, files: &mut F, name: &str) -> Result<Seq<u8>, Stop>
     ensures ok { IfOk result (λ bytes. HandsOut (F.contents files.old name.now) MOST bytes) }
     ensures within { IfOk result (λ bytes. length bytes < MOST) }
@@ -87,9 +113,5 @@ pub fn read_whole<F: Files>(alloc: Global, files: &mut F, name: &str) -> Result<
     ensures never_falls { F.faults files.old ≤ F.faults files.new }
     ensures kept { F.contents files.new ≡ F.contents files.old }
 {
-    let bytes = read_file(alloc, files, name)?;
-    if bytes.len() >= MOST {
-        return Err(refused(alloc, name, b"oversize"));
-    }
-    Ok(bytes)
+    read_below(alloc, files, name, MOST)
 }

@@ -1,0 +1,74 @@
+-- Where a call ends at a board's files.
+use Rattle.std.proofs.Common.{◌≡◌, ◌≢◌, List, ℕ, inl, inr, Result, Ok, Err, refl, sym, ◌∙◌, ap, arith}
+use Rattle.std.specs.Prelude.{IfOk, IfErr}
+use Rattle.jh_script.specs.declared.image.Image.{Image}
+use Rattle.jh_image.specs.declared.fault.ImageCause.{ImageCause}
+use Rattle.jh_image.specs.declared.fault.ImageCause.TheVariants.{ReadFault, Oversize, Json, Member, System, Findings, PoolSmall, Preload as BadPreload, Program as BadProgram, NotBuilt}
+use Rattle.jh_image.specs.declared.fault.ImageFault.{ImageFault}
+use Rattle.jh_image.specs.declared.fault.ImageFault.TheVariants.{Refused, NoMemory}
+use Rattle.jh_image.specs.Causes.{Stops, OnRefused, IsCounted}
+use Rattle.jh_image.specs.Images.{IsImage}
+use Rattle.jh_image.specs.Opening.{MayOpen}
+use Rattle.jh_image.specs.Texts.{cause_text}
+use Rattle.jh_cli.specs.declared.told.Told.{Told}
+use Rattle.jh_cli.specs.declared.told.Stop.{Stop}
+use Rattle.jh_cli.specs.declared.told.Stop.TheVariants as stop
+use Rattle.jh_cli.specs.declared.status.Status.TheVariants as status
+use Rattle.jh_cli.specs.Lines.{number_of, fault_line, refusal_line}
+use Rattle.jh_cli.specs.Reading.{Said, Contents}
+use Rattle.jh_cli.specs.Boards.{stopped, EndsAt, Opens}
+use Rattle.jh_cli.specs.Stopped.{OnEnded, said_of, IsCounted as IsCountedSaid}
+use Rattle.jh_cli.proofs.StopLemmas.{on_stop}
+
+-- want of memory says nothing
+nothing : (P : Said → Type 0) (s : Stop) → s ≡ stop.NoMemory → OnEnded s P
+nothing P s is = rw is tt
+
+-- the call ends where the reading of the board stops
+pub ends_at : (contents : Contents) (board : List ℕ) (fault : ImageFault) → OnRefused (Stops contents board) fault
+    → (s : Stop) → OnRefused (λ file cause. OnEnded s (λ said. said ≡ stopped file cause)) fault → (fault ≡ NoMemory → s ≡ stop.NoMemory) → OnEnded s (EndsAt contents board)
+ends_at contents board (Refused file cause) stops s told memory =
+    on_stop (λ said. said ≡ stopped file cause) (EndsAt contents board) s (λ said is. record { file = file; cause = cause; stops = stops; told = is }) told
+ends_at contents board NoMemory stops s told memory = nothing (EndsAt contents board) s (memory refl)
+
+-- a refusal's status is not that of a fault of reading
+refused_is_read : (said : Said) (text : List ℕ) → said ≡ record { status = status.Refused; text = text } → said.status ≢ status.ReadFault
+refused_is_read said text is fault = three_is_four (ap number_of (sym (ap (λ (s : Said). s.status) is) ∙ fault))
+
+three_is_four : 3 ≢ 4
+three_is_four = omega arith
+
+-- a fault of reading is told by the status that is its own
+counted_said : (old new : ℕ) (failed file : List ℕ) (cause : ImageCause) → IsCounted old new failed (Refused file cause) → (said : Said) → said ≡ stopped file cause → IsCountedSaid old new failed said
+counted_said old new failed file ReadFault counted said is fault = (counted.0, ap (λ (s : Said). s.text) is ∙ ap fault_line (sym counted.1))
+counted_said old new failed file Oversize counted said is fault = absurd (refused_is_read said (refusal_line file (cause_text Oversize)) is fault)
+counted_said old new failed file Json counted said is fault = absurd (refused_is_read said (refusal_line file (cause_text Json)) is fault)
+counted_said old new failed file (Member name) counted said is fault = absurd (refused_is_read said (refusal_line file (cause_text (Member name))) is fault)
+counted_said old new failed file (System why) counted said is fault = absurd (refused_is_read said (refusal_line file (cause_text (System why))) is fault)
+counted_said old new failed file (Findings found) counted said is fault = absurd (refused_is_read said (refusal_line file (cause_text (Findings found))) is fault)
+counted_said old new failed file (PoolSmall need have) counted said is fault = absurd (refused_is_read said (refusal_line file (cause_text (PoolSmall need have))) is fault)
+counted_said old new failed file (BadPreload number) counted said is fault = absurd (refused_is_read said (refusal_line file (cause_text (BadPreload number))) is fault)
+counted_said old new failed file (BadProgram why) counted said is fault = absurd (refused_is_read said (refusal_line file (cause_text (BadProgram why))) is fault)
+counted_said old new failed file NotBuilt counted said is fault = absurd (refused_is_read said (refusal_line file (cause_text NotBuilt)) is fault)
+
+-- and so the call's stop has it where the reading had
+pub counted_at : (old new : ℕ) (failed : List ℕ) (fault : ImageFault) → IsCounted old new failed fault
+    → (s : Stop) → OnRefused (λ file cause. OnEnded s (λ said. said ≡ stopped file cause)) fault → (fault ≡ NoMemory → s ≡ stop.NoMemory) → OnEnded s (IsCountedSaid old new failed)
+counted_at old new failed (Refused file cause) counted s told memory =
+    on_stop (λ said. said ≡ stopped file cause) (IsCountedSaid old new failed) s (counted_said old new failed file cause counted) told
+counted_at old new failed NoMemory counted s told memory = nothing (IsCountedSaid old new failed) s (memory refl)
+
+-- what follows a board that was read
+pub opens_ok : (contents : Contents) (board : List ℕ) (next : Image → Said → Type 0) (image : Image) → IsImage contents board image → MayOpen image
+    → (r : Result Told Stop) → IfOk r (λ told. next image (said_of told)) → IfOk r (λ told. Opens contents board next (said_of told))
+opens_ok contents board next image is admitted (Ok told) h = inr (image, is, admitted, h)
+opens_ok contents board next image is admitted (Err s) h = tt
+
+pub opens_err : (contents : Contents) (board : List ℕ) (next : Image → Said → Type 0) (image : Image) → IsImage contents board image → MayOpen image
+    → (r : Result Told Stop) → IfErr r (λ s. OnEnded s (next image)) → IfErr r (λ s. OnEnded s (Opens contents board next))
+opens_err contents board next image is admitted (Ok told) h = tt
+opens_err contents board next image is admitted (Err s) h = on_stop (next image) (Opens contents board next) s (λ said rest. inr (image, is, admitted, rest)) h
+
+-- a call that ends at one of the board's files ends so
+pub opens_not : (contents : Contents) (board : List ℕ) (next : Image → Said → Type 0) (s : Stop) → OnEnded s (EndsAt contents board) → OnEnded s (Opens contents board next)
+opens_not contents board next s h = on_stop (EndsAt contents board) (Opens contents board next) s (λ said is. inl is) h

@@ -1,0 +1,63 @@
+-- What `audit` ends with.
+use Rattle.std.specs.Prelude.{◌≡◌, ◌≢◌, ◌<◌, ℕ, ◌⊎◌, true, false, List, [], ◌∷◌, ◌++◌, length, Some, None, codes, decimal}
+use Rattle.jh_script.specs.declared.image.Image.{Image}
+use Rattle.jh_history.specs.declared.entry.Entry.{Entry}
+use Rattle.jh_text.specs.declared.fault.JournalFault.{JournalFault}
+use Rattle.jh_text.specs.declared.fault.JournalFault.TheVariants.{NoMemory}
+use Rattle.jh_text.specs.Faults.{IsJournalText, IsFault}
+use Rattle.jh_text.specs.FaultText.{fault_text}
+use Rattle.jh_text.specs.Text.{entry_text}
+use Rattle.jh_audit.specs.declared.verdict.Verdict.{Verdict}
+use Rattle.jh_audit.specs.declared.verdict.Verdict.TheVariants.{Legal, Illegal}
+use Rattle.jh_audit.specs.Judges.{Judges}
+use Rattle.jh_cli.specs.Reading.{Said, Contents, ReadsAt, IsOversizeAt}
+use Rattle.jh_cli.specs.Boards.{Opens}
+use Rattle.jh_cli.specs.declared.status.Status.{Status}
+use Rattle.jh_cli.specs.declared.status.Status.TheVariants.{Good, Found}
+use Rattle.jh_cli.specs.declared.limits.TheConstants.{MOST_OF_A_JOURNAL}
+
+-- the bytes are the text of a journal with these entries
+pub record IsJournalFile (bytes : List ℕ) (entries : List Entry) : Type 0 where
+  pub within : length bytes < MOST_OF_A_JOURNAL
+  pub told : IsJournalText bytes entries
+
+-- they are not, for the fault that these words tell
+pub record IsNoJournal (bytes words : List ℕ) : Type 0 where
+  pub within : length bytes < MOST_OF_A_JOURNAL
+  pub fault : JournalFault
+  pub is_of_text : fault ≢ NoMemory
+  pub first : IsFault bytes fault
+  pub told : words ≡ fault_text fault
+
+abbrev pub JournalRefusal : List ℕ → List ℕ → Type 0
+JournalRefusal bytes words = IsOversizeAt MOST_OF_A_JOURNAL bytes words ⊎ IsNoJournal bytes words
+
+-- the line that tells that the entry was due in the place of the one in this line
+abbrev pub due_text : ℕ → Entry → List ℕ
+due_text number entry = codes "illegal line " ++ (decimal number ++ (codes ": due " ++ (entry_text entry ++ 10 ∷ [])))
+
+-- the line that tells the verdict on a journal of so many entries
+abbrev pub verdict_text : ℕ → Verdict → List ℕ
+verdict_text count (Legal true) = codes "legal " ++ (decimal count ++ (codes " quiet" ++ 10 ∷ []))
+verdict_text count (Legal false) = codes "legal " ++ (decimal count ++ (codes " unfinished" ++ 10 ∷ []))
+verdict_text count (Illegal number (Some entry)) = due_text number entry
+verdict_text count (Illegal number None) = codes "illegal line " ++ (decimal number ++ (codes ": nothing due" ++ 10 ∷ []))
+
+abbrev pub verdict_status : Verdict → Status
+verdict_status (Legal quiet) = Good
+verdict_status (Illegal number expected) = Found
+
+-- the verdict on the journal is told
+pub record IsAudited (image : Image) (entries : List Entry) (said : Said) : Type 0 where
+  pub verdict : Verdict
+  pub judged : Judges image entries verdict
+  pub told : said ≡ record { status = verdict_status verdict; text = verdict_text (length entries) verdict }
+
+-- what an audit of the journal by the image ends with
+abbrev pub AuditsBy : Contents → List ℕ → Image → Said → Type 0
+AuditsBy contents journal image = ReadsAt MOST_OF_A_JOURNAL contents journal JournalRefusal IsJournalFile (IsAudited image)
+
+-- what an audit of the journal by the board ends with: the board's files are read, then the journal's, and the first
+-- that stops the call ends it
+abbrev pub Audits : Contents → List ℕ → List ℕ → Said → Type 0
+Audits contents board journal = Opens contents board (AuditsBy contents journal)

@@ -1,0 +1,126 @@
+//! Auditing a journal by a board.
+ghost use Rattle.std.specs.Prelude.{◌≡◌, ◌≢◌, ◌≤◌, length, IfOk, IfErr};
+ghost use Rattle.jh_history.specs.Admitted.{IsAdmitted, IsBuilt};
+ghost use Rattle.jh_text.specs.FaultText.{fault_text};
+ghost use Rattle.jh_cli.specs.declared.limits.TheConstants.{MOST_OF_A_JOURNAL as most_of_a_journal, JOURNAL_LIMIT as journal_limit};
+ghost use Rattle.jh_cli.specs.Lines.{refusal_line as refusal_line_lem};
+ghost use Rattle.jh_cli.specs.Reading.{SpellsAt, StopsAt};
+ghost use Rattle.jh_cli.specs.Audit.{IsJournalFile, JournalRefusal, IsAudited, AuditsBy, Audits, due_text as due_text_lem, verdict_text as verdict_text_lem, verdict_status};
+ghost use Rattle.jh_cli.specs.Stopped.{said_of, OnEnded, IsCounted};
+
+use crate::boards::open;
+use crate::limits::MOST_OF_A_JOURNAL;
+use crate::status::Status;
+use crate::told::{Stop, Told, read_below, refused};
+use jh_audit::{Verdict, audit as audit_journal};
+use jh_history::{Entry, Journal};
+use jh_num::NoMemory;
+use jh_outside::Files;
+use jh_script::Image;
+use jh_text::{JournalFault, print_entry, read_journal};
+use std::alloc::Global;
+
+/// The call ends since the journal in the file of this name has this fault.
+fn faulty(alloc: Global, name: &str, fault: &JournalFault) -> Stop
+    ensures { OnEnded result (λ said. said ≡ record { status = Status.Refused; text = refusal_line_lem name.now (fault_text fault.now) }) }
+{
+    let mut words = String::new(alloc);
+    match write!(words, "{fault}") {
+        Ok(()) => refused(alloc, name.as_bytes(), words.as_bytes()),
+        Err(_) => Stop::NoMemory,
+    }
+}
+
+/// The journal in the file of this name.
+fn journal<F: Files>(alloc: Global, files: &mut F, name: &str) -> Result<Journal, Stop>
+    ensures ok { IfOk result (λ journal. SpellsAt most_of_a_journal (F.contents files.old) name.now IsJournalFile journal.entries) }
+    ensures few { IfOk result (λ journal. length journal.entries ≤ journal_limit) }
+    ensures err { IfErr result (λ stop. OnEnded stop (StopsAt most_of_a_journal (F.contents files.old) name.now JournalRefusal)) }
+    ensures counted { IfErr result (λ stop. OnEnded stop (IsCounted (F.faults files.old) (F.faults files.new) (F.failed files.new))) }
+    ensures never_falls { F.faults files.old ≤ F.faults files.new }
+    ensures kept { F.contents files.new ≡ F.contents files.old }
+{
+    let bytes = read_below(alloc, files, name, MOST_OF_A_JOURNAL)?;
+    match read_journal(alloc, bytes.as_slice()) {
+        Ok(journal) => Ok(journal),
+        Err(JournalFault::NoMemory) => Err(Stop::NoMemory),
+        Err(fault) => Err(faulty(alloc, name, &fault)),
+    }
+}
+
+/// The status of an audit.
+fn status_of(verdict: &Verdict) -> Status
+    ensures { result ≡ verdict_status verdict.now }
+{
+    match verdict {
+        Verdict::Legal { .. } => Status::Good,
+        Verdict::Illegal { .. } => Status::Found,
+    }
+}
+
+/// The line that tells the verdict on a journal of so many entries.
+fn verdict_text(alloc: Global, count: usize, verdict: &Verdict) -> Result<Vec<u8>, NoMemory>
+    ensures { IfOk result (λ text. text.items ≡ verdict_text_lem count verdict.now) }
+{
+    let text = match verdict {
+        Verdict::Legal { quiet: true } => format!(in alloc; "legal {count} quiet\n")?,
+        Verdict::Legal { quiet: false } => format!(in alloc; "legal {count} unfinished\n")?,
+        Verdict::Illegal {
+            line,
+            expected: None,
+        } => { format!(in alloc; "illegal line {line}: nothing due\n")? }
+        Verdict::Illegal {
+            line,
+            expected: Some(entry),
+        } => return due_text(alloc, *line, entry),
+    };
+    Ok(text.into_bytes())
+}
+
+/// The line that tells that this entry was due in the place of the journal's.
+fn due_text(alloc: Global, line: u32, entry: &Entry) -> Result<Vec<u8>, NoMemory>
+    ensures { IfOk result (λ text. text.items ≡ due_text_lem line entry.now) }
+{
+    let mut text = format!(in alloc; "illegal line {line}: due ")?.into_bytes();
+    text.extend_from_slice(print_entry(alloc, entry)?.as_slice())?;
+    text.push(b'\n')?;
+    Ok(text)
+}
+
+/// Judges the journal by the image, and tells the verdict.
+fn tell_verdict(alloc: Global, image: Image, journal: &Journal) -> Result<Told, NoMemory>
+    requires admitted { IsAdmitted image }
+    requires built { IsBuilt image }
+    requires few { length journal.now.entries ≤ journal_limit }
+    ensures { IfOk result (λ told. IsAudited image journal.now.entries (said_of told)) }
+{
+    let verdict = audit_journal(alloc, image, journal)?;
+    Ok(Told {
+        status: status_of(&verdict),
+        text: verdict_text(alloc, journal.len(), &verdict)?,
+    })
+}
+
+/// Reads the journal, and judges it by the image.
+fn audit_by<F: Files>(alloc: Global, files: &mut F, image: Image, name: &str) -> Result<Told, Stop>
+    requires admitted { IsAdmitted image }
+    requires built { IsBuilt image }
+    ensures ok { IfOk result (λ told. AuditsBy (F.contents files.old) name.now image (said_of told)) }
+    ensures err { IfErr result (λ stop. OnEnded stop (AuditsBy (F.contents files.old) name.now image)) }
+    ensures counted_ok { IfOk result (λ told. IsCounted (F.faults files.old) (F.faults files.new) (F.failed files.new) (said_of told)) }
+    ensures counted { IfErr result (λ stop. OnEnded stop (IsCounted (F.faults files.old) (F.faults files.new) (F.failed files.new))) }
+{
+    let journal = journal(alloc, files, name)?;
+    Ok(tell_verdict(alloc, image, &journal)?)
+}
+
+/// Reads the board and the journal, and judges the one by the other.
+pub fn audit<F: Files>(alloc: Global, files: &mut F, board: &str, name: &str) -> Result<Told, Stop>
+    ensures ok { IfOk result (λ told. Audits (F.contents files.old) board.now name.now (said_of told)) }
+    ensures err { IfErr result (λ stop. OnEnded stop (Audits (F.contents files.old) board.now name.now)) }
+    ensures counted_ok { IfOk result (λ told. IsCounted (F.faults files.old) (F.faults files.new) (F.failed files.new) (said_of told)) }
+    ensures counted { IfErr result (λ stop. OnEnded stop (IsCounted (F.faults files.old) (F.faults files.new) (F.failed files.new))) }
+{
+    let image = open(alloc, files, board)?;
+    audit_by(alloc, files, image, name)
+}

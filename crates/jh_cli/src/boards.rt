@@ -1,0 +1,57 @@
+//! The image that a board's files make.
+ghost use Rattle.std.specs.Prelude.{◌≡◌, ◌≤◌, IfOk, IfErr};
+ghost use Rattle.jh_history.specs.Admitted.{IsAdmitted, IsBuilt};
+ghost use Rattle.jh_image.specs.Causes.{OnRefused};
+ghost use Rattle.jh_image.specs.Images.{IsImage};
+ghost use Rattle.jh_image.specs.Opening.{MayOpen};
+ghost use Rattle.jh_image.specs.declared.fault.ImageFault.TheVariants.{NoMemory as image_for_memory};
+ghost use Rattle.jh_cli.specs.Boards.{stopped, EndsAt};
+ghost use Rattle.jh_cli.specs.Stopped.{OnEnded, IsCounted};
+
+use crate::told::{Stop, faulted, refused};
+use jh_image::{ImageCause, ImageFault, cause_text, read_image};
+use jh_num::NoMemory;
+use jh_outside::Files;
+use jh_script::Image;
+use std::alloc::Global;
+
+/// The call ends since the file is refused for this cause.
+fn refused_for(alloc: Global, file: &[u8], cause: &ImageCause) -> Stop
+    ensures { OnEnded result (λ said. said ≡ stopped file.now cause.now) }
+{
+    match cause {
+        ImageCause::ReadFault => faulted(alloc, file),
+        _ => match cause_text(alloc, cause) {
+            Ok(words) => refused(alloc, file, words.as_slice()),
+            Err(NoMemory) => Stop::NoMemory,
+        },
+    }
+}
+
+/// The call ends since the board's files make no image.
+fn unopened(alloc: Global, fault: &ImageFault) -> Stop
+    ensures refused { OnRefused (λ file cause. OnEnded result (λ said. said ≡ stopped file cause)) fault.now }
+    ensures memory { fault.now ≡ image_for_memory → result ≡ Stop.NoMemory }
+{
+    match fault {
+        ImageFault::Refused { file, cause } => refused_for(alloc, file.as_slice(), cause),
+        ImageFault::NoMemory => Stop::NoMemory,
+    }
+}
+
+/// The image that the board's files make.
+pub fn open<F: Files>(alloc: Global, files: &mut F, board: &str) -> Result<Image, Stop>
+    ensures image { IfOk result (IsImage (F.contents files.old) board.now) }
+    ensures admitted { IfOk result MayOpen }
+    ensures opens { IfOk result IsAdmitted }
+    ensures built { IfOk result IsBuilt }
+    ensures err { IfErr result (λ stop. OnEnded stop (EndsAt (F.contents files.old) board.now)) }
+    ensures counted { IfErr result (λ stop. OnEnded stop (IsCounted (F.faults files.old) (F.faults files.new) (F.failed files.new))) }
+    ensures never_falls { F.faults files.old ≤ F.faults files.new }
+    ensures kept { F.contents files.new ≡ F.contents files.old }
+{
+    match read_image(alloc, files, board) {
+        Ok(image) => Ok(image),
+        Err(fault) => Err(unopened(alloc, &fault)),
+    }
+}

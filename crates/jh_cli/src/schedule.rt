@@ -1,0 +1,62 @@
+//! The schedule of a board's CPUs.
+ghost use Rattle.std.specs.Prelude.{◌≡◌, ◌≤◌, ◌<◌, ℕ, All, IsTrue, IfOk, IfErr};
+ghost use Rattle.jh_script.specs.FaultText.{schedule_fault_text};
+ghost use Rattle.jh_history.specs.Cells.{is_on_board as is_on_board_lem};
+ghost use Rattle.jh_cli.specs.Lines.{refusal_line as refusal_line_lem};
+ghost use Rattle.jh_cli.specs.Reading.{Spells, Stops};
+ghost use Rattle.jh_cli.specs.Play.{AreCpus, IsSchedule, ScheduleRefusal};
+ghost use Rattle.jh_cli.specs.Stopped.{OnEnded, IsCounted};
+
+use crate::status::Status;
+use crate::told::{Stop, read_whole, refused};
+use jh_history::is_on_board;
+use jh_num::Seq;
+use jh_outside::Files;
+use jh_script::{Image, ScheduleFault, read_schedule};
+use std::alloc::Global;
+
+/// The board's CPUs: bit i says whether it has CPU i.
+fn cpus_of(image: &Image) -> u16
+    ensures { AreCpus image.now result }
+{
+    let mut cpus = 0;
+    for cpu in 0..16u8 {
+        if is_on_board(image, cpu) {
+            cpus |= 1 << cpu;
+        }
+    }
+    cpus
+}
+
+/// The call ends since the schedule in the file of this name has this fault.
+fn faulty(alloc: Global, name: &str, fault: &ScheduleFault) -> Stop
+    ensures { OnEnded result (λ said. said ≡ record { status = Status.Refused; text = refusal_line_lem name.now (schedule_fault_text fault.now) }) }
+{
+    let mut words = String::new(alloc);
+    match write!(words, "{fault}") {
+        Ok(()) => refused(alloc, name.as_bytes(), words.as_bytes()),
+        Err(_) => Stop::NoMemory,
+    }
+}
+
+/// The items of the schedule in the file of this name, for the image's board.
+pub fn schedule<F: Files>(
+    alloc: Global,
+    files: &mut F,
+    name: &str,
+    image: &Image,
+) -> Result<Seq<u8>, Stop>
+    ensures ok { IfOk result (Spells (F.contents files.old) name.now (IsSchedule image.now)) }
+    ensures present { IfOk result (All (λ cpu. IsTrue (is_on_board_lem image.now cpu))) }
+    ensures err { IfErr result (λ stop. OnEnded stop (Stops (F.contents files.old) name.now (ScheduleRefusal image.now))) }
+    ensures counted { IfErr result (λ stop. OnEnded stop (IsCounted (F.faults files.old) (F.faults files.new) (F.failed files.new))) }
+    ensures never_falls { F.faults files.old ≤ F.faults files.new }
+    ensures kept { F.contents files.new ≡ F.contents files.old }
+{
+    let bytes = read_whole(alloc, files, name)?;
+    match read_schedule(alloc, bytes.as_slice(), cpus_of(image)) {
+        Ok(items) => Ok(items),
+        Err(ScheduleFault::NoMemory) => Err(Stop::NoMemory),
+        Err(fault) => Err(faulty(alloc, name, &fault)),
+    }
+}
