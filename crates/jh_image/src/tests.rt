@@ -76,14 +76,35 @@ fn members_are_judged_in_their_order(rt: HostRuntime) -> Result<(), Fail> {
         ("{\"a\":1}", "b.json: member system"),
         ("{\"system\":1}", "b.json: member system"),
         ("{\"system\":1,\"system\":\"s\"}", "s: read fault"),
-        ("{\"programs\":[],\"preloads\":[],\"system\":\"s\"}", "s: read fault"),
+        (
+            "{\"programs\":[],\"preloads\":[],\"system\":\"s\"}",
+            "s: read fault",
+        ),
         ("{\"system\":\"s\",\"z\":1,\"a\":1}", "b.json: member a"),
-        ("{\"system\":\"s\",\"a\":1,\"programs\":1,\"preloads\":null}", "b.json: member preloads"),
-        ("{\"system\":\"s\",\"preloads\":[{\"file\":\"d\"}]}", "b.json: member preloads"),
-        ("{\"system\":\"s\",\"preloads\":[{\"file\":\"d\",\"at\":1.0}]}", "b.json: member preloads"),
-        ("{\"system\":\"s\",\"preloads\":[{\"file\":\"d\",\"at\":1,\"x\":1}]}", "b.json: member preloads"),
-        ("{\"system\":\"s\",\"programs\":[{\"cell\":\"c\",\"cpu\":16,\"file\":\"p\"}]}", "b.json: member programs"),
-        ("{\"system\":\"s\",\"programs\":[{\"cell\":\"\",\"cpu\":1,\"file\":\"p\"}]}", "b.json: member programs"),
+        (
+            "{\"system\":\"s\",\"a\":1,\"programs\":1,\"preloads\":null}",
+            "b.json: member preloads",
+        ),
+        (
+            "{\"system\":\"s\",\"preloads\":[{\"file\":\"d\"}]}",
+            "b.json: member preloads",
+        ),
+        (
+            "{\"system\":\"s\",\"preloads\":[{\"file\":\"d\",\"at\":1.0}]}",
+            "b.json: member preloads",
+        ),
+        (
+            "{\"system\":\"s\",\"preloads\":[{\"file\":\"d\",\"at\":1,\"x\":1}]}",
+            "b.json: member preloads",
+        ),
+        (
+            "{\"system\":\"s\",\"programs\":[{\"cell\":\"c\",\"cpu\":16,\"file\":\"p\"}]}",
+            "b.json: member programs",
+        ),
+        (
+            "{\"system\":\"s\",\"programs\":[{\"cell\":\"\",\"cpu\":1,\"file\":\"p\"}]}",
+            "b.json: member programs",
+        ),
         (
             "{\"system\":\"s\",\"programs\":[{\"cell\":\"c\",\"cpu\":1,\"file\":\"p\"},{\"cell\":\"c\",\"cpu\":1,\"file\":\"q\"}]}",
             "b.json: member programs",
@@ -122,14 +143,39 @@ fn with(alloc: Global, name: &str, bytes: &[u8]) -> Result<MemFiles, NoMemory> {
 fn systems_and_programs_have_their_causes(rt: HostRuntime) -> Result<(), Fail> {
     let alloc = rt.alloc();
     let small = system(alloc, 0x1000)?;
-    answers(&rt, alloc, &mut with(alloc, "s.sys", small.as_slice())?, "b.json: pool 2 1")?;
+    answers(
+        &rt,
+        alloc,
+        &mut with(alloc, "s.sys", small.as_slice())?,
+        "b.json: pool 2 1",
+    )?;
     let none = system(alloc, 0)?;
-    answers(&rt, alloc, &mut with(alloc, "s.sys", none.as_slice())?, "s.sys: findings 1")?;
+    answers(
+        &rt,
+        alloc,
+        &mut with(alloc, "s.sys", none.as_slice())?,
+        "s.sys: findings 1",
+    )?;
     let mut long = system(alloc, 0x40_0000)?;
     long.push(0)?;
-    answers(&rt, alloc, &mut with(alloc, "s.sys", long.as_slice())?, "s.sys: trailing 1")?;
-    answers(&rt, alloc, &mut with(alloc, "p.txt", b"irq\nread 3 0x0\n")?, "p.txt: line 2: width")?;
-    answers(&rt, alloc, &mut with(alloc, "p.txt", b"hvc 5 0 0\n")?, "b.json: not built")?;
+    answers(
+        &rt,
+        alloc,
+        &mut with(alloc, "s.sys", long.as_slice())?,
+        "s.sys: trailing 1",
+    )?;
+    answers(
+        &rt,
+        alloc,
+        &mut with(alloc, "p.txt", b"irq\nread 3 0x0\n")?,
+        "p.txt: line 2: width",
+    )?;
+    answers(
+        &rt,
+        alloc,
+        &mut with(alloc, "p.txt", b"hvc 5 0 0\n")?,
+        "b.json: not built",
+    )?;
     Ok(())
 }
 
@@ -137,12 +183,27 @@ fn systems_and_programs_have_their_causes(rt: HostRuntime) -> Result<(), Fail> {
 fn preloads_meet_nothing(rt: HostRuntime) -> Result<(), Fail> {
     let alloc = rt.alloc();
     for (preloads, wanted) in [
-        ("[{\"file\":\"d.bin\",\"at\":2143289341}]", "b.json: preload 0"),
+        (
+            "[{\"file\":\"d.bin\",\"at\":2143289341}]",
+            "b.json: preload 0",
+        ),
         ("[{\"file\":\"d.bin\",\"at\":2143289340}]", "made"),
-        ("[{\"file\":\"d.bin\",\"at\":549755813885}]", "b.json: preload 0"),
-        ("[{\"file\":\"d.bin\",\"at\":0},{\"file\":\"d.bin\",\"at\":3}]", "b.json: preload 1"),
-        ("[{\"file\":\"d.bin\",\"at\":0},{\"file\":\"d.bin\",\"at\":4}]", "made"),
-        ("[{\"file\":\"d.bin\",\"at\":2143289344},{\"file\":\"x\",\"at\":4}]", "b.json: preload 0"),
+        (
+            "[{\"file\":\"d.bin\",\"at\":549755813885}]",
+            "b.json: preload 0",
+        ),
+        (
+            "[{\"file\":\"d.bin\",\"at\":0},{\"file\":\"d.bin\",\"at\":3}]",
+            "b.json: preload 1",
+        ),
+        (
+            "[{\"file\":\"d.bin\",\"at\":0},{\"file\":\"d.bin\",\"at\":4}]",
+            "made",
+        ),
+        (
+            "[{\"file\":\"d.bin\",\"at\":2143289344},{\"file\":\"x\",\"at\":4}]",
+            "b.json: preload 0",
+        ),
     ] {
         let board = format!(in alloc; "{{\"system\":\"s.sys\",\"preloads\":{preloads}}}")?;
         answers(&rt, alloc, &mut files(alloc, board.as_str())?, wanted)?;
@@ -154,9 +215,19 @@ fn preloads_meet_nothing(rt: HostRuntime) -> Result<(), Fail> {
 fn files_have_a_mebibyte_at_most(rt: HostRuntime) -> Result<(), Fail> {
     let alloc = rt.alloc();
     let mut bytes = vec![in alloc; 0; MAX_FILE_SIZE]?;
-    answers(&rt, alloc, &mut with(alloc, "d.bin", bytes.as_slice())?, "made")?;
+    answers(
+        &rt,
+        alloc,
+        &mut with(alloc, "d.bin", bytes.as_slice())?,
+        "made",
+    )?;
     bytes.push(0)?;
-    answers(&rt, alloc, &mut with(alloc, "d.bin", bytes.as_slice())?, "d.bin: oversize")?;
+    answers(
+        &rt,
+        alloc,
+        &mut with(alloc, "d.bin", bytes.as_slice())?,
+        "d.bin: oversize",
+    )?;
     Ok(())
 }
 
