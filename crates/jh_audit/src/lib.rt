@@ -3,6 +3,8 @@
 
 mod judge;
 #[cfg(test)]
+mod plain;
+#[cfg(test)]
 mod tests;
 mod verdict;
 

@@ -1,6 +1,11 @@
 //! Journals of a program of two lines, judged.
 
+ghost use Rattle.std.specs.Prelude.{IfOk};
+ghost use Rattle.jh_history.specs.Admitted.{IsAdmitted, IsBuilt};
+
+use crate::plain::{LIMIT, Plain};
 use crate::{AUDIT_LIMIT, Verdict, audit};
+use jh_board::play;
 use jh_history::{Act, Entry, is_admitted, is_built};
 use jh_num::{NoMemory, Seq};
 use jh_script::{Image, Program, read_program};
@@ -14,7 +19,7 @@ const PROGRAM: &str = "write 8 0x40000000 0x1122334455667788\nread 4 0x40000004\
 
 const FIRST: &str = "0 0 write 8 0x40000000 0x1122334455667788 = ok\n";
 
-/// A system whose root has memory from 0x40000000 to 0x7fc00000, and CPU 0.
+/// A system whose root has memory from 0x40000000 to 0x7fc00000, and CPUs 0 and 1.
 fn system(alloc: Global) -> Result<Vec<u8>, NoMemory> {
     let mut bytes = Vec::new(alloc);
     bytes.extend_from_slice(b"JHSYST\x0d\x00\x00\x00\x00\x00")?;
@@ -27,47 +32,55 @@ fn system(alloc: Global) -> Result<Vec<u8>, NoMemory> {
     bytes.extend_from_slice(&8u32.to_le_bytes())?;
     bytes.extend_from_slice(&1u32.to_le_bytes())?;
     bytes.extend_from_slice(&[0; 76])?;
-    bytes.extend_from_slice(&1u64.to_le_bytes())?;
+    bytes.extend_from_slice(&3u64.to_le_bytes())?;
     for number in [0x4000_0000u64, 0x4000_0000, 0x3fc0_0000, 0xf] {
         bytes.extend_from_slice(&number.to_le_bytes())?;
     }
     Ok(bytes)
 }
 
-/// The image of that system and the program.
-fn image(alloc: Global) -> Result<Option<Image>, NoMemory> {
-    let Ok(system) = read_system(alloc, system(alloc)?.as_slice()) else {
-        return Ok(None);
-    };
-    let Ok(ops) = read_program(alloc, PROGRAM.as_bytes()) else {
-        return Ok(None);
-    };
-    let program = Program {
+/// What the text of a program makes the CPU of root do.
+fn program(alloc: Global, cpu: u8, text: &str) -> Result<Program, Fail> {
+    let ops = read_program(alloc, text.as_bytes())
+        .ok()
+        .ok_or("the text is a program")?;
+    Ok(Program {
         cell: Seq::from_vec(Vec::from_slice(alloc, b"root")?),
-        cpu: 0,
+        cpu,
         ops,
-    };
-    Ok(Some(Image {
+    })
+}
+
+/// The image of that system and these programs of its two CPUs, which may be opened.
+fn image(rt: &impl Abort, alloc: Global, zero: &str, one: &str) -> Result<Image, Fail>
+    ensures admitted { IfOk result IsAdmitted }
+    ensures built { IfOk result IsBuilt }
+{
+    let system = read_system(alloc, system(alloc)?.as_slice())
+        .ok()
+        .ok_or("the bytes are a system")?;
+    let mut programs = Seq::new(alloc);
+    programs.push(program(alloc, 0, zero)?)?;
+    programs.push(program(alloc, 1, one)?)?;
+    let image = Image {
         system,
         preloads: Seq::new(alloc),
-        programs: Seq::from_vec(vec![in alloc; program]?),
-    }))
+        programs,
+    };
+    assert!(rt; is_admitted(&image));
+    assert!(rt; is_built(&image));
+    Ok(image)
 }
 
 /// What is found of the journal whose text is this behind its first line.
-fn judged(alloc: Global, rest: &str) -> Result<Option<Verdict>, NoMemory> {
+fn judged(rt: &impl Abort, alloc: Global, rest: &str) -> Result<Verdict, Fail> {
     let mut text = String::from_str(alloc, FIRST)?;
     text.push_str(rest)?;
-    let Ok(journal) = read_journal(alloc, text.as_bytes()) else {
-        return Ok(None);
-    };
-    match image(alloc)? {
-        Some(image)
-            if is_admitted(&image) && is_built(&image) && journal.len() <= AUDIT_LIMIT as usize => {
-            Ok(Some(audit(alloc, image, &journal)?))
-        }
-        _ => Ok(None),
-    }
+    let journal = read_journal(alloc, text.as_bytes())
+        .ok()
+        .ok_or("the text is a journal")?;
+    assert!(rt; journal.len() <= AUDIT_LIMIT as usize);
+    Ok(audit(alloc, image(rt, alloc, PROGRAM, "")?, &journal)?)
 }
 
 /// The read that the program makes behind its write.
@@ -84,9 +97,9 @@ fn read() -> Entry {
 }
 
 /// Compares what is found of the journal.
-fn finds(rt: &impl Abort, alloc: Global, rest: &str, want: Verdict) -> Result<(), NoMemory> {
-    let found = judged(alloc, rest)?;
-    assert_eq!(rt; found, Some(want));
+fn finds(rt: &impl Abort, alloc: Global, rest: &str, want: Verdict) -> Result<(), Fail> {
+    let found = judged(rt, alloc, rest)?;
+    assert_eq!(rt; found, want);
     Ok(())
 }
 
@@ -96,7 +109,7 @@ fn differs(
     alloc: Global,
     rest: &str,
     expected: Option<Entry>,
-) -> Result<(), NoMemory> {
+) -> Result<(), Fail> {
     finds(rt, alloc, rest, Verdict::Illegal { line: 2, expected })
 }
 
@@ -130,5 +143,51 @@ fn another_line_is_told_with_the_entry_due(rt: HostRuntime) -> Result<(), Fail> 
     )?;
     differs(&rt, alloc, "0 0 stop\n", Some(read()))?;
     differs(&rt, alloc, "1 0 read 4 0x40000004 = 0x11223344\n", None)?;
+    differs(&rt, alloc, "2 0 read 4 0x40000004 = 0x11223344\n", None)?;
+    Ok(())
+}
+
+/// The engine plays the programs to so many entries, the audit finds them legal and quiet, and the plain
+/// definition makes the same.
+fn all_agree(
+    rt: &impl Abort,
+    alloc: Global,
+    zero: &str,
+    one: &str,
+    count: usize,
+) -> Result<(), Fail> {
+    let (board, _) = play(alloc, image(rt, alloc, zero, one)?, &[], LIMIT)?;
+    let made = board.journal();
+    assert_eq!(rt; made.len(), count);
+    assert!(rt; made.len() <= AUDIT_LIMIT as usize);
+    let found = audit(alloc, image(rt, alloc, zero, one)?, made)?;
+    assert_eq!(rt; found, Verdict::Legal { quiet: true });
+    let mut plain = Plain::open(alloc, image(rt, alloc, zero, one)?);
+    for entry in made.as_slice() {
+        plain.item(entry.cpu)?;
+    }
+    assert!(rt; plain.is_quiet()?);
+    assert_eq!(rt; plain.entries(), made.as_slice());
+    Ok(())
+}
+
+#[test]
+fn engine_audit_and_plain_definition_agree(rt: HostRuntime) -> Result<(), Fail> {
+    let alloc = rt.alloc();
+    all_agree(&rt, alloc, PROGRAM, "", 2)?;
+    all_agree(
+        &rt,
+        alloc,
+        "await 4 0x40000000 5\nread 8 0x40000004\n",
+        "write 4 0x40000004 6\nwrite 4 0x40000000 5\n",
+        4,
+    )?;
+    all_agree(
+        &rt,
+        alloc,
+        "fetch 0x7fbffffc\nwrite 8 0x7fbffffc 1\nread 1 0x40000000\n",
+        "irq\nread 1 0x40000000\n",
+        2,
+    )?;
     Ok(())
 }
