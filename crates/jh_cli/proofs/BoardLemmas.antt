@@ -21,7 +21,7 @@ use Rattle.jh_cli.specs.Stopped.{OnEnded, said_of, IsCounted as IsCountedSaid}
 use Rattle.jh_cli.proofs.StopLemmas.{on_stop}
 
 -- want of memory says nothing
-nothing : (P : Said → Type 0) (s : Stop) → s ≡ stop.NoMemory → OnEnded s P
+pub nothing : (P : Said → Type 0) (s : Stop) → s ≡ stop.NoMemory → OnEnded s P
 nothing P s is = rw is tt
 
 -- the call ends where the reading of the board stops
@@ -32,11 +32,10 @@ ends_at contents board (Refused file cause) stops s told memory =
 ends_at contents board NoMemory stops s told memory = nothing (EndsAt contents board) s (memory refl)
 
 -- a refusal's status is not that of a fault of reading
-refused_is_read : (said : Said) (text : List ℕ) → said ≡ record { status = status.Refused; text = text } → said.status ≢ status.ReadFault
-refused_is_read said text is fault = three_is_four (ap number_of (sym (ap (λ (s : Said). s.status) is) ∙ fault))
-
-three_is_four : 3 ≢ 4
-three_is_four = omega arith
+pub refused_is_read : (said : Said) (text : List ℕ) → said ≡ record { status = status.Refused; text = text } → said.status ≢ status.ReadFault
+refused_is_read said text is fault =
+    let same : number_of status.Refused ≡ number_of status.ReadFault = ap number_of (sym (ap (λ (s : Said). s.status) is) ∙ fault) in
+    omega arith
 
 -- a fault of reading is told by the status that is its own
 counted_said : (old new : ℕ) (failed file : List ℕ) (cause : ImageCause) → IsCounted old new failed (Refused file cause) → (said : Said) → said ≡ stopped file cause → IsCountedSaid old new failed said

@@ -1,5 +1,5 @@
 -- The CPUs of a board as the bits of a number.
-use Rattle.std.proofs.Common.{◌≡◌, ◌≢◌, ℕ, ◌+◌, ◌*◌, ◌<◌, ◌≤◌, ◌^◌, ◌%◌, Bool, true, false, ◌&&◌, ◌==◌, eqb, refl, sym, ◌∙◌, ap, subst, arith, inl, inr, w16}
+use Rattle.std.proofs.Common.{◌≡◌, ◌≢◌, ℕ, ◌+◌, ◌*◌, ◌<◌, ◌≤◌, ◌^◌, ◌%◌, Bool, true, false, ◌&&◌, ◌==◌, refl, sym, ◌∙◌, ap, subst, arith, inl, inr, w16}
 use Rattle.std.specs.Prelude.{nat_lt, bit_or}
 use Rattle.std.specs.Int.{bit_at}
 use Rattle.std.proofs.lemmas.Bool.{cases_eq}
@@ -37,13 +37,13 @@ one_more p k set more lt is there h n =
     let same : bit_at more k ≡ 1 = rw is (bit_at_set_same w16 set k lt) in
     let other : (i : ℕ) → i ≢ k → bit_at more i ≡ bit_at set i = λ i ne. rw is (bit_at_set_other w16 set k lt i ne) in
     elim (cases_eq n k) [
-      inl e ↦ subst (λ (m : ℕ). (bit_at more m == 1) ≡ (nat_lt m (k + 1) && p m)) (sym e) (rw (same, below_next k, there) refl)
+      | inl e ↦ subst (λ (m : ℕ). (bit_at more m == 1) ≡ (nat_lt m (k + 1) && p m)) (sym e) (rw (same, below_next k, there) refl)
       | inr ne ↦ ap (λ (b : ℕ). b == 1) (other n ne) ∙ h n ∙ ap (λ (b : Bool). b && p n) (below_other n k ne)
     ]
 
 -- and else nothing is
 pub one_less : (p : ℕ → Bool) (k set less : ℕ) → less ≡ set → p k ≡ false → AreBelow p k set → AreBelow p (k + 1) less
 one_less p k set less is there h n = rw is (elim (cases_eq n k) [
-  inl e ↦ subst (λ (m : ℕ). (bit_at set m == 1) ≡ (nat_lt m (k + 1) && p m)) (sym e) (h k ∙ rw (not_below k, below_next k, there) refl)
+  | inl e ↦ subst (λ (m : ℕ). (bit_at set m == 1) ≡ (nat_lt m (k + 1) && p m)) (sym e) (h k ∙ rw (not_below k, below_next k, there) refl)
   | inr ne ↦ h n ∙ ap (λ (b : Bool). b && p n) (below_other n k ne)
 ])

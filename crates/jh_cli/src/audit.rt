@@ -2,6 +2,7 @@
 ghost use Rattle.std.specs.Prelude.{◌≡◌, ◌≢◌, ◌≤◌, length, IfOk, IfErr};
 ghost use Rattle.jh_history.specs.Admitted.{IsAdmitted, IsBuilt};
 ghost use Rattle.jh_text.specs.FaultText.{fault_text};
+ghost use Rattle.jh_text.specs.declared.fault.JournalFault.TheVariants.{NoMemory as for_memory};
 ghost use Rattle.jh_cli.specs.declared.limits.TheConstants.{MOST_OF_A_JOURNAL as most_of_a_journal, JOURNAL_LIMIT as journal_limit};
 ghost use Rattle.jh_cli.specs.Lines.{refusal_line as refusal_line_lem};
 ghost use Rattle.jh_cli.specs.Reading.{SpellsAt, StopsAt};
@@ -31,6 +32,17 @@ fn faulty(alloc: Global, name: &str, fault: &JournalFault) -> Stop
     }
 }
 
+/// The call ends since no journal was read from the file of this name.
+fn unread(alloc: Global, name: &str, fault: &JournalFault) -> Stop
+    ensures told { OnEnded result (λ said. said ≡ record { status = Status.Refused; text = refusal_line_lem name.now (fault_text fault.now) }) }
+    ensures memory { fault.now ≡ for_memory → result ≡ Stop.NoMemory }
+{
+    match fault {
+        JournalFault::NoMemory => Stop::NoMemory,
+        _ => faulty(alloc, name, fault),
+    }
+}
+
 /// The journal in the file of this name.
 fn journal<F: Files>(alloc: Global, files: &mut F, name: &str) -> Result<Journal, Stop>
     ensures ok { IfOk result (λ journal. SpellsAt most_of_a_journal (F.contents files.old) name.now IsJournalFile journal.entries) }
@@ -43,8 +55,7 @@ fn journal<F: Files>(alloc: Global, files: &mut F, name: &str) -> Result<Journal
     let bytes = read_below(alloc, files, name, MOST_OF_A_JOURNAL)?;
     match read_journal(alloc, bytes.as_slice()) {
         Ok(journal) => Ok(journal),
-        Err(JournalFault::NoMemory) => Err(Stop::NoMemory),
-        Err(fault) => Err(faulty(alloc, name, &fault)),
+        Err(fault) => Err(unread(alloc, name, &fault)),
     }
 }
 

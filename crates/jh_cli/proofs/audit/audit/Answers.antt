@@ -1,6 +1,6 @@
 -- The board is read, and what is asked of its image is done.
 use Rattle.jh_cli.specs.Audit.{AuditsBy}
-use Rattle.jh_cli.proofs.BoardLemmas.{opens_ok, opens_err, opens_not}
+use Rattle.jh_cli.proofs.BoardLemmas.{opens_ok, opens_err}
 use Rattle.jh_cli.proofs.audit.audit.Goals as goal
 
 pub returns-clause-ok : goal.returns-clause-ok

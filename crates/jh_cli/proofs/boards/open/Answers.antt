@@ -1,6 +1,6 @@
 -- The board's files make no image, and the call ends there.
-use Rattle.jh_cli.proofs.BoardLemmas.{ends_at, counted_at}
+use Rattle.jh_cli.proofs.BoardLemmas.{ends_at}
 use Rattle.jh_cli.proofs.boards.open.Goals as goal
 
 pub returns-in-Err-clause-err : goal.returns-in-Err-clause-err
-returns-in-Err-clause-err g c = ends_at (g.F.Files.contents c.args.files.now) c.args.board.now c.in-Err.fault c.in-Err.read_image.ensures.answers c.unopened.result c.unopened.ensures.refused c.unopened.ensures.memory
+returns-in-Err-clause-err g c = ends_at (g.F.Files.contents c.args.files.now) c.args.board.now c.in-Err.fault (rw c.in-Err.is at c.read_image.ensures.answers) c.unopened.result c.unopened.ensures.refused c.unopened.ensures.memory

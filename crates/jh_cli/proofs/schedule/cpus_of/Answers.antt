@@ -1,5 +1,5 @@
 -- The bit of each CPU is set as its turn comes.
-use Rattle.std.proofs.Common.{◌≡◌, sym, ◌∙◌}
+use Rattle.std.proofs.Common.{sym, ◌∙◌}
 use Rattle.jh_history.specs.Cells.{is_on_board}
 use Rattle.jh_cli.proofs.CpuLemmas.{none_below, one_more, one_less, all_below}
 use Rattle.jh_cli.proofs.schedule.cpus_of.Goals.{then-is_on_board, else-is_on_board}
@@ -13,7 +13,7 @@ loop-cpu-preserved c =
     let p = is_on_board c.args.image.now in
     let k = c.loop-cpu.cpu in
     elim c.if-is_on_board.branch [
-      then-is_on_board w ↦ one_more p k c.loop-cpu.cpus c.if-is_on_board.cpus c.loop-cpu-test.true w.cpus-is (sym c.is_on_board.ensures ∙ w.if-is_on_board.true) c.loop-cpu.invariant
+      | then-is_on_board w ↦ one_more p k c.loop-cpu.cpus c.if-is_on_board.cpus c.loop-cpu-test.true w.cpus-is (sym c.is_on_board.ensures ∙ w.if-is_on_board.true) c.loop-cpu.invariant
       | else-is_on_board w ↦ one_less p k c.loop-cpu.cpus c.if-is_on_board.cpus w.cpus-is (sym c.is_on_board.ensures ∙ w.if-is_on_board.false) c.loop-cpu.invariant
     ]
 

@@ -12,3 +12,9 @@ returns-in-Play-clause-ok g c = rw c.in-Play.is c.play.ensures.ok
 
 pub returns-in-Play-clause-err : goal.returns-in-Play-clause-err
 returns-in-Play-clause-err g c = rw c.in-Play.is c.play.ensures.err
+
+pub returns-in-Audit-clause-ok : goal.returns-in-Audit-clause-ok
+returns-in-Audit-clause-ok g c = rw c.in-Audit.is c.audit.ensures.ok
+
+pub returns-in-Audit-clause-err : goal.returns-in-Audit-clause-err
+returns-in-Audit-clause-err g c = rw c.in-Audit.is c.audit.ensures.err

@@ -1,0 +1,65 @@
+-- A journal's text that is refused.
+use Rattle.std.proofs.Common.{◌≡◌, ◌≢◌, ℕ, ◌<◌, List, length, ◌↔◌, Result, Ok, Err, refl, sym, ◌∙◌, ap, arith, inr}
+use Rattle.jh_outside.specs.Reads.{HandsOut}
+use Rattle.jh_text.specs.declared.fault.JournalFault.{JournalFault}
+use Rattle.jh_text.specs.declared.fault.JournalFault.TheVariants.{Line, TooLong, NoMemory}
+use Rattle.jh_text.specs.Faults.{IsFirstBadLine, IsTooLong, IsFault}
+use Rattle.jh_text.specs.FaultText.{fault_text}
+use Rattle.jh_cli.specs.declared.limits.TheConstants.{MOST_OF_A_JOURNAL}
+use Rattle.jh_cli.specs.declared.status.Status.TheVariants.{Refused}
+use Rattle.jh_cli.specs.declared.told.Stop.{Stop}
+use Rattle.jh_cli.specs.declared.told.Stop.TheVariants as stop
+use Rattle.jh_cli.specs.Lines.{refusal_line}
+use Rattle.jh_cli.specs.Reading.{Contents, Said, StopsAt}
+use Rattle.jh_cli.specs.Audit.{JournalRefusal}
+use Rattle.jh_cli.specs.Stopped.{OnEnded, IsCounted}
+use Rattle.jh_cli.proofs.BoardLemmas.{nothing, refused_is_read}
+use Rattle.jh_cli.proofs.StopLemmas.{on_stop, refuses}
+
+tag : JournalFault → ℕ
+tag (Line number) = 1
+tag TooLong = 1
+tag NoMemory = 0
+
+-- what is said of a journal with the fault
+abbrev pub Refuses : List ℕ → JournalFault → Said → Type 0
+Refuses name fault said = said ≡ record { status = Refused; text = refusal_line name (fault_text fault) }
+
+-- what the reader says of its fault
+abbrev pub IsTold : List ℕ → JournalFault → Type 0
+IsTold text fault = fault ≢ NoMemory → IsFault text fault
+
+fault_in : {X : Type 0} → Result X JournalFault → JournalFault
+fault_in (Ok x) = NoMemory
+fault_in (Err fault) = fault
+
+is_other : {X : Type 0} (fault : JournalFault) (r memory : Result X JournalFault) → r ≡ Err fault → memory ≡ Err NoMemory → fault ≢ NoMemory → r ≢ memory
+unfolding fault_in
+is_other {X} fault r memory is wanted other h = other (ap (λ (s : Result X JournalFault). fault_in s) (sym is ∙ h ∙ wanted))
+
+-- the reader's clauses say that its fault is the text's
+pub is_fault : {X : Type 0} (text : List ℕ) (fault : JournalFault) (r memory : Result X JournalFault) → r ≡ Err fault → memory ≡ Err NoMemory
+    → (r ≢ memory → (number : ℕ) → (r ≡ Err (Line number)) ↔ IsFirstBadLine text number)
+    → (r ≢ memory → (r ≡ Err TooLong) ↔ IsTooLong text) → IsTold text fault
+is_fault text (Line number) r memory is wanted line long other = (line (is_other (Line number) r memory is wanted other) number).0 is
+is_fault text TooLong r memory is wanted line long other = (long (is_other TooLong r memory is wanted other)).0 is
+is_fault text NoMemory r memory is wanted line long other = tt
+
+stops_for : (contents : Contents) (name text : List ℕ) (fault : JournalFault) → fault ≢ NoMemory → IsTold text fault → HandsOut (contents name) MOST_OF_A_JOURNAL text → length text < MOST_OF_A_JOURNAL
+    → (s : Stop) → OnEnded s (Refuses name fault) → OnEnded s (StopsAt MOST_OF_A_JOURNAL contents name JournalRefusal)
+stops_for contents name text fault other told handed within s h =
+    refuses MOST_OF_A_JOURNAL contents name JournalRefusal text (fault_text fault) handed
+    (inr (record { within = within; fault = fault; is_of_text = other; first = told other; told = refl })) s h
+
+-- the call ends at a text with a fault
+pub ends_there : (contents : Contents) (name text : List ℕ) (fault : JournalFault) → IsTold text fault → HandsOut (contents name) MOST_OF_A_JOURNAL text → length text < MOST_OF_A_JOURNAL
+    → (s : Stop) → OnEnded s (Refuses name fault) → (fault ≡ NoMemory → s ≡ stop.NoMemory) → OnEnded s (StopsAt MOST_OF_A_JOURNAL contents name JournalRefusal)
+unfolding tag
+ends_there contents name text (Line number) told handed within s h memory = stops_for contents name text (Line number) (λ e. let same : 1 ≡ 0 = ap tag e in omega arith) told handed within s h
+ends_there contents name text TooLong told handed within s h memory = stops_for contents name text TooLong (λ e. let same : 1 ≡ 0 = ap tag e in omega arith) told handed within s h
+ends_there contents name text NoMemory told handed within s h memory = nothing (StopsAt MOST_OF_A_JOURNAL contents name JournalRefusal) s (memory refl)
+
+-- and no fault of reading is told
+pub no_fault_there : (old new : ℕ) (failed name : List ℕ) (fault : JournalFault) (s : Stop) → OnEnded s (Refuses name fault) → OnEnded s (IsCounted old new failed)
+no_fault_there old new failed name fault s h =
+    on_stop (Refuses name fault) (IsCounted old new failed) s (λ said is read. absurd (refused_is_read said (refusal_line name (fault_text fault)) is read)) h
