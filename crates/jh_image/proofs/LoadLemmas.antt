@@ -14,6 +14,7 @@ use Rattle.jh_cellcfg.specs.declared.region.Region.{Region}
 use Rattle.jh_cellcfg.specs.declared.config.SystemConfig.{SystemConfig}
 use Rattle.jh_script.specs.declared.image.Preload.{Preload}
 use Rattle.jh_script.specs.declared.image.Program.{Program}
+use Rattle.jh_check.proofs.BoolLemmas.{and-left, and-right, and-both}
 use Rattle.jh_history.specs.Cells.{is_program_of}
 use Rattle.jh_history.specs.Admitted.{IsSoundPreload, IsOtherPreload, IsSoundProgram, IsOtherProgram}
 use Rattle.jh_image.specs.declared.board.Listing.{Listing}
@@ -112,17 +113,6 @@ scripts-next contents board listing system preloads i file programs loaded lt is
 }
 
 -- ---- programs of different CPUs
-
-and-left : (a b : Bool) → (a && b) ≡ true → a ≡ true
-and-left true b h = refl
-and-left false b h = h
-
-and-right : (a b : Bool) → (a && b) ≡ true → b ≡ true
-and-right true b h = h
-and-right false b h = absurd (false≢true h)
-
-and-both : (a b : Bool) → a ≡ true → b ≡ true → (a && b) ≡ true
-and-both a b h k = ap (λ x. x && b) h ∙ k
 
 eq-swap : (a b : ℕ) → (a == b) ≡ true → (b == a) ≡ true
 eq-swap a b h = grind (arith, nat_tests)

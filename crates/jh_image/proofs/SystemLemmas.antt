@@ -15,6 +15,7 @@ use Rattle.jh_check.specs.declared.rule.Rule.TheVariants.{VirtOverlap, PhysOverl
 use Rattle.jh_check.specs.Regions.{pair_breaks, region_breaks, breaks_alone, hypervisor_breaks, has_size, virt_meet, phys_meet, share_places}
 use Rattle.jh_check.specs.Devices.{cpus_break, is_zero}
 use Rattle.jh_check.specs.Findings.{spot, in_regions, findings}
+use Rattle.jh_check.proofs.BoolLemmas.{not-both, and-left, and-right, and-both, or-left, or-right}
 use Rattle.jh_history.specs.Cells.{is_cpu_set}
 use Rattle.jh_script.specs.declared.image.Image.{Image}
 use Rattle.jh_image.specs.Opening.{MayBegin, MayOpen}
@@ -23,28 +24,6 @@ use Rattle.jh_history.proofs.AdmitLemmas.{byte_names, zero_names_none}
 use Rattle.jh_image.proofs.FindingLemmas.{no-pair, no-region, none-virt, none-phys, none-hypervisor, none-range, memory-range, none-identity, none-comm, none-execute, cpus-hold, memory-align}
 
 -- ---- tests
-
-not-both : (b : Bool) → b ≡ true → b ≡ false → ⊥
-not-both b t f = false≢true (sym f ∙ t)
-
-and-left : (a b : Bool) → (a && b) ≡ true → a ≡ true
-and-left true b h = refl
-and-left false b h = h
-
-and-right : (a b : Bool) → (a && b) ≡ true → b ≡ true
-and-right true b h = h
-and-right false b h = absurd (false≢true h)
-
-and-both : (a b : Bool) → a ≡ true → b ≡ true → (a && b) ≡ true
-and-both a b h k = ap (λ x. x && b) h ∙ k
-
-or-left : (a b : Bool) → (a || b) ≡ false → a ≡ false
-or-left true b h = h
-or-left false b h = refl
-
-or-right : (a b : Bool) → (a || b) ≡ false → b ≡ false
-or-right true b h = absurd (false≢true (sym h))
-or-right false b h = h
 
 -- where both don't hold and the first does, the second doesn't
 and-rest : (a b : Bool) → a ≡ true → (a && b) ≡ false → b ≡ false
