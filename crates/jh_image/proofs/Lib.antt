@@ -4,3 +4,4 @@ pub mod CappedLemmas
 pub mod LoadLemmas
 pub mod FindingLemmas
 pub mod SystemLemmas
+pub mod OneLemmas
