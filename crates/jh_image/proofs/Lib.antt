@@ -5,3 +5,4 @@ pub mod LoadLemmas
 pub mod FindingLemmas
 pub mod SystemLemmas
 pub mod OneLemmas
+pub mod UnrefusedLemmas
