@@ -1,5 +1,5 @@
 -- Where files tell what they hold, a board makes one image at most.
-use Rattle.std.proofs.Common.{◌≡◌, ◌≢◌, ℕ, ◌+◌, ◌<◌, ◌≤◌, List, [], ◌∷◌, ◌++◌, length, Option, Some, None, Result, Ok, Err, refl, sym, ap, subst, ◌∙◌, arith}
+use Rattle.std.proofs.Common.{◌≡◌, ◌≢◌, ℕ, ◌+◌, List, [], ◌∷◌, ◌++◌, length, Some, None, Result, Ok, refl, sym, ap, subst, ◌∙◌, arith}
 use Rattle.std.proofs.lemmas.List.{length_push}
 use Rattle.serde_json.specs.Data.{Data}
 use Rattle.jh_outside.specs.Reads.{Told, HandsOut}
@@ -17,8 +17,8 @@ use Rattle.jh_image.specs.declared.board.ProgramFile.{ProgramFile}
 use Rattle.jh_image.specs.declared.read.TheConstants.{MAX_FILE_SIZE}
 use Rattle.jh_image.specs.Told.{IsText}
 use Rattle.jh_image.specs.Boards.{board_told, Tells}
-use Rattle.jh_image.specs.Files.{Contents, Hands, HasBytes, Lists, SpellsSystem, IsPreloadOf, IsProgramOf, Preloads, no_preloads, one_more_preload, Programs, no_programs, one_more_program}
-use Rattle.jh_image.specs.Images.{HasSystem, IsReady, HasPreloads, MakesImage, IsImage}
+use Rattle.jh_image.specs.Files.{Contents, Hands, Lists, SpellsSystem, IsPreloadOf, IsProgramOf, Preloads, no_preloads, one_more_preload, Programs, no_programs, one_more_program}
+use Rattle.jh_image.specs.Images.{HasSystem, MakesImage, IsImage}
 use Rattle.jh_image.specs.Laws.{AreTold}
 
 -- two systems with one spelling are one
@@ -71,7 +71,7 @@ system-one contents board listing more one other spelling told h k =
 nil-push : {X : Type 0} (xs : List X) (x : X) → [] ≡ xs ++ x ∷ [] → ⊥
 nil-push xs x e = omega (arith, ap length e, length_push xs x)
 
-pub front-one : {X : Type 0} (xs ys : List X) (x y : X) → xs ++ x ∷ [] ≡ ys ++ y ∷ [] → (xs ≡ ys) × (x ≡ y)
+front-one : {X : Type 0} (xs ys : List X) (x y : X) → xs ++ x ∷ [] ≡ ys ++ y ∷ [] → (xs ≡ ys) × (x ≡ y)
 front-one [] [] x y e = (refl, cc)
 front-one [] (z ∷ zs) x y e =
     let rest : [] ≡ zs ++ y ∷ [] = cc in

@@ -1,6 +1,6 @@
 -- Where files tell what they hold and a board makes an image, no cause stops its reading but a file that can't be
 -- read.
-use Rattle.std.proofs.Common.{◌≡◌, ◌≢◌, ℕ, suc, zero, ◌+◌, ◌<◌, ◌≤◌, List, [], ◌∷◌, ◌++◌, length, take, Option, Some, None, Result, Ok, Err, ◌⊎◌, inl, inr, refl, sym, ap, subst, ◌∙◌, arith}
+use Rattle.std.proofs.Common.{◌≡◌, ℕ, suc, zero, ◌<◌, ◌≤◌, List, [], ◌∷◌, ◌++◌, length, take, Some, None, Result, Ok, Err, ◌⊎◌, inl, inr, refl, sym, ap, subst, ◌∙◌, arith}
 use Rattle.std.specs.Prelude.{slice_get}
 use Rattle.std.proofs.lemmas.List.{take-append-le}
 use Rattle.std.proofs.lemmas.Option.{none-some, slice_get_within}
@@ -14,7 +14,6 @@ use Rattle.jh_check.specs.Findings.{findings}
 use Rattle.jh_script.specs.declared.image.Preload.{Preload}
 use Rattle.jh_script.specs.declared.image.Program.{Program}
 use Rattle.jh_script.specs.declared.image.Image.{Image}
-use Rattle.jh_script.specs.declared.op.Op.{Op}
 use Rattle.jh_script.specs.declared.fault.ScriptFault.{ScriptFault}
 use Rattle.jh_script.specs.Programs.{program_of}
 use Rattle.jh_history.specs.Admitted.{IsBuilt}
@@ -25,12 +24,11 @@ use Rattle.jh_image.specs.declared.board.PreloadFile.{PreloadFile}
 use Rattle.jh_image.specs.declared.board.ProgramFile.{ProgramFile}
 use Rattle.jh_image.specs.declared.fault.ImageCause.{ImageCause}
 use Rattle.jh_image.specs.declared.fault.ImageCause.TheVariants.{ReadFault, Oversize, Json, Member, System, Findings, PoolSmall, Preload as BadPreload, Program as BadProgram, NotBuilt}
-use Rattle.jh_image.specs.declared.read.TheConstants.{MAX_FILE_SIZE}
 use Rattle.jh_image.specs.Boards.{board_told, Tells}
 use Rattle.jh_image.specs.Opening.{IsFit, root_pages, pool_pages}
 use Rattle.jh_image.specs.Files.{Contents, Hands, HasBytes, IsOversize, Lists, IsPreloadOf, IsProgramOf, Preloads, no_preloads, one_more_preload, Programs, no_programs, one_more_program}
 use Rattle.jh_image.specs.Images.{HasSystem, MakesImage, Comes, the_board, the_system, a_preload, a_program, IsImage}
-use Rattle.jh_image.specs.Causes.{IsBadBoard, IsBadSystem, HasFindings, IsSmall, IsBadPreload, IsBadProgram, IsUnbuilt, Stops}
+use Rattle.jh_image.specs.Causes.{IsBadBoard, IsBadSystem, IsSmall, IsBadPreload, IsBadProgram, IsUnbuilt, Stops}
 use Rattle.jh_image.specs.Laws.{AreTold}
 use Rattle.jh_image.proofs.OneLemmas.{OneSpelling, bytes-one, listing-told, listing-one, system-one, preload-one, preloads-one, makes-one}
 
@@ -60,25 +58,25 @@ preload-at : (contents : Contents) (hypervisor : Region) (files : List PreloadFi
 preload-at contents hypervisor files all no_preloads number file e = absurd (none-some file e)
 preload-at contents hypervisor files all (one_more_preload fs ps f p rest is fit) number file e =
     elim (get-push fs f file number e) [
-      inl h ↦
-        let at = preload-at contents hypervisor fs ps rest number file h in
-        let within : number ≤ length fs = omega (arith, slice_get_within fs number file h) in
-        record {
-          before = at.before;
-          preload = at.preload;
-          read = subst (λ l. Preloads contents hypervisor l at.before) (sym (take-append-le number fs (f ∷ []) within)) at.read;
-          is = at.is;
-          fit = at.fit;
-        }
+      | inl h ↦
+          let at = preload-at contents hypervisor fs ps rest number file h in
+          let within : number ≤ length fs = omega (arith, slice_get_within fs number file h) in
+          record {
+            before = at.before;
+            preload = at.preload;
+            read = subst (λ l. Preloads contents hypervisor l at.before) (sym (take-append-le number fs (f ∷ []) within)) at.read;
+            is = at.is;
+            fit = at.fit;
+          }
       | inr h ↦
-        let front : take number (fs ++ f ∷ []) ≡ fs = ap (λ n. take n (fs ++ f ∷ [])) h.0 ∙ take-append_seam fs (f ∷ []) in
-        record {
-          before = ps;
-          preload = p;
-          read = subst (λ l. Preloads contents hypervisor l ps) (sym front) rest;
-          is = subst (λ g. IsPreloadOf contents g p) h.1 is;
-          fit = fit;
-        }
+          let front : take number (fs ++ f ∷ []) ≡ fs = ap (λ n. take n (fs ++ f ∷ [])) h.0 ∙ take-append_seam fs (f ∷ []) in
+          record {
+            before = ps;
+            preload = p;
+            read = subst (λ l. Preloads contents hypervisor l ps) (sym front) rest;
+            is = subst (λ g. IsPreloadOf contents g p) h.1 is;
+            fit = fit;
+          }
     ]
 
 -- the preload whose turn comes has no fault where all the preloads have none
@@ -98,7 +96,7 @@ program-at : (contents : Contents) (files : List ProgramFile) (all : List Progra
 program-at contents files all no_programs number file e = absurd (none-some file e)
 program-at contents files all (one_more_program fs ps f p rest is) number file e =
     elim (get-push fs f file number e) [
-      inl h ↦ program-at contents fs ps rest number file h
+      | inl h ↦ program-at contents fs ps rest number file h
       | inr h ↦ (p, subst (λ g. IsProgramOf contents g p) h.1 is)
     ]
 
