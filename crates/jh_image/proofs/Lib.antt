@@ -4,3 +4,5 @@ pub mod CappedLemmas
 pub mod LoadLemmas
 pub mod FindingLemmas
 pub mod SystemLemmas
+pub mod OneLemmas
+pub mod UnrefusedLemmas

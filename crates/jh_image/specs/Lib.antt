@@ -5,3 +5,4 @@ pub mod Files
 pub mod Images
 pub mod Causes
 pub mod Texts
+pub mod Laws

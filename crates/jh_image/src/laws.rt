@@ -1,9 +1,17 @@
 //! Laws. Each function does nothing; its contract is the law.
-ghost use Rattle.std.specs.Prelude.{◌<◌, All};
+ghost use Rattle.std.specs.Prelude.{◌≡◌, ◌<◌, ℕ, List, All};
+ghost use Rattle.jh_script.specs.declared.image.Image.{Image as TheImage};
 ghost use Rattle.jh_history.specs.Admitted.{IsAdmitted};
+ghost use Rattle.jh_image.specs.declared.fault.ImageCause.{ImageCause as TheCause};
+ghost use Rattle.jh_image.specs.declared.fault.ImageCause.TheVariants.{ReadFault};
 ghost use Rattle.jh_image.specs.Opening.{MayOpen};
+ghost use Rattle.jh_image.specs.Files.{Contents};
+ghost use Rattle.jh_image.specs.Images.{IsImage};
+ghost use Rattle.jh_image.specs.Causes.{Stops};
+ghost use Rattle.jh_image.specs.Laws.{AreTold};
 
 use jh_script::Image;
+use jh_syscfg::{one_system_spelling, system_has_no_fault};
 
 /// The items of a list of bytes are below 256.
 fn are_bytes(_bytes: &[u8])
@@ -16,4 +24,20 @@ pub fn admitted_images_are_taken(image: &Image)
     ensures { MayOpen image.now → IsAdmitted image.now }
 {
     are_bytes(image.system.root.cpu_set.as_slice());
+}
+
+/// Where files tell what they hold, a board makes one image at most.
+pub fn boards_make_one_image()
+    ensures { (contents : Contents) (board : List ℕ) (one other : TheImage) → AreTold contents → IsImage contents board one → IsImage contents board other → one ≡ other }
+{
+    one_system_spelling();
+}
+
+/// Where files tell what they hold and a board makes an image, nothing stops its reading but a file that can't be
+/// read.
+pub fn boards_that_make_an_image_are_not_refused()
+    ensures { (contents : Contents) (board file : List ℕ) (image : TheImage) (cause : TheCause) → AreTold contents → IsImage contents board image → Stops contents board file cause → cause ≡ ReadFault }
+{
+    one_system_spelling();
+    system_has_no_fault();
 }
