@@ -1,0 +1,4 @@
+pub mod Unlisted
+pub mod Marks
+pub mod ListsTold
+pub mod NamesTold

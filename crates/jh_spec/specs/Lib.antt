@@ -1,0 +1,4 @@
+pub mod Told
+pub mod Cpus
+pub mod Cells
+pub mod Specs

@@ -1,0 +1,77 @@
+//! A cell's members.
+ghost use Rattle.std.specs.Prelude.{◌≡◌, map, IfOk};
+ghost use Rattle.serde_json.specs.View.{view};
+ghost use Rattle.jh_cellcfg.specs.Spelling.{console_bytes};
+ghost use Rattle.jh_spec.specs.Cells.{cell_told, Answers, IsFaultOf};
+ghost use Rattle.jh_spec.specs.Told.{unlisted};
+
+use crate::cpus::{cpu_set, cpu_set_size};
+use crate::fault::{fault_of, named};
+use crate::list::list_at;
+use crate::name::cell_name;
+use crate::spec::SpecFault;
+use crate::told::{Told, first_unlisted, member};
+use jh_cellcfg::{CellConfig, Console, Record};
+use jh_num::{NoMemory, Seq};
+use serde_json::Value;
+use std::alloc::Global;
+
+/// What the member of this name tells, or its fault.
+pub fn told<T: Told + Drop>(alloc: Global, object: &Value, name: &str) -> Result<T, SpecFault> {
+    named(alloc, name, member(object, name))
+}
+
+/// No name is unlisted.
+pub fn all_listed(alloc: Global, object: &Value, names: &[&str]) -> Result<(), SpecFault> {
+    match first_unlisted(object, names) {
+        Some(name) => Err(fault_of(alloc, name)),
+        None => Ok(()),
+    }
+}
+
+/// A console's bytes.
+fn console_bytes(alloc: Global, console: &Console) -> Result<[u8; 32], NoMemory>
+    ensures { IfOk result (λ bytes. bytes ≡ console_bytes console.now) }
+{
+    let mut written = Vec::new(alloc);
+    console.write(&mut written)?;
+    let mut bytes = [0; 32];
+    bytes.copy_from_slice(&written);
+    Ok(bytes)
+}
+
+/// The configuration that an object's members tell, where it has no other names than these.
+pub fn cell(alloc: Global, object: &Value, names: &[&str]) -> Result<CellConfig, SpecFault>
+    ensures { Answers (cell_told (map (λ name. name.now) names.now) (view object.now)) result }
+{
+    let name = named(alloc, "name", cell_name(object))?;
+    let id = told(alloc, object, "id")?;
+    let flags = told(alloc, object, "flags")?;
+    let bytes = named(alloc, "cpu_set_size", cpu_set_size(object))?;
+    let cpu_set = named(alloc, "cpus", cpu_set(alloc, object, bytes)?)?;
+    let memory_regions = named(alloc, "regions", list_at(alloc, object, "regions", 1024)?)?;
+    let irqchips = named(alloc, "irqchips", list_at(alloc, object, "irqchips", 64)?)?;
+    let pci_devices = named(alloc, "devices", list_at(alloc, object, "devices", 256)?)?;
+    let vpci_irq_base = told(alloc, object, "vpci_irq_base")?;
+    let cpu_reset_address = told(alloc, object, "cpu_reset_address")?;
+    let msg_reply_timeout = told(alloc, object, "msg_reply_timeout")?;
+    let console: Console = told(alloc, object, "console")?;
+    all_listed(alloc, object, names)?;
+    Ok(CellConfig {
+        name,
+        id,
+        flags,
+        vpci_irq_base,
+        cpu_reset_address,
+        msg_reply_timeout,
+        console: console_bytes(alloc, &console)?,
+        cpu_set,
+        memory_regions,
+        cache_regions: Seq::new(alloc),
+        irqchips,
+        pio_regions: Seq::new(alloc),
+        pci_devices,
+        pci_caps: Seq::new(alloc),
+        stream_ids: Seq::new(alloc),
+    })
+}
