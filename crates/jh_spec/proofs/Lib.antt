@@ -2,3 +2,4 @@ pub mod Unlisted
 pub mod Marks
 pub mod ListsTold
 pub mod NamesTold
+pub mod Steps

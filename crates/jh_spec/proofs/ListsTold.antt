@@ -1,5 +1,5 @@
 -- What the loop over a list's items has read.
-use Rattle.std.proofs.Common.{◌≡◌, ℕ, suc, ◌+◌, ◌<◌, ◌≤◌, List, [], ◌∷◌, ◌++◌, length, get_or, take, drop, Option, Some, None, option_map, refl, sym, ap, ◌∙◌, append_assoc, arith}
+use Rattle.std.proofs.Common.{◌≡◌, ℕ, suc, ◌+◌, ◌<◌, ◌≤◌, List, [], ◌∷◌, ◌++◌, length, get_or, take, drop, Option, Some, None, option_map, refl, sym, ap, ◌∙◌, append_assoc, arith, add-one}
 use Rattle.std.specs.Prelude.{◌≢◌, ◌==◌, option_and_then, if◌then◌else◌}
 use Rattle.std.proofs.lemmas.Bool.{eq-eqb, ne_eqb}
 use Rattle.std.proofs.Math.Seq.{drop-cons}
@@ -31,7 +31,7 @@ item_and x later = option_and_then (λ y. option_map (λ ys. y ∷ ys) later) x
 next_item : {X : Type 0} (tells : Data → Option X) (values : List Value) (n : ℕ) (v : Value) → n < length values → v ≡ get_or values n v
     → items_told tells (items_view (drop n values)) ≡ item_and (tells (view v)) (items_told tells (items_view (drop (n + 1) values)))
 next_item tells values n v lt is =
-    let split : drop n values ≡ v ∷ drop (n + 1) values = drop-cons values n v lt ∙ (λ i. sym is i ∷ drop (suc n) values) in
+    let split : drop n values ≡ v ∷ drop (n + 1) values = rw add-one (drop-cons values n v lt ∙ (λ i. sym is i ∷ drop (suc n) values)) in
     ap (λ (vs : List Value). items_told tells (items_view vs)) split
 
 pub none_told : {X : Type 0} (tells : Data → Option X) (values : List Value) → ToldSoFar tells values 0 []

@@ -1,5 +1,5 @@
 -- What the loop over a list of CPUs has marked.
-use Rattle.std.proofs.Common.{◌≡◌, ◌≢◌, ℕ, suc, ◌+◌, ◌*◌, ◌<◌, ◌≤◌, Bool, true, false, List, [], ◌∷◌, ◌++◌, length, get_or, take, drop, set, replicate, refl, sym, ap, subst, ◌∙◌, arith, add-one, inl, inr}
+use Rattle.std.proofs.Common.{◌≡◌, ◌≢◌, ℕ, zero, suc, ◌+◌, ◌*◌, ◌<◌, ◌≤◌, Bool, true, false, List, [], ◌∷◌, ◌++◌, length, length-append, get_or, take, drop, set, replicate, refl, sym, ap, subst, ◌∙◌, arith, add-one, inl, inr}
 use Rattle.jh_spec.specs.Cpus.{names_cpu, are_new, cpu_byte, mark_byte, bitmap, AreMarks}
 
 -- so many CPUs of the list are new, and marked
@@ -15,3 +15,8 @@ mark_byte-cpus limit cpus marks first are enough =
 pub bitmap-suc : (bytes : ℕ) (cpus : List ℕ) → bitmap (bytes + 1) cpus ≡ bitmap bytes cpus ++ cpu_byte cpus (8 * bytes) ∷ []
 unfolding bitmap
 bitmap-suc bytes cpus = rw add-one refl
+
+pub length-bitmap : (bytes : ℕ) (cpus : List ℕ) → length (bitmap bytes cpus) ≡ bytes
+unfolding bitmap
+length-bitmap zero cpus = refl
+length-bitmap (suc bytes) cpus = let before = length-bitmap bytes cpus in omega (arith, length-append (bitmap bytes cpus) (cpu_byte cpus (8 * bytes) ∷ []), before)

@@ -1,5 +1,5 @@
 -- The configurations that a JSON object's members tell, and the member that is at fault where they tell none.
-use Rattle.std.specs.Prelude.{◌≡◌, ⊤, ℕ, ◌-◌, ◌^◌, Bool, true, false, ◌&&◌, not, nat_lt, nat_le, List, [], ◌∷◌, ◌++◌, length, codes, Option, Some, None, Result, Ok, Err, unwrap_or, option_map, option_and_then, if◌then◌else◌, replicate}
+use Rattle.std.specs.Prelude.{◌≡◌, ℕ, ◌≤◌, ◌-◌, Bool, true, false, ◌&&◌, not, nat_lt, nat_le, List, [], ◌∷◌, ◌++◌, length, codes, Option, Some, None, Result, Ok, Err, option_and_then, if◌then◌else◌, replicate, IsTrue}
 use Rattle.std.specs.List.{list_any}
 use Rattle.serde_json.specs.Data.{Data}
 use Rattle.serde_json.specs.Find.{get, as_str}
@@ -11,40 +11,15 @@ use Rattle.jh_cellcfg.specs.declared.config.Console.{Console}
 use Rattle.jh_cellcfg.specs.declared.region.Region.{Region}
 use Rattle.jh_cellcfg.specs.Limits.{is_name, is_zero}
 use Rattle.jh_cellcfg.specs.Spelling.{console_bytes}
+use Rattle.jh_syscfg.specs.declared.platform.Platform.{Platform}
 use Rattle.jh_spec.specs.declared.spec.SpecFault.{SpecFault}
-use Rattle.jh_spec.specs.declared.spec.SpecFault.TheVariants.{Json, Member, NoMemory}
-use Rattle.jh_spec.specs.Told.{told_or, unlisted, u8_at, u16_at, u32_at, u64_at, u32_told, list_told, region_told, irqchip_told, device_told, console_told}
+use Rattle.jh_spec.specs.declared.spec.SpecFault.TheVariants.{Member}
+use Rattle.jh_spec.specs.declared.cell.Identity.{Identity}
+use Rattle.jh_spec.specs.declared.cell.Lists.{Lists}
+use Rattle.jh_spec.specs.declared.cell.Settings.{Settings}
+use Rattle.jh_spec.specs.Faults.{◌>>=◌, member_told, all_listed}
+use Rattle.jh_spec.specs.Told.{told_or, u8_at, u16_at, u32_at, u64_at, u32_told, list_told, region_told, irqchip_told, device_told, console_told}
 use Rattle.jh_spec.specs.Cpus.{bitmap, cpus_told}
-
--- ---- faults
-
--- a member is at fault where it tells nothing
-abbrev pub fault_at : {X : Type 0} → List ℕ → Option X → Option (List ℕ)
-fault_at name (Some x) = None
-fault_at name None = Some name
-
-abbrev pub first_some : {X : Type 0} → List (Option X) → Option X
-first_some [] = None
-first_some (None ∷ rest) = first_some rest
-first_some (Some x ∷ rest) = Some x
-
--- the fault of the member of this name, or what is made where there is none
-abbrev pub unless_at_fault : {X : Type 0} → Option (List ℕ) → X → Result X SpecFault
-unless_at_fault None made = Ok made
-unless_at_fault (Some name) made = Err (Member name)
-
--- an error is the fault of the member of this name, or want of memory
-abbrev pub IsFaultOf : List ℕ → SpecFault → Type 0
-IsFaultOf name (Member found) = found ≡ name
-IsFaultOf name Json = ⊥
-IsFaultOf name NoMemory = ⊤
-
--- an answer is the one that is wanted, or want of memory
-abbrev pub Answers : {X : Type 0} → Result X SpecFault → Result X SpecFault → Type 0
-Answers wanted (Ok x) = wanted ≡ Ok x
-Answers wanted (Err NoMemory) = ⊤
-Answers wanted (Err Json) = wanted ≡ Err Json
-Answers wanted (Err (Member name)) = wanted ≡ Err (Member name)
 
 -- ---- a cell's members
 
@@ -67,24 +42,12 @@ cpu_set_size d = told_or size_told 8 (get (codes "cpu_set_size") d)
 abbrev pub cpu_set_in : ℕ → Data → Option (List ℕ)
 cpu_set_in bytes d = told_or (cpus_told bytes) (bitmap bytes []) (get (codes "cpus") d)
 
-abbrev pub cpu_set : Data → Option (List ℕ)
-cpu_set d = cpu_set_in (unwrap_or (cpu_set_size d) 8) d
-
 -- a list of at most so many, which is empty where the member is missing
 abbrev pub at_most : {X : Type 0} → ℕ → List X → Option (List X)
 at_most most xs = if nat_le (length xs) most then Some xs else None
 
 abbrev pub list_at : {X : Type 0} → (Data → Option X) → ℕ → List ℕ → Data → Option (List X)
 list_at tells most name d = told_or (λ list. option_and_then (at_most most) (list_told tells list)) [] (get name d)
-
-abbrev pub regions : Data → Option (List Region)
-regions d = list_at region_told 1024 (codes "regions") d
-
-abbrev pub irqchips : Data → Option (List Irqchip)
-irqchips d = list_at irqchip_told 64 (codes "irqchips") d
-
-abbrev pub devices : Data → Option (List PciDevice)
-devices d = list_at device_told 256 (codes "devices") d
 
 abbrev pub no_region : Region
 no_region = record { phys_start = 0; virt_start = 0; size = 0; flags = 0 }
@@ -124,46 +87,75 @@ cell_names =
     codes "name" ∷ codes "id" ∷ codes "flags" ∷ codes "cpu_set_size" ∷ codes "cpus" ∷ codes "regions" ∷ codes "irqchips" ∷ codes "devices"
     ∷ codes "vpci_irq_base" ∷ codes "cpu_reset_address" ∷ codes "msg_reply_timeout" ∷ codes "console" ∷ []
 
--- the first member that is at fault, else the first name that isn't listed
-abbrev pub cell_fault : List (List ℕ) → Data → Option (List ℕ)
-cell_fault names d = first_some (
-    fault_at (codes "name") (cell_name d)
-    ∷ fault_at (codes "id") (u32_at (codes "id") d)
-    ∷ fault_at (codes "flags") (u32_at (codes "flags") d)
-    ∷ fault_at (codes "cpu_set_size") (cpu_set_size d)
-    ∷ fault_at (codes "cpus") (cpu_set d)
-    ∷ fault_at (codes "regions") (regions d)
-    ∷ fault_at (codes "irqchips") (irqchips d)
-    ∷ fault_at (codes "devices") (devices d)
-    ∷ fault_at (codes "vpci_irq_base") (u32_at (codes "vpci_irq_base") d)
-    ∷ fault_at (codes "cpu_reset_address") (u64_at (codes "cpu_reset_address") d)
-    ∷ fault_at (codes "msg_reply_timeout") (u64_at (codes "msg_reply_timeout") d)
-    ∷ fault_at (codes "console") (console_at (codes "console") d)
-    ∷ unlisted names d
-    ∷ [])
+unfoldable pub identity_told : Data → Result Identity SpecFault
+identity_told d = do
+  name ← member_told (codes "name") (cell_name d)
+  id ← member_told (codes "id") (u32_at (codes "id") d)
+  flags ← member_told (codes "flags") (u32_at (codes "flags") d)
+  bytes ← member_told (codes "cpu_set_size") (cpu_set_size d)
+  cpu_set ← member_told (codes "cpus") (cpu_set_in bytes d)
+  Ok (record { name = name; id = id; flags = flags; cpu_set = cpu_set })
 
--- what the faultless members make
-abbrev pub cell_made : Data → CellConfig
-cell_made d = record {
-  name = unwrap_or (cell_name d) [];
-  id = unwrap_or (u32_at (codes "id") d) 0;
-  flags = unwrap_or (u32_at (codes "flags") d) 0;
-  vpci_irq_base = unwrap_or (u32_at (codes "vpci_irq_base") d) 0;
-  cpu_reset_address = unwrap_or (u64_at (codes "cpu_reset_address") d) 0;
-  msg_reply_timeout = unwrap_or (u64_at (codes "msg_reply_timeout") d) 0;
-  console = console_bytes (unwrap_or (console_at (codes "console") d) no_console);
-  cpu_set = unwrap_or (cpu_set d) [];
-  memory_regions = unwrap_or (regions d) [];
+unfoldable pub lists_told : Data → Result Lists SpecFault
+lists_told d = do
+  regions ← member_told (codes "regions") (list_at region_told 1024 (codes "regions") d)
+  irqchips ← member_told (codes "irqchips") (list_at irqchip_told 64 (codes "irqchips") d)
+  devices ← member_told (codes "devices") (list_at device_told 256 (codes "devices") d)
+  Ok (record { memory_regions = regions; irqchips = irqchips; pci_devices = devices })
+
+unfoldable pub settings_told : Data → Result Settings SpecFault
+settings_told d = do
+  vpci_irq_base ← member_told (codes "vpci_irq_base") (u32_at (codes "vpci_irq_base") d)
+  cpu_reset_address ← member_told (codes "cpu_reset_address") (u64_at (codes "cpu_reset_address") d)
+  msg_reply_timeout ← member_told (codes "msg_reply_timeout") (u64_at (codes "msg_reply_timeout") d)
+  console ← member_told (codes "console") (console_at (codes "console") d)
+  Ok (record {
+    vpci_irq_base = vpci_irq_base;
+    cpu_reset_address = cpu_reset_address;
+    msg_reply_timeout = msg_reply_timeout;
+    console = console_bytes console;
+  })
+
+-- no cache regions, port ranges, capabilities or stream ids
+abbrev pub cell_of : Identity → Lists → Settings → CellConfig
+cell_of identity lists settings = record {
+  name = identity.name;
+  id = identity.id;
+  flags = identity.flags;
+  vpci_irq_base = settings.vpci_irq_base;
+  cpu_reset_address = settings.cpu_reset_address;
+  msg_reply_timeout = settings.msg_reply_timeout;
+  console = settings.console;
+  cpu_set = identity.cpu_set;
+  memory_regions = lists.memory_regions;
   cache_regions = [];
-  irqchips = unwrap_or (irqchips d) [];
+  irqchips = lists.irqchips;
   pio_regions = [];
-  pci_devices = unwrap_or (devices d) [];
+  pci_devices = lists.pci_devices;
   pci_caps = [];
   stream_ids = [];
 }
 
+-- the cell that an object's members tell, where it has no other names than these; else the first fault
 unfoldable pub cell_told : List (List ℕ) → Data → Result CellConfig SpecFault
-cell_told names d = unless_at_fault (cell_fault names d) (cell_made d)
+cell_told names d = do
+  identity ← identity_told d
+  lists ← lists_told d
+  settings ← settings_told d
+  _ ← all_listed names d
+  Ok (cell_of identity lists settings)
+
+-- ---- what is told keeps the limits
+
+pub record IsIdentity (identity : Identity) : Type 0 where
+  pub name : IsTrue (is_name identity.name)
+  pub some_cpus : 1 ≤ length identity.cpu_set
+  pub cpu_set : length identity.cpu_set ≤ 64
+
+pub record AreLists (lists : Lists) : Type 0 where
+  pub memory_regions : length lists.memory_regions ≤ 1024
+  pub irqchips : length lists.irqchips ≤ 64
+  pub pci_devices : length lists.pci_devices ≤ 256
 
 -- ---- a system's members
 
@@ -175,39 +167,56 @@ system_names =
 abbrev pub region_at : List ℕ → Data → Option Region
 region_at name d = told_or region_told no_region (get name d)
 
-abbrev pub told_alone : {X : Type 0} → Result X SpecFault → Option X
-told_alone (Ok x) = Some x
-told_alone (Err fault) = None
+-- any fault in root is a fault of root
+abbrev pub root_of : Result CellConfig SpecFault → Result CellConfig SpecFault
+root_of (Ok config) = Ok config
+root_of (Err fault) = Err (Member (codes "root"))
 
 -- root is a cell without a kind, and must be there
-abbrev pub root_told : Data → Option CellConfig
-root_told d = option_and_then (λ root. told_alone (cell_told cell_names root)) (get (codes "root") d)
+abbrev pub root_in : Option Data → Result CellConfig SpecFault
+root_in (Some root) = root_of (cell_told cell_names root)
+root_in None = Err (Member (codes "root"))
 
-abbrev pub system_fault : Data → Option (List ℕ)
-system_fault d = first_some (
-    fault_at (codes "flags") (u32_at (codes "flags") d)
-    ∷ fault_at (codes "hypervisor") (region_at (codes "hypervisor") d)
-    ∷ fault_at (codes "debug_console") (console_at (codes "debug_console") d)
-    ∷ fault_at (codes "mmconfig_base") (u64_at (codes "mmconfig_base") d)
-    ∷ fault_at (codes "end_bus") (u8_at (codes "end_bus") d)
-    ∷ fault_at (codes "is_virtual") (u8_at (codes "is_virtual") d)
-    ∷ fault_at (codes "domain") (u16_at (codes "domain") d)
-    ∷ fault_at (codes "root") (root_told d)
-    ∷ unlisted (codes "kind" ∷ system_names) d
-    ∷ [])
+abbrev pub root_told : Data → Result CellConfig SpecFault
+root_told d = root_in (get (codes "root") d)
 
-abbrev pub system_made : CellConfig → Data → SystemConfig
-system_made root d = record {
-  flags = unwrap_or (u32_at (codes "flags") d) 0;
-  hypervisor_memory = unwrap_or (region_at (codes "hypervisor") d) no_region;
-  debug_console = unwrap_or (console_at (codes "debug_console") d) no_console;
-  pci_mmconfig_base = unwrap_or (u64_at (codes "mmconfig_base") d) 0;
-  pci_mmconfig_end_bus = unwrap_or (u8_at (codes "end_bus") d) 0;
-  pci_is_virtual = unwrap_or (u8_at (codes "is_virtual") d) 0;
-  pci_domain = unwrap_or (u16_at (codes "domain") d) 0;
-  root_head = replicate 8 0;
+unfoldable pub platform_told : Data → Result Platform SpecFault
+platform_told d = do
+  flags ← member_told (codes "flags") (u32_at (codes "flags") d)
+  hypervisor ← member_told (codes "hypervisor") (region_at (codes "hypervisor") d)
+  debug_console ← member_told (codes "debug_console") (console_at (codes "debug_console") d)
+  mmconfig_base ← member_told (codes "mmconfig_base") (u64_at (codes "mmconfig_base") d)
+  end_bus ← member_told (codes "end_bus") (u8_at (codes "end_bus") d)
+  is_virtual ← member_told (codes "is_virtual") (u8_at (codes "is_virtual") d)
+  domain ← member_told (codes "domain") (u16_at (codes "domain") d)
+  Ok (record {
+    flags = flags;
+    hypervisor_memory = hypervisor;
+    debug_console = debug_console;
+    pci_mmconfig_base = mmconfig_base;
+    pci_mmconfig_end_bus = end_bus;
+    pci_is_virtual = is_virtual;
+    pci_domain = domain;
+    root_head = replicate 8 0;
+  })
+
+abbrev pub system_of : Platform → CellConfig → SystemConfig
+system_of platform root = record {
+  flags = platform.flags;
+  hypervisor_memory = platform.hypervisor_memory;
+  debug_console = platform.debug_console;
+  pci_mmconfig_base = platform.pci_mmconfig_base;
+  pci_mmconfig_end_bus = platform.pci_mmconfig_end_bus;
+  pci_is_virtual = platform.pci_is_virtual;
+  pci_domain = platform.pci_domain;
+  root_head = platform.root_head;
   root = root;
 }
 
+-- the system that an object's members tell; else the first fault
 unfoldable pub system_told : Data → Result SystemConfig SpecFault
-system_told d = unless_at_fault (system_fault d) (system_made (unwrap_or (root_told d) (cell_made d)) d)
+system_told d = do
+  platform ← platform_told d
+  root ← root_told d
+  _ ← all_listed (codes "kind" ∷ system_names) d
+  Ok (system_of platform root)

@@ -13,6 +13,7 @@ use Rattle.jh_spec.specs.declared.spec.SpecFault.{SpecFault}
 use Rattle.jh_spec.specs.declared.spec.SpecFault.TheVariants.{Json, Member, NoMemory}
 use Rattle.jh_spec.specs.declared.spec.Spec.{Spec}
 use Rattle.jh_spec.specs.declared.spec.Spec.TheVariants.{Cell, System}
+use Rattle.jh_spec.specs.Faults.{◌>>=◌}
 use Rattle.jh_spec.specs.Cells.{cell_names, cell_told, system_told}
 
 -- the bytes are the text of this JSON value, by the JSON reader's own written reading
@@ -20,23 +21,19 @@ pub record IsText (bytes : List ℕ) (d : Data) : Type 0 where
   pub utf8 : IsUtf8 bytes
   pub value : read bytes ≡ Some d
 
-abbrev pub cell_spec : Result CellConfig SpecFault → Result Spec SpecFault
-cell_spec (Ok config) = Ok (Cell config)
-cell_spec (Err fault) = Err fault
-
-abbrev pub system_spec : Result SystemConfig SpecFault → Result Spec SpecFault
-system_spec (Ok config) = Ok (System config)
-system_spec (Err fault) = Err fault
-
 -- the kind's text, where it is one
 abbrev pub kind_is : List ℕ → Data → Bool
 kind_is kind d = option_map_or (λ text. pointwise nat_eq text kind) (option_and_then as_str (get (codes "kind") d)) false
 
+-- a cell's names, with its kind
+abbrev pub names_with_kind : List (List ℕ)
+names_with_kind = codes "kind" ∷ cell_names
+
 -- what an object tells, by its kind
 abbrev pub object_told : Data → Result Spec SpecFault
 object_told d =
-    if kind_is (codes "cell") d then cell_spec (cell_told (codes "kind" ∷ cell_names) d)
-    else (if kind_is (codes "system") d then system_spec (system_told d)
+    if kind_is (codes "cell") d then (cell_told names_with_kind d >>= λ config. Ok (Cell config))
+    else (if kind_is (codes "system") d then (system_told d >>= λ config. Ok (System config))
     else Err (Member (codes "kind")))
 
 abbrev pub spec_told : Data → Result Spec SpecFault

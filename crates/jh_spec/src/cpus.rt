@@ -13,6 +13,7 @@ use std::alloc::Global;
 /// The bytes of the CPU bitmap: 1 to 64, and 8 where nothing is said.
 pub fn cpu_set_size(object: &Value) -> Option<u32>
     ensures value { result ≡ cpu_set_size (view object.now) }
+    ensures some { IfSome result (λ bytes. 0 < bytes) }
     ensures most { IfSome result (λ bytes. bytes ≤ 64) }
 {
     match object.get("cpu_set_size") {
@@ -23,6 +24,7 @@ pub fn cpu_set_size(object: &Value) -> Option<u32>
 
 fn size_told(value: &Value) -> Option<u32>
     ensures value { result ≡ size_told (view value.now) }
+    ensures some { IfSome result (λ bytes. 0 < bytes) }
     ensures most { IfSome result (λ bytes. bytes ≤ 64) }
 {
     let bytes = u32::told(value)?;
@@ -77,7 +79,8 @@ fn byte_of(marks: &[bool], first: usize) -> u8
 /// The bitmap of the CPUs in so many bytes.
 fn bitmap_of(alloc: Global, bytes: usize, cpus: &[u64]) -> Result<Option<Seq<u8>>, NoMemory>
     requires { bytes ≤ 64 }
-    ensures { IfOk result (λ told. told ≡ bitmap_of bytes cpus.now) }
+    ensures told { IfOk result (λ told. told ≡ bitmap_of bytes cpus.now) }
+    ensures len { IfOk result (λ told. IfSome told (λ bitmap. length bitmap ≡ bytes)) }
 {
     let Some(marks) = marks(alloc, 8 * bytes, cpus)? else {
         return Ok(None);
@@ -92,7 +95,8 @@ fn bitmap_of(alloc: Global, bytes: usize, cpus: &[u64]) -> Result<Option<Seq<u8>
 /// The CPU bitmap that the list of CPUs tells, in so many bytes.
 pub fn cpu_set(alloc: Global, object: &Value, bytes: u32) -> Result<Option<Seq<u8>>, NoMemory>
     requires { bytes ≤ 64 }
-    ensures { IfOk result (λ told. told ≡ cpu_set_in bytes (view object.now)) }
+    ensures told { IfOk result (λ told. told ≡ cpu_set_in bytes (view object.now)) }
+    ensures len { IfOk result (λ told. IfSome told (λ bitmap. length bitmap ≡ bytes)) }
 {
     let Some(value) = object.get("cpus") else {
         return bitmap_of(alloc, bytes as usize, &[]);

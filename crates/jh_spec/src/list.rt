@@ -1,6 +1,5 @@
 //! Lists.
-ghost use Rattle.std.specs.Prelude.{◌≡◌, codes, IfOk};
-ghost use Rattle.serde_json.specs.Find.{get};
+ghost use Rattle.std.specs.Prelude.{◌≡◌, ◌≤◌, length, IfOk, IfSome};
 ghost use Rattle.serde_json.specs.View.{view};
 ghost use Rattle.jh_spec.specs.Told.{list_told};
 ghost use Rattle.jh_spec.specs.Cells.{list_at};
@@ -34,7 +33,8 @@ pub fn list_at<T: Told>(
     name: &str,
     most: usize,
 ) -> Result<Option<Seq<T>>, NoMemory>
-    ensures { IfOk result (λ told. told ≡ list_at T.tells most name.now (view object.now)) }
+    ensures told { IfOk result (λ told. told ≡ list_at T.tells most name.now (view object.now)) }
+    ensures most { IfOk result (λ told. IfSome told (λ items. length items ≤ most)) }
 {
     let Some(value) = object.get(name) else {
         return Ok(Some(Seq::new(alloc)));

@@ -2,7 +2,8 @@
 ghost use Rattle.std.specs.Prelude.{◌≡◌, IfOk, IfErr, is_some, true};
 ghost use Rattle.serde_json.specs.Find.{as_object};
 ghost use Rattle.serde_json.specs.View.{view};
-ghost use Rattle.jh_spec.specs.Specs.{IsText, Tells, MayBeWritten, IsUnread};
+ghost use Rattle.jh_spec.specs.Specs.{IsText, Tells, MayBeWritten, IsUnread, object_told};
+ghost use Rattle.jh_spec.specs.Faults.{Answers};
 ghost use Rattle.jh_spec.specs.declared.spec.SpecFault.TheVariants.{NoMemory as OutOfMemory};
 
 use crate::cell::cell;
@@ -61,9 +62,17 @@ pub fn read_spec(alloc: Global, bytes: &[u8]) -> Result<Spec, SpecFault>
     ensures limits { IfOk result MayBeWritten }
 {
     let object = object(alloc, bytes)?;
+    spec_of(alloc, &object)
+}
+
+/// What an object tells, by its kind.
+fn spec_of(alloc: Global, object: &Value) -> Result<Spec, SpecFault>
+    ensures told { Answers (object_told (view object.now)) result }
+    ensures limits { IfOk result MayBeWritten }
+{
     match object.get("kind").and_then(Value::as_str) {
-        Some("cell") => Ok(Spec::Cell(cell(alloc, &object, &NAMES)?)),
-        Some("system") => Ok(Spec::System(system(alloc, &object)?)),
+        Some("cell") => Ok(Spec::Cell(cell(alloc, object, &NAMES)?)),
+        Some("system") => Ok(Spec::System(system(alloc, object)?)),
         _ => Err(fault_of(alloc, "kind")),
     }
 }
