@@ -3,3 +3,4 @@ pub mod Marks
 pub mod ListsTold
 pub mod NamesTold
 pub mod Steps
+pub mod Roots

@@ -27,3 +27,6 @@ pub at_fault : {X : Type 0} (w : Result X SpecFault) (name : List ℕ) (fault : 
 at_fault w name NoMemory is h = record { answer = tt }
 at_fault w name Json is h = absurd h
 at_fault w name (Member found) is h = record { answer = is ∙ ap (λ n. Err (Member n)) (sym h) }
+
+pub named_as : {X : Type 0} (name : List ℕ) (o told : Option X) (r : Result X SpecFault) → o ≡ told → Answers (member_told name o) r → Answers (member_told name told) r
+named_as name o told r is h = rw (← is) h

@@ -13,11 +13,11 @@ use Rattle.jh_cellcfg.specs.Limits.{is_name, is_zero}
 use Rattle.jh_cellcfg.specs.Spelling.{console_bytes}
 use Rattle.jh_syscfg.specs.declared.platform.Platform.{Platform}
 use Rattle.jh_spec.specs.declared.spec.SpecFault.{SpecFault}
-use Rattle.jh_spec.specs.declared.spec.SpecFault.TheVariants.{Member}
+use Rattle.jh_spec.specs.declared.spec.SpecFault.TheVariants.{Json, Member, NoMemory}
 use Rattle.jh_spec.specs.declared.cell.Identity.{Identity}
 use Rattle.jh_spec.specs.declared.cell.Lists.{Lists}
 use Rattle.jh_spec.specs.declared.cell.Settings.{Settings}
-use Rattle.jh_spec.specs.Faults.{◌>>=◌, member_told, all_listed}
+use Rattle.jh_spec.specs.Faults.{◌>>=◌, member_told, all_listed, IsFaultOf}
 use Rattle.jh_spec.specs.Told.{told_or, u8_at, u16_at, u32_at, u64_at, u32_told, list_told, region_told, irqchip_told, device_told, console_told}
 use Rattle.jh_spec.specs.Cpus.{bitmap, cpus_told}
 
@@ -179,6 +179,12 @@ root_in None = Err (Member (codes "root"))
 
 abbrev pub root_told : Data → Result CellConfig SpecFault
 root_told d = root_in (get (codes "root") d)
+
+-- what a fault inside root is found to be
+abbrev pub IsFaultInRoot : SpecFault → SpecFault → Type 0
+IsFaultInRoot NoMemory found = found ≡ NoMemory
+IsFaultInRoot Json found = IsFaultOf (codes "root") found
+IsFaultInRoot (Member name) found = IsFaultOf (codes "root") found
 
 unfoldable pub platform_told : Data → Result Platform SpecFault
 platform_told d = do

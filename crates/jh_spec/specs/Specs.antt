@@ -1,6 +1,5 @@
 -- What the bytes of a SPEC tell.
 use Rattle.std.specs.Prelude.{◌≡◌, ℕ, Bool, false, nat_eq, List, codes, ◌∷◌, Option, Some, None, Result, Ok, Err, IsUtf8, option_and_then, if◌then◌else◌, ⊤, is_some}
-use Rattle.std.specs.Option.{option_map_or}
 use Rattle.std.specs.Cmp.Lexicographic.{pointwise}
 use Rattle.serde_json.specs.Data.{Data}
 use Rattle.serde_json.specs.Read.{read}
@@ -12,7 +11,9 @@ use Rattle.jh_syscfg.specs.Layout.{IsSystemWithinLimits}
 use Rattle.jh_spec.specs.declared.spec.SpecFault.{SpecFault}
 use Rattle.jh_spec.specs.declared.spec.SpecFault.TheVariants.{Json, Member, NoMemory}
 use Rattle.jh_spec.specs.declared.spec.Spec.{Spec}
-use Rattle.jh_spec.specs.declared.spec.Spec.TheVariants.{Cell, System}
+use Rattle.jh_spec.specs.declared.spec.Spec.TheVariants.{Cell as CellSpec, System as SystemSpec}
+use Rattle.jh_spec.specs.declared.spec.Kind.{Kind}
+use Rattle.jh_spec.specs.declared.spec.Kind.TheVariants.{Cell, System}
 use Rattle.jh_spec.specs.Faults.{◌>>=◌}
 use Rattle.jh_spec.specs.Cells.{cell_names, cell_told, system_told}
 
@@ -21,20 +22,28 @@ pub record IsText (bytes : List ℕ) (d : Data) : Type 0 where
   pub utf8 : IsUtf8 bytes
   pub value : read bytes ≡ Some d
 
--- the kind's text, where it is one
-abbrev pub kind_is : List ℕ → Data → Bool
-kind_is kind d = option_map_or (λ text. pointwise nat_eq text kind) (option_and_then as_str (get (codes "kind") d)) false
+abbrev pub kind_named : List ℕ → Option Kind
+kind_named text =
+    if pointwise nat_eq text (codes "cell") then Some Cell
+    else (if pointwise nat_eq text (codes "system") then Some System
+    else None)
+
+-- the kind, which must be there
+abbrev pub kind_told : Data → Option Kind
+kind_told d = option_and_then kind_named (option_and_then as_str (get (codes "kind") d))
 
 -- a cell's names, with its kind
 abbrev pub names_with_kind : List (List ℕ)
 names_with_kind = codes "kind" ∷ cell_names
 
+abbrev pub told_by : Option Kind → Data → Result Spec SpecFault
+told_by (Some Cell) d = cell_told names_with_kind d >>= λ config. Ok (CellSpec config)
+told_by (Some System) d = system_told d >>= λ config. Ok (SystemSpec config)
+told_by None d = Err (Member (codes "kind"))
+
 -- what an object tells, by its kind
 abbrev pub object_told : Data → Result Spec SpecFault
-object_told d =
-    if kind_is (codes "cell") d then (cell_told names_with_kind d >>= λ config. Ok (Cell config))
-    else (if kind_is (codes "system") d then (system_told d >>= λ config. Ok (System config))
-    else Err (Member (codes "kind")))
+object_told d = told_by (kind_told d) d
 
 abbrev pub spec_told : Data → Result Spec SpecFault
 spec_told d = if is_some (as_object d) then object_told d else Err Json
@@ -54,5 +63,5 @@ Tells bytes (Err NoMemory) = ⊤
 
 -- the configuration may be written
 abbrev pub MayBeWritten : Spec → Type 0
-MayBeWritten (Cell config) = IsWithinLimits config
-MayBeWritten (System config) = IsSystemWithinLimits config
+MayBeWritten (CellSpec config) = IsWithinLimits config
+MayBeWritten (SystemSpec config) = IsSystemWithinLimits config

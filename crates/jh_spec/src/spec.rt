@@ -2,7 +2,7 @@
 ghost use Rattle.std.specs.Prelude.{◌≡◌, IfOk, IfErr, is_some, true};
 ghost use Rattle.serde_json.specs.Find.{as_object};
 ghost use Rattle.serde_json.specs.View.{view};
-ghost use Rattle.jh_spec.specs.Specs.{IsText, Tells, MayBeWritten, IsUnread, object_told};
+ghost use Rattle.jh_spec.specs.Specs.{IsText, Tells, MayBeWritten, IsUnread, kind_told, object_told};
 ghost use Rattle.jh_spec.specs.Faults.{Answers};
 ghost use Rattle.jh_spec.specs.declared.spec.SpecFault.TheVariants.{NoMemory as OutOfMemory};
 
@@ -39,6 +39,12 @@ impl From<NoMemory> for SpecFault {
     }
 }
 
+#[derive(Clone, Copy)]
+enum Kind {
+    Cell,
+    System,
+}
+
 /// The names of a cell's members behind its kind.
 const NAMES: [&str; 13] = [
     "kind",
@@ -70,10 +76,20 @@ fn spec_of(alloc: Global, object: &Value) -> Result<Spec, SpecFault>
     ensures told { Answers (object_told (view object.now)) result }
     ensures limits { IfOk result MayBeWritten }
 {
-    match object.get("kind").and_then(Value::as_str) {
-        Some("cell") => Ok(Spec::Cell(cell(alloc, object, &NAMES)?)),
-        Some("system") => Ok(Spec::System(system(alloc, object)?)),
-        _ => Err(fault_of(alloc, "kind")),
+    match kind_of(object) {
+        Some(Kind::Cell) => Ok(Spec::Cell(cell(alloc, object, &NAMES)?)),
+        Some(Kind::System) => Ok(Spec::System(system(alloc, object)?)),
+        None => Err(fault_of(alloc, "kind")),
+    }
+}
+
+fn kind_of(object: &Value) -> Option<Kind>
+    ensures { result ≡ kind_told (view object.now) }
+{
+    match object.get("kind")?.as_str()? {
+        "cell" => Some(Kind::Cell),
+        "system" => Some(Kind::System),
+        _ => None,
     }
 }
 

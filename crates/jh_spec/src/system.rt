@@ -3,7 +3,7 @@ ghost use Rattle.std.specs.Prelude.{◌≡◌, IfOk};
 ghost use Rattle.serde_json.specs.View.{view};
 ghost use Rattle.jh_cellcfg.specs.Limits.{IsWithinLimits};
 ghost use Rattle.jh_syscfg.specs.Layout.{IsSystemWithinLimits};
-ghost use Rattle.jh_spec.specs.Cells.{platform_told, root_told, system_told};
+ghost use Rattle.jh_spec.specs.Cells.{platform_told, root_told, system_told, IsFaultInRoot};
 ghost use Rattle.jh_spec.specs.Faults.{Answers};
 
 use crate::cell::{all_listed, cell, told};
@@ -64,6 +64,16 @@ fn platform_of(alloc: Global, object: &Value) -> Result<Platform, SpecFault>
     })
 }
 
+/// The fault that a fault inside root is.
+fn fault_in_root(alloc: Global, fault: SpecFault) -> SpecFault
+    ensures { IsFaultInRoot fault result }
+{
+    match fault {
+        SpecFault::NoMemory => SpecFault::NoMemory,
+        _ => fault_of(alloc, "root"),
+    }
+}
+
 /// Root, which is a cell without a kind and must be there.
 fn root(alloc: Global, object: &Value) -> Result<CellConfig, SpecFault>
     ensures told { Answers (root_told (view object.now)) result }
@@ -74,8 +84,7 @@ fn root(alloc: Global, object: &Value) -> Result<CellConfig, SpecFault>
     };
     match cell(alloc, value, &ROOT_NAMES) {
         Ok(config) => Ok(config),
-        Err(SpecFault::NoMemory) => Err(SpecFault::NoMemory),
-        Err(_) => Err(fault_of(alloc, "root")),
+        Err(fault) => Err(fault_in_root(alloc, fault)),
     }
 }
 
