@@ -4,3 +4,4 @@ pub mod ListsTold
 pub mod NamesTold
 pub mod Steps
 pub mod Roots
+pub mod KindTold
