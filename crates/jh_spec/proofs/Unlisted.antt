@@ -28,5 +28,5 @@ pub next_key : (names : List (Bor (List ℕ))) (key : String Global) (keys : Lis
 next_key names key keys text found is test =
     let tests : list_any (λ listed. pointwise nat_eq listed (string_bytes key)) (map (λ listed. listed.now) names) ≡ found
     = list_any-map (λ listed. listed.now) (λ listed. pointwise nat_eq listed (string_bytes key)) names
-      ∙ ap (λ (t : List ℕ). list_any (λ listed. pointwise nat_eq listed.now t) names) (sym is) ∙ sym test in
+    ∙ ap (λ (t : List ℕ). list_any (λ listed. pointwise nat_eq listed.now t) names) (sym is) ∙ sym test in
     ap (λ (b : Bool). if b then key_unlisted (map (λ listed. listed.now) names) keys else Some (string_bytes key)) tests

@@ -6,7 +6,6 @@ use Rattle.jh_spec.specs.declared.spec.SpecFault.TheVariants.{Json, Member, NoMe
 use Rattle.jh_spec.specs.Told.{unlisted}
 
 infixl 10 ◌>>=◌
-
 -- the next step, where this one finds no fault
 unfoldable pub ◌>>=◌ : {X Y : Type 0} → Result X SpecFault → (X → Result Y SpecFault) → Result Y SpecFault
 Ok x >>= next = next x

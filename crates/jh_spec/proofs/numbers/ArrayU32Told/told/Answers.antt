@@ -31,7 +31,7 @@ loop-place-preserved g c =
     let in_items : place < length vec.items = omega (arith, vec.ok.0, c.len.ensures, c.if-len.false) in
     record {
       told = rw (take_more_set words place word in_words)
-        (one_told u32_told vec.items place (take place words) c.index.result.now word in_items c.index.ensures (sym c.in_ok-words.ensures) c.loop-place.invariant.told);
+          (one_told u32_told vec.items place (take place words) c.index.result.now word in_items c.index.ensures (sym c.in_ok-words.ensures) c.loop-place.invariant.told);
       len = length-set words place word ∙ c.loop-place.invariant.len;
     }
 
