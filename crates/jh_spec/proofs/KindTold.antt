@@ -1,5 +1,5 @@
 -- What an object tells by the kind that was found.
-use Rattle.std.proofs.Common.{◌≡◌, Option, Some, None, Result, Ok, Err, sym}
+use Rattle.std.proofs.Common.{◌≡◌, Option, Some, Result, Ok}
 use Rattle.serde_json.specs.Data.{Data}
 use Rattle.jh_spec.specs.declared.spec.SpecFault.{SpecFault}
 use Rattle.jh_spec.specs.declared.spec.Spec.{Spec}

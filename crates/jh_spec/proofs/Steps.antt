@@ -1,9 +1,8 @@
 -- One step of a chain of steps that may find a fault, and the steps behind it.
-use Rattle.std.proofs.Common.{◌≡◌, ℕ, List, Option, Some, None, Result, Ok, Err, refl, sym, ap, ◌∙◌}
-use Rattle.std.specs.Prelude.{⊤}
+use Rattle.std.proofs.Common.{◌≡◌, ℕ, List, Option, Result, Ok, Err, refl, sym, ap, ◌∙◌}
 use Rattle.jh_spec.specs.declared.spec.SpecFault.{SpecFault}
 use Rattle.jh_spec.specs.declared.spec.SpecFault.TheVariants.{Json, Member, NoMemory}
-use Rattle.jh_spec.specs.Faults.{◌>>=◌, Answers, IsAnswer, IsFaultOf, member_told}
+use Rattle.jh_spec.specs.Faults.{◌>>=◌, Answers, IsFaultOf, member_told}
 
 -- this step found no fault
 pub step : {X Y : Type 0} (w : Result X SpecFault) (x : X) (next : X → Result Y SpecFault) (r : Result Y SpecFault) → Answers w (Ok x) → Answers (next x) r → Answers (w >>= next) r

@@ -1,11 +1,9 @@
 -- What the bytes of a SPEC tell.
-use Rattle.std.specs.Prelude.{◌≡◌, ℕ, Bool, false, nat_eq, List, codes, ◌∷◌, Option, Some, None, Result, Ok, Err, IsUtf8, option_and_then, if◌then◌else◌, ⊤, is_some}
+use Rattle.std.specs.Prelude.{◌≡◌, ℕ, nat_eq, List, codes, ◌∷◌, Option, Some, None, Result, Ok, Err, IsUtf8, option_and_then, if◌then◌else◌, ⊤, is_some}
 use Rattle.std.specs.Cmp.Lexicographic.{pointwise}
 use Rattle.serde_json.specs.Data.{Data}
 use Rattle.serde_json.specs.Read.{read}
 use Rattle.serde_json.specs.Find.{get, as_str, as_object}
-use Rattle.jh_cellcfg.specs.declared.config.CellConfig.{CellConfig}
-use Rattle.jh_cellcfg.specs.declared.config.SystemConfig.{SystemConfig}
 use Rattle.jh_cellcfg.specs.Limits.{IsWithinLimits}
 use Rattle.jh_syscfg.specs.Layout.{IsSystemWithinLimits}
 use Rattle.jh_spec.specs.declared.spec.SpecFault.{SpecFault}

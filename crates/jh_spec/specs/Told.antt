@@ -1,5 +1,5 @@
 -- What a JSON value tells: whole numbers, lists of them, and the records of a configuration.
-use Rattle.std.specs.Prelude.{◌≡◌, ℕ, ◌+◌, ◌^◌, Bool, true, false, ◌&&◌, ◌==◌, nat_lt, nat_le, nat_eq, List, [], ◌∷◌, length, codes, Option, Some, None, is_some, is_none, unwrap_or, option_map, option_and_then, if◌then◌else◌, replicate}
+use Rattle.std.specs.Prelude.{ℕ, ◌^◌, Bool, false, ◌&&◌, ◌==◌, nat_lt, nat_eq, List, [], ◌∷◌, length, codes, Option, Some, None, is_some, is_none, unwrap_or, option_map, option_and_then, if◌then◌else◌, replicate}
 use Rattle.std.specs.List.{list_any}
 use Rattle.std.specs.Option.{option_map_or}
 use Rattle.std.specs.Cmp.Lexicographic.{pointwise}

@@ -1,7 +1,5 @@
-use Rattle.std.proofs.Common.{◌≡◌, sym, ap, ◌∙◌}
 use Rattle.std.proofs.lemmas.Result.{err_from_is_err_and}
 use Rattle.jh_spec.specs.Cells.{identity_told}
-use Rattle.jh_spec.specs.Faults.{Answers, member_told}
 use Rattle.jh_spec.proofs.Steps.{step, stop, ended}
 use Rattle.jh_spec.proofs.cell.identity_of.Goals as goal
 

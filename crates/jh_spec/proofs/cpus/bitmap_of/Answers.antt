@@ -1,4 +1,4 @@
-use Rattle.std.proofs.Common.{◌≡◌, ℕ, ◌+◌, ◌*◌, ◌<◌, List, length, [], ◌∷◌, ◌++◌, Bool, sym, ap, ◌∙◌, arith}
+use Rattle.std.proofs.Common.{◌≡◌, ◌*◌, List, length, [], ◌∷◌, ◌++◌, Bool, sym, ap, ◌∙◌, arith}
 use Rattle.jh_spec.specs.Cpus.{bitmap, cpu_byte, mark_byte, AreMarks}
 use Rattle.jh_spec.proofs.Marks.{mark_byte-cpus, bitmap-suc, length-bitmap}
 use Rattle.jh_spec.proofs.cpus.bitmap_of.Goals as goal
