@@ -1,0 +1,228 @@
+-- The configurations that a JSON object's members tell, and the member that is at fault where they tell none.
+use Rattle.std.specs.Prelude.{◌≡◌, ℕ, ◌≤◌, ◌-◌, ◌&&◌, not, nat_lt, nat_le, List, [], ◌∷◌, ◌++◌, length, codes, Option, Some, None, Result, Ok, Err, option_and_then, if◌then◌else◌, replicate, IsTrue}
+use Rattle.std.specs.List.{list_any}
+use Rattle.serde_json.specs.Data.{Data}
+use Rattle.serde_json.specs.Find.{get, as_str}
+use Rattle.jh_cellcfg.specs.declared.config.CellConfig.{CellConfig}
+use Rattle.jh_cellcfg.specs.declared.config.SystemConfig.{SystemConfig}
+use Rattle.jh_cellcfg.specs.declared.config.Irqchip.{Irqchip}
+use Rattle.jh_cellcfg.specs.declared.config.PciDevice.{PciDevice}
+use Rattle.jh_cellcfg.specs.declared.config.Console.{Console}
+use Rattle.jh_cellcfg.specs.declared.region.Region.{Region}
+use Rattle.jh_cellcfg.specs.Limits.{is_name, is_zero}
+use Rattle.jh_cellcfg.specs.Spelling.{console_bytes}
+use Rattle.jh_syscfg.specs.declared.platform.Platform.{Platform}
+use Rattle.jh_spec.specs.declared.spec.SpecFault.{SpecFault}
+use Rattle.jh_spec.specs.declared.spec.SpecFault.TheVariants.{Json, Member, NoMemory}
+use Rattle.jh_spec.specs.declared.cell.Identity.{Identity}
+use Rattle.jh_spec.specs.declared.cell.Lists.{Lists}
+use Rattle.jh_spec.specs.declared.cell.Settings.{Settings}
+use Rattle.jh_spec.specs.Faults.{◌>>=◌, member_told, all_listed, IsFaultOf}
+use Rattle.jh_spec.specs.Told.{told_or, u8_at, u16_at, u32_at, u64_at, u32_told, list_told, region_told, irqchip_told, device_told, console_told}
+use Rattle.jh_spec.specs.Cpus.{bitmap, cpus_told}
+
+-- ---- a cell's members
+
+-- a text that has no zero byte and is a name with zero bytes behind it, up to 32
+abbrev pub name_of : List ℕ → Option (List ℕ)
+name_of text =
+    let whole = text ++ replicate (32 - length text) 0 in
+    if nat_le (length text) 32 && not (list_any is_zero text) && is_name whole then Some whole else None
+
+abbrev pub cell_name : Data → Option (List ℕ)
+cell_name d = option_and_then name_of (option_and_then as_str (get (codes "name") d))
+
+-- the bytes of the CPU bitmap: 1 to 64, and 8 where the member is missing
+abbrev pub size_told : Data → Option ℕ
+size_told d = option_and_then (λ bytes. if nat_lt 0 bytes && nat_le bytes 64 then Some bytes else None) (u32_told d)
+
+abbrev pub cpu_set_size : Data → Option ℕ
+cpu_set_size d = told_or size_told 8 (get (codes "cpu_set_size") d)
+
+abbrev pub cpu_set_in : ℕ → Data → Option (List ℕ)
+cpu_set_in bytes d = told_or (cpus_told bytes) (bitmap bytes []) (get (codes "cpus") d)
+
+-- a list of at most so many, which is empty where the member is missing
+abbrev pub at_most : {X : Type 0} → ℕ → List X → Option (List X)
+at_most most xs = if nat_le (length xs) most then Some xs else None
+
+abbrev pub list_at : {X : Type 0} → (Data → Option X) → ℕ → List ℕ → Data → Option (List X)
+list_at tells most name d = told_or (λ list. option_and_then (at_most most) (list_told tells list)) [] (get name d)
+
+abbrev pub no_region : Region
+no_region = record { phys_start = 0; virt_start = 0; size = 0; flags = 0 }
+
+abbrev pub no_irqchip : Irqchip
+no_irqchip = record { address = 0; id = 0; pin_base = 0; pin_bitmap = replicate 4 0 }
+
+abbrev pub no_device : PciDevice
+no_device = record {
+  kind = 0;
+  iommu = 0;
+  domain = 0;
+  bdf = 0;
+  bar_mask = replicate 6 0;
+  caps_start = 0;
+  num_caps = 0;
+  num_msi_vectors = 0;
+  msi_bits = 0;
+  num_msix_vectors = 0;
+  msix_region_size = 0;
+  msix_address = 0;
+  shmem_regions_start = 0;
+  shmem_dev_id = 0;
+  shmem_peers = 0;
+  shmem_protocol = 0;
+}
+
+abbrev pub no_console : Console
+no_console = record { address = 0; size = 0; kind = 0; flags = 0; divider = 0; gate_nr = 0; clock_reg = 0 }
+
+abbrev pub console_at : List ℕ → Data → Option Console
+console_at name d = told_or console_told no_console (get name d)
+
+-- a cell's members, in their order
+abbrev pub cell_names : List (List ℕ)
+cell_names =
+    codes "name" ∷ codes "id" ∷ codes "flags" ∷ codes "cpu_set_size" ∷ codes "cpus" ∷ codes "regions" ∷ codes "irqchips" ∷ codes "devices"
+    ∷ codes "vpci_irq_base" ∷ codes "cpu_reset_address" ∷ codes "msg_reply_timeout" ∷ codes "console" ∷ []
+
+unfoldable pub identity_told : Data → Result Identity SpecFault
+identity_told d = do
+  name ← member_told (codes "name") (cell_name d)
+  id ← member_told (codes "id") (u32_at (codes "id") d)
+  flags ← member_told (codes "flags") (u32_at (codes "flags") d)
+  bytes ← member_told (codes "cpu_set_size") (cpu_set_size d)
+  cpu_set ← member_told (codes "cpus") (cpu_set_in bytes d)
+  Ok (record { name = name; id = id; flags = flags; cpu_set = cpu_set })
+
+unfoldable pub lists_told : Data → Result Lists SpecFault
+lists_told d = do
+  regions ← member_told (codes "regions") (list_at region_told 1024 (codes "regions") d)
+  irqchips ← member_told (codes "irqchips") (list_at irqchip_told 64 (codes "irqchips") d)
+  devices ← member_told (codes "devices") (list_at device_told 256 (codes "devices") d)
+  Ok (record { memory_regions = regions; irqchips = irqchips; pci_devices = devices })
+
+unfoldable pub settings_told : Data → Result Settings SpecFault
+settings_told d = do
+  vpci_irq_base ← member_told (codes "vpci_irq_base") (u32_at (codes "vpci_irq_base") d)
+  cpu_reset_address ← member_told (codes "cpu_reset_address") (u64_at (codes "cpu_reset_address") d)
+  msg_reply_timeout ← member_told (codes "msg_reply_timeout") (u64_at (codes "msg_reply_timeout") d)
+  console ← member_told (codes "console") (console_at (codes "console") d)
+  Ok (record {
+    vpci_irq_base = vpci_irq_base;
+    cpu_reset_address = cpu_reset_address;
+    msg_reply_timeout = msg_reply_timeout;
+    console = console_bytes console;
+  })
+
+-- no cache regions, port ranges, capabilities or stream ids
+abbrev pub cell_of : Identity → Lists → Settings → CellConfig
+cell_of identity lists settings = record {
+  name = identity.name;
+  id = identity.id;
+  flags = identity.flags;
+  vpci_irq_base = settings.vpci_irq_base;
+  cpu_reset_address = settings.cpu_reset_address;
+  msg_reply_timeout = settings.msg_reply_timeout;
+  console = settings.console;
+  cpu_set = identity.cpu_set;
+  memory_regions = lists.memory_regions;
+  cache_regions = [];
+  irqchips = lists.irqchips;
+  pio_regions = [];
+  pci_devices = lists.pci_devices;
+  pci_caps = [];
+  stream_ids = [];
+}
+
+-- the cell that an object's members tell, where it has no other names than these; else the first fault
+unfoldable pub cell_told : List (List ℕ) → Data → Result CellConfig SpecFault
+cell_told names d = do
+  identity ← identity_told d
+  lists ← lists_told d
+  settings ← settings_told d
+  _ ← all_listed names d
+  Ok (cell_of identity lists settings)
+
+-- ---- what is told keeps the limits
+
+pub record IsIdentity (identity : Identity) : Type 0 where
+  pub name : IsTrue (is_name identity.name)
+  pub some_cpus : 1 ≤ length identity.cpu_set
+  pub cpu_set : length identity.cpu_set ≤ 64
+
+pub record AreLists (lists : Lists) : Type 0 where
+  pub memory_regions : length lists.memory_regions ≤ 1024
+  pub irqchips : length lists.irqchips ≤ 64
+  pub pci_devices : length lists.pci_devices ≤ 256
+
+-- ---- a system's members
+
+abbrev pub system_names : List (List ℕ)
+system_names =
+    codes "flags" ∷ codes "hypervisor" ∷ codes "debug_console" ∷ codes "mmconfig_base" ∷ codes "end_bus" ∷ codes "is_virtual" ∷ codes "domain"
+    ∷ codes "root" ∷ []
+
+abbrev pub region_at : List ℕ → Data → Option Region
+region_at name d = told_or region_told no_region (get name d)
+
+-- any fault in root is a fault of root
+abbrev pub root_of : Result CellConfig SpecFault → Result CellConfig SpecFault
+root_of (Ok config) = Ok config
+root_of (Err fault) = Err (Member (codes "root"))
+
+-- root is a cell without a kind, and must be there
+abbrev pub root_in : Option Data → Result CellConfig SpecFault
+root_in (Some root) = root_of (cell_told cell_names root)
+root_in None = Err (Member (codes "root"))
+
+abbrev pub root_told : Data → Result CellConfig SpecFault
+root_told d = root_in (get (codes "root") d)
+
+-- what a fault inside root is found to be
+abbrev pub IsFaultInRoot : SpecFault → SpecFault → Type 0
+IsFaultInRoot NoMemory found = found ≡ NoMemory
+IsFaultInRoot Json found = IsFaultOf (codes "root") found
+IsFaultInRoot (Member name) found = IsFaultOf (codes "root") found
+
+unfoldable pub platform_told : Data → Result Platform SpecFault
+platform_told d = do
+  flags ← member_told (codes "flags") (u32_at (codes "flags") d)
+  hypervisor ← member_told (codes "hypervisor") (region_at (codes "hypervisor") d)
+  debug_console ← member_told (codes "debug_console") (console_at (codes "debug_console") d)
+  mmconfig_base ← member_told (codes "mmconfig_base") (u64_at (codes "mmconfig_base") d)
+  end_bus ← member_told (codes "end_bus") (u8_at (codes "end_bus") d)
+  is_virtual ← member_told (codes "is_virtual") (u8_at (codes "is_virtual") d)
+  domain ← member_told (codes "domain") (u16_at (codes "domain") d)
+  Ok (record {
+    flags = flags;
+    hypervisor_memory = hypervisor;
+    debug_console = debug_console;
+    pci_mmconfig_base = mmconfig_base;
+    pci_mmconfig_end_bus = end_bus;
+    pci_is_virtual = is_virtual;
+    pci_domain = domain;
+    root_head = replicate 8 0;
+  })
+
+abbrev pub system_of : Platform → CellConfig → SystemConfig
+system_of platform root = record {
+  flags = platform.flags;
+  hypervisor_memory = platform.hypervisor_memory;
+  debug_console = platform.debug_console;
+  pci_mmconfig_base = platform.pci_mmconfig_base;
+  pci_mmconfig_end_bus = platform.pci_mmconfig_end_bus;
+  pci_is_virtual = platform.pci_is_virtual;
+  pci_domain = platform.pci_domain;
+  root_head = platform.root_head;
+  root = root;
+}
+
+-- the system that an object's members tell; else the first fault
+unfoldable pub system_told : Data → Result SystemConfig SpecFault
+system_told d = do
+  platform ← platform_told d
+  root ← root_told d
+  _ ← all_listed (codes "kind" ∷ system_names) d
+  Ok (system_of platform root)

@@ -1,0 +1,49 @@
+-- The bitmap of a list of CPUs: CPU i is bit i mod 8 of byte i div 8.
+use Rattle.std.specs.Prelude.{◌≡◌, ◌<◌, ℕ, zero, suc, ◌+◌, ◌*◌, length, get_or, false, Bool, true, ◌&&◌, not, ◌==◌, nat_lt, List, [], ◌∷◌, ◌++◌, Option, Some, None, option_and_then, if◌then◌else◌}
+use Rattle.std.specs.List.{list_any}
+use Rattle.serde_json.specs.Data.{Data}
+use Rattle.jh_spec.specs.Told.{list_told, u64_told}
+
+abbrev pub names_cpu : List ℕ → ℕ → Bool
+names_cpu cpus cpu = list_any (λ other. other == cpu) cpus
+
+-- each CPU has a bit below the limit, and differs from those before it
+abbrev pub are_new : ℕ → List ℕ → List ℕ → Bool
+are_new limit before [] = true
+are_new limit before (cpu ∷ cpus) = nat_lt cpu limit && not (names_cpu before cpu) && are_new limit (before ++ cpu ∷ []) cpus
+
+-- a CPU's bit in its byte, by its weight there
+abbrev pub cpu_bit : List ℕ → ℕ → ℕ → ℕ
+cpu_bit cpus cpu weight = if names_cpu cpus cpu then weight else 0
+
+-- the byte of eight CPUs, from this one on
+abbrev pub cpu_byte : List ℕ → ℕ → ℕ
+cpu_byte cpus first =
+    cpu_bit cpus first 1 + cpu_bit cpus (first + 1) 2 + cpu_bit cpus (first + 2) 4 + cpu_bit cpus (first + 3) 8
+    + cpu_bit cpus (first + 4) 16 + cpu_bit cpus (first + 5) 32 + cpu_bit cpus (first + 6) 64 + cpu_bit cpus (first + 7) 128
+
+-- the marks say for each CPU below the limit whether it is named
+pub record AreMarks (limit : ℕ) (cpus : List ℕ) (marks : List Bool) : Type 0 where
+  pub len : length marks ≡ limit
+  pub marked : (cpu : ℕ) → cpu < limit → get_or marks cpu false ≡ names_cpu cpus cpu
+
+-- a mark's bit in its byte, by its weight there
+abbrev pub mark_bit : List Bool → ℕ → ℕ → ℕ
+mark_bit marks place weight = if get_or marks place false then weight else 0
+
+abbrev pub mark_byte : List Bool → ℕ → ℕ
+mark_byte marks first =
+    mark_bit marks first 1 + mark_bit marks (first + 1) 2 + mark_bit marks (first + 2) 4 + mark_bit marks (first + 3) 8
+    + mark_bit marks (first + 4) 16 + mark_bit marks (first + 5) 32 + mark_bit marks (first + 6) 64 + mark_bit marks (first + 7) 128
+
+-- so many bytes
+unfoldable pub bitmap : ℕ → List ℕ → List ℕ
+bitmap zero cpus = []
+bitmap (suc bytes) cpus = bitmap bytes cpus ++ cpu_byte cpus (8 * bytes) ∷ []
+
+-- the bitmap of these CPUs, where each has a bit in so many bytes and none stands twice
+abbrev pub bitmap_of : ℕ → List ℕ → Option (List ℕ)
+bitmap_of bytes cpus = if are_new (8 * bytes) [] cpus then Some (bitmap bytes cpus) else None
+
+abbrev pub cpus_told : ℕ → Data → Option (List ℕ)
+cpus_told bytes d = option_and_then (bitmap_of bytes) (list_told u64_told d)

@@ -1,0 +1,5 @@
+pub mod Told
+pub mod Faults
+pub mod Cpus
+pub mod Cells
+pub mod Specs

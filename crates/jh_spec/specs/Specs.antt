@@ -1,0 +1,65 @@
+-- What the bytes of a SPEC tell.
+use Rattle.std.specs.Prelude.{◌≡◌, ℕ, nat_eq, List, codes, ◌∷◌, Option, Some, None, Result, Ok, Err, IsUtf8, option_and_then, if◌then◌else◌, ⊤, is_some}
+use Rattle.std.specs.Cmp.Lexicographic.{pointwise}
+use Rattle.serde_json.specs.Data.{Data}
+use Rattle.serde_json.specs.Read.{read}
+use Rattle.serde_json.specs.Find.{get, as_str, as_object}
+use Rattle.jh_cellcfg.specs.Limits.{IsWithinLimits}
+use Rattle.jh_syscfg.specs.Layout.{IsSystemWithinLimits}
+use Rattle.jh_spec.specs.declared.spec.SpecFault.{SpecFault}
+use Rattle.jh_spec.specs.declared.spec.SpecFault.TheVariants.{Json, Member, NoMemory}
+use Rattle.jh_spec.specs.declared.spec.Spec.{Spec}
+use Rattle.jh_spec.specs.declared.spec.Spec.TheVariants.{Cell as CellSpec, System as SystemSpec}
+use Rattle.jh_spec.specs.declared.spec.Kind.{Kind}
+use Rattle.jh_spec.specs.declared.spec.Kind.TheVariants.{Cell, System}
+use Rattle.jh_spec.specs.Faults.{◌>>=◌}
+use Rattle.jh_spec.specs.Cells.{cell_names, cell_told, system_told}
+
+-- the bytes are the text of this JSON value, by the JSON reader's own written reading
+pub record IsText (bytes : List ℕ) (d : Data) : Type 0 where
+  pub utf8 : IsUtf8 bytes
+  pub value : read bytes ≡ Some d
+
+abbrev pub kind_named : List ℕ → Option Kind
+kind_named text =
+    if pointwise nat_eq text (codes "cell") then Some Cell
+    else (if pointwise nat_eq text (codes "system") then Some System
+    else None)
+
+-- the kind, which must be there
+abbrev pub kind_told : Data → Option Kind
+kind_told d = option_and_then kind_named (option_and_then as_str (get (codes "kind") d))
+
+-- a cell's names, with its kind
+abbrev pub names_with_kind : List (List ℕ)
+names_with_kind = codes "kind" ∷ cell_names
+
+abbrev pub told_by : Option Kind → Data → Result Spec SpecFault
+told_by (Some Cell) d = cell_told names_with_kind d >>= λ config. Ok (CellSpec config)
+told_by (Some System) d = system_told d >>= λ config. Ok (SystemSpec config)
+told_by None d = Err (Member (codes "kind"))
+
+-- what an object tells, by its kind
+abbrev pub object_told : Data → Result Spec SpecFault
+object_told d = told_by (kind_told d) d
+
+abbrev pub spec_told : Data → Result Spec SpecFault
+spec_told d = if is_some (as_object d) then object_told d else Err Json
+
+-- why no object was read: the bytes are no object's text, or memory ran out
+abbrev pub IsUnread : List ℕ → SpecFault → Type 0
+IsUnread bytes Json = (d : Data) → IsText bytes d → spec_told d ≡ Err Json
+IsUnread bytes (Member name) = ⊥
+IsUnread bytes NoMemory = ⊤
+
+-- what is answered to these bytes: what their value tells, or that they are no object's text
+abbrev pub Tells : List ℕ → Result Spec SpecFault → Type 0
+Tells bytes (Ok spec) = (d : Data) × IsText bytes d × (spec_told d ≡ Ok spec)
+Tells bytes (Err Json) = (d : Data) → IsText bytes d → spec_told d ≡ Err Json
+Tells bytes (Err (Member name)) = (d : Data) × IsText bytes d × (spec_told d ≡ Err (Member name))
+Tells bytes (Err NoMemory) = ⊤
+
+-- the configuration may be written
+abbrev pub MayBeWritten : Spec → Type 0
+MayBeWritten (CellSpec config) = IsWithinLimits config
+MayBeWritten (SystemSpec config) = IsSystemWithinLimits config

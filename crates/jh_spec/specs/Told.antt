@@ -1,0 +1,182 @@
+-- What a JSON value tells: whole numbers, lists of them, and the records of a configuration.
+use Rattle.std.specs.Prelude.{ℕ, ◌^◌, Bool, false, ◌&&◌, ◌==◌, nat_lt, nat_eq, List, [], ◌∷◌, length, codes, Option, Some, None, is_some, is_none, unwrap_or, option_map, option_and_then, if◌then◌else◌, replicate}
+use Rattle.std.specs.List.{list_any}
+use Rattle.std.specs.Option.{option_map_or}
+use Rattle.std.specs.Cmp.Lexicographic.{pointwise}
+use Rattle.serde_json.specs.Data.{Data, Items, no_items, item, Members, no_members, member}
+use Rattle.serde_json.specs.Find.{get, as_number, as_u64, as_array, as_object}
+use Rattle.jh_cellcfg.specs.declared.region.Region.{Region}
+use Rattle.jh_cellcfg.specs.declared.config.Irqchip.{Irqchip}
+use Rattle.jh_cellcfg.specs.declared.config.PciDevice.{PciDevice}
+use Rattle.jh_cellcfg.specs.declared.config.Console.{Console}
+
+-- ---- members of an object
+
+-- the value of a member, or what stands for it where it is missing
+abbrev pub told_or : {X : Type 0} → (Data → Option X) → X → Option Data → Option X
+told_or tells missing None = Some missing
+told_or tells missing (Some d) = tells d
+
+-- the first name in an object that isn't listed; an object's names stand in order of their bytes
+abbrev pub first_unlisted : List (List ℕ) → Members → Option (List ℕ)
+first_unlisted names no_members = None
+first_unlisted names (member name d ms) = if list_any (λ listed. pointwise nat_eq listed name) names then first_unlisted names ms else Some name
+
+abbrev pub unlisted : List (List ℕ) → Data → Option (List ℕ)
+unlisted names d = option_and_then (first_unlisted names) (as_object d)
+
+-- the value is an object, and has no other names than these
+abbrev pub has_only : List (List ℕ) → Data → Bool
+has_only names d = option_map_or (λ ms. is_none (first_unlisted names ms)) (as_object d) false
+
+-- ---- numbers
+
+-- a whole number below the limit; the reader keeps those of 64 bits as integers, and no others
+abbrev pub number_below : ℕ → Data → Option ℕ
+number_below limit d = option_and_then (λ n. if nat_lt n limit then Some n else None) (option_and_then as_u64 (as_number d))
+
+abbrev pub u8_told : Data → Option ℕ
+u8_told = number_below (2 ^ 8)
+
+abbrev pub u16_told : Data → Option ℕ
+u16_told = number_below (2 ^ 16)
+
+abbrev pub u32_told : Data → Option ℕ
+u32_told = number_below (2 ^ 32)
+
+abbrev pub u64_told : Data → Option ℕ
+u64_told = number_below (2 ^ 64)
+
+-- a number's member, which is 0 where it is missing
+abbrev pub u8_at : List ℕ → Data → Option ℕ
+u8_at name d = told_or u8_told 0 (get name d)
+
+abbrev pub u16_at : List ℕ → Data → Option ℕ
+u16_at name d = told_or u16_told 0 (get name d)
+
+abbrev pub u32_at : List ℕ → Data → Option ℕ
+u32_at name d = told_or u32_told 0 (get name d)
+
+abbrev pub u64_at : List ℕ → Data → Option ℕ
+u64_at name d = told_or u64_told 0 (get name d)
+
+-- ---- lists
+
+-- what each item tells, where all tell something
+abbrev pub items_told : {X : Type 0} → (Data → Option X) → Items → Option (List X)
+items_told tells no_items = Some []
+items_told tells (item d ds) = option_and_then (λ x. option_map (λ xs. x ∷ xs) (items_told tells ds)) (tells d)
+
+abbrev pub list_told : {X : Type 0} → (Data → Option X) → Data → Option (List X)
+list_told tells d = option_and_then (items_told tells) (as_array d)
+
+-- exactly so many numbers of 32 bits
+abbrev pub words_told : ℕ → Data → Option (List ℕ)
+words_told count d = option_and_then (λ words. if length words == count then Some words else None) (list_told u32_told d)
+
+abbrev pub words_at : ℕ → List ℕ → Data → Option (List ℕ)
+words_at count name d = told_or (words_told count) (replicate count 0) (get name d)
+
+-- ---- records: objects with these names alone
+
+-- the record, where the test holds
+abbrev pub where_told : {X : Type 0} → Bool → X → Option X
+where_told test x = if test then Some x else None
+
+abbrev pub region_names : List (List ℕ)
+region_names = codes "phys" ∷ codes "virt" ∷ codes "size" ∷ codes "flags" ∷ []
+
+abbrev pub region_told : Data → Option Region
+region_told d =
+    let phys_is = u64_at (codes "phys") d in
+    let virt_is = u64_at (codes "virt") d in
+    let size_is = u64_at (codes "size") d in
+    let flags_is = u64_at (codes "flags") d in
+    where_told (has_only region_names d && is_some phys_is && is_some virt_is && is_some size_is && is_some flags_is)
+    (record {
+      phys_start = unwrap_or phys_is 0;
+      virt_start = unwrap_or virt_is 0;
+      size = unwrap_or size_is 0;
+      flags = unwrap_or flags_is 0;
+    })
+
+abbrev pub irqchip_names : List (List ℕ)
+irqchip_names = codes "address" ∷ codes "id" ∷ codes "pin_base" ∷ codes "bitmap" ∷ []
+
+abbrev pub irqchip_told : Data → Option Irqchip
+irqchip_told d =
+    let address_is = u64_at (codes "address") d in
+    let id_is = u32_at (codes "id") d in
+    let pin_base_is = u32_at (codes "pin_base") d in
+    let bitmap_is = words_at 4 (codes "bitmap") d in
+    where_told (has_only irqchip_names d && is_some address_is && is_some id_is && is_some pin_base_is && is_some bitmap_is)
+    (record {
+      address = unwrap_or address_is 0;
+      id = unwrap_or id_is 0;
+      pin_base = unwrap_or pin_base_is 0;
+      pin_bitmap = unwrap_or bitmap_is (replicate 4 0);
+    })
+
+abbrev pub device_names : List (List ℕ)
+device_names = codes "kind" ∷ codes "iommu" ∷ codes "domain" ∷ codes "bdf" ∷ codes "bar_mask" ∷ codes "caps_start" ∷ codes "num_caps" ∷ codes "num_msi_vectors" ∷ codes "msi_bits" ∷ codes "num_msix_vectors" ∷ codes "msix_region_size" ∷ codes "msix_address" ∷ codes "shmem_regions_start" ∷ codes "shmem_dev_id" ∷ codes "shmem_peers" ∷ codes "shmem_protocol" ∷ []
+
+abbrev pub device_told : Data → Option PciDevice
+device_told d =
+    let kind_is = u8_at (codes "kind") d in
+    let iommu_is = u8_at (codes "iommu") d in
+    let domain_is = u16_at (codes "domain") d in
+    let bdf_is = u16_at (codes "bdf") d in
+    let bar_mask_is = words_at 6 (codes "bar_mask") d in
+    let caps_start_is = u16_at (codes "caps_start") d in
+    let num_caps_is = u16_at (codes "num_caps") d in
+    let num_msi_vectors_is = u8_at (codes "num_msi_vectors") d in
+    let msi_bits_is = u8_at (codes "msi_bits") d in
+    let num_msix_vectors_is = u16_at (codes "num_msix_vectors") d in
+    let msix_region_size_is = u16_at (codes "msix_region_size") d in
+    let msix_address_is = u64_at (codes "msix_address") d in
+    let shmem_regions_start_is = u32_at (codes "shmem_regions_start") d in
+    let shmem_dev_id_is = u8_at (codes "shmem_dev_id") d in
+    let shmem_peers_is = u8_at (codes "shmem_peers") d in
+    let shmem_protocol_is = u16_at (codes "shmem_protocol") d in
+    where_told (has_only device_names d && is_some kind_is && is_some iommu_is && is_some domain_is && is_some bdf_is && is_some bar_mask_is && is_some caps_start_is && is_some num_caps_is && is_some num_msi_vectors_is && is_some msi_bits_is && is_some num_msix_vectors_is && is_some msix_region_size_is && is_some msix_address_is && is_some shmem_regions_start_is && is_some shmem_dev_id_is && is_some shmem_peers_is && is_some shmem_protocol_is)
+    (record {
+      kind = unwrap_or kind_is 0;
+      iommu = unwrap_or iommu_is 0;
+      domain = unwrap_or domain_is 0;
+      bdf = unwrap_or bdf_is 0;
+      bar_mask = unwrap_or bar_mask_is (replicate 6 0);
+      caps_start = unwrap_or caps_start_is 0;
+      num_caps = unwrap_or num_caps_is 0;
+      num_msi_vectors = unwrap_or num_msi_vectors_is 0;
+      msi_bits = unwrap_or msi_bits_is 0;
+      num_msix_vectors = unwrap_or num_msix_vectors_is 0;
+      msix_region_size = unwrap_or msix_region_size_is 0;
+      msix_address = unwrap_or msix_address_is 0;
+      shmem_regions_start = unwrap_or shmem_regions_start_is 0;
+      shmem_dev_id = unwrap_or shmem_dev_id_is 0;
+      shmem_peers = unwrap_or shmem_peers_is 0;
+      shmem_protocol = unwrap_or shmem_protocol_is 0;
+    })
+
+abbrev pub console_names : List (List ℕ)
+console_names = codes "address" ∷ codes "size" ∷ codes "kind" ∷ codes "flags" ∷ codes "divider" ∷ codes "gate_nr" ∷ codes "clock_reg" ∷ []
+
+abbrev pub console_told : Data → Option Console
+console_told d =
+    let address_is = u64_at (codes "address") d in
+    let size_is = u32_at (codes "size") d in
+    let kind_is = u16_at (codes "kind") d in
+    let flags_is = u16_at (codes "flags") d in
+    let divider_is = u32_at (codes "divider") d in
+    let gate_nr_is = u32_at (codes "gate_nr") d in
+    let clock_reg_is = u64_at (codes "clock_reg") d in
+    where_told (has_only console_names d && is_some address_is && is_some size_is && is_some kind_is && is_some flags_is && is_some divider_is && is_some gate_nr_is && is_some clock_reg_is)
+    (record {
+      address = unwrap_or address_is 0;
+      size = unwrap_or size_is 0;
+      kind = unwrap_or kind_is 0;
+      flags = unwrap_or flags_is 0;
+      divider = unwrap_or divider_is 0;
+      gate_nr = unwrap_or gate_nr_is 0;
+      clock_reg = unwrap_or clock_reg_is 0;
+    })

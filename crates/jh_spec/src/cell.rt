@@ -1,0 +1,162 @@
+//! A cell's members.
+ghost use Rattle.std.specs.Prelude.{◌≡◌, map, IfOk};
+ghost use Rattle.serde_json.specs.Find.{get};
+ghost use Rattle.serde_json.specs.View.{view};
+ghost use Rattle.jh_cellcfg.specs.Limits.{IsWithinLimits};
+ghost use Rattle.jh_cellcfg.specs.Spelling.{console_bytes as bytes_of};
+ghost use Rattle.jh_spec.specs.Cells.{cell_told, identity_told, lists_told, settings_told, IsIdentity, AreLists};
+ghost use Rattle.jh_spec.specs.Faults.{Answers, all_listed, member_told};
+ghost use Rattle.jh_spec.specs.Told.{told_or};
+
+use crate::cpus::{cpu_set, cpu_set_size};
+use crate::fault::{fault_of, named};
+use crate::list::list_at;
+use crate::name::cell_name;
+use crate::spec::SpecFault;
+use crate::told::{Told, first_unlisted, member};
+use jh_cellcfg::{CellConfig, Console, Irqchip, PciDevice, Record, Region};
+use jh_num::{NoMemory, Seq};
+use serde_json::Value;
+use std::alloc::Global;
+
+/// What the member of this name tells, or its fault.
+pub fn told<T: Told + Drop>(alloc: Global, object: &Value, name: &str) -> Result<T, SpecFault>
+    ensures { Answers (member_told name.now (told_or T.tells T.missing (get name.now (view object.now)))) result }
+{
+    named(alloc, name, member(object, name))
+}
+
+/// No name is unlisted.
+pub fn all_listed(alloc: Global, object: &Value, names: &[&str]) -> Result<(), SpecFault>
+    ensures { Answers (all_listed (map (λ name. name.now) names.now) (view object.now)) result }
+{
+    match first_unlisted(object, names) {
+        Some(name) => Err(fault_of(alloc, name)),
+        None => Ok(()),
+    }
+}
+
+/// A console's bytes.
+fn console_bytes(alloc: Global, console: &Console) -> Result<[u8; 32], NoMemory>
+    ensures { IfOk result (λ bytes. bytes ≡ bytes_of console.now) }
+{
+    let mut written = Vec::new(alloc);
+    console.write(&mut written)?;
+    let mut bytes = [0; 32];
+    bytes.copy_from_slice(&written);
+    Ok(bytes)
+}
+
+/// Which cell it is, and its CPUs.
+#[derive(Drop)]
+struct Identity {
+    name: [u8; 32],
+    id: u32,
+    flags: u32,
+    cpu_set: Seq<u8>,
+}
+
+fn identity_of(alloc: Global, object: &Value) -> Result<Identity, SpecFault>
+    ensures told { Answers (identity_told (view object.now)) result }
+    ensures limits { IfOk result IsIdentity }
+{
+    let name = named(alloc, "name", cell_name(object))?;
+    let id = told(alloc, object, "id")?;
+    let flags = told(alloc, object, "flags")?;
+    let bytes = named(alloc, "cpu_set_size", cpu_set_size(object))?;
+    let cpu_set = named(alloc, "cpus", cpu_set(alloc, object, bytes)?)?;
+    Ok(Identity {
+        name,
+        id,
+        flags,
+        cpu_set,
+    })
+}
+
+/// A cell's lists.
+#[derive(Drop)]
+struct Lists {
+    memory_regions: Seq<Region>,
+    irqchips: Seq<Irqchip>,
+    pci_devices: Seq<PciDevice>,
+}
+
+fn lists_of(alloc: Global, object: &Value) -> Result<Lists, SpecFault>
+    ensures told { Answers (lists_told (view object.now)) result }
+    ensures limits { IfOk result AreLists }
+{
+    let memory_regions = named(alloc, "regions", list_at(alloc, object, "regions", 1024)?)?;
+    let irqchips = named(alloc, "irqchips", list_at(alloc, object, "irqchips", 64)?)?;
+    let pci_devices = named(alloc, "devices", list_at(alloc, object, "devices", 256)?)?;
+    Ok(Lists {
+        memory_regions,
+        irqchips,
+        pci_devices,
+    })
+}
+
+/// A cell's members behind its lists.
+#[derive(Drop)]
+struct Settings {
+    vpci_irq_base: u32,
+    cpu_reset_address: u64,
+    msg_reply_timeout: u64,
+    console: [u8; 32],
+}
+
+fn settings_of(alloc: Global, object: &Value) -> Result<Settings, SpecFault>
+    ensures { Answers (settings_told (view object.now)) result }
+{
+    let vpci_irq_base = told(alloc, object, "vpci_irq_base")?;
+    let cpu_reset_address = told(alloc, object, "cpu_reset_address")?;
+    let msg_reply_timeout = told(alloc, object, "msg_reply_timeout")?;
+    let console = told(alloc, object, "console")?;
+    Ok(Settings {
+        vpci_irq_base,
+        cpu_reset_address,
+        msg_reply_timeout,
+        console: console_bytes(alloc, &console)?,
+    })
+}
+
+/// The configuration that an object's members tell, where it has no other names than these.
+pub fn cell(alloc: Global, object: &Value, names: &[&str]) -> Result<CellConfig, SpecFault>
+    ensures told { Answers (cell_told (map (λ name. name.now) names.now) (view object.now)) result }
+    ensures limits { IfOk result IsWithinLimits }
+{
+    let Identity {
+        name,
+        id,
+        flags,
+        cpu_set,
+    } = identity_of(alloc, object)?;
+    let Lists {
+        memory_regions,
+        irqchips,
+        pci_devices,
+    } = lists_of(alloc, object)?;
+    let Settings {
+        vpci_irq_base,
+        cpu_reset_address,
+        msg_reply_timeout,
+        console,
+    } = settings_of(alloc, object)?;
+    all_listed(alloc, object, names)?;
+    Ok(CellConfig {
+        name,
+        id,
+        flags,
+        vpci_irq_base,
+        cpu_reset_address,
+        msg_reply_timeout,
+        console,
+        cpu_set,
+        memory_regions,
+        cache_regions: Seq::new(alloc),
+        irqchips,
+        pio_regions: Seq::new(alloc),
+        pci_devices,
+        pci_caps: Seq::new(alloc),
+        stream_ids: Seq::new(alloc),
+    })
+}

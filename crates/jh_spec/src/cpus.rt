@@ -1,0 +1,108 @@
+//! The CPU bitmap.
+ghost use Rattle.std.specs.Prelude.{◌≡◌, ◌≤◌, ◌<◌, ◌+◌, length, IfOk, IfSome, is_some, get_or, false, if◌then◌else◌, []};
+ghost use Rattle.serde_json.specs.View.{view};
+ghost use Rattle.jh_spec.specs.Cpus.{bitmap_of, are_new, mark_byte, AreMarks};
+ghost use Rattle.jh_spec.specs.Cells.{cpu_set_size, cpu_set_in, size_told};
+
+use crate::list::list;
+use crate::told::Told;
+use jh_num::{NoMemory, Seq};
+use serde_json::Value;
+use std::alloc::Global;
+
+/// The bytes of the CPU bitmap: 1 to 64, and 8 where nothing is said.
+pub fn cpu_set_size(object: &Value) -> Option<u32>
+    ensures value { result ≡ cpu_set_size (view object.now) }
+    ensures some { IfSome result (λ bytes. 0 < bytes) }
+    ensures most { IfSome result (λ bytes. bytes ≤ 64) }
+{
+    match object.get("cpu_set_size") {
+        Some(value) => size_told(value),
+        None => Some(8),
+    }
+}
+
+fn size_told(value: &Value) -> Option<u32>
+    ensures value { result ≡ size_told (view value.now) }
+    ensures some { IfSome result (λ bytes. 0 < bytes) }
+    ensures most { IfSome result (λ bytes. bytes ≤ 64) }
+{
+    let bytes = u32::told(value)?;
+    if bytes > 0 && bytes <= 64 {
+        Some(bytes)
+    } else {
+        None
+    }
+}
+
+/// Marks of the CPUs, where each is below the limit and differs from those before it.
+fn marks(alloc: Global, limit: usize, cpus: &[u64]) -> Result<Option<Vec<bool>>, NoMemory>
+    ensures new { IfOk result (λ marks. is_some marks ≡ are_new limit [] cpus.now) }
+    ensures marked { IfOk result (λ marks. IfSome marks (λ marks. AreMarks limit cpus.now marks.items)) }
+{
+    let mut marks = vec![in alloc; false; limit]?;
+    for cpu in cpus {
+        if *cpu >= limit as u64 {
+            return Ok(None);
+        }
+        let place = *cpu as usize;
+        if marks[place] {
+            return Ok(None);
+        }
+        marks[place] = true;
+    }
+    Ok(Some(marks))
+}
+
+fn bit(mark: bool, weight: u8) -> u8
+    ensures value { result ≡ (if mark then weight else 0) }
+    ensures most { result ≤ weight }
+{
+    if mark { weight } else { 0 }
+}
+
+/// The byte of eight marks, from this one on.
+fn byte_of(marks: &[bool], first: usize) -> u8
+    requires { first + 8 ≤ length marks.now }
+    ensures { result ≡ mark_byte marks.now first }
+{
+    bit(marks[first], 1)
+        + bit(marks[first + 1], 2)
+        + bit(marks[first + 2], 4)
+        + bit(marks[first + 3], 8)
+        + bit(marks[first + 4], 16)
+        + bit(marks[first + 5], 32)
+        + bit(marks[first + 6], 64)
+        + bit(marks[first + 7], 128)
+}
+
+/// The bitmap of the CPUs in so many bytes.
+fn bitmap_of(alloc: Global, bytes: usize, cpus: &[u64]) -> Result<Option<Seq<u8>>, NoMemory>
+    requires { bytes ≤ 64 }
+    ensures told { IfOk result (λ told. told ≡ bitmap_of bytes cpus.now) }
+    ensures len { IfOk result (λ told. IfSome told (λ bitmap. length bitmap ≡ bytes)) }
+{
+    let Some(marks) = marks(alloc, 8 * bytes, cpus)? else {
+        return Ok(None);
+    };
+    let mut bitmap = Vec::with_capacity(alloc, bytes)?;
+    for place in 0..bytes {
+        bitmap.push(byte_of(&marks, 8 * place))?;
+    }
+    Ok(Some(Seq::from_vec(bitmap)))
+}
+
+/// The CPU bitmap that the list of CPUs tells, in so many bytes.
+pub fn cpu_set(alloc: Global, object: &Value, bytes: u32) -> Result<Option<Seq<u8>>, NoMemory>
+    requires { bytes ≤ 64 }
+    ensures told { IfOk result (λ told. told ≡ cpu_set_in bytes (view object.now)) }
+    ensures len { IfOk result (λ told. IfSome told (λ bitmap. length bitmap ≡ bytes)) }
+{
+    let Some(value) = object.get("cpus") else {
+        return bitmap_of(alloc, bytes as usize, &[]);
+    };
+    match list(alloc, value)? {
+        Some(cpus) => bitmap_of(alloc, bytes as usize, cpus.as_slice()),
+        None => Ok(None),
+    }
+}

@@ -1,0 +1,98 @@
+//! Whole numbers, which must fit their field.
+ghost use Rattle.std.specs.Prelude.{◌≡◌, ◌<◌, IfSome, replicate};
+ghost use Rattle.serde_json.specs.View.{view};
+ghost use Rattle.jh_spec.specs.Told.{number_below, u8_told, u16_told, u32_told, u64_told, words_told};
+
+use crate::told::Told;
+use serde_json::Value;
+
+/// A whole number below the limit.
+fn number_below(value: &Value, limit: u64) -> Option<u64>
+    ensures value { result ≡ number_below limit (view value.now) }
+    ensures below { IfSome result (λ number. number < limit) }
+{
+    let number = value.as_u64()?;
+    if number < limit { Some(number) } else { None }
+}
+
+impl Told for u8 {
+    ghost tells = { u8_told };
+
+    ghost missing = { 0 };
+
+    fn told(value: &Value) -> Option<u8> {
+        let number = number_below(value, 1 << 8)?;
+        Some(number as u8)
+    }
+
+    fn missing() -> u8 {
+        0
+    }
+}
+
+impl Told for u16 {
+    ghost tells = { u16_told };
+
+    ghost missing = { 0 };
+
+    fn told(value: &Value) -> Option<u16> {
+        let number = number_below(value, 1 << 16)?;
+        Some(number as u16)
+    }
+
+    fn missing() -> u16 {
+        0
+    }
+}
+
+impl Told for u32 {
+    ghost tells = { u32_told };
+
+    ghost missing = { 0 };
+
+    fn told(value: &Value) -> Option<u32> {
+        let number = number_below(value, 1 << 32)?;
+        Some(number as u32)
+    }
+
+    fn missing() -> u32 {
+        0
+    }
+}
+
+impl Told for u64 {
+    ghost tells = { u64_told };
+
+    ghost missing = { 0 };
+
+    fn told(value: &Value) -> Option<u64> {
+        value.as_u64()
+    }
+
+    fn missing() -> u64 {
+        0
+    }
+}
+
+/// Exactly so many numbers.
+impl<const N: usize> Told for [u32; N] {
+    ghost tells = { words_told N };
+
+    ghost missing = { replicate N 0 };
+
+    fn told(value: &Value) -> Option<[u32; N]> {
+        let items = value.as_array()?;
+        if items.len() != N {
+            return None;
+        }
+        let mut words = [0; N];
+        for place in 0..N {
+            words[place] = u32::told(&items[place])?;
+        }
+        Some(words)
+    }
+
+    fn missing() -> [u32; N] {
+        [0; N]
+    }
+}

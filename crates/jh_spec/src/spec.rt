@@ -1,0 +1,108 @@
+//! A configuration told in JSON.
+ghost use Rattle.std.specs.Prelude.{◌≡◌, IfOk, IfErr, is_some, true};
+ghost use Rattle.serde_json.specs.Find.{as_object};
+ghost use Rattle.serde_json.specs.View.{view};
+ghost use Rattle.jh_spec.specs.Specs.{IsText, Tells, MayBeWritten, IsUnread, kind_told, object_told};
+ghost use Rattle.jh_spec.specs.Faults.{Answers};
+ghost use Rattle.jh_spec.specs.declared.spec.SpecFault.TheVariants.{NoMemory as OutOfMemory};
+
+use crate::cell::cell;
+use crate::fault::fault_of;
+use crate::system::system;
+use jh_cellcfg::{CellConfig, SystemConfig};
+use jh_num::{NoMemory, Seq};
+use serde_json::Value;
+use std::alloc::Global;
+
+/// What a SPEC tells.
+#[derive(Drop)]
+pub enum Spec {
+    Cell(CellConfig),
+    System(SystemConfig),
+}
+
+/// Why a text tells no configuration.
+#[derive(Drop)]
+pub enum SpecFault {
+    /// The bytes are no JSON text, or its value is no object.
+    Json,
+    /// The member of this name, in UTF-8, is at fault.
+    Member(Seq<u8>),
+    NoMemory,
+}
+
+impl From<NoMemory> for SpecFault {
+    ghost from_gives = { λ _ e. e ≡ OutOfMemory };
+
+    fn from(_e: NoMemory) -> SpecFault {
+        SpecFault::NoMemory
+    }
+}
+
+#[derive(Clone, Copy)]
+enum Kind {
+    Cell,
+    System,
+}
+
+/// The names of a cell's members behind its kind.
+const NAMES: [&str; 13] = [
+    "kind",
+    "name",
+    "id",
+    "flags",
+    "cpu_set_size",
+    "cpus",
+    "regions",
+    "irqchips",
+    "devices",
+    "vpci_irq_base",
+    "cpu_reset_address",
+    "msg_reply_timeout",
+    "console",
+];
+
+/// Reads a SPEC, all of the bytes.
+pub fn read_spec(alloc: Global, bytes: &[u8]) -> Result<Spec, SpecFault>
+    ensures told { Tells bytes.now result }
+    ensures limits { IfOk result MayBeWritten }
+{
+    let object = object(alloc, bytes)?;
+    spec_of(alloc, &object)
+}
+
+/// What an object tells, by its kind.
+fn spec_of(alloc: Global, object: &Value) -> Result<Spec, SpecFault>
+    ensures told { Answers (object_told (view object.now)) result }
+    ensures limits { IfOk result MayBeWritten }
+{
+    match kind_of(object) {
+        Some(Kind::Cell) => Ok(Spec::Cell(cell(alloc, object, &NAMES)?)),
+        Some(Kind::System) => Ok(Spec::System(system(alloc, object)?)),
+        None => Err(fault_of(alloc, "kind")),
+    }
+}
+
+fn kind_of(object: &Value) -> Option<Kind>
+    ensures { result ≡ kind_told (view object.now) }
+{
+    match object.get("kind")?.as_str()? {
+        "cell" => Some(Kind::Cell),
+        "system" => Some(Kind::System),
+        _ => None,
+    }
+}
+
+/// The object that the bytes are the text of.
+fn object(alloc: Global, bytes: &[u8]) -> Result<Value, SpecFault>
+    ensures text { IfOk result (λ value. IsText bytes.now (view value)) }
+    ensures object { IfOk result (λ value. is_some (as_object (view value)) ≡ true) }
+    ensures fault { IfErr result (IsUnread bytes.now) }
+{
+    match Value::from_slice(alloc, bytes) {
+        Ok(value) if value.is_object() => Ok(value),
+        Ok(_) => Err(SpecFault::Json),
+        Err(e) if e.is_memory() => Err(SpecFault::NoMemory),
+        Err(_) => Err(SpecFault::Json),
+    }
+}

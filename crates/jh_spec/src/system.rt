@@ -1,0 +1,111 @@
+//! A system's members.
+ghost use Rattle.std.specs.Prelude.{◌≡◌, IfOk};
+ghost use Rattle.serde_json.specs.View.{view};
+ghost use Rattle.jh_cellcfg.specs.Limits.{IsWithinLimits};
+ghost use Rattle.jh_syscfg.specs.Layout.{IsSystemWithinLimits};
+ghost use Rattle.jh_spec.specs.Cells.{platform_told, root_told, system_told, IsFaultInRoot};
+ghost use Rattle.jh_spec.specs.Faults.{Answers};
+
+use crate::cell::{all_listed, cell, told};
+use crate::fault::fault_of;
+use crate::spec::SpecFault;
+use jh_cellcfg::{CellConfig, SystemConfig};
+use jh_syscfg::Platform;
+use serde_json::Value;
+use std::alloc::Global;
+
+const NAMES: [&str; 9] = [
+    "kind",
+    "flags",
+    "hypervisor",
+    "debug_console",
+    "mmconfig_base",
+    "end_bus",
+    "is_virtual",
+    "domain",
+    "root",
+];
+
+const ROOT_NAMES: [&str; 12] = [
+    "name",
+    "id",
+    "flags",
+    "cpu_set_size",
+    "cpus",
+    "regions",
+    "irqchips",
+    "devices",
+    "vpci_irq_base",
+    "cpu_reset_address",
+    "msg_reply_timeout",
+    "console",
+];
+
+/// The members before root.
+fn platform_of(alloc: Global, object: &Value) -> Result<Platform, SpecFault>
+    ensures { Answers (platform_told (view object.now)) result }
+{
+    let flags = told(alloc, object, "flags")?;
+    let hypervisor_memory = told(alloc, object, "hypervisor")?;
+    let debug_console = told(alloc, object, "debug_console")?;
+    let pci_mmconfig_base = told(alloc, object, "mmconfig_base")?;
+    let pci_mmconfig_end_bus = told(alloc, object, "end_bus")?;
+    let pci_is_virtual = told(alloc, object, "is_virtual")?;
+    let pci_domain = told(alloc, object, "domain")?;
+    Ok(Platform {
+        flags,
+        hypervisor_memory,
+        debug_console,
+        pci_mmconfig_base,
+        pci_mmconfig_end_bus,
+        pci_is_virtual,
+        pci_domain,
+        root_head: [0; 8],
+    })
+}
+
+/// The fault that a fault inside root is.
+fn fault_in_root(alloc: Global, fault: SpecFault) -> SpecFault
+    ensures { IsFaultInRoot fault result }
+{
+    match fault {
+        SpecFault::NoMemory => SpecFault::NoMemory,
+        _ => fault_of(alloc, "root"),
+    }
+}
+
+/// Root, which is a cell without a kind and must be there.
+fn root(alloc: Global, object: &Value) -> Result<CellConfig, SpecFault>
+    ensures told { Answers (root_told (view object.now)) result }
+    ensures limits { IfOk result IsWithinLimits }
+{
+    let Some(value) = object.get("root") else {
+        return Err(fault_of(alloc, "root"));
+    };
+    match cell(alloc, value, &ROOT_NAMES) {
+        Ok(config) => Ok(config),
+        Err(fault) => Err(fault_in_root(alloc, fault)),
+    }
+}
+
+/// The system that an object's members tell.
+pub fn system(alloc: Global, object: &Value) -> Result<SystemConfig, SpecFault>
+    ensures told { Answers (system_told (view object.now)) result }
+    ensures limits { IfOk result IsSystemWithinLimits }
+{
+    let platform = platform_of(alloc, object)?;
+    let root = root(alloc, object)?;
+    all_listed(alloc, object, &NAMES)?;
+    let root_head = platform.root_head;
+    Ok(SystemConfig {
+        flags: platform.flags,
+        hypervisor_memory: platform.hypervisor_memory,
+        debug_console: platform.debug_console,
+        pci_mmconfig_base: platform.pci_mmconfig_base,
+        pci_mmconfig_end_bus: platform.pci_mmconfig_end_bus,
+        pci_is_virtual: platform.pci_is_virtual,
+        pci_domain: platform.pci_domain,
+        root_head,
+        root,
+    })
+}
