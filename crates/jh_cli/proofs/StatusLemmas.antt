@@ -6,6 +6,7 @@ use Rattle.jh_history.specs.declared.entry.Entry.{Entry}
 use Rattle.jh_history.specs.Items.{played}
 use Rattle.jh_image.specs.declared.fault.ImageCause.{ImageCause}
 use Rattle.jh_image.specs.declared.fault.ImageCause.TheVariants.{ReadFault as CantBeRead, Oversize, Json, Member, System, Findings, PoolSmall, Preload as BadPreload, Program as BadProgram, NotBuilt}
+use Rattle.jh_spec.specs.declared.spec.Spec.{Spec}
 use Rattle.jh_audit.specs.declared.verdict.Verdict.{Verdict}
 use Rattle.jh_audit.specs.declared.verdict.Verdict.TheVariants.{Legal, Illegal}
 use Rattle.jh_check.specs.Lists.{is_any, capped}
@@ -13,9 +14,10 @@ use Rattle.jh_check.specs.Findings.{findings}
 use Rattle.jh_cli.specs.declared.status.Status.{Status}
 use Rattle.jh_cli.specs.declared.status.Status.TheVariants.{Good, Found, Usage, Refused, ReadFault, WriteFault}
 use Rattle.jh_cli.specs.Lines.{number_of}
-use Rattle.jh_cli.specs.Words.{Asked, CheckOf, PlayOf, AuditOf}
+use Rattle.jh_cli.specs.Words.{Asked, CheckOf, PackOf, PlayOf, AuditOf}
 use Rattle.jh_cli.specs.Reading.{Said, Contents, StopsAt, ReadsAt}
 use Rattle.jh_cli.specs.Check.{IsSystemFile, SystemRefusal, CellRefusal, ChecksCells, checked_status}
+use Rattle.jh_cli.specs.Pack.{IsSpecFile, SpecRefusal, packed}
 use Rattle.jh_cli.specs.Boards.{stopped, Opens}
 use Rattle.jh_cli.specs.Play.{ScheduleRefusal, IsSchedule, IsPlayed, played_status, PlaysBy}
 use Rattle.jh_cli.specs.Audit.{JournalRefusal, IsJournalFile, IsAudited, AuditsBy, verdict_status}
@@ -83,6 +85,8 @@ pub outcome_other : (contents : Contents) (asked : Option Asked) (said : Said) �
 outcome_other contents None said h = other said Usage (ap (λ (s : Said). s.status) h) (omega arith)
 outcome_other contents (Some (CheckOf system cells)) said h =
     reads_other MOST contents system SystemRefusal IsSystemFile (ChecksCells contents cells) said (λ s rest. cells_other contents cells s said rest) h
+outcome_other contents (Some (PackOf name)) said h =
+    reads_other MOST contents name SpecRefusal IsSpecFile (λ (spec : Spec) (s : Said). s ≡ record { status = Good; text = packed spec }) said (λ spec is. other said Good (ap (λ (s : Said). s.status) is) (omega arith)) h
 outcome_other contents (Some (PlayOf board schedule)) said h =
     opens_other contents board (PlaysBy contents schedule) said
     (λ image reads. reads_other MOST contents schedule (ScheduleRefusal image) (IsSchedule image) (IsPlayed image) said (λ cpus is. played_ends_other image cpus said is) reads) h

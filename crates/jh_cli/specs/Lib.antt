@@ -2,6 +2,7 @@ pub mod Words
 pub mod Lines
 pub mod Reading
 pub mod Check
+pub mod Pack
 pub mod Boards
 pub mod Play
 pub mod Audit

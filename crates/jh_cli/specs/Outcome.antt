@@ -1,10 +1,11 @@
 -- What a call ends with: the status and the text that the words ask for, by what the files hand out.
 use Rattle.std.specs.Prelude.{◌≡◌, ℕ, ◌⊎◌, List, Option, Some, None}
 use Rattle.jh_outside.specs.Writes.{Appended, AppendedPart}
-use Rattle.jh_cli.specs.Words.{Asked, CheckOf, PlayOf, AuditOf}
+use Rattle.jh_cli.specs.Words.{Asked, CheckOf, PackOf, PlayOf, AuditOf}
 use Rattle.jh_cli.specs.Lines.{usage_line}
 use Rattle.jh_cli.specs.Reading.{Said, Contents}
 use Rattle.jh_cli.specs.Check.{Checks}
+use Rattle.jh_cli.specs.Pack.{Packs}
 use Rattle.jh_cli.specs.Play.{Plays}
 use Rattle.jh_cli.specs.Audit.{Audits}
 use Rattle.jh_cli.specs.declared.status.Status.{Status}
@@ -14,6 +15,7 @@ use Rattle.jh_cli.specs.declared.status.Status.TheVariants.{Usage, WriteFault, N
 abbrev pub Outcome : Contents → Option Asked → Said → Type 0
 Outcome contents None said = said ≡ record { status = Usage; text = usage_line }
 Outcome contents (Some (CheckOf system cells)) said = Checks contents system cells said
+Outcome contents (Some (PackOf spec)) said = Packs contents spec said
 Outcome contents (Some (PlayOf board schedule)) said = Plays contents board schedule said
 Outcome contents (Some (AuditOf board journal)) said = Audits contents board journal said
 

@@ -3,11 +3,12 @@ use Rattle.std.specs.Prelude.{ℕ, Bool, true, not, ◌==◌, nat_le, if◌then�
 use Rattle.std.specs.List.{list_all}
 use Rattle.std.specs.Cmp.Lexicographic.{pointwise}
 use Rattle.jh_cli.specs.declared.command.Command.{Command}
-use Rattle.jh_cli.specs.declared.command.Command.TheVariants.{Check, Play, Audit}
+use Rattle.jh_cli.specs.declared.command.Command.TheVariants.{Check, Pack, Play, Audit}
 
 -- what a command asks for, with the names of its files
 pub data Asked : Type 0 where
   CheckOf : List ℕ → List (List ℕ) → Asked
+  PackOf : List ℕ → Asked
   PlayOf : List ℕ → List ℕ → Asked
   AuditOf : List ℕ → List ℕ → Asked
 
@@ -24,6 +25,12 @@ is_word word other = pointwise nat_eq word other
 abbrev pub check_of : List (List ℕ) → Option Asked
 check_of [] = None
 check_of (system ∷ cells) = if nat_le (length cells) 15 then Some (CheckOf system cells) else None
+
+-- `pack` has a SPEC
+abbrev pub pack_of : List (List ℕ) → Option Asked
+pack_of [] = None
+pack_of (spec ∷ []) = Some (PackOf spec)
+pack_of (spec ∷ other ∷ more) = None
 
 -- `play` has a board and a schedule
 abbrev pub play_of : List (List ℕ) → Option Asked
@@ -43,9 +50,10 @@ audit_of (board ∷ journal ∷ other ∷ more) = None
 abbrev pub asked_for : List ℕ → List (List ℕ) → Option Asked
 asked_for word operands =
     if is_word word (codes "check") then check_of operands
+    else (if is_word word (codes "pack") then pack_of operands
     else (if is_word word (codes "play") then play_of operands
     else (if is_word word (codes "audit") then audit_of operands
-    else None))
+    else None)))
 
 -- the command of the words: the program's name, the command's word letter for letter, and its operands
 abbrev pub command_of : List (List ℕ) → Option Asked
@@ -56,6 +64,7 @@ command_of (name ∷ word ∷ operands) = if list_all is_operand operands then a
 -- what the command that was read asks for
 abbrev pub asked_by : Command → Asked
 asked_by (Check system cells) = CheckOf system.now (map string_bytes cells.now)
+asked_by (Pack spec) = PackOf spec.now
 asked_by (Play board schedule) = PlayOf board.now schedule.now
 asked_by (Audit board journal) = AuditOf board.now journal.now
 

@@ -2,7 +2,7 @@
 ghost use Rattle.std.specs.Prelude.{◌≡◌, ◌==◌, IfSome, None, map, string_bytes, not, slice_get, Bool};
 ghost use Rattle.std.specs.List.{list_all};
 ghost use Rattle.std.specs.Option.{option_map};
-ghost use Rattle.jh_cli.specs.Words.{is_operand as is_operand_lem, check_of as check_of_lem, play_of as play_of_lem, audit_of as audit_of_lem, asked_for as asked_for_lem, command_of as command_of_lem, asked_by, HasFewCells};
+ghost use Rattle.jh_cli.specs.Words.{is_operand as is_operand_lem, check_of as check_of_lem, pack_of as pack_of_lem, play_of as play_of_lem, audit_of as audit_of_lem, asked_for as asked_for_lem, command_of as command_of_lem, asked_by, HasFewCells};
 
 /// How many cells are checked at most.
 const MOST_CELLS: usize = 15;
@@ -14,6 +14,10 @@ pub enum Command<'a> {
     Check {
         system: &'a str,
         cells: &'a [String],
+    },
+    /// Writes the configuration that a SPEC tells.
+    Pack {
+        spec: &'a str,
     },
     /// Plays a board by a schedule.
     Play {
@@ -59,6 +63,18 @@ fn check_of(operands: &[String]) -> Option<Command<'_>>
     }
 }
 
+fn pack_of(operands: &[String]) -> Option<Command<'_>>
+    ensures command { option_map asked_by result ≡ pack_of_lem (map string_bytes operands.now) }
+    ensures few { IfSome result HasFewCells }
+{
+    match operands {
+        [spec] => Some(Command::Pack {
+            spec: spec.as_str(),
+        }),
+        _ => None,
+    }
+}
+
 fn play_of(operands: &[String]) -> Option<Command<'_>>
     ensures command { option_map asked_by result ≡ play_of_lem (map string_bytes operands.now) }
     ensures few { IfSome result HasFewCells }
@@ -92,6 +108,8 @@ fn asked_for<'a>(word: &str, operands: &'a [String]) -> Option<Command<'a>>
 {
     if word == "check" {
         check_of(operands)
+    } else if word == "pack" {
+        pack_of(operands)
     } else if word == "play" {
         play_of(operands)
     } else if word == "audit" {

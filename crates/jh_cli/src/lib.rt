@@ -7,6 +7,7 @@ mod check;
 mod command;
 mod limits;
 mod lines;
+mod pack;
 mod play;
 mod schedule;
 mod send;

@@ -127,6 +127,7 @@ fn words_without_a_command_give_the_usage_line(rt: HostRuntime) -> Result<(), Fa
         ["jailhouse", "check"].as_slice(),
         ["jailhouse", "check", "s.sys", "-c"].as_slice(),
         ["jailhouse", "audit", "b.json"].as_slice(),
+        ["jailhouse", "pack"].as_slice(),
     ] {
         ends(&rt, rt.alloc(), &mut files, texts, Status::Usage, USAGE)?;
     }
@@ -167,6 +168,48 @@ fn a_check_tells_findings_and_their_number(rt: HostRuntime) -> Result<(), Fail> 
     bytes.push(0)?;
     let refused = "refused: s.sys: trailing 1\n";
     checks(&rt, alloc, bytes.as_slice(), Status::Refused, refused)?;
+    Ok(())
+}
+
+/// Packs this SPEC, and compares how that ends.
+fn packs(
+    rt: &impl Abort,
+    alloc: Global,
+    spec: &str,
+    status: Status,
+    text: &[u8],
+) -> Result<(), NoMemory> {
+    let mut files = MemFiles::new(alloc);
+    files.add("s.json", spec.as_bytes())?;
+    let mut out = MemSink::new(alloc, 4096)?;
+    let words = words(alloc, &["jailhouse", "pack", "s.json"])?;
+    let got = jailhouse(alloc, words.as_slice(), &mut files, &mut out);
+    assert_eq!(rt; got, status);
+    assert_eq!(rt; out.bytes(), text);
+    Ok(())
+}
+
+const SPEC: &str =
+    "{\"kind\":\"system\",\"hypervisor\":{\"phys\":2143289344,\"size\":4194304},\"root\":{\"name\":\"root\",\"cpus\":[0],\"regions\":[{\"phys\":1073741824,\"virt\":1073741824,\"size\":1069547520,\"flags\":15}]}}";
+
+#[test]
+fn a_pack_writes_the_bytes_or_names_a_member(rt: HostRuntime) -> Result<(), Fail> {
+    let alloc = rt.alloc();
+    packs(&rt, alloc, SPEC, Status::Good, system(alloc)?.as_slice())?;
+    packs(
+        &rt,
+        alloc,
+        "[]",
+        Status::Refused,
+        b"refused: s.json: json\n",
+    )?;
+    packs(
+        &rt,
+        alloc,
+        "{\"kind\":\"cell\",\"name\":\"a\",\"id\":-1}",
+        Status::Refused,
+        b"refused: s.json: member id\n",
+    )?;
     Ok(())
 }
 

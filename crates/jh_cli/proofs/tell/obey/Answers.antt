@@ -18,3 +18,9 @@ returns-in-Audit-clause-ok g c = rw c.in-Audit.is c.audit.ensures.ok
 
 pub returns-in-Audit-clause-err : goal.returns-in-Audit-clause-err
 returns-in-Audit-clause-err g c = rw c.in-Audit.is c.audit.ensures.err
+
+pub returns-in-Pack-clause-ok : goal.returns-in-Pack-clause-ok
+returns-in-Pack-clause-ok g c = rw c.in-Pack.is c.pack.ensures.ok
+
+pub returns-in-Pack-clause-err : goal.returns-in-Pack-clause-err
+returns-in-Pack-clause-err g c = rw c.in-Pack.is c.pack.ensures.err
