@@ -1,5 +1,5 @@
 -- Bytes that are no object's stop the call.
-use Rattle.std.proofs.Common.{◌≡◌, List, ℕ, Err, refl, subst, inl, inr}
+use Rattle.std.proofs.Common.{List, ℕ, Err, refl, subst, inl, inr}
 use Rattle.std.specs.Prelude.{codes}
 use Rattle.jh_spec.specs.Specs.{Tells}
 use Rattle.jh_spec.specs.declared.spec.SpecFault.TheVariants.{Json}
