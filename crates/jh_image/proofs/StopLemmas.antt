@@ -1,10 +1,9 @@
 -- What stops the reading of a board.
-use Rattle.std.proofs.Common.{◌≡◌, ◌≢◌, ℕ, ◌+◌, ◌<◌, ◌≤◌, List, [], length, take, subst, sym, refl, inl, inr, arith, Some, Ok, Err}
-use Rattle.std.specs.Prelude.{slice_get, OnOk, IfErr, IsErrAnd, Result}
+use Rattle.std.proofs.Common.{◌≡◌, ℕ, ◌≤◌, List, [], subst, sym, refl, inl, inr, arith, Ok, Err}
+use Rattle.std.specs.Prelude.{OnOk, IfErr, IsErrAnd, Result}
 use Rattle.jh_check.specs.Findings.{findings}
 use Rattle.jh_image.specs.Opening.{MayBegin, root_pages, pool_pages}
 use Rattle.jh_cellcfg.specs.declared.config.SystemConfig.{SystemConfig}
-use Rattle.jh_check.specs.declared.finding.Finding.{Finding}
 use Rattle.jh_script.specs.declared.image.Preload.{Preload}
 use Rattle.jh_script.specs.declared.image.Program.{Program}
 use Rattle.jh_image.specs.declared.board.Listing.{Listing}
@@ -12,13 +11,13 @@ use Rattle.jh_image.specs.declared.board.ProgramFile.{ProgramFile}
 use Rattle.jh_image.specs.declared.board.BoardFault.{BoardFault}
 use Rattle.jh_image.specs.declared.board.BoardFault.TheVariants as boards
 use Rattle.jh_image.specs.declared.fault.ImageCause.{ImageCause}
-use Rattle.jh_image.specs.declared.fault.ImageCause.TheVariants.{ReadFault, Oversize, Json, Member, System, Findings, PoolSmall, Preload as BadPreload, Program as BadProgram, NotBuilt}
+use Rattle.jh_image.specs.declared.fault.ImageCause.TheVariants.{ReadFault, Oversize, Json, Member, Findings, PoolSmall, Program as BadProgram}
 use Rattle.jh_image.specs.declared.fault.ImageFault.{ImageFault}
 use Rattle.jh_image.specs.declared.fault.ImageFault.TheVariants.{Refused, NoMemory}
 use Rattle.jh_image.specs.Boards.{Tells}
 use Rattle.jh_image.specs.Files.{Contents, HasBytes}
 use Rattle.jh_image.specs.Images.{HasSystem, IsNextProgram, Comes, a_program}
-use Rattle.jh_image.specs.Causes.{IsBadBoard, IsNoProgram, Stops, OnRefused, IsCountedAt, IsCounted, IsUnread, IsRefusal, IsBoardRefusal, IsUnsound, IsPoolSmall, IsProgramUnread}
+use Rattle.jh_image.specs.Causes.{IsBadBoard, Stops, OnRefused, IsCountedAt, IsCounted, IsUnread, IsRefusal, IsBoardRefusal, IsUnsound, IsPoolSmall, IsProgramUnread}
 
 -- an error that is passed up
 pub passed_up : {X E : Type 0} (r : Result X E) (e : E) (P : E → Type 0) → IsErrAnd r (λ y. y ≡ e) → P e → IfErr r P

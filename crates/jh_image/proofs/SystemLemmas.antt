@@ -1,20 +1,20 @@
 -- A system in which the check finds nothing is one that the engine asks for.
-use Rattle.std.proofs.Common.{◌≡◌, ◌≢◌, ℕ, ◌+◌, ◌-◌, ◌*◌, ◌/◌, ◌%◌, ◌^◌, ◌<◌, ◌≤◌, Bool, true, false, ◌&&◌, ◌||◌, not, ◌==◌, nat_lt, nat_le, List, [], ◌∷◌, length, take, drop, get_or, zero, suc, refl, sym, ap, subst, ◌∙◌, inl, inr, arith}
+use Rattle.std.proofs.Common.{◌≡◌, ◌≢◌, ℕ, ◌+◌, ◌-◌, ◌*◌, ◌/◌, ◌%◌, ◌<◌, ◌≤◌, Bool, true, false, ◌&&◌, ◌||◌, not, ◌==◌, nat_lt, nat_le, List, [], ◌∷◌, length, take, drop, get_or, zero, suc, refl, sym, ap, subst, ◌∙◌, inl, inr, arith}
 use Rattle.std.specs.Prelude.{IsTrue, All, AllPairs}
 use Rattle.std.specs.List.{list_all}
-use Rattle.std.proofs.lemmas.Bool.{false≢true, ltb-true, leb-true, lt-ltb, eqb-true, eqb-false, cases_lt}
+use Rattle.std.proofs.lemmas.Bool.{false≢true, ltb-true, leb-true, lt-ltb, eqb-true, cases_lt}
 use Rattle.std.proofs.lemmas.Bool.Decides.{nat_tests}
-use Rattle.std.proofs.lemmas.List.{get_or_default, get_or_past, get_or-drop}
+use Rattle.std.proofs.lemmas.List.{get_or_default, get_or-drop}
 use Rattle.jh_num.specs.declared.address.TheConstants.{ADDRESS_END, PAGE_SIZE}
 use Rattle.jh_cellcfg.specs.declared.region.Region.{Region}
 use Rattle.jh_cellcfg.specs.declared.config.CellConfig.{CellConfig}
 use Rattle.jh_cellcfg.specs.declared.config.SystemConfig.{SystemConfig}
 use Rattle.jh_cellcfg.specs.Regions.{has_flags, virt_end, phys_end, has_address, has_place, is_comm, IsWithin}
 use Rattle.jh_check.specs.declared.rule.Rule.{Rule}
-use Rattle.jh_check.specs.declared.rule.Rule.TheVariants.{VirtOverlap, PhysOverlap, Hypervisor, OutOfRange, RootNotIdentity, CommInRoot, ExecuteWithoutRead, PhysAlign}
+use Rattle.jh_check.specs.declared.rule.Rule.TheVariants.{VirtOverlap, PhysOverlap, Hypervisor, OutOfRange, RootNotIdentity, CommInRoot, ExecuteWithoutRead}
 use Rattle.jh_check.specs.Regions.{pair_breaks, region_breaks, breaks_alone, hypervisor_breaks, has_size, virt_meet, phys_meet, share_places}
 use Rattle.jh_check.specs.Devices.{cpus_break, is_zero}
-use Rattle.jh_check.specs.Findings.{spot, in_regions, findings}
+use Rattle.jh_check.specs.Findings.{in_regions, findings}
 use Rattle.jh_check.proofs.BoolLemmas.{not-both, and-left, and-right, and-both, or-left, or-right}
 use Rattle.jh_history.specs.Cells.{is_cpu_set}
 use Rattle.jh_script.specs.declared.image.Image.{Image}

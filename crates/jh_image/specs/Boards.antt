@@ -1,5 +1,5 @@
 -- What the text of a board tells: the names of its files, and what each is for.
-use Rattle.std.specs.Prelude.{◌≡◌, ⊤, ℕ, Bool, true, false, ◌&&◌, not, ◌==◌, nat_lt, nat_le, nat_eq, List, [], ◌∷◌, length, map, codes, Option, Some, None, Result, Ok, Err, unwrap_or, is_some, option_and_then, if◌then◌else◌}
+use Rattle.std.specs.Prelude.{◌≡◌, ⊤, ℕ, Bool, true, ◌&&◌, not, ◌==◌, nat_lt, nat_le, nat_eq, List, [], ◌∷◌, length, map, codes, Option, Some, None, Result, Ok, Err, unwrap_or, is_some, option_and_then, if◌then◌else◌}
 use Rattle.std.specs.List.{list_any, list_all}
 use Rattle.std.specs.Cmp.Lexicographic.{pointwise}
 use Rattle.serde_json.specs.Data.{Data}

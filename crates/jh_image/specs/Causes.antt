@@ -10,7 +10,6 @@ use Rattle.jh_script.specs.declared.image.Preload.{Preload}
 use Rattle.jh_script.specs.declared.image.Program.{Program}
 use Rattle.jh_script.specs.declared.image.Image.{Image}
 use Rattle.jh_script.specs.declared.fault.ScriptFault.{ScriptFault}
-use Rattle.jh_script.specs.declared.fault.ScriptFault.TheVariants as scripts
 use Rattle.jh_script.specs.Programs.{program_of}
 use Rattle.jh_history.specs.Admitted.{IsBuilt}
 use Rattle.jh_outside.specs.Count.{Rose}

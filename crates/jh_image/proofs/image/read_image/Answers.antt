@@ -1,5 +1,5 @@
 -- All files are read, and something in the image isn't built.
-use Rattle.std.proofs.Common.{◌≡◌, refl, sym, ◌∙◌}
+use Rattle.std.proofs.Common.{refl, sym, ◌∙◌}
 use Rattle.std.proofs.lemmas.Bool.{false≢true}
 use Rattle.jh_script.specs.declared.image.Image.{Image}
 use Rattle.jh_image.specs.declared.fault.ImageCause.TheVariants.{NotBuilt}

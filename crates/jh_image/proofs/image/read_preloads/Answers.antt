@@ -1,7 +1,6 @@
 -- The loop over the preloads' files.
-use Rattle.std.proofs.Common.{◌≡◌, ◌+◌, ◌<◌, ◌≤◌, length, get_or, refl, sym, subst, arith}
-use Rattle.jh_image.specs.Images.{IsNextPreload}
-use Rattle.jh_image.proofs.LoadLemmas.{LoadedSoFar, loaded-start, loaded-more, loaded-next}
+use Rattle.std.proofs.Common.{◌≡◌, ◌+◌, ◌<◌, length, get_or, refl, sym, subst, arith}
+use Rattle.jh_image.proofs.LoadLemmas.{LoadedSoFar, loaded-start, loaded-more}
 use Rattle.jh_image.proofs.image.read_preloads.Goals as goal
 
 pub loop-file-init : goal.loop-file-init

@@ -1,7 +1,6 @@
 -- A program beside each later one.
-use Rattle.std.proofs.Common.{◌≡◌, ◌+◌, ◌-◌, ◌<◌, ◌&&◌, not, false, true, length, take, drop, length-drop, map, sym, ap, ◌∙◌, arith}
+use Rattle.std.proofs.Common.{◌+◌, ◌&&◌, not, drop, map, sym, ap, ◌∙◌}
 use Rattle.std.specs.List.{list_any}
-use Rattle.std.proofs.lemmas.List.{take_all}
 use Rattle.jh_image.specs.declared.board.ProgramFile.{ProgramFile}
 use Rattle.jh_image.specs.Boards.{are_distinct, seat_of, is_seat}
 use Rattle.jh_image.proofs.ValueLemmas.{distinct-at, distinct-end, later-is}

@@ -1,5 +1,5 @@
 -- What the entries so far have told, and this one.
-use Rattle.std.proofs.Common.{◌≡◌, ◌+◌, Some, None, sym, subst, ◌∙◌}
+use Rattle.std.proofs.Common.{◌+◌, sym, subst, ◌∙◌}
 use Rattle.jh_image.specs.Boards.{program_told}
 use Rattle.jh_image.proofs.ValueLemmas.{ToldSoFar, told-more, told-none, told-end}
 use Rattle.jh_image.proofs.list.program_entries.Goals as goal

@@ -1,5 +1,5 @@
 -- The system's file can't be read, or is too large.
-use Rattle.std.proofs.Common.{◌≡◌, sym, subst, List, ℕ}
+use Rattle.std.proofs.Common.{sym, subst}
 use Rattle.jh_image.specs.Images.{Comes, the_system}
 use Rattle.jh_image.specs.Causes.{IsUnread, OnRefused, Stops}
 use Rattle.jh_image.proofs.StopLemmas.{on_refused, unread-stops, passed_up}

@@ -1,4 +1,4 @@
-use Rattle.std.proofs.Common.{◌≡◌, ℕ, List, ◌∷◌, map, Some, Option, sym, ap, ◌∙◌}
+use Rattle.std.proofs.Common.{map, Some, sym, ap, ◌∙◌}
 use Rattle.std.specs.Map.Iter.{deref}
 use Rattle.std.proofs.lemmas.Map.Iter.{rest_more}
 use Rattle.jh_image.proofs.ValueLemmas.{key_unlisted, first_unlisted-keys, next_key}
