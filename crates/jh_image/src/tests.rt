@@ -1,6 +1,7 @@
 //! Boards over files in memory. A case is a line: the board, and what is told of it.
 
 use crate::{ImageFault, MAX_FILE_SIZE, admit, cause_text, read_image};
+use jh_cellcfg::SystemConfig;
 use jh_num::Seq;
 use jh_outside::MemFiles;
 use jh_script::{Image, Op, Preload, Program};
@@ -329,29 +330,51 @@ fn programs_have_their_causes(rt: HostRuntime) -> Result<(), Fail> {
     )
 }
 
-/// Whether an image with two preloads of four bytes, at 0 and there, and with a program that reads so many
-/// bytes, is admitted.
-fn is_admitted(alloc: Global, at: u64, width: u8) -> Result<bool, Fail> {
-    let bytes = system(alloc, 0x40_0000, 0, 1, 0)?;
-    let Ok(system) = read_system(alloc, bytes.as_slice()) else {
-        return Ok(false);
-    };
+fn preload(alloc: Global, at: u64) -> Result<Preload, Fail> {
+    let bytes = Seq::from_vec(Vec::from_slice(alloc, b"data")?);
+    Ok(Preload { at, bytes })
+}
+
+/// Two preloads of four bytes, at 0 and there.
+fn two_preloads(alloc: Global, at: u64) -> Result<Seq<Preload>, Fail> {
     let mut preloads = Seq::new(alloc);
-    for at in [0, at] {
-        let bytes = Seq::from_vec(Vec::from_slice(alloc, b"data")?);
-        preloads.push(Preload { at, bytes })?;
-    }
-    let mut ops = Seq::new(alloc);
-    ops.push(Op::Read { width, at: 0 })?;
+    preloads.push(preload(alloc, 0)?)?;
+    preloads.push(preload(alloc, at)?)?;
+    Ok(preloads)
+}
+
+/// A program that reads so many bytes.
+fn one_program(alloc: Global, width: u8) -> Result<Seq<Program>, Fail> {
     let cell = Seq::from_vec(Vec::from_slice(alloc, b"root")?);
+    let ops = Seq::from_vec(Vec::from_slice(alloc, &[Op::Read { width, at: 0 }])?);
     let mut programs = Seq::new(alloc);
     programs.push(Program { cell, cpu: 0, ops })?;
-    let image = Image {
+    Ok(programs)
+}
+
+fn small_system(alloc: Global) -> Result<Option<SystemConfig>, Fail> {
+    let bytes = system(alloc, 0x40_0000, 0, 1, 0)?;
+    Ok(read_system(alloc, bytes.as_slice()).ok())
+}
+
+/// An image with those preloads and that program.
+fn small_image(alloc: Global, at: u64, width: u8) -> Result<Option<Image>, Fail> {
+    let preloads = two_preloads(alloc, at)?;
+    let programs = one_program(alloc, width)?;
+    let system = small_system(alloc)?;
+    Ok(system.map(|system| Image {
         system,
         preloads,
         programs,
-    };
-    Ok(admit(alloc, &image)?)
+    }))
+}
+
+/// Whether that image is admitted.
+fn is_admitted(alloc: Global, at: u64, width: u8) -> Result<bool, Fail> {
+    match small_image(alloc, at, width)? {
+        Some(image) => Ok(admit(alloc, &image)?),
+        None => Ok(false),
+    }
 }
 
 #[test]
