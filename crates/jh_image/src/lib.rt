@@ -20,6 +20,7 @@ pub use board::{BoardFault, Listing, PreloadFile, ProgramFile, read_board};
 pub use fault::{ImageCause, ImageFault};
 pub use file_name::FileName;
 pub use image::read_image;
+pub use jh_spec::{Spec, SpecFault, read_spec};
 pub use laws::{
     admitted_images_are_taken, boards_make_one_image, boards_that_make_an_image_are_not_refused,
 };
