@@ -104,6 +104,22 @@ fn fills(rt: &impl Abort, alloc: Global, room: usize, status: Status) -> Result<
     Ok(())
 }
 
+/// Calls with these words, and lets memory be wanted: then nothing stands in the sink, and else this text.
+fn ends_or_wants_memory(
+    rt: &impl Abort,
+    alloc: Global,
+    files: &mut MemFiles,
+    texts: &[&str],
+    text: &str,
+) -> Result<(), NoMemory> {
+    let mut out = MemSink::new(alloc, 4096)?;
+    let got = jailhouse(alloc, words(alloc, texts)?.as_slice(), files, &mut out);
+    let wanted = if got == Status::NoMemory { "" } else { text };
+    assert!(rt; matches!(got, Status::Good | Status::NoMemory));
+    assert_eq!(rt; out.bytes(), wanted.as_bytes());
+    Ok(())
+}
+
 const PLAY: [&str; 4] = ["jailhouse", "play", "b.json", "s.txt"];
 
 #[test]
@@ -358,5 +374,18 @@ fn a_sink_that_fills_up_has_a_front_of_the_text(rt: HostRuntime) -> Result<(), F
         fills(&rt, rt.alloc(), room, Status::WriteFault)?;
     }
     fills(&rt, rt.alloc(), JOURNAL.len(), Status::Good)?;
+    Ok(())
+}
+
+/// Run apart from the others with each allocation failing in turn.
+#[test]
+fn without_memory_nothing_is_written(rt: HostRuntime) -> Result<(), Fail> {
+    let alloc = rt.alloc();
+    let mut files = files(alloc, PROGRAM)?;
+    files.add("j.txt", JOURNAL.as_bytes())?;
+    ends_or_wants_memory(&rt, alloc, &mut files, &PLAY, JOURNAL)?;
+    ends_or_wants_memory(&rt, alloc, &mut files, &AUDIT, "legal 2 quiet\n")?;
+    let check = ["jailhouse", "check", "s.sys"];
+    ends_or_wants_memory(&rt, alloc, &mut files, &check, "findings 0\n")?;
     Ok(())
 }
