@@ -397,7 +397,8 @@ fn rules_of_sections(rt: HostRuntime) -> Result<(), Fail> {
 }
 
 /// Whether the check of `q` and `demo`, with its read/write section there and outputs of that size, tells that.
-fn linked_is_told(alloc: Global, at: u64, size: u64, want: &str) -> Result<bool, Fail> {
+fn linked_is_told(alloc: Global, at: u64, size: u32, want: &str) -> Result<bool, Fail> {
+    let size = size as u64;
     let sections = [
         plain(0x7fb0_0000, 0x1000, 0x81),
         region(at, 0x7fb0_1000, 0x9000, 0x83),
