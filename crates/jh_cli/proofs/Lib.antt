@@ -1,6 +1,7 @@
 pub mod BoardLemmas
 pub mod CellLemmas
 pub mod CpuLemmas
+pub mod GoodLemmas
 pub mod JournalLemmas
 pub mod PlayedLemmas
 pub mod StatusLemmas

@@ -7,4 +7,5 @@ pub mod Boards
 pub mod Play
 pub mod Audit
 pub mod Outcome
+pub mod Complete
 pub mod Stopped

@@ -1,11 +1,13 @@
 //! The top call.
-ghost use Rattle.std.specs.Prelude.{◌≡◌, map, string_bytes};
+ghost use Rattle.std.specs.Prelude.{◌≡◌, ◌⊎◌, map, string_bytes};
 ghost use Rattle.jh_outside.specs.Count.{Rose};
 ghost use Rattle.jh_outside.specs.Writes.{Appended};
 ghost use Rattle.jh_cli.specs.Words.{command_of};
 ghost use Rattle.jh_cli.specs.Lines.{fault_line};
 ghost use Rattle.jh_cli.specs.Outcome.{Ends};
+ghost use Rattle.jh_cli.specs.Complete.{AreGood, IsDone};
 
+use crate::laws::good_inputs_are_not_refused;
 use crate::send::send;
 use crate::status::Status;
 use crate::tell::tell;
@@ -26,7 +28,10 @@ pub fn jailhouse<F: Files, K: Sink>(
     // a fault of reading or writing comes only where the count rose in this call
     ensures read_fault { result ≡ Status.ReadFault → Rose (F.faults files.old) (F.faults files.new) × Appended (K.written out.old) (K.written out.new) (fault_line (F.failed files.new)) }
     ensures write_fault { result ≡ Status.WriteFault → Rose (K.faults out.old) (K.faults out.new) }
+    // good words and files give the command's answer, 0 or 1, or want of memory, unless a count rose in this call
+    ensures complete { AreGood (F.contents files.old) (command_of (map string_bytes words.now)) → IsDone result ⊎ Rose (F.faults files.old) (F.faults files.new) ⊎ Rose (K.faults out.old) (K.faults out.new) }
 {
+    good_inputs_are_not_refused();
     match tell(alloc, words, files) {
         Ok(told) => send(out, &told),
         Err(NoMemory) => Status::NoMemory,
