@@ -198,7 +198,7 @@ fn packs(
     let mut files = MemFiles::new(alloc);
     files.add("s.json", spec.as_bytes())?;
     let mut out = MemSink::new(alloc, 4096)?;
-    let words = words(alloc, &["jailhouse", "pack", "s.json"])?;
+    let words = words(alloc, &PACK)?;
     let got = jailhouse(alloc, words.as_slice(), &mut files, &mut out);
     assert_eq!(rt; got, status);
     assert_eq!(rt; out.bytes(), text);
@@ -226,6 +226,24 @@ fn a_pack_writes_the_bytes_or_names_a_member(rt: HostRuntime) -> Result<(), Fail
         Status::Refused,
         b"refused: s.json: member id\n",
     )?;
+    Ok(())
+}
+
+const PACK: [&str; 3] = ["jailhouse", "pack", "s.json"];
+
+#[test]
+fn a_pack_names_a_read_that_failed_and_fills_a_sink(rt: HostRuntime) -> Result<(), Fail> {
+    let alloc = rt.alloc();
+    let mut files = MemFiles::new(alloc);
+    files.add("s.json", SPEC.as_bytes())?;
+    files.fail(0)?;
+    let line = "read fault: s.json\n";
+    ends(&rt, alloc, &mut files, &PACK, Status::ReadFault, line)?;
+    let mut out = MemSink::new(alloc, 100)?;
+    let got = jailhouse(alloc, words(alloc, &PACK)?.as_slice(), &mut files, &mut out);
+    assert_eq!(rt; got, Status::WriteFault);
+    assert_eq!(rt; out.bytes().len(), 100);
+    assert!(rt; system(alloc)?.as_slice().starts_with(out.bytes()));
     Ok(())
 }
 
