@@ -6,7 +6,7 @@ ghost use Rattle.jh_history.specs.Admitted.{IsAdmitted, IsBuilt};
 use crate::plain::{LIMIT, Plain};
 use crate::{AUDIT_LIMIT, Verdict, audit};
 use jh_board::play;
-use jh_history::{Act, Entry, is_admitted, is_built};
+use jh_history::{Act, Entry, Journal, is_admitted, is_built};
 use jh_num::{NoMemory, Seq};
 use jh_script::{Image, Program, read_program};
 use jh_syscfg::read_system;
@@ -51,36 +51,52 @@ fn program(alloc: Global, cpu: u8, text: &str) -> Result<Program, Fail> {
     })
 }
 
-/// The image of that system and these programs of its two CPUs, which may be opened.
-fn image(rt: &impl Abort, alloc: Global, zero: &str, one: &str) -> Result<Image, Fail>
-    ensures admitted { IfOk result IsAdmitted }
-    ensures built { IfOk result IsBuilt }
-{
-    let system = read_system(alloc, system(alloc)?.as_slice())
-        .ok()
-        .ok_or("the bytes are a system")?;
+/// The programs of root's two CPUs.
+fn programs(alloc: Global, zero: &str, one: &str) -> Result<Seq<Program>, Fail> {
     let mut programs = Seq::new(alloc);
     programs.push(program(alloc, 0, zero)?)?;
     programs.push(program(alloc, 1, one)?)?;
-    let image = Image {
-        system,
-        preloads: Seq::new(alloc),
-        programs,
-    };
+    Ok(programs)
+}
+
+/// The image of that system and these programs.
+fn image(alloc: Global, zero: &str, one: &str) -> Result<Image, Fail> {
+    let programs = programs(alloc, zero, one)?;
+    let bytes = system(alloc)?;
+    match read_system(alloc, bytes.as_slice()) {
+        Ok(system) => Ok(Image {
+            system,
+            preloads: Seq::new(alloc),
+            programs,
+        }),
+        Err(_) => Err("the bytes are a system".into()),
+    }
+}
+
+/// The same image, which may be opened.
+fn ready(rt: &impl Abort, alloc: Global, zero: &str, one: &str) -> Result<Image, Fail>
+    ensures admitted { IfOk result IsAdmitted }
+    ensures built { IfOk result IsBuilt }
+{
+    let image = image(alloc, zero, one)?;
     assert!(rt; is_admitted(&image));
     assert!(rt; is_built(&image));
     Ok(image)
+}
+
+/// The journal of this text.
+fn journal(alloc: Global, text: &str) -> Result<Journal, Fail> {
+    let journal = read_journal(alloc, text.as_bytes());
+    Ok(journal.ok().ok_or("the text is a journal")?)
 }
 
 /// What is found of the journal whose text is this behind its first line.
 fn judged(rt: &impl Abort, alloc: Global, rest: &str) -> Result<Verdict, Fail> {
     let mut text = String::from_str(alloc, FIRST)?;
     text.push_str(rest)?;
-    let journal = read_journal(alloc, text.as_bytes())
-        .ok()
-        .ok_or("the text is a journal")?;
+    let journal = journal(alloc, text.as_str())?;
     assert!(rt; journal.len() <= AUDIT_LIMIT as usize);
-    Ok(audit(alloc, image(rt, alloc, PROGRAM, "")?, &journal)?)
+    Ok(audit(alloc, ready(rt, alloc, PROGRAM, "")?, &journal)?)
 }
 
 /// The read that the program makes behind its write.
@@ -147,8 +163,38 @@ fn another_line_is_told_with_the_entry_due(rt: HostRuntime) -> Result<(), Fail> 
     Ok(())
 }
 
-/// The engine plays the programs to so many entries, the audit finds them legal and quiet, and the plain
-/// definition makes the same.
+/// The audit finds the journal legal and quiet for these programs.
+fn is_legal(
+    rt: &impl Abort,
+    alloc: Global,
+    zero: &str,
+    one: &str,
+    made: &Journal,
+) -> Result<(), Fail> {
+    assert!(rt; made.len() <= AUDIT_LIMIT as usize);
+    let found = audit(alloc, ready(rt, alloc, zero, one)?, made)?;
+    assert_eq!(rt; found, Verdict::Legal { quiet: true });
+    Ok(())
+}
+
+/// The plain definition makes the same entries of these programs.
+fn is_plain(
+    rt: &impl Abort,
+    alloc: Global,
+    zero: &str,
+    one: &str,
+    made: &[Entry],
+) -> Result<(), Fail> {
+    let mut plain = Plain::open(alloc, ready(rt, alloc, zero, one)?);
+    for entry in made {
+        plain.item(entry.cpu)?;
+    }
+    assert!(rt; plain.is_quiet()?);
+    assert_eq!(rt; plain.entries(), made);
+    Ok(())
+}
+
+/// The engine plays these programs to so many entries, and the audit and the plain definition agree.
 fn all_agree(
     rt: &impl Abort,
     alloc: Global,
@@ -156,19 +202,10 @@ fn all_agree(
     one: &str,
     count: usize,
 ) -> Result<(), Fail> {
-    let (board, _) = play(alloc, image(rt, alloc, zero, one)?, &[], LIMIT)?;
-    let made = board.journal();
-    assert_eq!(rt; made.len(), count);
-    assert!(rt; made.len() <= AUDIT_LIMIT as usize);
-    let found = audit(alloc, image(rt, alloc, zero, one)?, made)?;
-    assert_eq!(rt; found, Verdict::Legal { quiet: true });
-    let mut plain = Plain::open(alloc, image(rt, alloc, zero, one)?);
-    for entry in made.as_slice() {
-        plain.item(entry.cpu)?;
-    }
-    assert!(rt; plain.is_quiet()?);
-    assert_eq!(rt; plain.entries(), made.as_slice());
-    Ok(())
+    let (board, _) = play(alloc, ready(rt, alloc, zero, one)?, &[], LIMIT)?;
+    assert_eq!(rt; board.journal().len(), count);
+    is_legal(rt, alloc, zero, one, board.journal())?;
+    is_plain(rt, alloc, zero, one, board.journal().as_slice())
 }
 
 #[test]

@@ -1,0 +1,15 @@
+-- The journal with the entry that is due is legal.
+use Rattle.std.proofs.Common.{◌≡◌, ◌<◌, length, arith, Some}
+use Rattle.std.proofs.lemmas.List.{length_push}
+use Rattle.jh_history.specs.Due.{due}
+use Rattle.jh_history.proofs.DueLemmas.{IsLegal-made}
+use Rattle.jh_audit.proofs.plain.Plain.item.Goals as goal
+
+pub invariant_of-self-2 : goal.invariant_of-self-2
+invariant_of-self-2 c =
+    let told = c.due.ensures in
+    let was = c.in_ok-entry.was in
+    let is = c.in-Some.is in
+    let made : due c.self.inside.image c.self.inside.journal.entries c.args.cpu ≡ Some c.in-Some.entry = cc in
+    let few : length c.self.inside.journal.entries < 64 = rw (← c.len.ensures) (omega arith) in
+    (c.self.invariant.0, c.self.invariant.1, IsLegal-made c.self.inside.image c.self.inside.journal.entries c.push.new.self.entries c.args.cpu c.in-Some.entry c.self.invariant.2 made c.in_ok-push.ensures.ok, rw (c.in_ok-push.ensures.ok, length_push) (omega arith))
