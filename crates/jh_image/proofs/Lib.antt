@@ -1,4 +1,4 @@
-pub mod ValueLemmas
+pub mod SeatLemmas
 pub mod StopLemmas
 pub mod CappedLemmas
 pub mod LoadLemmas

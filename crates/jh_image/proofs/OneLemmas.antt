@@ -15,7 +15,7 @@ use Rattle.jh_image.specs.declared.board.BoardFault.{BoardFault}
 use Rattle.jh_image.specs.declared.board.PreloadFile.{PreloadFile}
 use Rattle.jh_image.specs.declared.board.ProgramFile.{ProgramFile}
 use Rattle.jh_image.specs.declared.read.TheConstants.{MAX_FILE_SIZE}
-use Rattle.jh_image.specs.Told.{IsText}
+use Rattle.jh_spec.specs.Json.{IsText}
 use Rattle.jh_image.specs.Boards.{board_told, Tells}
 use Rattle.jh_image.specs.Files.{Contents, Hands, Lists, SpellsSystem, IsPreloadOf, IsProgramOf, Preloads, no_preloads, one_more_preload, Programs, no_programs, one_more_program}
 use Rattle.jh_image.specs.Images.{HasSystem, MakesImage, IsImage}

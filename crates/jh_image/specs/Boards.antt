@@ -3,14 +3,14 @@ use Rattle.std.specs.Prelude.{◌≡◌, ⊤, ℕ, Bool, true, ◌&&◌, not, �
 use Rattle.std.specs.List.{list_any, list_all}
 use Rattle.std.specs.Cmp.Lexicographic.{pointwise}
 use Rattle.serde_json.specs.Data.{Data}
-use Rattle.serde_json.specs.Find.{get, as_str, as_object}
+use Rattle.serde_json.specs.Find.{as_str, as_object}
 use Rattle.jh_cellcfg.specs.Limits.{is_printable}
+use Rattle.jh_spec.specs.Json.{IsText, told_at, unlisted, has_only, number_told, number_below, list_at}
 use Rattle.jh_image.specs.declared.board.Listing.{Listing}
 use Rattle.jh_image.specs.declared.board.PreloadFile.{PreloadFile}
 use Rattle.jh_image.specs.declared.board.ProgramFile.{ProgramFile}
 use Rattle.jh_image.specs.declared.board.BoardFault.{BoardFault}
 use Rattle.jh_image.specs.declared.board.BoardFault.TheVariants.{Json, Member, NoMemory}
-use Rattle.jh_image.specs.Told.{IsText, told_at, told_or, unlisted, has_only, number_told, number_below, list_told}
 
 infixl 10 ◌>>=◌
 abbrev pub ◌>>=◌ : {A B : Type 0} → Option A → (A → Option B) → Option B
@@ -77,11 +77,11 @@ system_told d = told_at as_str (codes "system") d
 
 -- at most 64 preloads; none where the member is missing
 unfoldable pub preloads_told : Data → Option (List PreloadFile)
-preloads_told d = told_or (list_told preload_told 64) [] (get (codes "preloads") d)
+preloads_told d = list_at preload_told 64 (codes "preloads") d
 
 -- at most 256 programs, each of a CPU of its own; none where the member is missing
 unfoldable pub programs_told : Data → Option (List ProgramFile)
-programs_told d = option_and_then where_distinct (told_or (list_told program_told 256) [] (get (codes "programs") d))
+programs_told d = option_and_then where_distinct (list_at program_told 256 (codes "programs") d)
 
 abbrev pub board_names : List (List ℕ)
 board_names = codes "system" ∷ codes "preloads" ∷ codes "programs" ∷ []

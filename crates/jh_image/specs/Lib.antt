@@ -1,4 +1,3 @@
-pub mod Told
 pub mod Boards
 pub mod Opening
 pub mod Files

@@ -2,14 +2,14 @@
 ghost use Rattle.std.specs.Prelude.{◌≡◌, ◌≤◌, IfOk, IfErr, is_some, true, length, map};
 ghost use Rattle.serde_json.specs.Find.{as_object};
 ghost use Rattle.serde_json.specs.View.{view};
-ghost use Rattle.jh_image.specs.Told.{IsText};
+ghost use Rattle.jh_spec.specs.Json.{IsText};
 ghost use Rattle.jh_image.specs.Boards.{object_told, Answers, Tells, IsUnread, IsFaultOf, are_distinct, seat_of};
 ghost use Rattle.jh_image.specs.declared.board.BoardFault.TheVariants.{NoMemory as OutOfMemory};
 
 use crate::file_name::FileName;
 use crate::list::{preloads, programs};
-use crate::value::{first_unlisted, text_at};
 use jh_num::{NoMemory, Seq};
+use jh_spec::json::{first_unlisted, text_at};
 use serde_json::Value;
 use std::alloc::Global;
 

@@ -3,13 +3,13 @@ ghost use Rattle.std.specs.Prelude.{◌≡◌, IfOk, None, option_map};
 ghost use Rattle.std.specs.List.{list_all};
 ghost use Rattle.serde_json.specs.View.{view};
 ghost use Rattle.jh_cellcfg.specs.Limits.{is_printable};
-ghost use Rattle.jh_image.specs.Told.{told_at};
+ghost use Rattle.jh_spec.specs.Json.{told_at, number_below};
 ghost use Rattle.jh_image.specs.Boards.{preload_told, program_told, is_cell_name, cell_told};
 
 use crate::board::{PreloadFile, ProgramFile};
 use crate::file_name::FileName;
-use crate::value::{cpu_at, has_only, number_at, text_at};
 use jh_num::{NoMemory, Seq};
+use jh_spec::json::{has_only, number_at, number_below, text_at};
 use serde_json::Value;
 use std::alloc::Global;
 
@@ -56,6 +56,14 @@ fn cell_at<'v>(object: &'v Value, name: &str) -> Option<&'v str>
     } else {
         None
     }
+}
+
+/// The number of a CPU that the member of this name is.
+fn cpu_at(object: &Value, name: &str) -> Option<u8>
+    ensures { result ≡ told_at (number_below 16) name.now (view object.now) }
+{
+    let number = number_below(object.get(name)?, 16)?;
+    Some(number as u8)
 }
 
 /// The program that an entry tells of.

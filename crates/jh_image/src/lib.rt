@@ -13,7 +13,6 @@ mod list;
 mod read;
 mod refusal;
 mod text;
-mod value;
 
 pub use admission::admit;
 pub use board::{BoardFault, Listing, PreloadFile, ProgramFile, read_board};

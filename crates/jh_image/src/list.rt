@@ -4,7 +4,7 @@ ghost use Rattle.std.specs.List.{list_any};
 ghost use Rattle.jh_image.specs.declared.board.ProgramFile.{ProgramFile as TheProgramFile};
 ghost use Rattle.serde_json.specs.Find.{get};
 ghost use Rattle.serde_json.specs.View.{view, items_view};
-ghost use Rattle.jh_image.specs.Told.{items_told, list_told};
+ghost use Rattle.jh_spec.specs.Json.{items_told, short_list_told};
 ghost use Rattle.jh_image.specs.Boards.{preload_told, program_told, preloads_told, programs_told, are_distinct, seat_of, is_seat};
 
 use crate::board::{PreloadFile, ProgramFile};
@@ -49,7 +49,7 @@ fn program_entries(alloc: Global, entries: &[Value]) -> Result<Option<Seq<Progra
 
 /// The preloads in a list that isn't too long.
 fn preload_list(alloc: Global, list: &Value) -> Result<Option<Seq<PreloadFile>>, NoMemory>
-    ensures told { IfOk result (λ told. told ≡ list_told preload_told 64 (view list.now)) }
+    ensures told { IfOk result (λ told. told ≡ short_list_told preload_told 64 (view list.now)) }
     ensures few { IfOk result (λ told. IfSome told (λ files. length files ≤ 64)) }
 {
     let Some(entries) = list.as_array() else {
@@ -63,7 +63,7 @@ fn preload_list(alloc: Global, list: &Value) -> Result<Option<Seq<PreloadFile>>,
 
 /// The programs in a list that isn't too long.
 fn program_list(alloc: Global, list: &Value) -> Result<Option<Seq<ProgramFile>>, NoMemory>
-    ensures { IfOk result (λ told. told ≡ list_told program_told 256 (view list.now)) }
+    ensures { IfOk result (λ told. told ≡ short_list_told program_told 256 (view list.now)) }
 {
     let Some(entries) = list.as_array() else {
         return Ok(None);

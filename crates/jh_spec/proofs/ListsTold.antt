@@ -7,7 +7,7 @@ use Rattle.std.proofs.lemmas.List.{append-nil, drop_all}
 use Rattle.serde_json.specs.Data.{Data}
 use Rattle.serde_json.specs.declared.value.Value.{Value}
 use Rattle.serde_json.specs.View.{view, items_view}
-use Rattle.jh_spec.specs.Told.{items_told}
+use Rattle.jh_spec.specs.Json.{items_told}
 
 -- what is told in front of what is told later
 abbrev pub before : {X : Type 0} → List X → Option (List X) → Option (List X)

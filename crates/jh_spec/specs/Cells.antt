@@ -18,7 +18,8 @@ use Rattle.jh_spec.specs.declared.cell.Identity.{Identity}
 use Rattle.jh_spec.specs.declared.cell.Lists.{Lists}
 use Rattle.jh_spec.specs.declared.cell.Settings.{Settings}
 use Rattle.jh_spec.specs.Faults.{◌>>=◌, member_told, all_listed, IsFaultOf}
-use Rattle.jh_spec.specs.Told.{told_or, u8_at, u16_at, u32_at, u64_at, u32_told, list_told, region_told, irqchip_told, device_told, console_told}
+use Rattle.jh_spec.specs.Json.{told_or, list_at}
+use Rattle.jh_spec.specs.Told.{u8_at, u16_at, u32_at, u64_at, u32_told, region_told, irqchip_told, device_told, console_told}
 use Rattle.jh_spec.specs.Cpus.{bitmap, cpus_told}
 
 -- ---- a cell's members
@@ -41,13 +42,6 @@ cpu_set_size d = told_or size_told 8 (get (codes "cpu_set_size") d)
 
 abbrev pub cpu_set_in : ℕ → Data → Option (List ℕ)
 cpu_set_in bytes d = told_or (cpus_told bytes) (bitmap bytes []) (get (codes "cpus") d)
-
--- a list of at most so many, which is empty where the member is missing
-abbrev pub at_most : {X : Type 0} → ℕ → List X → Option (List X)
-at_most most xs = if nat_le (length xs) most then Some xs else None
-
-abbrev pub list_at : {X : Type 0} → (Data → Option X) → ℕ → List ℕ → Data → Option (List X)
-list_at tells most name d = told_or (λ list. option_and_then (at_most most) (list_told tells list)) [] (get name d)
 
 abbrev pub no_region : Region
 no_region = record { phys_start = 0; virt_start = 0; size = 0; flags = 0 }

@@ -2,7 +2,8 @@
 use Rattle.std.specs.Prelude.{◌≡◌, ◌<◌, ℕ, zero, suc, ◌+◌, ◌*◌, length, get_or, false, Bool, true, ◌&&◌, not, ◌==◌, nat_lt, List, [], ◌∷◌, ◌++◌, Option, Some, None, option_and_then, if◌then◌else◌}
 use Rattle.std.specs.List.{list_any}
 use Rattle.serde_json.specs.Data.{Data}
-use Rattle.jh_spec.specs.Told.{list_told, u64_told}
+use Rattle.jh_spec.specs.Json.{list_told}
+use Rattle.jh_spec.specs.Told.{u64_told}
 
 abbrev pub names_cpu : List ℕ → ℕ → Bool
 names_cpu cpus cpu = list_any (λ other. other == cpu) cpus

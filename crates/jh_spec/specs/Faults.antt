@@ -3,7 +3,7 @@ use Rattle.std.specs.Prelude.{◌≡◌, ⊤, List, ℕ, Option, Some, None, Res
 use Rattle.serde_json.specs.Data.{Data}
 use Rattle.jh_spec.specs.declared.spec.SpecFault.{SpecFault}
 use Rattle.jh_spec.specs.declared.spec.SpecFault.TheVariants.{Json, Member, NoMemory}
-use Rattle.jh_spec.specs.Told.{unlisted}
+use Rattle.jh_spec.specs.Json.{unlisted}
 
 infixl 10 ◌>>=◌
 -- the next step, where this one finds no fault

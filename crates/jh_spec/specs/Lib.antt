@@ -1,3 +1,4 @@
+pub mod Json
 pub mod Told
 pub mod Faults
 pub mod Cpus

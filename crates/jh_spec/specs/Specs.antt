@@ -1,8 +1,7 @@
 -- What the bytes of a SPEC tell.
-use Rattle.std.specs.Prelude.{◌≡◌, ℕ, nat_eq, List, codes, ◌∷◌, Option, Some, None, Result, Ok, Err, IsUtf8, option_and_then, if◌then◌else◌, ⊤, is_some}
+use Rattle.std.specs.Prelude.{◌≡◌, ℕ, nat_eq, List, codes, ◌∷◌, Option, Some, None, Result, Ok, Err, option_and_then, if◌then◌else◌, ⊤, is_some}
 use Rattle.std.specs.Cmp.Lexicographic.{pointwise}
 use Rattle.serde_json.specs.Data.{Data}
-use Rattle.serde_json.specs.Read.{read}
 use Rattle.serde_json.specs.Find.{get, as_str, as_object}
 use Rattle.jh_cellcfg.specs.Limits.{IsWithinLimits}
 use Rattle.jh_syscfg.specs.Layout.{IsSystemWithinLimits}
@@ -12,13 +11,9 @@ use Rattle.jh_spec.specs.declared.spec.Spec.{Spec}
 use Rattle.jh_spec.specs.declared.spec.Spec.TheVariants.{Cell as CellSpec, System as SystemSpec}
 use Rattle.jh_spec.specs.declared.spec.Kind.{Kind}
 use Rattle.jh_spec.specs.declared.spec.Kind.TheVariants.{Cell, System}
+use Rattle.jh_spec.specs.Json.{IsText}
 use Rattle.jh_spec.specs.Faults.{◌>>=◌}
 use Rattle.jh_spec.specs.Cells.{cell_names, cell_told, system_told}
-
--- the bytes are the text of this JSON value, by the JSON reader's own written reading
-pub record IsText (bytes : List ℕ) (d : Data) : Type 0 where
-  pub utf8 : IsUtf8 bytes
-  pub value : read bytes ≡ Some d
 
 abbrev pub kind_named : List ℕ → Option Kind
 kind_named text =

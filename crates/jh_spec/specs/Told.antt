@@ -1,39 +1,14 @@
--- What a JSON value tells: whole numbers, lists of them, and the records of a configuration.
-use Rattle.std.specs.Prelude.{ℕ, ◌^◌, Bool, false, ◌&&◌, ◌==◌, nat_lt, nat_eq, List, [], ◌∷◌, length, codes, Option, Some, None, is_some, is_none, unwrap_or, option_map, option_and_then, if◌then◌else◌, replicate}
-use Rattle.std.specs.List.{list_any}
-use Rattle.std.specs.Option.{option_map_or}
-use Rattle.std.specs.Cmp.Lexicographic.{pointwise}
-use Rattle.serde_json.specs.Data.{Data, Items, no_items, item, Members, no_members, member}
-use Rattle.serde_json.specs.Find.{get, as_number, as_u64, as_array, as_object}
+-- What a JSON value tells of a configuration: numbers that fit their field, lists of them, and records.
+use Rattle.std.specs.Prelude.{ℕ, ◌^◌, Bool, ◌&&◌, ◌==◌, List, [], ◌∷◌, length, codes, Option, Some, None, is_some, unwrap_or, option_and_then, if◌then◌else◌, replicate}
+use Rattle.serde_json.specs.Data.{Data}
+use Rattle.serde_json.specs.Find.{get}
 use Rattle.jh_cellcfg.specs.declared.region.Region.{Region}
 use Rattle.jh_cellcfg.specs.declared.config.Irqchip.{Irqchip}
 use Rattle.jh_cellcfg.specs.declared.config.PciDevice.{PciDevice}
 use Rattle.jh_cellcfg.specs.declared.config.Console.{Console}
+use Rattle.jh_spec.specs.Json.{told_or, has_only, number_below, list_told}
 
--- ---- members of an object
-
--- the value of a member, or what stands for it where it is missing
-abbrev pub told_or : {X : Type 0} → (Data → Option X) → X → Option Data → Option X
-told_or tells missing None = Some missing
-told_or tells missing (Some d) = tells d
-
--- the first name in an object that isn't listed; an object's names stand in order of their bytes
-abbrev pub first_unlisted : List (List ℕ) → Members → Option (List ℕ)
-first_unlisted names no_members = None
-first_unlisted names (member name d ms) = if list_any (λ listed. pointwise nat_eq listed name) names then first_unlisted names ms else Some name
-
-abbrev pub unlisted : List (List ℕ) → Data → Option (List ℕ)
-unlisted names d = option_and_then (first_unlisted names) (as_object d)
-
--- the value is an object, and has no other names than these
-abbrev pub has_only : List (List ℕ) → Data → Bool
-has_only names d = option_map_or (λ ms. is_none (first_unlisted names ms)) (as_object d) false
-
--- ---- numbers
-
--- a whole number below the limit; the reader keeps those of 64 bits as integers, and no others
-abbrev pub number_below : ℕ → Data → Option ℕ
-number_below limit d = option_and_then (λ n. if nat_lt n limit then Some n else None) (option_and_then as_u64 (as_number d))
+-- ---- numbers that fit their field
 
 abbrev pub u8_told : Data → Option ℕ
 u8_told = number_below (2 ^ 8)
@@ -61,14 +36,6 @@ abbrev pub u64_at : List ℕ → Data → Option ℕ
 u64_at name d = told_or u64_told 0 (get name d)
 
 -- ---- lists
-
--- what each item tells, where all tell something
-abbrev pub items_told : {X : Type 0} → (Data → Option X) → Items → Option (List X)
-items_told tells no_items = Some []
-items_told tells (item d ds) = option_and_then (λ x. option_map (λ xs. x ∷ xs) (items_told tells ds)) (tells d)
-
-abbrev pub list_told : {X : Type 0} → (Data → Option X) → Data → Option (List X)
-list_told tells d = option_and_then (items_told tells) (as_array d)
 
 -- exactly so many numbers of 32 bits
 abbrev pub words_told : ℕ → Data → Option (List ℕ)

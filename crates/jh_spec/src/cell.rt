@@ -6,14 +6,15 @@ ghost use Rattle.jh_cellcfg.specs.Limits.{IsWithinLimits};
 ghost use Rattle.jh_cellcfg.specs.Spelling.{console_bytes as bytes_of};
 ghost use Rattle.jh_spec.specs.Cells.{cell_told, identity_told, lists_told, settings_told, IsIdentity, AreLists};
 ghost use Rattle.jh_spec.specs.Faults.{Answers, all_listed, member_told};
-ghost use Rattle.jh_spec.specs.Told.{told_or};
+ghost use Rattle.jh_spec.specs.Json.{told_or};
 
 use crate::cpus::{cpu_set, cpu_set_size};
 use crate::fault::{fault_of, named};
+use crate::json::first_unlisted;
 use crate::list::list_at;
 use crate::name::cell_name;
 use crate::spec::SpecFault;
-use crate::told::{Told, first_unlisted, member};
+use crate::told::{Told, member};
 use jh_cellcfg::{CellConfig, Console, Irqchip, PciDevice, Record, Region};
 use jh_num::{NoMemory, Seq};
 use serde_json::Value;

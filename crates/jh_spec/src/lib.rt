@@ -4,6 +4,7 @@
 mod cell;
 mod cpus;
 mod fault;
+pub mod json;
 mod list;
 mod name;
 mod numbers;

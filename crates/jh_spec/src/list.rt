@@ -1,8 +1,7 @@
 //! Lists.
 ghost use Rattle.std.specs.Prelude.{◌≡◌, ◌≤◌, length, IfOk, IfSome};
 ghost use Rattle.serde_json.specs.View.{view};
-ghost use Rattle.jh_spec.specs.Told.{list_told};
-ghost use Rattle.jh_spec.specs.Cells.{list_at};
+ghost use Rattle.jh_spec.specs.Json.{list_told, list_at};
 
 use crate::told::Told;
 use jh_num::{NoMemory, Seq};

@@ -1,19 +1,10 @@
 //! Whole numbers, which must fit their field.
-ghost use Rattle.std.specs.Prelude.{◌≡◌, ◌<◌, IfSome, replicate};
-ghost use Rattle.serde_json.specs.View.{view};
-ghost use Rattle.jh_spec.specs.Told.{number_below, u8_told, u16_told, u32_told, u64_told, words_told};
+ghost use Rattle.std.specs.Prelude.{replicate};
+ghost use Rattle.jh_spec.specs.Told.{u8_told, u16_told, u32_told, u64_told, words_told};
 
+use crate::json::number_below;
 use crate::told::Told;
 use serde_json::Value;
-
-/// A whole number below the limit.
-fn number_below(value: &Value, limit: u64) -> Option<u64>
-    ensures value { result ≡ number_below limit (view value.now) }
-    ensures below { IfSome result (λ number. number < limit) }
-{
-    let number = value.as_u64()?;
-    if number < limit { Some(number) } else { None }
-}
 
 impl Told for u8 {
     ghost tells = { u8_told };

@@ -2,7 +2,8 @@
 ghost use Rattle.jh_spec.specs.Told.{region_told, irqchip_told, device_told, console_told};
 ghost use Rattle.jh_spec.specs.Cells.{no_region, no_irqchip, no_device, no_console};
 
-use crate::told::{Told, has_only, member};
+use crate::json::has_only;
+use crate::told::{Told, member};
 use jh_cellcfg::{Console, Irqchip, PciDevice, Region};
 use serde_json::Value;
 

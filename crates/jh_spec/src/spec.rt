@@ -2,7 +2,8 @@
 ghost use Rattle.std.specs.Prelude.{◌≡◌, IfOk, IfErr, is_some, true};
 ghost use Rattle.serde_json.specs.Find.{as_object};
 ghost use Rattle.serde_json.specs.View.{view};
-ghost use Rattle.jh_spec.specs.Specs.{IsText, Tells, MayBeWritten, IsUnread, kind_told, object_told};
+ghost use Rattle.jh_spec.specs.Json.{IsText};
+ghost use Rattle.jh_spec.specs.Specs.{Tells, MayBeWritten, IsUnread, kind_told, object_told};
 ghost use Rattle.jh_spec.specs.Faults.{Answers};
 ghost use Rattle.jh_spec.specs.declared.spec.SpecFault.TheVariants.{NoMemory as OutOfMemory};
 

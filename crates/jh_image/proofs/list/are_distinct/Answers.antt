@@ -3,7 +3,7 @@ use Rattle.std.proofs.Common.{◌+◌, ◌&&◌, not, drop, map, sym, ap, ◌∙
 use Rattle.std.specs.List.{list_any}
 use Rattle.jh_image.specs.declared.board.ProgramFile.{ProgramFile}
 use Rattle.jh_image.specs.Boards.{are_distinct, seat_of, is_seat}
-use Rattle.jh_image.proofs.ValueLemmas.{distinct-at, distinct-end, later-is}
+use Rattle.jh_image.proofs.SeatLemmas.{distinct-at, distinct-end, later-is}
 use Rattle.jh_image.proofs.list.are_distinct.Goals as goal
 
 pub returns-then-not-is_another : goal.returns-then-not-is_another

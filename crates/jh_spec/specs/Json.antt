@@ -1,4 +1,4 @@
--- What a JSON value tells: texts, whole numbers, lists, and objects with the names that are listed.
+-- What a JSON value tells: whole numbers, lists, and objects with the names that are listed.
 use Rattle.std.specs.Prelude.{◌≡◌, ℕ, Bool, false, nat_lt, nat_le, nat_eq, List, [], ◌∷◌, length, Option, Some, None, is_none, option_map, option_and_then, if◌then◌else◌, IsUtf8}
 use Rattle.std.specs.List.{list_any}
 use Rattle.std.specs.Option.{option_map_or}
@@ -52,13 +52,20 @@ number_below limit d = option_and_then (λ n. if nat_lt n limit then Some n else
 -- ---- lists
 
 -- what each item tells, where all tell something
-unfoldable pub items_told : {X : Type 0} → (Data → Option X) → Items → Option (List X)
+abbrev pub items_told : {X : Type 0} → (Data → Option X) → Items → Option (List X)
 items_told tells no_items = Some []
 items_told tells (item d ds) = option_and_then (λ x. option_map (λ xs. x ∷ xs) (items_told tells ds)) (tells d)
+
+abbrev pub list_told : {X : Type 0} → (Data → Option X) → Data → Option (List X)
+list_told tells d = option_and_then (items_told tells) (as_array d)
 
 -- a list of at most so many
 abbrev pub at_most : {X : Type 0} → ℕ → List X → Option (List X)
 at_most most xs = if nat_le (length xs) most then Some xs else None
 
-abbrev pub list_told : {X : Type 0} → (Data → Option X) → ℕ → Data → Option (List X)
-list_told tells most d = option_and_then (λ ds. option_and_then (at_most most) (items_told tells ds)) (as_array d)
+abbrev pub short_list_told : {X : Type 0} → (Data → Option X) → ℕ → Data → Option (List X)
+short_list_told tells most d = option_and_then (at_most most) (list_told tells d)
+
+-- the list of this name, which is empty where the member is missing
+abbrev pub list_at : {X : Type 0} → (Data → Option X) → ℕ → List ℕ → Data → Option (List X)
+list_at tells most name d = told_or (short_list_told tells most) [] (get name d)

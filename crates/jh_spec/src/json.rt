@@ -1,42 +1,34 @@
-//! What a JSON value tells.
+//! What a JSON value tells, for every text of ours that is JSON.
 ghost use Rattle.std.specs.Prelude.{◌≡◌, option_map, map, nat_eq, IfSome, ◌<◌};
 ghost use Rattle.std.specs.List.{list_any};
 ghost use Rattle.std.specs.Cmp.Lexicographic.{pointwise};
 ghost use Rattle.serde_json.specs.Find.{as_str};
 ghost use Rattle.serde_json.specs.View.{view, members_view};
-ghost use Rattle.jh_image.specs.Told.{told_at, first_unlisted, unlisted, has_only, number_told, number_below};
+ghost use Rattle.jh_spec.specs.Json.{told_at, first_unlisted, unlisted, has_only, number_told, number_below};
 
 use serde_json::{Map, Value};
 
 /// The text that the member of this name is.
-pub(crate) fn text_at<'v>(object: &'v Value, name: &str) -> Option<&'v str>
+pub fn text_at<'v>(object: &'v Value, name: &str) -> Option<&'v str>
     ensures { option_map (λ text. text.now) result ≡ told_at as_str name.now (view object.now) }
 {
     object.get(name)?.as_str()
 }
 
 /// The whole number that the member of this name is.
-pub(crate) fn number_at(object: &Value, name: &str) -> Option<u64>
+pub fn number_at(object: &Value, name: &str) -> Option<u64>
     ensures { result ≡ told_at number_told name.now (view object.now) }
 {
     object.get(name)?.as_u64()
 }
 
 /// A whole number below the limit.
-fn number_below(value: &Value, limit: u64) -> Option<u64>
+pub fn number_below(value: &Value, limit: u64) -> Option<u64>
     ensures value { result ≡ number_below limit (view value.now) }
     ensures below { IfSome result (λ number. number < limit) }
 {
     let number = value.as_u64()?;
     if number < limit { Some(number) } else { None }
-}
-
-/// The number of a CPU that the member of this name is.
-pub(crate) fn cpu_at(object: &Value, name: &str) -> Option<u8>
-    ensures { result ≡ told_at (number_below 16) name.now (view object.now) }
-{
-    let number = number_below(object.get(name)?, 16)?;
-    Some(number as u8)
 }
 
 /// Whether the name is one of these.
@@ -59,7 +51,7 @@ fn first_unlisted_of<'v>(members: &'v Map<String, Value>, names: &[&str]) -> Opt
 }
 
 /// The first name of an object that isn't listed.
-pub(crate) fn first_unlisted<'v>(object: &'v Value, names: &[&str]) -> Option<&'v str>
+pub fn first_unlisted<'v>(object: &'v Value, names: &[&str]) -> Option<&'v str>
     ensures { option_map (λ name. name.now) result ≡ unlisted (map (λ listed. listed.now) names.now) (view object.now) }
 {
     let members = object.as_object()?;
@@ -67,7 +59,7 @@ pub(crate) fn first_unlisted<'v>(object: &'v Value, names: &[&str]) -> Option<&'
 }
 
 /// Whether the value is an object, and has no other names than these.
-pub(crate) fn has_only(object: &Value, names: &[&str]) -> bool
+pub fn has_only(object: &Value, names: &[&str]) -> bool
     ensures { result ≡ has_only (map (λ name. name.now) names.now) (view object.now) }
 {
     object.is_object() && first_unlisted(object, names).is_none()

@@ -1,8 +1,0 @@
-use Rattle.std.proofs.Common.{◌≡◌, map}
-use Rattle.serde_json.specs.View.{members_view}
-use Rattle.jh_image.specs.Told.{first_unlisted}
-use Rattle.jh_image.proofs.ValueLemmas.{key_unlisted}
-use Rattle.jh_image.proofs.value.first_unlisted_of.Given as goal
-
-abbrev pub invariant-loop-name : goal.invariant-loop-name
-invariant-loop-name l = key_unlisted (map (λ listed. listed.now) l.names) l.name-iterator ≡ first_unlisted (map (λ listed. listed.now) l.names) (members_view l.fn.members.entries)
