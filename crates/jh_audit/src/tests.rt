@@ -6,7 +6,7 @@ ghost use Rattle.jh_history.specs.Admitted.{IsAdmitted, IsBuilt};
 use crate::plain::{LIMIT, Plain};
 use crate::{AUDIT_LIMIT, Verdict, audit};
 use jh_board::play;
-use jh_history::{Act, Entry, Journal, is_admitted, is_built};
+use jh_history::{Act, Entry, Journal, admit, is_built};
 use jh_num::{NoMemory, Seq};
 use jh_script::{Image, Program, read_program};
 use jh_syscfg::read_system;
@@ -79,7 +79,8 @@ fn ready(rt: &impl Abort, alloc: Global, zero: &str, one: &str) -> Result<Image,
     ensures built { IfOk result IsBuilt }
 {
     let image = image(alloc, zero, one)?;
-    assert!(rt; is_admitted(&image));
+    let admitted = admit(alloc, &image)?;
+    assert!(rt; admitted);
     assert!(rt; is_built(&image));
     Ok(image)
 }

@@ -1,53 +1,104 @@
--- Bytes as functions, and numbers that bytes spell.
-use Rattle.std.proofs.Common.{◌≡◌, ◌≢◌, ℕ, ◌+◌, ◌-◌, ◌*◌, ◌/◌, ◌%◌, ◌^◌, ◌<◌, ◌≤◌, List, get_or, drop, length, map, sym, ◌∙◌, ap, arith, inl, inr}
-use Rattle.std.proofs.lemmas.Bool.{cases_eq}
-use Rattle.std.proofs.lemmas.Bool.Decides.{nat_tests}
-use Rattle.std.proofs.lemmas.Grind.{pow_more}
-use Rattle.std.proofs.lemmas.List.{drop_more}
-use Rattle.std.proofs.Math.Nat.{pow-le-pow_right}
-use Rattle.jh_history.specs.Access.{with_byte, written, spelled}
+-- Bytes of memory at places.
+use Rattle.std.proofs.Common.{◌≡◌, ◌≢◌, ℕ, zero, suc, ◌+◌, ◌-◌, ◌/◌, ◌%◌, ◌<◌, ◌≤◌, List, [], ◌∷◌, ◌++◌, true, false, cond, eqb, refl, sym, ◌∙◌, ap, subst, arith, inl, inr}
+use Rattle.std.specs.Prelude.{All, IsSome}
+use Rattle.std.specs.List.{AllByRecursion}
+use Rattle.std.proofs.lemmas.Bool.{cases_eq, eq-eqb, ne_eqb, true≢false, false≢true}
+use Rattle.std.proofs.lemmas.List.{append-nil}
+use Rattle.std.proofs.lemmas.List.Elements.{recursion_from_All, All-from_recursion}
+use Rattle.jh_history.specs.declared.place.Place.{Place}
+use Rattle.jh_history.specs.declared.place.Place.TheVariants.{Physical, Page}
+use Rattle.jh_history.specs.Places.{is_same, is_physical, further, places_in_row, with_byte, over, written}
 use Rattle.jh_history.proofs.FactsLemmas.{same_function}
+use Rattle.jh_history.proofs.PlaceLemmas.{further-none, further-next, row-next, row-end, written-over}
+use Rattle.jh_board.specs.Pages.{byte_at, byte_of, page_at, Holds, HoldsPlace}
 
--- bytes that differ at one place
-pub one_byte : (f g : ℕ → ℕ) (p v : ℕ) → g p ≡ v → ((q : ℕ) → q ≢ p → g q ≡ f q) → g ≡ with_byte f p v
-one_byte f g p v at others = same_function g (with_byte f p v) (λ q.
-    let goal : (q ≡ p) → g q ≡ with_byte f p v q = λ e. grind (arith, nat_tests) in
-    let other : q ≢ p → g q ≡ with_byte f p v q = λ n. let same : g q ≡ f q = others q n in grind (arith, nat_tests) in
-    elim (cases_eq q p) [ inl e ↦ goal e | inr n ↦ other n ])
+abbrev Pages : Type 0
+Pages = List (ℕ × List ℕ)
+
+-- pages with the same bytes at each address have them at each place
+pub byte_of-same : (old new : Pages) → ((a : ℕ) → byte_at new a ≡ byte_at old a) → (q : Place) → byte_of new q ≡ byte_of old q
+byte_of-same old new same (Physical a) = same a
+byte_of-same old new same (Page cell offset) = refl
+
+pub HoldsPlace-same : (old new : Pages) → ((a : ℕ) → Holds old a → Holds new a) → (q : Place) → HoldsPlace old q → HoldsPlace new q
+HoldsPlace-same old new same (Physical a) h = same a h
+HoldsPlace-same old new same (Page cell offset) h = absurd h
+
+-- one byte that was written
+pub with_byte-written : (old new : Pages) (address byte : ℕ) → byte_at new address ≡ byte → ((a : ℕ) → a ≢ address → byte_at new a ≡ byte_at old a) → (q : Place) → byte_of new q ≡ with_byte (byte_of old) (Physical address) byte q
+with_byte-written old new address byte at others (Physical a) = elim (cases_eq a address) [
+  | inl e ↦ ap (byte_at new) e ∙ at ∙ (let t : eqb a address ≡ true = eq-eqb a address e in rw t refl)
+  | inr n ↦ others a n ∙ (let t : eqb a address ≡ false = ne_eqb a address n in rw t refl)
+]
+with_byte-written old new address byte at others (Page cell offset) = refl
+
+-- a page is the first's or the last's of a run
+two_pages : (pages : Pages) (p k n : ℕ) → k ≤ n → n < 8 → Holds pages p → Holds pages (p + n) → Holds pages (p + k)
+two_pages pages p k n le few first last =
+    let P : ℕ → Type 0 = λ number. IsSome (page_at pages number) in
+    elim (cases_eq ((p + k) / 4096) (p / 4096)) [
+      | inl e ↦ subst P (sym e) first
+      | inr other ↦ let e : (p + k) / 4096 ≡ (p + n) / 4096 = omega arith in subst P (sym e) last
+    ]
+
+pub held-between : (pages : Pages) (p : Place) (k n : ℕ) → k ≤ n → n < 8 → HoldsPlace pages p → HoldsPlace pages (further p n) → HoldsPlace pages (further p k)
+held-between pages (Physical a) k n le few first last = two_pages pages a k n le few first last
+held-between pages (Page cell offset) k n le few first last = absurd first
+
+each_held : (pages : Pages) (p : Place) (count : ℕ) → ((k : ℕ) → k < count → HoldsPlace pages (further p k)) → AllByRecursion (HoldsPlace pages) (places_in_row p count)
+each_held pages p zero each = tt
+each_held pages p (suc count) each = (
+  subst (HoldsPlace pages) (further-none p) (each 0 (omega arith)),
+  each_held pages (further p 1) count (λ k lt. subst (HoldsPlace pages) (sym (further-next p k)) (each (k + 1) (omega arith))),
+)
+
+-- so all of a run is held where its first and its last place are
+pub row-held : (pages : Pages) (p : Place) (count : ℕ) → 0 < count → count ≤ 8 → HoldsPlace pages p → HoldsPlace pages (further p (count - 1)) → All (HoldsPlace pages) (places_in_row p count)
+row-held pages p count some few first last =
+    All-from_recursion (HoldsPlace pages) (places_in_row p count) (each_held pages p count (λ k lt. held-between pages p k (count - 1) (omega arith) (omega arith) first last))
+
+-- the k-th place of a run is one of its places
+at_place : (Q : Place → Type 0) (p : Place) (count k : ℕ) → k < count → AllByRecursion Q (places_in_row p count) → Q (further p k)
+at_place Q p zero k lt all = absurd (omega arith)
+at_place Q p (suc count) zero lt all = subst Q (sym (further-none p)) all.0
+at_place Q p (suc count) (suc k) lt all = let e : k + 1 ≡ suc k = omega arith in subst Q (further-next p k ∙ ap (further p) e) (at_place Q (further p 1) count k (omega arith) all.1)
+
+pub All-at_place : (Q : Place → Type 0) (p : Place) (count k : ℕ) → k < count → All Q (places_in_row p count) → Q (further p k)
+All-at_place Q p count k lt all = at_place Q p count k lt (recursion_from_All Q (places_in_row p count) all)
+
+-- the parts of what holds of all
+pub All-low : (Q : Place → Type 0) (xs ys : List Place) → All Q (xs ++ ys) → All Q xs
+All-low Q xs ys all = All-from_recursion Q xs (low_of xs (recursion_from_All Q (xs ++ ys) all))
+  where
+    low_of : (zs : List Place) → AllByRecursion Q (zs ++ ys) → AllByRecursion Q zs
+    low_of [] h = tt
+    low_of (z ∷ zs) h = (h.0, low_of zs h.1)
+
+pub All-high : (Q : Place → Type 0) (xs ys : List Place) → All Q (xs ++ ys) → All Q ys
+All-high Q xs ys all = All-from_recursion Q ys (high_of xs (recursion_from_All Q (xs ++ ys) all))
+  where
+    high_of : (zs : List Place) → AllByRecursion Q (zs ++ ys) → AllByRecursion Q ys
+    high_of [] h = h
+    high_of (z ∷ zs) h = high_of zs h.1
+
+pub All-both : (Q : Place → Type 0) (xs ys : List Place) → All Q xs → All Q ys → All Q (xs ++ ys)
+All-both Q xs ys low high = All-from_recursion Q (xs ++ ys) (both_of xs (recursion_from_All Q xs low))
+  where
+    both_of : (zs : List Place) → AllByRecursion Q zs → AllByRecursion Q (zs ++ ys)
+    both_of [] h = recursion_from_All Q ys high
+    both_of (z ∷ zs) h = (h.0, both_of zs h.1)
 
 -- one byte of a write
-pub write_more : (f g : ℕ → ℕ) (ps : List ℕ) (i rest d : ℕ) → i < length ps → g (get_or ps i d) ≡ rest % 256
-    → ((q : ℕ) → q ≢ get_or ps i d → g q ≡ f q) → written g (drop (i + 1) ps) (rest / 256) ≡ written f (drop i ps) rest
-write_more f g ps i rest d within at others =
-    ap (λ h. written h (drop (i + 1) ps) (rest / 256)) (one_byte f g (get_or ps i d) (rest % 256) at others)
-    ∙ sym (ap (λ qs. written f qs rest) (drop_more ps i d within))
+pub over-more : (old new : Pages) (p at : Place) (byte k n rest : ℕ) (places : List Place) (q : Place) → k < n → at ≡ further p k → byte ≡ rest % 256 → byte_of new q ≡ with_byte (byte_of old) at byte q
+    → over (places_in_row (further p (k + 1)) (n - (k + 1)) ++ places) (rest / 256) q (byte_of new q) ≡ over (places_in_row (further p k) (n - k) ++ places) rest q (byte_of old q)
+over-more old new p at byte k n rest places q lt is_at is_byte is =
+    rw (is, is_at, is_byte) (ap (λ (ps : List Place). over (ps ++ places) rest q (byte_of old q)) (sym (row-next p k n lt)))
 
--- a value of one byte more
-pub byte_fits : (v b m : ℕ) → v < 256 ^ m → b < 256 → v * 256 + b < 256 ^ (m + 1)
-byte_fits v b m small byte = rw (pow_more 256 m) (grind arith)
-
--- eight bytes fit
-pub word_fits : (v m : ℕ) → m ≤ 8 → v < 256 ^ m → v < 2 ^ 64
-word_fits v m few small = let le : 256 ^ m ≤ 256 ^ 8 = pow-le-pow_right (omega arith) few in omega arith
-
--- the places from j on spell one byte more than those behind it
-pub spelled-drop : (f : ℕ → ℕ) (ps : List ℕ) (j d v : ℕ) → j < length ps → v ≡ spelled (map f (drop (j + 1) ps)) → v * 256 + f (get_or ps j d) ≡ spelled (map f (drop j ps))
-spelled-drop f ps j d v within e = rw (drop_more ps j d within) (grind arith)
-
--- the same where the bytes are counted from the end of n places
-pub byte_fits_from : (v b n k : ℕ) → 0 < k → k ≤ n → v < 256 ^ (n - k) → b < 256 → v * 256 + b < 256 ^ (n - (k - 1))
-byte_fits_from v b n k above within small byte =
-    let e : n - (k - 1) ≡ (n - k) + 1 = omega arith in rw e (byte_fits v b (n - k) small byte)
-
--- and they fit a word where the places are at most eight
-pub word_fits_from : (v b n k : ℕ) → 0 < k → k ≤ n → n ≤ 8 → v < 256 ^ (n - k) → b < 256 → v * 256 + b < 2 ^ 64
-word_fits_from v b n k above within few small byte =
-    let fits : v * 256 + b < 256 ^ (n - (k - 1)) = byte_fits_from v b n k above within small byte in
-    let le : n - (k - 1) ≤ 8 = omega arith in word_fits (v * 256 + b) (n - (k - 1)) le fits
-
-pub spelled-drop_from : (f : ℕ → ℕ) (ps : List ℕ) (k d v : ℕ) → 0 < k → k ≤ length ps → v ≡ spelled (map f (drop k ps)) → v * 256 + f (get_or ps (k - 1) d) ≡ spelled (map f (drop (k - 1) ps))
-spelled-drop_from f ps k d v above within e =
-    let next : (k - 1) + 1 ≡ k = omega arith in
-    let lt : k - 1 < length ps = omega arith in
-    let e' : v ≡ spelled (map f (drop ((k - 1) + 1) ps)) = rw next e in
-    spelled-drop f ps (k - 1) d v lt e'
+-- the two runs of a write
+pub written-runs : (old middle new : Pages) (low high places : List Place) (value rest last : ℕ) (q : Place) → places ≡ low ++ high
+    → ((ps : List Place) → over ps rest q (byte_of middle q) ≡ over (low ++ ps) value q (byte_of old q))
+    → ((ps : List Place) → over ps last q (byte_of new q) ≡ over (high ++ ps) rest q (byte_of middle q))
+    → byte_of new q ≡ written (byte_of old) places value q
+written-runs old middle new low high places value rest last q is first second =
+    second [] ∙ first (high ++ []) ∙ ap (λ (ps : List Place). over (low ++ ps) value q (byte_of old q)) (append-nil high)
+    ∙ ap (λ (ps : List Place). over ps value q (byte_of old q)) (sym is) ∙ sym (written-over (byte_of old) places value q)

@@ -1,15 +1,19 @@
 -- What a board holds, by the facts.
 use Rattle.std.proofs.Common.{◌≡◌, ◌≢◌, ℕ, ◌<◌, ◌≤◌, List, [], Some, None, refl, sym, ◌∙◌, ap, subst, length, get_or, set, false}
-use Rattle.std.specs.Prelude.{slice_get, replicate}
+use Rattle.std.specs.Prelude.{slice_get, replicate, fold}
 use Rattle.std.proofs.lemmas.Option.{get_or_from_slice_get, slice_get-get_or, slice_get_within}
 use Rattle.std.proofs.lemmas.List.{get_or-set_same, get_or-set_other, length-set, length-replicate, get_or-replicate}
 use Rattle.jh_script.specs.declared.image.Image.{Image}
 use Rattle.jh_history.specs.declared.entry.Entry.{Entry}
-use Rattle.jh_history.specs.declared.cpu.Cpu.{Cpu}
-use Rattle.jh_history.specs.Facts.{Facts, facts, start, after, byte_after, cpu_after}
+use Rattle.jh_cpu.specs.declared.cpu.Cpu.{Cpu}
+use Rattle.jh_history.specs.Facts.{Facts}
+use Rattle.jh_history.specs.History.{facts, start, after}
+use Rattle.jh_history.specs.Bytes.{byte_after, preloaded}
+use Rattle.jh_history.specs.Cpus.{cpu_after}
 use Rattle.jh_history.proofs.FactsLemmas.{facts-nil}
-use Rattle.jh_history.proofs.PositionLemmas.{position_le}
-use Rattle.jh_board.specs.Pages.{byte_at}
+use Rattle.jh_history.specs.declared.place.Place.{Place}
+use Rattle.jh_history.specs.declared.place.Place.TheVariants.{Physical, Page}
+use Rattle.jh_board.specs.Pages.{byte_at, byte_of}
 use Rattle.jh_board.specs.Held.{Held}
 use Rattle.jh_board.specs.Means.{Means}
 
@@ -23,14 +27,14 @@ slice_get-set_other xs i j x y n e =
 
 -- what is held after an entry
 pub Means-made : (image : Image) (f : Facts) (entry : Entry) (old new : Held) → Means old f
-    → ((q : ℕ) → byte_at new.pages q ≡ byte_after image f entry.cell entry.act q)
+    → ((q : Place) → byte_of new.pages q ≡ byte_after image f entry.cell entry.act q)
     → ((i : ℕ) → i < 16 → slice_get new.states i ≡ Some (cpu_after f entry i))
     → Means new (after image f entry)
 unfolding after
 Means-made image f entry old new means bytes cpus = record { bytes = bytes; cpus = cpus }
 
 -- what is held with the same bytes
-pub Means-same : (f : Facts) (old new : Held) → Means old f → ((q : ℕ) → byte_at new.pages q ≡ byte_at old.pages q) → new.states ≡ old.states → Means new f
+pub Means-same : (f : Facts) (old new : Held) → Means old f → ((q : Place) → byte_of new.pages q ≡ byte_of old.pages q) → new.states ≡ old.states → Means new f
 Means-same f old new means bytes states = record {
   bytes = λ q. bytes q ∙ means.bytes q;
   cpus = λ i lt. ap (λ (s : List Cpu). slice_get s i) states ∙ means.cpus i lt;
@@ -41,15 +45,14 @@ pub slice_get-replicate : {X : Type 0} (n i : ℕ) (x : X) → i < n → slice_g
 slice_get-replicate n i x lt = slice_get-get_or (replicate n x) i x (rw (length-replicate n x) lt) ∙ ap Some (get_or-replicate n i x x lt)
 
 -- what is held at opening
-pub Means-opened : (image : Image) (pages : List (ℕ × List ℕ)) (cpu : Cpu) → ((q : ℕ) → byte_at pages q ≡ (start image).byte q) → ((i : ℕ) → cpu ≡ (start image).cpu i)
+pub Means-opened : (image : Image) (pages : List (ℕ × List ℕ)) (cpu : Cpu) → ((q : Place) → byte_of pages q ≡ (start image).byte q) → ((i : ℕ) → cpu ≡ (start image).cpu i)
     → Means (record { pages = pages; states = replicate 16 cpu }) (facts image [])
 Means-opened image pages cpu bytes same = rw (facts-nil image) (record {
   bytes = bytes;
   cpus = λ i lt. slice_get-replicate 16 i cpu lt ∙ ap Some (same i);
 })
 
--- positions are at most the number of entries
-pub few_positions : (image : Image) (entries : List Entry) (held : Held) → Means held (facts image entries) → (k : ℕ) (d : Cpu) → k < 16 → (get_or held.states k d).position ≤ length entries
-few_positions image entries held means k d lt =
-    let P : Cpu → Type 0 = λ s. s.position ≤ length entries in
-    subst P (sym (get_or_from_slice_get held.states k ((facts image entries).cpu k) d (means.cpus k lt))) (position_le image entries k)
+-- memory at opening
+pub opened-bytes : (image : Image) (pages : List (ℕ × List ℕ)) → ((a : ℕ) → byte_at pages a ≡ fold preloaded (λ _. 0) image.preloads a) → (q : Place) → byte_of pages q ≡ (start image).byte q
+opened-bytes image pages same (Physical a) = same a
+opened-bytes image pages same (Page cell offset) = refl

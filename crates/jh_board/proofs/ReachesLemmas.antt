@@ -4,7 +4,7 @@ use Rattle.std.proofs.lemmas.List.{take_more, take-append-drop}
 use Rattle.jh_script.specs.declared.image.Image.{Image}
 use Rattle.jh_history.specs.declared.entry.Entry.{Entry}
 use Rattle.std.specs.Prelude.{IsTrue}
-use Rattle.jh_history.specs.Cells.{is_on_board}
+use Rattle.jh_history.specs.Lives.{is_on_board}
 use Rattle.jh_history.specs.Due.{due, IsQuiet}
 use Rattle.jh_history.specs.Items.{with_due, items, rounds, cpus_of, played}
 use Rattle.jh_board.specs.declared.schedule.Ended.{Ended}

@@ -1,6 +1,6 @@
 -- What a board holds: pages by number, and the states of CPUs.
 use Rattle.std.specs.Prelude.{ℕ, List}
-use Rattle.jh_history.specs.declared.cpu.Cpu.{Cpu}
+use Rattle.jh_cpu.specs.declared.cpu.Cpu.{Cpu}
 use Rattle.jh_script.specs.declared.image.Image.{Image}
 
 pub record Held : Type 0 where

@@ -1,9 +1,10 @@
 -- What is true of every image with an index.
+use Rattle.std.specs.Prelude.{◌≡◌}
 use Rattle.jh_history.specs.Admitted.{IsAdmitted}
-use Rattle.jh_board.specs.Indexed.{AreRootPrograms, IsRegionIndex}
+use Rattle.jh_board.specs.Indexed.{AreRootPrograms}
 use Rattle.jh_board.specs.declared.indexed.IndexedImage.TheInside.{Inside}
 
 pub record IsIndexed (s : Inside) : Type 0 where
   pub admitted : IsAdmitted s.image
   pub programs : AreRootPrograms s.image s.programs
-  pub regions : IsRegionIndex s.image.system.root.memory_regions s.regions.items
+  pub regions : s.regions ≡ s.image.system.root.memory_regions

@@ -1,6 +1,6 @@
 -- What is true of every board.
-use Rattle.std.specs.Prelude.{◌≤◌, length}
-use Rattle.jh_history.specs.Facts.{facts}
+use Rattle.std.specs.Prelude.{◌<◌, ◌≤◌, length}
+use Rattle.jh_history.specs.History.{facts}
 use Rattle.jh_history.specs.Due.{IsLegal}
 use Rattle.jh_history.specs.Admitted.{IsAdmitted, IsBuilt}
 use Rattle.jh_board.specs.Means.{Means}
@@ -12,3 +12,4 @@ pub record Stands (b : Inside) : Type 0 where
   pub legal : IsLegal b.image b.journal.entries
   pub within : length b.journal.entries ≤ b.limit
   pub means : Means (record { pages = b.memory; states = b.cpus }) (facts b.image b.journal.entries)
+  pub last : b.last < 16

@@ -1,19 +1,21 @@
 //! The board.
-ghost use Rattle.std.specs.Prelude.{◌≡◌, ℕ, ◌+◌, ◌<◌, ◌≤◌, ◌↔◌, [], ◌∷◌, ◌++◌, length, Some, None, IsSome, IsTrue, IfOk, IfErr, OnErr};
-ghost use Rattle.jh_history.specs.Cells.{is_on_board};
+ghost use Rattle.std.specs.Prelude.{◌≡◌, ℕ, ◌+◌, ◌<◌, ◌≤◌, ◌↔◌, [], ◌∷◌, ◌++◌, length, Some, None, IsSome, IfSome, IsTrue, IfOk, IfErr, OnErr};
+ghost use Rattle.jh_history.specs.Lives.{is_on_board};
 ghost use Rattle.jh_history.specs.Due.{due, IsLegal, IsQuiet};
-ghost use Rattle.jh_history.specs.Facts.{facts, start};
+ghost use Rattle.jh_history.specs.History.{facts, start};
 ghost use Rattle.jh_history.specs.Admitted.{IsAdmitted, IsBuilt};
-ghost use Rattle.jh_board.specs.Pages.{byte_at};
+ghost use Rattle.jh_history.specs.declared.place.Place.{Place as ThePlace};
+ghost use Rattle.jh_board.specs.Pages.{byte_of};
 ghost use Rattle.jh_board.specs.Means.{Means};
 ghost use Rattle.jh_board.specs.Turns.{Turns, Refuses, Advances};
 
 use crate::indexed::IndexedImage;
 use crate::memory::Memory;
-use crate::state::{is_quiet, next_of};
+use crate::state::{is_quiet, next_step};
 use crate::steps::make;
 use crate::turn::{Turn, TurnFault};
-use jh_history::{Cpu, Entry, Journal, opening_cpu};
+use jh_cpu::Cpu;
+use jh_history::{Entry, Journal};
 use jh_num::{NoMemory, Steps};
 use jh_script::Image;
 use std::alloc::Global;
@@ -26,6 +28,8 @@ pub struct Board {
     memory: Memory,
     cpus: [Cpu; 16],
     journal: Journal,
+    /// The CPU that made the last entry: it mostly has the next one due.
+    last: u8,
 }
 
 impl Model for Board {
@@ -49,7 +53,6 @@ fn advance(
     limit: u32,
     cpu: u8,
 ) -> Result<Option<Entry>, TurnFault>
-    requires admitted { IsAdmitted image.now }
     requires cpus { length cpus.old ≡ 16 }
     requires cpu { cpu < 16 }
     requires within { length journal.old.entries ≤ limit }
@@ -58,17 +61,19 @@ fn advance(
     ensures full { result ≡ Err TurnFault.Full → IsSome (due image.now journal.old.entries cpu) × (length journal.old.entries ≡ limit) }
     ensures err { OnErr result (journal.new.entries ≡ journal.old.entries) }
     ensures means { Means (record { pages = memory.new; states = cpus.new }) (facts image.now journal.new.entries) }
+    ensures cpu { IfOk result (λ made. IfSome made (λ entry. entry.cpu ≡ cpu)) }
 {
-    let Some(entry) = next_of(image, memory, cpus, cpu) else {
+    image.has_few_cpus();
+    let Some(step) = next_step(image, memory, cpus, cpu) else {
         return Ok(None);
     };
     if journal.len() >= limit as usize {
         return Err(TurnFault::Full);
     }
     journal.reserve(1)?;
-    make(image, memory, cpus, entry)?;
-    match journal.push(entry) {
-        Ok(()) => Ok(Some(entry)),
+    make(memory, cpus, &step.entry, &step.reach)?;
+    match journal.push(step.entry) {
+        Ok(()) => Ok(Some(step.entry)),
         Err(_) => unreachable!(),
     }
 }
@@ -76,7 +81,7 @@ fn advance(
 /// The memory at opening.
 fn load(alloc: Global, image: &Image) -> Result<Memory, NoMemory>
     requires { IsAdmitted image.now }
-    ensures { IfOk result (λ memory. (q : ℕ) → byte_at memory q ≡ (start image.now).byte q) }
+    ensures { IfOk result (λ memory. (q : ThePlace) → byte_of memory q ≡ (start image.now).byte q) }
 {
     let mut memory = Memory::new(alloc);
     for preload in image.preloads.as_slice() {
@@ -93,7 +98,7 @@ impl Board {
         ensures ok { IfOk result (λ board. board ≡ record { image = image; limit = limit; entries = [] }) }
         ensures err { IfErr result (λ back. back ≡ image) }
     {
-        let cpus = [opening_cpu(&image); 16];
+        let cpus = [Cpu::new(image.system.root.id); 16];
         let memory = match load(alloc, &image) {
             Ok(memory) => memory,
             Err(_) => return Err(image),
@@ -105,6 +110,7 @@ impl Board {
             memory,
             cpus,
             journal: Journal::new(alloc),
+            last: 0,
         })
     }
 
@@ -121,23 +127,17 @@ impl Board {
         ensures legal { IsLegal self.now.image self.now.entries }
         ensures within { length self.now.entries ≤ self.now.limit }
         ensures admitted { IsAdmitted self.now.image }
+        ensures few { (cpu : ℕ) → IsTrue (is_on_board self.now.image cpu) → cpu < 16 }
     {
+        self.image.has_few_cpus();
         &self.journal
-    }
-
-    /// The entry that the CPU makes next.
-    pub fn next(&self, cpu: u8) -> Option<Entry>
-        requires { cpu < 16 }
-        ensures { result ≡ due self.now.image self.now.entries cpu }
-    {
-        next_of(&self.image, &self.memory, &self.cpus, cpu)
     }
 
     /// Whether nothing is due to any CPU.
     pub fn is_quiet(&self) -> bool
         ensures { IsTrue result ↔ IsQuiet self.now.image self.now.entries }
     {
-        is_quiet(&self.image, &self.memory, &self.cpus)
+        is_quiet(&self.image, &self.memory, &self.cpus, self.last)
     }
 
     /// One turn of the CPU, which makes the entry that is due to it. `Full` is tested before the
@@ -148,6 +148,7 @@ impl Board {
         ensures err { IfErr result (λ fault. Refuses self.old cpu fault self.new) }
         ensures steps { steps.new ≡ steps.old }
     {
+        self.image.has_few_cpus();
         let made = advance(
             &self.image,
             &mut self.memory,
@@ -157,7 +158,10 @@ impl Board {
             cpu,
         )?;
         match made {
-            Some(entry) => Ok(Turn::Made(entry)),
+            Some(entry) => {
+                self.last = entry.cpu;
+                Ok(Turn::Made(entry))
+            }
             None => Ok(if self.is_quiet() {
                 Turn::Done
             } else {

@@ -1,17 +1,24 @@
 //! An image with what turns look up in it, found once.
-ghost use Rattle.std.specs.Prelude.{◌≡◌, ℕ, ◌<◌, ◌≤◌, List, All, AllPairs, Contains, filter, find, nat_lt, slice_get, IfSome, IfOk, IfErr};
-ghost use Rattle.jh_cellcfg.specs.declared.region.Region.{Region as TheRegion};
-ghost use Rattle.jh_cellcfg.specs.Regions.{IsWithin};
-ghost use Rattle.jh_history.specs.Access.{reach_by, place_of as place_of_lem};
-ghost use Rattle.jh_history.specs.Admitted.{IsAdmitted, IsPlain, SharesNoAddress};
-ghost use Rattle.jh_history.specs.Cells.{name_of as name_of_lem, is_on_board as is_on_board_lem, program_of, is_program_of as is_program_of_lem, image_place};
-ghost use Rattle.jh_history.specs.Due.{op_at};
-ghost use Rattle.jh_board.specs.Indexed.{AreRootPrograms, IsRegionIndex, IsRegionAt};
+ghost use Rattle.std.specs.Prelude.{◌≡◌, ℕ, ◌<◌, ◌≤◌, List, All, IsTrue, find, slice_get, IfSome, IfOk, IfErr};
+ghost use Rattle.jh_cellcfg.specs.Cells.{name_of as name_of_lem};
+ghost use Rattle.jh_cellcfg.specs.Regions.{IsInRange};
+ghost use Rattle.jh_mmio.specs.Index.{IsRegionAt};
+ghost use Rattle.jh_script.specs.Operations.{IsPlain};
+ghost use Rattle.jh_history.specs.Access.{region_of, place_of, reach_by};
+ghost use Rattle.jh_history.specs.Admitted.{IsAdmitted};
+ghost use Rattle.jh_history.specs.Facts.{Facts};
+ghost use Rattle.jh_history.specs.Lives.{is_on_board as is_on_board_lem, program_of, is_program_of as is_program_of_lem, regions_in, op_at};
+ghost use Rattle.jh_board.specs.Indexed.{AreRootPrograms};
 
 use jh_cellcfg::Region;
-use jh_history::{Access, Cpu, Grants, Reach, is_on_board, name_of, place_of, reach};
+use jh_cpu::Cpu;
+use jh_history::{
+    Access, Grants, Reach, Wanted, admitted_roots_are_sound, gives, is_on_board, is_program_of,
+    reach,
+};
+use jh_mmio::RegionIndex;
 use jh_script::{Image, Op, Program};
-use std::alloc::{AllocError, Global};
+use std::alloc::Global;
 use std::marker::Model;
 
 /// An image. Contracts see it as the image alone.
@@ -20,8 +27,8 @@ pub struct IndexedImage {
     image: Image,
     /// Of each CPU the place of root's program among the programs, or their number where it has none.
     programs: [usize; 16],
-    /// Root's regions that aren't empty, by their first address.
-    regions: Vec<Region>,
+    /// Root's regions.
+    regions: RegionIndex,
 }
 
 impl Model for IndexedImage {
@@ -34,13 +41,6 @@ impl Model for IndexedImage {
     ghost view = { λ s. s.image };
 
     ghost invariant = { IsIndexed };
-}
-
-/// Whether the program is that of the CPU in the cell of that name.
-fn is_program_of(program: &Program, name: &[u8], cpu: u8) -> bool
-    ensures { result ≡ is_program_of_lem name.now cpu program.now }
-{
-    program.cell.as_slice() == name && program.cpu == cpu
 }
 
 /// The place of the first program of the CPU in the cell of that name, or the number of programs.
@@ -59,7 +59,7 @@ fn place_of_program(programs: &[Program], name: &[u8], cpu: u8) -> usize
 fn root_programs(image: &Image) -> [usize; 16]
     ensures { AreRootPrograms image.now result }
 {
-    let name = name_of(&image.system.root);
+    let name = image.system.root.name();
     let mut places = [0; 16];
     for cpu in 0..16u8 {
         places[cpu as usize] = place_of_program(image.programs.as_slice(), name, cpu);
@@ -67,53 +67,18 @@ fn root_programs(image: &Image) -> [usize; 16]
     places
 }
 
-/// The regions that aren't empty.
-fn not_empty(alloc: Global, regions: &[Region]) -> Result<Vec<Region>, AllocError>
-    ensures { IfOk result (λ kept. kept.items ≡ filter (λ (r : TheRegion). nat_lt 0 r.size) regions.now) }
-{
-    regions
-        .iter()
-        .filter(|r| r.size > 0)
-        .copied()
-        .collect(alloc)
-}
-
-/// The regions that aren't empty, by their first address.
-fn by_address(alloc: Global, regions: &[Region]) -> Result<Vec<Region>, AllocError>
-    ensures { IfOk result (λ index. IsRegionIndex regions.now index.items) }
-{
-    let mut index = not_empty(alloc, regions)?;
-    index.sort_by_key(|r| r.virt_start)?;
-    Ok(index)
-}
-
-/// The region that has the address, or some other or none where none has it.
-fn region_at(index: &[Region], at: u64) -> Option<Region>
-    ensures { (regions : List TheRegion) → IsRegionIndex regions index.now → AllPairs SharesNoAddress regions → IsRegionAt regions at result }
-{
-    let n = index.partition_point(|r| r.virt_start <= at);
-    if n == 0 { None } else { Some(index[n - 1]) }
-}
-
-/// The region that has the address: `found`, if it does, or else the one that the index tells.
-fn region_near(index: &[Region], found: Option<Region>, at: u64) -> Option<Region>
-    ensures { (regions : List TheRegion) → IsRegionIndex regions index.now → AllPairs SharesNoAddress regions → IfSome found (Contains regions) → IsRegionAt regions at result }
-{
-    if let Some(region) = found {
-        if region.has_address(at) {
-            return Some(region);
-        }
-    }
-    region_at(index, at)
-}
-
-/// The place that the region gives the address, with the right.
-fn place_by(region: Option<Region>, access: Access, at: u64) -> Option<u64>
-    requires { IfSome region (λ r. 0 < r.size → IsWithin r) }
-    ensures { (regions : List TheRegion) → IsRegionAt regions at region → result ≡ place_of_lem regions access at }
+/// The region, where it gives the address with the right.
+fn giving(region: Option<Region>, access: Access, at: u64) -> Option<Region>
+    ensures { (regions : List Region) → IsRegionAt regions at region → result ≡ region_of regions access at }
 {
     match region {
-        Some(region) => place_of(&[region], access, at),
+        Some(region) => {
+            if gives(&region, access, at) {
+                Some(region)
+            } else {
+                None
+            }
+        }
         None => None,
     }
 }
@@ -125,8 +90,9 @@ impl IndexedImage {
         ensures ok { IfOk result (λ indexed. indexed ≡ image) }
         ensures err { IfErr result (λ back. back ≡ image) }
     {
+        admitted_roots_are_sound(&image);
         let programs = root_programs(&image);
-        match by_address(alloc, image.system.root.memory_regions.as_slice()) {
+        match RegionIndex::new(alloc, image.system.root.memory_regions.as_slice()) {
             Ok(regions) => Ok(IndexedImage {
                 image,
                 programs,
@@ -134,6 +100,14 @@ impl IndexedImage {
             }),
             Err(_) => Err(image),
         }
+    }
+
+    /// The board has no CPU above 15. It does nothing; its contract is what holds of each image.
+    pub fn has_few_cpus(&self)
+        ensures cpus { (cpu : ℕ) → IsTrue (is_on_board_lem self.now cpu) → cpu < 16 }
+        ensures admitted { IsAdmitted self.now }
+    {
+        admitted_roots_are_sound(&self.image);
     }
 
     /// Whether the board has the CPU.
@@ -158,7 +132,7 @@ impl IndexedImage {
     /// The operation that the CPU is at, in that state.
     pub fn operation(&self, cpu: u8, state: Cpu) -> Option<Op>
         requires { cpu < 16 }
-        ensures told { result ≡ op_at self.now state cpu }
+        ensures told { (f : Facts) → result ≡ op_at self.now f state cpu }
         ensures plain { IfSome result IsPlain }
     {
         if state.owner == self.image.system.root.id {
@@ -168,56 +142,26 @@ impl IndexedImage {
         }
     }
 
-    /// The place that the cell is granted at the address; `found` is a region of root, where it is
-    /// sought first.
-    fn granted(&self, found: Option<Region>, cell: u32, access: Access, at: u64) -> Option<u64>
-        requires { IfSome found (Contains self.now.system.root.memory_regions) }
-        ensures { result ≡ image_place self.now cell access at }
+    /// What the cell's access reaches.
+    pub fn reach(&self, cell: u32, wanted: &Wanted) -> Reach
+        requires { wanted.now.width ≤ 8 }
+        ensures reach { result ≡ reach_by (place_of cell (regions_in self.now cell) wanted.now.access) wanted.now.at wanted.now.width }
     {
+        reach(self, cell, wanted)
+    }
+}
+
+impl Grants for IndexedImage {
+    ghost use Rattle.jh_history.specs.Lives.{regions_in};
+
+    ghost regions = { regions_in };
+
+    fn region(&self, cell: u32, access: Access, at: u64) -> Option<Region> {
+        admitted_roots_are_sound(&self.image);
         if cell == self.image.system.root.id {
-            place_by(region_near(self.regions.as_slice(), found, at), access, at)
+            giving(self.regions.at(at), access, at)
         } else {
             None
         }
-    }
-
-    /// What the cell's access of so many bytes reaches.
-    pub fn reach(&self, cell: u32, access: Access, at: u64, width: u8) -> Reach
-        requires { width ≤ 8 }
-        ensures { result ≡ reach_by (image_place self.now cell access) at width }
-    {
-        let near = Near {
-            image: self,
-            found: region_at(self.regions.as_slice(), at),
-        };
-        reach(&near, cell, access, at, width)
-    }
-}
-
-/// What grants places, by an image and the region of root that was found last.
-#[derive(Drop)]
-struct Near<'a> {
-    image: &'a IndexedImage,
-    found: Option<Region>,
-}
-
-impl<'a> Model for Near<'a> {
-    ghost use Rattle.std.specs.Prelude.{IfSome, Contains};
-    ghost use Rattle.jh_script.specs.declared.image.Image.{Image as TheImage};
-
-    ghost Value = { TheImage };
-
-    ghost view = { λ n. n.image.now };
-
-    ghost invariant = { λ n. IfSome n.found (Contains n.image.now.system.root.memory_regions) };
-}
-
-impl<'a> Grants for Near<'a> {
-    ghost use Rattle.jh_history.specs.Cells.{image_place};
-
-    ghost place = { image_place };
-
-    fn granted(&self, cell: u32, access: Access, at: u64) -> Option<u64> {
-        self.image.granted(self.found, cell, access, at)
     }
 }

@@ -1,10 +1,13 @@
 //! Bytes at places; a page that isn't held is zero.
-ghost use Rattle.std.specs.Prelude.{◌≡◌, ◌≢◌, ℕ, ◌+◌, ◌<◌, ◌≤◌, ◌^◌, OnOk, OnErr, IfOk, length, map, All};
-ghost use Rattle.jh_board.specs.Pages.{byte_at, Holds};
-ghost use Rattle.jh_history.specs.Access.{stored, written};
+ghost use Rattle.std.specs.Prelude.{◌≡◌, ◌≢◌, ℕ, ◌+◌, ◌<◌, ◌≤◌, ◌^◌, ◌++◌, OnOk, length, List, All, true};
+ghost use Rattle.jh_num.specs.Memory.{stored};
+ghost use Rattle.jh_history.specs.declared.place.Place.{Place as ThePlace};
+ghost use Rattle.jh_history.specs.Places.{is_physical, places_of_run, IsRun, with_byte, written, over};
+ghost use Rattle.jh_board.specs.Pages.{byte_at, byte_of, Holds, HoldsPlace};
 
 use crate::page::Page;
 use indexmap::IndexMap;
+use jh_history::{Bytes, Place, Places, Run};
 use jh_num::NoMemory;
 use std::alloc::Global;
 use std::marker::Model;
@@ -70,32 +73,84 @@ impl Memory {
         }
     }
 
-    /// Holds the pages of the places. No byte changes.
-    pub fn hold_all(&mut self, places: &[u64]) -> Result<(), NoMemory>
-        ensures bytes { (q : ℕ) → byte_at self.new q ≡ byte_at self.old q }
-        ensures held { OnOk result (All (Holds self.new) places.now) }
+    /// Holds the page of the place.
+    fn hold_place(&mut self, place: Place) -> Result<(), NoMemory>
+        requires { is_physical place ≡ true }
+        ensures bytes { (q : ThePlace) → byte_of self.new q ≡ byte_of self.old q }
+        ensures held { OnOk result (HoldsPlace self.new place) }
+        ensures others { (q : ThePlace) → HoldsPlace self.old q → HoldsPlace self.new q }
     {
-        let mut last = None;
-        for place in places {
-            let number = *place / 4096;
-            if last != Some(number) {
-                self.hold(*place)?;
-                last = Some(number);
-            }
+        match place {
+            Place::Physical(address) => self.hold(address),
+            Place::Page { .. } => unreachable!(),
         }
+    }
+
+    /// Holds the pages of the run: those of its first and its last place.
+    fn hold_run(&mut self, run: Run) -> Result<(), NoMemory>
+        requires run { IsRun run }
+        requires few { run.count ≤ 8 }
+        requires physical { All (λ p. is_physical p ≡ true) (places_of_run run) }
+        ensures bytes { (q : ThePlace) → byte_of self.new q ≡ byte_of self.old q }
+        ensures held { OnOk result (All (HoldsPlace self.new) (places_of_run run)) }
+        ensures others { (q : ThePlace) → HoldsPlace self.old q → HoldsPlace self.new q }
+    {
+        if run.count == 0 {
+            return Ok(());
+        }
+        self.hold_place(run.first)?;
+        self.hold_place(run.first.further(run.count - 1))?;
         Ok(())
     }
 
-    /// Writes the value over places that are held, the lowest byte first.
-    pub fn write_all(&mut self, places: &[u64], value: u64)
-        requires { All (Holds self.old) places.now }
-        ensures { (q : ℕ) → byte_at self.new q ≡ written (byte_at self.old) places.now value q }
+    /// Holds the pages of the places. No byte changes.
+    pub fn hold_places(&mut self, places: &Places) -> Result<(), NoMemory>
+        requires { All (λ p. is_physical p ≡ true) places.now }
+        ensures bytes { (q : ThePlace) → byte_of self.new q ≡ byte_of self.old q }
+        ensures held { OnOk result (All (HoldsPlace self.new) places.now) }
+    {
+        let (low, high) = places.runs();
+        self.hold_run(low)?;
+        self.hold_run(high)?;
+        Ok(())
+    }
+
+    /// Writes the byte at a place that is held.
+    fn write_place(&mut self, place: Place, byte: u8)
+        requires { HoldsPlace self.old place }
+        ensures bytes { (q : ThePlace) → byte_of self.new q ≡ with_byte (byte_of self.old) place byte q }
+        ensures held { (q : ThePlace) → HoldsPlace self.old q → HoldsPlace self.new q }
+    {
+        match place {
+            Place::Physical(address) => self.write(address, byte),
+            Place::Page { .. } => unreachable!(),
+        }
+    }
+
+    /// Writes the value over the places of the run, which are held, the lowest byte first, and tells what
+    /// is left of it.
+    fn write_run(&mut self, run: Run, value: u64) -> u64
+        requires run { IsRun run }
+        requires held { All (HoldsPlace self.old) (places_of_run run) }
+        ensures bytes { (places : List ThePlace) (q : ThePlace) → over places result q (byte_of self.new q) ≡ over (places_of_run run ++ places) value q (byte_of self.old q) }
+        ensures held { (q : ThePlace) → HoldsPlace self.old q → HoldsPlace self.new q }
     {
         let mut rest = value;
-        for place in places {
-            self.write(*place, (rest % 256) as u8);
+        for k in 0..run.count {
+            self.write_place(run.first.further(k), (rest % 256) as u8);
             rest /= 256;
         }
+        rest
+    }
+
+    /// Writes the value over places that are held, the lowest byte first.
+    pub fn write_places(&mut self, places: &Places, value: u64)
+        requires { All (HoldsPlace self.old) places.now }
+        ensures { (q : ThePlace) → byte_of self.new q ≡ written (byte_of self.old) places.now value q }
+    {
+        let (low, high) = places.runs();
+        let rest = self.write_run(low, value);
+        let _rest = self.write_run(high, rest);
     }
 
     /// Puts the bytes from `at` on.
@@ -109,5 +164,18 @@ impl Memory {
             self.write(place, bytes[k]);
         }
         Ok(())
+    }
+}
+
+impl Bytes for Memory {
+    ghost use Rattle.jh_board.specs.Pages.{byte_of as byte_of_lem};
+
+    ghost byte_of = { byte_of_lem };
+
+    fn byte(&self, place: Place) -> u8 {
+        match place {
+            Place::Physical(address) => self.read(address),
+            Place::Page { .. } => 0,
+        }
     }
 }

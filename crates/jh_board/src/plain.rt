@@ -13,6 +13,7 @@ pub const LIMIT: u32 = 64;
 /// A journal of an image, made by the plain definition.
 #[derive(Drop)]
 pub struct Plain {
+    alloc: Global,
     image: Image,
     journal: Journal,
 }
@@ -36,6 +37,7 @@ impl Plain {
         requires built { IsBuilt image }
     {
         Plain {
+            alloc,
             image,
             journal: Journal::new(alloc),
         }
@@ -46,7 +48,7 @@ impl Plain {
         if self.journal.len() >= LIMIT as usize || !is_on_board(&self.image, cpu) {
             return Ok(());
         }
-        let Some(entry) = due(&self.image, &self.journal, cpu)? else {
+        let Some(entry) = due(self.alloc, &self.image, &self.journal, cpu)? else {
             return Ok(());
         };
         self.journal.push(entry)?;
@@ -64,7 +66,7 @@ impl Plain {
     pub fn play(&mut self, schedule: &[u8]) -> Result<(), NoMemory> {
         self.follow(schedule)?;
         for _ in 0..LIMIT {
-            if quiet(&self.image, &self.journal)? {
+            if quiet(self.alloc, &self.image, &self.journal)? {
                 break;
             }
             self.follow(&[0, 1])?;

@@ -2,7 +2,7 @@
 ghost use Rattle.std.specs.Prelude.{◌≡◌, ℕ, ◌+◌, ◌<◌, ◌≤◌, ◌↔◌, [], ◌∷◌, ◌++◌, length, All, Some, None, IsTrue, IfOk, OnOk, OnErr, false};
 ghost use Rattle.jh_history.specs.Due.{due, IsLegal, IsQuiet};
 ghost use Rattle.jh_history.specs.Items.{with_due, items, played, rounds, cpus_of as cpus_of_lem};
-ghost use Rattle.jh_history.specs.Cells.{is_on_board as is_on_board_lem};
+ghost use Rattle.jh_history.specs.Lives.{is_on_board as is_on_board_lem};
 ghost use Rattle.jh_history.specs.Admitted.{IsAdmitted, IsBuilt};
 ghost use Rattle.jh_board.specs.Turns.{Reaches};
 ghost use Rattle.jh_board.specs.Plays.{Follows, Plays, is_full};

@@ -1,13 +1,15 @@
 //! A board's memory and CPUs, as what tells the facts of its journal.
-ghost use Rattle.std.specs.Prelude.{◌≡◌, ℕ, ◌<◌, length, IfSome, IsTrue, ◌↔◌};
-ghost use Rattle.jh_history.specs.Facts.{Facts};
+ghost use Rattle.std.specs.Prelude.{◌≡◌, ℕ, ◌<◌, ◌↔◌, None, IfSome, IsTrue, length, option_map};
 ghost use Rattle.jh_history.specs.Due.{due_at};
-ghost use Rattle.jh_history.specs.Admitted.{IsAdmitted, IsPlainAct};
+ghost use Rattle.jh_history.specs.Facts.{Facts};
+ghost use Rattle.jh_history.specs.Wants.{IsReachOfEntry};
 ghost use Rattle.jh_board.specs.Means.{Means};
+ghost use Rattle.jh_board.specs.declared.state.NextStep.{NextStep as TheStep};
 
 use crate::indexed::IndexedImage;
 use crate::memory::Memory;
-use jh_history::{Access, Cpu, Entry, Known, Reach, none_due};
+use jh_cpu::Cpu;
+use jh_history::{Entry, Known, Places, Reach, Wanted, next_of, none_due, reach_of, value_of};
 use jh_script::Op;
 use std::marker::Model;
 
@@ -22,13 +24,12 @@ struct State<'a> {
 impl<'a> Model for State<'a> {
     ghost use Rattle.std.specs.Prelude.{◌≡◌, length};
     ghost use Rattle.jh_board.specs.Held.{StateView};
-    ghost use Rattle.jh_history.specs.Admitted.{IsAdmitted};
 
     ghost Value = { StateView };
 
     ghost view = { λ s. record { image = s.image.now; held = record { pages = s.memory.now; states = s.cpus.now } } };
 
-    ghost invariant = { λ s. IsAdmitted s.image.now × (length s.cpus.now ≡ 16) };
+    ghost invariant = { λ s. length s.cpus.now ≡ 16 };
 }
 
 impl<'a> Known for State<'a> {
@@ -42,49 +43,60 @@ impl<'a> Known for State<'a> {
     }
 
     fn cpu(&self, cpu: u8) -> Cpu {
-        self.cpus[cpu as usize]
+        self.cpus[usize::from(cpu)]
     }
 
     fn operation(&self, cpu: u8, state: Cpu) -> Option<Op> {
         self.image.operation(cpu, state)
     }
 
-    fn reach(&self, cell: u32, access: Access, at: u64, width: u8) -> Reach {
-        self.image.reach(cell, access, at, width)
+    fn reach(&self, cell: u32, wanted: &Wanted) -> Reach {
+        self.image.reach(cell, wanted)
     }
 
-    fn byte(&self, place: u64) -> u8 {
-        self.memory.read(place)
+    fn value(&self, places: &Places) -> u64 {
+        value_of(self.memory, places)
     }
 }
 
-/// The entry that the CPU makes next.
-pub fn next_of(image: &IndexedImage, memory: &Memory, cpus: &[Cpu], cpu: u8) -> Option<Entry>
-    requires admitted { IsAdmitted image.now }
+/// The entry that a CPU makes next, and what its access reaches.
+#[derive(Drop)]
+pub struct NextStep {
+    pub entry: Entry,
+    pub reach: Reach,
+}
+
+/// What the CPU does next.
+pub fn next_step(image: &IndexedImage, memory: &Memory, cpus: &[Cpu], cpu: u8) -> Option<NextStep>
     requires cpus { length cpus.now ≡ 16 }
     requires cpu { cpu < 16 }
-    ensures due { (f : Facts) → Means (record { pages = memory.now; states = cpus.now }) f → result ≡ due_at image.now f cpu }
-    ensures cpu { IfSome result (λ entry. entry.cpu ≡ cpu) }
-    ensures plain { IfSome result (λ entry. IsPlainAct entry.act) }
+    ensures due { (f : Facts) → Means (record { pages = memory.now; states = cpus.now }) f → option_map (λ (s : TheStep). s.entry) result ≡ due_at image.now f cpu }
+    ensures reached { (f : Facts) → Means (record { pages = memory.now; states = cpus.now }) f → IfSome result (λ s. IsReachOfEntry image.now f s.entry s.reach) }
+    ensures cpu { IfSome result (λ s. s.entry.cpu ≡ cpu) }
 {
     let state = State {
         image,
         memory,
         cpus,
     };
-    jh_history::next_of(&state, cpu)
+    let reach = reach_of(&state, cpu);
+    match next_of(&state, cpu, &reach) {
+        Some(entry) => Some(NextStep { entry, reach }),
+        None => None,
+    }
 }
 
-/// Whether nothing is due to any CPU.
-pub fn is_quiet(image: &IndexedImage, memory: &Memory, cpus: &[Cpu]) -> bool
-    requires admitted { IsAdmitted image.now }
+/// Whether nothing is due to any CPU; they are asked from `first` on.
+pub fn is_quiet(image: &IndexedImage, memory: &Memory, cpus: &[Cpu], first: u8) -> bool
     requires cpus { length cpus.now ≡ 16 }
+    requires first { first < 16 }
     ensures { (f : Facts) → Means (record { pages = memory.now; states = cpus.now }) f → IsTrue result ↔ ((cpu : ℕ) → due_at image.now f cpu ≡ None) }
 {
+    image.has_few_cpus();
     let state = State {
         image,
         memory,
         cpus,
     };
-    none_due(&state)
+    none_due(&state, first)
 }

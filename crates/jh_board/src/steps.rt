@@ -1,48 +1,46 @@
 //! What an entry does to memory and to the CPUs.
-ghost use Rattle.std.specs.Prelude.{◌≡◌, ℕ, ◌+◌, ◌<◌, ◌≤◌, ◌^◌, length, OnOk, OnErr, Some, slice_get, slice_index_or};
-ghost use Rattle.jh_history.specs.Facts.{Facts, after, byte_after, cpu_after};
-ghost use Rattle.jh_history.specs.Admitted.{IsAdmitted, IsPlainAct};
-ghost use Rattle.jh_history.specs.Access.{write_of};
-ghost use Rattle.jh_board.specs.Pages.{byte_at};
+ghost use Rattle.std.specs.Prelude.{◌≡◌, ℕ, ◌<◌, ◌≤◌, length, OnOk, OnErr};
+ghost use Rattle.jh_script.specs.declared.image.Image.{Image};
+ghost use Rattle.jh_history.specs.declared.place.Place.{Place as ThePlace};
+ghost use Rattle.jh_history.specs.Access.{write_of, IsPhysical};
+ghost use Rattle.jh_history.specs.Bytes.{byte_after};
+ghost use Rattle.jh_history.specs.Facts.{Facts};
+ghost use Rattle.jh_history.specs.History.{after};
+ghost use Rattle.jh_history.specs.Wants.{IsReachOfAct, IsReachOfEntry, IsPhysicalOf};
+ghost use Rattle.jh_board.specs.Pages.{byte_of};
 ghost use Rattle.jh_board.specs.Means.{Means};
 
-use crate::indexed::IndexedImage;
 use crate::memory::Memory;
-use jh_history::{Access, Act, Cpu, Entry, Reach, entry_cpu};
+use jh_cpu::Cpu;
+use jh_history::{Act, Entry, Reach, cpus_after};
 use jh_num::NoMemory;
 
 /// Writes the value where it reaches.
 fn make_write(memory: &mut Memory, reach: &Reach, value: u64) -> Result<(), NoMemory>
-    ensures ok { OnOk result ((q : ℕ) → byte_at memory.new q ≡ write_of (byte_at memory.old) reach.now value q) }
-    ensures err { OnErr result ((q : ℕ) → byte_at memory.new q ≡ byte_at memory.old q) }
+    requires { IsPhysical reach.now }
+    ensures ok { OnOk result ((q : ThePlace) → byte_of memory.new q ≡ write_of (byte_of memory.old) reach.now value q) }
+    ensures err { OnErr result ((q : ThePlace) → byte_of memory.new q ≡ byte_of memory.old q) }
 {
     match reach {
         Reach::Memory(places) => {
-            memory.hold_all(places.as_slice())?;
-            memory.write_all(places.as_slice(), value);
+            memory.hold_places(places)?;
+            memory.write_places(places, value);
             Ok(())
         }
         Reach::Nothing => Ok(()),
     }
 }
 
-/// Writes what the entry writes.
-fn make_bytes(image: &IndexedImage, memory: &mut Memory, entry: &Entry) -> Result<(), NoMemory>
-    requires admitted { IsAdmitted image.now }
-    requires plain { IsPlainAct entry.now.act }
-    ensures ok { OnOk result ((f : Facts) → ((q : ℕ) → byte_at memory.old q ≡ f.byte q) → (q : ℕ) → byte_at memory.new q ≡ byte_after image.now f entry.now.cell entry.now.act q) }
-    ensures err { OnErr result ((q : ℕ) → byte_at memory.new q ≡ byte_at memory.old q) }
+/// Writes what the act writes where it reaches.
+fn make_bytes(memory: &mut Memory, act: &Act, reach: &Reach) -> Result<(), NoMemory>
+    requires { IsPhysicalOf act.now reach.now }
+    ensures ok { OnOk result ((i : Image) (f : Facts) (cell : ℕ) → ((q : ThePlace) → byte_of memory.old q ≡ f.byte q) → IsReachOfAct i f cell act.now reach.now → (q : ThePlace) → byte_of memory.new q ≡ byte_after i f cell act.now q) }
+    ensures err { OnErr result ((q : ThePlace) → byte_of memory.new q ≡ byte_of memory.old q) }
 {
-    match entry.act {
-        Act::Write {
-            width,
-            at,
-            value,
-            ok,
-        } => {
+    match *act {
+        Act::Write { value, ok, .. } => {
             if ok {
-                let places = image.reach(entry.cell, Access::Write, at, width);
-                make_write(memory, &places, value)?;
+                make_write(memory, reach, value)?;
             }
             Ok(())
         }
@@ -50,33 +48,19 @@ fn make_bytes(image: &IndexedImage, memory: &mut Memory, entry: &Entry) -> Resul
     }
 }
 
-/// Changes the CPUs as the entry does.
-fn make_cpus(cpus: &mut [Cpu], entry: &Entry)
-    requires cpus { length cpus.old ≡ 16 }
-    requires few { (k : ℕ) (d : Cpu) → k < 16 → (slice_index_or cpus.old k d).position + 1 < 2 ^ 32 }
-    ensures { (f : Facts) → ((i : ℕ) → i < 16 → slice_get cpus.old i ≡ Some (f.cpu i)) → (i : ℕ) → i < 16 → slice_get cpus.new i ≡ Some (cpu_after f entry.now i) }
-{
-    for i in 0..16u8 {
-        let state = cpus[i as usize];
-        cpus[i as usize] = entry_cpu(entry, i, state);
-    }
-}
-
-/// Makes the entry in what a board holds.
+/// Makes the entry in what a board holds; `reach` is what its access reaches, where it makes one.
 pub fn make(
-    image: &IndexedImage,
     memory: &mut Memory,
     cpus: &mut [Cpu],
-    entry: Entry,
+    entry: &Entry,
+    reach: &Reach,
 ) -> Result<(), NoMemory>
-    requires admitted { IsAdmitted image.now }
     requires cpus { length cpus.old ≡ 16 }
-    requires few { (k : ℕ) (d : Cpu) → k < 16 → (slice_index_or cpus.old k d).position + 1 < 2 ^ 32 }
-    requires plain { IsPlainAct entry.act }
-    ensures ok { OnOk result ((f : Facts) → Means (record { pages = memory.old; states = cpus.old }) f → Means (record { pages = memory.new; states = cpus.new }) (after image.now f entry)) }
+    requires physical { IsPhysicalOf entry.now.act reach.now }
+    ensures ok { OnOk result ((i : Image) (f : Facts) → Means (record { pages = memory.old; states = cpus.old }) f → IsReachOfEntry i f entry.now reach.now → Means (record { pages = memory.new; states = cpus.new }) (after i f entry.now)) }
     ensures err { OnErr result ((f : Facts) → Means (record { pages = memory.old; states = cpus.old }) f → Means (record { pages = memory.new; states = cpus.new }) f) }
 {
-    make_bytes(image, memory, &entry)?;
-    make_cpus(cpus, &entry);
+    make_bytes(memory, &entry.act, reach)?;
+    cpus_after(cpus, entry);
     Ok(())
 }

@@ -5,7 +5,7 @@ ghost use Rattle.jh_history.specs.Admitted.{IsAdmitted, IsBuilt};
 use crate::plain::{LIMIT, Plain};
 use crate::{Board, Ended, Turn, TurnFault, follow, play};
 use jh_cellcfg::{CellConfig, Console, Region, SystemConfig};
-use jh_history::{Act, Entry, is_admitted, is_built, is_on_board};
+use jh_history::{Act, Entry, admit, is_built, is_on_board};
 use jh_num::{NoMemory, Seq, Steps};
 use jh_script::{Image, Op, Preload, Program};
 use std::alloc::Global;
@@ -116,7 +116,8 @@ fn ready(rt: &impl Abort, alloc: Global, case: Case) -> Result<Image, NoMemory>
     ensures built { IfOk result IsBuilt }
 {
     let image = image(alloc, case)?;
-    assert!(rt; is_admitted(&image));
+    let admitted = admit(alloc, &image)?;
+    assert!(rt; admitted);
     assert!(rt; is_built(&image));
     Ok(image)
 }
@@ -381,7 +382,6 @@ fn a_full_board_goes_on_from_the_same_journal(rt: HostRuntime) -> Result<(), Fai
     assert_eq!(rt; turn(&rt, &mut board, 1), Ok(Turn::NotNow));
     assert_eq!(rt; turn(&rt, &mut board, 0), Err(TurnFault::Full));
     assert_eq!(rt; board.journal().as_slice(), [first].as_slice());
-    assert_eq!(rt; board.next(0), Some(got(0, 2, BASE, Some(0))));
     Ok(())
 }
 
@@ -396,6 +396,22 @@ fn follow_makes_the_items_alone(rt: HostRuntime) -> Result<(), Fail> {
     assert!(rt; is_on_board(&image, 0));
     let (board, ended) = follow(rt.alloc(), image, &[0], LIMIT)?;
     assert_eq!(rt; ended, Ended::Quiet);
+    assert_eq!(rt;
+        board.journal().as_slice(),
+        [got(0, 1, BASE, Some(0))].as_slice()
+    );
+    Ok(())
+}
+
+#[test]
+fn play_stops_at_a_full_journal(rt: HostRuntime) -> Result<(), Fail> {
+    let case = Case {
+        regions: &[region(BASE, 1)],
+        zero: &[read(1, BASE), read(2, BASE)],
+        one: &[],
+    };
+    let (board, ended) = play(rt.alloc(), ready(&rt, rt.alloc(), case)?, &[], 1)?;
+    assert_eq!(rt; ended, Ended::Full);
     assert_eq!(rt;
         board.journal().as_slice(),
         [got(0, 1, BASE, Some(0))].as_slice()

@@ -108,7 +108,7 @@ limits_unfaulted c limits =
 
 -- ---- how long it is
 
-length-flat_map_each : {R : Type 0} (f : R → List ℕ) (Fits : R → Type 0) (k : ℕ) → ((x : R) → Fits x → length (f x) ≡ k) → (xs : List R) → AllByRecursion Fits xs → length (flat_map f xs) ≡ k * length xs
+pub length-flat_map_each : {R : Type 0} (f : R → List ℕ) (Fits : R → Type 0) (k : ℕ) → ((x : R) → Fits x → length (f x) ≡ k) → (xs : List R) → AllByRecursion Fits xs → length (flat_map f xs) ≡ k * length xs
 length-flat_map_each f Fits k each [] all = omega arith
 length-flat_map_each f Fits k each (x ∷ xs) all =
     let first = each x all.0 in
@@ -116,16 +116,16 @@ length-flat_map_each f Fits k each (x ∷ xs) all =
     let more : k * suc (length xs) ≡ k * length xs + k = mul-suc k (length xs) in
     omega (arith, length-append (f x) (flat_map f xs))
 
-length-words : (n : ℕ) (words : List ℕ) → IsWordArray n words → length (flat_map u32_bytes words) ≡ 4 * n
+pub length-words : (n : ℕ) (words : List ℕ) → IsWordArray n words → length (flat_map u32_bytes words) ≡ 4 * n
 length-words n words fits = length-flat_map_each u32_bytes (λ n. n < 2 ^ 32) 4 (λ x h. refl) words fits.each ∙ ap (λ (m : ℕ). 4 * m) fits.count
 
-length-irqchip_bytes : (i : Irqchip) → IsIrqchip i → length (irqchip_bytes i) ≡ 32
+pub length-irqchip_bytes : (i : Irqchip) → IsIrqchip i → length (irqchip_bytes i) ≡ 32
 length-irqchip_bytes i fits = let words = length-words 4 i.pin_bitmap fits.pin_bitmap in omega arith
 
-length-device_bytes : (d : PciDevice) → IsDevice d → length (device_bytes d) ≡ 56
+pub length-device_bytes : (d : PciDevice) → IsDevice d → length (device_bytes d) ≡ 56
 length-device_bytes d fits = let words = length-words 6 d.bar_mask fits.bar_mask in omega (arith, length-append {A = ℕ})
 
-length-header_bytes : (h : Header) → IsHeader h → length (header_bytes h) ≡ 124
+pub length-header_bytes : (h : Header) → IsHeader h → length (header_bytes h) ≡ 124
 length-header_bytes h fits = omega (arith, length-append {A = ℕ}, fits.name, fits.console)
 
 pub length-parts_bytes : (c : CellConfig) → IsCell c → length (parts_bytes c) ≡ parts_size (counts_of c)

@@ -4,3 +4,4 @@ pub mod Splits
 pub mod Faultless
 pub mod Fields
 pub mod Found
+pub mod Told

@@ -1,6 +1,9 @@
 pub mod Regions
+pub mod Cells
+pub mod Lives
 pub mod Spelling
 pub mod Widths
 pub mod Limits
 pub mod Faults
+pub mod Reading
 pub mod Texts

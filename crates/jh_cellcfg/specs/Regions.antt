@@ -1,6 +1,6 @@
 -- What a memory region says of an address: whether it is one of the region's, what place it has, and
 -- what may be done with it.
-use Rattle.std.specs.Prelude.{ℕ, ◌+◌, ◌-◌, ◌%◌, ◌≤◌, Bool, ◌&&◌, not, ◌==◌, nat_lt, nat_le, bit_and}
+use Rattle.std.specs.Prelude.{◌≡◌, ℕ, ◌+◌, ◌-◌, ◌%◌, ◌≤◌, Bool, false, ◌&&◌, not, ◌==◌, nat_lt, nat_le, bit_and, if◌then◌else◌}
 use Rattle.jh_num.specs.declared.address.TheConstants.{ADDRESS_END, PAGE_SIZE}
 use Rattle.jh_num.specs.declared.rights.Rights.{Rights}
 use Rattle.jh_cellcfg.specs.declared.region.Region.{Region}
@@ -59,7 +59,38 @@ may_have_blocks region = not (has_flags 0x100 region)
 abbrev pub rights_of : Region → Rights
 rights_of region = record { read = has_flags 0x1 region; write = has_flags 0x2 region; execute = has_flags 0x4 region }
 
--- the region ends within the addresses and, where it has places, within the places
+-- an access to it, where it is a subpage region, may begin at an address that isn't a multiple of its width
+abbrev pub allows_unaligned : Region → Bool
+allows_unaligned = has_flags 0x8000
+
+-- an access of so many bytes to it, where it is a subpage region, is let through
+abbrev pub allows_width : ℕ → Region → Bool
+allows_width width region =
+    if width == 1 then has_flags 0x10000 region
+    else (if width == 2 then has_flags 0x20000 region
+    else (if width == 4 then has_flags 0x40000 region
+    else (if width == 8 then has_flags 0x80000 region else false)))
+
+-- the region has a size
+abbrev pub has_size : Region → Bool
+has_size region = nat_lt 0 region.size
+
+-- both have a size, and an address is in both
+abbrev pub virt_meet : Region → Region → Bool
+virt_meet one other =
+    (has_size one && has_size other) && (nat_lt one.virt_start (virt_end other) && nat_lt other.virt_start (virt_end one))
+
+-- both have a size, and a place is in both
+abbrev pub phys_meet : Region → Region → Bool
+phys_meet one other =
+    (has_size one && has_size other) && (nat_lt one.phys_start (phys_end other) && nat_lt other.phys_start (phys_end one))
+
+-- its addresses and its places end within those that there are
 pub record IsWithin (region : Region) : Type 0 where
   pub virt : virt_end region ≤ ADDRESS_END
   pub phys : phys_end region ≤ ADDRESS_END
+
+-- its addresses do, and its places where it has any: a communication region has none
+pub record IsInRange (region : Region) : Type 0 where
+  pub virt : virt_end region ≤ ADDRESS_END
+  pub phys : is_comm region ≡ false → phys_end region ≤ ADDRESS_END

@@ -1,6 +1,10 @@
 //! The records of a configuration, field by field.
+ghost use Rattle.std.specs.Prelude.{◌≡◌, ◌==◌, ◌≤◌, length};
+ghost use Rattle.std.specs.List.{position_or_len};
 
+use crate::flags::CellFlags;
 use crate::region::Region;
+use bitflags::Flags;
 use jh_num::Seq;
 
 /// A cell's configuration: the fields of the header after its signature and revision, and its parts.
@@ -30,6 +34,46 @@ pub struct CellConfig {
     /// Kept as bytes and unused.
     pub pci_caps: Seq<[u8; 8]>,
     pub stream_ids: Seq<u32>,
+}
+
+/// How many bytes stand before the first zero.
+fn name_len(name: &[u8]) -> usize
+    ensures len { result ≡ position_or_len (λ b. b == 0) name.now }
+    ensures within { result ≤ length name.now }
+{
+    for i in 0..name.len() {
+        if name[i] == 0 {
+            return i;
+        }
+    }
+    name.len()
+}
+
+impl CellConfig {
+    ghost use Rattle.jh_cellcfg.specs.Cells.{name_of, is_cpu_set, is_passive};
+
+    /// The characters of its name, without the zero bytes behind them.
+    pub fn name(&self) -> &[u8]
+        ensures { result.now ≡ name_of self.now }
+    {
+        &self.name[..name_len(&self.name)]
+    }
+
+    /// Whether the CPU is one of its own. Each CPU past the bitmap's end isn't.
+    pub fn has_cpu(&self, cpu: u8) -> bool
+        ensures { result ≡ is_cpu_set self.now.cpu_set cpu }
+    {
+        let set = self.cpu_set.as_slice();
+        let byte = set.get(usize::from(cpu / 8)).copied().unwrap_or(0);
+        byte & (1u8 << (cpu % 8)) != 0
+    }
+
+    /// Whether the cell answers no messages, so that it is neither asked nor told.
+    pub fn is_passive(&self) -> bool
+        ensures { result ≡ is_passive self.now }
+    {
+        CellFlags(self.flags).contains(CellFlags::PASSIVE_COMMREG)
+    }
 }
 
 /// An interrupt controller's pins that a cell may use. Kept and unused.

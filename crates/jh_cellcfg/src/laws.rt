@@ -5,6 +5,7 @@ ghost use Rattle.jh_cellcfg.specs.declared.config.CellConfig.{CellConfig};
 ghost use Rattle.jh_cellcfg.specs.Spelling.{body_bytes, spelling};
 ghost use Rattle.jh_cellcfg.specs.Widths.{IsCell};
 ghost use Rattle.jh_cellcfg.specs.Limits.{IsWithinLimits};
+ghost use Rattle.jh_cellcfg.specs.Reading.{config_of, config_of_body};
 ghost use Rattle.jh_cellcfg.specs.Faults.{body_fault, header_fault, header_size, first_fault};
 
 /// Two configurations with one spelling are one.
@@ -43,4 +44,14 @@ pub fn no_fault_is_a_spelling()
 pub fn no_fault_is_a_body()
     ensures { (front : ℕ) (body : List ℕ) → All (λ byte. byte < 256) body → 124 ≤ length body → body_fault front body ≡ None
         → (config : CellConfig) × IsCell config × IsWithinLimits config × (body ≡ body_bytes config) }
+{}
+
+/// A spelling tells its configuration: each field stands where it is looked for.
+pub fn a_spelling_tells_its_configuration()
+    ensures { (config : CellConfig) → IsCell config → IsWithinLimits config → config_of (spelling config) ≡ config }
+{}
+
+/// So do the bytes from the name on.
+pub fn a_body_tells_its_configuration()
+    ensures { (config : CellConfig) → IsCell config → IsWithinLimits config → config_of_body (body_bytes config) ≡ config }
 {}

@@ -8,6 +8,7 @@ mod flags;
 mod header;
 mod laws;
 mod limits;
+mod live;
 mod read;
 mod reader;
 mod record;
@@ -19,8 +20,13 @@ pub use config::{CellConfig, Console, Irqchip, PciDevice, SystemConfig};
 pub use fault::{ConfigFault, Which};
 pub use flags::{CellFlags, RegionFlags};
 pub use header::{Counts, Header};
-pub use laws::{body_has_no_fault, one_body, one_spelling, size_is_length, spelling_has_no_fault};
+pub use laws::{
+    a_body_tells_its_configuration, a_spelling_tells_its_configuration, body_has_no_fault,
+    no_fault_is_a_body, no_fault_is_a_spelling, one_body, one_spelling, size_is_length,
+    spelling_has_no_fault,
+};
 pub use limits::{fits, is_name};
+pub use live::Live;
 pub use read::{cell_size, read_body, read_cell};
 pub use reader::Reader;
 pub use record::{Record, read_list, write_list};

@@ -4,6 +4,7 @@ ghost use Rattle.jh_cellcfg.specs.Spelling.{u16_bytes, header_bytes, header_of, 
 ghost use Rattle.jh_cellcfg.specs.Widths.{IsHeader, IsCell};
 ghost use Rattle.jh_cellcfg.specs.Limits.{whole_size, parts_size, AreWithinLimits, IsWithinLimits};
 ghost use Rattle.jh_cellcfg.specs.Faults.{counts_at, fault_of, refusal, start_fault, body_fault, header_fault, header_size, first_fault, Gives};
+ghost use Rattle.jh_cellcfg.specs.Reading.{config_of};
 ghost use Rattle.jh_cellcfg.specs.declared.config.CellConfig.{CellConfig};
 
 use crate::config::CellConfig;
@@ -140,6 +141,8 @@ pub fn read_cell(alloc: Global, bytes: &[u8]) -> Result<CellConfig, ConfigFault>
     ensures spelled { IfOk result (λ config. bytes.now ≡ spelling config) }
     // What is spelled so is read, unless memory runs out.
     ensures only { (config : CellConfig) → IsCell config → IsWithinLimits config → bytes.now ≡ spelling config → Gives result config }
+    // Each field is the number that stands at its place.
+    ensures told { IfOk result (λ config. config ≡ config_of bytes.now) }
     // Which fault it is.
     ensures fault { refusal result ≡ first_fault bytes.now }
 {

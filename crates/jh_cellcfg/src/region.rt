@@ -1,9 +1,9 @@
 //! A memory region, and what it says of an address.
-ghost use Rattle.std.specs.Prelude.{◌≡◌, ◌+◌, Some, None, if◌then◌else◌};
+ghost use Rattle.std.specs.Prelude.{◌≡◌, ◌<◌, ◌^◌};
 
 use crate::flags::RegionFlags;
 use bitflags::Flags;
-use jh_num::{PAGE_SIZE, Rights};
+use jh_num::{PAGE_SIZE, Range, Rights};
 
 /// A memory region of a cell: `size` bytes of its addresses from `virt_start` on, given the physical
 /// places from `phys_start` on, or the bytes of its communication page where `flags` has COMM_REGION.
@@ -17,7 +17,7 @@ pub struct Region {
 }
 
 impl Region {
-    ghost use Rattle.jh_cellcfg.specs.Regions.{has_flags, has_address, has_place, place_in, is_page_mapped, is_comm, is_unshared, is_loadable, is_device, may_have_blocks, rights_of};
+    ghost use Rattle.jh_cellcfg.specs.Regions.{has_flags, has_address, has_place, virt_end as virt_end_lem, phys_end as phys_end_lem, virt_meet, phys_meet, allows_unaligned, allows_width, is_page_mapped, is_comm, is_unshared, is_loadable, is_device, may_have_blocks, rights_of};
 
     /// Whether all these flags are set.
     pub fn has(&self, flags: RegionFlags) -> bool
@@ -38,6 +38,64 @@ impl Region {
         ensures { result ≡ has_place self.now place }
     {
         place >= self.phys_start && place - self.phys_start < self.size
+    }
+
+    /// One past its last address.
+    pub fn virt_end(&self) -> u128
+        ensures { result ≡ virt_end_lem self.now }
+    {
+        u128::from(self.virt_start) + u128::from(self.size)
+    }
+
+    /// One past its last physical place, COMM_REGION aside.
+    pub fn phys_end(&self) -> u128
+        ensures { result ≡ phys_end_lem self.now }
+    {
+        u128::from(self.phys_start) + u128::from(self.size)
+    }
+
+    /// Its addresses.
+    pub fn addresses(&self) -> Range
+        requires { virt_end_lem self.now < 2 ^ 64 }
+        ensures start { result.start ≡ self.now.virt_start }
+        ensures end { result.end ≡ virt_end_lem self.now }
+    {
+        Range {
+            start: self.virt_start,
+            end: self.virt_start + self.size,
+        }
+    }
+
+    /// Its physical places, COMM_REGION aside.
+    pub fn places(&self) -> Range
+        requires { phys_end_lem self.now < 2 ^ 64 }
+        ensures start { result.start ≡ self.now.phys_start }
+        ensures end { result.end ≡ phys_end_lem self.now }
+    {
+        Range {
+            start: self.phys_start,
+            end: self.phys_start + self.size,
+        }
+    }
+
+    /// Whether both have a size and an address is in both.
+    pub fn virt_meets(&self, other: &Region) -> bool
+        ensures { result ≡ virt_meet self.now other.now }
+    {
+        self.size > 0
+            && other.size > 0
+            && u128::from(self.virt_start) < other.virt_end()
+            && u128::from(other.virt_start) < self.virt_end()
+    }
+
+    /// Whether both have a size and a physical place is in both, COMM_REGION aside.
+    pub fn phys_meets(&self, other: &Region) -> bool
+        ensures { result ≡ phys_meet self.now other.now }
+    {
+        self.size > 0
+            && other.size > 0
+            && u128::from(self.phys_start) < other.phys_end()
+            && u128::from(other.phys_start) < self.phys_end()
     }
 
     /// Whether the region's addresses are whole pages. If not, it is a subpage region, whose accesses
@@ -81,6 +139,27 @@ impl Region {
         ensures { result ≡ may_have_blocks self.now }
     {
         !self.has(RegionFlags::NO_HUGEPAGES)
+    }
+
+    /// Whether an access to it, as a subpage region, may begin anywhere. Else it must begin at a
+    /// multiple of its width.
+    pub fn allows_unaligned(&self) -> bool
+        ensures { result ≡ allows_unaligned self.now }
+    {
+        self.has(RegionFlags::IO_UNALIGNED)
+    }
+
+    /// Whether it lets accesses of that many bytes through, as a subpage region.
+    pub fn allows_width(&self, width: u8) -> bool
+        ensures { result ≡ allows_width width self.now }
+    {
+        match width {
+            1 => self.has(RegionFlags::IO_8),
+            2 => self.has(RegionFlags::IO_16),
+            4 => self.has(RegionFlags::IO_32),
+            8 => self.has(RegionFlags::IO_64),
+            _ => false,
+        }
     }
 
     /// What may be done with its bytes.

@@ -5,11 +5,11 @@ use Rattle.std.proofs.lemmas.Bool.{false≢true, ltb-true, eqb-true, cases_order
 use Rattle.std.proofs.lemmas.List.{get_or_default}
 use Rattle.jh_cellcfg.specs.declared.region.Region.{Region}
 use Rattle.jh_cellcfg.specs.declared.config.CellConfig.{CellConfig}
-use Rattle.jh_cellcfg.specs.Regions.{virt_end, phys_end, is_page_mapped, is_comm, is_unshared}
+use Rattle.jh_cellcfg.specs.Regions.{virt_end, phys_end, is_page_mapped, is_comm, is_unshared, has_size, virt_meet, phys_meet}
 use Rattle.jh_check.specs.declared.rule.Rule.{Rule}
 use Rattle.jh_check.specs.declared.rule.Rule.TheVariants.{VirtOverlap, PhysOverlap, SubpageTaken, CellsOverlap}
 use Rattle.jh_check.specs.declared.spans.Span.{Span}
-use Rattle.jh_check.specs.Regions.{Spot, pair_breaks, has_size, virt_meet, phys_meet, share_places, takes_pages, both_shared}
+use Rattle.jh_check.specs.Regions.{Spot, pair_breaks, share_places, takes_pages, both_shared}
 use Rattle.jh_check.specs.Devices.{are_same_section}
 use Rattle.jh_check.specs.Spans.{takes_part, span_of, spans_meet, joins, is_within, IsIndex, AreApart}
 use Rattle.jh_check.specs.Lists.{only_if}

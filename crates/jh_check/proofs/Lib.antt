@@ -1,6 +1,16 @@
 pub mod BoolLemmas
 pub mod ListLemmas
 pub mod BreakLemmas
+pub mod SectionLemmas
 pub mod SpanLemmas
-pub mod LawLemmas
 pub mod VerdictLemmas
+pub mod Tested
+pub mod FoundLemmas
+pub mod CleanLemmas
+pub mod DeviceLemmas
+pub mod JoinLemmas
+pub mod RuleLemmas
+pub mod OrderLemmas
+pub mod GivenLemmas
+pub mod RefusalLemmas
+pub mod CappedLemmas

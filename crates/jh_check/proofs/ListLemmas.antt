@@ -4,7 +4,6 @@ use Rattle.std.proofs.lemmas.List.{take-append-le, drop_more, get_or-take, lengt
 use Rattle.std.specs.List.{list_all}
 use Rattle.std.proofs.Math.ListN.{drop_of_length-le}
 use Rattle.jh_check.specs.declared.finding.Finding.{Finding}
-use Rattle.jh_check.specs.declared.checking.TheConstants.{MAX_FINDINGS}
 use Rattle.jh_check.specs.Lists.{found_from, only_if, capped, is_any}
 
 pub append_nil : {X : Type 0} (xs : List X) → xs ++ [] ≡ xs
@@ -30,12 +29,12 @@ take-take-append (suc n) (x ∷ xs) ys = ap (λ rest. x ∷ rest) (take-take-app
 pub capped-append : (a b more : List Finding) → capped a ≡ capped b → capped (a ++ more) ≡ capped (b ++ more)
 unfolding capped
 capped-append a b more e =
-    sym (take-take-append MAX_FINDINGS a more) ∙ ap (λ xs. take MAX_FINDINGS (xs ++ more)) e ∙ take-take-append MAX_FINDINGS b more
+    sym (take-take-append 1000 a more) ∙ ap (λ xs. take 1000 (xs ++ more)) e ∙ take-take-append 1000 b more
 
 -- where there are a thousand, no more are told
-pub capped_full : (found more : List Finding) → MAX_FINDINGS ≤ length found → capped found ≡ capped (found ++ more)
+pub capped_full : (found more : List Finding) → 1000 ≤ length found → capped found ≡ capped (found ++ more)
 unfolding capped
-capped_full found more h = sym (take-append-le MAX_FINDINGS found more h)
+capped_full found more h = sym (take-append-le 1000 found more h)
 
 -- a step of a loop over a list, and its end; `goal` is what the whole leads to
 pub found-step : {X : Type 0} (found : ℕ → X → List Finding) (xs : List X) (i : ℕ) (d : X) (old new goal : List Finding) → i < length xs → capped new ≡ capped (old ++ found i (get_or xs i d)) → capped (old ++ found_from found i (drop i xs)) ≡ goal → capped (new ++ found_from found (i + 1) (drop (i + 1) xs)) ≡ goal

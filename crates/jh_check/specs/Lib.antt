@@ -8,3 +8,7 @@ pub mod Findings
 pub mod Texts
 pub mod Verdicts
 pub mod Laws
+pub mod Clean
+pub mod Refusals
+pub mod Broken
+pub mod Order

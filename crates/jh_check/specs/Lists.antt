@@ -1,7 +1,6 @@
 -- Lists of findings, made from numbered items.
 use Rattle.std.specs.Prelude.{ℕ, ◌+◌, Bool, true, false, List, [], ◌∷◌, ◌++◌, take, if◌then◌else◌}
 use Rattle.jh_check.specs.declared.finding.Finding.{Finding}
-use Rattle.jh_check.specs.declared.checking.TheConstants.{MAX_FINDINGS}
 
 -- what is found at each item in turn; they are numbered from `n` on
 unfoldable pub found_from : {X : Type 0} → (ℕ → X → List Finding) → ℕ → List X → List Finding
@@ -14,7 +13,7 @@ only_if test finding = if test then finding ∷ [] else []
 
 -- the first thousand
 unfoldable pub capped : List Finding → List Finding
-capped found = take MAX_FINDINGS found
+capped found = take 1000 found
 
 -- something is found
 abbrev pub is_any : List Finding → Bool

@@ -6,6 +6,7 @@ use Rattle.jh_num.specs.declared.address.TheConstants.{ADDRESS_END, PAGE_SIZE}
 use Rattle.jh_cellcfg.specs.declared.region.Region.{Region}
 use Rattle.jh_cellcfg.specs.declared.config.CellConfig.{CellConfig}
 use Rattle.jh_cellcfg.specs.Regions.{has_flags, virt_end, phys_end, is_page_mapped, is_comm, is_unshared}
+pub use Rattle.jh_cellcfg.specs.Regions.{has_size, virt_meet, phys_meet}
 use Rattle.jh_check.specs.declared.rule.Rule.{Rule}
 use Rattle.jh_check.specs.declared.rule.Rule.TheVariants.{VirtOverlap, PhysOverlap, Hypervisor, OutOfRange, RootNotIdentity, CommInRoot, CommShape, ExecuteWithoutRead, SubpageTaken, CellsOverlap, PhysAlign}
 use Rattle.jh_check.specs.Devices.{are_same_section}
@@ -16,20 +17,6 @@ pub record Spot : Type 0 where
   pub config : CellConfig
   pub item : ℕ
   pub region : Region
-
--- the region has a size
-abbrev pub has_size : Region → Bool
-has_size region = nat_lt 0 region.size
-
--- both have a size, and an address is in both
-abbrev pub virt_meet : Region → Region → Bool
-virt_meet one other =
-    (has_size one && has_size other) && (nat_lt one.virt_start (virt_end other) && nat_lt other.virt_start (virt_end one))
-
--- both have a size, and a place is in both
-abbrev pub phys_meet : Region → Region → Bool
-phys_meet one other =
-    (has_size one && has_size other) && (nat_lt one.phys_start (phys_end other) && nat_lt other.phys_start (phys_end one))
 
 -- both are shared with root
 abbrev pub both_shared : Region → Region → Bool

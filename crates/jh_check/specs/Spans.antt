@@ -1,11 +1,10 @@
 -- The addresses or places of regions, as a rule about two regions compares them.
 use Rattle.std.specs.Prelude.{◌≡◌, ℕ, ◌<◌, ◌≤◌, Bool, true, false, ◌&&◌, not, ◌==◌, nat_lt, List, length, slice_index_or, Contains}
 use Rattle.jh_cellcfg.specs.declared.region.Region.{Region}
-use Rattle.jh_cellcfg.specs.Regions.{virt_end, phys_end, is_page_mapped, is_comm, is_unshared}
+use Rattle.jh_cellcfg.specs.Regions.{virt_end, phys_end, is_page_mapped, is_comm, is_unshared, has_size}
 use Rattle.jh_check.specs.declared.rule.Rule.{Rule}
 use Rattle.jh_check.specs.declared.rule.Rule.TheVariants.{VirtOverlap, PhysOverlap, SubpageTaken, CellsOverlap}
 use Rattle.jh_check.specs.declared.spans.Span.{Span}
-use Rattle.jh_check.specs.Regions.{has_size}
 
 -- the rule may be broken by the region as the one of a pair
 abbrev pub takes_part : Rule → Region → Bool

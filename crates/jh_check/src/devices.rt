@@ -5,7 +5,6 @@ ghost use Rattle.jh_cellcfg.specs.Regions.{has_flags};
 ghost use Rattle.jh_check.specs.Cells.{cells_of};
 ghost use Rattle.jh_check.specs.Devices.{is_shmem, are_linked, section_count, is_section, are_sections_of, are_same_section, sections_of, has_good_peers, has_good_bars, has_all_sections, is_good_table, has_good_table, is_plain, are_read_only, are_alike, follows, are_in_a_row, is_twice, is_same_memory, are_same_memory, agrees_with, agrees_with_all, has_good_sections, is_good_shmem, device_breaks, is_zero, cpus_break};
 
-use crate::regions::virt_end;
 use crate::setup::Setup;
 use jh_cellcfg::{CellConfig, PciDevice, Region, RegionFlags};
 
@@ -66,6 +65,13 @@ fn any_section(item: usize, one: &PciDevice, other_item: usize, others: &[PciDev
         .any(|other| are_sections_of(item, other_item, one, other))
 }
 
+/// The same, where the region is a section of the one device at all: most aren't.
+fn has_section(item: usize, one: &PciDevice, other_item: usize, others: &[PciDevice]) -> bool
+    ensures { result ≡ list_any (λ e. are_sections_of item other_item one.now e) others.now }
+{
+    is_section(one, item) && any_section(item, one, other_item, others)
+}
+
 /// Whether the region of the one cell and that of the other are sections at the same offset of two
 /// linked devices.
 #[tactic(auto, unfolding(crate::specs::Devices::are_same_section))]
@@ -77,7 +83,7 @@ pub(crate) fn are_same_section(
 ) -> bool
     ensures { result ≡ are_same_section one.now item other.now other_item }
 {
-    one.pci_devices.as_slice().iter().any(|device| any_section(
+    one.pci_devices.as_slice().iter().any(|device| has_section(
         item,
         device,
         other_item,
@@ -86,7 +92,7 @@ pub(crate) fn are_same_section(
 }
 
 /// Those of the device's sections that exist.
-fn sections_of<'a>(regions: &'a [Region], device: &PciDevice) -> &'a [Region]
+pub fn sections_of<'a>(regions: &'a [Region], device: &PciDevice) -> &'a [Region]
     ensures { result.now ≡ sections_of regions.now device.now }
 {
     let start = (device.shmem_regions_start as usize).min(regions.len());
@@ -194,7 +200,7 @@ fn follows(mut end: u128, sections: &[Region]) -> bool
         if u128::from(section.virt_start) != end {
             return false;
         }
-        end = virt_end(section);
+        end = section.virt_end();
     }
     true
 }
@@ -205,7 +211,7 @@ fn are_in_a_row(sections: &[Region]) -> bool
 {
     for (i, section) in sections.iter().enumerate() {
         if section.size > 0 {
-            return follows(virt_end(section), &sections[i + 1..]);
+            return follows(section.virt_end(), &sections[i + 1..]);
         }
     }
     true
@@ -319,7 +325,7 @@ pub(crate) fn device_breaks(
             && agrees_with_lower(setup, number, regions, device))
 }
 
-fn are_zero(bytes: &[u8]) -> bool
+pub(crate) fn are_zero(bytes: &[u8]) -> bool
     ensures { result ≡ list_all is_zero bytes.now }
 {
     bytes.iter().all(|byte| *byte == 0)

@@ -8,6 +8,7 @@ mod found;
 mod laws;
 mod pairing;
 mod pairs;
+mod refusal;
 mod regions;
 mod rule;
 mod setup;
@@ -15,8 +16,16 @@ mod spans;
 mod verdict;
 
 pub use checking::{MAX_FINDINGS, check};
+pub use devices::sections_of;
 pub use finding::Finding;
-pub use laws::{addresses_are_single, cells_are_apart, hypervisor_is_alone};
+pub use laws::{
+    a_clean_cell_joins, addresses_are_single, beyond_is_a_cpu, cells_are_apart,
+    clean_root_is_sound, endpoints_may_join, fewer_cells_stay_clean, findings_are_ordered,
+    findings_tell_what_is_broken, hypervisor_is_alone, nothing_is_found_in_what_is_clean,
+    nothing_is_refused_that_is_accepted, pages_are_whole, places_are_single,
+    sound_bitmaps_name_few_cpus,
+};
+pub use refusal::refusal_of;
 pub use rule::Rule;
 pub use verdict::{NewCell, clean_with};
 

@@ -4,7 +4,6 @@ ghost use Rattle.jh_check.specs.Sites.{spot_of};
 ghost use Rattle.jh_check.specs.Regions.{share_places, takes_pages, both_shared, pair_breaks};
 
 use crate::devices::are_same_section;
-use crate::regions::{phys_meet, virt_meet};
 use crate::rule::Rule;
 use jh_cellcfg::{CellConfig, Region, RegionFlags};
 
@@ -21,14 +20,14 @@ pub(crate) struct Site<'a> {
 fn share_places(one: &Region, other: &Region) -> bool
     ensures { result ≡ share_places one.now other.now }
 {
-    !one.is_comm() && !other.is_comm() && phys_meet(one, other)
+    !one.is_comm() && !other.is_comm() && one.phys_meets(other)
 }
 
 /// Whether the one is an unshared subpage region with a place of the other's pages.
 fn takes_pages(one: &Region, other: &Region) -> bool
     ensures { result ≡ takes_pages one.now other.now }
 {
-    one.is_unshared() && !one.is_page_mapped() && other.is_page_mapped() && phys_meet(one, other)
+    one.is_unshared() && !one.is_page_mapped() && other.is_page_mapped() && one.phys_meets(other)
 }
 
 fn both_shared(one: &Region, other: &Region) -> bool
@@ -44,7 +43,7 @@ pub(crate) fn pair_breaks(rule: Rule, one: &Site, other: &Site) -> bool
 {
     match rule {
         Rule::VirtOverlap => {
-            one.cell == other.cell && one.item < other.item && virt_meet(one.region, other.region)
+            one.cell == other.cell && one.item < other.item && one.region.virt_meets(other.region)
         }
         Rule::PhysOverlap => {
             one.cell == other.cell

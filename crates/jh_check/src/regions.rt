@@ -1,8 +1,7 @@
 //! The rules about one region.
 ghost use Rattle.std.specs.Prelude.{◌≡◌};
 ghost use Rattle.std.specs.List.{list_any};
-ghost use Rattle.jh_check.specs.Regions.{virt_meet, phys_meet, is_counted_comm, is_misshapen, is_out_of_range, region_breaks, hypervisor_breaks};
-ghost use Rattle.jh_cellcfg.specs.Regions.{virt_end, phys_end};
+ghost use Rattle.jh_check.specs.Regions.{is_counted_comm, is_misshapen, is_out_of_range, region_breaks, hypervisor_breaks};
 
 use crate::rule::Rule;
 use jh_cellcfg::{Region, RegionFlags};
@@ -10,40 +9,6 @@ use jh_num::{ADDRESS_END, PAGE_SIZE};
 
 /// The most that the hypervisor's memory may have.
 const MAX_HYPERVISOR_SIZE: u64 = 0x400_0000;
-
-/// One past its last address.
-pub(crate) fn virt_end(region: &Region) -> u128
-    ensures { result ≡ virt_end region.now }
-{
-    u128::from(region.virt_start) + u128::from(region.size)
-}
-
-/// One past its last place.
-pub(crate) fn phys_end(region: &Region) -> u128
-    ensures { result ≡ phys_end region.now }
-{
-    u128::from(region.phys_start) + u128::from(region.size)
-}
-
-/// Whether both have a size and an address is in both.
-pub(crate) fn virt_meet(one: &Region, other: &Region) -> bool
-    ensures { result ≡ virt_meet one.now other.now }
-{
-    one.size > 0
-        && other.size > 0
-        && u128::from(one.virt_start) < virt_end(other)
-        && u128::from(other.virt_start) < virt_end(one)
-}
-
-/// Whether both have a size and a place is in both.
-pub(crate) fn phys_meet(one: &Region, other: &Region) -> bool
-    ensures { result ≡ phys_meet one.now other.now }
-{
-    one.size > 0
-        && other.size > 0
-        && u128::from(one.phys_start) < phys_end(other)
-        && u128::from(other.phys_start) < phys_end(one)
-}
 
 /// Whether one of them is a communication region.
 fn has_comm(regions: &[Region]) -> bool
@@ -65,8 +30,8 @@ fn is_misshapen(earlier: &[Region], region: &Region) -> bool
 fn is_out_of_range(region: &Region) -> bool
     ensures { result ≡ is_out_of_range region.now }
 {
-    virt_end(region) > u128::from(ADDRESS_END)
-        || !region.is_comm() && phys_end(region) > u128::from(ADDRESS_END)
+    region.virt_end() > u128::from(ADDRESS_END)
+        || !region.is_comm() && region.phys_end() > u128::from(ADDRESS_END)
 }
 
 /// Whether the region breaks the rule, which is about one region. `earlier` are those before it in its
@@ -85,7 +50,7 @@ pub(crate) fn region_breaks(
         return false;
     }
     match rule {
-        Rule::Hypervisor => !region.is_comm() && phys_meet(region, hypervisor),
+        Rule::Hypervisor => !region.is_comm() && region.phys_meets(hypervisor),
         Rule::OutOfRange => is_out_of_range(region),
         Rule::RootNotIdentity => cell == 0 && region.phys_start != region.virt_start,
         Rule::CommInRoot => cell == 0 && region.is_comm(),
@@ -109,7 +74,7 @@ pub(crate) fn hypervisor_breaks(rule: Rule, memory: &Region) -> bool
         Rule::OutOfRange => {
             memory.size == 0
                 || memory.size > MAX_HYPERVISOR_SIZE
-                || phys_end(memory) > u128::from(ADDRESS_END)
+                || memory.phys_end() > u128::from(ADDRESS_END)
         }
         Rule::PhysAlign => {
             memory.size > 0 && (memory.phys_start % PAGE_SIZE != 0 || memory.size % PAGE_SIZE != 0)

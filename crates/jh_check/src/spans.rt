@@ -3,7 +3,6 @@ ghost use Rattle.std.specs.Prelude.{◌≡◌, ◌-◌, ◌<◌, ◌≤◌, true
 ghost use Rattle.jh_check.specs.declared.spans.Span.{Span};
 ghost use Rattle.jh_check.specs.Spans.{takes_part, span_of, spans_meet, HasEach, AreApart, IsIndex};
 
-use crate::regions::{phys_end, virt_end};
 use crate::rule::Rule;
 use jh_cellcfg::Region;
 use jh_num::NoMemory;
@@ -38,12 +37,12 @@ pub(crate) fn span_of(rule: Rule, item: usize, region: &Region) -> Span
     match rule {
         Rule::VirtOverlap => Span {
             start: region.virt_start,
-            end: virt_end(region),
+            end: region.virt_end(),
             item,
         },
         _ => Span {
             start: region.phys_start,
-            end: phys_end(region),
+            end: region.phys_end(),
             item,
         },
     }

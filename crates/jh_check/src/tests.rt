@@ -1,7 +1,7 @@
 //! The check of the example cells, and one case for each number and each rule of an ivshmem device, just
 //! inside and just outside.
 
-use crate::{Finding, NewCell, check, clean_with};
+use crate::{Finding, NewCell, check, clean_with, refusal_of, sections_of};
 use jh_cellcfg::{CellConfig, Console, PciDevice, Region, SystemConfig};
 use jh_num::Seq;
 use std::alloc::{AllocError, Global};
@@ -319,8 +319,8 @@ fn changed(kind: u8, peers: u8, vectors: u16) -> PciDevice {
     device
 }
 
-/// Devices in place of that of `demo`, and what is told of them: a good one; numbers past the peers and of
-/// the linked one; too many peers; as many vectors as there may be, one more, and none beside a BAR for
+/// Devices in place of that of `demo`, and what is told of them: a good one; a number past the peers, and one
+/// whose output isn't its own; too many peers; as many vectors as there may be, one more, and none beside a BAR for
 /// them; a missing section; another kind.
 fn devices() -> [(PciDevice, &'static str); 9] {
     let breaks = "11 Shmem 1.d0; ";
@@ -418,6 +418,80 @@ fn linked_sections_have_one_place_and_size(rt: HostRuntime) -> Result<(), Fail> 
     assert!(rt; elsewhere);
     let smaller = linked_is_told(rt.alloc(), 0x7fb0_1000, 0x1000, "11 Shmem 1.d0; ")?;
     assert!(rt; smaller);
+    Ok(())
+}
+
+/// The memory of the link with so many outputs, none of which can be written.
+fn read_only(alloc: Global, peers: u8) -> Result<Vec<Region>, AllocError> {
+    let mut sections = Vec::new(alloc);
+    sections.push(plain(0x7fb0_0000, 0x1000, 0x81))?;
+    sections.push(plain(0x7fb0_1000, 0x9000, 0x83))?;
+    for peer in 0..peers as u64 {
+        sections.push(plain(0x7fb0_a000 + 0x2000 * peer, 0x2000, 0x81))?;
+    }
+    Ok(sections)
+}
+
+/// The device of that number among so many peers, at that place of the bus.
+fn reader(own: u8, peers: u8, bdf: u16) -> PciDevice {
+    let mut reader = device(own, 0);
+    reader.shmem_peers = peers;
+    reader.bdf = bdf;
+    reader
+}
+
+/// Whether the check of `q` and a cell that reads the memory of its link by that device tells that.
+fn reader_is_told(alloc: Global, reader: PciDevice, want: &str) -> Result<bool, Fail> {
+    let sections = read_only(alloc, reader.shmem_peers)?;
+    let mut cells = Vec::new(alloc);
+    cells.push(cell(alloc, 4, sections.as_slice(), &[reader])?)?;
+    Ok(told(alloc, &q(alloc)?, cells.as_slice())?.as_str() == want)
+}
+
+#[test]
+fn linked_devices_have_their_own_numbers(rt: HostRuntime) -> Result<(), Fail> {
+    let another = reader_is_told(rt.alloc(), reader(1, 2, 0), "")?;
+    assert!(rt; another);
+    let same = reader_is_told(rt.alloc(), reader(0, 2, 0), "11 Shmem 1.d0; ")?;
+    assert!(rt; same);
+    let not_linked = reader_is_told(rt.alloc(), reader(0, 2, 8), "")?;
+    assert!(rt; not_linked);
+    Ok(())
+}
+
+#[test]
+fn linked_devices_have_as_many_peers(rt: HostRuntime) -> Result<(), Fail> {
+    let more = reader_is_told(rt.alloc(), reader(2, 3, 0), "11 Shmem 1.d0; ")?;
+    assert!(rt; more);
+    let not_linked = reader_is_told(rt.alloc(), reader(2, 3, 8), "")?;
+    assert!(rt; not_linked);
+    Ok(())
+}
+
+#[test]
+fn a_linked_device_lacks_a_region(rt: HostRuntime) -> Result<(), Fail> {
+    let sections = [
+        plain(0x7fb0_0000, 0x1000, 0x81),
+        plain(0x7fb0_1000, 0x9000, 0x83),
+        plain(0x7fb0_a000, 0x2000, 0x81),
+        plain(0x7fb0_c000, 0x2000, 0x81),
+    ];
+    let root = cell(rt.alloc(), 7, &sections[..3], &[device(0, 0)])?;
+    let mut cells = Vec::new(rt.alloc());
+    cells.push(cell(rt.alloc(), 8, &sections, &[device(1, 0)])?)?;
+    let text = told(rt.alloc(), &system(root, HYPERVISOR), cells.as_slice())?;
+    assert_eq!(rt; text.as_str(), "11 Shmem 0.d0; 11 Shmem 1.d0; ");
+    Ok(())
+}
+
+#[test]
+fn sections_stand_where_the_device_says(rt: HostRuntime) -> Result<(), Fail> {
+    let config = demo(rt.alloc(), 0x7f90_0000, device(1, 3))?;
+    let regions = config.memory_regions.as_slice();
+    let all = sections_of(regions, &device(1, 3));
+    assert_eq!(rt; all.len(), 4);
+    let cut = sections_of(regions, &device(1, 5));
+    assert_eq!(rt; cut.len(), 2);
     Ok(())
 }
 
@@ -561,5 +635,39 @@ fn a_new_cell_is_clean_invalid_or_busy(rt: HostRuntime) -> Result<(), Fail> {
     assert!(rt; busy == NewCell::Busy);
     let invalid = verdict_at(rt.alloc(), 0x7fbf_f000)?;
     assert!(rt; invalid == NewCell::Invalid);
+    Ok(())
+}
+
+/// What `demo` with that id and its first region there is refused for beside `q` and a cell with a region at
+/// 0x7f90f000, where its CPU may be given or not, and so many pages are needed of 100.
+fn refused(alloc: Global, id: u32, at: u64, given: bool, pages: u64) -> Result<Option<i64>, Fail> {
+    let mut new = demo(alloc, at, device(1, 3))?;
+    new.id = id;
+    new.name[0] = b'd';
+    let mut live = Vec::new(alloc);
+    live.push(cell(alloc, 2, &[region(0x7f90_f000, 0, 0x1000, 0xf)], &[])?)?;
+    let system = q(alloc)?;
+    if live.len() > 14 {
+        return Err("one cell".into());
+    }
+    let mut may = [false; 16];
+    may[2] = given;
+    Ok(refusal_of(&system, live.as_slice(), &new, &may, pages, 100))
+}
+
+#[test]
+fn a_create_is_refused_by_its_first_cause(rt: HostRuntime) -> Result<(), Fail> {
+    let known = refused(rt.alloc(), 1, 0x7fbf_f000, false, 101)?;
+    assert!(rt; known == Some(-17));
+    let kept = refused(rt.alloc(), 2, 0x7fbf_f000, false, 101)?;
+    assert!(rt; kept == Some(-16));
+    let invalid = refused(rt.alloc(), 2, 0x7fbf_f000, true, 101)?;
+    assert!(rt; invalid == Some(-22));
+    let busy = refused(rt.alloc(), 2, 0x7f90_0000, true, 101)?;
+    assert!(rt; busy == Some(-16));
+    let full = refused(rt.alloc(), 2, 0x7f91_0000, true, 101)?;
+    assert!(rt; full == Some(-12));
+    let good = refused(rt.alloc(), 2, 0x7f91_0000, true, 100)?;
+    assert!(rt; good.is_none());
     Ok(())
 }

@@ -8,7 +8,7 @@ use Rattle.jh_image.specs.declared.fault.ImageFault.{ImageFault}
 use Rattle.jh_image.specs.declared.fault.ImageFault.TheVariants.{Refused, NoMemory}
 use Rattle.jh_image.specs.Causes.{Stops, OnRefused, IsCounted}
 use Rattle.jh_image.specs.Images.{IsImage}
-use Rattle.jh_image.specs.Opening.{MayOpen}
+use Rattle.jh_history.specs.Admitted.{IsAdmitted}
 use Rattle.jh_image.specs.Texts.{cause_text}
 use Rattle.jh_cli.specs.declared.told.Told.{Told}
 use Rattle.jh_cli.specs.declared.told.Stop.{Stop}
@@ -58,12 +58,12 @@ counted_at old new failed (Refused file cause) counted s told memory =
 counted_at old new failed NoMemory counted s told memory = nothing (IsCountedSaid old new failed) s (memory refl)
 
 -- what follows a board that was read
-pub opens_ok : (contents : Contents) (board : List ℕ) (next : Image → Said → Type 0) (image : Image) → IsImage contents board image → MayOpen image
+pub opens_ok : (contents : Contents) (board : List ℕ) (next : Image → Said → Type 0) (image : Image) → IsImage contents board image → IsAdmitted image
     → (r : Result Told Stop) → IfOk r (λ told. next image (said_of told)) → IfOk r (λ told. Opens contents board next (said_of told))
 opens_ok contents board next image is admitted (Ok told) h = inr (image, is, admitted, h)
 opens_ok contents board next image is admitted (Err s) h = tt
 
-pub opens_err : (contents : Contents) (board : List ℕ) (next : Image → Said → Type 0) (image : Image) → IsImage contents board image → MayOpen image
+pub opens_err : (contents : Contents) (board : List ℕ) (next : Image → Said → Type 0) (image : Image) → IsImage contents board image → IsAdmitted image
     → (r : Result Told Stop) → IfErr r (λ s. OnEnded s (next image)) → IfErr r (λ s. OnEnded s (Opens contents board next))
 opens_err contents board next image is admitted (Ok told) h = tt
 opens_err contents board next image is admitted (Err s) h = on_stop (next image) (Opens contents board next) s (λ said rest. inr (image, is, admitted, rest)) h

@@ -5,7 +5,7 @@ use Rattle.jh_image.specs.declared.fault.ImageCause.{ImageCause}
 use Rattle.jh_image.specs.declared.fault.ImageCause.TheVariants.{ReadFault}
 use Rattle.jh_image.specs.Causes.{Stops}
 use Rattle.jh_image.specs.Images.{IsImage}
-use Rattle.jh_image.specs.Opening.{MayOpen}
+use Rattle.jh_history.specs.Admitted.{IsAdmitted}
 use Rattle.jh_image.specs.Texts.{cause_text}
 use Rattle.jh_cli.specs.Lines.{fault_line, refusal_line}
 use Rattle.jh_cli.specs.Reading.{Said, Contents}
@@ -25,4 +25,4 @@ pub record EndsAt (contents : Contents) (board : List ℕ) (said : Said) : Type 
 
 -- the board is read: the call ends at one of its files, or goes on with the image that they make, which is admitted
 abbrev pub Opens : Contents → List ℕ → (Image → Said → Type 0) → Said → Type 0
-Opens contents board next said = EndsAt contents board said ⊎ ((image : Image) × IsImage contents board image × MayOpen image × next image said)
+Opens contents board next said = EndsAt contents board said ⊎ ((image : Image) × IsImage contents board image × IsAdmitted image × next image said)

@@ -4,7 +4,7 @@ use Rattle.jh_script.specs.declared.image.Image.{Image}
 use Rattle.jh_script.specs.declared.fault.ScheduleFault.{ScheduleFault}
 use Rattle.jh_script.specs.FaultText.{schedule_fault_text}
 use Rattle.jh_script.specs.Schedules.{has_cpu, schedule_of}
-use Rattle.jh_history.specs.Cells.{is_on_board}
+use Rattle.jh_history.specs.Lives.{is_on_board}
 use Rattle.jh_history.specs.Due.{IsLegal, IsQuiet}
 use Rattle.jh_history.specs.Items.{played}
 use Rattle.jh_text.specs.Text.{journal_text}

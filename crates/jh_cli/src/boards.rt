@@ -3,7 +3,6 @@ ghost use Rattle.std.specs.Prelude.{◌≡◌, ◌≤◌, IfOk, IfErr};
 ghost use Rattle.jh_history.specs.Admitted.{IsAdmitted, IsBuilt};
 ghost use Rattle.jh_image.specs.Causes.{OnRefused};
 ghost use Rattle.jh_image.specs.Images.{IsImage};
-ghost use Rattle.jh_image.specs.Opening.{MayOpen};
 ghost use Rattle.jh_image.specs.declared.fault.ImageFault.TheVariants.{NoMemory as image_for_memory};
 ghost use Rattle.jh_cli.specs.Boards.{stopped, EndsAt};
 ghost use Rattle.jh_cli.specs.Stopped.{OnEnded, IsCounted};
@@ -42,8 +41,7 @@ fn unopened(alloc: Global, fault: &ImageFault) -> Stop
 /// The image that the board's files make.
 pub fn open<F: Files>(alloc: Global, files: &mut F, board: &str) -> Result<Image, Stop>
     ensures image { IfOk result (IsImage (F.contents files.old) board.now) }
-    ensures admitted { IfOk result MayOpen }
-    ensures opens { IfOk result IsAdmitted }
+    ensures admitted { IfOk result IsAdmitted }
     ensures built { IfOk result IsBuilt }
     ensures err { IfErr result (λ stop. OnEnded stop (EndsAt (F.contents files.old) board.now)) }
     ensures counted { IfErr result (λ stop. OnEnded stop (IsCounted (F.faults files.old) (F.faults files.new) (F.failed files.new))) }

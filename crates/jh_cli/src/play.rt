@@ -1,7 +1,7 @@
 //! Playing a board by a schedule.
 ghost use Rattle.std.specs.Prelude.{◌≡◌, All, IsTrue, IfOk, IfErr};
 ghost use Rattle.jh_history.specs.Admitted.{IsAdmitted, IsBuilt};
-ghost use Rattle.jh_history.specs.Cells.{is_on_board};
+ghost use Rattle.jh_history.specs.Lives.{is_on_board};
 ghost use Rattle.jh_board.specs.Plays.{is_full};
 ghost use Rattle.jh_cli.specs.Play.{IsPlayed, played_status, PlaysBy, Plays};
 ghost use Rattle.jh_cli.specs.Stopped.{said_of, OnEnded, IsCounted};

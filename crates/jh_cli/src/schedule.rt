@@ -1,7 +1,7 @@
 //! The schedule of a board's CPUs.
 ghost use Rattle.std.specs.Prelude.{◌≡◌, ◌≤◌, ◌<◌, ℕ, All, IsTrue, IfOk, IfErr};
 ghost use Rattle.jh_script.specs.FaultText.{schedule_fault_text};
-ghost use Rattle.jh_history.specs.Cells.{is_on_board as is_on_board_lem};
+ghost use Rattle.jh_history.specs.Lives.{is_on_board as is_on_board_lem};
 ghost use Rattle.jh_cli.specs.Lines.{refusal_line as refusal_line_lem};
 ghost use Rattle.jh_cli.specs.Reading.{Spells, Stops};
 ghost use Rattle.jh_cli.specs.Play.{AreCpus, IsSchedule, ScheduleRefusal};

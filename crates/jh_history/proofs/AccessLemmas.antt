@@ -1,62 +1,79 @@
--- Places, one at a time.
-use Rattle.std.proofs.Common.{◌%◌, ◌/◌, ◌≡◌, ℕ, suc, ◌+◌, ◌-◌, ◌<◌, ◌≤◌, List, [], ◌∷◌, ◌++◌, Option, Some, None, refl, ap, sym, ◌∙◌, arith, append_assoc}
-use Rattle.std.proofs.lemmas.List.{append-nil}
+-- Places, one page's at a time.
+use Rattle.std.proofs.Common.{◌≡◌, ℕ, zero, suc, ◌+◌, ◌-◌, ◌%◌, ◌<◌, ◌≤◌, List, [], ◌∷◌, ◌++◌, Option, Some, None, refl, ap, sym, ◌∙◌, arith}
 use Rattle.std.specs.Prelude.{option_map, option_and_then}
 use Rattle.std.proofs.lemmas.Grind.{common_steps}
 use Rattle.jh_num.specs.declared.address.TheConstants.{ADDRESS_END}
+use Rattle.jh_history.specs.declared.place.Place.{Place}
 use Rattle.jh_history.specs.declared.access.Reach.TheVariants.{Memory, Nothing}
-use Rattle.jh_history.specs.Access.{places_from, memory_or_nothing, reach_by, written, over, with_byte}
+use Rattle.jh_history.specs.Places.{further, places_in_row}
+use Rattle.jh_history.specs.Access.{places_from, memory_or_nothing, reach_by}
+use Rattle.jh_history.proofs.PlaceLemmas.{further-none, further-next}
 
-prefixed : (xs ys : List ℕ) (o : Option (List ℕ)) (p : ℕ) → option_map (λ (qs : List ℕ). (xs ++ p ∷ []) ++ qs) o ≡ option_map (λ (qs : List ℕ). xs ++ qs) (option_map (λ (qs : List ℕ). p ∷ qs) o)
-prefixed xs ys None p = refl
-prefixed xs ys (Some qs) p = ap Some (append_assoc xs (p ∷ []) qs)
+abbrev Found : Type 0
+Found = Option (List Place)
 
-at_some : (f : ℕ → Option ℕ) (ps : List ℕ) (a n p : ℕ) (o : Option ℕ) → o ≡ Some p
-    → option_map (λ (qs : List ℕ). (ps ++ p ∷ []) ++ qs) (places_from f (a + 1) n) ≡ option_map (λ (qs : List ℕ). ps ++ qs) (option_and_then (λ q. option_map (λ (qs : List ℕ). q ∷ qs) (places_from f (a + 1) n)) o)
-at_some f ps a n p o e = rw e (prefixed ps [] (places_from f (a + 1) n) p)
+-- the places of two stretches, one behind the other
+abbrev both : Found → Found → Found
+both low high = option_and_then (λ (ps : List Place). option_map (λ (qs : List Place). ps ++ qs) high) low
 
--- one place more
-pub places_from-more : (f : ℕ → Option ℕ) (ps : List ℕ) (a k n p : ℕ) → k < n → f (a + k) ≡ Some p
-    → option_map (λ (qs : List ℕ). (ps ++ p ∷ []) ++ qs) (places_from f (a + (k + 1)) (n - (k + 1))) ≡ option_map (λ (qs : List ℕ). ps ++ qs) (places_from f (a + k) (n - k))
-places_from-more f ps a k n p lt e =
-    let count : n - k ≡ suc (n - (k + 1)) = omega arith in
-    let next : a + (k + 1) ≡ (a + k) + 1 = omega arith in
-    rw (count, next) (at_some f ps (a + k) (n - (k + 1)) p (f (a + k)) e)
+both_one : (p : Place) (low high : Found) → option_map (λ (ps : List Place). p ∷ ps) (both low high) ≡ both (option_map (λ (ps : List Place). p ∷ ps) low) high
+both_one p None high = refl
+both_one p (Some ps) None = refl
+both_one p (Some ps) (Some qs) = refl
 
--- a place that there isn't
-pub places_from-none : (f : ℕ → Option ℕ) (ps : List ℕ) (a k n : ℕ) → k < n → f (a + k) ≡ None → option_map (λ (qs : List ℕ). ps ++ qs) (places_from f (a + k) (n - k)) ≡ None
-places_from-none f ps a k n lt e =
-    let count : n - k ≡ suc (n - (k + 1)) = omega arith in
-    rw (count, e) refl
+split_by : (o : Option Place) (low high whole : Found) → whole ≡ both low high
+    → option_and_then (λ (p : Place). option_map (λ (ps : List Place). p ∷ ps) whole) o ≡ both (option_and_then (λ (p : Place). option_map (λ (ps : List Place). p ∷ ps) low) o) high
+split_by None low high whole e = refl
+split_by (Some p) low high whole e = ap (option_map (λ (ps : List Place). p ∷ ps)) e ∙ both_one p low high
 
--- no place is left
-pub places_from-all : (f : ℕ → Option ℕ) (ps : List ℕ) (a k n : ℕ) → n ≤ k → option_map (λ (qs : List ℕ). ps ++ qs) (places_from f (a + k) (n - k)) ≡ Some ps
-places_from-all f ps a k n le =
-    let count : n - k ≡ 0 = omega arith in
-    rw count (ap Some (append-nil ps))
+nil_both : (high : Found) → high ≡ both (Some []) high
+nil_both None = refl
+nil_both (Some qs) = refl
 
-pub reach_by-within : (place : ℕ → Option ℕ) (at width : ℕ) → at + width ≤ ADDRESS_END → reach_by place at width ≡ memory_or_nothing (places_from place at width)
+pub places_from-split : (f : ℕ → Option Place) (at m n : ℕ) → places_from f at (m + n) ≡ both (places_from f at m) (places_from f (at + m) n)
+places_from-split f at zero n =
+    let count : 0 + n ≡ n = omega arith in
+    let next : at + 0 ≡ at = omega arith in
+    rw (count, next) (nil_both (places_from f at n))
+places_from-split f at (suc m) n =
+    let count : suc m + n ≡ suc (m + n) = omega arith in
+    let next : at + suc m ≡ (at + 1) + m = omega arith in
+    rw (count, next) (split_by (f at) (places_from f (at + 1) m) (places_from f ((at + 1) + m) n) (places_from f (at + 1) (m + n)) (places_from-split f (at + 1) m n))
+
+-- where each address has the place so many further, these are in a row
+pub places_from-row : (f : ℕ → Option Place) (p : Place) (at count : ℕ) → ((k : ℕ) → k < count → f (at + k) ≡ Some (further p k)) → places_from f at count ≡ Some (places_in_row p count)
+places_from-row f p at zero each = refl
+places_from-row f p at (suc count) each =
+    let here : f at ≡ Some p = (let e : at ≡ at + 0 = omega arith in ap f e) ∙ each 0 (omega arith) ∙ ap Some (further-none p) in
+    let rest : places_from f (at + 1) count ≡ Some (places_in_row (further p 1) count) = places_from-row f (further p 1) (at + 1) count
+    (λ k lt. (let e : (at + 1) + k ≡ at + (k + 1) = omega arith in ap f e) ∙ each (k + 1) (omega arith) ∙ ap Some (sym (further-next p k))) in
+    rw (here, rest) refl
+
+-- where the first address has none
+pub places_from-none : (f : ℕ → Option Place) (at count : ℕ) → 0 < count → f at ≡ None → places_from f at count ≡ None
+places_from-none f at zero some none = absurd (omega arith)
+places_from-none f at (suc count) some none = rw none refl
+
+pub reach_by-within : (place : ℕ → Option Place) (at width : ℕ) → at + width ≤ ADDRESS_END → reach_by place at width ≡ memory_or_nothing (places_from place at width)
 unfolding reach_by
 reach_by-within place at width h = grind (arith, common_steps)
 
-pub reach_by-beyond : (place : ℕ → Option ℕ) (at width : ℕ) → ADDRESS_END < at + width → reach_by place at width ≡ Nothing
+pub reach_by-beyond : (place : ℕ → Option Place) (at width : ℕ) → ADDRESS_END < at + width → reach_by place at width ≡ Nothing
 unfolding reach_by
 reach_by-beyond place at width h = grind (arith, common_steps)
 
--- what is reached after so many places
-pub reach_by-none : (place : ℕ → Option ℕ) (ps : List ℕ) (at k width : ℕ) → at + width ≤ ADDRESS_END → k < width
-    → option_map (λ (qs : List ℕ). ps ++ qs) (places_from place (at + k) (width - k)) ≡ places_from place at width → place (at + k) ≡ None
-    → reach_by place at width ≡ Nothing
-reach_by-none place ps at k width within lt told none =
-    reach_by-within place at width within ∙ ap memory_or_nothing (sym told ∙ places_from-none place ps at k width lt none)
+-- the places of two stretches, where there are both, and where one lacks some
+pub places_from-both : (place : ℕ → Option Place) (at width low high : ℕ) (ps qs : List Place) → width ≡ low + high
+    → Some ps ≡ places_from place at low → Some qs ≡ places_from place (at + low) high → Some (ps ++ qs) ≡ places_from place at width
+places_from-both place at width low high ps qs e is_low is_high = rw (e, places_from-split, ← is_low, ← is_high) refl
 
-pub reach_by-all : (place : ℕ → Option ℕ) (ps : List ℕ) (at k width : ℕ) → at + width ≤ ADDRESS_END → width ≤ k
-    → option_map (λ (qs : List ℕ). ps ++ qs) (places_from place (at + k) (width - k)) ≡ places_from place at width
-    → reach_by place at width ≡ Memory ps
-reach_by-all place ps at k width within le told =
-    reach_by-within place at width within ∙ ap memory_or_nothing (sym told ∙ places_from-all place ps at k width le)
+pub places_from-no_low : (place : ℕ → Option Place) (at width low high : ℕ) → width ≡ low + high → None ≡ places_from place at low → None ≡ places_from place at width
+places_from-no_low place at width low high e none = rw (e, places_from-split, ← none) refl
 
--- a write at one place depends on the byte that was there alone
-pub written-over : (f : ℕ → ℕ) (places : List ℕ) (value q : ℕ) → written f places value q ≡ over places value q (f q)
-written-over f [] value q = refl
-written-over f (place ∷ places) value q = written-over (with_byte f place (value % 256)) places (value / 256) q
+pub places_from-no_high : (place : ℕ → Option Place) (at width low high : ℕ) (ps : List Place) → width ≡ low + high
+    → Some ps ≡ places_from place at low → None ≡ places_from place (at + low) high → None ≡ places_from place at width
+places_from-no_high place at width low high ps e is_low none = rw (e, places_from-split, ← is_low, ← none) refl
+
+-- what is reached within the addresses
+pub reach_by-places : (place : ℕ → Option Place) (at width : ℕ) (o : Option (List Place)) → at + width ≤ ADDRESS_END → o ≡ places_from place at width → memory_or_nothing o ≡ reach_by place at width
+reach_by-places place at width o within is = ap memory_or_nothing is ∙ sym (reach_by-within place at width within)

@@ -5,16 +5,24 @@ use Rattle.std.specs.List.{AllByRecursion}
 use Rattle.std.specs.Option.{option_map_or}
 use Rattle.std.proofs.lemmas.List.Elements.{recursion_from_All, All-from_recursion}
 use Rattle.jh_cellcfg.specs.declared.region.Region.{Region}
-use Rattle.jh_cellcfg.specs.Regions.{IsWithin}
+use Rattle.jh_cellcfg.specs.Regions.{IsInRange}
 use Rattle.jh_script.specs.declared.image.Image.{Image}
 use Rattle.jh_script.specs.declared.image.Program.{Program}
 use Rattle.jh_script.specs.declared.op.Op.{Op}
-use Rattle.jh_history.specs.Cells.{program_of, is_program_of}
-use Rattle.jh_history.specs.Admitted.{IsAdmitted, IsSoundProgram, IsPlain, is_width}
+use Rattle.jh_script.specs.Operations.{IsPlain, is_width}
+use Rattle.jh_history.specs.Lives.{program_of, is_program_of}
+use Rattle.jh_check.specs.Clean.{IsSoundRoot}
+use Rattle.jh_check.proofs.GivenLemmas.{sound-root}
+use Rattle.jh_check.proofs.JoinLemmas.{clean-from_nothing}
+use Rattle.jh_history.specs.Admitted.{IsAdmitted, IsSoundProgram}
+
+-- root's regions are sound, and the hypervisor's memory
+pub sound_root : (image : Image) → IsAdmitted image → IsSoundRoot image.system
+sound_root image admitted = sound-root image.system [] (clean-from_nothing image.system [] admitted.system.clean)
 
 -- its regions lie within the addresses and the places
-pub within : (image : Image) → IsAdmitted image → All (λ (r : Region). 0 < r.size → IsWithin r) image.system.root.memory_regions
-within image admitted = λ i d lt some. (admitted.system.regions i d lt some).within
+pub within : (image : Image) → IsAdmitted image → All (λ (r : Region). 0 < r.size → IsInRange r) image.system.root.memory_regions
+within image admitted = λ i d lt some. let h = ((sound_root image admitted).regions i d lt some).within in record { virt = h.virt; phys = λ _. h.phys }
 
 found_at : (b : Bool) (x : Program) (o : Option Program) → IsSoundProgram x → AllByRecursion IsPlain (option_map_or (λ (p : Program). p.ops) o []) → AllByRecursion IsPlain (option_map_or (λ (p : Program). p.ops) (cond b (Some x) o) [])
 found_at true x o fine rest = recursion_from_All IsPlain x.ops fine.plain

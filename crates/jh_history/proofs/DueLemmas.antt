@@ -1,13 +1,24 @@
 -- What is due, by the cases.
-use Rattle.std.proofs.Common.{◌≡◌, ◌<◌, ◌≤◌, ℕ, List, [], ◌∷◌, ◌++◌, Bool, true, false, Option, Some, None, refl, sym, ◌∙◌, ap, arith}
-use Rattle.std.specs.Prelude.{IsTrue, option_map}
+use Rattle.std.proofs.lemmas.Bool.{cases_lt}
+use Rattle.std.proofs.Common.{inl, inr, ◌+◌, ◌-◌, ◌%◌, ◌≡◌, ◌<◌, ◌≤◌, ℕ, List, [], ◌∷◌, ◌++◌, Bool, true, false, Option, Some, None, refl, sym, ◌∙◌, ap, subst, arith}
+use Rattle.std.specs.Prelude.{IsTrue, IfSome, option_map, is_some}
 use Rattle.std.proofs.lemmas.Option.{none-some, same_Some}
+use Rattle.jh_cpu.specs.declared.cpu.Cpu.{Cpu}
 use Rattle.jh_script.specs.declared.image.Image.{Image}
+use Rattle.jh_script.specs.declared.op.Op.{Op}
+use Rattle.jh_script.specs.declared.op.Op.TheVariants.{Read as ReadOp, Write as WriteOp, Fetch as FetchOp, Await as AwaitOp}
+use Rattle.jh_history.specs.declared.access.Access.TheVariants.{Read as ToRead, Write as ToWrite, Fetch as ToFetch}
+use Rattle.jh_history.specs.declared.access.Reach.{Reach}
 use Rattle.jh_history.specs.declared.entry.Entry.{Entry}
 use Rattle.jh_history.specs.declared.entry.Act.{Act}
-use Rattle.jh_history.specs.Cells.{is_on_board}
-use Rattle.jh_history.specs.Facts.{Facts, facts}
-use Rattle.jh_history.specs.Due.{due, IsLegal, due_at, entry_of, state_act, entry_by}
+use Rattle.jh_history.specs.declared.entry.Act.TheVariants.{Read, Write, Fetch}
+use Rattle.jh_history.specs.Access.{read_of, is_reached}
+use Rattle.jh_history.specs.Facts.{Facts}
+use Rattle.jh_history.specs.History.{facts}
+use Rattle.jh_history.specs.Lives.{is_on_board}
+use Rattle.jh_history.specs.Grants.{reach}
+use Rattle.jh_history.specs.Wants.{wanted_of, pending_op, IsReachOf, IsReachIn, IsReachOfAct, IsReachOfEntry}
+use Rattle.jh_history.specs.Due.{due, IsLegal, due_at, entry_of, state_act, act_of, await_of, entry_by}
 use Rattle.jh_history.proofs.FactsLemmas.{IsLegal-push}
 
 -- nothing is due to a CPU that the board lacks
@@ -45,3 +56,55 @@ pub IsLegal-made : (image : Image) (old new : List Entry) (cpu : ℕ) (entry : E
 IsLegal-made image old new cpu entry legal made is =
     let own : due image old entry.cpu ≡ Some entry = ap (due image old) (due_at-cpu image (facts image old) cpu entry made) ∙ made in
     rw is (IsLegal-push image old entry legal own)
+
+-- a round of sixteen CPUs from any on meets each
+pub none_round : (image : Image) (f : Facts) (first cpu : ℕ) → first < 16 → cpu < 16 → ((j : ℕ) → j < 16 → due_at image f ((first + j) % 16) ≡ None) → due_at image f cpu ≡ None
+none_round image f first cpu few below none = elim (cases_lt cpu first) [
+  | inl lt ↦ (let e : cpu ≡ (first + ((cpu + 16) - first)) % 16 = omega arith in ap (due_at image f) e) ∙ none ((cpu + 16) - first) (omega arith)
+  | inr le ↦ (let e : cpu ≡ (first + (cpu - first)) % 16 = omega arith in ap (due_at image f) e) ∙ none (cpu - first) (omega arith)
+]
+
+-- what an operation comes to, by what its access reaches
+pub act_of-read : (i : Image) (f : Facts) (cell : ℕ) (op : Op) (width at : ℕ) (got : Option ℕ) (found : Reach) → op ≡ ReadOp width at → got ≡ read_of f.byte found → IsReachOf i f cell op found → Some (Read width at got) ≡ act_of i f cell op
+act_of-read i f cell op width at got found is e reached =
+    let P : Op → Type 0 = λ o. IsReachOf i f cell o found → Some (Read width at got) ≡ act_of i f cell o in
+    subst P (sym is) (λ own. ap (λ (g : Option ℕ). Some (Read width at g)) (e ∙ ap (read_of f.byte) (own (record { access = ToRead; at = at; width = width }) refl))) reached
+
+pub act_of-fetch : (i : Image) (f : Facts) (cell : ℕ) (op : Op) (at : ℕ) (got : Option ℕ) (found : Reach) → op ≡ FetchOp at → got ≡ read_of f.byte found → IsReachOf i f cell op found → Some (Fetch at got) ≡ act_of i f cell op
+act_of-fetch i f cell op at got found is e reached =
+    let P : Op → Type 0 = λ o. IsReachOf i f cell o found → Some (Fetch at got) ≡ act_of i f cell o in
+    subst P (sym is) (λ own. ap (λ (g : Option ℕ). Some (Fetch at g)) (e ∙ ap (read_of f.byte) (own (record { access = ToFetch; at = at; width = 4 }) refl))) reached
+
+pub act_of-write : (i : Image) (f : Facts) (cell : ℕ) (op : Op) (width at value : ℕ) (ok : Bool) (found : Reach) → op ≡ WriteOp width at value → ok ≡ is_reached found → IsReachOf i f cell op found → Some (Write width at value ok) ≡ act_of i f cell op
+act_of-write i f cell op width at value ok found is e reached =
+    let P : Op → Type 0 = λ o. IsReachOf i f cell o found → Some (Write width at value ok) ≡ act_of i f cell o in
+    subst P (sym is) (λ own. ap (λ (b : Bool). Some (Write width at value b)) (e ∙ ap is_reached (own (record { access = ToWrite; at = at; width = width }) refl))) reached
+
+pub act_of-await : (i : Image) (f : Facts) (cell : ℕ) (op : Op) (width at value : ℕ) (got : Option ℕ) (found : Reach) → op ≡ AwaitOp width at value → got ≡ read_of f.byte found → IsReachOf i f cell op found → await_of width at value got ≡ act_of i f cell op
+act_of-await i f cell op width at value got found is e reached =
+    let P : Op → Type 0 = λ o. IsReachOf i f cell o found → await_of width at value got ≡ act_of i f cell o in
+    subst P (sym is) (λ own. ap (await_of width at value) (e ∙ ap (read_of f.byte) (own (record { access = ToRead; at = at; width = width }) refl))) reached
+
+-- a write reaches what its operation reaches
+pub write-reaches : (i : Image) (f : Facts) (cell : ℕ) (op : Op) (width at value : ℕ) (found : Reach) → op ≡ WriteOp width at value → IsReachOf i f cell op found → found ≡ reach i f cell ToWrite at width
+write-reaches i f cell op width at value found is reached = reached (record { access = ToWrite; at = at; width = width }) (ap wanted_of is)
+
+-- the act as an entry reaches the same
+pub entry-reaches : (i : Image) (f : Facts) (cpu cell : ℕ) (found : Reach) (o : Option Act) → IfSome o (λ act. IsReachOfAct i f cell act found) → IfSome (option_map (entry_by cpu cell) o) (λ entry. IsReachOfEntry i f entry found)
+entry-reaches i f cpu cell found None reached = tt
+entry-reaches i f cpu cell found (Some act) reached = reached
+
+-- the reach of a pending operation
+pub pending-reach : (i : Image) (f : Facts) (state : Cpu) (cpu : ℕ) (op : Op) (found : Reach) → pending_op i f state cpu ≡ Some op → IsReachIn i f state cpu found → IsReachOf i f state.owner op found
+pending-reach i f state cpu op found is reached = reached op is
+
+is_some-entry : (cpu cell : ℕ) (o : Option Act) → is_some (option_map (entry_by cpu cell) o) ≡ is_some o
+is_some-entry cpu cell None = refl
+is_some-entry cpu cell (Some act) = refl
+
+-- whether an entry is due to a CPU of the board
+pub due_at-some : (i : Image) (f : Facts) (cpu : ℕ) (state : Cpu) → is_on_board i cpu ≡ true → state ≡ f.cpu cpu → is_some (state_act i f state cpu) ≡ is_some (due_at i f cpu)
+due_at-some i f cpu state on is =
+    ap (λ (s : Cpu). is_some (state_act i f s cpu)) is
+    ∙ sym (is_some-entry cpu (f.cpu cpu).owner (state_act i f (f.cpu cpu) cpu))
+    ∙ ap (λ (o : Option Entry). is_some o) (sym (due_at-present i f cpu on))

@@ -4,8 +4,12 @@ use Rattle.std.specs.List.{fold}
 use Rattle.std.proofs.lemmas.List.{take_more}
 use Rattle.std.proofs.lemmas.List.Sums.{fold-append}
 use Rattle.jh_script.specs.declared.image.Image.{Image}
+use Rattle.jh_history.specs.declared.place.Place.{Place}
 use Rattle.jh_history.specs.declared.entry.Entry.{Entry}
-use Rattle.jh_history.specs.Facts.{Facts, start, after, facts, byte_after, cpu_after}
+use Rattle.jh_history.specs.Facts.{Facts}
+use Rattle.jh_history.specs.History.{start, after, facts}
+use Rattle.jh_history.specs.Bytes.{byte_after}
+use Rattle.jh_history.specs.Cpus.{cpu_after}
 use Rattle.jh_history.specs.Due.{due_at, due, IsLegal, IsLegalFrom}
 
 -- functions that agree everywhere are one
@@ -48,7 +52,7 @@ IsLegal-nil image = tt
 pub facts-next : (image : Image) (entries : List Entry) (i : ℕ) (d : Entry) → i < length entries → facts image (take (i + 1) entries) ≡ after image (facts image (take i entries)) (get_or entries i d)
 facts-next image entries i d lt = ap (facts image) (take_more entries i d lt) ∙ facts-push image (take i entries) (get_or entries i d)
 
-pub byte-next : (image : Image) (entries : List Entry) (i : ℕ) (d : Entry) (q : ℕ) → i < length entries → (facts image (take (i + 1) entries)).byte q ≡ byte_after image (facts image (take i entries)) (get_or entries i d).cell (get_or entries i d).act q
+pub byte-next : (image : Image) (entries : List Entry) (i : ℕ) (d : Entry) (q : Place) → i < length entries → (facts image (take (i + 1) entries)).byte q ≡ byte_after image (facts image (take i entries)) (get_or entries i d).cell (get_or entries i d).act q
 unfolding after
 byte-next image entries i d q lt = ap (λ (f : Facts). f.byte q) (facts-next image entries i d lt)
 

@@ -8,9 +8,9 @@ use Rattle.std.proofs.lemmas.List.{append-nil, length_push}
 use Rattle.std.proofs.lemmas.List.Sums.{fold-append}
 use Rattle.jh_script.specs.declared.image.Image.{Image}
 use Rattle.jh_history.specs.declared.entry.Entry.{Entry}
-use Rattle.jh_history.specs.Facts.{facts}
+use Rattle.jh_history.specs.History.{facts}
 use Rattle.jh_history.proofs.DueLemmas.{due_at-absent, due_at-beyond}
-use Rattle.jh_history.specs.Cells.{is_on_board}
+use Rattle.jh_history.specs.Lives.{is_on_board}
 use Rattle.jh_history.specs.Due.{due, IsQuiet}
 use Rattle.jh_history.specs.Items.{Reached, with_due, with_item, items, below, rounds, cpus_of}
 

@@ -5,7 +5,8 @@ use Rattle.std.proofs.lemmas.Option.{same_Some}
 use Rattle.std.proofs.lemmas.List.Sums.{fold-append}
 use Rattle.jh_script.specs.declared.image.Image.{Image}
 use Rattle.jh_history.specs.declared.entry.Entry.{Entry}
-use Rattle.jh_history.specs.Facts.{Facts, start, after, facts}
+use Rattle.jh_history.specs.Facts.{Facts}
+use Rattle.jh_history.specs.History.{start, after, facts}
 use Rattle.jh_history.specs.Due.{due_at, due, IsLegal, IsLegalFrom, IsQuiet}
 
 due_from : (image : Image) (f : Facts) (before rest : List Entry) (entry : Entry) → IsLegalFrom image f (before ++ entry ∷ rest) → due_at image (fold (after image) f before) entry.cpu ≡ Some entry

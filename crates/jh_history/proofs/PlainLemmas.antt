@@ -2,6 +2,8 @@
 use Rattle.std.proofs.Common.{◌≡◌, ℕ, zero, suc, ◌≤◌, List, [], ◌∷◌, Bool, true, false, cond, Option, Some, None, subst, eqb, sym, ◌∙◌, refl}
 use Rattle.std.specs.Prelude.{option_map, option_and_then, slice_get, All, IfSome}
 use Rattle.std.specs.List.{AllByRecursion}
+use Rattle.std.specs.Option.{option_map_or}
+use Rattle.jh_cellcfg.specs.declared.config.CellConfig.{CellConfig}
 use Rattle.std.proofs.lemmas.List.Elements.{recursion_from_All, All-from_recursion}
 use Rattle.std.proofs.lemmas.Option.{none-some, same_Some}
 use Rattle.jh_script.specs.declared.image.Image.{Image}
@@ -10,26 +12,28 @@ use Rattle.jh_script.specs.declared.op.Op.TheVariants.{Read, Write, Fetch, Await
 use Rattle.jh_history.specs.declared.access.Access.TheVariants.{Read as ToRead}
 use Rattle.jh_history.specs.declared.entry.Entry.{Entry}
 use Rattle.jh_history.specs.declared.entry.Act.{Act}
-use Rattle.jh_history.specs.declared.entry.Act.TheVariants.{Await as AwaitAct}
-use Rattle.jh_history.specs.declared.cpu.Cpu.{Cpu}
-use Rattle.jh_history.specs.declared.cpu.Mode.{Mode}
-use Rattle.jh_history.specs.declared.cpu.Mode.TheVariants.{Running, Parked, Failed}
+use Rattle.jh_history.specs.declared.entry.Act.TheVariants.{Await as AwaitAct, Stop}
+use Rattle.jh_cpu.specs.declared.cpu.Cpu.{Cpu}
 use Rattle.jh_history.specs.Access.{read_of}
-use Rattle.jh_history.specs.Cells.{name_of, is_on_board, program_of}
-use Rattle.jh_history.specs.Facts.{Facts, start, after, reach}
-use Rattle.jh_history.specs.Due.{due_at, act_in_mode, act_marked, state_act, running_act, act_of, await_of, entry_by, op_at, ops_of, IsLegal, IsLegalFrom}
-use Rattle.jh_history.specs.Admitted.{IsAdmitted, IsPlain, IsPlainAct, IsPlainEntry}
+use Rattle.jh_cellcfg.specs.Cells.{name_of}
+use Rattle.jh_history.specs.Lives.{is_on_board, program_of, ops_in, op_at}
+use Rattle.jh_history.specs.Facts.{Facts}
+use Rattle.jh_history.specs.History.{start, after}
+use Rattle.jh_history.specs.Grants.{reach}
+use Rattle.jh_history.specs.Wants.{pending_op, goes_on}
+use Rattle.jh_history.specs.Due.{due_at, state_act, act_of, await_of, entry_by, IsLegal, IsLegalFrom}
+use Rattle.jh_script.specs.Operations.{IsPlain}
+use Rattle.jh_history.specs.Admitted.{IsAdmitted, IsPlainAct, IsPlainEntry}
 use Rattle.jh_history.proofs.AdmittedLemmas.{program_of-plain, width_le}
 use Rattle.jh_history.proofs.DueLemmas.{due_at-absent, due_at-present}
 
-choose : (b : Bool) (ops : List Op) → AllByRecursion IsPlain ops → AllByRecursion IsPlain (cond b ops [])
-choose true ops all = all
-choose false ops all = tt
+ops_by : (image : Image) (cpu : ℕ) (b : Bool) → IsAdmitted image
+    → AllByRecursion IsPlain (option_map_or (λ (c : CellConfig). program_of image (name_of c) cpu) (cond b (Some image.system.root) None) [])
+ops_by image cpu true admitted = recursion_from_All IsPlain (program_of image (name_of image.system.root) cpu) (program_of-plain image (name_of image.system.root) cpu admitted)
+ops_by image cpu false admitted = tt
 
-pub ops_of-plain : (image : Image) (cell cpu : ℕ) → IsAdmitted image → AllByRecursion IsPlain (ops_of image cell cpu)
-ops_of-plain image cell cpu admitted =
-    let ops = program_of image (name_of image.system.root) cpu in
-    choose (eqb cell image.system.root.id) ops (recursion_from_All IsPlain ops (program_of-plain image (name_of image.system.root) cpu admitted))
+pub ops_in-plain : (image : Image) (id cpu : ℕ) → IsAdmitted image → AllByRecursion IsPlain (ops_in image id cpu)
+ops_in-plain image id cpu admitted = ops_by image cpu (eqb id image.system.root.id) admitted
 
 pub at_place : (ops : List Op) (i : ℕ) → AllByRecursion IsPlain ops → IfSome (slice_get ops i) IsPlain
 at_place [] i all = tt
@@ -56,18 +60,14 @@ plain_op : (image : Image) (f : Facts) (cell : ℕ) (o : Option Op) → IfSome o
 plain_op image f cell None plain = tt
 plain_op image f cell (Some op) plain = plain_act image f cell op plain
 
-plain_running : (image : Image) (f : Facts) (state : Cpu) (cpu : ℕ) → IsAdmitted image → IfSome (running_act image f state cpu) IsPlainAct
-plain_running image f state cpu admitted = plain_op image f state.owner (op_at image state cpu) (at_place (ops_of image state.owner cpu) state.position (ops_of-plain image state.owner cpu admitted))
+plain_pending : (image : Image) (f : Facts) (state : Cpu) (cpu : ℕ) (b : Bool) → IsAdmitted image → IfSome (cond b (op_at image f state cpu) None) IsPlain
+plain_pending image f state cpu true admitted = at_place (ops_in image state.owner cpu) state.position (ops_in-plain image state.owner cpu admitted)
+plain_pending image f state cpu false admitted = tt
 
-plain_mode : (image : Image) (f : Facts) (state : Cpu) (cpu : ℕ) (mode : Mode) → IsAdmitted image → IfSome (act_in_mode mode image f state cpu) IsPlainAct
-plain_mode image f state cpu Running admitted = plain_running image f state cpu admitted
-plain_mode image f state cpu Parked admitted = tt
-plain_mode image f state cpu Failed admitted = tt
-
-plain_marked : (image : Image) (f : Facts) (state : Cpu) (cpu : ℕ) (asked stopped : Bool) → IsAdmitted image → IfSome (act_marked asked stopped image f state cpu) IsPlainAct
-plain_marked image f state cpu true stopped admitted = tt
-plain_marked image f state cpu false true admitted = tt
-plain_marked image f state cpu false false admitted = plain_mode image f state cpu state.mode admitted
+plain_state : (image : Image) (f : Facts) (state : Cpu) (cpu : ℕ) (asked : Bool) → IsAdmitted image
+    → IfSome (cond asked (Some Stop) (option_and_then (act_of image f state.owner) (pending_op image f state cpu))) IsPlainAct
+plain_state image f state cpu true admitted = tt
+plain_state image f state cpu false admitted = plain_op image f state.owner (pending_op image f state cpu) (plain_pending image f state cpu (goes_on state) admitted)
 
 entry_plain : (cpu cell : ℕ) (entry : Entry) (o : Option Act) → IfSome o IsPlainAct → option_map (entry_by cpu cell) o ≡ Some entry → IsPlainEntry entry
 entry_plain cpu cell entry None plain h = absurd (none-some entry h)
@@ -75,7 +75,7 @@ entry_plain cpu cell entry (Some act) plain h = let P : Entry → Type 0 = IsPla
 
 at_board : (image : Image) (f : Facts) (cpu : ℕ) (entry : Entry) (b : Bool) → IsAdmitted image → is_on_board image cpu ≡ b → due_at image f cpu ≡ Some entry → IsPlainEntry entry
 at_board image f cpu entry true admitted e h =
-    entry_plain cpu (f.cpu cpu).owner entry (state_act image f (f.cpu cpu) cpu) (plain_marked image f (f.cpu cpu) cpu (f.cpu cpu).asked (f.cpu cpu).stopped admitted) (sym (due_at-present image f cpu e) ∙ h)
+    entry_plain cpu (f.cpu cpu).owner entry (state_act image f (f.cpu cpu) cpu) (plain_state image f (f.cpu cpu) cpu (f.cpu cpu).asked admitted) (sym (due_at-present image f cpu e) ∙ h)
 at_board image f cpu entry false admitted e h = absurd (none-some entry (sym (due_at-absent image f cpu e) ∙ h))
 
 pub due_at-plain : (image : Image) (f : Facts) (cpu : ℕ) (entry : Entry) → IsAdmitted image → due_at image f cpu ≡ Some entry → IsPlainEntry entry

@@ -1,12 +1,16 @@
--- What an access reaches, and what a read and a write at places mean.
-use Rattle.std.specs.Prelude.{ℕ, zero, suc, ◌+◌, ◌-◌, ◌*◌, ◌/◌, ◌%◌, Bool, true, false, ◌&&◌, ◌==◌, nat_lt, nat_le, if◌then◌else◌, List, [], ◌∷◌, map, find, length, slice_index, Option, Some, None, option_map, option_and_then}
+-- What an access reaches, and what a read and a write there mean.
+use Rattle.std.specs.Prelude.{◌≡◌, ℕ, All, zero, suc, ◌+◌, Bool, true, false, ◌&&◌, nat_le, if◌then◌else◌, List, [], ◌∷◌, map, find, Option, Some, None, option_map, option_and_then}
 use Rattle.jh_num.specs.declared.address.TheConstants.{ADDRESS_END}
+use Rattle.jh_num.specs.Memory.{spelled}
 use Rattle.jh_cellcfg.specs.declared.region.Region.{Region}
-use Rattle.jh_cellcfg.specs.Regions.{has_flags, has_address, is_page_mapped, is_comm, place_in}
+use Rattle.jh_cellcfg.specs.Regions.{has_flags, has_address, is_page_mapped, is_comm, place_in, byte_in}
+use Rattle.jh_history.specs.declared.place.Place.{Place}
+use Rattle.jh_history.specs.declared.place.Place.TheVariants.{Physical, Page}
 use Rattle.jh_history.specs.declared.access.Access.{Access}
 use Rattle.jh_history.specs.declared.access.Access.TheVariants.{Read, Write, Fetch}
 use Rattle.jh_history.specs.declared.access.Reach.{Reach}
 use Rattle.jh_history.specs.declared.access.Reach.TheVariants.{Memory, Nothing}
+use Rattle.jh_history.specs.Places.{is_physical, written}
 
 -- the flag of the right that the access needs
 abbrev pub right_of : Access → ℕ
@@ -14,38 +18,41 @@ right_of Read = 0x1
 right_of Write = 0x2
 right_of Fetch = 0x4
 
--- the region is page-mapped memory and gives the address with the right; a subpage region, the
--- communication region, the ECAM window and BAR windows answer accesses by cases of their own, which
--- no image has yet
+-- the region is page-mapped and gives the address with the right; subpage regions, the ECAM window and
+-- BAR windows answer accesses by cases of their own, which no image has yet
 abbrev pub gives : Access → ℕ → Region → Bool
 gives access at region = has_address region at && is_page_mapped region && has_flags (right_of access) region
 
--- the place that a page-mapped region with the right gives the address
-unfoldable pub place_of : List Region → Access → ℕ → Option ℕ
-place_of regions access at = option_map (λ (r : Region). place_in r at) (find (gives access at) regions)
+-- the place that the region of the cell gives its address: a byte of the cell's communication page, or
+-- one of physical memory
+abbrev pub place_in_cell : ℕ → Region → ℕ → Place
+place_in_cell id region at = if is_comm region then Page id (byte_in region at) else Physical (place_in region at)
+
+-- the region that gives the address with the right: the first that does
+abbrev pub region_of : List Region → Access → ℕ → Option Region
+region_of regions access at = find (gives access at) regions
+
+-- the place that the regions of the cell give the address, with the right
+unfoldable pub place_of : ℕ → List Region → Access → ℕ → Option Place
+place_of id regions access at = option_map (λ (r : Region). place_in_cell id r at) (region_of regions access at)
 
 -- the places of so many addresses from `at` on, where each has one
-abbrev pub places_from : (ℕ → Option ℕ) → ℕ → ℕ → Option (List ℕ)
+abbrev pub places_from : (ℕ → Option Place) → ℕ → ℕ → Option (List Place)
 places_from place at zero = Some []
-places_from place at (suc count) = option_and_then (λ p. option_map (λ ps. p ∷ ps) (places_from place (at + 1) count)) (place at)
+places_from place at (suc count) = option_and_then (λ (p : Place). option_map (λ (ps : List Place). p ∷ ps) (places_from place (at + 1) count)) (place at)
 
 -- memory at those places, or nothing
-abbrev pub memory_or_nothing : Option (List ℕ) → Reach
+abbrev pub memory_or_nothing : Option (List Place) → Reach
 memory_or_nothing (Some places) = Memory places
 memory_or_nothing None = Nothing
 
 -- what an access of so many bytes reaches, where addresses have these places: memory where each byte
 -- has one, and nothing where one lacks it or the access ends past the addresses
-unfoldable pub reach_by : (ℕ → Option ℕ) → ℕ → ℕ → Reach
+unfoldable pub reach_by : (ℕ → Option Place) → ℕ → ℕ → Reach
 reach_by place at width = if nat_le (at + width) ADDRESS_END then memory_or_nothing (places_from place at width) else Nothing
 
--- the number that the bytes spell, the lowest first
-abbrev pub spelled : List ℕ → ℕ
-spelled [] = 0
-spelled (b ∷ bs) = b + 256 * spelled bs
-
 -- the number that an access reads where it reaches, from these bytes of memory
-abbrev pub read_of : (ℕ → ℕ) → Reach → Option ℕ
+abbrev pub read_of : (Place → ℕ) → Reach → Option ℕ
 read_of byte (Memory places) = Some (spelled (map byte places))
 read_of byte Nothing = None
 
@@ -54,25 +61,12 @@ abbrev pub is_reached : Reach → Bool
 is_reached (Memory places) = true
 is_reached Nothing = false
 
--- the bytes, with one changed
-abbrev pub with_byte : (ℕ → ℕ) → ℕ → ℕ → ℕ → ℕ
-with_byte byte place value q = if q == place then value else byte q
-
--- the bytes, with the value written over the places, the lowest byte first
-abbrev pub written : (ℕ → ℕ) → List ℕ → ℕ → ℕ → ℕ
-written byte [] value = byte
-written byte (place ∷ places) value = written (with_byte byte place (value % 256)) places (value / 256)
+-- what is reached is physical memory alone
+abbrev pub IsPhysical : Reach → Type 0
+IsPhysical (Memory places) = All (λ (p : Place). is_physical p ≡ true) places
+IsPhysical Nothing = Unit {0}
 
 -- the bytes after the value is written where it reaches
-abbrev pub write_of : (ℕ → ℕ) → Reach → ℕ → ℕ → ℕ
+abbrev pub write_of : (Place → ℕ) → Reach → ℕ → Place → ℕ
 write_of byte (Memory places) value = written byte places value
 write_of byte Nothing value = byte
-
--- the bytes, with the list's from `at` on
-abbrev pub stored : (ℕ → ℕ) → ℕ → List ℕ → ℕ → ℕ
-stored byte at bytes q = if nat_le at q && nat_lt q (at + length bytes) then slice_index bytes (q - at) else byte q
-
--- the byte of a place after the value is written over the places, where it was b
-abbrev pub over : List ℕ → ℕ → ℕ → ℕ → ℕ
-over [] value q b = b
-over (place ∷ places) value q b = over places (value / 256) q (if q == place then value % 256 else b)

@@ -1,73 +1,35 @@
 -- What an image is asked for before it is opened.
-use Rattle.std.specs.Prelude.{◌≡◌, ◌≢◌, ◌<◌, ◌≤◌, ◌+◌, ◌*◌, ◌%◌, ◌^◌, ℕ, Bool, false, ◌&&◌, ◌||◌, ◌==◌, nat_lt, nat_le, List, length, All, AllPairs, IsTrue}
+use Rattle.std.specs.Prelude.{◌≡◌, ◌≢◌, ◌<◌, ◌≤◌, ◌+◌, ◌/◌, ℕ, Bool, ◌&&◌, nat_lt, nat_le, List, [], length, All, AllPairs, IsTrue}
 use Rattle.jh_num.specs.declared.address.TheConstants.{ADDRESS_END, PAGE_SIZE}
 use Rattle.jh_cellcfg.specs.declared.region.Region.{Region}
-use Rattle.jh_cellcfg.specs.declared.config.CellConfig.{CellConfig}
 use Rattle.jh_cellcfg.specs.declared.config.PciDevice.{PciDevice}
 use Rattle.jh_cellcfg.specs.declared.config.SystemConfig.{SystemConfig}
-use Rattle.jh_cellcfg.specs.Regions.{has_flags, has_address, has_place, is_page_mapped, is_comm, virt_end, phys_end, IsWithin}
+use Rattle.jh_cellcfg.specs.Regions.{has_place, is_page_mapped}
+use Rattle.jh_check.specs.Findings.{findings}
+use Rattle.jh_shape.specs.Pages.{pages_of}
 use Rattle.jh_script.specs.declared.image.Image.{Image}
 use Rattle.jh_script.specs.declared.image.Program.{Program}
 use Rattle.jh_script.specs.declared.image.Preload.{Preload}
 use Rattle.jh_script.specs.declared.op.Op.{Op}
 use Rattle.jh_script.specs.declared.op.Op.TheVariants.{Read, Write, Fetch, Await, Irq, Hvc}
+use Rattle.jh_script.specs.Operations.{IsPlain}
 use Rattle.jh_history.specs.declared.entry.Act.{Act}
 use Rattle.jh_history.specs.declared.entry.Act.TheVariants.{Read as ReadAct, Write as WriteAct}
 use Rattle.jh_history.specs.declared.entry.Entry.{Entry}
-use Rattle.jh_history.specs.Cells.{is_cpu_set, is_program_of}
+use Rattle.jh_history.specs.Lives.{is_program_of}
 
--- no address is one of both, and no place is
-abbrev pub SharesNoAddress : Region → Region → Type 0
-SharesNoAddress r s = (at : ℕ) → IsTrue (has_address r at) → IsTrue (has_address s at) → ⊥
+-- the pages that root takes before any cell is created
+abbrev pub root_pages : SystemConfig → ℕ
+root_pages system = pages_of system.root.memory_regions []
 
-abbrev pub SharesNoPlace : Region → Region → Type 0
-SharesNoPlace r s = (place : ℕ) → IsTrue (has_place r place) → IsTrue (has_place s place) → ⊥
+-- the pages that the hypervisor has to give: its memory is the pool
+abbrev pub pool_pages : SystemConfig → ℕ
+pool_pages system = system.hypervisor_memory.size / PAGE_SIZE
 
--- what is asked of each region of root that isn't empty: it ends within the addresses and the places,
--- lies outside the hypervisor's memory, is mapped to the same place as its address, is no communication
--- region, isn't executable without being readable, and is of whole pages with an aligned place where
--- its addresses are
-pub record IsSoundRegion (hypervisor region : Region) : Type 0 where
-  pub within : IsWithin region
-  pub clear : SharesNoPlace hypervisor region
-  pub identity : region.phys_start ≡ region.virt_start
-  pub no_comm : is_comm region ≡ false
-  pub readable : IsTrue (has_flags 0x4 region) → IsTrue (has_flags 0x1 region)
-
--- the hypervisor's memory is whole pages within the places, 64 MiB at most
-pub record IsSoundMemory (hypervisor : Region) : Type 0 where
-  pub some : 0 < hypervisor.size
-  pub few : hypervisor.size ≤ 64 * 2 ^ 20
-  pub within : phys_end hypervisor ≤ ADDRESS_END
-  pub aligned : hypervisor.phys_start % PAGE_SIZE ≡ 0
-  pub whole : hypervisor.size % PAGE_SIZE ≡ 0
-
--- the CPU set names a CPU, and none above 15
-pub record IsSoundCpuSet (set : List ℕ) : Type 0 where
-  pub some : (cpu : ℕ) × IsTrue (is_cpu_set set cpu)
-  pub few : (cpu : ℕ) → IsTrue (is_cpu_set set cpu) → cpu < 16
-
--- the check finds nothing in the system alone, its devices aside, which no image has yet
+-- a system is admitted where the check finds nothing in it alone, and the pool has root's pages
 pub record IsAdmittedSystem (system : SystemConfig) : Type 0 where
-  pub memory : IsSoundMemory system.hypervisor_memory
-  pub regions : All (λ (r : Region). 0 < r.size → IsSoundRegion system.hypervisor_memory r) system.root.memory_regions
-  pub addresses : AllPairs SharesNoAddress system.root.memory_regions
-  pub places : AllPairs SharesNoPlace system.root.memory_regions
-  pub cpus : IsSoundCpuSet system.root.cpu_set
-
--- an access has 1, 2, 4 or 8 bytes
-abbrev pub is_width : ℕ → Bool
-is_width width = (width == 1) || (width == 2) || (width == 4) || (width == 8)
-
--- the operation is within its limits: its width is one that an access may have, its value fits that
--- width, and an instruction is fetched at a multiple of 4
-abbrev pub IsPlain : Op → Type 0
-IsPlain (Read width at) = IsTrue (is_width width)
-IsPlain (Write width at value) = IsTrue (is_width width) × (value < 256 ^ width)
-IsPlain (Fetch at) = at % 4 ≡ 0
-IsPlain (Await width at value) = IsTrue (is_width width) × (value < 256 ^ width)
-IsPlain Irq = Unit {0}
-IsPlain (Hvc code a b) = Unit {0}
+  pub clean : findings system [] ≡ []
+  pub room : root_pages system ≤ pool_pages system
 
 pub record IsSoundProgram (program : Program) : Type 0 where
   pub few : length program.ops ≤ 4096

@@ -1,5 +1,6 @@
 -- What is due to a CPU, and which journals are legal and quiet.
-use Rattle.std.specs.Prelude.{◌≡◌, ℕ, Bool, true, false, ◌==◌, if◌then◌else◌, List, [], ◌∷◌, slice_get, Option, Some, None, option_map, option_and_then}
+use Rattle.std.specs.Prelude.{◌≡◌, ℕ, Bool, true, false, ◌==◌, if◌then◌else◌, List, [], ◌∷◌, Option, Some, None, option_map, option_and_then}
+use Rattle.jh_cpu.specs.declared.cpu.Cpu.{Cpu}
 use Rattle.jh_script.specs.declared.image.Image.{Image}
 use Rattle.jh_script.specs.declared.op.Op.{Op}
 use Rattle.jh_script.specs.declared.op.Op.TheVariants.{Read as ReadOp, Write as WriteOp, Fetch as FetchOp, Await as AwaitOp, Irq as IrqOp, Hvc as HvcOp}
@@ -7,20 +8,12 @@ use Rattle.jh_history.specs.declared.access.Access.TheVariants.{Read as ToRead, 
 use Rattle.jh_history.specs.declared.entry.Entry.{Entry}
 use Rattle.jh_history.specs.declared.entry.Act.{Act}
 use Rattle.jh_history.specs.declared.entry.Act.TheVariants.{Read, Write, Fetch, Await, Stop}
-use Rattle.jh_history.specs.declared.cpu.Cpu.{Cpu}
-use Rattle.jh_history.specs.declared.cpu.Mode.{Mode}
-use Rattle.jh_history.specs.declared.cpu.Mode.TheVariants.{Running, Parked, Failed}
 use Rattle.jh_history.specs.Access.{read_of, is_reached}
-use Rattle.jh_history.specs.Cells.{name_of, is_on_board, program_of}
-use Rattle.jh_history.specs.Facts.{Facts, start, after, facts, reach}
-
--- the operations of the CPU's program in the cell with the id: root is the one that there is
-abbrev pub ops_of : Image → ℕ → ℕ → List Op
-ops_of image cell cpu = if cell == image.system.root.id then program_of image (name_of image.system.root) cpu else []
-
--- the operation that the CPU is at
-abbrev pub op_at : Image → Cpu → ℕ → Option Op
-op_at image state cpu = slice_get (ops_of image state.owner cpu) state.position
+use Rattle.jh_history.specs.Facts.{Facts}
+use Rattle.jh_history.specs.Lives.{is_on_board}
+use Rattle.jh_history.specs.Grants.{reach}
+use Rattle.jh_history.specs.Wants.{pending_op}
+use Rattle.jh_history.specs.History.{start, after, facts}
 
 -- an await that reads nothing is a violation; one that reads another value isn't due
 abbrev pub await_of : ℕ → ℕ → ℕ → Option ℕ → Option Act
@@ -37,25 +30,9 @@ act_of image facts cell (AwaitOp width at value) = await_of width at value (read
 act_of image facts cell IrqOp = None
 act_of image facts cell (HvcOp code a b) = None
 
--- what a running CPU does next: its program's operation; the phases of its open call come with the calls
-abbrev pub running_act : Image → Facts → Cpu → ℕ → Option Act
-running_act image facts state cpu = option_and_then (act_of image facts state.owner) (op_at image state cpu)
-
--- what a CPU in this mode does next
-abbrev pub act_in_mode : Mode → Image → Facts → Cpu → ℕ → Option Act
-act_in_mode Running image facts state cpu = running_act image facts state cpu
-act_in_mode Parked image facts state cpu = None
-act_in_mode Failed image facts state cpu = None
-
--- what a CPU with these marks does next
-abbrev pub act_marked : Bool → Bool → Image → Facts → Cpu → ℕ → Option Act
-act_marked true stopped image facts state cpu = Some Stop
-act_marked false true image facts state cpu = None
-act_marked false false image facts state cpu = act_in_mode state.mode image facts state cpu
-
--- what a CPU in this state does next
+-- what a CPU in this state does next: asked, it stops; else its program's operation, where it goes on
 abbrev pub state_act : Image → Facts → Cpu → ℕ → Option Act
-state_act image facts state cpu = act_marked state.asked state.stopped image facts state cpu
+state_act image facts state cpu = if state.asked then Some Stop else option_and_then (act_of image facts state.owner) (pending_op image facts state cpu)
 
 -- the CPU's act as an entry, in the name of its owner
 abbrev pub entry_by : ℕ → ℕ → Act → Entry

@@ -1,6 +1,6 @@
 //! What an access is, and what it may reach.
 
-use std::marker::Model;
+use crate::place::Places;
 
 /// What an access does with the bytes; each kind needs a right of its own.
 #[derive(Clone, Copy, PartialEq, Eq, Debug)]
@@ -11,21 +11,13 @@ pub enum Access {
     Fetch,
 }
 
-/// The physical places of an access's bytes, in order: at most eight.
-#[derive(Drop)]
-pub struct Places {
-    places: [u64; 8],
-    len: usize,
-}
-
-impl Model for Places {
-    ghost use Rattle.std.specs.Prelude.{List, ℕ, ◌≤◌, take};
-
-    ghost Value = { List ℕ };
-
-    ghost view = { λ p. take p.len p.places };
-
-    ghost invariant = { λ p. p.len ≤ 8 };
+/// The access that a CPU's next entry makes: that of a read, a write, a fetch or an await.
+#[derive(Clone, Copy, PartialEq, Eq, Debug)]
+pub struct Wanted {
+    pub access: Access,
+    pub at: u64,
+    /// How many bytes.
+    pub width: u8,
 }
 
 /// What an access reaches.
@@ -35,32 +27,4 @@ pub enum Reach {
     Memory(Places),
     /// It is a violation.
     Nothing,
-}
-
-impl Places {
-    ghost use Rattle.std.specs.Prelude.{◌≡◌, ◌<◌, ◌≤◌, ◌++◌, ◌∷◌, [], length};
-
-    pub fn new() -> Self
-        ensures { result ≡ [] }
-    {
-        Places {
-            places: [0; 8],
-            len: 0,
-        }
-    }
-
-    pub fn push(&mut self, place: u64)
-        requires { length self.old < 8 }
-        ensures { self.new ≡ self.old ++ place ∷ [] }
-    {
-        self.places[self.len] = place;
-        self.len += 1;
-    }
-
-    pub fn as_slice(&self) -> &[u64]
-        ensures places { result.now ≡ self.now }
-        ensures few { length self.now ≤ 8 }
-    {
-        &self.places[..self.len]
-    }
 }

@@ -37,7 +37,7 @@ pub(crate) fn are_apart<T: Apart>(items: &[T]) -> bool
 
 /// Whether no number is both one of the `a_len` numbers from `a` on and one of the `b_len` from `b` on:
 /// the first to begin ends before the other begins, or the other has no number.
-pub fn has_none_of(a: u64, a_len: u64, b: u64, b_len: u64) -> bool
+pub(crate) fn has_none_of(a: u64, a_len: u64, b: u64, b_len: u64) -> bool
     ensures { IsTrue result ↔ HasNoneOf a a_len b b_len }
 {
     if a <= b {

@@ -1,36 +1,108 @@
-//! What accesses reach, by the places that cells are granted.
-ghost use Rattle.std.specs.Prelude.{◌≡◌, ◌+◌, ◌≤◌};
-ghost use Rattle.jh_history.specs.Access.{reach_by};
+//! What accesses reach, by the regions that give addresses to cells.
+ghost use Rattle.std.specs.Prelude.{◌≡◌, ◌+◌, ◌%◌, ◌<◌, ◌≤◌, IsTrue, IfSome, option_map};
+ghost use Rattle.jh_cellcfg.specs.declared.region.Region.{Region as TheRegion};
+ghost use Rattle.jh_cellcfg.specs.Regions.{has_address, IsInRange};
+ghost use Rattle.jh_history.specs.Places.{places_of_run, number_of, IsRun};
+ghost use Rattle.jh_history.specs.Access.{place_in_cell as place_in_cell_lem, place_of, places_from, reach_by};
 
-use crate::access::{Access, Places, Reach};
+use crate::access::{Access, Reach, Wanted};
+use crate::place::{Place, Places, Run};
+use jh_cellcfg::Region;
 use jh_num::ADDRESS_END;
 
-/// Tells the place that a cell is granted at an address.
+/// How many bytes a page has.
+const PAGE: u64 = 4096;
+
+/// Tells the region that gives a cell an address.
 pub trait Grants {
-    ghost use Rattle.std.specs.Prelude.{ℕ, Option};
-    ghost use Rattle.jh_history.specs.declared.access.Access.{Access as TheAccess};
+    ghost use Rattle.std.specs.Prelude.{ℕ, List};
+    ghost use Rattle.jh_cellcfg.specs.declared.region.Region.{Region as TheRegion};
+    ghost use Rattle.jh_history.specs.Access.{region_of};
 
-    /// The place of the address, where a page-mapped region gives it with the right.
-    ghost place: { Self → ℕ → TheAccess → ℕ → Option ℕ };
+    /// The regions of the live cell with the id.
+    ghost regions: { Self → ℕ → List TheRegion };
 
-    fn granted(&self, cell: u32, access: Access, at: u64) -> Option<u64>
-        ensures { result ≡ place self.now cell access at };
+    /// The region of the cell that gives the address with the right.
+    fn region(&self, cell: u32, access: Access, at: u64) -> Option<Region>
+        ensures found { result ≡ region_of (regions self.now cell) access at }
+        ensures within { IfSome result (λ region. IsInRange region) };
 }
 
-/// What the cell's access of so many bytes reaches.
-pub fn reach<G: Grants>(grants: &G, cell: u32, access: Access, at: u64, width: u8) -> Reach
-    requires { width ≤ 8 }
-    ensures { result ≡ reach_by (G.place grants.now cell access) at width }
+/// How many of so many bytes from the address on lie in its page.
+fn in_page(at: u64, width: u8) -> u8
+    ensures few { result ≤ width }
+    ensures page { at % 4096 + result ≤ 4096 }
+    ensures whole { result < width → at % 4096 + result ≡ 4096 }
 {
-    if at > ADDRESS_END || at + u64::from(width) > ADDRESS_END {
+    let left = PAGE - at % PAGE;
+    if u64::from(width) <= left {
+        width
+    } else {
+        left as u8
+    }
+}
+
+/// The place that the region of the cell gives its address.
+fn place_in_cell(cell: u32, region: &Region, at: u64) -> Place
+    requires within { IsInRange region.now }
+    requires has { IsTrue (has_address region.now at) }
+    ensures place { result ≡ place_in_cell_lem cell region.now at }
+    ensures small { number_of result < ADDRESS_END }
+{
+    let offset = at - region.virt_start;
+    if region.is_comm() {
+        Place::Page { cell, offset }
+    } else {
+        Place::Physical(region.phys_start + offset)
+    }
+}
+
+/// The places of so many bytes of one page, where the address has one.
+fn run_from<G: Grants>(grants: &G, cell: u32, access: Access, at: u64, count: u8) -> Option<Run>
+    requires { at % 4096 + count ≤ 4096 }
+    ensures places { option_map places_of_run result ≡ places_from (place_of cell (G.regions grants.now cell) access) at count }
+    ensures run { IfSome result IsRun }
+    ensures count { IfSome result (λ run. run.count ≡ count) }
+{
+    if count == 0 {
+        return Some(Run {
+            first: Place::Physical(0),
+            count,
+        });
+    }
+    match grants.region(cell, access, at) {
+        Some(region) => Some(Run {
+            first: place_in_cell(cell, &region, at),
+            count,
+        }),
+        None => None,
+    }
+}
+
+/// The places of the access's bytes, where each address has one. They are in two pages at most.
+fn places_of<G: Grants>(grants: &G, cell: u32, wanted: &Wanted) -> Option<Places>
+    requires few { wanted.now.width ≤ 8 }
+    requires within { wanted.now.at + wanted.now.width ≤ ADDRESS_END }
+    ensures { result ≡ places_from (place_of cell (G.regions grants.now cell) wanted.now.access) wanted.now.at wanted.now.width }
+{
+    let here = in_page(wanted.at, wanted.width);
+    let low = run_from(grants, cell, wanted.access, wanted.at, here)?;
+    let next = wanted.at + u64::from(here);
+    let high = run_from(grants, cell, wanted.access, next, wanted.width - here)?;
+    Some(Places::new(low, high))
+}
+
+/// What the cell's access reaches.
+pub fn reach<G: Grants>(grants: &G, cell: u32, wanted: &Wanted) -> Reach
+    requires { wanted.now.width ≤ 8 }
+    ensures { result ≡ reach_by (place_of cell (G.regions grants.now cell) wanted.now.access) wanted.now.at wanted.now.width }
+{
+    let width = u64::from(wanted.width);
+    if wanted.at > ADDRESS_END || width > ADDRESS_END - wanted.at {
         return Reach::Nothing;
     }
-    let mut places = Places::new();
-    for k in 0..width {
-        match grants.granted(cell, access, at + u64::from(k)) {
-            Some(place) => places.push(place),
-            None => return Reach::Nothing,
-        }
+    match places_of(grants, cell, wanted) {
+        Some(places) => Reach::Memory(places),
+        None => Reach::Nothing,
     }
-    Reach::Memory(places)
 }

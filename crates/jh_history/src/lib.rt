@@ -2,37 +2,34 @@
 #![tactic(auto)]
 
 mod access;
-mod admit;
+mod admission;
 mod apart;
+mod bytes;
 mod cells;
-mod cpu;
+mod change;
 mod entry;
 mod grants;
 mod journal;
 mod known;
 mod laws;
 mod next;
-mod past;
+mod place;
+mod plain;
 
-pub use access::{Access, Places, Reach};
-pub use admit::{is_admitted, is_built};
-pub use apart::has_none_of;
-pub use cells::{
-    ImageGrants, is_cpu_set, is_on_board, name_of, op_at, ops_of, place_of, program_of, regions_of,
-};
-pub use cpu::{Cpu, Mode};
+pub use access::{Access, Reach, Wanted};
+pub use admission::{admit, is_built, is_other_preload, is_sound_preload, pool_pages, root_pages};
+pub use bytes::{Bytes, value_of};
+pub use cells::{gives, is_on_board, is_program_of, program_of};
+pub use change::{Change, cpus_after};
 pub use entry::{Act, Entry, Heard, Settled};
 pub use grants::{Grants, reach};
+pub use jh_cpu::{Cpu, Mode};
 pub use journal::Journal;
 pub use known::Known;
-pub use laws::{
-    accesses_go_by_grants, beginnings_are_legal, bytes_are_the_last_written,
-    cpus_determine_the_journal, entries_move_their_cpu, entries_write_their_bytes,
-    legal_entries_are_due, memory_opens_with_the_preloads, nothing_extends_a_quiet_journal,
-    violations_end_their_cpu,
-};
-pub use next::{next_of, none_due};
-pub use past::{due, entry_cpu, opening_cpu, quiet};
+pub use laws::admitted_roots_are_sound;
+pub use next::{access_of, is_due, next_of, none_due, reach_of};
+pub use place::{Place, Places, Run};
+pub use plain::{due, quiet};
 
 #[cfg(test)]
 mod tests;

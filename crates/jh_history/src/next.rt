@@ -1,28 +1,97 @@
 //! What a CPU does next, told by what is known.
-ghost use Rattle.std.specs.Prelude.{◌≡◌, ◌+◌, ◌<◌, ◌≤◌, ℕ, length, Some, None, map, IfSome, IsTrue, ◌↔◌, option_map};
+ghost use Rattle.std.specs.Prelude.{◌≡◌, ◌<◌, ◌≤◌, ℕ, None, IfSome, IsTrue, ◌↔◌, is_some, option_map};
 ghost use Rattle.jh_script.specs.declared.image.Image.{Image as TheImage};
-ghost use Rattle.jh_history.specs.Access.{spelled, read_of as read_of_lem, is_reached as is_reached_lem};
+ghost use Rattle.jh_script.specs.Operations.{IsPlain};
+ghost use Rattle.jh_cellcfg.specs.Cells.{is_cpu_set as is_cpu_set_lem};
+ghost use Rattle.jh_history.specs.Access.{read_of as read_of_lem, is_reached as is_reached_lem};
 ghost use Rattle.jh_history.specs.Facts.{Facts};
-ghost use Rattle.jh_history.specs.Due.{act_of as act_of_lem, await_of as await_of_lem, running_act as running_act_lem, state_act as state_act_lem, entry_by as entry_by_lem, due_at};
-ghost use Rattle.jh_history.specs.Cells.{is_cpu_set as is_cpu_set_lem};
-ghost use Rattle.jh_history.specs.Admitted.{IsPlain, IsPlainAct};
+ghost use Rattle.jh_history.specs.Wants.{wanted_of as wanted_of_lem, goes_on as goes_on_lem, is_running as is_running_lem, pending_op as pending_op_lem, wanted_at, IsReachOf, IsReachIn, IsReachAt, IsReachOfAct, IsReachOfEntry};
+ghost use Rattle.jh_history.specs.Due.{act_of as act_of_lem, await_of as await_of_lem, state_act as state_act_lem, entry_by as entry_by_lem, due_at};
+ghost use Rattle.jh_history.specs.Admitted.{IsPlainAct};
 
-use crate::access::{Access, Reach};
-use crate::cpu::{Cpu, Mode};
+use crate::access::{Access, Reach, Wanted};
 use crate::entry::{Act, Entry};
 use crate::known::Known;
+use jh_cpu::{Cpu, Mode};
 use jh_script::Op;
 
-/// The number that the bytes at the places spell, the lowest first.
-fn value_at<K: Known>(known: &K, places: &[u64]) -> u64
-    requires { length places.now ≤ 8 }
-    ensures { (i : TheImage) (f : Facts) → K.Knows known.now i f → result ≡ spelled (map f.byte places.now) }
+/// The access that the operation makes.
+fn wanted_of(op: Op) -> Option<Wanted>
+    requires { IsPlain op }
+    ensures wanted { result ≡ wanted_of_lem op }
+    ensures few { IfSome result (λ wanted. wanted.width ≤ 8) }
 {
-    let mut value: u64 = 0;
-    for k in (0..places.len()).rev() {
-        value = value * 256 + u64::from(known.byte(places[k]));
+    match op {
+        Op::Read { width, at } | Op::Await { width, at, .. } => Some(Wanted {
+            access: Access::Read,
+            at,
+            width,
+        }),
+        Op::Write { width, at, .. } => Some(Wanted {
+            access: Access::Write,
+            at,
+            width,
+        }),
+        Op::Fetch { at } => Some(Wanted {
+            access: Access::Fetch,
+            at,
+            width: 4,
+        }),
+        Op::Irq | Op::Hvc { .. } => None,
     }
-    value
+}
+
+/// Whether a CPU in this mode runs.
+fn is_running(mode: Mode) -> bool
+    ensures { result ≡ is_running_lem mode }
+{
+    match mode {
+        Mode::Running => true,
+        Mode::Parked | Mode::Failed => false,
+    }
+}
+
+/// Whether a CPU in this state goes on with its program.
+fn goes_on(state: Cpu) -> bool
+    ensures { result ≡ goes_on_lem state }
+{
+    !state.asked && !state.stopped && is_running(state.mode)
+}
+
+/// The operation that a CPU in this state is about to make.
+fn pending_op<K: Known>(known: &K, cpu: u8, state: Cpu) -> Option<Op>
+    requires { cpu < 16 }
+    ensures op { (i : TheImage) (f : Facts) → K.Knows known.now i f → result ≡ pending_op_lem i f state cpu }
+    ensures plain { IfSome result IsPlain }
+{
+    if goes_on(state) {
+        known.operation(cpu, state)
+    } else {
+        None
+    }
+}
+
+/// The access that the CPU's next entry makes.
+pub fn access_of<K: Known>(known: &K, cpu: u8) -> Option<Wanted>
+    requires { cpu < 16 }
+    ensures wanted { (i : TheImage) (f : Facts) → K.Knows known.now i f → result ≡ wanted_at i f cpu }
+    ensures few { IfSome result (λ wanted. wanted.width ≤ 8) }
+{
+    match pending_op(known, cpu, known.cpu(cpu)) {
+        Some(op) => wanted_of(op),
+        None => None,
+    }
+}
+
+/// What the access reaches that the CPU's next entry makes; nothing where it makes none.
+pub fn reach_of<K: Known>(known: &K, cpu: u8) -> Reach
+    requires { cpu < 16 }
+    ensures { (i : TheImage) (f : Facts) → K.Knows known.now i f → IsReachAt i f cpu result }
+{
+    match access_of(known, cpu) {
+        Some(wanted) => known.reach(known.cpu(cpu).owner, &wanted),
+        None => Reach::Nothing,
+    }
 }
 
 /// The number that an access reads where it reaches.
@@ -30,7 +99,7 @@ fn read_of<K: Known>(known: &K, reach: &Reach) -> Option<u64>
     ensures { (i : TheImage) (f : Facts) → K.Knows known.now i f → result ≡ read_of_lem f.byte reach.now }
 {
     match reach {
-        Reach::Memory(places) => Some(value_at(known, places.as_slice())),
+        Reach::Memory(places) => Some(known.value(places)),
         Reach::Nothing => None,
     }
 }
@@ -71,19 +140,20 @@ fn await_of(width: u8, at: u64, value: u64, got: Option<u64>) -> Option<Act>
     }
 }
 
-/// What the cell's operation comes to, where it is due.
-fn act_of<K: Known>(known: &K, cell: u32, op: Op) -> Option<Act>
+/// What the operation comes to, where it is due; `reach` is what its access reaches.
+fn act_of<K: Known>(known: &K, op: Op, reach: &Reach) -> Option<Act>
     requires { IsPlain op }
-    ensures act { (i : TheImage) (f : Facts) → K.Knows known.now i f → result ≡ act_of_lem i f cell op }
+    ensures act { (i : TheImage) (f : Facts) → K.Knows known.now i f → (cell : ℕ) → IsReachOf i f cell op reach.now → result ≡ act_of_lem i f cell op }
+    ensures reached { (i : TheImage) (f : Facts) (cell : ℕ) → IsReachOf i f cell op reach.now → IfSome result (λ act. IsReachOfAct i f cell act reach.now) }
     ensures plain { IfSome result IsPlainAct }
 {
     match op {
         Op::Read { width, at } => {
-            let got = read_of(known, &known.reach(cell, Access::Read, at, width));
+            let got = read_of(known, reach);
             Some(Act::Read { width, at, got })
         }
         Op::Write { width, at, value } => {
-            let ok = is_reached(&known.reach(cell, Access::Write, at, width));
+            let ok = is_reached(reach);
             Some(Act::Write {
                 width,
                 at,
@@ -92,44 +162,30 @@ fn act_of<K: Known>(known: &K, cell: u32, op: Op) -> Option<Act>
             })
         }
         Op::Fetch { at } => {
-            let got = read_of(known, &known.reach(cell, Access::Fetch, at, 4));
+            let got = read_of(known, reach);
             Some(Act::Fetch { at, got })
         }
         Op::Await { width, at, value } => {
-            let got = read_of(known, &known.reach(cell, Access::Read, at, width));
+            let got = read_of(known, reach);
             await_of(width, at, value, got)
         }
         Op::Irq | Op::Hvc { .. } => None,
     }
 }
 
-/// What a running CPU does next.
-fn running_act<K: Known>(known: &K, cpu: u8, state: Cpu) -> Option<Act>
+/// What a CPU in this state does next; `reach` is what the access reaches that it is about to make.
+fn state_act<K: Known>(known: &K, cpu: u8, state: Cpu, reach: &Reach) -> Option<Act>
     requires { cpu < 16 }
-    ensures act { (i : TheImage) (f : Facts) → K.Knows known.now i f → result ≡ running_act_lem i f state cpu }
-    ensures plain { IfSome result IsPlainAct }
-{
-    match known.operation(cpu, state) {
-        Some(op) => act_of(known, state.owner, op),
-        None => None,
-    }
-}
-
-/// What a CPU in this state does next.
-fn state_act<K: Known>(known: &K, cpu: u8, state: Cpu) -> Option<Act>
-    requires { cpu < 16 }
-    ensures act { (i : TheImage) (f : Facts) → K.Knows known.now i f → result ≡ state_act_lem i f state cpu }
+    ensures act { (i : TheImage) (f : Facts) → K.Knows known.now i f → IsReachIn i f state cpu reach.now → result ≡ state_act_lem i f state cpu }
+    ensures reached { (i : TheImage) (f : Facts) → K.Knows known.now i f → IsReachIn i f state cpu reach.now → IfSome result (λ act. IsReachOfAct i f state.owner act reach.now) }
     ensures plain { IfSome result IsPlainAct }
 {
     if state.asked {
         return Some(Act::Stop);
     }
-    if state.stopped {
-        return None;
-    }
-    match state.mode {
-        Mode::Running => running_act(known, cpu, state),
-        Mode::Parked | Mode::Failed => None,
+    match pending_op(known, cpu, state) {
+        Some(op) => act_of(known, op, reach),
+        None => None,
     }
 }
 
@@ -143,10 +199,11 @@ fn entry_by(cpu: u8, cell: u32, act: Option<Act>) -> Option<Entry>
     }
 }
 
-/// The entry that the CPU makes next.
-pub fn next_of<K: Known>(known: &K, cpu: u8) -> Option<Entry>
+/// The entry that the CPU makes next; `reach` is what its access reaches, where it makes one.
+pub fn next_of<K: Known>(known: &K, cpu: u8, reach: &Reach) -> Option<Entry>
     requires { cpu < 16 }
-    ensures due { (i : TheImage) (f : Facts) → K.Knows known.now i f → result ≡ due_at i f cpu }
+    ensures due { (i : TheImage) (f : Facts) → K.Knows known.now i f → IsReachAt i f cpu reach.now → result ≡ due_at i f cpu }
+    ensures reached { (i : TheImage) (f : Facts) → K.Knows known.now i f → IsReachAt i f cpu reach.now → IfSome result (λ entry. IsReachOfEntry i f entry reach.now) }
     ensures cpu { IfSome result (λ entry. entry.cpu ≡ cpu) }
     ensures plain { IfSome result (λ entry. IsPlainAct entry.act) }
 {
@@ -154,15 +211,69 @@ pub fn next_of<K: Known>(known: &K, cpu: u8) -> Option<Entry>
         return None;
     }
     let state = known.cpu(cpu);
-    entry_by(cpu, state.owner, state_act(known, cpu, state))
+    entry_by(cpu, state.owner, state_act(known, cpu, state, reach))
 }
 
-/// Whether nothing is due to any CPU.
-pub fn none_due<K: Known>(known: &K) -> bool
+/// Whether an await of the value is due, where its read got this: it is where it read the value, or
+/// where the read is a violation.
+fn is_await_due(value: u64, got: Option<u64>) -> bool
+    ensures { (width at : ℕ) → result ≡ is_some (await_of_lem width at value got) }
+{
+    match got {
+        None => true,
+        Some(got) => got == value,
+    }
+}
+
+/// Whether the cell's operation is due.
+fn is_op_due<K: Known>(known: &K, cell: u32, op: Op) -> bool
+    requires { IsPlain op }
+    ensures { (i : TheImage) (f : Facts) → K.Knows known.now i f → result ≡ is_some (act_of_lem i f cell op) }
+{
+    match op {
+        Op::Read { .. } | Op::Write { .. } | Op::Fetch { .. } => true,
+        Op::Await { width, at, value } => {
+            let wanted = Wanted {
+                access: Access::Read,
+                at,
+                width,
+            };
+            is_await_due(value, read_of(known, &known.reach(cell, &wanted)))
+        }
+        Op::Irq | Op::Hvc { .. } => false,
+    }
+}
+
+/// Whether a CPU in this state has something due.
+fn is_state_due<K: Known>(known: &K, cpu: u8, state: Cpu) -> bool
+    requires { cpu < 16 }
+    ensures { (i : TheImage) (f : Facts) → K.Knows known.now i f → result ≡ is_some (state_act_lem i f state cpu) }
+{
+    if state.asked {
+        return true;
+    }
+    match pending_op(known, cpu, state) {
+        Some(op) => is_op_due(known, state.owner, op),
+        None => false,
+    }
+}
+
+/// Whether an entry is due to the CPU.
+pub fn is_due<K: Known>(known: &K, cpu: u8) -> bool
+    requires { cpu < 16 }
+    ensures { (i : TheImage) (f : Facts) → K.Knows known.now i f → result ≡ is_some (due_at i f cpu) }
+{
+    known.has_cpu(cpu) && is_state_due(known, cpu, known.cpu(cpu))
+}
+
+/// Whether nothing is due to any CPU. They are asked from `first` on, which had better be one that has
+/// something due.
+pub fn none_due<K: Known>(known: &K, first: u8) -> bool
+    requires { first < 16 }
     ensures { (i : TheImage) (f : Facts) → K.Knows known.now i f → ((cpu : ℕ) → IsTrue (is_cpu_set_lem i.system.root.cpu_set cpu) → cpu < 16) → IsTrue result ↔ ((cpu : ℕ) → due_at i f cpu ≡ None) }
 {
-    for cpu in 0..16u8 {
-        if next_of(known, cpu).is_some() {
+    for k in 0..16u8 {
+        if is_due(known, (first + k) % 16) {
             return false;
         }
     }

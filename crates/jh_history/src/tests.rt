@@ -1,6 +1,6 @@
 //! The plain definition at an empty journal, and images that may not be opened.
 
-use crate::{Act, Entry, Journal, due, is_admitted, is_built, is_on_board, quiet};
+use crate::{Act, Entry, Journal, admit, due, is_built, is_on_board, quiet};
 use jh_cellcfg::{CellConfig, Console, Region, SystemConfig};
 use jh_num::{NoMemory, Seq};
 use jh_script::{Image, Op, Preload, Program};
@@ -114,9 +114,10 @@ fn what_is_due_is_told(rt: HostRuntime) -> Result<(), Fail> {
     for (ops, want) in [([READ].as_slice(), Some(made)), ([].as_slice(), None)] {
         let image = image(rt.alloc(), region(BASE, 0x1000, 1), BASE, ops)?;
         let journal = Journal::new(rt.alloc());
-        assert!(rt; is_admitted(&image) && is_built(&image) && is_on_board(&image, 0));
-        assert_eq!(rt; due(&image, &journal, 0)?, want);
-        assert_eq!(rt; quiet(&image, &journal)?, want.is_none());
+        assert!(rt; admit(rt.alloc(), &image)?);
+        assert!(rt; is_built(&image) && is_on_board(&image, 0));
+        assert_eq!(rt; due(rt.alloc(), &image, &journal, 0)?, want);
+        assert_eq!(rt; quiet(rt.alloc(), &image, &journal)?, want.is_none());
     }
     Ok(())
 }
@@ -140,7 +141,7 @@ fn images_are_admitted_by_their_region(rt: HostRuntime) -> Result<(), Fail> {
         (u64::MAX, 0x1000, 3, false),
     ] {
         let image = image(rt.alloc(), region(start, size, flags), BASE, &[READ])?;
-        assert_eq!(rt; is_admitted(&image), want);
+        assert_eq!(rt; admit(rt.alloc(), &image)?, want);
     }
     Ok(())
 }
@@ -184,7 +185,7 @@ fn images_are_admitted_by_their_preload_and_their_operations(rt: HostRuntime) ->
         ),
     ] {
         let image = image(rt.alloc(), region(BASE, 0x1000, 3), at, &[op])?;
-        assert_eq!(rt; is_admitted(&image), want);
+        assert_eq!(rt; admit(rt.alloc(), &image)?, want);
     }
     Ok(())
 }

@@ -15,7 +15,7 @@ use Rattle.jh_cellcfg.specs.declared.config.SystemConfig.{SystemConfig}
 use Rattle.jh_script.specs.declared.image.Preload.{Preload}
 use Rattle.jh_script.specs.declared.image.Program.{Program}
 use Rattle.jh_check.proofs.BoolLemmas.{and-left, and-right, and-both}
-use Rattle.jh_history.specs.Cells.{is_program_of}
+use Rattle.jh_history.specs.Lives.{is_program_of}
 use Rattle.jh_history.specs.Admitted.{IsSoundPreload, IsOtherPreload, IsSoundProgram, IsOtherProgram}
 use Rattle.jh_image.specs.declared.board.Listing.{Listing}
 use Rattle.jh_image.specs.declared.board.PreloadFile.{PreloadFile}

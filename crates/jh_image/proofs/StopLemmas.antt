@@ -2,7 +2,7 @@
 use Rattle.std.proofs.Common.{◌≡◌, ℕ, ◌≤◌, List, [], subst, sym, refl, inl, inr, arith, Ok, Err}
 use Rattle.std.specs.Prelude.{OnOk, IfErr, IsErrAnd, Result}
 use Rattle.jh_check.specs.Findings.{findings}
-use Rattle.jh_image.specs.Opening.{MayBegin, root_pages, pool_pages}
+use Rattle.jh_history.specs.Admitted.{IsAdmittedSystem, root_pages, pool_pages}
 use Rattle.jh_cellcfg.specs.declared.config.SystemConfig.{SystemConfig}
 use Rattle.jh_script.specs.declared.image.Preload.{Preload}
 use Rattle.jh_script.specs.declared.image.Program.{Program}
@@ -81,7 +81,7 @@ small-unsound : (board name : List ℕ) (system : SystemConfig) → findings sys
 small-unsound board name system clean file (PoolSmall need have) h = (h.0, clean, h.1, h.2, h.3)
 small-unsound board name system clean file _ h = absurd h
 
-pub checked-ok : {X : Type 0} (system : SystemConfig) → findings system [] ≡ [] → (r : Result X ImageFault) → OnOk r (root_pages system ≤ pool_pages system) → OnOk r (MayBegin system)
+pub checked-ok : {X : Type 0} (system : SystemConfig) → findings system [] ≡ [] → (r : Result X ImageFault) → OnOk r (root_pages system ≤ pool_pages system) → OnOk r (IsAdmittedSystem system)
 checked-ok system clean (Ok x) h = record { clean = clean; room = h }
 checked-ok system clean (Err e) h = tt
 

@@ -11,7 +11,7 @@ use Rattle.jh_script.specs.declared.image.Program.{Program}
 use Rattle.jh_script.specs.declared.image.Image.{Image}
 use Rattle.jh_script.specs.declared.fault.ScriptFault.{ScriptFault}
 use Rattle.jh_script.specs.Programs.{program_of}
-use Rattle.jh_history.specs.Admitted.{IsBuilt}
+use Rattle.jh_history.specs.Admitted.{IsBuilt, root_pages, pool_pages}
 use Rattle.jh_outside.specs.Count.{Rose}
 use Rattle.jh_image.specs.declared.board.Listing.{Listing}
 use Rattle.jh_image.specs.declared.board.BoardFault.{BoardFault}
@@ -23,7 +23,7 @@ use Rattle.jh_image.specs.declared.fault.ImageCause.TheVariants.{ReadFault, Over
 use Rattle.jh_image.specs.declared.fault.ImageFault.{ImageFault}
 use Rattle.jh_image.specs.declared.fault.ImageFault.TheVariants.{Refused, NoMemory}
 use Rattle.jh_image.specs.Boards.{Tells}
-use Rattle.jh_image.specs.Opening.{IsFit, root_pages, pool_pages}
+use Rattle.jh_image.specs.Opening.{IsFit}
 use Rattle.jh_image.specs.Files.{Contents, HasBytes, IsOversize, IsPreloadOf, Lists}
 use Rattle.jh_image.specs.Images.{HasSystem, IsNextPreload, IsNextProgram, MakesImage, Comes, IsImage}
 

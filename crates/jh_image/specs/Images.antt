@@ -5,11 +5,10 @@ use Rattle.jh_cellcfg.specs.declared.config.SystemConfig.{SystemConfig}
 use Rattle.jh_script.specs.declared.image.Preload.{Preload}
 use Rattle.jh_script.specs.declared.image.Program.{Program}
 use Rattle.jh_script.specs.declared.image.Image.{Image}
-use Rattle.jh_history.specs.Admitted.{IsBuilt}
+use Rattle.jh_history.specs.Admitted.{IsBuilt, IsAdmittedSystem}
 use Rattle.jh_image.specs.declared.board.Listing.{Listing}
 use Rattle.jh_image.specs.declared.board.PreloadFile.{PreloadFile}
 use Rattle.jh_image.specs.declared.board.ProgramFile.{ProgramFile}
-use Rattle.jh_image.specs.Opening.{MayBegin}
 use Rattle.jh_image.specs.Files.{Contents, Lists, SpellsSystem, Preloads, Programs}
 
 -- the board and the system are read
@@ -20,7 +19,7 @@ pub record HasSystem (contents : Contents) (board : List ℕ) (listing : Listing
 -- and the system is admitted
 pub record IsReady (contents : Contents) (board : List ℕ) (listing : Listing) (system : SystemConfig) : Type 0 where
   pub has : HasSystem contents board listing system
-  pub sound : MayBegin system
+  pub sound : IsAdmittedSystem system
 
 -- the turn of this preload's file comes: the preloads before it are read, and none has a fault
 pub record IsNextPreload (contents : Contents) (board : List ℕ) (listing : Listing) (system : SystemConfig) (preloads : List Preload) (file : PreloadFile) : Type 0 where

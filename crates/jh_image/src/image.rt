@@ -3,7 +3,7 @@ ghost use Rattle.std.specs.Prelude.{◌≡◌, ◌≤◌, ◌<◌, true, IfOk, I
 ghost use Rattle.jh_image.specs.declared.board.Listing.{Listing as TheListing};
 ghost use Rattle.jh_history.specs.Admitted.{IsSoundPreload, IsOtherPreload, IsSoundProgram, IsOtherProgram, IsAdmitted, IsBuilt};
 ghost use Rattle.jh_image.specs.Boards.{are_distinct, seat_of};
-ghost use Rattle.jh_image.specs.Opening.{MayOpen, IsFit};
+ghost use Rattle.jh_image.specs.Opening.{IsFit};
 ghost use Rattle.jh_image.specs.Files.{Lists, IsPreloadOf, Preloads, Programs};
 ghost use Rattle.jh_image.specs.Images.{IsReady, HasPreloads, IsNextPreload};
 ghost use Rattle.jh_image.specs.Causes.{Stops, OnRefused, Answers, IsCounted};
@@ -12,7 +12,6 @@ use crate::admission::check_system;
 use crate::board::{Listing, PreloadFile};
 use crate::fault::{ImageCause, ImageFault};
 use crate::fit::is_fit;
-use crate::laws::admitted_images_are_taken;
 use crate::read::{read_listing, read_preload, read_program_file, read_system_file};
 use crate::refusal::refused;
 use jh_cellcfg::SystemConfig;
@@ -126,8 +125,7 @@ fn read_programs<F: Files>(
 /// program's, and makes the image of them. The first cause decides why there is none.
 pub fn read_image<F: Files>(alloc: Global, files: &mut F, name: &str) -> Result<Image, ImageFault>
     ensures answers { Answers (F.contents files.old) name.now result }
-    ensures admitted { IfOk result MayOpen }
-    ensures opens { IfOk result IsAdmitted }
+    ensures admitted { IfOk result IsAdmitted }
     ensures built { IfOk result IsBuilt }
     ensures counted { IfErr result (IsCounted (F.faults files.old) (F.faults files.new) (F.failed files.new)) }
     ensures never_falls { F.faults files.old ≤ F.faults files.new }
@@ -145,6 +143,5 @@ pub fn read_image<F: Files>(alloc: Global, files: &mut F, name: &str) -> Result<
     if !is_built(&image) {
         return Err(refused(alloc, name, ImageCause::NotBuilt));
     }
-    admitted_images_are_taken(&image);
     Ok(image)
 }

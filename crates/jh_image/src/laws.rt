@@ -1,10 +1,8 @@
 //! Laws. Each function does nothing; its contract is the law.
 ghost use Rattle.std.specs.Prelude.{◌≡◌, ◌<◌, ℕ, List, All};
 ghost use Rattle.jh_script.specs.declared.image.Image.{Image as TheImage};
-ghost use Rattle.jh_history.specs.Admitted.{IsAdmitted};
 ghost use Rattle.jh_image.specs.declared.fault.ImageCause.{ImageCause as TheCause};
 ghost use Rattle.jh_image.specs.declared.fault.ImageCause.TheVariants.{ReadFault};
-ghost use Rattle.jh_image.specs.Opening.{MayOpen};
 ghost use Rattle.jh_image.specs.Files.{Contents};
 ghost use Rattle.jh_image.specs.Images.{IsImage};
 ghost use Rattle.jh_image.specs.Causes.{Stops};
@@ -12,19 +10,6 @@ ghost use Rattle.jh_image.specs.Laws.{AreTold};
 
 use jh_script::Image;
 use jh_syscfg::{one_system_spelling, system_has_no_fault};
-
-/// The items of a list of bytes are below 256.
-fn are_bytes(_bytes: &[u8])
-    ensures { All (λ byte. byte < 256) _bytes.now }
-{}
-
-/// An image that is admitted is one that the engine takes: where the check finds nothing, root's regions share
-/// no address and no place, and so on.
-pub fn admitted_images_are_taken(image: &Image)
-    ensures { MayOpen image.now → IsAdmitted image.now }
-{
-    are_bytes(image.system.root.cpu_set.as_slice());
-}
 
 /// Where files tell what they hold, a board makes one image at most.
 pub fn boards_make_one_image()

@@ -14,15 +14,13 @@ mod read;
 mod refusal;
 mod text;
 
-pub use admission::admit;
 pub use board::{BoardFault, Listing, PreloadFile, ProgramFile, read_board};
 pub use fault::{ImageCause, ImageFault};
 pub use file_name::FileName;
 pub use image::read_image;
+pub use jh_history::admit;
 pub use jh_spec::{Spec, SpecFault, read_spec};
-pub use laws::{
-    admitted_images_are_taken, boards_make_one_image, boards_that_make_an_image_are_not_refused,
-};
+pub use laws::{boards_make_one_image, boards_that_make_an_image_are_not_refused};
 pub use read::MAX_FILE_SIZE;
 pub use text::cause_text;
 

@@ -2,10 +2,12 @@
 use Rattle.std.proofs.Common.{◌≡◌, ℕ, ◌+◌, ◌<◌, ◌≤◌, zero, suc, Bool, true, false, ◌||◌, List, [], ◌∷◌, ◌++◌, length, get_or, take, drop, sym, refl, ap, subst, ◌∙◌, ⊎_elim, arith}
 use Rattle.std.proofs.lemmas.Bool.{lt-ltb, le-ltb, cases_lt}
 use Rattle.std.proofs.lemmas.Bool.Decides.{nat_tests}
+use Rattle.std.proofs.Math.Bool.{or-true, or-false}
 use Rattle.std.proofs.lemmas.List.Folds.{list_any-append}
 use Rattle.std.proofs.lemmas.List.{take-append-drop, length-take-le, get_or-take}
 use Rattle.jh_num.specs.declared.range.Range.{Range}
 use Rattle.jh_num.specs.Bytes.{in_range, has_byte, pieces, AreApartFrom}
+use Rattle.jh_num.proofs.Booleans.{or_assoc}
 
 pub has_byte-append : (xs ys : List Range) (b : ℕ) → has_byte (xs ++ ys) b ≡ (has_byte xs b || has_byte ys b)
 has_byte-append xs ys b = list_any-append (λ (range : Range). in_range range b) xs ys
@@ -81,9 +83,6 @@ AreApartFrom-append low to (x ∷ xs) ys l a h b =
     let e = h 0 x (omega arith) in
     (a.0, a.1, AreApartFrom-append (x.end + 1) to xs ys (omega arith) a.2 (λ k d i. h (suc k) d (omega arith)) b)
 
-or_assoc : (x y z : Bool) → (x || (y || z)) ≡ ((x || y) || z)
-or_assoc x y z = elim x as (λ v. (v || (y || z)) ≡ ((v || y) || z)) [ true ↦ refl | false ↦ refl ]
-
 -- a list around one of its ranges
 pub has_byte-split : (xs : List Range) (k : ℕ) (d : Range) (b : ℕ) → k < length xs → has_byte xs b ≡ (has_byte (take k xs) b || (in_range (get_or xs k d) b || has_byte (drop (suc k) xs) b))
 has_byte-split [] k d b h = absurd (omega arith)
@@ -105,12 +104,6 @@ get_or-of_take P xs n l h k d i =
 pub has_byte-split_at : (xs : List Range) (k n : ℕ) (d : Range) (b : ℕ) → n ≡ suc k → k < length xs → has_byte xs b ≡ (has_byte (take k xs) b || (in_range (get_or xs k d) b || has_byte (drop n xs) b))
 has_byte-split_at xs k n d b e h = rw e (has_byte-split xs k d b h)
 
-pub or-true : (x : Bool) → (x || true) ≡ true
-or-true x = elim x as (λ v. (v || true) ≡ true) [ true ↦ refl | false ↦ refl ]
-
-pub or-false : (x : Bool) → (x || false) ≡ x
-or-false x = elim x as (λ v. (v || false) ≡ v) [ true ↦ refl | false ↦ refl ]
-
 -- two tests of which one decides
 pub or-true_middle : (t d x : Bool) → (t || (true || d)) ≡ (x || true)
 or-true_middle t d x = elim t as (λ v. (v || (true || d)) ≡ (x || true)) [ true ↦ sym (or-true x) | false ↦ sym (or-true x) ]
@@ -126,13 +119,6 @@ high_bytes t m d y b r ht hb hr e = rw (ht, hb, hr, e) (sym (or-false (y || d)))
 -- two ranges that agree on a byte
 pub same_byte : (x y : Range) (b : ℕ) → (x.start ≤ b → y.start ≤ b) → (y.start ≤ b → x.start ≤ b) → (b < x.end → b < y.end) → (b < y.end → b < x.end) → in_range x b ≡ in_range y b
 same_byte x y b h i j k = grind (arith, nat_tests)
-
-pub or-swap : (x y z : Bool) → (x || (y || z)) ≡ ((x || z) || y)
-or-swap x y z =
-    elim x as (λ v. (v || (y || z)) ≡ ((v || z) || y)) [
-      | true ↦ refl
-      | false ↦ elim y as (λ w. (w || z) ≡ (z || w)) [ true ↦ sym (or-true z) | false ↦ sym (or-false z) ]
-    ]
 
 -- a piece has its bytes, and an empty one none
 pub has_byte-pieces : (p : Range) (b : ℕ) → has_byte (pieces p) b ≡ in_range p b

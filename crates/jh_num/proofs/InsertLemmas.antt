@@ -4,7 +4,8 @@ use Rattle.std.proofs.lemmas.Bool.{cases_lt}
 use Rattle.std.proofs.lemmas.List.{get_or_read}
 use Rattle.jh_num.specs.declared.range.Range.{Range}
 use Rattle.jh_num.specs.Bytes.{in_range, has_byte, AreApartFrom, AreApart}
-use Rattle.jh_num.proofs.BytesLemmas.{has_byte-append, below_range, above_range, within_range, AreApartFrom-take, absent_below, absent_above, not_empty_at, ends_before, AreApartFrom-from, AreApartFrom-after, AreApartFrom-append, has_byte-split_at, has_byte-cut, get_or-of_take, or-true_middle, or-swap, low_bytes, high_bytes, same_byte}
+use Rattle.jh_num.proofs.BytesLemmas.{has_byte-append, below_range, above_range, within_range, AreApartFrom-take, absent_below, absent_above, not_empty_at, ends_before, AreApartFrom-from, AreApartFrom-after, AreApartFrom-append, has_byte-split_at, has_byte-cut, get_or-of_take, or-true_middle, low_bytes, high_bytes, same_byte}
+use Rattle.jh_num.proofs.Booleans.{or_swap}
 
 -- the new list has the bytes of the old one and of the range, and is apart
 pub record Inserted (xs ys : List Range) (r : Range) : Type 0 where
@@ -106,6 +107,6 @@ pub inserted_beside : (xs : List Range) (r : Range) (at upto : ℕ) → Reaches 
 inserted_beside xs r at upto h e =
     let front : (k' : ℕ) (d : Range) → k' < length (take at xs) → (get_or (take at xs) k' d).end < r.start = get_or-of_take (λ q. q.end < r.start) xs at h.at_bound h.before in
     record {
-      bytes = λ b. has_byte-append (take at xs) (r ∷ drop at xs) b ∙ or-swap (has_byte (take at xs) b) (in_range r b) (has_byte (drop at xs) b) ∙ ap (λ v. v || in_range r b) (sym (has_byte-cut xs at b));
+      bytes = λ b. has_byte-append (take at xs) (r ∷ drop at xs) b ∙ or_swap (has_byte (take at xs) b) (in_range r b) (has_byte (drop at xs) b) ∙ ap (λ v. v || in_range r b) (sym (has_byte-cut xs at b));
       apart = AreApartFrom-append 0 r.start (take at xs) (r ∷ drop at xs) (omega arith) (AreApartFrom-take 0 at xs h.apart) front (omega arith, h.some, beside xs r at upto h e);
     }

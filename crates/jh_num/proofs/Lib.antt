@@ -4,3 +4,7 @@ pub mod StepsLemmas
 pub mod MeetingLemmas
 pub mod RemoveLemmas
 pub mod ReadLemmas
+pub mod SearchLemmas
+pub mod MemoryLemmas
+pub mod Booleans
+pub mod Lists

@@ -6,7 +6,9 @@ use Rattle.std.proofs.lemmas.List.{at_drop_more, get_or_read}
 use Rattle.std.proofs.lemmas.List.Elements.{All-append, All-nil, All-cons}
 use Rattle.jh_num.specs.declared.range.Range.{Range}
 use Rattle.jh_num.specs.Bytes.{in_range, has_byte, pieces, AreApartFrom, AreApart}
-use Rattle.jh_num.proofs.BytesLemmas.{has_byte-append, has_byte-pieces, below_range, above_range, within_range, AreApartFrom-append, AreApartFrom-after, absent_below, ends_before, same_byte, or-false}
+use Rattle.jh_num.proofs.BytesLemmas.{has_byte-append, has_byte-pieces, below_range, above_range, within_range, AreApartFrom-append, AreApartFrom-after, absent_below, ends_before, same_byte}
+use Rattle.jh_num.proofs.Booleans.{and_comm}
+use Rattle.std.proofs.Math.Bool.{or-false}
 
 -- what has been found of the bytes that both have, as far as the places i and j
 pub record Meets (xs ys : List Range) (i j : ℕ) (met : List Range) : Type 0 where
@@ -15,13 +17,6 @@ pub record Meets (xs ys : List Range) (i j : ℕ) (met : List Range) : Type 0 wh
   pub bytes : (b : ℕ) → (has_byte xs b && has_byte ys b) ≡ (has_byte met b || (has_byte (drop i xs) b && has_byte (drop j ys) b))
   pub apart : AreApart met
   pub ends : (k : ℕ) (d x y : Range) → k < length met → i < length xs → j < length ys → (get_or met k d).end < max (get_or xs i x).start (get_or ys j y).start
-
-and_comm : (x y : Bool) → (x && y) ≡ (y && x)
-and_comm x y =
-    elim x as (λ v. (v && y) ≡ (y && v)) [
-      | true ↦ elim y as (λ w. w ≡ (w && true)) [ true ↦ refl | false ↦ refl ]
-      | false ↦ elim y as (λ w. false ≡ (w && false)) [ true ↦ refl | false ↦ refl ]
-    ]
 
 pub swapped : (xs ys : List Range) (i j : ℕ) (met : List Range) → Meets xs ys i j met → Meets ys xs j i met
 swapped xs ys i j met h =

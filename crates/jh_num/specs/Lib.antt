@@ -1,3 +1,5 @@
 pub mod ByteRanges
 pub mod Bytes
 pub mod Counted
+pub mod Errors
+pub mod Memory

@@ -4,6 +4,8 @@
 
 mod address;
 mod byte_set;
+pub mod error;
+mod laws;
 mod no_memory;
 mod range;
 mod rights;
@@ -13,6 +15,9 @@ mod steps;
 
 pub use address::{ADDRESS_END, PAGE_SIZE};
 pub use byte_set::ByteSet;
+pub use laws::{
+    a_list_is_stored_at_its_places, addresses_end_here, errors_are_these, the_lowest_byte_is_first,
+};
 pub use no_memory::NoMemory;
 pub use range::Range;
 pub use rights::Rights;

@@ -9,44 +9,41 @@ use std::alloc::Global;
 
 /// The index of the first range that ends at `limit` or later, or their number.
 pub(crate) fn ending_before(ranges: &[Range], limit: u64) -> usize
+    requires { AreApart ranges.now }
     ensures bound { result ≤ length ranges.now }
     ensures before { (k : ℕ) (d : Range) → k < result → (slice_index_or ranges.now k d).end < limit }
     ensures at { (d : Range) → result < length ranges.now → limit ≤ (slice_index_or ranges.now result d).end }
 {
-    for (i, x) in ranges.iter().enumerate() {
-        if x.end >= limit {
-            return i;
-        }
-    }
-    ranges.len()
+    ranges.partition_point(|x| x.end < limit)
 }
 
 /// The index of the first range that starts after `limit`, or their number.
 pub(crate) fn starting_by(ranges: &[Range], limit: u64) -> usize
+    requires { AreApart ranges.now }
     ensures bound { result ≤ length ranges.now }
     ensures before { (k : ℕ) (d : Range) → k < result → (slice_index_or ranges.now k d).start ≤ limit }
     ensures at { (d : Range) → result < length ranges.now → limit < (slice_index_or ranges.now result d).start }
 {
-    for (i, x) in ranges.iter().enumerate() {
-        if x.start > limit {
-            return i;
-        }
-    }
-    ranges.len()
+    ranges.partition_point(|x| x.start <= limit)
 }
 
-/// Whether one of the ranges, none of which is empty, has a byte of `r`.
+/// Whether one of the ranges has a byte of `r`: only the first that ends behind the start of `r` can.
 pub(crate) fn any_meets(ranges: &[Range], r: Range) -> bool
+    requires apart { AreApart ranges.now }
+    requires some { r.start < r.end }
     ensures { result ≡ list_any (λ x. nat_lt x.start r.end && nat_lt r.start x.end) ranges.now }
 {
-    ranges.iter().any(|x| x.start < r.end && r.start < x.end)
+    let at = ending_before(ranges, r.start + 1);
+    at < ranges.len() && ranges[at].start < r.end
 }
 
-/// Whether one of the ranges has all bytes of `r`.
+/// Whether one of the ranges has all bytes of `r`: only the first that ends where `r` does or later can.
 pub(crate) fn any_covers(ranges: &[Range], r: Range) -> bool
+    requires { AreApart ranges.now }
     ensures { result ≡ list_any (λ x. nat_le x.start r.start && nat_le r.end x.end) ranges.now }
 {
-    ranges.iter().any(|x| x.start <= r.start && r.end <= x.end)
+    let at = ending_before(ranges, r.end);
+    at < ranges.len() && ranges[at].start <= r.start
 }
 
 /// Puts one range in place of those from `at` up to `upto`.

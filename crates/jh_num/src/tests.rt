@@ -1,6 +1,7 @@
 //! Byte sets against plain bytes, and the last probes.
 
-use crate::{ByteSet, Probe, Range, Seq, Steps};
+use crate::{ByteSet, NoMemory, Probe, Range, Seq, Steps};
+use std::alloc::Global;
 use std::test::Fail;
 
 #[derive(Clone, Copy)]
@@ -76,6 +77,59 @@ fn ranges_join_split_and_intersect(rt: HostRuntime) -> Result<(), Fail> {
     let both = set.intersect(&other)?;
     let want = [Range { start: 2, end: 3 }, Range { start: 4, end: 5 }];
     assert_eq!(rt; both.ranges(), want.as_slice());
+    Ok(())
+}
+
+/// Ranges of two bytes with gaps of two: 0, 1, 4, 5, 8, 9 .., up to and without `4 * count`.
+fn striped(alloc: Global, count: u64) -> Result<ByteSet, NoMemory> {
+    let mut set = ByteSet::new(alloc);
+    for stripe in 0..count {
+        if stripe < 1 << 60 {
+            let start = 4 * stripe;
+            set.insert(Range {
+                start,
+                end: start + 2,
+            })?;
+        }
+    }
+    Ok(set)
+}
+
+#[test]
+fn many_ranges_are_found_by_halving(rt: HostRuntime) -> Result<(), Fail> {
+    let set = striped(rt.alloc(), 1000)?;
+    assert_eq!(rt; set.ranges().len(), 1000);
+    assert!(rt;
+        set.meets(Range {
+            start: 1998,
+            end: 2001
+        })
+    );
+    assert!(rt;
+        !set.meets(Range {
+            start: 1998,
+            end: 2000
+        })
+    );
+    assert!(rt;
+        !set.meets(Range {
+            start: 4000,
+            end: 5000
+        })
+    );
+    assert!(rt;
+        set.covers(Range {
+            start: 3996,
+            end: 3998
+        })
+    );
+    assert!(rt;
+        !set.covers(Range {
+            start: 3996,
+            end: 3999
+        })
+    );
+    assert!(rt; !set.covers(Range { start: 2, end: 3 }));
     Ok(())
 }
 

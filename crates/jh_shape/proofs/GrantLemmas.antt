@@ -6,7 +6,7 @@ use Rattle.std.proofs.lemmas.Bool.{and_parts, and_from, or_parts, or_cases, or_l
 use Rattle.std.proofs.Math.Nat.{pow-le-pow_right}
 use Rattle.std.proofs.lemmas.Nat.{pow_pos}
 use Rattle.std.proofs.lemmas.List.{get_or_default}
-use Rattle.std.proofs.lemmas.List.Elements.{All-contains_itself}
+use Rattle.std.proofs.lemmas.List.Elements.{All-contains, All-contains_itself}
 use Rattle.std.proofs.lemmas.List.Folds.{list_any_at, Any-from_list_any}
 use Rattle.jh_cellcfg.specs.declared.region.Region.{Region}
 use Rattle.jh_cellcfg.specs.Regions.{virt_end, phys_end, has_address, has_place, place_in, is_comm, is_page_mapped, is_unshared, is_loadable, is_device, may_have_blocks, rights_of}
@@ -16,10 +16,12 @@ use Rattle.jh_shape.specs.Claims.{Claims, Holder}
 use Rattle.jh_shape.specs.Intervals.{touches, spans}
 use Rattle.jh_shape.specs.Shapes.{slot_size, is_mapped, meets_in_part, are_cut, takes, is_closed, may_be_block, is_leaf_by, leaf_region, is_met, is_met_by, is_kept_from, leaf_of, out_of}
 use Rattle.jh_shape.specs.Suits.{AreDisjoint, IsFit, IsWhole, IsSound, IsSlot}
-use Rattle.jh_shape.specs.Grants.{place_at, Tells}
+use Rattle.jh_num.specs.declared.rights.Rights.{Rights}
+use Rattle.jh_shape.specs.Grants.{place_at, IsGranted, Tells}
 use Rattle.jh_shape.proofs.WantLemmas.{LeafBy, found, leaf_parts}
-use Rattle.jh_shape.proofs.OrderLemmas.{same_test}
-use Rattle.jh_shape.proofs.SteadyLemmas.{place_later, is_none-find}
+use Rattle.jh_shape.proofs.SteadyLemmas.{place_later}
+use Rattle.jh_num.proofs.Booleans.{same_test}
+use Rattle.jh_num.proofs.Lists.{is_none-find}
 
 -- two tests agree on a list where a third fails
 any_agree : {X : Type 0} (p q r : X → Bool) → ((x : X) → r x ≡ false → p x ≡ q x) → (xs : List X) → list_any r xs ≡ false → list_any p xs ≡ list_any q xs
@@ -80,6 +82,24 @@ closed_alike holders place size k l e =
     (λ (region : Region). meets_in_part region place size)
     (takes_alike holder.loadable place size k l) holder.regions f)
     holders e
+
+-- a page of root's region is kept from it wholly, or nothing of it
+page_alike : (claims : Claims) (region : Region) (page k : ℕ) → IsSound claims → Contains claims.regions region → is_mapped region ≡ true → page % 4096 ≡ 0 → has_address region page ≡ true → k < 4096 → is_kept_from claims region (page + k) ≡ is_kept_from claims region page
+page_alike claims region page k sound held mapped begins has l =
+    let here = is_closed claims.holders (place_in region page) in
+    let later = is_closed claims.holders (place_in region (page + k)) in
+    let low = leb-true region.virt_start page (and_parts (nat_le region.virt_start page) (nat_lt page (virt_end region)) has).0 in
+    ⊎_elim
+    (λ root. ⊎_elim
+    (λ comm. ap (λ v. claims.root && (not v && later)) comm ∙ sym (ap (λ v. claims.root && (not v && here)) comm))
+    (λ plain.
+    let whole : IsWhole claims region = All-contains (IsWhole claims) claims.regions region (sound.whole root) held in
+    ap (λ v. claims.root && (not (is_comm region) && v))
+    (ap (λ p. is_closed claims.holders p) (place_later region page k low)
+    ∙ closed_alike claims.holders (place_in region page) 4096 k l (whole mapped plain page begins has)))
+    (cases_Bool (is_comm region)))
+    (λ other. ap (λ v. v && (not (is_comm region) && later)) other ∙ sym (ap (λ v. v && (not (is_comm region) && here)) other))
+    (cases_Bool claims.root)
 
 -- the region of a leaf has its slot's addresses
 has_later : (claims : Claims) (level start k : ℕ) (region : Region) → LeafBy claims level start region → k < slot_size level → has_address region (start + k) ≡ true
@@ -240,3 +260,48 @@ table_level claims level start slot none met =
     absurd (both_ways (list_any p claims.regions) (not-true (list_any p claims.regions) (sym absent)) any))
     (λ other. let bound = slot.last in omega arith)
     (cases_eq level 3)
+
+-- a mapped region has a whole page of addresses or none of it
+page_had : (region : Region) (page j k : ℕ) → is_mapped region ≡ true → page % 4096 ≡ 0 → j < 4096 → k < 4096 → has_address region (page + j) ≡ true → has_address region (page + k) ≡ true
+page_had region page j k mapped begins l m has =
+    let a = and_parts (nat_lt 0 region.size) (is_page_mapped region) mapped in
+    let b = and_parts ((region.virt_start % 4096) == 0) ((region.size % 4096) == 0) a.1 in
+    let first = eqb-true (region.virt_start % 4096) 0 b.0 in
+    let whole = eqb-true (region.size % 4096) 0 b.1 in
+    let c = and_parts (nat_le region.virt_start (page + j)) (nat_lt (page + j) (virt_end region)) has in
+    let low = leb-true region.virt_start (page + j) c.0 in
+    let high = ltb-true (page + j) (virt_end region) c.1 in
+    and_from (nat_le region.virt_start (page + k)) (nat_lt (page + k) (virt_end region)) (le-leb region.virt_start (page + k) (omega arith)) (lt-ltb (page + k) (virt_end region) (omega arith))
+
+-- where the bytes of a page lead, one tells of the others
+page_leads : (claims : Claims) (region : Region) (page place j k : ℕ) → region.virt_start ≤ page → place + j ≡ place_at claims region (page + j) → place + k ≡ place_at claims region (page + k)
+page_leads claims region page place j k low h =
+    let here : Bool → ℕ → ℕ = λ b at. cond b (claims.comm + (at - region.virt_start)) (place_in region at) in
+    ⊎_elim
+    (λ comm.
+    let e : place + j ≡ claims.comm + ((page + j) - region.virt_start) = h ∙ ap (λ b. here b (page + j)) comm in
+    let f : place + k ≡ claims.comm + ((page + k) - region.virt_start) = omega arith in
+    f ∙ sym (ap (λ b. here b (page + k)) comm))
+    (λ plain.
+    let e : place + j ≡ place_in region (page + j) = h ∙ ap (λ b. here b (page + j)) plain in
+    let f : place + k ≡ place_in region (page + k) = omega arith in
+    f ∙ sym (ap (λ b. here b (page + k)) plain))
+    (cases_Bool (is_comm region))
+
+pub page_granted : (claims : Claims) (page place j k : ℕ) (rights : Rights) (device : Bool) → IsSound claims → page % 4096 ≡ 0 → j < 4096 → k < 4096 → IsGranted claims (page + j) (place + j) rights device → IsGranted claims (page + k) (place + k) rights device
+page_granted claims page place j k rights device sound begins l m (region, g) =
+    let same : page + 0 ≡ page = omega arith in
+    let P : ℕ → Type 0 = λ at. has_address region at ≡ true in
+    let has : has_address region page ≡ true = subst P same (page_had region page j 0 g.mapped begins l (omega arith) g.has) in
+    let low = leb-true region.virt_start page (and_parts (nat_le region.virt_start page) (nat_lt page (virt_end region)) has).0 in (
+      region,
+      record {
+        listed = g.listed;
+        mapped = g.mapped;
+        has = page_had region page j k g.mapped begins l m g.has;
+        leads = page_leads claims region page place j k low g.leads;
+        allows = g.allows;
+        kind = g.kind;
+        open_to = page_alike claims region page k sound g.listed g.mapped begins has m ∙ sym (page_alike claims region page j sound g.listed g.mapped begins has l) ∙ g.open_to;
+      },
+    )

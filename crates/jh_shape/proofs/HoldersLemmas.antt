@@ -1,12 +1,12 @@
 -- The cells that hold, one by one.
-use Rattle.std.proofs.Common.{◌≡◌, ℕ, ◌+◌, ◌*◌, ◌<◌, ◌≤◌, min, Bool, true, false, cond, ◌||◌, List, [], ◌∷◌, ◌++◌, length, get_or, take, Option, sym, ap, ◌∙◌, arith}
+use Rattle.std.proofs.Common.{◌≡◌, ℕ, ◌+◌, ◌<◌, ◌≤◌, Bool, true, false, cond, ◌||◌, List, [], ◌∷◌, ◌++◌, length, get_or, take, refl, sym, ap, ◌∙◌, arith}
 use Rattle.std.proofs.lemmas.List.{take_more, take_all, length-take-le}
 use Rattle.std.proofs.lemmas.List.Folds.{list_any-append}
+use Rattle.std.proofs.Math.Bool.{or-false}
 use Rattle.std.specs.List.{list_any}
-use Rattle.std.specs.Borrow.{Bor}
 use Rattle.jh_cellcfg.specs.declared.config.CellConfig.{CellConfig}
 use Rattle.jh_cellcfg.specs.declared.region.Region.{Region}
-use Rattle.jh_shape.specs.Claims.{Holder, has_bit, held_from, one_more}
+use Rattle.jh_shape.specs.Claims.{Holder, has_bit, held_from}
 use Rattle.jh_shape.specs.Shapes.{meets_in_part, are_cut}
 
 cond-append : (b : Bool) (h : Holder) (r s t : List Holder) → r ≡ s ++ t → cond b (h ∷ r) r ≡ cond b (h ∷ s) s ++ t
@@ -36,28 +36,35 @@ are_cut-agree xs ys a b size e f =
 pub are_cut-agree_one : (regions : List Region) (loadable : Bool) (a b size : ℕ) → list_any (λ (region : Region). meets_in_part region a size) regions ≡ list_any (λ (region : Region). meets_in_part region b size) regions → are_cut (record { regions = regions; loadable = loadable } ∷ []) a size ≡ are_cut (record { regions = regions; loadable = loadable } ∷ []) b size
 are_cut-agree_one regions loadable a b size e = ap (λ v. v || false) e
 
--- for how many slots the first cells of the list, and the one beyond it, do the same
-pub record SteadyCells (held loadable : ℕ) (cells : List CellConfig) (extra : Option (Bor CellConfig)) (index run place size : ℕ) : Type 0 where
-  pub some : 0 < run
-  pub beyond : (k : ℕ) → k < run → are_cut (one_more extra) (place + k * size) size ≡ are_cut (one_more extra) place size
-  pub listed : (k : ℕ) → k < run → are_cut (held_from held loadable 0 (take index cells)) (place + k * size) size ≡ are_cut (held_from held loadable 0 (take index cells)) place size
-
-pub steady_one_more : (held loadable : ℕ) (cells : List CellConfig) (extra : Option (Bor CellConfig)) (index run place size : ℕ) (cell : CellConfig) (once : ℕ) → SteadyCells held loadable cells extra index run place size → index < length cells → cell ≡ get_or cells index cell → 0 < once → ((k : ℕ) → k < once → are_cut (held_from held loadable index (cell ∷ [])) (place + k * size) size ≡ are_cut (held_from held loadable index (cell ∷ [])) place size) → SteadyCells held loadable cells extra (index + 1) (min run once) place size
-steady_one_more held loadable cells extra index run place size cell once h l e some same =
-    let first = h.some in
+-- the cells so far and one more, which holds or doesn't
+next_cell : (held loadable : ℕ) (cells : List CellConfig) (index : ℕ) (cell : CellConfig) → index < length cells → cell ≡ get_or cells index cell → held_from held loadable 0 (take (index + 1) cells) ≡ held_from held loadable 0 (take index cells) ++ held_from held loadable index (cell ∷ [])
+next_cell held loadable cells index cell l e =
     let len : length (take index cells) ≡ index = length-take-le index cells (omega arith) in
     let next : take (index + 1) cells ≡ take index cells ++ cell ∷ [] = take_more cells index cell l ∙ ap (λ c. take index cells ++ c ∷ []) (sym e) in
-    let whole : held_from held loadable 0 (take (index + 1) cells) ≡ held_from held loadable 0 (take index cells) ++ held_from held loadable index (cell ∷ []) =
     ap (λ xs. held_from held loadable 0 xs) next
     ∙ held_from-append held loadable 0 (take index cells) (cell ∷ [])
-    ∙ (let n : 0 + length (take index cells) ≡ index = omega arith in ap (λ n. held_from held loadable 0 (take index cells) ++ held_from held loadable n (cell ∷ [])) n) in
-    record {
-      some = omega arith;
-      beyond = λ k m. h.beyond k (omega arith);
-      listed = λ k m. rw whole (are_cut-agree (held_from held loadable 0 (take index cells)) (held_from held loadable index (cell ∷ [])) (place + k * size) place size (h.listed k (omega arith)) (same k (omega arith)));
-    }
+    ∙ (let n : 0 + length (take index cells) ≡ index = omega arith in ap (λ n. held_from held loadable 0 (take index cells) ++ held_from held loadable n (cell ∷ [])) n)
 
-pub steady_all : (held loadable : ℕ) (cells : List CellConfig) (extra : Option (Bor CellConfig)) (index run place size : ℕ) → SteadyCells held loadable cells extra index run place size → length cells ≤ index → (k : ℕ) → k < run → are_cut (held_from held loadable 0 cells ++ one_more extra) (place + k * size) size ≡ are_cut (held_from held loadable 0 cells ++ one_more extra) place size
-steady_all held loadable cells extra index run place size h l k m =
-    let all = take_all index cells l in
-    are_cut-agree (held_from held loadable 0 cells) (one_more extra) (place + k * size) place size (rw all at (h.listed k m)) (h.beyond k m)
+pub cut_more : (held loadable : ℕ) (cells : List CellConfig) (index : ℕ) (cell : CellConfig) (place size : ℕ) → index < length cells → cell ≡ get_or cells index cell → has_bit held index ≡ true → are_cut (held_from held loadable 0 (take (index + 1) cells)) place size ≡ (are_cut (held_from held loadable 0 (take index cells)) place size || list_any (λ (region : Region). meets_in_part region place size) cell.memory_regions)
+cut_more held loadable cells index cell place size l e bit =
+    let own = list_any (λ (region : Region). meets_in_part region place size) cell.memory_regions in
+    let one : are_cut (held_from held loadable index (cell ∷ [])) place size ≡ own = rw bit (or-false own) in
+    ap (λ hs. are_cut hs place size) (next_cell held loadable cells index cell l e)
+    ∙ are_cut-append (held_from held loadable 0 (take index cells)) (held_from held loadable index (cell ∷ [])) place size
+    ∙ ap (λ b. are_cut (held_from held loadable 0 (take index cells)) place size || b) one
+
+pub cut_same : (held loadable : ℕ) (cells : List CellConfig) (index : ℕ) (cell : CellConfig) (place size : ℕ) → index < length cells → cell ≡ get_or cells index cell → has_bit held index ≡ false → are_cut (held_from held loadable 0 (take (index + 1) cells)) place size ≡ are_cut (held_from held loadable 0 (take index cells)) place size
+cut_same held loadable cells index cell place size l e bit =
+    let none : are_cut (held_from held loadable index (cell ∷ [])) place size ≡ false = rw bit refl in
+    ap (λ hs. are_cut hs place size) (next_cell held loadable cells index cell l e)
+    ∙ are_cut-append (held_from held loadable 0 (take index cells)) (held_from held loadable index (cell ∷ [])) place size
+    ∙ ap (λ b. are_cut (held_from held loadable 0 (take index cells)) place size || b) none
+    ∙ or-false (are_cut (held_from held loadable 0 (take index cells)) place size)
+
+-- all the cells, and the one beyond the list
+pub cut_all : (held loadable : ℕ) (cells : List CellConfig) (index : ℕ) (beyond : List Holder) (place size : ℕ) (b own : Bool) → length cells ≤ index → b ≡ are_cut (held_from held loadable 0 (take index cells)) place size → own ≡ are_cut beyond place size → (b || own) ≡ are_cut (held_from held loadable 0 cells ++ beyond) place size
+cut_all held loadable cells index beyond place size b own l e f =
+    let all : take index cells ≡ cells = take_all index cells l in
+    ap (λ v. v || own) (e ∙ ap (λ xs. are_cut (held_from held loadable 0 xs) place size) all)
+    ∙ ap (λ v. are_cut (held_from held loadable 0 cells) place size || v) f
+    ∙ sym (are_cut-append (held_from held loadable 0 cells) beyond place size)

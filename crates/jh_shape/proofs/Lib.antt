@@ -5,3 +5,5 @@ pub mod SteadyLemmas
 pub mod CountLemmas
 pub mod OrderLemmas
 pub mod GrantLemmas
+pub mod LawLemmas
+pub mod MarkLemmas

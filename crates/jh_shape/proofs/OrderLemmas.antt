@@ -1,8 +1,8 @@
 -- Holders that cut more leave fewer leaves and more tables.
 use Rattle.std.proofs.Common.{◌≡◌, ℕ, ◌+◌, ◌-◌, ◌*◌, ◌/◌, ◌≤◌, ◌==◌, ◌%◌, zero, suc, Bool, true, false, not, ◌&&◌, ◌||◌, cond, nat_lt, List, [], ◌∷◌, ◌++◌, map, ⊎_elim, refl, sym, ap, subst, ◌∙◌, arith}
-use Rattle.std.specs.List.{list_any}
+use Rattle.std.specs.List.{list_any, sum_by}
 use Rattle.std.proofs.lemmas.Bool.{and_parts, and_from, or_cases, or_left, or_right, cases_Bool, both_ways, false_from_ne_true, not-true, not_from_false}
-use Rattle.std.proofs.lemmas.List.{map-append}
+use Rattle.std.proofs.lemmas.List.{map-append, append-nil}
 use Rattle.std.proofs.lemmas.List.Sums.{sum_by-append}
 use Rattle.jh_num.specs.declared.address.TheConstants.{ADDRESS_END}
 use Rattle.jh_cellcfg.specs.declared.config.CellConfig.{CellConfig}
@@ -14,6 +14,8 @@ use Rattle.jh_shape.specs.Claims.{Claims, Holder, has_bit, held_from, one_more, 
 use Rattle.jh_shape.specs.Intervals.{spans}
 use Rattle.jh_shape.specs.Shapes.{slot_size, is_mapped, meets_in_part, are_cut, may_be_block, is_leaf_by, is_leaf, is_met, is_met_by, is_table}
 use Rattle.jh_shape.specs.Pages.{count_below, tables_at, tables_from, tables_of, holder_of, root_claims, cell_claims, pages_of}
+use Rattle.jh_num.proofs.Booleans.{same_test}
+use Rattle.jh_num.proofs.Lists.{list_any-weaker, list_any-fewer}
 use Rattle.jh_shape.proofs.HoldersLemmas.{are_cut-append}
 
 -- the same cell, whose second holders cut whatever the first cut
@@ -21,15 +23,6 @@ pub record CutsMore (few many : Claims) : Type 0 where
   pub regions : many.regions ≡ few.regions
   pub root : many.root ≡ few.root
   pub cut : (place size : ℕ) → are_cut few.holders place size ≡ true → are_cut many.holders place size ≡ true
-
--- a test that gets stricter
-any_weaker : (p q : Region → Bool) → ((r : Region) → p r ≡ true → q r ≡ true) → (xs : List Region) → list_any p xs ≡ true → list_any q xs ≡ true
-any_weaker p q h [] e = e
-any_weaker p q h (x ∷ xs) e =
-    ⊎_elim
-    (λ yes. or_left (q x) (list_any q xs) (h x yes))
-    (λ rest. or_right (q x) (list_any q xs) (any_weaker p q h xs rest))
-    (or_cases (p x) (list_any p xs) e)
 
 not_both : (root root' cut cut' : Bool) → root' ≡ root → (cut ≡ true → cut' ≡ true) → not (root' && cut') ≡ true → not (root && cut) ≡ true
 not_both root root' cut cut' same h e =
@@ -75,7 +68,7 @@ leaf_fewer few many h level start region e =
 
 pub any_leaf_fewer : (few many : Claims) → CutsMore few many → (level start : ℕ) → is_leaf many level start ≡ true → is_leaf few level start ≡ true
 any_leaf_fewer few many h level start e =
-    any_weaker (λ (region : Region). is_leaf_by many level start region) (λ (region : Region). is_leaf_by few level start region) (leaf_fewer few many h level start) few.regions
+    list_any-weaker (λ (region : Region). is_leaf_by many level start region) (λ (region : Region). is_leaf_by few level start region) (leaf_fewer few many h level start) few.regions
     (let P : List Region → Type 0 = λ xs. list_any (λ (region : Region). is_leaf_by many level start region) xs ≡ true in subst P h.regions e)
 
 pub table_more : (few many : Claims) → CutsMore few many → (level start : ℕ) → is_table few level start ≡ true → is_table many level start ≡ true
@@ -111,29 +104,32 @@ pub tables_of-more : (few many : Claims) → CutsMore few many → tables_of few
 unfolding tables_of
 tables_of-more few many h = let a = tables_from-more few many h FIRST_LEVEL (LAST_LEVEL - FIRST_LEVEL) in omega arith
 
--- one cell more among the holders
-new_cell : (regions : List Region) (cells : List CellConfig) (new : CellConfig) → CutsMore (root_claims regions cells) (root_claims regions (cells ++ new ∷ []))
-new_cell regions cells new =
+-- the holders with one cell more, wherever it stands
+one_cell_more : (regions : List Region) (before : List CellConfig) (cell : CellConfig) (behind : List CellConfig) → CutsMore (root_claims regions (before ++ behind)) (root_claims regions (before ++ cell ∷ behind))
+one_cell_more regions before cell behind =
     record {
       regions = refl;
       root = refl;
       cut = λ place size e.
-          ap (λ hs. are_cut hs place size) (map-append holder_of cells (new ∷ []))
-          ∙ are_cut-append (map holder_of cells) (map holder_of (new ∷ [])) place size
-          ∙ or_left (are_cut (map holder_of cells) place size) (are_cut (map holder_of (new ∷ [])) place size) e;
+          let cuts : Holder → Bool = λ (holder : Holder). list_any (λ (region : Region). meets_in_part region place size) holder.regions in
+          ap (λ hs. are_cut hs place size) (map-append holder_of before (cell ∷ behind))
+          ∙ list_any-fewer cuts (map holder_of before) (holder_of cell) (map holder_of behind) (ap (λ hs. are_cut hs place size) (sym (map-append holder_of before behind)) ∙ e);
     }
+
+pub pages_of-fewer : (regions : List Region) (before : List CellConfig) (gone : CellConfig) (behind : List CellConfig) → pages_of regions (before ++ behind) ≤ pages_of regions (before ++ gone ∷ behind)
+pages_of-fewer regions before gone behind =
+    let a = tables_of-more (root_claims regions (before ++ behind)) (root_claims regions (before ++ gone ∷ behind)) (one_cell_more regions before gone behind) in
+    let b = sum_by-append (λ (cell : CellConfig). tables_of (cell_claims cell) + 1) before behind in
+    let d = sum_by-append (λ (cell : CellConfig). tables_of (cell_claims cell) + 1) before (gone ∷ behind) in
+    let e : sum_by (λ (cell : CellConfig). tables_of (cell_claims cell) + 1) (gone ∷ behind) ≡ sum_by (λ (cell : CellConfig). tables_of (cell_claims cell) + 1) (gone ∷ []) + sum_by (λ (cell : CellConfig). tables_of (cell_claims cell) + 1) behind =
+    sum_by-append (λ (cell : CellConfig). tables_of (cell_claims cell) + 1) (gone ∷ []) behind in
+    omega arith
 
 pub pages_of-more : (regions : List Region) (cells : List CellConfig) (new : CellConfig) → pages_of regions cells ≤ pages_of regions (cells ++ new ∷ [])
 pages_of-more regions cells new =
-    let a = tables_of-more (root_claims regions cells) (root_claims regions (cells ++ new ∷ [])) (new_cell regions cells new) in
-    let b = sum_by-append (λ (cell : CellConfig). tables_of (cell_claims cell) + 1) cells (new ∷ []) in
+    let same : pages_of regions (cells ++ []) ≡ pages_of regions cells = ap (pages_of regions) (append-nil cells) in
+    let a = pages_of-fewer regions cells new [] in
     omega arith
-
--- two tests that hold together are equal
-pub same_test : (a b : Bool) → (a ≡ true → b ≡ true) → (b ≡ true → a ≡ true) → a ≡ b
-same_test true b h k = sym (h refl)
-same_test false true h k = k refl
-same_test false false h k = refl
 
 -- cells that hold the same regions, loadable or not
 cut_alike : (b : Bool) (regions : List Region) (one other : Bool) (xs ys : List Holder) (place size : ℕ) → are_cut xs place size ≡ are_cut ys place size → are_cut (cond b (record { regions = regions; loadable = one } ∷ xs) xs) place size ≡ are_cut (cond b (record { regions = regions; loadable = other } ∷ ys) ys) place size

@@ -1,7 +1,6 @@
 -- Slots that are alike.
-use Rattle.std.proofs.Common.{◌≡◌, ℕ, ◌+◌, ◌*◌, ◌<◌, ◌≤◌, ◌==◌, ◌%◌, min, Bool, true, false, not, ◌&&◌, ◌||◌, cond, nat_lt, nat_le, List, [], ◌∷◌, length, get_or, take, Some, ⊎_elim, refl, sym, ap, subst, ◌∙◌, arith}
-use Rattle.std.specs.List.{find, list_any}
-use Rattle.std.specs.Option.{is_none}
+use Rattle.std.proofs.Common.{◌≡◌, ℕ, ◌+◌, ◌*◌, ◌<◌, ◌≤◌, ◌==◌, ◌%◌, min, Bool, true, not, ◌&&◌, ◌||◌, nat_lt, nat_le, length, get_or, take, ⊎_elim, sym, ap, subst, ◌∙◌, arith}
+use Rattle.std.specs.List.{list_any}
 use Rattle.std.proofs.lemmas.Bool.{and_parts, leb-true, cases_Bool}
 use Rattle.std.proofs.lemmas.List.{take_all}
 use Rattle.jh_cellcfg.specs.declared.region.Region.{Region}
@@ -9,7 +8,7 @@ use Rattle.jh_cellcfg.specs.Regions.{virt_end, is_comm, may_have_blocks, place_i
 use Rattle.jh_shape.specs.Claims.{Claims}
 use Rattle.jh_shape.specs.Intervals.{touches, spans}
 use Rattle.jh_shape.specs.Shapes.{slot_size, is_mapped, are_cut, may_be_block, is_leaf_by, is_leaf, is_met, is_met_by, is_table}
-use Rattle.jh_shape.proofs.AnyLemmas.{list_any-agree_more}
+use Rattle.jh_num.proofs.Lists.{list_any-agree_more}
 
 -- a region meets two slots alike
 pub same_met : (level a b : ℕ) (region : Region) (start end : ℕ) → start ≡ region.virt_start → end ≡ virt_end region → touches start end a (slot_size level) ≡ touches start end b (slot_size level) → is_met_by level a region ≡ is_met_by level b region
@@ -90,12 +89,3 @@ alike_all claims level start index run h l k m =
     let leaf : is_leaf claims level (start + k * slot_size level) ≡ is_leaf claims level start = rw all at (h.leaf k m) in
     ap (λ v. v && not (is_leaf claims level (start + k * slot_size level))) met
     ∙ ap (λ v. is_met claims level start && not v) leaf
-
--- `find` finds exactly where some element passes
-pub is_none-find : (p : Region → Bool) (xs : List Region) → is_none (find p xs) ≡ not (list_any p xs)
-is_none-find p [] = refl
-is_none-find p (x ∷ xs) =
-    elim (p x) as (λ b. is_none (cond b (Some x) (find p xs)) ≡ not (b || list_any p xs)) [
-      | true ↦ refl
-      | false ↦ is_none-find p xs
-    ]

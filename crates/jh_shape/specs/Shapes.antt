@@ -2,6 +2,7 @@
 -- granule).
 use Rattle.std.specs.Prelude.{ℕ, ◌-◌, ◌*◌, ◌^◌, ◌%◌, Bool, ◌&&◌, ◌||◌, not, ◌==◌, nat_lt, List, Option, Some, None, if◌then◌else◌}
 use Rattle.std.specs.List.{find, list_any}
+use Rattle.jh_cellcfg.specs.declared.live.Live.{Live}
 use Rattle.jh_cellcfg.specs.declared.region.Region.{Region}
 use Rattle.jh_cellcfg.specs.Regions.{virt_end, phys_end, has_place, place_in, is_page_mapped, is_comm, is_unshared, is_loadable, is_device, may_have_blocks, rights_of}
 use Rattle.jh_shape.specs.declared.want.Want.{Want}
@@ -31,12 +32,20 @@ are_cut holders place size = list_any (λ (holder : Holder). list_any (λ (regio
 abbrev pub takes : Bool → Region → ℕ → Bool
 takes loadable region place = is_unshared region && (not (loadable && is_loadable region) && has_place region place)
 
+-- a cell that lives besides root, as root's tables see it
+abbrev pub holder_of_live : Live → Holder
+holder_of_live live = record { regions = live.config.memory_regions; loadable = live.loadable }
+
 abbrev pub is_closed : List Holder → ℕ → Bool
 is_closed holders place = list_any (λ (holder : Holder). list_any (λ (region : Region). takes holder.loadable region place) holder.regions) holders
 
 -- a block may map the slot of addresses from `start` on: blocks stand at levels 1 and 2, for plain
 -- memory whose places are aligned like its addresses, and, for root, none where another cell's unshared
 -- region meets the slot's places in part
+abbrev pub fits_blocks : ℕ → Region → Bool
+fits_blocks level region =
+    nat_lt 0 level && (may_have_blocks region && (not (is_comm region) && ((region.phys_start % slot_size level) == (region.virt_start % slot_size level))))
+
 abbrev pub may_be_block : Claims → ℕ → ℕ → Region → Bool
 may_be_block claims level start region =
     nat_lt 0 level && (may_have_blocks region && (not (is_comm region) && (((region.phys_start % slot_size level) == (region.virt_start % slot_size level)) && not (claims.root && are_cut claims.holders (place_in region start) (slot_size level)))))

@@ -1,12 +1,34 @@
 //! Intervals of addresses or places, and slots beside them.
-ghost use Rattle.std.specs.Prelude.{◌≡◌, ℕ, ◌+◌, ◌*◌, ◌^◌, ◌<◌};
+ghost use Rattle.std.specs.Prelude.{◌≡◌, ℕ, ◌+◌, ◌*◌, ◌/◌, ◌^◌, ◌<◌, ◌≤◌, ◌&&◌, min, nat_le, nat_lt};
 ghost use Rattle.jh_shape.specs.Intervals.{touches, spans};
+ghost use Rattle.jh_shape.specs.Shapes.{slot_size};
+
+use crate::level::{LAST_LEVEL, slot_of, slot_size};
+use jh_num::ADDRESS_END;
 
 /// Numbers from `start` on, below `end`. Ends are sums of two 64-bit numbers.
 #[derive(Clone, Copy)]
 pub(crate) struct Interval {
     pub(crate) start: u128,
     pub(crate) end: u128,
+}
+
+/// Slots of a level by their numbers: those from `from` on, below `to`.
+#[derive(Clone, Copy)]
+pub(crate) struct Slots {
+    pub(crate) from: usize,
+    pub(crate) to: usize,
+}
+
+/// The number, but none past the end of addresses.
+fn capped(number: u128) -> u64
+    ensures { result ≡ min number ADDRESS_END }
+{
+    if number < u128::from(ADDRESS_END) {
+        number as u64
+    } else {
+        ADDRESS_END
+    }
 }
 
 impl Interval {
@@ -26,23 +48,32 @@ impl Interval {
         self.start <= at && at + size <= self.end
     }
 
-    /// For how many slots of that size, from the one at `at` on, nothing changes between the interval
-    /// and the slot.
-    pub(crate) fn steady(&self, at: u128, size: u128) -> u128
-        requires some { 0 < size }
-        requires fits { at + size < 2 ^ 128 }
-        ensures more { 0 < result }
-        ensures touches { (k : ℕ) → k < result → touches self.now.start self.now.end (at + k * size) size ≡ touches self.now.start self.now.end at size }
-        ensures spans { (k : ℕ) → k < result → spans self.now.start self.now.end (at + k * size) size ≡ spans self.now.start self.now.end at size }
+    /// Which of the level's slots below the end of addresses it touches.
+    pub(crate) fn touched(&self, level: u8) -> Slots
+        requires some { self.now.start < self.now.end }
+        requires level { level < LAST_LEVEL }
+        ensures bound { result.to ≤ 262144 }
+        ensures slots { (n : ℕ) → n < ADDRESS_END / slot_size level → (nat_le result.from n && nat_lt n result.to) ≡ touches self.now.start self.now.end (n * slot_size level) (slot_size level) }
     {
-        if at + size <= self.start {
-            (self.start - at) / size
-        } else if self.end <= at {
-            u128::MAX
-        } else if self.spans(at, size) {
-            (self.end - at) / size
-        } else {
-            1
+        let from = slot_of(level, capped(self.start));
+        let to = slot_of(level, capped(self.end) + (slot_size(level) - 1));
+        Slots {
+            from: from as usize,
+            to: to as usize,
+        }
+    }
+
+    /// Which of them it spans.
+    pub(crate) fn spanned(&self, level: u8) -> Slots
+        requires { level < LAST_LEVEL }
+        ensures bound { result.to ≤ 262144 }
+        ensures slots { (n : ℕ) → n < ADDRESS_END / slot_size level → (nat_le result.from n && nat_lt n result.to) ≡ spans self.now.start self.now.end (n * slot_size level) (slot_size level) }
+    {
+        let from = slot_of(level, capped(self.start) + (slot_size(level) - 1));
+        let to = slot_of(level, capped(self.end));
+        Slots {
+            from: from as usize,
+            to: to as usize,
         }
     }
 }

@@ -1,10 +1,18 @@
-//! What holds of shapes and pages, whatever the regions are.
-ghost use Rattle.std.specs.Prelude.{◌≡◌, ℕ, ◌≤◌, [], ◌∷◌, ◌++◌};
-ghost use Rattle.jh_shape.specs.Claims.{claims_of};
+//! What holds of shapes and pages, whatever the regions are: each law is the contract of a function that
+//! does nothing.
+ghost use Rattle.std.specs.Prelude.{◌≡◌, ℕ, ◌+◌, ◌-◌, ◌%◌, ◌<◌, ◌≤◌, List, [], ◌∷◌, ◌++◌, map, Bool, IsTrue, ◌↔◌};
+ghost use Rattle.jh_cellcfg.specs.declared.live.Live.{Live as LiveOf};
+ghost use Rattle.jh_num.specs.declared.rights.Rights.{Rights as RightsOf};
+ghost use Rattle.jh_shape.specs.Claims.{Claims, claims_of};
+ghost use Rattle.jh_shape.specs.Grants.{IsGranted};
+ghost use Rattle.jh_shape.specs.Laws.{IsMet, IsServed, IsTaken, tables_by};
 ghost use Rattle.jh_shape.specs.Pages.{pages_of, tables_of};
-ghost use Rattle.jh_shape.specs.Shapes.{is_leaf, is_table};
+ghost use Rattle.jh_shape.specs.Shapes.{holder_of_live, slot_size, is_closed, is_leaf, is_met, is_table, want_of};
+ghost use Rattle.jh_shape.specs.Suits.{IsSound};
 
+use crate::level::{FIRST_LEVEL, LAST_LEVEL};
 use crate::target::Target;
+use crate::want::Want;
 use jh_cellcfg::{CellConfig, Region};
 
 /// With one cell more, the live cells take no fewer pages.
@@ -12,9 +20,61 @@ pub fn a_new_cell_frees_no_page(_root: &[Region], _cells: &[CellConfig], _new: &
     ensures { pages_of _root.now _cells.now ≤ pages_of _root.now (_cells.now ++ _new.now ∷ []) }
 {}
 
+/// Without one of them, whichever it is, they take no more.
+pub fn fewer_cells_take_no_more_pages(
+    _root: &[Region],
+    _before: &[CellConfig],
+    _gone: &CellConfig,
+    _behind: &[CellConfig],
+)
+    ensures { pages_of _root.now (_before.now ++ _behind.now) ≤ pages_of _root.now (_before.now ++ _gone.now ∷ _behind.now) }
+{}
+
 /// Which cells are loadable changes no slot's shape, and so no count of pages.
 pub fn loadable_cells_change_no_shape(_target: &Target, _loadable: u16)
     ensures leaves { (level start : ℕ) → is_leaf (claims_of (record _target.now { loadable = _loadable })) level start ≡ is_leaf (claims_of _target.now) level start }
     ensures tables { (level start : ℕ) → is_table (claims_of (record _target.now { loadable = _loadable })) level start ≡ is_table (claims_of _target.now) level start }
     ensures pages { tables_of (claims_of (record _target.now { loadable = _loadable })) ≡ tables_of (claims_of _target.now) }
+{}
+
+/// Nor does the place of the communication page.
+pub fn the_communication_page_changes_no_count(_target: &Target, _comm: u64)
+    ensures tables { (level start : ℕ) → is_table (claims_of (record _target.now { comm = _comm })) level start ≡ is_table (claims_of _target.now) level start }
+    ensures pages { tables_of (claims_of (record _target.now { comm = _comm })) ≡ tables_of (claims_of _target.now) }
+{}
+
+/// Tables begin at level 1, and pages stand at level 3.
+pub fn levels_are_these()
+    ensures first { FIRST_LEVEL ≡ 1 }
+    ensures last { LAST_LEVEL ≡ 3 }
+{}
+
+/// A table is wanted exactly where a page-mapped region meets the slot and no single descriptor serves
+/// it.
+pub fn a_table_stands_where_no_leaf_serves()
+    ensures met { (claims : Claims) (level start : ℕ) → IsTrue (is_met claims level start) ↔ IsMet claims level start }
+    ensures leaf { (claims : Claims) (level start : ℕ) → IsTrue (is_leaf claims level start) ↔ IsServed claims level start }
+    ensures table { (claims : Claims) (level start : ℕ) → (want_of claims level start ≡ Want.Table) ↔ (IsMet claims level start × (IsServed claims level start → ⊥)) }
+{}
+
+/// A cell has its first table, and one for each slot that is wanted to lead to one.
+pub fn each_wanted_table_is_counted()
+    ensures { (claims : Claims) → tables_of claims ≡ tables_by (want_of claims) }
+{}
+
+/// Where a table is wanted, one is wanted in the slot of the level above that it lies in.
+pub fn tables_stand_below_tables()
+    ensures { (claims : Claims) (level start : ℕ) → level < 3 → start % slot_size (level + 1) ≡ 0 → want_of claims (level + 1) start ≡ Want.Table → want_of claims level (start - start % slot_size level) ≡ Want.Table }
+{}
+
+/// A page of a page-mapped region is granted wholly or not at all: what one byte of a page of addresses
+/// is granted, each is, at the places beside it.
+pub fn a_page_is_granted_wholly_or_not_at_all()
+    ensures { (claims : Claims) (page place j k : ℕ) (rights : RightsOf) (device : Bool) → IsSound claims → page % 4096 ≡ 0 → j < 4096 → k < 4096 → IsGranted claims (page + j) (place + j) rights device → IsGranted claims (page + k) (place + k) rights device }
+{}
+
+/// A place is closed to root exactly where a live cell holds it for itself, and doesn't leave it to root
+/// while it is loadable.
+pub fn what_live_cells_hold_is_closed()
+    ensures { (cells : List LiveOf) (place : ℕ) → IsTrue (is_closed (map holder_of_live cells) place) ↔ IsTaken cells place }
 {}

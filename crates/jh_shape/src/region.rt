@@ -1,13 +1,16 @@
 //! A region against a slot.
-ghost use Rattle.std.specs.Prelude.{◌≡◌, ℕ, ◌+◌, ◌*◌, ◌^◌, ◌<◌, ◌≤◌};
+ghost use Rattle.std.specs.Prelude.{◌≡◌, ℕ, ◌+◌, ◌*◌, ◌^◌, ◌<◌, ◌≤◌, ◌||◌, length};
 ghost use Rattle.std.specs.List.{list_any};
 ghost use Rattle.jh_cellcfg.specs.Regions.{virt_end, phys_end, place_in};
 ghost use Rattle.jh_cellcfg.specs.declared.region.Region.{Region};
-ghost use Rattle.jh_shape.specs.Shapes.{is_mapped, is_met_by, meets_in_part, takes};
+ghost use Rattle.jh_shape.specs.Marks.{is_inside, is_marked, AreMarked};
+ghost use Rattle.jh_shape.specs.Shapes.{slot_size, fits_blocks, is_mapped, is_met_by, meets_in_part, takes};
 
 use crate::interval::Interval;
-use crate::level::{LAST_LEVEL, slot_size};
+use crate::level::{LAST_LEVEL, slot_of, slot_size};
+use crate::marks::{mark, mark_span};
 use jh_cellcfg::Region;
+use jh_num::ADDRESS_END;
 
 /// Its addresses.
 pub(crate) fn addresses(region: &Region) -> Interval
@@ -98,16 +101,66 @@ pub(crate) fn any_takes(regions: &[Region], loadable: bool, place: u64) -> bool
     regions.iter().any(|region| takes(region, loadable, place))
 }
 
-/// For how many slots of that size, from the one at `place` on, [`any_in_part`] stays as it is.
-pub(crate) fn steady_among(regions: &[Region], place: u128, size: u128) -> u128
-    requires some { 0 < size }
-    requires fits { place + size < 2 ^ 128 }
-    ensures more { 0 < result }
-    ensures same { (k : ℕ) → k < result → list_any (λ region. meets_in_part region (place + k * size) size) regions.now ≡ list_any (λ region. meets_in_part region place size) regions.now }
+/// Whether blocks of the level may map it, as far as other cells don't forbid it: there are none at
+/// level 0 or of the communication page, and its places are aligned like its addresses.
+pub(crate) fn fits_blocks(level: u8, region: &Region) -> bool
+    requires { level ≤ LAST_LEVEL }
+    ensures { result ≡ fits_blocks level region.now }
 {
-    let mut run = u128::MAX;
-    for region in regions {
-        run = run.min(places(region).steady(place, size));
+    let size = slot_size(level);
+    level > 0
+        && region.may_have_blocks()
+        && !region.is_comm()
+        && region.phys_start % size == region.virt_start % size
+}
+
+/// Marks the slots in which the region has an address, where tables map it.
+pub(crate) fn mark_met(words: &mut [u64], level: u8, region: &Region)
+    requires level { level < LAST_LEVEL }
+    requires enough { length words.old ≡ 4096 }
+    ensures { AreMarked words.new level (λ n. is_marked words.old n || is_met_by level (n * slot_size level) region.now) }
+{
+    if is_mapped(region) {
+        let slots = addresses(region).touched(level);
+        mark_span(words, slots.from, slots.to);
     }
-    run
+}
+
+/// Marks the slot that the number lies in, unless it is the first there.
+fn mark_inside(words: &mut [u64], level: u8, number: u128)
+    requires level { level < LAST_LEVEL }
+    requires enough { length words.old ≡ 4096 }
+    ensures { AreMarked words.new level (λ n. is_marked words.old n || is_inside (n * slot_size level) (slot_size level) number) }
+{
+    if number < u128::from(ADDRESS_END) {
+        let number = number as u64;
+        let n = slot_of(level, number);
+        if n * slot_size(level) < number {
+            mark(words, n as usize);
+        }
+    }
+}
+
+/// Marks the slots of places that the region, where it is for its cell alone, has in part.
+fn mark_cut(words: &mut [u64], level: u8, region: &Region)
+    requires level { level < LAST_LEVEL }
+    requires enough { length words.old ≡ 4096 }
+    ensures { AreMarked words.new level (λ n. is_marked words.old n || meets_in_part region.now (n * slot_size level) (slot_size level)) }
+{
+    let its = places(region);
+    if region.is_unshared() && its.start < its.end {
+        mark_inside(words, level, its.start);
+        mark_inside(words, level, its.end);
+    }
+}
+
+/// The same of each of them.
+pub(crate) fn mark_cuts(words: &mut [u64], level: u8, regions: &[Region])
+    requires level { level < LAST_LEVEL }
+    requires enough { length words.old ≡ 4096 }
+    ensures { AreMarked words.new level (λ n. is_marked words.old n || list_any (λ region. meets_in_part region (n * slot_size level) (slot_size level)) regions.now) }
+{
+    for region in regions {
+        mark_cut(words, level, region);
+    }
 }

@@ -1,13 +1,10 @@
 //! The tables that a cell is to have.
 ghost use Rattle.std.specs.Prelude.{◌≡◌, ℕ, ◌+◌, ◌*◌, ◌^◌, ◌<◌, ◌≤◌, [], ◌∷◌, false, length};
 
-use crate::level::{FIRST_LEVEL, LAST_LEVEL, slot_size};
-use crate::region::{
-    addresses, any_in_part, any_met, any_takes, is_mapped, place_in, steady_among,
-};
+use crate::level::{LAST_LEVEL, slot_size};
+use crate::region::{addresses, any_in_part, any_met, any_takes, fits_blocks, is_mapped, place_in};
 use crate::want::Want;
 use jh_cellcfg::{CellConfig, Region};
-use jh_num::ADDRESS_END;
 
 /// What a cell's tables are made from: its regions, whether it is root, and the other cells.
 ///
@@ -27,7 +24,7 @@ pub struct Target<'a> {
 }
 
 /// Whether the bit of that number is set.
-fn has_bit(mask: u16, index: usize) -> bool
+pub(crate) fn has_bit(mask: u16, index: usize) -> bool
     requires { index < 16 }
     ensures { result ≡ has_bit mask index }
 {
@@ -39,13 +36,12 @@ ghost use Rattle.jh_shape.specs.Claims.{claims_of, has_bit};
 impl<'a> Target<'a> {
     ghost use Rattle.jh_shape.specs.Claims.{held_from, one_more};
     ghost use Rattle.jh_cellcfg.specs.Regions.{is_comm, place_in};
-    ghost use Rattle.jh_shape.specs.Shapes.{are_cut, is_closed, may_be_block, is_leaf_by, leaf_region, is_met, is_met_by, is_table, leaf_of, slot_size, want_of};
+    ghost use Rattle.jh_shape.specs.Shapes.{are_cut, is_closed, may_be_block, is_leaf_by, leaf_region, is_met, leaf_of, want_of};
     ghost use Rattle.jh_shape.specs.Grants.{Tells};
     ghost use Rattle.jh_shape.specs.Suits.{IsSound, IsSlot};
-    ghost use Rattle.jh_shape.specs.Pages.{tables_at, tables_of};
 
     /// Whether an unshared region of a holder has some of those places but not all.
-    fn are_cut(&self, place: u128, size: u128) -> bool
+    pub(crate) fn are_cut(&self, place: u128, size: u128) -> bool
         requires cells { length self.now.cells.now ≤ 15 }
         requires fits { place + size < 2 ^ 128 }
         ensures { result ≡ are_cut (claims_of self.now).holders place size }
@@ -83,62 +79,14 @@ impl<'a> Target<'a> {
         }
     }
 
-    /// For how many slots of that size, from the one at `place` on, the cell beyond the list cuts them
-    /// or doesn't.
-    fn steady_extra(&self, place: u128, size: u128) -> u128
-        requires some { 0 < size }
-        requires fits { place + size < 2 ^ 128 }
-        ensures more { 0 < result }
-        ensures same { (k : ℕ) → k < result → are_cut (one_more self.now.extra) (place + k * size) size ≡ are_cut (one_more self.now.extra) place size }
-    {
-        match self.extra {
-            Some(cell) => steady_among(cell.memory_regions.as_slice(), place, size),
-            None => u128::MAX,
-        }
-    }
-
-    /// The same for a cell of the list.
-    fn steady_cell(&self, index: usize, cell: &CellConfig, place: u128, size: u128) -> u128
-        requires index { index ≤ 15 }
-        requires some { 0 < size }
-        requires fits { place + size < 2 ^ 128 }
-        ensures more { 0 < result }
-        ensures same { (k : ℕ) → k < result → are_cut (held_from self.now.held self.now.loadable index (cell.now ∷ [])) (place + k * size) size ≡ are_cut (held_from self.now.held self.now.loadable index (cell.now ∷ [])) place size }
-    {
-        if has_bit(self.held, index) {
-            steady_among(cell.memory_regions.as_slice(), place, size)
-        } else {
-            u128::MAX
-        }
-    }
-
-    /// For how many slots of that size, from the one at `place` on, [`Self::are_cut`] stays as it is.
-    fn steady_places(&self, place: u128, size: u128) -> u128
-        requires cells { length self.now.cells.now ≤ 15 }
-        requires some { 0 < size }
-        requires fits { place + size < 2 ^ 128 }
-        ensures more { 0 < result }
-        ensures same { (k : ℕ) → k < result → are_cut (claims_of self.now).holders (place + k * size) size ≡ are_cut (claims_of self.now).holders place size }
-    {
-        let mut run = self.steady_extra(place, size);
-        for (i, cell) in self.cells.iter().enumerate() {
-            run = run.min(self.steady_cell(i, cell, place, size));
-        }
-        run
-    }
-
     /// Whether a block may map the slot.
     fn may_be_block(&self, level: u8, start: u64, region: &Region) -> bool
         requires cells { length self.now.cells.now ≤ 15 }
         requires level { level ≤ LAST_LEVEL }
         ensures { result ≡ may_be_block (claims_of self.now) level start region.now }
     {
-        let size = slot_size(level);
-        level > 0
-            && region.may_have_blocks()
-            && !region.is_comm()
-            && region.phys_start % size == region.virt_start % size
-            && !(self.root && self.are_cut(place_in(region, start), u128::from(size)))
+        let size = u128::from(slot_size(level));
+        fits_blocks(level, region) && !(self.root && self.are_cut(place_in(region, start), size))
     }
 
     /// Whether the region makes the slot a leaf.
@@ -221,82 +169,5 @@ impl<'a> Target<'a> {
                 }
             }
         }
-    }
-
-    /// For how many slots of the level, from the one at `start` on, the region meets each or none, and
-    /// makes each a leaf or none.
-    fn steady_by(&self, level: u8, start: u64, region: &Region) -> u128
-        requires cells { length self.now.cells.now ≤ 15 }
-        requires level { level ≤ LAST_LEVEL }
-        ensures more { 0 < result }
-        ensures met { (k : ℕ) → k < result → is_met_by level (start + k * slot_size level) region.now ≡ is_met_by level start region.now }
-        ensures leaf { (k : ℕ) → k < result → is_leaf_by (claims_of self.now) level (start + k * slot_size level) region.now ≡ is_leaf_by (claims_of self.now) level start region.now }
-    {
-        let size = u128::from(slot_size(level));
-        let its = addresses(region);
-        let run = its.steady(u128::from(start), size);
-        if self.root && its.spans(u128::from(start), size) {
-            run.min(self.steady_places(place_in(region, start), size))
-        } else {
-            run
-        }
-    }
-
-    /// For how many slots of the level, from the one at `start` on, all are tables or none.
-    fn steady_from(&self, level: u8, start: u64) -> u128
-        requires cells { length self.now.cells.now ≤ 15 }
-        requires level { level ≤ LAST_LEVEL }
-        ensures more { 0 < result }
-        ensures same { (k : ℕ) → k < result → is_table (claims_of self.now) level (start + k * slot_size level) ≡ is_table (claims_of self.now) level start }
-    {
-        let mut run = u128::MAX;
-        for region in self.regions {
-            run = run.min(self.steady_by(level, start, region));
-        }
-        run
-    }
-
-    /// Whether the slot's descriptor leads to a table.
-    fn is_table(&self, level: u8, start: u64) -> bool
-        requires cells { length self.now.cells.now ≤ 15 }
-        requires level { level ≤ LAST_LEVEL }
-        ensures { result ≡ is_table (claims_of self.now) level start }
-    {
-        self.is_met(level, start) && self.leaf_region(level, start).is_none()
-    }
-
-    /// How many slots of the level are tables. It looks once at each stretch of slots that are alike.
-    fn tables_at(&self, level: u8) -> u64
-        requires cells { length self.now.cells.now ≤ 15 }
-        requires level { level ≤ LAST_LEVEL }
-        ensures value { result ≡ tables_at (claims_of self.now) level }
-        ensures bound { result ≤ ADDRESS_END }
-    {
-        let size = slot_size(level);
-        let end = ADDRESS_END / size;
-        let mut count = 0;
-        let mut slot = 0;
-        'slots: while slot < end {
-            let start = slot * size;
-            let run = self.steady_from(level, start).min(u128::from(end - slot)) as u64;
-            if self.is_table(level, start) {
-                count += run;
-            }
-            slot += run;
-        }
-        count
-    }
-
-    /// How many pages the tables take: the first table, and one for each slot that is a table. The
-    /// communication page isn't counted.
-    pub fn tables(&self) -> u64
-        requires { length self.now.cells.now ≤ 15 }
-        ensures { result ≡ tables_of (claims_of self.now) }
-    {
-        let mut pages = 1;
-        for level in FIRST_LEVEL..LAST_LEVEL {
-            pages += self.tables_at(level);
-        }
-        pages
     }
 }

@@ -185,6 +185,24 @@ fn other_cells_cut_what_they_hold_in_part(rt: HostRuntime) -> Result<(), Fail> {
     Ok(())
 }
 
+#[test]
+fn one_page_of_another_cell_cuts_a_block_of_each_level(rt: HostRuntime) -> Result<(), Fail> {
+    let holder = cell(rt.alloc(), &[region(0x8020_1000, 0, 0x1000, 7)])?;
+    let regions = [region(BASE, BASE, 0x1_0000_0000, 7)];
+    assert_eq!(rt; pages(&regions, true), 1);
+    assert_eq!(rt; pages_beside(&regions, &[], 0, 0, Some(&holder)), 3);
+    Ok(())
+}
+
+#[test]
+fn places_past_the_end_of_addresses_are_cut_too(rt: HostRuntime) -> Result<(), Fail> {
+    let holder = cell(rt.alloc(), &[region(0x80_0020_1000, 0, 0x1000, 7)])?;
+    let regions = [region(0x80_0000_0000, BASE, 2 * BLOCK, 7)];
+    assert_eq!(rt; pages(&regions, true), 2);
+    assert_eq!(rt; pages_beside(&regions, &[], 0, 0, Some(&holder)), 3);
+    Ok(())
+}
+
 /// A descriptor of a cell with two pages of a device.
 fn small_want(level: u8, start: u64) -> Want
     requires { IsSlot level start }

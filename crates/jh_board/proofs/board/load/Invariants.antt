@@ -1,7 +1,7 @@
 -- The preloads so far are stored.
 use Rattle.std.proofs.Common.{◌≡◌, ℕ, take}
 use Rattle.std.specs.Prelude.{fold}
-use Rattle.jh_history.specs.Facts.{preloaded}
+use Rattle.jh_history.specs.Bytes.{preloaded}
 use Rattle.jh_board.specs.Pages.{byte_at}
 use Rattle.jh_board.proofs.board.load.Given as goal
 

@@ -1,7 +1,7 @@
 -- What is left of the programs has the one sought.
 use Rattle.std.proofs.Common.{◌≡◌, drop}
 use Rattle.std.specs.Prelude.{find}
-use Rattle.jh_history.specs.Cells.{is_program_of}
+use Rattle.jh_history.specs.Lives.{is_program_of}
 use Rattle.jh_board.proofs.indexed.place_of_program.Given as goal
 
 abbrev pub invariant-loop-k : goal.invariant-loop-k

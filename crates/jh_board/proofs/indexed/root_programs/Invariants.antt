@@ -1,7 +1,8 @@
 -- The places so far.
 use Rattle.std.proofs.Common.{◌≡◌, ℕ, ◌<◌, get_or, length}
 use Rattle.std.specs.Prelude.{find, slice_get}
-use Rattle.jh_history.specs.Cells.{is_program_of, name_of}
+use Rattle.jh_cellcfg.specs.Cells.{name_of}
+use Rattle.jh_history.specs.Lives.{is_program_of}
 use Rattle.jh_board.proofs.indexed.root_programs.Given as goal
 
 abbrev pub invariant-loop-cpu : goal.invariant-loop-cpu

@@ -1,7 +1,7 @@
 -- The CPUs so far.
 use Rattle.std.proofs.Common.{◌≡◌}
 use Rattle.std.specs.Prelude.{filter}
-use Rattle.jh_history.specs.Cells.{is_on_board}
+use Rattle.jh_history.specs.Lives.{is_on_board}
 use Rattle.jh_history.specs.Items.{below}
 use Rattle.jh_board.proofs.schedule.cpus_of.Given as goal
 

@@ -1,5 +1,5 @@
-use Rattle.jh_check.proofs.LawLemmas.{addresses-single}
+use Rattle.jh_check.proofs.JoinLemmas.{clean-from_nothing}
 use Rattle.jh_check.proofs.laws.addresses_are_single.Goals as goal
 
 pub returns : goal.returns
-returns c = addresses-single c.args._system.now c.args._cells.now
+returns c = λ e. (clean-from_nothing c.args._system.now c.args._cells.now e).addresses

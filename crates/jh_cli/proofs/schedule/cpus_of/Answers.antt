@@ -1,6 +1,6 @@
 -- The bit of each CPU is set as its turn comes.
 use Rattle.std.proofs.Common.{sym, ◌∙◌}
-use Rattle.jh_history.specs.Cells.{is_on_board}
+use Rattle.jh_history.specs.Lives.{is_on_board}
 use Rattle.jh_cli.proofs.CpuLemmas.{none_below, one_more, one_less, all_below}
 use Rattle.jh_cli.proofs.schedule.cpus_of.Goals.{then-is_on_board, else-is_on_board}
 use Rattle.jh_cli.proofs.schedule.cpus_of.Goals as goal

@@ -1,5 +1,5 @@
 -- The CPUs so far.
-use Rattle.jh_history.specs.Cells.{is_on_board}
+use Rattle.jh_history.specs.Lives.{is_on_board}
 use Rattle.jh_cli.proofs.CpuLemmas.{AreBelow}
 use Rattle.jh_cli.proofs.schedule.cpus_of.Given as goal
 

@@ -1,31 +1,21 @@
--- The places, one at a time.
-use Rattle.std.proofs.Common.{◌≡◌, ◌∙◌, sym, ◌+◌, ◌<◌, ◌≤◌, Some, None, arith}
-use Rattle.std.proofs.lemmas.Grind.{common_steps}
+-- Memory where each byte has a place.
+use Rattle.std.proofs.Common.{◌≤◌, ◌<◌, ◌+◌, Some, None, sym, arith}
 use Rattle.jh_num.specs.declared.address.TheConstants.{ADDRESS_END}
-use Rattle.jh_history.proofs.AccessLemmas.{reach_by-beyond, reach_by-none, reach_by-all, places_from-more}
+use Rattle.jh_history.specs.Access.{place_of}
+use Rattle.jh_history.proofs.AccessLemmas.{reach_by-beyond, reach_by-places}
 use Rattle.jh_history.proofs.grants.reach.Goals as goal
-use Rattle.jh_history.proofs.grants.reach.Goals.{then-at-gt-ADDRESS_END-via-then-at-gt-ADDRESS_END, then-at-gt-ADDRESS_END-via-else-at-gt-ADDRESS_END+then-at-from-gt-ADDRESS_END}
+use Rattle.jh_history.proofs.grants.reach.Goals.{then-wanted-gt-ADDRESS_END-via-then-wanted-gt-ADDRESS_END, then-wanted-gt-ADDRESS_END-via-else-wanted-gt-ADDRESS_END+then-width-wanted}
 
-pub returns-then-at-gt-ADDRESS_END : goal.returns-then-at-gt-ADDRESS_END
-returns-then-at-gt-ADDRESS_END g c =
-    let beyond : ADDRESS_END < c.args.at + c.args.width = elim c.then-at-gt-ADDRESS_END.branch [ then-at-gt-ADDRESS_END-via-then-at-gt-ADDRESS_END w ↦ omega arith | then-at-gt-ADDRESS_END-via-else-at-gt-ADDRESS_END+then-at-from-gt-ADDRESS_END w ↦ omega arith ] in
-    sym (reach_by-beyond (g.G.Grants.place c.args.grants.now c.args.cell c.args.access) c.args.at c.args.width beyond)
+pub returns-in-Some : goal.returns-in-Some
+returns-in-Some g c = reach_by-places (place_of c.args.cell (g.G.Grants.regions c.args.grants.now c.args.cell) c.args.wanted.now.access) c.args.wanted.now.at c.args.wanted.now.width (Some c.in-Some.places) (omega arith) c.in-Some.ensures
 
 pub returns-in-None : goal.returns-in-None
-returns-in-None g c =
-    let place = g.G.Grants.place c.args.grants.now c.args.cell c.args.access in
-    let none : place (c.args.at + c.loop-k.k) ≡ None = rw (← c.from-in-loop-k.ensures) (sym c.in-None.ensures) in
-    sym (reach_by-none place c.loop-k.places c.args.at c.loop-k.k c.args.width (omega arith) (omega arith) c.loop-k.invariant.told none)
+returns-in-None g c = reach_by-places (place_of c.args.cell (g.G.Grants.regions c.args.grants.now c.args.cell) c.args.wanted.now.access) c.args.wanted.now.at c.args.wanted.now.width None (omega arith) c.in-None.ensures
 
-pub loop-k-preserved : goal.loop-k-preserved
-loop-k-preserved g c =
-    let place = g.G.Grants.place c.args.grants.now c.args.cell c.args.access in
-    let some : place (c.args.at + c.loop-k.k) ≡ Some c.in-Some.place = rw (← c.from-in-loop-k.ensures) (sym c.in-Some.ensures) in
-    record {
-      told = rw c.push.ensures (places_from-more place c.loop-k.places c.args.at c.loop-k.k c.args.width c.in-Some.place (omega arith) some ∙ c.loop-k.invariant.told);
-      count = grind (arith, common_steps);
-    }
-
-pub returns : goal.returns
-returns g c =
-    sym (reach_by-all (g.G.Grants.place c.args.grants.now c.args.cell c.args.access) c.loop-k.places c.args.at c.loop-k.k c.args.width (omega arith) (omega arith) c.loop-k.invariant.told)
+pub returns-then-wanted-gt-ADDRESS_END : goal.returns-then-wanted-gt-ADDRESS_END
+returns-then-wanted-gt-ADDRESS_END g c =
+    let beyond : ADDRESS_END < c.args.wanted.now.at + c.args.wanted.now.width = elim c.then-wanted-gt-ADDRESS_END.branch [
+      | then-wanted-gt-ADDRESS_END-via-then-wanted-gt-ADDRESS_END w ↦ omega arith
+      | then-wanted-gt-ADDRESS_END-via-else-wanted-gt-ADDRESS_END+then-width-wanted w ↦ (let e = c.from-width.ensures in omega arith)
+    ] in
+    sym (reach_by-beyond (place_of c.args.cell (g.G.Grants.regions c.args.grants.now c.args.cell) c.args.wanted.now.access) c.args.wanted.now.at c.args.wanted.now.width beyond)

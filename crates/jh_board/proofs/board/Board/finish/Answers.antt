@@ -3,7 +3,7 @@ use Rattle.std.proofs.Common.{◌≡◌, ◌∙◌, ◌+◌, ◌<◌, ℕ, false
 use Rattle.std.proofs.lemmas.Bool.{false≢true}
 use Rattle.jh_script.specs.declared.image.Image.{Image}
 use Rattle.std.specs.Prelude.{IsTrue}
-use Rattle.jh_history.specs.Cells.{is_on_board}
+use Rattle.jh_history.specs.Lives.{is_on_board}
 use Rattle.jh_history.specs.Items.{cpus_of}
 use Rattle.jh_board.specs.BoardView.{BoardView}
 use Rattle.jh_board.proofs.ReachesLemmas.{Reaches-nil, Reaches-round, Reaches-rounds_quiet, Reaches-rounds_full, longer-round}
@@ -28,6 +28,6 @@ loop-n-preserved c =
       long =
           let image : c.loop-n.self.image ≡ c.args.self.now.image = ap (λ (v : BoardView). v.image) c.loop-n.invariant.told.1 in
           let P : Image → Type 0 = λ i. (cpu : ℕ) → IsTrue (is_on_board i cpu) → cpu < 16 in
-          let more = longer-round c.loop-n.self c.follow_on.new.self c.args.cpus.now (subst P (sym image) c.journal.ensures.admitted.system.cpus.few) (c.requires.cpus ∙ ap cpus_of (sym image)) (λ quiet. false≢true (c.if-is_quiet.ensures.1 quiet)) done in
+          let more = longer-round c.loop-n.self c.follow_on.new.self c.args.cpus.now (subst P (sym image) c.journal.ensures.few) (c.requires.cpus ∙ ap cpus_of (sym image)) (λ quiet. false≢true (c.if-is_quiet.ensures.1 quiet)) done in
           omega arith;
     }

@@ -11,5 +11,6 @@ invariant_of-result c =
       built = rw same c.requires.built;
       legal = rw (c.new-2.ensures, same) (IsLegal-nil c.args.image);
       within = rw c.new-2.ensures (omega arith);
-      means = rw (c.new-2.ensures, same) (Means-opened c.args.image c.in-Ok.memory c.opening_cpu-cpus.result c.in-Ok.ensures c.opening_cpu-cpus.ensures.start);
+      means = rw (c.new-2.ensures, same) (Means-opened c.args.image c.in-Ok.memory c.new-cpus.result c.in-Ok.ensures (λ i. c.new-cpus.ensures));
+      last = omega arith;
     }

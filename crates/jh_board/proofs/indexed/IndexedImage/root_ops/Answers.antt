@@ -2,8 +2,9 @@
 use Rattle.std.proofs.Common.{◌≡◌, ◌∙◌, List, [], Some, None, sym, subst}
 use Rattle.std.specs.Prelude.{All}
 use Rattle.jh_script.specs.declared.op.Op.{Op}
-use Rattle.jh_history.specs.Cells.{program_of, name_of}
-use Rattle.jh_history.specs.Admitted.{IsPlain}
+use Rattle.jh_cellcfg.specs.Cells.{name_of}
+use Rattle.jh_history.specs.Lives.{program_of}
+use Rattle.jh_script.specs.Operations.{IsPlain}
 use Rattle.jh_history.proofs.AdmittedLemmas.{program_of-plain}
 use Rattle.jh_board.proofs.IndexLemmas.{root_ops_at}
 use Rattle.jh_board.proofs.indexed.IndexedImage.root_ops.Goals as goal

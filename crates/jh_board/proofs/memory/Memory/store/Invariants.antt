@@ -1,7 +1,7 @@
 -- The bytes so far are stored.
 use Rattle.std.proofs.Common.{◌≡◌, ℕ, take}
 use Rattle.jh_board.specs.Pages.{byte_at}
-use Rattle.jh_history.specs.Access.{stored}
+use Rattle.jh_num.specs.Memory.{stored}
 use Rattle.jh_board.proofs.memory.Memory.store.Given as goal
 
 abbrev pub invariant-loop-k : goal.invariant-loop-k

@@ -7,8 +7,7 @@ use Rattle.jh_board.proofs.plain.Plain.item.Goals as goal
 
 pub invariant_of-self-2 : goal.invariant_of-self-2
 invariant_of-self-2 c =
-    let told = c.due.ensures in
-    let was = c.in_ok-entry.was in
+    let told = c.in_ok-entry.ensures in
     let is = c.in-Some.is in
     let made : due c.self.inside.image c.self.inside.journal.entries c.args.cpu ≡ Some c.in-Some.entry = cc in
     let few : length c.self.inside.journal.entries < 64 = rw (← c.len.ensures) (omega arith) in

@@ -1,0 +1,60 @@
+-- What is answered at once, by what the caller's side shows:
+--
+--   management by a cell besides root            -1
+--   information 0, 1, 4                          the pool's pages, those used, the live cells with root
+--   information of any other kind                -22
+--   a state, asked by a cell besides root        -1
+--   a state of an id that no live cell has       -2
+--   the state of a live cell                     its word, at most 4, which is 0 for root; -22 where the
+--                                                cell wrote another number there
+--   a CPU that the board lacks                   -22
+--   a CPU of another cell, asked by a cell besides root   -1
+--   a CPU, of another kind than 0                -22
+--   a failed CPU                                 2
+--   another CPU                                  0
+--   an unknown call                              -38
+use Rattle.std.specs.Prelude.{ℕ, ℤ, pos, Bool, true, false, ◌==◌, nat_le, if◌then◌else◌, Option, Some, None}
+use Rattle.jh_num.specs.declared.error.TheConstants.{EPERM, ENOENT, EINVAL, ENOSYS}
+use Rattle.jh_call.specs.declared.call.Call.{Call}
+use Rattle.jh_call.specs.declared.call.Call.TheVariants.{Create, Start, Loadable, Destroy, Info, State, CpuInfo, Unknown}
+use Rattle.jh_call.specs.declared.seen.Seen.{Seen}
+use Rattle.jh_call.specs.declared.seen.CpuSeen.{CpuSeen}
+use Rattle.jh_call.specs.declared.seen.CpuSeen.TheVariants.{Absent, Foreign, Fine, Failed}
+
+-- what only root may ask
+abbrev pub is_roots : Call → Bool
+is_roots (Create at) = true
+is_roots (Start id) = true
+is_roots (Loadable id) = true
+is_roots (Destroy id) = true
+is_roots (Info kind) = false
+is_roots (State id) = true
+is_roots (CpuInfo cpu kind) = false
+is_roots Unknown = false
+
+abbrev pub info_of : ℕ → Seen → ℤ
+info_of kind seen =
+    if kind == 0 then pos seen.size
+    else (if kind == 1 then pos seen.used
+    else (if kind == 4 then pos seen.cells
+    else EINVAL))
+
+abbrev pub state_told : Option ℕ → ℤ
+state_told None = ENOENT
+state_told (Some state) = if nat_le state 4 then pos state else EINVAL
+
+abbrev pub cpu_told : ℕ → CpuSeen → ℤ
+cpu_told kind Absent = EINVAL
+cpu_told kind Foreign = EPERM
+cpu_told kind Fine = if kind == 0 then pos 0 else EINVAL
+cpu_told kind Failed = if kind == 0 then pos 2 else EINVAL
+
+abbrev pub answer_of : Call → Seen → ℤ
+answer_of (Create at) seen = EPERM
+answer_of (Start id) seen = EPERM
+answer_of (Loadable id) seen = EPERM
+answer_of (Destroy id) seen = EPERM
+answer_of (Info kind) seen = info_of kind seen
+answer_of (State id) seen = if seen.root then state_told seen.state else EPERM
+answer_of (CpuInfo cpu kind) seen = cpu_told kind seen.cpu
+answer_of Unknown seen = ENOSYS

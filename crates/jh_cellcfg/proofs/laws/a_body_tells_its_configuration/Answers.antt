@@ -1,0 +1,5 @@
+use Rattle.jh_cellcfg.proofs.Told.{body_told}
+use Rattle.jh_cellcfg.proofs.laws.a_body_tells_its_configuration.Goals as goal
+
+pub returns : goal.returns
+returns c = body_told

@@ -1,0 +1,16 @@
+-- What a configuration says of its cell: its name, its CPUs, and whether it answers messages.
+use Rattle.std.specs.Prelude.{ℕ, ◌/◌, ◌%◌, ◌^◌, Bool, not, ◌==◌, bit_and, List, slice_index}
+use Rattle.std.specs.List.{before_first}
+use Rattle.jh_cellcfg.specs.declared.config.CellConfig.{CellConfig}
+
+-- the bytes before the first zero
+abbrev pub name_of : CellConfig → List ℕ
+name_of config = before_first (λ b. b == 0) config.name
+
+-- CPU i is bit i mod 8 of byte i div 8; what stands past the bitmap's end is 0
+abbrev pub is_cpu_set : List ℕ → ℕ → Bool
+is_cpu_set set cpu = not (bit_and (slice_index set (cpu / 8)) (2 ^ (cpu % 8)) == 0)
+
+-- the cell isn't asked and isn't told: it answers no messages
+abbrev pub is_passive : CellConfig → Bool
+is_passive config = bit_and config.flags 0x1 == 0x1

@@ -1,0 +1,10 @@
+-- Lists of the cells that live besides root, in order of their creation.
+use Rattle.std.specs.Prelude.{ℕ, Bool, ◌==◌}
+use Rattle.jh_cellcfg.specs.declared.live.Live.{Live}
+
+abbrev pub id_of : Live → ℕ
+id_of live = live.config.id
+
+-- the cell with the id
+abbrev pub has_id : ℕ → Live → Bool
+has_id id live = id_of live == id

@@ -1,0 +1,147 @@
+-- What breaks a rule, in the rule's own words, and the finding that tells it: by the numbers of what breaks it.
+use Rattle.std.specs.Prelude.{◌≡◌, ◌≢◌, ℕ, ◌*◌, ◌%◌, ◌^◌, ◌<◌, true, false, List, ◌∷◌, Some, slice_get, ◌⊎◌}
+use Rattle.jh_num.specs.declared.address.TheConstants.{ADDRESS_END, PAGE_SIZE}
+use Rattle.jh_cellcfg.specs.declared.region.Region.{Region}
+use Rattle.jh_cellcfg.specs.declared.config.PciDevice.{PciDevice}
+use Rattle.jh_cellcfg.specs.declared.config.CellConfig.{CellConfig}
+use Rattle.jh_cellcfg.specs.declared.config.SystemConfig.{SystemConfig}
+use Rattle.jh_cellcfg.specs.Regions.{has_flags, has_address, has_place, virt_end, phys_end, is_page_mapped, is_comm, is_unshared}
+use Rattle.jh_check.specs.declared.finding.Finding.{Finding}
+use Rattle.jh_check.specs.declared.rule.Rule.{Rule}
+use Rattle.jh_check.specs.declared.rule.Rule.TheVariants.{VirtOverlap, PhysOverlap, Hypervisor, OutOfRange, RootNotIdentity, CommInRoot, CommShape, ExecuteWithoutRead, SubpageTaken, CellsOverlap, Shmem, NoCpu, PhysAlign}
+use Rattle.jh_check.specs.Regions.{both_shared}
+use Rattle.jh_check.specs.Findings.{finding_of}
+use Rattle.jh_check.specs.Laws.{IsItem}
+use Rattle.jh_check.specs.Clean.{IsDevice, IsShmem, AreLinked, IsGoodDevice, AgreesWith, IsSameSection, IsSoundBitmap}
+
+-- an address, or a place, is in both
+abbrev pub MeetAtAddress : Region → Region → Type 0
+MeetAtAddress x y = (at : ℕ) × (has_address x at ≡ true) × (has_address y at ≡ true)
+
+abbrev pub MeetAtPlace : Region → Region → Type 0
+MeetAtPlace x y = (place : ℕ) × (has_place x place ≡ true) × (has_place y place ≡ true)
+
+-- a region with its cell, and the numbers of both
+pub record Located : Type 0 where
+  pub a : ℕ
+  pub cell : CellConfig
+  pub r : ℕ
+  pub region : Region
+
+-- the cell and the region are those of the numbers
+pub record IsLocated (all : List CellConfig) (at : Located) : Type 0 where
+  pub cell : slice_get all at.a ≡ Some at.cell
+  pub region : IsItem at.cell at.r at.region
+
+-- two regions of one cell, the earlier first
+abbrev pub AreOfOne : Located → Located → Type 0
+AreOfOne one other = (one.a ≡ other.a) × (one.r < other.r)
+
+-- neither is a communication region
+abbrev pub HavePlaces : Region → Region → Type 0
+HavePlaces x y = (is_comm x ≡ false) × (is_comm y ≡ false)
+
+-- two regions break a rule about two
+abbrev pub BreakTogether : Rule → Located → Located → Type 0
+BreakTogether VirtOverlap one other = AreOfOne one other × MeetAtAddress one.region other.region
+BreakTogether PhysOverlap one other = AreOfOne one other × HavePlaces one.region other.region × MeetAtPlace one.region other.region
+BreakTogether SubpageTaken one other =
+    ((0 < one.a) × (other.a ≡ 0)) × ((is_unshared one.region ≡ true) × (is_page_mapped one.region ≡ false) × (is_page_mapped other.region ≡ true)) × MeetAtPlace one.region other.region
+BreakTogether CellsOverlap one other =
+    ((0 < one.a) × (one.a < other.a)) × HavePlaces one.region other.region × MeetAtPlace one.region other.region × (both_shared one.region other.region ≡ false) × (IsSameSection one.cell one.r other.cell other.r → ⊥)
+BreakTogether _ one other = ⊥
+
+-- an earlier region of the cell that isn't empty is a communication region
+abbrev pub HasEarlierComm : Located → Type 0
+HasEarlierComm at = (s : ℕ) × (y : Region) × (s < at.r) × IsItem at.cell s y × (0 < y.size) × (is_comm y ≡ true)
+
+-- a region that isn't empty breaks a rule about one
+abbrev pub BreaksAlone : Rule → Region → Located → Type 0
+BreaksAlone Hypervisor h at = (is_comm at.region ≡ false) × MeetAtPlace at.region h
+BreaksAlone OutOfRange h at =
+    (ADDRESS_END < virt_end at.region) ⊎ ((is_comm at.region ≡ false) × (ADDRESS_END < phys_end at.region))
+BreaksAlone RootNotIdentity h at = (at.a ≡ 0) × (at.region.phys_start ≢ at.region.virt_start)
+BreaksAlone CommInRoot h at = (at.a ≡ 0) × (is_comm at.region ≡ true)
+BreaksAlone CommShape h at =
+    (0 < at.a) × (is_comm at.region ≡ true) × ((at.region.size ≢ PAGE_SIZE) ⊎ ((at.region.virt_start % PAGE_SIZE ≢ 0) ⊎ HasEarlierComm at))
+BreaksAlone ExecuteWithoutRead h at = (has_flags 0x4 at.region ≡ true) × (has_flags 0x1 at.region ≡ false)
+BreaksAlone PhysAlign h at =
+    (is_page_mapped at.region ≡ true) × (is_comm at.region ≡ false) × (at.region.phys_start % PAGE_SIZE ≢ 0)
+BreaksAlone _ h at = ⊥
+
+-- the hypervisor's memory breaks a rule
+abbrev pub BreaksMemory : Rule → Region → Type 0
+BreaksMemory OutOfRange h = (h.size ≡ 0) ⊎ ((64 * 2 ^ 20 < h.size) ⊎ (ADDRESS_END < phys_end h))
+BreaksMemory PhysAlign h = (0 < h.size) × ((h.phys_start % PAGE_SIZE ≢ 0) ⊎ (h.size % PAGE_SIZE ≢ 0))
+BreaksMemory _ h = ⊥
+
+-- what is asked of an ivshmem device beside others: no earlier one of its cell has its place on the bus, and it
+-- agrees with each that it is linked with in a cell before its own
+pub record StandsAmong (all : List CellConfig) (a : ℕ) (cell : CellConfig) (n : ℕ) (device : PciDevice) : Type 0 where
+  pub single : (m : ℕ) (other : PciDevice) → m < n → IsDevice cell m other → AreLinked other device → ⊥
+  pub links : (b : ℕ) (other_cell : CellConfig) → b < a → slice_get all b ≡ Some other_cell → (m : ℕ) (other : PciDevice) → IsDevice other_cell m other → AreLinked device other → AgreesWith cell device other_cell other
+
+-- ---- findings
+
+-- the finding tells of two regions
+pub record TellsOfTwo (rule : Rule) (all : List CellConfig) (finding : Finding) : Type 0 where
+  pub one : Located
+  pub other : Located
+  pub is_one : IsLocated all one
+  pub is_other : IsLocated all other
+  pub breaks : BreakTogether rule one other
+  pub told : finding ≡ finding_of rule one.a one.r other.a other.r
+
+-- of one region
+pub record TellsOfOne (rule : Rule) (memory : Region) (all : List CellConfig) (finding : Finding) : Type 0 where
+  pub at : Located
+  pub is_at : IsLocated all at
+  pub some : 0 < at.region.size
+  pub breaks : BreaksAlone rule memory at
+  pub told : finding ≡ finding_of rule at.a at.r 0 0
+
+-- of the hypervisor's memory
+pub record TellsOfMemory (rule : Rule) (memory : Region) (finding : Finding) : Type 0 where
+  pub breaks : BreaksMemory rule memory
+  pub told : finding ≡ finding_of rule 16 0 0 0
+
+-- of an ivshmem device
+pub record TellsOfDevice (all : List CellConfig) (finding : Finding) : Type 0 where
+  pub a : ℕ
+  pub cell : CellConfig
+  pub n : ℕ
+  pub device : PciDevice
+  pub is_cell : slice_get all a ≡ Some cell
+  pub is_device : IsDevice cell n device
+  pub kind : IsShmem device
+  pub breaks : (IsGoodDevice cell device → StandsAmong all a cell n device → ⊥)
+  pub told : finding ≡ finding_of Shmem a n 0 0
+
+-- of a cell's CPUs
+pub record TellsOfCpus (all : List CellConfig) (finding : Finding) : Type 0 where
+  pub a : ℕ
+  pub cell : CellConfig
+  pub is_cell : slice_get all a ≡ Some cell
+  pub breaks : IsSoundBitmap cell.cpu_set → ⊥
+  pub told : finding ≡ finding_of NoCpu a 0 0 0
+
+-- by its rule
+abbrev pub Tells : Rule → Region → List CellConfig → Finding → Type 0
+Tells VirtOverlap h all f = TellsOfTwo VirtOverlap all f
+Tells PhysOverlap h all f = TellsOfTwo PhysOverlap all f
+Tells Hypervisor h all f = TellsOfOne Hypervisor h all f
+Tells OutOfRange h all f = TellsOfOne OutOfRange h all f ⊎ TellsOfMemory OutOfRange h f
+Tells RootNotIdentity h all f = TellsOfOne RootNotIdentity h all f
+Tells CommInRoot h all f = TellsOfOne CommInRoot h all f
+Tells CommShape h all f = TellsOfOne CommShape h all f
+Tells ExecuteWithoutRead h all f = TellsOfOne ExecuteWithoutRead h all f
+Tells SubpageTaken h all f = TellsOfTwo SubpageTaken all f
+Tells CellsOverlap h all f = TellsOfTwo CellsOverlap all f
+Tells Shmem h all f = TellsOfDevice all f
+Tells NoCpu h all f = TellsOfCpus all f
+Tells PhysAlign h all f = TellsOfOne PhysAlign h all f ⊎ TellsOfMemory PhysAlign h f
+
+-- a rule is broken, and the finding tells it
+pub record IsBroken (system : SystemConfig) (cells : List CellConfig) (finding : Finding) : Type 0 where
+  pub rule : Rule
+  pub by : Tells rule system.hypervisor_memory (system.root ∷ cells) finding

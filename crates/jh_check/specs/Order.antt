@@ -1,0 +1,18 @@
+-- The order of findings: by rule, then the cells, then what is theirs.
+use Rattle.std.specs.Prelude.{◌≡◌, ◌^◌, ◌<◌, ◌≤◌, ℕ, List, length, Some, slice_get, ◌⊎◌}
+use Rattle.jh_cellcfg.specs.declared.config.CellConfig.{CellConfig}
+use Rattle.jh_check.specs.declared.finding.Finding.{Finding}
+
+-- what decides where all before it is equal
+abbrev pub Then : ℕ → ℕ → Type 0 → Type 0
+Then m n rest = (m < n) ⊎ ((m ≡ n) × rest)
+
+abbrev pub Precedes : Finding → Finding → Type 0
+Precedes f g =
+    Then f.number g.number (Then f.cell g.cell (Then f.other_cell g.other_cell (Then f.item g.item (f.other_item < g.other_item))))
+
+-- the parts of each cell can be told apart by a number of 32 bits
+pub record IsCountable (all : List CellConfig) : Type 0 where
+  pub cells : length all ≤ 16
+  pub regions : (a : ℕ) (cell : CellConfig) → slice_get all a ≡ Some cell → length cell.memory_regions ≤ 2 ^ 32
+  pub devices : (a : ℕ) (cell : CellConfig) → slice_get all a ≡ Some cell → length cell.pci_devices ≤ 2 ^ 32

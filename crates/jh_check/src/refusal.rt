@@ -1,0 +1,96 @@
+//! What a new cell is refused for, once its configuration was read.
+ghost use Rattle.std.specs.Prelude.{◌≡◌, ℕ, ◌≤◌, ◌<◌, ◌∷◌, false, not, drop, length, slice_index, slice_index_or};
+ghost use Rattle.std.specs.List.{list_any, list_all};
+ghost use Rattle.jh_cellcfg.specs.Cells.{is_cpu_set};
+ghost use Rattle.jh_check.specs.Devices.{is_zero};
+ghost use Rattle.jh_check.specs.Refusals.{is_namesake, is_known, any_below, is_beyond, names_beyond, refusal_of};
+
+use crate::devices::are_zero;
+use crate::verdict::{NewCell, clean_with};
+use jh_cellcfg::{CellConfig, SystemConfig};
+use jh_num::error::{EBUSY, EEXIST, EINVAL, ENOMEM};
+
+/// Whether the cell has the new one's id or name.
+fn is_namesake(new: &CellConfig, cell: &CellConfig) -> bool
+    ensures { result ≡ is_namesake new.now cell.now }
+{
+    cell.id == new.id || cell.name() == new.name()
+}
+
+/// Whether one of the cells has.
+fn any_namesake(cells: &[CellConfig], new: &CellConfig) -> bool
+    ensures { result ≡ list_any (λ cell. is_namesake new.now cell) cells.now }
+{
+    cells.iter().any(|cell| is_namesake(new, cell))
+}
+
+/// Whether root or a live cell has.
+fn is_known(root: &CellConfig, live: &[CellConfig], new: &CellConfig) -> bool
+    ensures { result ≡ is_known (root.now ∷ live.now) new.now }
+{
+    is_namesake(new, root) || any_namesake(live, new)
+}
+
+/// Whether the CPU, one of the first 16, is named and mustn't be.
+fn is_beyond(may: &[bool; 16], cell: &CellConfig, cpu: usize) -> bool
+    requires { cpu < 16 }
+    ensures { result ≡ is_beyond (λ i. slice_index_or may.now i false) cell.now.cpu_set cpu }
+{
+    cell.has_cpu(cpu as u8) && !may[cpu]
+}
+
+/// Whether one of the first 16 is.
+fn any_beyond(may: &[bool; 16], cell: &CellConfig) -> bool
+    ensures { result ≡ any_below (is_beyond (λ i. slice_index_or may.now i false) cell.now.cpu_set) 16 }
+{
+    for cpu in 0..16 {
+        if is_beyond(may, cell, cpu) {
+            return true;
+        }
+    }
+    false
+}
+
+/// Whether the bitmap names a CPU from 16 on.
+fn names_high(set: &[u8]) -> bool
+    ensures value { result ≡ not (list_all is_zero (drop 2 set.now)) }
+    ensures bytes { (i : ℕ) → slice_index set.now i < 256 }
+{
+    !are_zero(&set[set.len().min(2)..])
+}
+
+/// Whether the new cell names a CPU that it mustn't; of those from 16 on it may have none.
+fn names_beyond(may: &[bool; 16], cell: &CellConfig) -> bool
+    ensures { result ≡ names_beyond (λ i. slice_index_or may.now i false) cell.now.cpu_set }
+{
+    any_beyond(may, cell) || names_high(cell.cpu_set.as_slice())
+}
+
+/// What a new cell is refused for beside the system and the live cells: EEXIST, EBUSY, EINVAL or ENOMEM, by the
+/// first cause that holds. `may` says of each of the first 16 CPUs whether the new cell may have it, `pages` how
+/// many pages all cells take with it, and `pool` how many there are. It takes no memory.
+#[tactic(auto, unfolding(crate::specs::Refusals::refusal_of))]
+pub fn refusal_of(
+    system: &SystemConfig,
+    live: &[CellConfig],
+    new: &CellConfig,
+    may: &[bool; 16],
+    pages: u64,
+    pool: u64,
+) -> Option<i64>
+    requires { length live.now ≤ 14 }
+    ensures { result ≡ refusal_of system.now live.now new.now (λ cpu. slice_index_or may.now cpu false) pages pool }
+{
+    if is_known(&system.root, live, new) {
+        return Some(EEXIST);
+    }
+    if names_beyond(may, new) {
+        return Some(EBUSY);
+    }
+    match clean_with(system, live, new) {
+        NewCell::Invalid => Some(EINVAL),
+        NewCell::Busy => Some(EBUSY),
+        NewCell::Clean if pool < pages => Some(ENOMEM),
+        NewCell::Clean => None,
+    }
+}

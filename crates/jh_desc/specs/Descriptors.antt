@@ -1,0 +1,68 @@
+-- Descriptors of stage-2 tables and their words (Arm ARM, VMSAv8-64 stage 2 with a 4 KB granule).
+--
+--   0         valid
+--   1         1: a table above the last level, a page at it; 0: a block at levels 1 and 2, else invalid
+--   5 to 2    memory: 1111 normal write-back, 0001 Device-nGnRE; device wherever 5 and 4 are 00
+--   6, 7      may be read, may be written
+--   9 to 8    11, inner shareable
+--   10        1, accessed
+--   47 to 12  the address: of a table or a page from bit 12 on, of a block from bit 21 or 30 on
+--   54        execute never
+use Rattle.std.specs.Prelude.{◌≡◌, ℕ, ◌+◌, ◌-◌, ◌*◌, ◌/◌, ◌%◌, ◌^◌, ◌<◌, Bool, ◌&&◌, not, ◌==◌, nat_lt, if◌then◌else◌}
+use Rattle.jh_num.specs.declared.rights.Rights.{Rights}
+use Rattle.jh_desc.specs.declared.descriptor.Descriptor.{Descriptor}
+use Rattle.jh_desc.specs.declared.descriptor.Descriptor.TheVariants.{Invalid, Table, Leaf}
+use Rattle.jh_desc.specs.Levels.{last_level, slot_size}
+
+-- that bit of the word is set
+abbrev pub bit : ℕ → ℕ → Bool
+bit word n = (word / 2 ^ n % 2) == 1
+
+-- the address of a slot of that many bytes
+abbrev pub address_in : ℕ → ℕ → ℕ
+address_in size word = word % 2 ^ 48 - word % 2 ^ 48 % size
+
+abbrev pub rights_in : ℕ → Rights
+rights_in word = record { read = bit word 6; write = bit word 7; execute = not (bit word 54) }
+
+abbrev pub is_device : ℕ → Bool
+is_device word = (word / 2 ^ 4 % 4) == 0
+
+abbrev pub leaf_in : ℕ → ℕ → Descriptor
+leaf_in level word = Leaf (address_in (slot_size level) word) (rights_in word) (is_device word)
+
+-- blocks stand at levels 1 and 2
+abbrev pub may_block : ℕ → Bool
+may_block level = nat_lt 0 level && nat_lt level last_level
+
+-- what the word says at the level
+abbrev pub read_of : ℕ → ℕ → Descriptor
+read_of word level =
+    if bit word 0
+    then (if bit word 1
+    then (if level == last_level then leaf_in level word else Table (address_in 4096 word))
+    else (if may_block level then leaf_in level word else Invalid))
+    else Invalid
+
+-- the number where the fact holds, else 0
+abbrev pub where_true : Bool → ℕ → ℕ
+where_true fact n = if fact then n else 0
+
+-- the bits of a leaf below its address, and bit 54
+abbrev pub leaf_bits : ℕ → Rights → Bool → ℕ
+leaf_bits level rights device =
+    1 + where_true (level == last_level) 2 + (if device then 1 else 15) * 2 ^ 2
+    + where_true rights.read (2 ^ 6) + where_true rights.write (2 ^ 7) + 3 * 2 ^ 8 + 2 ^ 10
+    + where_true (not rights.execute) (2 ^ 54)
+
+-- the word that says it
+abbrev pub word_of : Descriptor → ℕ → ℕ
+word_of Invalid level = 0
+word_of (Table next) level = next + 3
+word_of (Leaf out rights device) level = out + leaf_bits level rights device
+
+-- the level has descriptors of that kind, and the address is one of its slots
+abbrev pub IsWritable : Descriptor → ℕ → Type 0
+IsWritable Invalid level = Unit {0}
+IsWritable (Table next) level = (level < last_level) × (next % 4096 ≡ 0) × (next < 2 ^ 48)
+IsWritable (Leaf out rights device) level = (0 < level) × (out % slot_size level ≡ 0) × (out < 2 ^ 48)

@@ -1,0 +1,113 @@
+//! Descriptors as words, and words as descriptors.
+ghost use Rattle.std.specs.Prelude.{◌≡◌, ◌+◌, ◌*◌, ◌^◌, ◌/◌, ◌%◌, ◌<◌, ◌≤◌, ◌==◌};
+ghost use Rattle.jh_desc.specs.Descriptors.{address_in, bit, is_device, leaf_bits, leaf_in, read_of, rights_in, where_true, word_of, IsWritable};
+ghost use Rattle.jh_desc.specs.Levels.{first_level, last_level, slot_size};
+
+use crate::descriptor::Descriptor;
+use crate::levels::{LAST_LEVEL, offset};
+use jh_num::Rights;
+
+const VALID: u64 = 1;
+
+const TABLE_OR_PAGE: u64 = 1 << 1;
+
+const DEVICE: u64 = 0b0001 << 2;
+
+const NORMAL: u64 = 0b1111 << 2;
+
+const READ: u64 = 1 << 6;
+
+const WRITE: u64 = 1 << 7;
+
+const INNER_SHAREABLE: u64 = 0b11 << 8;
+
+const ACCESSED: u64 = 1 << 10;
+
+const EXECUTE_NEVER: u64 = 1 << 54;
+
+/// The first place that no descriptor can name.
+const PLACE_END: u64 = 1 << 48;
+
+fn rights_in(word: u64) -> Rights
+    ensures { result ≡ rights_in word }
+{
+    Rights {
+        read: word / READ % 2 == 1,
+        write: word / WRITE % 2 == 1,
+        execute: word / EXECUTE_NEVER % 2 != 1,
+    }
+}
+
+fn leaf_in(level: u8, word: u64) -> Descriptor
+    requires { level ≤ last_level }
+    ensures { result ≡ leaf_in level word }
+{
+    let place = word % PLACE_END;
+    Descriptor::Leaf {
+        out: place - offset(level, place),
+        rights: rights_in(word),
+        device: word / 16 % 4 == 0,
+    }
+}
+
+/// What the word says as a descriptor of the level. Other bits than those of the address, the kind, the
+/// rights and the memory aren't looked at.
+pub fn read(word: u64, level: u8) -> Descriptor
+    requires first { first_level ≤ level }
+    requires last { level ≤ last_level }
+    ensures { result ≡ read_of word level }
+{
+    if word % 2 != 1 {
+        Descriptor::Invalid
+    } else if word / TABLE_OR_PAGE % 2 == 1 {
+        if level == LAST_LEVEL {
+            leaf_in(level, word)
+        } else {
+            let place = word % PLACE_END;
+            Descriptor::Table {
+                next: place - place % 4096,
+            }
+        }
+    } else if 0 < level && level < LAST_LEVEL {
+        leaf_in(level, word)
+    } else {
+        Descriptor::Invalid
+    }
+}
+
+fn where_true(fact: bool, bits: u64) -> u64
+    ensures { result ≡ where_true fact bits }
+{
+    if fact { bits } else { 0 }
+}
+
+fn leaf_bits(level: u8, rights: Rights, device: bool) -> u64
+    ensures value { result ≡ leaf_bits level rights device }
+    ensures small { result < 2 ^ 55 }
+{
+    let kind = VALID + where_true(level == LAST_LEVEL, TABLE_OR_PAGE);
+    let memory = if device { DEVICE } else { NORMAL };
+    let access = where_true(rights.read, READ) + where_true(rights.write, WRITE);
+    let never = where_true(!rights.execute, EXECUTE_NEVER);
+    kind + memory + access + INNER_SHAREABLE + ACCESSED + never
+}
+
+/// The word of the descriptor at the level. A table's place is a page's and a leaf's begins a slot of the
+/// level, each below 2^48.
+pub fn word(d: Descriptor, level: u8) -> u64
+    requires first { first_level ≤ level }
+    requires last { level ≤ last_level }
+    requires writable { IsWritable d level }
+    ensures value { result ≡ word_of d level }
+    ensures read { read_of result level ≡ d }
+{
+    match d {
+        Descriptor::Invalid => 0,
+        Descriptor::Table { next } => next + TABLE_OR_PAGE + VALID,
+        Descriptor::Leaf {
+            out,
+            rights,
+            device,
+        } => out + leaf_bits(level, rights, device),
+    }
+}

@@ -1,0 +1,55 @@
+-- What the slow plain program keeps.
+use Rattle.std.proofs.Common.{◌≡◌, ℕ, zero, suc, ◌+◌, ◌-◌, ◌*◌, ◌/◌, ◌%◌, ◌^◌, ◌<◌, ◌≤◌, List, [], ◌∷◌, ◌++◌, length, map, Bool, true, false, cond, Some, None, refl, ap, sym, ◌∙◌, arith, append_assoc}
+use Rattle.std.specs.Prelude.{fold, slice_get}
+use Rattle.std.proofs.lemmas.List.Sums.{fold-append}
+use Rattle.jh_num.specs.Memory.{spelled}
+use Rattle.jh_script.specs.declared.image.Image.{Image}
+use Rattle.jh_history.specs.declared.place.Place.{Place}
+use Rattle.jh_history.specs.declared.plain.WrittenByte.{WrittenByte}
+use Rattle.jh_history.specs.declared.entry.Entry.{Entry}
+use Rattle.jh_history.specs.declared.access.Reach.{Reach}
+use Rattle.jh_history.specs.declared.access.Reach.TheVariants.{Memory}
+use Rattle.jh_history.specs.declared.access.Wanted.{Wanted}
+use Rattle.jh_history.specs.Places.{further, places_in_row, over, is_same}
+use Rattle.jh_history.specs.Access.{write_of}
+use Rattle.jh_history.specs.Facts.{Facts}
+use Rattle.jh_history.specs.Bytes.{opening_byte, byte_after}
+use Rattle.jh_history.specs.Cpus.{cpu_after}
+use Rattle.jh_history.specs.History.{after}
+use Rattle.jh_history.specs.Wants.{reach_of}
+use Rattle.jh_history.specs.PlainView.{PlainView, overwritten, last_byte, Stands}
+use Rattle.std.proofs.lemmas.List.{append-nil}
+use Rattle.jh_history.proofs.PlaceLemmas.{row-next, written-over}
+use Rattle.jh_history.proofs.FactsLemmas.{same_function}
+
+-- one byte more
+pub last_byte-push : (image : Image) (bytes : List WrittenByte) (one : WrittenByte) (q : Place) → last_byte image (bytes ++ one ∷ []) q ≡ overwritten q (last_byte image bytes q) one
+last_byte-push image bytes one q = fold-append (overwritten q) (opening_byte image q) bytes (one ∷ [])
+
+-- one byte of a write
+pub over-more : (image : Image) (old new : List WrittenByte) (p at : Place) (byte k n rest : ℕ) (places : List Place) (q : Place) → k < n → at ≡ further p k → byte ≡ rest % 256 → new ≡ old ++ record { place = at; byte = byte } ∷ []
+    → over (places_in_row (further p (k + 1)) (n - (k + 1)) ++ places) (rest / 256) q (last_byte image new q) ≡ over (places_in_row (further p k) (n - k) ++ places) rest q (last_byte image old q)
+over-more image old new p at byte k n rest places q lt is_at is_byte is =
+    rw (is, last_byte-push, is_at, is_byte) (ap (λ (ps : List Place). over (ps ++ places) rest q (last_byte image old q)) (sym (row-next p k n lt)))
+
+-- the two runs of a write
+pub over-runs : (image : Image) (old middle new : List WrittenByte) (low high places : List Place) (value rest last : ℕ) (q : Place) → places ≡ low ++ high
+    → ((ps : List Place) → over ps rest q (last_byte image middle q) ≡ over (low ++ ps) value q (last_byte image old q))
+    → ((ps : List Place) → over ps last q (last_byte image new q) ≡ over (high ++ ps) rest q (last_byte image middle q))
+    → last_byte image new q ≡ over places value q (last_byte image old q)
+over-runs image old middle new low high places value rest last q is first second =
+    second [] ∙ first (high ++ []) ∙ ap (λ (ps : List Place). over (low ++ ps) value q (last_byte image old q)) (append-nil high) ∙ ap (λ (ps : List Place). over ps value q (last_byte image old q)) (sym is)
+
+-- a write where it reaches memory
+pub kept-write : (i : Image) (f : Facts) (cell : ℕ) (wanted : Wanted) (found : Reach) (places : List Place) (value : ℕ) (q : Place) (old : PlainView) → Stands old i f → found ≡ reach_of i f cell wanted → found ≡ Memory places
+    → over places value q (last_byte i old.bytes q) ≡ write_of f.byte (reach_of i f cell wanted) value q
+kept-write i f cell wanted found places value q old stands is_found is =
+    ap (over places value q) (sym (stands.bytes q)) ∙ sym (written-over f.byte places value q) ∙ ap (λ (r : Reach). write_of f.byte r value q) (sym is ∙ is_found)
+
+-- one entry more
+pub Stands-after : (i : Image) (f : Facts) (entry : Entry) (old new : PlainView) → Stands old i f → new.image ≡ old.image
+    → ((k : ℕ) → k < 16 → slice_get new.cpus k ≡ Some (cpu_after f entry k))
+    → ((q : Place) → last_byte i new.bytes q ≡ byte_after i f entry.cell entry.act q)
+    → Stands new i (after i f entry)
+unfolding after
+Stands-after i f entry old new stands same cpus bytes = record { same = stands.same ∙ sym same; cpus = cpus; bytes = λ q. sym (bytes q) }

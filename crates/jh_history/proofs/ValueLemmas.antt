@@ -1,0 +1,42 @@
+-- Numbers that the bytes at places in a row spell.
+use Rattle.std.proofs.Common.{◌≡◌, ℕ, suc, ◌+◌, ◌-◌, ◌*◌, ◌^◌, ◌<◌, ◌≤◌, List, [], ◌∷◌, ◌++◌, map, ap, sym, ◌∙◌, arith}
+use Rattle.std.proofs.Math.Nat.{pow-le-pow_right, one-le-pow}
+use Rattle.std.proofs.lemmas.List.{append-nil, map-append}
+use Rattle.jh_num.specs.Memory.{spelled}
+use Rattle.jh_num.proofs.MemoryLemmas.{byte_fits, word_fits}
+use Rattle.jh_history.specs.declared.place.Place.{Place}
+use Rattle.jh_history.specs.Places.{further, places_in_row}
+use Rattle.jh_history.proofs.PlaceLemmas.{row-next}
+
+-- one byte below those that are spelled already
+pub spelled-more : (f : Place → ℕ) (p : Place) (k n v : ℕ) (bytes : List ℕ) → 0 < k → k ≤ n → v ≡ spelled (map f (places_in_row (further p k) (n - k)) ++ bytes)
+    → v * 256 + f (further p (k - 1)) ≡ spelled (map f (places_in_row (further p (k - 1)) (n - (k - 1))) ++ bytes)
+spelled-more f p k n v bytes some le is =
+    let e : (k - 1) + 1 ≡ k = omega arith in
+    let row : places_in_row (further p (k - 1)) (n - (k - 1)) ≡ further p (k - 1) ∷ places_in_row (further p k) (n - k) =
+    row-next p (k - 1) n (omega arith) ∙ ap (λ (j : ℕ). further p (k - 1) ∷ places_in_row (further p j) (n - j)) e in
+    let sum : v * 256 + f (further p (k - 1)) ≡ f (further p (k - 1)) + 256 * v = omega arith in
+    rw row (sum ∙ ap (λ (m : ℕ). f (further p (k - 1)) + 256 * m) is)
+
+pub fits-more : (v b n c k : ℕ) → 0 < k → k ≤ c → v < 256 ^ (n + (c - k)) → b < 256 → v * 256 + b < 256 ^ (n + (c - (k - 1)))
+fits-more v b n c k some le small byte =
+    let e : n + (c - (k - 1)) ≡ (n + (c - k)) + 1 = omega arith in rw e (byte_fits v b (n + (c - k)) small byte)
+
+-- eight bytes and fewer fit a word
+pub word-more : (v b c k : ℕ) → 0 < k → k ≤ c → c ≤ 8 → v < 256 ^ ((8 - c) + (c - k)) → b < 256 → v * 256 + b < 2 ^ 64
+word-more v b c k some le few small byte =
+    word_fits (v * 256 + b) (((8 - c) + (c - k)) + 1) (omega arith) (byte_fits v b ((8 - c) + (c - k)) small byte)
+
+pub none_fits : (n : ℕ) → 0 < 256 ^ n
+none_fits n = let le : 1 ≤ 256 ^ n = one-le-pow n 256 (omega arith) in omega arith
+
+pub fits-below : (v low high : ℕ) → low + high ≤ 8 → v < 256 ^ (0 + high) → v < 256 ^ (8 - low)
+fits-below v low high few small = let le : 256 ^ (0 + high) ≤ 256 ^ (8 - low) = pow-le-pow_right (omega arith) (omega arith) in omega arith
+
+-- the value of two runs, the high one spelled first
+pub value-of_runs : (f : Place → ℕ) (places low high : List Place) (above value : ℕ) → places ≡ low ++ high → above ≡ spelled (map f high ++ [])
+    → ((rest : List ℕ) → above ≡ spelled rest → value ≡ spelled (map f low ++ rest)) → value ≡ spelled (map f places)
+value-of_runs f places low high above value is first second =
+    second (map f high) (first ∙ ap spelled (append-nil (map f high)))
+    ∙ ap spelled (sym (map-append f low high))
+    ∙ ap (λ (ps : List Place). spelled (map f ps)) (sym is)

@@ -1,0 +1,10 @@
+-- The operations of an admitted image's programs are plain.
+use Rattle.std.proofs.Common.{List}
+use Rattle.std.specs.Prelude.{All}
+use Rattle.jh_script.specs.declared.op.Op.{Op}
+use Rattle.jh_script.specs.Operations.{IsPlain}
+use Rattle.jh_history.proofs.AdmittedLemmas.{program_of-plain}
+use Rattle.jh_history.proofs.cells.ops_in.Goals as goal
+
+pub returns-then-id-image-clause-plain : goal.returns-then-id-image-clause-plain
+returns-then-id-image-clause-plain c = rw c.program_of.ensures (program_of-plain c.args.image.now c.name.result.now c.args.cpu c.requires)

@@ -1,6 +1,0 @@
--- By the parts of a legal journal.
-use Rattle.jh_history.proofs.LegalLemmas.{IsLegal-begin}
-use Rattle.jh_history.proofs.laws.beginnings_are_legal.Goals as goal
-
-pub returns : goal.returns
-returns c = IsLegal-begin

@@ -1,0 +1,22 @@
+-- A legal journal has plain acts.
+use Rattle.std.proofs.Common.{◌∙◌, ap, subst, sym, List}
+use Rattle.jh_history.specs.declared.entry.Entry.{Entry}
+use Rattle.jh_history.specs.History.{facts}
+use Rattle.jh_history.specs.Due.{due_at}
+use Rattle.jh_history.proofs.PlainLemmas.{legal_is_plain}
+use Rattle.jh_history.proofs.plain.due.Goals as goal
+
+pub after-requires-clause-plain : goal.after-requires-clause-plain
+after-requires-clause-plain c = rw c.as_slice.ensures (legal_is_plain c.args.image.now c.args.journal.now.entries c.requires.admitted c.requires.legal)
+
+pub returns : goal.returns
+returns c =
+    let stands = c.in_ok-plain.ensures in
+    c.next_of.ensures.due c.args.image.now (facts c.args.image.now c.as_slice.result.now) stands (c.reach_of-reach.ensures c.args.image.now (facts c.args.image.now c.as_slice.result.now) stands)
+    ∙ ap (λ (es : List Entry). due_at c.args.image.now (facts c.args.image.now es) c.args.cpu) c.as_slice.ensures
+
+pub reach_of-reach-requires : goal.reach_of-reach-requires
+reach_of-reach-requires c = c.admitted_roots_are_sound.ensures.cpus c.requires.admitted c.args.cpu c.requires.cpu
+
+pub next_of-requires : goal.next_of-requires
+next_of-requires c = c.admitted_roots_are_sound.ensures.cpus c.requires.admitted c.args.cpu c.requires.cpu

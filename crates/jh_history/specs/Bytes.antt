@@ -1,0 +1,27 @@
+-- What an entry does to bytes, and what they are at opening.
+use Rattle.std.specs.Prelude.{ℕ, true, fold}
+use Rattle.jh_num.specs.Memory.{stored}
+use Rattle.jh_script.specs.declared.image.Image.{Image}
+use Rattle.jh_script.specs.declared.image.Preload.{Preload}
+use Rattle.jh_history.specs.declared.place.Place.{Place}
+use Rattle.jh_history.specs.declared.place.Place.TheVariants.{Physical, Page}
+use Rattle.jh_history.specs.declared.access.Access.TheVariants.{Write as ToWrite}
+use Rattle.jh_history.specs.declared.entry.Act.{Act}
+use Rattle.jh_history.specs.declared.entry.Act.TheVariants.{Read, Write, Fetch, Await, Irq, Hvc, Begin, Stop, Decide, Settle, Commit, Note, Noted, Finish}
+use Rattle.jh_history.specs.Access.{write_of}
+use Rattle.jh_history.specs.Facts.{Facts}
+use Rattle.jh_history.specs.Grants.{reach}
+
+-- physical memory, with the preload's bytes over it
+abbrev pub preloaded : (ℕ → ℕ) → Preload → ℕ → ℕ
+preloaded byte preload = stored byte preload.at preload.bytes
+
+-- the bytes at opening: physical memory is what the preloads put and 0 elsewhere, and so is each page
+abbrev pub opening_byte : Image → Place → ℕ
+opening_byte image (Physical p) = fold preloaded (λ _. 0) image.preloads p
+opening_byte image (Page cell offset) = 0
+
+-- the bytes after an act of the cell: a write that succeeds changes those that it reaches
+abbrev pub byte_after : Image → Facts → ℕ → Act → Place → ℕ
+byte_after image facts cell (Write width at value true) = write_of facts.byte (reach image facts cell ToWrite at width) value
+byte_after image facts cell _ = facts.byte

@@ -1,0 +1,54 @@
+-- Where bytes are kept, and what a write over places leaves.
+use Rattle.std.specs.Prelude.{ℕ, zero, suc, ◌+◌, ◌/◌, ◌%◌, ◌^◌, ◌<◌, Bool, true, false, ◌&&◌, ◌==◌, if◌then◌else◌, List, [], ◌∷◌, ◌++◌}
+use Rattle.jh_history.specs.declared.place.Place.{Place}
+use Rattle.jh_history.specs.declared.place.Place.TheVariants.{Physical, Page}
+use Rattle.jh_history.specs.declared.place.Run.{Run}
+
+-- the two are one place
+abbrev pub is_same : Place → Place → Bool
+is_same (Physical p) (Physical q) = p == q
+is_same (Physical p) (Page cell offset) = false
+is_same (Page cell offset) (Physical q) = false
+is_same (Page cell offset) (Page other at) = (cell == other) && (offset == at)
+
+-- it is a place of physical memory
+abbrev pub is_physical : Place → Bool
+is_physical (Physical p) = true
+is_physical (Page cell offset) = false
+
+-- the number of the place in what it is a place of
+abbrev pub number_of : Place → ℕ
+number_of (Physical p) = p
+number_of (Page cell offset) = offset
+
+-- so many places further
+abbrev pub further : Place → ℕ → Place
+further (Physical p) n = Physical (p + n)
+further (Page cell offset) n = Page cell (offset + n)
+
+-- so many places in a row, from the first on
+abbrev pub places_in_row : Place → ℕ → List Place
+places_in_row place zero = []
+places_in_row place (suc count) = place ∷ places_in_row (further place 1) count
+
+-- the places of the run
+abbrev pub places_of_run : Run → List Place
+places_of_run run = places_in_row run.first run.count
+
+-- the numbers of its places are numbers of 64 bits
+abbrev pub IsRun : Run → Type 0
+IsRun run = number_of run.first + run.count < 2 ^ 64
+
+-- the bytes, with one changed
+abbrev pub with_byte : (Place → ℕ) → Place → ℕ → Place → ℕ
+with_byte byte place value q = if is_same q place then value else byte q
+
+-- the bytes, with the value written over the places, the lowest byte first
+abbrev pub written : (Place → ℕ) → List Place → ℕ → Place → ℕ
+written byte [] value = byte
+written byte (place ∷ places) value = written (with_byte byte place (value % 256)) places (value / 256)
+
+-- the byte of a place after the value is written over the places, where it was b
+abbrev pub over : List Place → ℕ → Place → ℕ → ℕ
+over [] value q b = b
+over (place ∷ places) value q b = over places (value / 256) q (if is_same q place then value % 256 else b)

@@ -1,0 +1,73 @@
+-- The access that a CPU's next entry makes, and what it reaches.
+use Rattle.std.specs.Prelude.{◌≡◌, ℕ, Bool, true, false, not, ◌&&◌, Option, Some, None, option_and_then, if◌then◌else◌}
+use Rattle.jh_cpu.specs.declared.cpu.Cpu.{Cpu}
+use Rattle.jh_cpu.specs.declared.cpu.Mode.{Mode}
+use Rattle.jh_cpu.specs.declared.cpu.Mode.TheVariants.{Running, Parked, Failed}
+use Rattle.jh_script.specs.declared.image.Image.{Image}
+use Rattle.jh_script.specs.declared.op.Op.{Op}
+use Rattle.jh_script.specs.declared.op.Op.TheVariants.{Read as ReadOp, Write as WriteOp, Fetch as FetchOp, Await as AwaitOp, Irq as IrqOp, Hvc as HvcOp}
+use Rattle.jh_history.specs.declared.access.Access.TheVariants.{Read as ToRead, Write as ToWrite, Fetch as ToFetch}
+use Rattle.jh_history.specs.declared.access.Reach.{Reach}
+use Rattle.jh_history.specs.declared.access.Wanted.{Wanted}
+use Rattle.jh_history.specs.declared.entry.Entry.{Entry}
+use Rattle.jh_history.specs.declared.entry.Act.{Act}
+use Rattle.jh_history.specs.declared.entry.Act.TheVariants.{Read, Write, Fetch, Await, Irq, Hvc, Begin, Stop, Decide, Settle, Commit, Note, Noted, Finish}
+use Rattle.jh_history.specs.Access.{IsPhysical}
+use Rattle.jh_history.specs.Facts.{Facts}
+use Rattle.jh_history.specs.Lives.{op_at}
+use Rattle.jh_history.specs.Grants.{reach}
+
+-- the access that the operation makes: an await reads
+abbrev pub wanted_of : Op → Option Wanted
+wanted_of (ReadOp width at) = Some (record { access = ToRead; at = at; width = width })
+wanted_of (WriteOp width at value) = Some (record { access = ToWrite; at = at; width = width })
+wanted_of (FetchOp at) = Some (record { access = ToFetch; at = at; width = 4 })
+wanted_of (AwaitOp width at value) = Some (record { access = ToRead; at = at; width = width })
+wanted_of IrqOp = None
+wanted_of (HvcOp code a b) = None
+
+-- what it reaches, made by the cell
+abbrev pub reach_of : Image → Facts → ℕ → Wanted → Reach
+reach_of image facts cell wanted = reach image facts cell wanted.access wanted.at wanted.width
+
+-- it is what the operation of the cell reaches, where that makes an access
+abbrev pub IsReachOf : Image → Facts → ℕ → Op → Reach → Type 0
+IsReachOf image facts cell op found = (wanted : Wanted) → wanted_of op ≡ Some wanted → found ≡ reach_of image facts cell wanted
+
+-- whether a CPU in this mode runs
+abbrev pub is_running : Mode → Bool
+is_running Running = true
+is_running Parked = false
+is_running Failed = false
+
+-- a CPU in this state goes on with its program: it runs, and is neither asked to stop nor stopped
+abbrev pub goes_on : Cpu → Bool
+goes_on state = not state.asked && not state.stopped && is_running state.mode
+
+-- the operation that a CPU in this state is about to make: none at its program's end
+abbrev pub pending_op : Image → Facts → Cpu → ℕ → Option Op
+pending_op image facts state cpu = if goes_on state then op_at image facts state cpu else None
+
+-- it is what the access reaches that a CPU in this state is about to make, if it makes one
+abbrev pub IsReachIn : Image → Facts → Cpu → ℕ → Reach → Type 0
+IsReachIn image facts state cpu found = (op : Op) → pending_op image facts state cpu ≡ Some op → IsReachOf image facts state.owner op found
+
+abbrev pub IsReachAt : Image → Facts → ℕ → Reach → Type 0
+IsReachAt image facts cpu found = IsReachIn image facts (facts.cpu cpu) cpu found
+
+-- the access that the CPU is about to make
+abbrev pub wanted_at : Image → Facts → ℕ → Option Wanted
+wanted_at image facts cpu = option_and_then wanted_of (pending_op image facts (facts.cpu cpu) cpu)
+
+-- it is what the act reaches, made by the cell, where it is a write
+abbrev pub IsReachOfAct : Image → Facts → ℕ → Act → Reach → Type 0
+IsReachOfAct image facts cell (Write width at value ok) found = found ≡ reach image facts cell ToWrite at width
+IsReachOfAct image facts cell _ found = Unit {0}
+
+abbrev pub IsReachOfEntry : Image → Facts → Entry → Reach → Type 0
+IsReachOfEntry image facts entry found = IsReachOfAct image facts entry.cell entry.act found
+
+-- what a write reaches is physical memory alone
+abbrev pub IsPhysicalOf : Act → Reach → Type 0
+IsPhysicalOf (Write width at value ok) found = IsPhysical found
+IsPhysicalOf _ found = Unit {0}

@@ -1,0 +1,230 @@
+//! What an image is asked for before a board is opened with it.
+ghost use Rattle.std.specs.Prelude.{◌≡◌, ◌≢◌, ℕ, ◌↔◌, ◌<◌, ◌≤◌, ◌+◌, ◌^◌, [], IsTrue, IfOk, All, AllPairs, length};
+ghost use Rattle.jh_cellcfg.specs.declared.config.PciDevice.{PciDevice as ThePciDevice};
+ghost use Rattle.jh_cellcfg.specs.declared.region.Region.{Region as TheRegion};
+ghost use Rattle.jh_cellcfg.specs.Regions.{is_page_mapped as is_page_mapped_lem};
+ghost use Rattle.jh_check.specs.Findings.{findings};
+ghost use Rattle.jh_script.specs.declared.image.Program.{Program as TheProgram};
+ghost use Rattle.jh_script.specs.Operations.{is_width, IsPlain};
+ghost use Rattle.jh_history.specs.Admitted.{root_pages as root_pages_lem, pool_pages as pool_pages_lem, IsAdmittedSystem, IsSoundProgram, IsOtherProgram, IsSoundPreload, IsOtherPreload, IsAdmitted, IsNoCall, IsBuilt};
+
+use crate::apart::{Apart, are_apart, has_none_of};
+use crate::cells::is_program_of;
+use jh_cellcfg::{PciDevice, Region, SystemConfig};
+use jh_check::check;
+use jh_num::{ADDRESS_END, NoMemory, PAGE_SIZE};
+use jh_script::{Image, Op, Preload, Program};
+use jh_shape::Target;
+use std::alloc::Global;
+
+/// The most operations of a program.
+const OPS_LIMIT: usize = 4096;
+
+/// The kind of an ivshmem device, by `JAILHOUSE_PCI_TYPE_IVSHMEM`.
+const IVSHMEM: u8 = 3;
+
+/// Whether so many bytes from the start on end within the addresses.
+fn ends_within(start: u64, size: u64) -> bool
+    ensures { IsTrue result ↔ (start + size ≤ ADDRESS_END) }
+{
+    start <= ADDRESS_END && size <= ADDRESS_END - start
+}
+
+impl Apart for Program {
+    ghost use Rattle.jh_history.specs.Admitted.{IsOtherProgram};
+
+    ghost IsApart = { IsOtherProgram };
+
+    fn is_apart(&self, other: &Program) -> bool {
+        !is_program_of(other, self.cell.as_slice(), self.cpu)
+    }
+}
+
+/// Whether the two preloads put no byte at the same place.
+pub fn is_other_preload(one: &Preload, other: &Preload) -> bool
+    ensures { IsTrue result ↔ IsOtherPreload one.now other.now }
+{
+    has_none_of(
+        one.at,
+        one.bytes.len() as u64,
+        other.at,
+        other.bytes.len() as u64,
+    )
+}
+
+impl Apart for Preload {
+    ghost use Rattle.jh_history.specs.Admitted.{IsOtherPreload};
+
+    ghost IsApart = { IsOtherPreload };
+
+    fn is_apart(&self, other: &Preload) -> bool {
+        is_other_preload(self, other)
+    }
+}
+
+/// The pages that root takes before any cell is created.
+pub fn root_pages(system: &SystemConfig) -> u64
+    ensures { result ≡ root_pages_lem system.now }
+{
+    let target = Target {
+        regions: system.root.memory_regions.as_slice(),
+        root: true,
+        cells: &[],
+        held: 0,
+        loadable: 0,
+        extra: None,
+        comm: 0,
+    };
+    target.tables()
+}
+
+/// The pages that the hypervisor has to give.
+pub fn pool_pages(system: &SystemConfig) -> u64
+    ensures { result ≡ pool_pages_lem system.now }
+{
+    system.hypervisor_memory.size / PAGE_SIZE
+}
+
+/// Whether the check finds nothing in the system alone.
+fn is_clean(alloc: Global, system: &SystemConfig) -> Result<bool, NoMemory>
+    ensures { IfOk result (λ clean. IsTrue clean ↔ (findings system.now [] ≡ [])) }
+{
+    let found = check(alloc, system, &[])?;
+    Ok(found.is_empty())
+}
+
+/// Whether the system is admitted.
+fn is_admitted_system(alloc: Global, system: &SystemConfig) -> Result<bool, NoMemory>
+    ensures { IfOk result (λ admitted. IsTrue admitted ↔ IsAdmittedSystem system.now) }
+{
+    let clean = is_clean(alloc, system)?;
+    Ok(clean && root_pages(system) <= pool_pages(system))
+}
+
+/// Whether an access may have the width, and the value fits it.
+fn fits(width: u8, value: u64) -> bool
+    ensures { IsTrue result ↔ (IsTrue (is_width width) × (value < 256 ^ width)) }
+{
+    match width {
+        1 => value < 0x100,
+        2 => value < 0x1_0000,
+        4 => value < 0x1_0000_0000,
+        8 => true,
+        _ => false,
+    }
+}
+
+/// Whether the operation is within its limits.
+fn is_plain(op: &Op) -> bool
+    ensures { IsTrue result ↔ IsPlain op.now }
+{
+    match *op {
+        Op::Read { width, .. } => fits(width, 0),
+        Op::Write { width, value, .. } | Op::Await { width, value, .. } => fits(width, value),
+        Op::Fetch { at } => at % 4 == 0,
+        Op::Irq | Op::Hvc { .. } => true,
+    }
+}
+
+/// Whether the program has few enough operations, each within its limits.
+fn is_sound_program(program: &Program) -> bool
+    ensures { IsTrue result ↔ IsSoundProgram program.now }
+{
+    program.ops.len() <= OPS_LIMIT && program.ops.as_slice().iter().all(|op| is_plain(op))
+}
+
+/// Whether each of the programs is.
+fn are_sound_programs(programs: &[Program]) -> bool
+    ensures { IsTrue result ↔ All IsSoundProgram programs.now }
+{
+    programs.iter().all(|p| is_sound_program(p))
+}
+
+/// Whether the preload ends within the places and lies outside that memory of the hypervisor.
+pub fn is_sound_preload(hypervisor: &Region, preload: &Preload) -> bool
+    ensures { IsTrue result ↔ IsSoundPreload hypervisor.now preload.now }
+{
+    let len = preload.bytes.len() as u64;
+    ends_within(preload.at, len)
+        && has_none_of(hypervisor.phys_start, hypervisor.size, preload.at, len)
+}
+
+/// Whether each of the preloads may be.
+fn are_sound_preloads(hypervisor: &Region, preloads: &[Preload]) -> bool
+    ensures { IsTrue result ↔ All (IsSoundPreload hypervisor.now) preloads.now }
+{
+    preloads.iter().all(|p| is_sound_preload(hypervisor, p))
+}
+
+/// Whether the preloads may be put into memory together.
+fn are_fit_preloads(image: &Image) -> bool
+    ensures { IsTrue result ↔ (All (IsSoundPreload image.now.system.hypervisor_memory) image.now.preloads × AllPairs IsOtherPreload image.now.preloads) }
+{
+    are_sound_preloads(&image.system.hypervisor_memory, image.preloads.as_slice())
+        && are_apart(image.preloads.as_slice())
+}
+
+/// Whether the programs may be run.
+fn are_fit_programs(image: &Image) -> bool
+    ensures { IsTrue result ↔ (All IsSoundProgram image.now.programs × AllPairs IsOtherProgram image.now.programs) }
+{
+    are_sound_programs(image.programs.as_slice()) && are_apart(image.programs.as_slice())
+}
+
+/// Whether the image is admitted, so that a board may be opened with it: the check finds nothing in its
+/// system alone, the pool has root's pages, no preload ends past the places or meets the hypervisor's
+/// memory or another, no CPU of a cell has two programs, and each program has at most 4,096
+/// operations, each within its limits.
+pub fn admit(alloc: Global, image: &Image) -> Result<bool, NoMemory>
+    ensures { IfOk result (λ admitted. IsTrue admitted ↔ IsAdmitted image.now) }
+{
+    let admitted = is_admitted_system(alloc, &image.system)?;
+    Ok(admitted && are_fit_preloads(image) && are_fit_programs(image))
+}
+
+/// Whether the operation is no hypercall.
+fn is_no_call(op: &Op) -> bool
+    ensures { IsTrue result ↔ IsNoCall op.now }
+{
+    !matches!(op, Op::Hvc { .. })
+}
+
+/// Whether the program has no hypercall.
+fn has_no_call(program: &Program) -> bool
+    ensures { IsTrue result ↔ All IsNoCall program.now.ops }
+{
+    program.ops.as_slice().iter().all(|op| is_no_call(op))
+}
+
+/// Whether none of the programs has a hypercall.
+fn have_no_call(programs: &[Program]) -> bool
+    ensures { IsTrue result ↔ All (λ (p : TheProgram). All IsNoCall p.ops) programs.now }
+{
+    programs.iter().all(|p| has_no_call(p))
+}
+
+/// Whether each of the regions is of whole pages.
+fn are_page_mapped(regions: &[Region]) -> bool
+    ensures { IsTrue result ↔ All (λ (r : TheRegion). IsTrue (is_page_mapped_lem r)) regions.now }
+{
+    regions.iter().all(|r| r.is_page_mapped())
+}
+
+/// Whether none of the devices is an ivshmem device.
+fn has_no_ivshmem(devices: &[PciDevice]) -> bool
+    ensures { IsTrue result ↔ All (λ (d : ThePciDevice). d.kind ≢ 3) devices.now }
+{
+    devices.iter().all(|d| d.kind != IVSHMEM)
+}
+
+/// Whether the image has nothing that isn't built yet: no region of less than whole pages, no ECAM
+/// window, no ivshmem device, and no hypercall.
+pub fn is_built(image: &Image) -> bool
+    ensures { IsTrue result ↔ IsBuilt image.now }
+{
+    let root = &image.system.root;
+    are_page_mapped(root.memory_regions.as_slice())
+        && image.system.pci_mmconfig_base == 0
+        && has_no_ivshmem(root.pci_devices.as_slice())
+        && have_no_call(image.programs.as_slice())
+}

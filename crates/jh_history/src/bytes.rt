@@ -1,0 +1,42 @@
+//! Numbers that the bytes at an access's places spell.
+ghost use Rattle.std.specs.Prelude.{◌≡◌, ℕ, ◌+◌, ◌-◌, ◌<◌, ◌≤◌, ◌^◌, ◌++◌, List, map};
+ghost use Rattle.jh_num.specs.Memory.{spelled};
+ghost use Rattle.jh_history.specs.Places.{places_of_run, IsRun};
+
+use crate::place::{Place, Places, Run};
+
+/// Tells the bytes at places.
+pub trait Bytes {
+    ghost use Rattle.std.specs.Prelude.{ℕ};
+    ghost use Rattle.jh_history.specs.declared.place.Place.{Place as ThePlace};
+
+    /// The byte at the place.
+    ghost byte_of: { Self → ThePlace → ℕ };
+
+    fn byte(&self, place: Place) -> u8
+        ensures { result ≡ byte_of self.now place };
+}
+
+/// The number of the bytes of the run below those that `above` is the number of.
+fn value_of_run<B: Bytes>(bytes: &B, run: Run, above: u64) -> u64
+    requires run { IsRun run }
+    requires small { run.count ≤ 8 }
+    requires fits { above < 256 ^ (8 - run.count) }
+    ensures spells { (rest : List ℕ) → above ≡ spelled rest → result ≡ spelled (map (B.byte_of bytes.now) (places_of_run run) ++ rest) }
+    ensures fits { (n : ℕ) → above < 256 ^ n → n + run.count ≤ 8 → result < 256 ^ (n + run.count) }
+{
+    let mut value = above;
+    for k in (0..run.count).rev() {
+        value = value * 256 + u64::from(bytes.byte(run.first.further(k)));
+    }
+    value
+}
+
+/// The number that the bytes at the places spell, the lowest first.
+pub fn value_of<B: Bytes>(bytes: &B, places: &Places) -> u64
+    ensures { result ≡ spelled (map (B.byte_of bytes.now) places.now) }
+{
+    let (low, high) = places.runs();
+    let above = value_of_run(bytes, high, 0);
+    value_of_run(bytes, low, above)
+}

@@ -1,0 +1,102 @@
+//! Where bytes are kept.
+ghost use Rattle.std.specs.Prelude.{◌≡◌, ◌+◌, ◌^◌, ◌<◌, ◌≤◌, ◌++◌};
+ghost use Rattle.jh_history.specs.Places.{is_same as is_same_lem, number_of, further as further_lem, places_of_run, IsRun};
+
+use std::marker::Model;
+
+/// The place of a byte.
+#[derive(Clone, Copy, PartialEq, Eq, Debug)]
+pub enum Place {
+    /// Of physical memory, by its address.
+    Physical(u64),
+    /// Of the communication page of the cell with the id, by its offset.
+    Page { cell: u32, offset: u64 },
+}
+
+impl Place {
+    /// Whether the two are one place.
+    pub fn is_same(self, other: Place) -> bool
+        ensures { result ≡ is_same_lem self other }
+    {
+        match self {
+            Place::Physical(p) => match other {
+                Place::Physical(q) => p == q,
+                Place::Page { .. } => false,
+            },
+            Place::Page { cell, offset } => match other {
+                Place::Physical(_) => false,
+                Place::Page {
+                    cell: other,
+                    offset: at,
+                } => cell == other && offset == at,
+            },
+        }
+    }
+}
+
+impl Place {
+    /// The place so many further.
+    pub fn further(self, count: u8) -> Place
+        requires { number_of self + count < 2 ^ 64 }
+        ensures { result ≡ further_lem self count }
+    {
+        match self {
+            Place::Physical(p) => Place::Physical(p + u64::from(count)),
+            Place::Page { cell, offset } => Place::Page {
+                cell,
+                offset: offset + u64::from(count),
+            },
+        }
+    }
+}
+
+/// Places in a row: so many from the first on.
+#[derive(Clone, Copy, PartialEq, Eq, Debug)]
+pub struct Run {
+    pub first: Place,
+    pub count: u8,
+}
+
+/// The places of an access's bytes, in order: at most eight. An access touches two pages at most, so
+/// its places are two runs at most.
+#[derive(Drop)]
+pub struct Places {
+    low: Run,
+    high: Run,
+}
+
+impl Model for Places {
+    ghost use Rattle.std.specs.Prelude.{List, ◌+◌, ◌≤◌, ◌++◌};
+    ghost use Rattle.jh_history.specs.declared.place.Place.{Place as ThePlace};
+    ghost use Rattle.jh_history.specs.Places.{places_of_run};
+
+    ghost Value = { List ThePlace };
+
+    ghost view = { λ p. places_of_run p.low ++ places_of_run p.high };
+
+    ghost use Rattle.jh_history.specs.Places.{IsRun};
+
+    ghost invariant = { λ p. IsRun p.low × IsRun p.high × (p.low.count + p.high.count ≤ 8) };
+}
+
+impl Places {
+    /// The places of the two runs, one behind the other.
+    pub fn new(low: Run, high: Run) -> Self
+        requires low { IsRun low }
+        requires high { IsRun high }
+        requires few { low.count + high.count ≤ 8 }
+        ensures { result ≡ places_of_run low ++ places_of_run high }
+    {
+        Places { low, high }
+    }
+
+    /// The two runs that they are.
+    pub fn runs(&self) -> (Run, Run)
+        ensures places { self.now ≡ places_of_run result.0 ++ places_of_run result.1 }
+        ensures low { IsRun result.0 }
+        ensures high { IsRun result.1 }
+        ensures few { result.0.count + result.1.count ≤ 8 }
+    {
+        (self.low, self.high)
+    }
+}

@@ -1,0 +1,55 @@
+-- What no change touches, and what changes leave of all endpoints.
+use Rattle.std.proofs.Common.{ℕ, ◌≡◌, ◌+◌, ◌<◌, ◌≤◌, ◌/◌, ◌==◌, Bool, true, false, cond, List, [], ◌∷◌, ◌++◌, length, map, get_or, set, take, drop, refl, sym, ◌∙◌, ap, subst, arith}
+use Rattle.std.proofs.lemmas.Bool.{cases_Bool}
+use Rattle.std.proofs.lemmas.List.{length-set}
+use Rattle.jh_ivshmem.specs.declared.change.Change.{Change}
+use Rattle.jh_ivshmem.specs.declared.change.Change.TheVariants.{Raise, Write, State, Reset, Take}
+use Rattle.jh_ivshmem.specs.declared.endpoint.Endpoint.{Endpoint}
+use Rattle.jh_ivshmem.specs.declared.spec.EndpointSpec.{EndpointSpec}
+use Rattle.jh_ivshmem.specs.Endpoint.{raised, taken, cleared, is_open}
+use Rattle.jh_ivshmem.specs.Registers.{register_written, is_in_table}
+use Rattle.jh_ivshmem.specs.Changes.{changed, after, is_meant}
+use Rattle.jh_ivshmem.specs.Specs.{IsWithin}
+use Rattle.jh_ivshmem.specs.declared.change.Whom.{Whom}
+use Rattle.jh_ivshmem.specs.declared.key.Key.{Key}
+use Rattle.jh_ivshmem.specs.Keys.{IsSound, AreKept, key_of, is_key_meant}
+
+-- the endpoint keeps its spec and the number of its vectors
+pub record Keeps (old new : Endpoint) : Type 0 where
+  pub spec : new.spec ≡ old.spec
+  pub vectors : length new.vectors ≡ length old.vectors
+
+keeps_all : (e : Endpoint) → Keeps e e
+keeps_all e = record { spec = refl; vectors = refl }
+
+-- either of two that do
+keeps_either : (b : Bool) (old one other : Endpoint) → Keeps old one → Keeps old other → Keeps old (cond b one other)
+keeps_either true old one other h g = h
+keeps_either false old one other h g = g
+
+pub raised-keeps : (v : ℕ) (e : Endpoint) → Keeps e (raised v e)
+unfolding raised
+raised-keeps v e = keeps_either (is_open e v) e _ e (record { spec = refl; vectors = length-set e.vectors v _ }) (keeps_all e)
+
+written-keeps : (bar at value : ℕ) (e : Endpoint) → Keeps e (register_written bar at value e)
+unfolding register_written
+written-keeps bar at value e =
+    keeps_either (bar == 0) e _ _
+    (keeps_either (at == 0x08) e _ e (record { spec = refl; vectors = refl }) (keeps_all e))
+    (keeps_either (is_in_table e at) e _ e (record { spec = refl; vectors = length-set e.vectors (at / 16) _ }) (keeps_all e))
+
+pub after-keeps : (change : Change) (e : Endpoint) → length e.vectors ≡ 16 → Keeps e (after change e)
+unfolding taken cleared
+after-keeps (Raise v) e full = raised-keeps v e
+after-keeps (Write bar at value) e full = written-keeps bar at value e
+after-keeps (State value) e full = record { spec = refl; vectors = refl }
+after-keeps Reset e full = record { spec = refl; vectors = sym full }
+after-keeps (Take v) e full = record { spec = refl; vectors = length-set e.vectors v _ }
+
+pub after-sound : (change : Change) (e : Endpoint) → IsSound e → IsSound (after change e)
+after-sound change e sound =
+    let keeps = after-keeps change e sound.vectors in
+    record {
+      vectors = keeps.vectors ∙ sound.vectors;
+      within = subst IsWithin (sym keeps.spec) sound.within;
+    }

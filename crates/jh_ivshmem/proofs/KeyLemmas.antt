@@ -1,0 +1,169 @@
+-- The keys beside the endpoints: looking by them, and what a change, a joining and a leaving keep.
+use Rattle.std.proofs.Common.{ℕ, zero, suc, ◌≡◌, ◌+◌, ◌-◌, ◌<◌, ◌≤◌, ◌⊎◌, Bool, true, false, not, cond, nat_lt, List, [], ◌∷◌, ◌++◌, length, map, filter, find, position, All, AllPairs, Option, Some, None, is_some, get_or, set, take, drop, inl, inr, refl, sym, ◌∙◌, ap, subst, arith, length-append}
+use Rattle.std.specs.List.{slice_get, position_or_len, list_any}
+use Rattle.jh_vpci.specs.Space.{Space}
+use Rattle.std.proofs.lemmas.Bool.{cases_Bool, cases_lt}
+use Rattle.std.proofs.lemmas.Bool.Decides.{nat_tests}
+use Rattle.std.proofs.lemmas.List.{length-set, length-map, map-set, map-append, get_or_append_left, get_or-append_right}
+use Rattle.std.proofs.lemmas.List.Elements.{All-get_or, All-set, All-append, All-filter, All-map}
+use Rattle.std.proofs.lemmas.List.Folds.{find_at}
+use Rattle.std.proofs.lemmas.List.Kept.{AllPairs-filter}
+use Rattle.std.proofs.lemmas.List.Quantifiers.{position-Some}
+use Rattle.std.proofs.lemmas.Option.{slice_get_past, slice_get_read}
+use Rattle.std.proofs.Math.Seq.{map-set_same}
+use Rattle.jh_ivshmem.specs.declared.change.Whom.{Whom}
+use Rattle.jh_ivshmem.specs.declared.change.Whom.TheVariants.{Device, Peer, Others}
+use Rattle.jh_ivshmem.specs.declared.endpoint.Endpoint.{Endpoint}
+use Rattle.jh_ivshmem.specs.declared.spec.EndpointSpec.{EndpointSpec}
+use Rattle.jh_ivshmem.specs.declared.key.Key.{Key}
+use Rattle.jh_ivshmem.specs.Specs.{AreApart}
+use Rattle.jh_ivshmem.specs.Changes.{is_meant}
+use Rattle.jh_ivshmem.specs.Keys.{key_of, is_key_meant, IsSound, AreKept}
+
+pub key_meant : (whom : Whom) (e : Endpoint) → is_key_meant whom (key_of e) ≡ is_meant whom e.spec
+key_meant (Device cell device) e = refl
+key_meant (Peer bdf id) e = refl
+key_meant (Others bdf id) e = refl
+
+first_meant : (whom : Whom) (es : List Endpoint)
+    → position_or_len (is_key_meant whom) (map key_of es) ≡ position_or_len (λ (e : Endpoint). is_meant whom e.spec) es
+first_meant whom [] = refl
+first_meant whom (e ∷ es) = rw (key_meant whom e, first_meant whom es) refl
+
+place_is : (b : Bool) (n i : ℕ) → cond b (Some n) None ≡ Some i → n ≡ i
+place_is true n i h = cc
+place_is false n i h = cc
+
+not_below : (n len : ℕ) → len ≤ n → nat_lt n len ≡ false
+not_below n len past = grind (arith, nat_tests)
+
+no_some : (i : ℕ) → cond false (Some i) None ≡ Some i → ⊥
+no_some i h = cc
+
+is_within : (n len i : ℕ) → cond (nat_lt n len) (Some n) None ≡ Some i → n < len
+is_within n len i h =
+    elim (cases_lt n len) as (λ _. n < len) [
+      | inl below ↦ below
+      | inr past ↦ absurd (no_some i (rw (not_below n len past) at h))
+    ]
+
+no_place : (b : Bool) (n : ℕ) → cond b (Some n) None ≡ None → b ≡ false
+no_place true n h = cc
+no_place false n h = refl
+
+pub found_within : (whom : Whom) (es : List Endpoint) (i : ℕ) → position (is_key_meant whom) (map key_of es) ≡ Some i
+    → i < length es
+found_within whom es i found =
+    let place = place_is (nat_lt (position_or_len (is_key_meant whom) (map key_of es)) (length (map key_of es)))
+    (position_or_len (is_key_meant whom) (map key_of es)) i found in
+    let inside = is_within (position_or_len (is_key_meant whom) (map key_of es)) (length (map key_of es)) i found in
+    omega (arith, length-map es key_of)
+
+-- the endpoint at the place of the first key that is meant
+pub found_place : (whom : Whom) (es : List Endpoint) (i : ℕ) → position (is_key_meant whom) (map key_of es) ≡ Some i
+    → find (λ (o : Endpoint). is_meant whom o.spec) es ≡ slice_get es i
+found_place whom es i found =
+    let place = place_is (nat_lt (position_or_len (is_key_meant whom) (map key_of es)) (length (map key_of es)))
+    (position_or_len (is_key_meant whom) (map key_of es)) i found in
+    find_at (λ (o : Endpoint). is_meant whom o.spec) es ∙ ap (slice_get es) (sym (first_meant whom es) ∙ place)
+
+-- none is meant where no key is
+pub found_none : (whom : Whom) (es : List Endpoint) → position (is_key_meant whom) (map key_of es) ≡ None
+    → find (λ (o : Endpoint). is_meant whom o.spec) es ≡ None
+found_none whom es none =
+    let outside = no_place (nat_lt (position_or_len (is_key_meant whom) (map key_of es)) (length (map key_of es)))
+    (position_or_len (is_key_meant whom) (map key_of es)) none in
+    let past : length es ≤ position_or_len (λ (o : Endpoint). is_meant whom o.spec) es =
+    (let same = first_meant whom es in let all = length-map es key_of in grind (arith, nat_tests)) in
+    find_at (λ (o : Endpoint). is_meant whom o.spec) es ∙ slice_get_past es _ past
+
+-- a key is meant where an endpoint is
+pub found_same : (whom : Whom) (es : List Endpoint)
+    → list_any (is_key_meant whom) (map key_of es) ≡ is_some (find (λ (o : Endpoint). is_meant whom o.spec) es)
+found_same whom [] = refl
+found_same whom (e ∷ es) =
+    elim (cases_Bool (is_meant whom e.spec)) as (λ _. list_any (is_key_meant whom) (map key_of (e ∷ es))
+    ≡ is_some (find (λ (o : Endpoint). is_meant whom o.spec) (e ∷ es))) [
+      | inl here ↦ rw (key_meant whom e, here) refl
+      | inr other ↦ rw (key_meant whom e, other) (found_same whom es)
+    ]
+
+-- the space of one endpoint is another
+pub kept-space : (es : List Endpoint) (ks : List Key) (i : ℕ) (e : Endpoint) (space : Space) → AreKept es ks → IsSound e
+    → e ≡ get_or es i e → AreKept (set es i (record e { space = space })) ks
+kept-space es ks i e space kept sound read = record {
+  keys = kept.keys ∙ sym (map-set_same key_of es i (record e { space = space }) e (ap key_of read));
+  sound = All-set IsSound es i (record e { space = space }) (record { vectors = sound.vectors; within = sound.within }) kept.sound;
+  apart =
+      let P : List EndpointSpec → Type 0 = λ specs. AllPairs AreApart specs in
+      subst P (sym (map-set_same (λ (o : Endpoint). o.spec) es i (record e { space = space }) e (ap (λ (o : Endpoint). o.spec) read)))
+      kept.apart;
+}
+
+-- one of the endpoints is another, sound, with the same spec
+pub kept-set : (es : List Endpoint) (ks : List Key) (i : ℕ) (e : Endpoint) (old : Endpoint) → AreKept es ks
+    → old ≡ get_or es i old → IsSound e → e.spec ≡ old.spec → AreKept (set es i e) (set ks i (key_of e))
+kept-set es ks i e old kept read sound same = record {
+  keys = ap (λ k. set k i (key_of e)) kept.keys ∙ sym (map-set key_of es i e);
+  sound = All-set IsSound es i e sound kept.sound;
+  apart =
+      let P : List EndpointSpec → Type 0 = λ specs. AllPairs AreApart specs in
+      subst P (sym (map-set_same (λ (o : Endpoint). o.spec) es i e old (same ∙ ap (λ (o : Endpoint). o.spec) read))) kept.apart;
+}
+
+pairs_push : {X : Type 0} (R : X → X → Type 0) (xs : List X) (y : X) → AllPairs R xs → All (λ x. R x y) xs
+    → AllPairs R (xs ++ y ∷ [])
+pairs_push R xs y pairs new i j d before within =
+    let counted = length-append xs (y ∷ []) in
+    let first : i < length xs = omega arith in
+    elim (cases_lt j (length xs)) as (λ _. R (get_or (xs ++ y ∷ []) i d) (get_or (xs ++ y ∷ []) j d)) [
+      | inl inside ↦
+          rw (get_or_append_left xs (y ∷ []) d i first, get_or_append_left xs (y ∷ []) d j inside) (pairs i j d before inside)
+      | inr past ↦
+          let last : j - length xs ≡ 0 = omega arith in
+          rw (get_or_append_left xs (y ∷ []) d i first, get_or-append_right xs (y ∷ []) (length xs) j d refl past, last)
+          (new i d first)
+    ]
+
+one_sound : (e : Endpoint) → IsSound e → All IsSound (e ∷ [])
+one_sound e sound zero d lt = sound
+one_sound e sound (suc k) d lt = absurd (let no : ⊥ = omega arith in no)
+
+-- one joins that is apart from all
+pub kept-push : (es : List Endpoint) (ks : List Key) (e : Endpoint) → AreKept es ks → IsSound e
+    → All (λ (o : Endpoint). AreApart o.spec e.spec) es → AreKept (es ++ e ∷ []) (ks ++ key_of e ∷ [])
+kept-push es ks e kept sound new = record {
+  keys = ap (λ k. k ++ key_of e ∷ []) kept.keys ∙ sym (map-append key_of es (e ∷ []));
+  sound = All-append IsSound es (e ∷ []) kept.sound (one_sound e sound);
+  apart = subst (AllPairs AreApart) (sym (map-append (λ (o : Endpoint). o.spec) es (e ∷ [])))
+      (pairs_push AreApart (map (λ (o : Endpoint). o.spec) es) e.spec kept.apart
+      (All-map (λ s. AreApart s e.spec) (λ (o : Endpoint). o.spec) es new));
+}
+
+map_filter : {X Y : Type 0} (f : X → Y) (p : X → Bool) (q : Y → Bool) → ((x : X) → q (f x) ≡ p x) → (xs : List X)
+    → map f (filter p xs) ≡ filter q (map f xs)
+map_filter f p q same [] = refl
+map_filter f p q same (x ∷ xs) =
+    elim (cases_Bool (p x)) as (λ _. map f (filter p (x ∷ xs)) ≡ filter q (f x ∷ map f xs)) [
+      | inl passes ↦ rw (same x, passes) (ap (λ ys. f x ∷ ys) (map_filter f p q same xs))
+      | inr fails ↦ rw (same x, fails) (map_filter f p q same xs)
+    ]
+
+-- those of a device leave
+pub kept-filter : (es : List Endpoint) (ks : List Key) (p : Endpoint → Bool) (q : Key → Bool) (r : EndpointSpec → Bool)
+    → ((e : Endpoint) → q (key_of e) ≡ p e) → ((e : Endpoint) → r e.spec ≡ p e)
+    → AreKept es ks → AreKept (filter p es) (filter q ks)
+kept-filter es ks p q r same by_spec kept = record {
+  keys = ap (filter q) kept.keys ∙ sym (map_filter key_of p q same es);
+  sound = All-filter p IsSound es kept.sound;
+  apart = subst (AllPairs AreApart) (sym (map_filter (λ (o : Endpoint). o.spec) p r by_spec es))
+      (AllPairs-filter AreApart r (map (λ (o : Endpoint). o.spec) es) kept.apart);
+}
+
+-- the same, for what was pushed
+pub kept-joined : (es joined : List Endpoint) (ks keys : List Key) (e : Endpoint) (key : Key) → AreKept es ks
+    → joined ≡ es ++ e ∷ [] → keys ≡ ks ++ key ∷ [] → key ≡ key_of e → IsSound e
+    → All (λ (o : Endpoint). AreApart o.spec e.spec) es → AreKept joined keys
+kept-joined es joined ks keys e key kept pushed keyed is sound new =
+    subst (λ l. AreKept l keys) (sym pushed)
+    (subst (AreKept (es ++ e ∷ [])) (sym (keyed ∙ ap (λ k. ks ++ k ∷ []) is)) (kept-push es ks e kept sound new))

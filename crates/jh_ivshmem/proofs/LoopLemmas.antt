@@ -1,0 +1,93 @@
+-- The loop that changes each endpoint that is meant.
+use Rattle.std.proofs.Common.{ℕ, ◌≡◌, ◌+◌, ◌<◌, ◌≤◌, ◌⊎◌, Bool, true, false, cond, List, [], ◌∷◌, ◌++◌, length, map, get_or, set, take, drop, inl, inr, refl, sym, ◌∙◌, ap, subst, arith}
+use Rattle.std.proofs.lemmas.Bool.{cases_Bool}
+use Rattle.std.proofs.lemmas.List.{length-set, length-map, set-get_or, get_or-map, take_all, drop_all, append-nil}
+use Rattle.std.proofs.lemmas.List.Edits.{map_over_more}
+use Rattle.std.proofs.lemmas.List.Elements.{All-get_or}
+use Rattle.std.proofs.lemmas.Option.{slice_get_cases}
+use Rattle.jh_ivshmem.specs.declared.change.Change.{Change}
+use Rattle.jh_ivshmem.specs.declared.change.Whom.{Whom}
+use Rattle.jh_ivshmem.specs.declared.key.Key.{Key}
+use Rattle.jh_ivshmem.specs.declared.endpoint.Endpoint.{Endpoint}
+use Rattle.jh_ivshmem.specs.Changes.{changed, after, is_meant}
+use Rattle.jh_ivshmem.specs.Keys.{IsSound, AreKept, key_of, is_key_meant}
+use Rattle.jh_ivshmem.proofs.ChangeLemmas.{after-keeps, after-sound}
+use Rattle.jh_ivshmem.proofs.KeyLemmas.{key_meant, kept-set}
+
+-- the change of an endpoint that is meant
+abbrev pub changing : Whom → Change → Endpoint → Endpoint
+changing whom change e = cond (is_meant whom e.spec) (after change e) e
+
+-- the endpoints below the index are changed
+pub record Changes (whom : Whom) (change : Change) (before now : List Endpoint) (ks : List Key) (i : ℕ) : Type 0 where
+  pub list : now ≡ map (changing whom change) (take i before) ++ drop i before
+  pub count : length now ≡ length before
+  pub kept : AreKept now ks
+
+key_at : (now : List Endpoint) (ks : List Key) (i : ℕ) (key : Key) (e : Endpoint) → AreKept now ks → i < length now
+    → key ≡ get_or ks i key → e ≡ get_or now i e → key ≡ key_of e
+key_at now ks i key e kept within read is_e =
+    read ∙ ap (λ l. get_or l i key) kept.keys ∙ get_or-map key_of now i e key within ∙ ap key_of (sym is_e)
+
+-- what the key tells of its endpoint
+pub meant_at : (whom : Whom) (now : List Endpoint) (ks : List Key) (i : ℕ) (key : Key) (e : Endpoint) → AreKept now ks
+    → i < length now → key ≡ get_or ks i key → e ≡ get_or now i e → is_key_meant whom key ≡ is_meant whom e.spec
+meant_at whom now ks i key e kept within read is_e =
+    ap (is_key_meant whom) (key_at now ks i key e kept within read is_e) ∙ key_meant whom e
+
+pub sound_at : (now : List Endpoint) (ks : List Key) (i : ℕ) (e : Endpoint) → AreKept now ks → i < length now
+    → e ≡ get_or now i e → IsSound e
+sound_at now ks i e kept within is_e = subst IsSound (sym is_e) (All-get_or IsSound now i e within kept.sound)
+
+pub step_meant : (whom : Whom) (change : Change) (before now : List Endpoint) (ks : List Key) (i : ℕ) (e : Endpoint)
+    → Changes whom change before now ks i → i < length now → e ≡ get_or now i e → is_meant whom e.spec ≡ true
+    → Changes whom change before (set now i (after change e)) (set ks i (key_of (after change e))) (i + 1)
+step_meant whom change before now ks i e changes within is_e meant =
+    let first : i < length before = (let same = changes.count in omega arith) in
+    let sound = sound_at now ks i e changes.kept within is_e in
+    let changed_here : changing whom change e ≡ after change e = rw meant refl in
+    record {
+      list = ap (λ new. set now i new) (sym changed_here)
+          ∙ map_over_more (changing whom change) before now i e first changes.list is_e;
+      count = length-set now i (after change e) ∙ changes.count;
+      kept = kept-set now ks i (after change e) e changes.kept is_e (after-sound change e sound)
+          (after-keeps change e sound.vectors).spec;
+    }
+
+other_at : (whom : Whom) (change : Change) (before now : List Endpoint) (ks : List Key) (i : ℕ) (e : Endpoint)
+    → Changes whom change before now ks i → i < length now → e ≡ get_or now i e → is_meant whom e.spec ≡ false
+    → Changes whom change before now ks (i + 1)
+other_at whom change before now ks i e changes within is_e other =
+    let first : i < length before = (let same = changes.count in omega arith) in
+    let same_here : changing whom change e ≡ e = rw other refl in
+    record {
+      list = sym (set-get_or now i e) ∙ ap (λ new. set now i new) (sym is_e ∙ sym same_here)
+          ∙ map_over_more (changing whom change) before now i e first changes.list is_e;
+      count = changes.count;
+      kept = changes.kept;
+    }
+
+pub step_other : (whom : Whom) (change : Change) (before now : List Endpoint) (ks : List Key) (i : ℕ) (key : Key)
+    → Changes whom change before now ks i → i < length now → key ≡ get_or ks i key → is_key_meant whom key ≡ false
+    → Changes whom change before now ks (i + 1)
+step_other whom change before now ks i key changes within read other =
+    elim (slice_get_cases now i).1 as (λ _. Changes whom change before now ks (i + 1)) [
+      | inl (e, inside, found, is_e) ↦
+          other_at whom change before now ks i e changes within (sym is_e)
+          (sym (meant_at whom now ks i key e changes.kept within read (sym is_e)) ∙ other)
+      | inr past ↦ absurd (let beyond = past.0 in let no : ⊥ = omega arith in no)
+    ]
+
+-- all are changed at the end
+pub at_end : (whom : Whom) (change : Change) (before now : List Endpoint) (ks : List Key) (i : ℕ)
+    → Changes whom change before now ks i → length before ≤ i → now ≡ changed (is_meant whom) (after change) before
+unfolding changed
+at_end whom change before now ks i changes past =
+    changes.list
+    ∙ ap (λ l. map (changing whom change) l ++ drop i before) (take_all i before past)
+    ∙ ap (λ l. map (changing whom change) before ++ l) (drop_all i before past)
+    ∙ append-nil (map (changing whom change) before)
+
+pub at_start : (whom : Whom) (change : Change) (before : List Endpoint) (ks : List Key) → AreKept before ks
+    → Changes whom change before before ks 0
+at_start whom change before ks kept = record { list = refl; count = refl; kept = kept }

@@ -1,0 +1,32 @@
+use Rattle.std.proofs.Common.{◌≡◌, ℕ, List, filter, not, refl, sym, ◌∙◌, ap, subst}
+use Rattle.jh_ivshmem.specs.declared.change.Whom.TheVariants.{Device}
+use Rattle.jh_ivshmem.specs.declared.endpoint.Endpoint.{Endpoint}
+use Rattle.jh_ivshmem.specs.declared.spec.EndpointSpec.{EndpointSpec}
+use Rattle.jh_ivshmem.specs.declared.key.Key.{Key}
+use Rattle.jh_ivshmem.specs.Specs.{is_device}
+use Rattle.jh_ivshmem.specs.Seen.{Seen}
+use Rattle.jh_ivshmem.specs.Keys.{AreKept, is_key_meant}
+use Rattle.jh_ivshmem.specs.Links.{told_of}
+use Rattle.jh_ivshmem.proofs.KeyLemmas.{kept-filter}
+use Rattle.jh_ivshmem.proofs.NamedLemmas.{by_own_name}
+use Rattle.jh_ivshmem.proofs.endpoints.Endpoints.leave.Goals as goal
+
+pub invariant_of-self : goal.invariant_of-self
+invariant_of-self c =
+    subst (λ list. AreKept list c.drop_key.new.keys.items) (sym c.drop_endpoint.ensures.list)
+    (subst (AreKept (filter (λ (e : Endpoint). not (is_device c.args.cell c.args.device e.spec)) c.self.inside.endpoints.items))
+    (sym c.drop_key.ensures.list)
+    (kept-filter c.self.inside.endpoints.items c.self.inside.keys.items
+    (λ (e : Endpoint). not (is_device c.args.cell c.args.device e.spec))
+    (λ (key : Key). not (is_key_meant (Device c.args.cell c.args.device) key))
+    (λ (spec : EndpointSpec). not (is_device c.args.cell c.args.device spec))
+    (λ e. refl) (λ e. refl) c.self.invariant))
+
+pub returns-clause-list : goal.returns-clause-list
+returns-clause-list c = λ e named.
+    by_own_name (λ cell device. c.drop_endpoint.new.endpoints.items
+    ≡ filter (λ (o : Endpoint). not (is_device cell device o.spec)) (told_of e 0 c.args.self.now.list))
+    c.args.cell c.args.device c.args.self.now.list e named
+    (c.drop_endpoint.ensures.list
+    ∙ ap (filter (λ (o : Endpoint). not (is_device c.args.cell c.args.device o.spec)))
+    (ap (λ (seen : Seen). seen.list) c.self.view_is ∙ c.tell-slot.ensures.list e named))

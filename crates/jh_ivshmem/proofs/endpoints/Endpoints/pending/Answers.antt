@@ -1,0 +1,14 @@
+use Rattle.std.proofs.Common.{◌≡◌, ℕ, List, None, fold, refl, sym, ◌∙◌, ap}
+use Rattle.std.proofs.lemmas.List.Folds.{fold-map}
+use Rattle.jh_ivshmem.specs.declared.key.Key.{Key}
+use Rattle.jh_ivshmem.specs.Keys.{key_of, pending_by}
+use Rattle.jh_ivshmem.specs.Links.{earlier, pending_of}
+use Rattle.jh_ivshmem.specs.Seen.{Seen}
+use Rattle.jh_ivshmem.proofs.endpoints.Endpoints.pending.Goals as goal
+
+pub returns : goal.returns
+returns c =
+    c.first_pending.ensures
+    ∙ ap (fold (λ best (key : Key). earlier best (pending_by c.args.cell key)) None) (c.deref.ensures.value ∙ c.self.invariant.keys)
+    ∙ fold-map (λ best (key : Key). earlier best (pending_by c.args.cell key)) key_of None c.self.inside.endpoints.items
+    ∙ ap (λ (seen : Seen). pending_of c.args.cell seen.list) c.self.view_is

@@ -1,0 +1,92 @@
+use Rattle.std.proofs.Common.{◌≡◌, ◌/◌, ◌%◌, ◌^◌, ◌&&◌, ◌==◌, Bool, true, false, not, ℕ, List, Option, None, Some, if◌then◌else◌, refl, sym, ◌∙◌, ap, inl, inr, arith}
+use Rattle.std.proofs.lemmas.Bool.{cases_eq}
+use Rattle.std.proofs.lemmas.Bool.Decides.{nat_tests}
+use Rattle.jh_ivshmem.specs.declared.endpoint.Endpoint.{Endpoint}
+use Rattle.jh_ivshmem.specs.declared.spec.Slot.{Slot}
+use Rattle.jh_ivshmem.specs.Specs.{is_device, slot_of}
+use Rattle.jh_ivshmem.specs.Registers.{register_written}
+use Rattle.jh_ivshmem.specs.Changes.{changed}
+use Rattle.jh_ivshmem.specs.Links.{written, slot_written, rung, state_written}
+use Rattle.jh_ivshmem.proofs.NamedLemmas.{by_own_name}
+use Rattle.jh_ivshmem.proofs.endpoints.Endpoints.write.Goals as goal
+
+-- by the register that is written
+at_doorbell : (e : Endpoint) (bar at value : ℕ) (list : List Endpoint) → ((bar == 0) && (at == 0x0c)) ≡ true
+    → written e bar at value list ≡ rung e.spec.bdf (value / 2 ^ 16) (value % 2 ^ 16) list
+unfolding written
+at_doorbell e bar at value list is = rw is refl
+
+at_state : (e : Endpoint) (bar at value : ℕ) (list : List Endpoint) → ((bar == 0) && (at == 0x0c)) ≡ false
+    → ((bar == 0) && (at == 0x10)) ≡ true → written e bar at value list ≡ state_written e value list
+unfolding written
+at_state e bar at value list other is = rw (other, is) refl
+
+at_another : (e : Endpoint) (bar at value : ℕ) (list : List Endpoint) → ((bar == 0) && (at == 0x0c)) ≡ false
+    → ((bar == 0) && (at == 0x10)) ≡ false
+    → written e bar at value list ≡ changed (is_device e.spec.cell e.spec.device) (register_written bar at value) list
+unfolding written
+at_another e bar at value list other none = rw (other, none) refl
+
+no_slot : (e : Endpoint) (bar at value : ℕ) → ((bar == 0) && (at == 0x10)) ≡ false → slot_written e bar at value ≡ None
+unfolding slot_written
+no_slot e bar at value none = rw none refl
+
+either : (b : Bool) (slot : Slot) → (if not b then Some slot else None) ≡ (if b then None else Some slot)
+either true slot = refl
+either false slot = refl
+
+state_slot : (e : Endpoint) (bar at value : ℕ) → ((bar == 0) && (at == 0x10)) ≡ true
+    → slot_written e bar at value ≡ (if e.state == value then None else Some (slot_of e.spec value))
+unfolding slot_written
+state_slot e bar at value is = rw is (either (e.state == value) (slot_of e.spec value))
+
+no_and : (b : Bool) → (b && false) ≡ false
+no_and true = refl
+no_and false = refl
+
+never : (b : Bool) → (b && false) ≡ true → ⊥
+never true h = cc
+never false h = cc
+
+differs : (a b : ℕ) → (a ≡ b → ⊥) → (a == b) ≡ false
+differs a b h = grind (arith, nat_tests)
+
+doorbell_is_no_state : (bar at : ℕ) → ((bar == 0) && (at == 0x0c)) ≡ true → ((bar == 0) && (at == 0x10)) ≡ false
+doorbell_is_no_state bar at is =
+    elim (cases_eq at 0x0c) as (λ _. ((bar == 0) && (at == 0x10)) ≡ false) [
+      | inl here ↦ rw here (no_and (bar == 0))
+      | inr other ↦ absurd (let past = differs at 0x0c other in let h = rw past at is in never (bar == 0) h)
+    ]
+
+pub returns-then-is_doorbell-clause-list : goal.returns-then-is_doorbell-clause-list
+returns-then-is_doorbell-clause-list c = λ e named.
+    c.ring.ensures.list e named
+    ∙ sym (at_doorbell e c.args.bar c.args.at c.args.value c.args.self.now.list (sym c.is_doorbell.ensures ∙ c.if-is_doorbell.true))
+
+pub returns-then-is_doorbell-clause-slot : goal.returns-then-is_doorbell-clause-slot
+returns-then-is_doorbell-clause-slot c = λ e named.
+    sym (no_slot e c.args.bar c.args.at c.args.value
+    (doorbell_is_no_state c.args.bar c.args.at (sym c.is_doorbell.ensures ∙ c.if-is_doorbell.true)))
+
+pub returns-then-is_state-clause-list : goal.returns-then-is_state-clause-list
+returns-then-is_state-clause-list c = λ e named.
+    c.set_state.ensures.list e named
+    ∙ sym (at_state e c.args.bar c.args.at c.args.value c.args.self.now.list (sym c.is_doorbell.ensures ∙ c.if-is_doorbell.false)
+    (sym c.is_state.ensures ∙ c.if-is_state.true))
+
+pub returns-then-is_state-clause-slot : goal.returns-then-is_state-clause-slot
+returns-then-is_state-clause-slot c = λ e named.
+    c.set_state.ensures.slot e named
+    ∙ sym (state_slot e c.args.bar c.args.at c.args.value (sym c.is_state.ensures ∙ c.if-is_state.true))
+
+pub returns-else-is_state-clause-list : goal.returns-else-is_state-clause-list
+returns-else-is_state-clause-list c = λ e named.
+    by_own_name (λ cell device. c.change.new.self.list
+    ≡ changed (is_device cell device) (register_written c.args.bar c.args.at c.args.value) c.args.self.now.list)
+    c.args.cell c.args.device c.args.self.now.list e named c.change.ensures.list
+    ∙ sym (at_another e c.args.bar c.args.at c.args.value c.args.self.now.list
+    (sym c.is_doorbell.ensures ∙ c.if-is_doorbell.false) (sym c.is_state.ensures ∙ c.if-is_state.false))
+
+pub returns-else-is_state-clause-slot : goal.returns-else-is_state-clause-slot
+returns-else-is_state-clause-slot c = λ e named.
+    sym (no_slot e c.args.bar c.args.at c.args.value (sym c.is_state.ensures ∙ c.if-is_state.false))

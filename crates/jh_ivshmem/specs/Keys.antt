@@ -1,0 +1,44 @@
+-- What is kept beside the endpoints, so that a scan doesn't touch them.
+use Rattle.std.specs.Prelude.{ℕ, ◌≡◌, Bool, ◌&&◌, ◌==◌, not, Option, None, option_map, if◌then◌else◌, List, All, AllPairs, length, map}
+use Rattle.jh_ivshmem.specs.declared.endpoint.Endpoint.{Endpoint}
+use Rattle.jh_ivshmem.specs.declared.spec.EndpointSpec.{EndpointSpec}
+use Rattle.jh_ivshmem.specs.declared.key.Key.{Key}
+use Rattle.jh_ivshmem.specs.declared.change.Whom.{Whom}
+use Rattle.jh_ivshmem.specs.declared.change.Whom.TheVariants.{Device, Peer, Others}
+use Rattle.jh_ivshmem.specs.Specs.{IsWithin, AreApart}
+use Rattle.jh_ivshmem.specs.Endpoint.{pending_in}
+
+abbrev pub key_of : Endpoint → Key
+key_of e = record {
+  cell = e.spec.cell;
+  device = e.spec.device;
+  bdf = e.spec.bdf;
+  id = e.spec.id;
+  pending = pending_in e;
+}
+
+-- it has place for 16 vectors, and is within the limits
+pub record IsSound (e : Endpoint) : Type 0 where
+  pub vectors : length e.vectors ≡ 16
+  pub within : IsWithin e.spec
+
+-- the keys are those of the endpoints, which are sound and apart
+pub record AreKept (endpoints : List Endpoint) (kept : List Key) : Type 0 where
+  pub keys : kept ≡ map key_of endpoints
+  pub sound : All IsSound endpoints
+  pub apart : AllPairs AreApart (map (λ (e : Endpoint). e.spec) endpoints)
+
+-- the endpoint with this key is meant
+abbrev pub is_key_meant : Whom → Key → Bool
+is_key_meant (Device cell device) key = (key.cell == cell) && (key.device == device)
+is_key_meant (Peer bdf id) key = (key.bdf == bdf) && (key.id == id)
+is_key_meant (Others bdf id) key = (key.bdf == bdf) && not (key.id == id)
+
+-- what the key tells of a pending vector of the cell
+abbrev pub pending_by : ℕ → Key → Option (ℕ × ℕ)
+pending_by cell key = if key.cell == cell then option_map (λ v. (key.device, v)) key.pending else None
+
+-- its endpoint is neither the same device of the same cell nor the same number of one link
+abbrev pub is_key_apart : EndpointSpec → Key → Bool
+is_key_apart spec key =
+    not ((key.cell == spec.cell) && (key.device == spec.device)) && not ((key.bdf == spec.bdf) && (key.id == spec.id))

@@ -1,0 +1,74 @@
+-- All endpoints: what each call leaves of them. A link is the endpoints with one bdf.
+use Rattle.std.specs.Prelude.{ℕ, ◌≡◌, ◌/◌, ◌%◌, ◌^◌, Bool, not, ◌&&◌, ◌==◌, nat_lt, Option, None, Some, List, [], ◌∷◌, ◌++◌, fold, filter, find, option_map, if◌then◌else◌}
+use Rattle.std.specs.Option.{option_map_or}
+use Rattle.jh_ivshmem.specs.declared.endpoint.Endpoint.{Endpoint}
+use Rattle.jh_ivshmem.specs.declared.spec.EndpointSpec.{EndpointSpec}
+use Rattle.jh_ivshmem.specs.declared.spec.Slot.{Slot}
+use Rattle.jh_ivshmem.specs.Specs.{is_device, is_peer, is_other, slot_of}
+use Rattle.jh_ivshmem.specs.Endpoint.{raised, taken, cleared, fresh, pending_in}
+use Rattle.jh_ivshmem.specs.Registers.{register_written}
+use Rattle.jh_ivshmem.specs.Changes.{changed}
+
+-- the endpoint of this device of this cell
+abbrev pub endpoint_at : ℕ → ℕ → List Endpoint → Option Endpoint
+endpoint_at cell device list = find (λ (e : Endpoint). is_device cell device e.spec) list
+
+-- this holds of the endpoint of this device of this cell
+abbrev pub ForEndpoint : ℕ → ℕ → List Endpoint → (Endpoint → Type 0) → Type 0
+ForEndpoint cell device list P = (e : Endpoint) → endpoint_at cell device list ≡ Some e → P e
+
+-- the doorbell of a link: the vector of the endpoint with the target's number is raised
+abbrev pub rung : ℕ → ℕ → ℕ → List Endpoint → List Endpoint
+rung bdf target v list = changed (is_peer bdf target) (raised v) list
+
+-- the others of the endpoint's link learn that its state is another: vector 0 of each is raised
+abbrev pub told : EndpointSpec → List Endpoint → List Endpoint
+told spec list = changed (is_other spec.bdf spec.id) (raised 0) list
+
+-- they are told where the state gets another value
+abbrev pub told_of : Endpoint → ℕ → List Endpoint → List Endpoint
+told_of e value list = if e.state == value then list else told e.spec list
+
+-- a write to the state register
+abbrev pub state_written : Endpoint → ℕ → List Endpoint → List Endpoint
+state_written e value list =
+    changed (is_device e.spec.cell e.spec.device) (λ (o : Endpoint). record o { state = value }) (told_of e value list)
+
+-- a write to a register of the endpoint: the doorbell has the vector in bits 0 to 15 and the target in bits 16 to 31
+unfoldable pub written : Endpoint → ℕ → ℕ → ℕ → List Endpoint → List Endpoint
+written e bar at value list =
+    if (bar == 0) && (at == 0x0c) then rung e.spec.bdf (value / 2 ^ 16) (value % 2 ^ 16) list
+    else (if (bar == 0) && (at == 0x10) then state_written e value list
+    else changed (is_device e.spec.cell e.spec.device) (register_written bar at value) list)
+
+-- the write to the state table that comes with it
+unfoldable pub slot_written : Endpoint → ℕ → ℕ → ℕ → Option Slot
+slot_written e bar at value =
+    if ((bar == 0) && (at == 0x10)) && not (e.state == value) then Some (slot_of e.spec value) else None
+
+-- a reset acts on the link as a state write of 0
+abbrev pub reset_of : Endpoint → List Endpoint → List Endpoint
+reset_of e list = changed (is_device e.spec.cell e.spec.device) cleared (told_of e 0 list)
+
+-- leaving acts as a state write of 0, and then the endpoint is gone
+abbrev pub left_by : Endpoint → List Endpoint → List Endpoint
+left_by e list = filter (λ (o : Endpoint). not (is_device e.spec.cell e.spec.device o.spec)) (told_of e 0 list)
+
+-- the earlier of two pending vectors: the one of the lower device
+abbrev pub earlier : Option (ℕ × ℕ) → Option (ℕ × ℕ) → Option (ℕ × ℕ)
+earlier None other = other
+earlier (Some one) None = Some one
+earlier (Some one) (Some other) = if nat_lt other.0 one.0 then Some other else Some one
+
+-- the endpoint's device with its lowest pending vector, where it is the cell's
+abbrev pub pending_at : ℕ → Endpoint → Option (ℕ × ℕ)
+pending_at cell e = if e.spec.cell == cell then option_map (λ v. (e.spec.device, v)) (pending_in e) else None
+
+-- the cell's pending vector of the lowest device, then of the lowest number
+abbrev pub pending_of : ℕ → List Endpoint → Option (ℕ × ℕ)
+pending_of cell list = fold (λ best (e : Endpoint). earlier best (pending_at cell e)) None list
+
+-- that vector is no longer pending
+abbrev pub taken_of : ℕ → Option (ℕ × ℕ) → List Endpoint → List Endpoint
+taken_of cell None list = list
+taken_of cell (Some next) list = changed (is_device cell next.0) (taken next.1) list

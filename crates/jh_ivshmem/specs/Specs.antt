@@ -1,0 +1,38 @@
+-- What is fixed of an endpoint.
+use Rattle.std.specs.Prelude.{ℕ, ◌+◌, ◌*◌, ◌^◌, ◌<◌, ◌≤◌, ◌≡◌, ◌≢◌, ◌⊎◌, Bool, true, false, ◌&&◌, not, nat_lt, ◌==◌, if◌then◌else◌, List}
+use Rattle.std.specs.List.{list_any}
+use Rattle.jh_vpci.specs.Space.{has_vectors}
+use Rattle.jh_ivshmem.specs.declared.spec.EndpointSpec.{EndpointSpec}
+use Rattle.jh_ivshmem.specs.declared.spec.Slot.{Slot}
+
+-- what joining asks of an endpoint by itself
+pub record IsWithin (spec : EndpointSpec) : Type 0 where
+  pub id : spec.id < spec.peers
+  pub peers : spec.peers ≤ 16
+  pub vectors : spec.function.vectors ≤ 16
+  pub table : spec.table + 64 ≤ 2 ^ 39
+
+-- the endpoint of this device of this cell
+abbrev pub is_device : ℕ → ℕ → EndpointSpec → Bool
+is_device cell device spec = (spec.cell == cell) && (spec.device == device)
+
+-- the endpoint with this number of the link that has this bdf
+abbrev pub is_peer : ℕ → ℕ → EndpointSpec → Bool
+is_peer bdf id spec = (spec.bdf == bdf) && (spec.id == id)
+
+-- an endpoint of the link with another number
+abbrev pub is_other : ℕ → ℕ → EndpointSpec → Bool
+is_other bdf id spec = (spec.bdf == bdf) && not (spec.id == id)
+
+-- two endpoints: neither the same device of the same cell nor the same number of one link
+pub record AreApart (one other : EndpointSpec) : Type 0 where
+  pub devices : is_device one.cell one.device other ≡ false
+  pub peers : is_peer one.bdf one.id other ≡ false
+
+-- how many vectors it has: those of MSI-X, or a single one without
+abbrev pub count_of : EndpointSpec → ℕ
+count_of spec = if has_vectors spec.function then spec.function.vectors else 1
+
+-- a write of the value to its word of the state table
+abbrev pub slot_of : EndpointSpec → ℕ → Slot
+slot_of spec value = record { place = spec.table + 4 * spec.id; value = value }

@@ -1,0 +1,390 @@
+//! All endpoints of the live cells.
+ghost use Rattle.std.specs.Prelude.{◌≡◌, ℕ, ◌+◌, ◌*◌, ◌%◌, ◌^◌, ◌<◌, ◌≤◌, ◌⊎◌, ◌↔◌, None, Some, [], ◌∷◌, ◌++◌, length, fold, All, map, position, filter, not, ◌&&◌, vec_len, vec_capacity, slice_get, is_some, if◌then◌else◌, ◌==◌, IsSome, IsNone, IsTrue, IsOk, IfOk, OnOk, OnErr};
+ghost use Rattle.std.specs.List.{list_all, list_any};
+ghost use Rattle.jh_ivshmem.specs.Specs.{IsWithin, AreApart, is_device, slot_of};
+ghost use Rattle.jh_ivshmem.specs.Endpoint.{fresh};
+ghost use Rattle.jh_ivshmem.specs.Registers.{register_of};
+ghost use Rattle.jh_ivshmem.specs.Changes.{changed, is_meant, after};
+ghost use Rattle.jh_ivshmem.specs.Keys.{AreKept, IsSound, is_key_apart, is_key_meant, pending_by};
+ghost use Rattle.jh_ivshmem.specs.Links.{endpoint_at, ForEndpoint, told_of, rung, state_written, written, slot_written, reset_of, left_by, pending_of, taken_of, earlier};
+
+use crate::change::{Change, Whom};
+use crate::endpoint::Endpoint;
+use crate::key::Key;
+use crate::spec::{EndpointSpec, Slot};
+use jh_num::NoMemory;
+use jh_vpci::ConfigSpace;
+use std::alloc::Global;
+use std::marker::Model;
+
+const DOORBELL: u32 = 0x0c;
+
+const STATE: u32 = 0x10;
+
+/// The endpoints, in the order in which they joined. No call looks at more than each of them once or
+/// twice.
+#[derive(Drop)]
+pub struct Endpoints {
+    endpoints: Vec<Endpoint>,
+    pub(crate) keys: Vec<Key>,
+}
+
+impl Model for Endpoints {
+    ghost use Rattle.std.specs.Prelude.{◌-◌, min, vec_len, vec_capacity};
+    ghost use Rattle.jh_ivshmem.specs.Seen.{Seen};
+    ghost use Rattle.jh_ivshmem.specs.Keys.{AreKept};
+
+    ghost Value = { Seen };
+
+    ghost view = { λ s. record {
+      list = s.endpoints.items;
+      spare = min (vec_capacity s.endpoints - vec_len s.endpoints) (vec_capacity s.keys - vec_len s.keys);
+    } };
+
+    ghost invariant = { λ s. AreKept s.endpoints.items s.keys.items };
+}
+
+/// Where the first key stands whose endpoint is meant.
+fn place_of(keys: &[Key], whom: Whom) -> Option<usize>
+    ensures { result ≡ position (is_key_meant whom) keys.now }
+{
+    keys.iter().position(|key| key.is_meant(whom))
+}
+
+/// Whether the endpoint of a key is meant.
+fn any_meant(keys: &[Key], whom: Whom) -> bool
+    ensures { result ≡ list_any (is_key_meant whom) keys.now }
+{
+    keys.iter().any(|key| key.is_meant(whom))
+}
+
+/// Whether all are apart from the endpoint.
+fn all_apart(keys: &[Key], s: &EndpointSpec) -> bool
+    ensures { result ≡ list_all (is_key_apart s.now) keys.now }
+{
+    keys.iter().all(|key| key.is_apart(s))
+}
+
+/// Makes the change at each endpoint that is meant.
+fn change_each(endpoints: &mut Vec<Endpoint>, keys: &mut Vec<Key>, whom: Whom, change: Change)
+    requires kept { AreKept endpoints.old.items keys.old.items }
+    ensures list { endpoints.new.items ≡ changed (is_meant whom) (after change) endpoints.old.items }
+    ensures kept { AreKept endpoints.new.items keys.new.items }
+    ensures room { vec_capacity endpoints.new ≡ vec_capacity endpoints.old }
+    ensures key_room { vec_capacity keys.new ≡ vec_capacity keys.old }
+{
+    for i in 0..keys.len() {
+        if keys[i].is_meant(whom) {
+            let endpoint = &mut endpoints[i];
+            endpoint.apply(change);
+            keys[i] = Key::of(endpoint);
+        }
+    }
+}
+
+/// The earlier of two pending vectors: the one of the lower device.
+fn earlier(one: Option<(u32, u8)>, other: Option<(u32, u8)>) -> Option<(u32, u8)>
+    ensures { result ≡ earlier one other }
+{
+    match (one, other) {
+        (None, other) => other,
+        (one, None) => one,
+        (Some(a), Some(b)) => { if b.0 < a.0 { Some(b) } else { Some(a) } }
+    }
+}
+
+/// Makes room for one more, where there is none.
+fn make_room<T>(list: &mut Vec<T>) -> Result<(), NoMemory>
+    ensures items { list.new.items ≡ list.old.items }
+    ensures len { vec_len list.new ≡ vec_len list.old }
+    ensures ok { OnOk result (vec_len list.new < vec_capacity list.new) }
+    ensures spare { vec_len list.old < vec_capacity list.old → IsOk result }
+    ensures capacity { vec_len list.old < vec_capacity list.old → vec_capacity list.new ≡ vec_capacity list.old }
+{
+    if list.len() < list.capacity() {
+        return Ok(());
+    }
+    list.reserve(1)?;
+    Ok(())
+}
+
+/// Drops the endpoint of the device.
+fn drop_endpoint(endpoints: &mut Vec<Endpoint>, cell: u32, device: u32)
+    ensures list { endpoints.new.items ≡ filter (λ (e : Endpoint). not (is_device cell device e.spec)) endpoints.old.items }
+    ensures len { vec_len endpoints.new ≤ vec_len endpoints.old }
+    ensures capacity { vec_capacity endpoints.new ≡ vec_capacity endpoints.old }
+{
+    endpoints.retain(|e| !(e.spec.cell == cell && e.spec.device == device));
+}
+
+/// Drops the key of the device.
+fn drop_key(keys: &mut Vec<Key>, whom: Whom)
+    ensures list { keys.new.items ≡ filter (λ (key : Key). not (is_key_meant whom key)) keys.old.items }
+    ensures len { vec_len keys.new ≤ vec_len keys.old }
+    ensures capacity { vec_capacity keys.new ≡ vec_capacity keys.old }
+{
+    keys.retain(|key| !key.is_meant(whom));
+}
+
+/// Whether the register is the doorbell.
+fn is_doorbell(bar: u8, at: u32) -> bool
+    ensures { result ≡ ((bar == 0) && (at == 0x0c)) }
+{
+    bar == 0 && at == 0x0c
+}
+
+/// Whether the register is the state.
+fn is_state(bar: u8, at: u32) -> bool
+    ensures { result ≡ ((bar == 0) && (at == 0x10)) }
+{
+    bar == 0 && at == 0x10
+}
+
+/// The cell's pending vector of the lowest device, by the keys.
+fn first_pending(keys: &[Key], cell: u32) -> Option<(u32, u8)>
+    ensures { result ≡ fold (λ best key. earlier best (pending_by cell key)) None keys.now }
+{
+    keys.iter()
+        .fold(None, |best, key| earlier(best, key.pending_for(cell)))
+}
+
+impl Endpoints {
+    ghost use Rattle.std.specs.Borrow.{sem};
+    ghost use Rattle.jh_ivshmem.specs.Lending.{LendsSpace};
+
+    /// No endpoint, which takes no memory yet.
+    pub fn new(alloc: Global) -> Endpoints
+        ensures { result.list ≡ [] }
+    {
+        Endpoints {
+            endpoints: Vec::new(alloc),
+            keys: Vec::new(alloc),
+        }
+    }
+
+    /// Makes room for so many endpoints more. No endpoint changes.
+    pub fn reserve(&mut self, more: usize) -> Result<(), NoMemory>
+        ensures list { self.new.list ≡ self.old.list }
+        ensures ok { OnOk result (more ≤ self.new.spare) }
+        ensures spare { self.old.spare ≤ self.new.spare }
+    {
+        self.endpoints.reserve(more)?;
+        self.keys.reserve(more)?;
+        Ok(())
+    }
+
+    /// Where the endpoint of the device stands.
+    fn place(&self, cell: u32, device: u32) -> usize
+        requires there { IsSome (endpoint_at cell device self.now.list) }
+        ensures value { slice_get self.now.list result ≡ endpoint_at cell device self.now.list }
+        ensures bound { result < length self.now.list }
+    {
+        match place_of(&self.keys, Whom::Device { cell, device }) {
+            Some(i) => i,
+            None => unreachable!(),
+        }
+    }
+
+    /// Whether the device has an endpoint.
+    pub fn has(&self, cell: u32, device: u32) -> bool
+        ensures { result ≡ is_some (endpoint_at cell device self.now.list) }
+    {
+        any_meant(&self.keys, Whom::Device { cell, device })
+    }
+
+    /// The endpoint of the device.
+    fn named(&self, cell: u32, device: u32) -> &Endpoint
+        requires there { IsSome (endpoint_at cell device self.now.list) }
+        ensures value { endpoint_at cell device self.now.list ≡ Some result.now }
+        ensures sound { IsSound result.now }
+    {
+        &self.endpoints[self.place(cell, device)]
+    }
+
+    /// Makes the change at each endpoint that is meant.
+    fn change(&mut self, whom: Whom, change: Change)
+        ensures list { self.new.list ≡ changed (is_meant whom) (after change) self.old.list }
+        ensures spare { self.new.spare ≡ self.old.spare }
+    {
+        change_each(&mut self.endpoints, &mut self.keys, whom, change);
+    }
+
+    /// Whether an endpoint may join: neither its device nor its number of the link is taken.
+    pub fn is_free(&self, s: &EndpointSpec) -> bool
+        ensures { IsTrue result ↔ All (λ e. AreApart e.spec s.now) self.now.list }
+    {
+        all_apart(&self.keys, s)
+    }
+
+    /// An endpoint joins its link, as after a reset, and its word of the state table becomes 0. With a
+    /// positive spare it needs no memory.
+    pub fn join(&mut self, s: EndpointSpec) -> Result<Slot, NoMemory>
+        requires within { IsWithin s }
+        requires new { All (λ e. AreApart e.spec s) self.old.list }
+        ensures ok { OnOk result (self.new.list ≡ self.old.list ++ fresh s ∷ []) }
+        ensures slot { IfOk result (λ slot. slot ≡ slot_of s 0) }
+        ensures err { OnErr result (self.new.list ≡ self.old.list) }
+        ensures succeeds { 0 < self.old.spare → IsOk result }
+        ensures spare { 0 < self.old.spare → self.new.spare + 1 ≡ self.old.spare }
+    {
+        let slot = s.slot(0);
+        let endpoint = Endpoint::new(s);
+        let key = Key::of(&endpoint);
+        make_room(&mut self.endpoints)?;
+        make_room(&mut self.keys)?;
+        self.endpoints.push_reserved(endpoint);
+        self.keys.push_reserved(key);
+        Ok(slot)
+    }
+
+    /// The endpoint leaves its link. The others learn of it where its state wasn't 0, and its word of the
+    /// state table becomes 0 in any case.
+    pub fn leave(&mut self, cell: u32, device: u32) -> Slot
+        requires there { IsSome (endpoint_at cell device self.old.list) }
+        ensures list { ForEndpoint cell device self.old.list (λ e. self.new.list ≡ left_by e self.old.list) }
+        ensures slot { ForEndpoint cell device self.old.list (λ e. result ≡ slot_of e.spec 0) }
+        ensures spare { self.old.spare ≤ self.new.spare }
+    {
+        let slot = self.tell(cell, device, 0);
+        drop_endpoint(&mut self.endpoints, cell, device);
+        drop_key(&mut self.keys, Whom::Device { cell, device });
+        slot
+    }
+
+    /// The others of its link learn that its state becomes the value, where it was another.
+    fn tell(&mut self, cell: u32, device: u32, value: u32) -> Slot
+        requires there { IsSome (endpoint_at cell device self.old.list) }
+        ensures list { ForEndpoint cell device self.old.list (λ e. self.new.list ≡ told_of e value self.old.list) }
+        ensures slot { ForEndpoint cell device self.old.list (λ e. result ≡ slot_of e.spec value) }
+        ensures spare { self.new.spare ≡ self.old.spare }
+    {
+        let named = self.named(cell, device);
+        let spec = named.spec;
+        if named.state != value {
+            let whom = Whom::Others {
+                bdf: spec.bdf,
+                id: spec.id,
+            };
+            self.change(whom, Change::Raise(0));
+        }
+        spec.slot(value)
+    }
+
+    /// The endpoint's registers are put as after a reset, its pending vectors are dropped, and its state
+    /// becomes 0: the others learn of it where it wasn't, and its word of the state table becomes 0 in
+    /// any case.
+    pub fn reset(&mut self, cell: u32, device: u32) -> Slot
+        requires there { IsSome (endpoint_at cell device self.old.list) }
+        ensures list { ForEndpoint cell device self.old.list (λ e. self.new.list ≡ reset_of e self.old.list) }
+        ensures slot { ForEndpoint cell device self.old.list (λ e. result ≡ slot_of e.spec 0) }
+        ensures spare { self.new.spare ≡ self.old.spare }
+    {
+        let slot = self.tell(cell, device, 0);
+        self.change(Whom::Device { cell, device }, Change::Reset);
+        slot
+    }
+
+    /// The configuration space of the endpoint.
+    pub fn config(&self, cell: u32, device: u32) -> &ConfigSpace
+        requires there { IsSome (endpoint_at cell device self.now.list) }
+        ensures { ForEndpoint cell device self.now.list (λ e. result.now ≡ e.space) }
+    {
+        &self.named(cell, device).space
+    }
+
+    /// The configuration space of the endpoint, to be written.
+    pub fn config_mut(&mut self, cell: u32, device: u32) -> &mut ConfigSpace
+        requires there { IsSome (endpoint_at cell device self.old.list) }
+        ensures value { ForEndpoint cell device self.old.list (λ e. result.now ≡ e.space) }
+        ensures* writes_back { sem 𝓛 (LendsSpace self.entry cell device result) }
+    {
+        let i = self.place(cell, device);
+        let endpoint = &mut self.endpoints[i];
+        &mut endpoint.space
+    }
+
+    /// What a register of the endpoint reads.
+    pub fn read(&self, cell: u32, device: u32, bar: u8, at: u32) -> u32
+        requires there { IsSome (endpoint_at cell device self.now.list) }
+        requires bar { bar < 2 }
+        requires aligned { at % 4 ≡ 0 }
+        requires within { at < (if bar == 0 then 4096 else 512) }
+        ensures { ForEndpoint cell device self.now.list (λ e. result ≡ register_of e bar at) }
+    {
+        self.named(cell, device).register(bar, at)
+    }
+
+    /// Writes a register of the endpoint. The write to the state table that comes with it is told exactly
+    /// where the state register gets another value.
+    pub fn write(&mut self, cell: u32, device: u32, bar: u8, at: u32, value: u32) -> Option<Slot>
+        requires there { IsSome (endpoint_at cell device self.old.list) }
+        requires bar { bar < 2 }
+        requires aligned { at % 4 ≡ 0 }
+        requires within { at < (if bar == 0 then 4096 else 512) }
+        ensures list { ForEndpoint cell device self.old.list (λ e. self.new.list ≡ written e bar at value self.old.list) }
+        ensures slot { ForEndpoint cell device self.old.list (λ e. result ≡ slot_written e bar at value) }
+        ensures spare { self.new.spare ≡ self.old.spare }
+    {
+        if is_doorbell(bar, at) {
+            self.ring(
+                cell,
+                device,
+                (value / 0x1_0000) as u16,
+                (value % 0x1_0000) as u16,
+            );
+            None
+        } else if is_state(bar, at) {
+            self.set_state(cell, device, value)
+        } else {
+            self.change(
+                Whom::Device { cell, device },
+                Change::Write { bar, at, value },
+            );
+            None
+        }
+    }
+
+    /// Rings the doorbell of the endpoint's link.
+    fn ring(&mut self, cell: u32, device: u32, target: u16, v: u16)
+        requires there { IsSome (endpoint_at cell device self.old.list) }
+        ensures list { ForEndpoint cell device self.old.list (λ e. self.new.list ≡ rung e.spec.bdf target v self.old.list) }
+        ensures spare { self.new.spare ≡ self.old.spare }
+    {
+        let bdf = self.named(cell, device).spec.bdf;
+        self.change(Whom::Peer { bdf, id: target }, Change::Raise(v));
+    }
+
+    /// Writes the state register of the endpoint.
+    fn set_state(&mut self, cell: u32, device: u32, value: u32) -> Option<Slot>
+        requires there { IsSome (endpoint_at cell device self.old.list) }
+        ensures list { ForEndpoint cell device self.old.list (λ e. self.new.list ≡ state_written e value self.old.list) }
+        ensures slot { ForEndpoint cell device self.old.list (λ e. result ≡ (if e.state == value then None else Some (slot_of e.spec value))) }
+        ensures spare { self.new.spare ≡ self.old.spare }
+    {
+        let had = self.named(cell, device).state;
+        let slot = self.tell(cell, device, value);
+        self.change(Whom::Device { cell, device }, Change::State(value));
+        if had == value { None } else { Some(slot) }
+    }
+
+    /// The cell's pending vector of the lowest device, then of the lowest number: the device and the
+    /// vector.
+    pub fn pending(&self, cell: u32) -> Option<(u32, u8)>
+        ensures { result ≡ pending_of cell self.now.list }
+    {
+        first_pending(&self.keys, cell)
+    }
+
+    /// The same, and the vector is no longer pending.
+    pub fn take(&mut self, cell: u32) -> Option<(u32, u8)>
+        ensures value { result ≡ pending_of cell self.old.list }
+        ensures list { self.new.list ≡ taken_of cell (pending_of cell self.old.list) self.old.list }
+        ensures spare { self.new.spare ≡ self.old.spare }
+    {
+        let next = self.pending(cell);
+        if let Some((device, v)) = next {
+            self.change(Whom::Device { cell, device }, Change::Take(v));
+        }
+        next
+    }
+}

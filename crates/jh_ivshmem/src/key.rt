@@ -1,0 +1,63 @@
+//! What a scan needs of an endpoint.
+ghost use Rattle.std.specs.Prelude.{◌≡◌};
+
+use crate::change::Whom;
+use crate::endpoint::Endpoint;
+use crate::spec::EndpointSpec;
+
+/// The names of an endpoint and its lowest pending vector. The keys stand beside the endpoints, each of
+/// which has a few hundred bytes, so that looking for one touches little memory.
+#[derive(Clone, Copy)]
+pub(crate) struct Key {
+    pub(crate) cell: u32,
+    pub(crate) device: u32,
+    pub(crate) bdf: u16,
+    pub(crate) id: u8,
+    pub(crate) pending: Option<u8>,
+}
+
+impl Key {
+    ghost use Rattle.jh_ivshmem.specs.Keys.{key_of, IsSound, is_key_apart, is_key_meant, pending_by};
+
+    pub(crate) fn of(endpoint: &Endpoint) -> Key
+        requires sound { IsSound endpoint.now }
+        ensures { result ≡ key_of endpoint.now }
+    {
+        let spec = &endpoint.spec;
+        Key {
+            cell: spec.cell,
+            device: spec.device,
+            bdf: spec.bdf,
+            id: spec.id,
+            pending: endpoint.pending(),
+        }
+    }
+
+    /// Whether its endpoint is meant.
+    pub(crate) fn is_meant(&self, whom: Whom) -> bool
+        ensures { result ≡ is_key_meant whom self.now }
+    {
+        match whom {
+            Whom::Device { cell, device } => self.cell == cell && self.device == device,
+            Whom::Peer { bdf, id } => self.bdf == bdf && u16::from(self.id) == id,
+            Whom::Others { bdf, id } => self.bdf == bdf && self.id != id,
+        }
+    }
+
+    /// The device and its lowest pending vector, where it is the cell's.
+    pub(crate) fn pending_for(&self, cell: u32) -> Option<(u32, u8)>
+        ensures { result ≡ pending_by cell self.now }
+    {
+        match self.pending {
+            Some(v) if self.cell == cell => Some((self.device, v)),
+            _ => None,
+        }
+    }
+
+    /// Whether its endpoint is neither the same device of the same cell nor the same number of one link.
+    pub(crate) fn is_apart(&self, s: &EndpointSpec) -> bool
+        ensures { result ≡ is_key_apart s.now self.now }
+    {
+        !(self.cell == s.cell && self.device == s.device) && !(self.bdf == s.bdf && self.id == s.id)
+    }
+}

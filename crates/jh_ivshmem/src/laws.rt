@@ -1,0 +1,72 @@
+//! What holds of endpoints whatever their guests do, in the words of the subject. Each function does nothing;
+//! its contract is the law.
+ghost use Rattle.std.specs.Prelude.{◌≡◌, ◌≢◌, ℕ, ◌<◌, ◌≤◌, true, false, not, List, length, slice_index_or};
+ghost use Rattle.jh_vpci.specs.Space.{has_vectors};
+ghost use Rattle.jh_ivshmem.specs.Specs.{count_of, is_device, is_peer};
+ghost use Rattle.jh_ivshmem.specs.Endpoint.{is_open, raised, vector_at};
+ghost use Rattle.jh_ivshmem.specs.Links.{ForEndpoint, rung, written, reset_of};
+
+use crate::endpoint::Endpoint;
+use crate::endpoints::Endpoints;
+
+/// A vector that isn't open is never raised, and nothing is remembered of the try: where interrupt control is
+/// off, the endpoint lacks the vector, or, with MSI-X, the function isn't bus master, MSI-X is off, the function
+/// is masked, or the vector is.
+pub fn a_raise_of_a_closed_vector_is_forgotten()
+    ensures control { (v : ℕ) (e : Endpoint) → e.control ≡ false → raised v e ≡ e }
+    ensures count { (v : ℕ) (e : Endpoint) → count_of e.spec ≤ v → raised v e ≡ e }
+    ensures bus_master { (v : ℕ) (e : Endpoint) → has_vectors e.space.spec ≡ true → e.space.bus_master ≡ false → raised v e ≡ e }
+    ensures enabled { (v : ℕ) (e : Endpoint) → has_vectors e.space.spec ≡ true → e.space.enabled ≡ false → raised v e ≡ e }
+    ensures function_mask { (v : ℕ) (e : Endpoint) → has_vectors e.space.spec ≡ true → e.space.masked ≡ true → raised v e ≡ e }
+    ensures mask { (v : ℕ) (e : Endpoint) → has_vectors e.spec.function ≡ true → (vector_at e v).masked ≡ true → raised v e ≡ e }
+{}
+
+/// Raising an open vector makes it pending and no other, and one-shot turns interrupt control off each time, also
+/// where the vector was pending already.
+pub fn a_raise_of_an_open_vector_is_pending()
+    ensures pending { (v : ℕ) (e : Endpoint) → v < length e.vectors → is_open e v ≡ true → (vector_at (raised v e) v).pending ≡ true }
+    ensures one_shot { (v : ℕ) (e : Endpoint) → is_open e v ≡ true → (raised v e).control ≡ not e.space.one_shot }
+    ensures others { (v u : ℕ) (e : Endpoint) → u ≢ v → vector_at (raised v e) u ≡ vector_at e u }
+{}
+
+/// A doorbell reaches the one endpoint of the link that has the target's number, the ringing one too, and every
+/// other endpoint stays as it was; no two endpoints have that number.
+pub fn a_doorbell_reaches_one_endpoint(_links: &Endpoints)
+    ensures target { (bdf target v k : ℕ) (d : Endpoint) → k < length _links.now.list
+        → is_peer bdf target (slice_index_or _links.now.list k d).spec ≡ true
+        → slice_index_or (rung bdf target v _links.now.list) k d ≡ raised v (slice_index_or _links.now.list k d) }
+    ensures others { (bdf target v k : ℕ) (d : Endpoint) → k < length _links.now.list
+        → is_peer bdf target (slice_index_or _links.now.list k d).spec ≡ false
+        → slice_index_or (rung bdf target v _links.now.list) k d ≡ slice_index_or _links.now.list k d }
+    ensures one { (bdf target i k : ℕ) (d : Endpoint) → i < length _links.now.list → k < length _links.now.list → k ≢ i
+        → is_peer bdf target (slice_index_or _links.now.list i d).spec ≡ true
+        → is_peer bdf target (slice_index_or _links.now.list k d).spec ≡ false }
+{
+    let _ = &_links.keys;
+}
+
+/// A write of the value that the state register has changes nothing, at the endpoint and at all others.
+pub fn the_same_state_changes_nothing(_links: &Endpoints, _cell: u32, _device: u32)
+    ensures { ForEndpoint _cell _device _links.now.list (λ e. written e 0 0x10 e.state _links.now.list ≡ _links.now.list) }
+{
+    let _ = &_links.keys;
+}
+
+/// A pending vector stays pending over every write of any endpoint, also where the write masks it: it goes by
+/// being taken, by a reset and by leaving alone.
+pub fn a_pending_vector_stays_over_writes()
+    ensures { (e : Endpoint) (bar at value : ℕ) (list : List Endpoint) (k v : ℕ) (d : Endpoint) → k < length list
+        → (vector_at (slice_index_or list k d) v).pending ≡ true
+        → (vector_at (slice_index_or (written e bar at value list) k d) v).pending ≡ true }
+{}
+
+/// What an endpoint does is never seen on another link: an endpoint of another bdf that isn't the writing one
+/// stays as it was.
+pub fn links_never_see_each_other()
+    ensures written { (e : Endpoint) (bar at value : ℕ) (list : List Endpoint) (k : ℕ) (d : Endpoint) → k < length list
+        → (slice_index_or list k d).spec.bdf ≢ e.spec.bdf → is_device e.spec.cell e.spec.device (slice_index_or list k d).spec ≡ false
+        → slice_index_or (written e bar at value list) k d ≡ slice_index_or list k d }
+    ensures reset { (e : Endpoint) (list : List Endpoint) (k : ℕ) (d : Endpoint) → k < length list
+        → (slice_index_or list k d).spec.bdf ≢ e.spec.bdf → is_device e.spec.cell e.spec.device (slice_index_or list k d).spec ≡ false
+        → slice_index_or (reset_of e list) k d ≡ slice_index_or list k d }
+{}

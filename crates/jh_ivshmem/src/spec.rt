@@ -1,0 +1,51 @@
+//! What is fixed of an endpoint, and the writes to the state table.
+ghost use Rattle.std.specs.Prelude.{◌≡◌, ◌+◌, ◌^◌, ◌<◌, ◌≤◌};
+
+use jh_vpci::FunctionSpec;
+
+/// An endpoint that joins: the device of its cell, the link by its bdf, how many peers the link may have,
+/// its number among them, and the physical place of the state table.
+#[derive(Clone, Copy, PartialEq, Eq, Debug)]
+pub struct EndpointSpec {
+    pub cell: u32,
+    pub device: u32,
+    pub bdf: u16,
+    pub peers: u8,
+    pub id: u8,
+    pub table: u64,
+    pub function: FunctionSpec,
+}
+
+/// A write of a word of 32 bits to the state table, at its physical place.
+#[derive(Clone, Copy, PartialEq, Eq, Debug)]
+pub struct Slot {
+    pub place: u64,
+    pub value: u32,
+}
+
+impl EndpointSpec {
+    ghost use Rattle.jh_ivshmem.specs.Specs.{count_of, slot_of};
+
+    /// How many vectors it has: those of MSI-X, or a single one without.
+    pub fn count(&self) -> u8
+        ensures { result ≡ count_of self.now }
+    {
+        if self.function.has_vectors() {
+            self.function.vectors
+        } else {
+            1
+        }
+    }
+
+    /// Its word of the state table with the value.
+    pub(crate) fn slot(&self, value: u32) -> Slot
+        requires table { self.now.table + 64 ≤ 2 ^ 39 }
+        requires id { self.now.id < 16 }
+        ensures { result ≡ slot_of self.now value }
+    {
+        Slot {
+            place: self.table + 4 * u64::from(self.id),
+            value,
+        }
+    }
+}

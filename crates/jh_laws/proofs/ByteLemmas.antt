@@ -1,0 +1,204 @@
+-- Bytes, by the entries that write them.
+use Rattle.std.proofs.Common.{inl, inr, ◌≡◌, ◌≢◌, ◌≤◌, leb, ltb, ℕ, zero, suc, ◌+◌, ◌-◌, ◌/◌, ◌%◌, ◌^◌, ◌<◌, List, [], ◌∷◌, ◌++◌, length, get_or, Bool, true, false, cond, refl, sym, ap, subst, ◌∙◌, arith, append_assoc}
+use Rattle.std.specs.Prelude.{IsTrue, slice_index, AllPairs, Contains}
+use Rattle.std.specs.List.{fold, AllByRecursion}
+use Rattle.std.proofs.lemmas.Bool.{false≢true, cases_Bool, and_from, and_parts, le-leb, lt-ltb, leb-true, ltb-true}
+use Rattle.std.proofs.lemmas.List.{get_or_default}
+use Rattle.jh_num.proofs.MemoryLemmas.{listed}
+use Rattle.jh_script.specs.declared.image.Image.{Image}
+use Rattle.jh_script.specs.declared.image.Preload.{Preload}
+use Rattle.jh_history.specs.declared.place.Place.{Place}
+use Rattle.jh_history.specs.declared.place.Place.TheVariants.{Physical}
+use Rattle.jh_history.specs.declared.access.Access.TheVariants.{Write as ToWrite}
+use Rattle.jh_history.specs.declared.access.Reach.{Reach}
+use Rattle.jh_history.specs.declared.access.Reach.TheVariants.{Memory}
+use Rattle.jh_history.specs.declared.entry.Entry.{Entry}
+use Rattle.jh_history.specs.declared.entry.Act.{Act}
+use Rattle.jh_history.specs.declared.entry.Act.TheVariants.{Write}
+use Rattle.jh_history.specs.Places.{over, number_of}
+use Rattle.jh_history.specs.Access.{write_of}
+use Rattle.jh_history.specs.Facts.{Facts}
+use Rattle.jh_history.specs.Grants.{reach}
+use Rattle.jh_history.specs.Bytes.{byte_after, preloaded}
+use Rattle.jh_history.specs.History.{after, facts}
+use Rattle.jh_history.specs.Due.{IsLegal, IsLegalFrom}
+use Rattle.jh_history.specs.Admitted.{IsAdmitted, has_byte_at, IsOtherPreload}
+use Rattle.jh_history.proofs.PlaceLemmas.{written-over}
+use Rattle.jh_history.proofs.FactsLemmas.{byte-after, facts-push, facts-nil}
+use Rattle.jh_history.proofs.LegalLemmas.{IsLegal-begin, IsLegal-rest, facts-append}
+use Rattle.jh_laws.specs.Grants.{IsGranted, AreGranted}
+use Rattle.jh_laws.specs.Outcomes.{is_violation}
+use Rattle.jh_laws.specs.Writes.{Writes, WritesNot}
+use Rattle.jh_laws.proofs.ListedLemmas.{over-other, over-at}
+use Rattle.jh_laws.proofs.GrantLemmas.{granted-same, granted_at, reach-root, reach_by-listed, reached-of}
+use Rattle.jh_laws.proofs.MadeLemmas.{IsAccess, IsNext, AllRoots, made-access, next-made, roots_after, roots-at, made-at}
+use Rattle.jh_laws.proofs.OutcomeLemmas.{some_width}
+
+-- the places of so many addresses
+abbrev own_places : ℕ → ℕ → Place
+own_places at k = Physical (at + k)
+
+-- a write that reaches writes the addresses' own places, in order
+written_places : (image : Image) (f : Facts) (at width value : ℕ) (place : Place) → IsAdmitted image → 0 < width → AreGranted image.system.root ToWrite at width
+    → write_of f.byte (reach image f image.system.root.id ToWrite at width) value place ≡ over (listed (own_places at) width) value place (f.byte place)
+written_places image f at width value place admitted some granted =
+    let reached : reach image f image.system.root.id ToWrite at width ≡ Memory (listed (own_places at) width)
+    = reach-root image f ToWrite at width ∙ reach_by-listed image ToWrite at width (own_places at) admitted some (granted_at image ToWrite at width admitted granted) in
+    ap (λ (r : Reach). write_of f.byte r value place) reached ∙ written-over f.byte (listed (own_places at) width) value place
+
+same_index : (at j k : ℕ) (place : Place) → place ≡ Physical (at + k) → place ≡ Physical (at + j) → j ≡ k
+same_index at j k place is_k is_j = let e : at + k ≡ at + j = ap number_of (sym is_k ∙ is_j) in omega arith
+
+byte_written : (image : Image) (f : Facts) (act : Act) (place : Place) (byte : ℕ) → IsAdmitted image → IsAccess image f image.system.root.id act → Writes image.system.root act place byte → byte_after image f image.system.root.id act place ≡ byte
+byte_written image f (Write width at value true) place byte admitted access writes =
+    let some : 0 < width = some_width width access.0 in
+    let granted : AreGranted image.system.root ToWrite at width = (reached-of image f ToWrite at width admitted some).0 (sym access.1) in
+    let k = writes.1.index in
+    let same : place ≡ Physical (at + k) = granted-same image ToWrite (at + k) place admitted writes.1.granted in
+    let within : k < width = writes.1.within in
+    written_places image f at width value place admitted some granted
+    ∙ over-at (own_places at) width value place (f.byte place) k within same (λ j lt h. same_index at j k place same h)
+    ∙ sym writes.1.is
+byte_written image f (Write width at value false) place byte admitted access writes = absurd (false≢true writes.0)
+byte_written image f _ place byte admitted access writes = absurd writes
+
+byte_kept : (image : Image) (f : Facts) (act : Act) (place : Place) → IsAdmitted image → IsAccess image f image.system.root.id act → ((byte : ℕ) → Writes image.system.root act place byte → ⊥) → byte_after image f image.system.root.id act place ≡ f.byte place
+byte_kept image f (Write width at value true) place admitted access none =
+    let some : 0 < width = some_width width access.0 in
+    let granted : AreGranted image.system.root ToWrite at width = (reached-of image f ToWrite at width admitted some).0 (sym access.1) in
+    let P : ℕ → Place → Type 0 = λ a p. IsGranted image.system.root ToWrite a p in
+    written_places image f at width value place admitted some granted
+    ∙ over-other (own_places at) width value place (f.byte place)
+    (λ k lt h. none (value / 256 ^ k % 256) (refl, record { index = k; within = lt; granted = subst (P (at + k)) (sym h) (granted_at image ToWrite at width admitted granted k lt); is = refl }))
+byte_kept image f (Write width at value false) place admitted access none = refl
+byte_kept image f _ place admitted access none = refl
+
+-- one entry
+after_at_root : (image : Image) (f : Facts) (entry : Entry) (place : Place) → AllRoots image f → IsNext image f entry → (after image f entry).byte place ≡ byte_after image f image.system.root.id entry.act place
+after_at_root image f entry place roots made =
+    ap (λ (byte : Place → ℕ). byte place) (byte-after image f entry)
+    ∙ ap (λ (cell : ℕ). byte_after image f cell entry.act place) (made.cell_is ∙ (roots entry.cpu).owner)
+
+after_written : (image : Image) (f : Facts) (entry : Entry) (place : Place) (byte : ℕ) → IsAdmitted image → AllRoots image f → IsNext image f entry → Writes image.system.root entry.act place byte → (after image f entry).byte place ≡ byte
+after_written image f entry place byte admitted roots made writes =
+    after_at_root image f entry place roots made ∙ byte_written image f entry.act place byte admitted (made-access image f entry.cpu entry made admitted).access writes
+
+after_kept : (image : Image) (f : Facts) (entry : Entry) (place : Place) → IsAdmitted image → AllRoots image f → IsNext image f entry → WritesNot image.system.root place entry → (after image f entry).byte place ≡ f.byte place
+after_kept image f entry place admitted roots made none =
+    after_at_root image f entry place roots made ∙ byte_kept image f entry.act place admitted (made-access image f entry.cpu entry made admitted).access none
+
+roots_before : (image : Image) (before rest : List Entry) → IsAdmitted image → IsLegal image (before ++ rest) → AllRoots image (facts image before)
+roots_before image before rest admitted legal = roots-at image before admitted (IsLegal-begin image before rest legal)
+
+pub byte-written : (image : Image) (before rest : List Entry) (entry : Entry) (place : Place) (byte : ℕ) → IsAdmitted image → IsLegal image (before ++ entry ∷ rest) → Writes image.system.root entry.act place byte
+    → (facts image (before ++ entry ∷ [])).byte place ≡ byte
+byte-written image before rest entry place byte admitted legal writes =
+    ap (λ (f : Facts). f.byte place) (facts-push image before entry)
+    ∙ after_written image (facts image before) entry place byte admitted (roots_before image before (entry ∷ rest) admitted legal) (made-at image before rest entry admitted legal) writes
+
+pub byte-kept : (image : Image) (before rest : List Entry) (entry : Entry) (place : Place) → IsAdmitted image → IsLegal image (before ++ entry ∷ rest) → WritesNot image.system.root place entry
+    → (facts image (before ++ entry ∷ [])).byte place ≡ (facts image before).byte place
+byte-kept image before rest entry place admitted legal none =
+    ap (λ (f : Facts). f.byte place) (facts-push image before entry)
+    ∙ after_kept image (facts image before) entry place admitted (roots_before image before (entry ∷ rest) admitted legal) (made-at image before rest entry admitted legal) none
+
+-- a violation writes nothing
+violation_writes : (image : Image) (act : Act) (place : Place) (byte : ℕ) → is_violation act ≡ true → Writes image.system.root act place byte → ⊥
+violation_writes image (Write width at value true) place byte h writes = false≢true h
+violation_writes image (Write width at value false) place byte h writes = false≢true writes.0
+violation_writes image _ place byte h writes = writes
+
+pub byte-violation : (image : Image) (before rest : List Entry) (entry : Entry) (place : Place) → IsAdmitted image → IsLegal image (before ++ entry ∷ rest) → is_violation entry.act ≡ true
+    → (facts image (before ++ entry ∷ [])).byte place ≡ (facts image before).byte place
+byte-violation image before rest entry place admitted legal h = byte-kept image before rest entry place admitted legal (λ byte. violation_writes image entry.act place byte h)
+
+-- entries that don't write the place
+kept_from : (image : Image) (f : Facts) (entries : List Entry) (place : Place) → IsAdmitted image → AllRoots image f → IsLegalFrom image f entries → AllByRecursion (WritesNot image.system.root place) entries
+    → (fold (after image) f entries).byte place ≡ f.byte place
+kept_from image f [] place admitted roots legal none = refl
+kept_from image f (entry ∷ entries) place admitted roots legal none =
+    let made : IsNext image f entry = next-made image f entry entries roots legal in
+    kept_from image (after image f entry) entries place admitted (roots_after image f entry admitted made roots) legal.1 none.1 ∙ after_kept image f entry place admitted roots made none.0
+
+pub byte-rest : (image : Image) (before rest : List Entry) (place : Place) → IsAdmitted image → IsLegal image (before ++ rest) → AllByRecursion (WritesNot image.system.root place) rest
+    → (facts image (before ++ rest)).byte place ≡ (facts image before).byte place
+byte-rest image before rest place admitted legal none =
+    ap (λ (f : Facts). f.byte place) (facts-append image before rest)
+    ∙ kept_from image (facts image before) rest place admitted (roots_before image before rest admitted legal) (IsLegal-rest image before rest legal) none
+
+-- the last entry that wrote the place gave it its byte
+pub byte-last : (image : Image) (before rest : List Entry) (entry : Entry) (place : Place) (byte : ℕ) → IsAdmitted image → IsLegal image (before ++ entry ∷ rest) → Writes image.system.root entry.act place byte → AllByRecursion (WritesNot image.system.root place) rest
+    → (facts image (before ++ entry ∷ rest)).byte place ≡ byte
+byte-last image before rest entry place byte admitted legal writes none =
+    let split : (before ++ entry ∷ []) ++ rest ≡ before ++ entry ∷ rest = append_assoc before (entry ∷ []) rest in
+    let P : List Entry → Type 0 = IsLegal image in
+    ap (λ (es : List Entry). (facts image es).byte place) (sym split)
+    ∙ byte-rest image (before ++ entry ∷ []) rest place admitted (subst P (sym split) legal) none
+    ∙ byte-written image before rest entry place byte admitted legal writes
+
+-- preloads
+abbrev NoneAt : List Preload → ℕ → Type 0
+NoneAt ps place = (k : ℕ) (d : Preload) → k < length ps → has_byte_at (get_or ps k d) place ≡ false
+
+none_later : (p : Preload) (ps : List Preload) (place : ℕ) → NoneAt (p ∷ ps) place → NoneAt ps place
+none_later p ps place none k d lt = none (suc k) d (omega arith)
+
+opened_none : (f : ℕ → ℕ) (ps : List Preload) (place : ℕ) → NoneAt ps place → fold preloaded f ps place ≡ f place
+opened_none f [] place none = refl
+opened_none f (p ∷ ps) place none =
+    opened_none (preloaded f p) ps place (none_later p ps place none)
+    ∙ ap (λ (b : Bool). cond b (slice_index p.bytes (place - p.at)) (f place)) (none 0 p (omega arith))
+
+not_both : (p q : Preload) (place : ℕ) → has_byte_at p place ≡ true → IsOtherPreload p q → has_byte_at q place ≡ false
+not_both p q place has other = elim (cases_Bool (has_byte_at q place)) [
+  | inl both ↦ absurd (other place has both)
+  | inr none ↦ none
+]
+
+apart_later : (p : Preload) (ps : List Preload) → AllPairs IsOtherPreload (p ∷ ps) → AllPairs IsOtherPreload ps
+apart_later p ps apart i j d lt within = apart (suc i) (suc j) d (omega arith) (omega arith)
+
+opened_put : (f : ℕ → ℕ) (ps : List Preload) (place i : ℕ) (d : Preload) → i < length ps → has_byte_at (get_or ps i d) place ≡ true → AllPairs IsOtherPreload ps
+    → fold preloaded f ps place ≡ slice_index (get_or ps i d).bytes (place - (get_or ps i d).at)
+opened_put f [] place i d lt has apart = absurd (omega arith)
+opened_put f (p ∷ ps) place zero d lt has apart =
+    opened_none (preloaded f p) ps place (λ k d' within. not_both p (get_or ps k d') place has (apart 0 (suc k) d' (omega arith) (omega arith)))
+    ∙ ap (λ (b : Bool). cond b (slice_index p.bytes (place - p.at)) (f place)) has
+opened_put f (p ∷ ps) place (suc i) d lt has apart = opened_put (preloaded f p) ps place i d (omega arith) has (apart_later p ps apart)
+
+opening_is : (image : Image) (place : ℕ) → (facts image []).byte (Physical place) ≡ fold preloaded (λ _. 0) image.preloads place
+opening_is image place = ap (λ (f : Facts). f.byte (Physical place)) (facts-nil image)
+
+-- what a preload puts stands there at opening
+opening-put : (image : Image) (place : ℕ) (p : Preload) → IsAdmitted image → Contains image.preloads p → IsTrue (has_byte_at p place) → (facts image []).byte (Physical place) ≡ slice_index p.bytes (place - p.at)
+opening-put image place p admitted held has =
+    let same : get_or image.preloads held.0 p ≡ p = held.2 in
+    opening_is image place
+    ∙ opened_put (λ _. 0) image.preloads place held.0 p held.1 (ap (λ (q : Preload). has_byte_at q place) same ∙ has) admitted.apart
+    ∙ ap (λ (q : Preload). slice_index q.bytes (place - q.at)) same
+
+-- and 0 elsewhere
+opening-none : (image : Image) (place : ℕ) → ((p : Preload) → Contains image.preloads p → IsTrue (has_byte_at p place) → ⊥) → (facts image []).byte (Physical place) ≡ 0
+opening-none image place none =
+    let each : NoneAt image.preloads place = λ k d lt. elim (cases_Bool (has_byte_at (get_or image.preloads k d) place)) [
+      | inl has ↦ absurd (none (get_or image.preloads k d) (k, lt, get_or_default image.preloads k (get_or image.preloads k d) d lt) has)
+      | inr absent ↦ absent
+    ] in
+    opening_is image place ∙ opened_none (λ _. 0) image.preloads place each
+
+-- both by the place's number in the preload
+has_byte-there : (p : Preload) (k : ℕ) → k < length p.bytes → has_byte_at p (p.at + k) ≡ true
+has_byte-there p k lt = and_from (leb p.at (p.at + k)) (ltb (p.at + k) (p.at + length p.bytes)) (le-leb p.at (p.at + k) (omega arith)) (lt-ltb (p.at + k) (p.at + length p.bytes) (omega arith))
+
+pub opening-byte : (image : Image) (p : Preload) (k : ℕ) → IsAdmitted image → Contains image.preloads p → k < length p.bytes → (facts image []).byte (Physical (p.at + k)) ≡ slice_index p.bytes k
+opening-byte image p k admitted held lt =
+    let same : (p.at + k) - p.at ≡ k = omega arith in
+    opening-put image (p.at + k) p admitted held (has_byte-there p k lt) ∙ ap (slice_index p.bytes) same
+
+pub opening-zero : (image : Image) (place : ℕ) → ((p : Preload) (k : ℕ) → Contains image.preloads p → k < length p.bytes → place ≢ p.at + k) → (facts image []).byte (Physical place) ≡ 0
+opening-zero image place none =
+    opening-none image place (λ p held has.
+    let parts = and_parts (leb p.at place) (ltb place (p.at + length p.bytes)) has in
+    let first : p.at ≤ place = leb-true p.at place parts.0 in
+    let last : place < p.at + length p.bytes = ltb-true place (p.at + length p.bytes) parts.1 in
+    none p (place - p.at) held (omega arith) (omega arith))

@@ -1,0 +1,178 @@
+-- What accesses by root reach, by what it is granted.
+use Rattle.std.proofs.Common.{inl, inr, ◌≡◌, ℕ, ◌+◌, ◌-◌, ◌<◌, ◌≤◌, List, get_or, map, Bool, true, cond, eqb, Option, Some, None, refl, sym, ap, subst, ◌∙◌, arith}
+use Rattle.std.specs.Prelude.{find, option_map}
+use Rattle.std.proofs.lemmas.Bool.{false≢true, cases_lt}
+use Rattle.std.proofs.lemmas.Option.{none-some, same_Some}
+use Rattle.jh_num.specs.declared.address.TheConstants.{ADDRESS_END}
+use Rattle.jh_num.specs.Memory.{spelled}
+use Rattle.jh_num.proofs.Booleans.{same_number}
+use Rattle.jh_num.proofs.Lists.{IsFound-from_find, find-only}
+use Rattle.jh_num.proofs.MemoryLemmas.{listed, spelled-listed}
+use Rattle.jh_cellcfg.specs.declared.region.Region.{Region}
+use Rattle.jh_cellcfg.specs.Regions.{has_flags, has_address, virt_end}
+use Rattle.jh_script.specs.declared.image.Image.{Image}
+use Rattle.jh_history.specs.declared.place.Place.{Place}
+use Rattle.jh_history.specs.declared.place.Place.TheVariants.{Physical, Page}
+use Rattle.jh_history.specs.declared.access.Access.{Access}
+use Rattle.jh_history.specs.declared.access.Access.TheVariants.{Read, Write, Fetch}
+use Rattle.jh_history.specs.declared.access.Reach.{Reach}
+use Rattle.jh_history.specs.declared.access.Reach.TheVariants.{Memory, Nothing}
+use Rattle.jh_history.specs.declared.entry.Entry.{Entry}
+use Rattle.jh_history.specs.Access.{gives, right_of, region_of, place_in_cell, place_of, places_from, reach_by, memory_or_nothing, read_of, is_reached}
+use Rattle.jh_history.specs.Facts.{Facts}
+use Rattle.jh_history.specs.Lives.{regions_in}
+use Rattle.jh_history.specs.Grants.{granted, reach}
+use Rattle.jh_history.specs.History.{facts}
+use Rattle.jh_history.specs.Admitted.{IsAdmitted}
+use Rattle.jh_history.proofs.AccessLemmas.{reach_by-within, reach_by-beyond}
+use Rattle.jh_laws.specs.Journals.{byte_at}
+use Rattle.jh_laws.specs.Grants.{may, IsGranted, AreGranted}
+use Rattle.jh_laws.specs.Outcomes.{IsGot}
+use Rattle.jh_laws.proofs.RootLemmas.{regions, has_address-first, has_address-last, has_address-from, gives-address, gives-pages, gives-right, gives-from, root_region, only_one}
+use Rattle.jh_laws.proofs.ListedLemmas.{places_from-listed, places_from-each, places_from-some}
+
+-- the right that an access needs
+may-right : (access : Access) (r : Region) → may access r ≡ has_flags (right_of access) r
+may-right Read r = refl
+may-right Write r = refl
+may-right Fetch r = refl
+
+-- the place that root's regions give an address
+abbrev pub roots_place : Image → Access → ℕ → Option Place
+roots_place image = place_of image.system.root.id (regions image)
+
+-- what is granted is the place that the regions give
+pub place_of-granted : (image : Image) (access : Access) (at : ℕ) (place : Place) → IsAdmitted image → IsGranted image.system.root access at place → roots_place image access at ≡ Some place
+unfolding place_of
+place_of-granted image access at place admitted granted =
+    let r = granted.region in
+    let i = granted.held.0 in
+    let same : get_or (regions image) i r ≡ r = granted.held.2 in
+    let has : has_address r at ≡ true = has_address-from r at granted.first granted.last in
+    let there : gives access at (get_or (regions image) i r) ≡ true = ap (gives access at) same ∙ gives-from access at r has granted.pages (sym (may-right access r) ∙ granted.right) in
+    let found : find (gives access at) (regions image) ≡ Some r = find-only (gives access at) (regions image) i r granted.held.1 there (only_one image access at admitted) ∙ ap Some same in
+    ap (option_map (λ (s : Region). place_in_cell image.system.root.id s at)) found ∙ ap Some (sym granted.given)
+
+granted_by : (image : Image) (access : Access) (at : ℕ) (place : Place) (o : Option Region) → IsAdmitted image → region_of (regions image) access at ≡ o
+    → option_map (λ (s : Region). place_in_cell image.system.root.id s at) o ≡ Some place → IsGranted image.system.root access at place
+granted_by image access at place None admitted is e = absurd (none-some place e)
+granted_by image access at place (Some r) admitted is e =
+    let found = IsFound-from_find (gives access at) (regions image) r is in
+    let has : has_address r at ≡ true = gives-address access at r found.passes in
+    let within : virt_end r ≤ ADDRESS_END = (root_region image r at admitted found.held has).within in
+    let last : at < virt_end r = has_address-last r at has in
+    record {
+      below = omega arith;
+      region = r;
+      held = found.held;
+      pages = gives-pages access at r found.passes;
+      right = may-right access r ∙ gives-right access at r found.passes;
+      first = has_address-first r at has;
+      last = last;
+      given = sym (same_Some (place_in_cell image.system.root.id r at) place e);
+    }
+
+-- and the other way round
+pub granted-place_of : (image : Image) (access : Access) (at : ℕ) (place : Place) → IsAdmitted image → roots_place image access at ≡ Some place → IsGranted image.system.root access at place
+unfolding place_of
+granted-place_of image access at place admitted e = granted_by image access at place (region_of (regions image) access at) admitted refl e
+
+-- root's places are its addresses
+pub granted-same : (image : Image) (access : Access) (at : ℕ) (place : Place) → IsAdmitted image → IsGranted image.system.root access at place → place ≡ Physical at
+granted-same image access at place admitted granted =
+    let r = granted.region in
+    let own = root_region image r at admitted granted.held (has_address-from r at granted.first granted.last) in
+    let first : r.virt_start ≤ at = granted.first in
+    let identity : r.phys_start ≡ r.virt_start = own.identity in
+    let same : r.phys_start + (at - r.virt_start) ≡ at = omega arith in
+    granted.given ∙ ap (λ (b : Bool). cond b (Page image.system.root.id (at - r.virt_start)) (Physical (r.phys_start + (at - r.virt_start)))) own.memory ∙ ap Physical same
+
+-- so the bytes of a granted access are granted the addresses themselves
+pub granted_at : (image : Image) (access : Access) (at width : ℕ) → IsAdmitted image → AreGranted image.system.root access at width → (k : ℕ) → k < width → IsGranted image.system.root access (at + k) (Physical (at + k))
+granted_at image access at width admitted granted k lt =
+    let found = granted k lt in
+    let P : Place → Type 0 = IsGranted image.system.root access (at + k) in
+    subst P (granted-same image access (at + k) found.0 admitted found.1) found.1
+
+-- the regions of root are those that its accesses go by
+root_regions : (image : Image) → regions_in image image.system.root.id ≡ regions image
+root_regions image = let e : eqb image.system.root.id image.system.root.id ≡ true = same_number image.system.root.id in rw e refl
+
+pub reach-root : (image : Image) (f : Facts) (access : Access) (at width : ℕ) → reach image f image.system.root.id access at width ≡ reach_by (roots_place image access) at width
+reach-root image f access at width = ap (λ (rs : List Region). reach_by (place_of image.system.root.id rs access) at width) (root_regions image)
+
+-- where each byte is granted the access reaches memory
+pub reach_by-granted : (image : Image) (access : Access) (at width : ℕ) → IsAdmitted image → 0 < width → AreGranted image.system.root access at width
+    → (ps : List Place) × (reach_by (roots_place image access) at width ≡ Memory ps)
+reach_by-granted image access at width admitted some granted =
+    let f : ℕ → Option Place = roots_place image access in
+    let end = (granted (width - 1) (omega arith)).1 in
+    let below : at + (width - 1) < ADDRESS_END = end.below in
+    let within : at + width ≤ ADDRESS_END = omega arith in
+    let found = places_from-some f at width (λ k lt. ((granted k lt).0, place_of-granted image access (at + k) (granted k lt).0 admitted (granted k lt).1)) in
+    (found.0, reach_by-within f at width within ∙ ap memory_or_nothing found.1)
+
+-- and it reaches the places that are granted
+pub reach_by-listed : (image : Image) (access : Access) (at width : ℕ) (place : ℕ → Place) → IsAdmitted image → 0 < width → ((k : ℕ) → k < width → IsGranted image.system.root access (at + k) (place k))
+    → reach_by (roots_place image access) at width ≡ Memory (listed place width)
+reach_by-listed image access at width place admitted some granted =
+    let f : ℕ → Option Place = roots_place image access in
+    let below : at + (width - 1) < ADDRESS_END = (granted (width - 1) (omega arith)).below in
+    let within : at + width ≤ ADDRESS_END = omega arith in
+    reach_by-within f at width within ∙ ap memory_or_nothing (places_from-listed f place at width (λ k lt. place_of-granted image access (at + k) (place k) admitted (granted k lt)))
+
+nothing-memory : (ps : List Place) → Nothing ≡ Memory ps → ⊥
+nothing-memory ps e = false≢true (ap is_reached e)
+
+granted_of : (image : Image) (access : Access) (at width : ℕ) (o : Option (List Place)) (ps : List Place) → IsAdmitted image → places_from (roots_place image access) at width ≡ o → memory_or_nothing o ≡ Memory ps → AreGranted image.system.root access at width
+granted_of image access at width None ps admitted is e = absurd (nothing-memory ps e)
+granted_of image access at width (Some qs) ps admitted is e = λ k lt.
+    let found = places_from-each (roots_place image access) at width qs is k lt in
+    (found.0, granted-place_of image access (at + k) found.0 admitted found.1)
+
+-- where an access reaches memory, each byte is granted
+pub granted-reach_by : (image : Image) (access : Access) (at width : ℕ) (ps : List Place) → IsAdmitted image → reach_by (roots_place image access) at width ≡ Memory ps → AreGranted image.system.root access at width
+granted-reach_by image access at width ps admitted e = elim (cases_lt ADDRESS_END (at + width)) [
+  | inl beyond ↦ absurd (nothing-memory ps (sym (reach_by-beyond (roots_place image access) at width beyond) ∙ e))
+  | inr within ↦ granted_of image access at width (places_from (roots_place image access) at width) ps admitted refl (sym (reach_by-within (roots_place image access) at width within) ∙ e)
+]
+
+got_by : (image : Image) (entries : List Entry) (access : Access) (at width : ℕ) (r : Reach) → IsAdmitted image → 0 < width → reach_by (roots_place image access) at width ≡ r
+    → IsGot image entries image.system.root access at width (read_of (byte_at image entries) r)
+got_by image entries access at width (Memory ps) admitted some is = record {
+  granted = (λ _. granted-reach_by image access at width ps admitted is, λ _. refl);
+  reads = λ value e place granted.
+      let places : reach_by (roots_place image access) at width ≡ Memory (listed place width) = reach_by-listed image access at width place admitted some granted in
+      let read : read_of (byte_at image entries) (Memory ps) ≡ read_of (byte_at image entries) (Memory (listed place width)) = ap (read_of (byte_at image entries)) (sym is ∙ places) in
+      let spelt : Some value ≡ Some (spelled (map (byte_at image entries) (listed place width))) = sym e ∙ read in
+      same_Some value (spelled (map (byte_at image entries) (listed place width))) spelt ∙ spelled-listed (byte_at image entries) place width;
+}
+got_by image entries access at width Nothing admitted some is = record {
+  granted = (
+    λ e. absurd (false≢true e),
+    λ granted. let found = reach_by-granted image access at width admitted some granted in absurd (nothing-memory found.0 (sym is ∙ found.1)),
+  );
+  reads = λ value e place granted. absurd (none-some value e);
+}
+
+-- what a reading access of root's gets
+pub got-of : (image : Image) (entries : List Entry) (access : Access) (at width : ℕ) → IsAdmitted image → 0 < width
+    → IsGot image entries image.system.root access at width (read_of (facts image entries).byte (reach image (facts image entries) image.system.root.id access at width))
+got-of image entries access at width admitted some =
+    let P : Reach → Type 0 = λ r. IsGot image entries image.system.root access at width (read_of (facts image entries).byte r) in
+    subst P (sym (reach-root image (facts image entries) access at width)) (got_by image entries access at width (reach_by (roots_place image access) at width) admitted some refl)
+
+reached_by : (image : Image) (access : Access) (at width : ℕ) (r : Reach) → IsAdmitted image → 0 < width → reach_by (roots_place image access) at width ≡ r
+    → (is_reached r ≡ true → AreGranted image.system.root access at width) × (AreGranted image.system.root access at width → is_reached r ≡ true)
+reached_by image access at width (Memory ps) admitted some is = (λ _. granted-reach_by image access at width ps admitted is, λ _. refl)
+reached_by image access at width Nothing admitted some is = (
+  λ e. absurd (false≢true e),
+  λ granted. let found = reach_by-granted image access at width admitted some granted in absurd (nothing-memory found.0 (sym is ∙ found.1)),
+)
+
+-- an access of root's reaches memory exactly where each byte is granted
+pub reached-of : (image : Image) (f : Facts) (access : Access) (at width : ℕ) → IsAdmitted image → 0 < width
+    → (is_reached (reach image f image.system.root.id access at width) ≡ true → AreGranted image.system.root access at width) × (AreGranted image.system.root access at width → is_reached (reach image f image.system.root.id access at width) ≡ true)
+reached-of image f access at width admitted some =
+    let P : Reach → Type 0 = λ r. (is_reached r ≡ true → AreGranted image.system.root access at width) × (AreGranted image.system.root access at width → is_reached r ≡ true) in
+    subst P (sym (reach-root image f access at width)) (reached_by image access at width (reach_by (roots_place image access) at width) admitted some refl)

@@ -1,0 +1,9 @@
+pub mod RootLemmas
+pub mod ListedLemmas
+pub mod GrantLemmas
+pub mod MadeLemmas
+pub mod OutcomeLemmas
+pub mod ByteLemmas
+pub mod CpuLemmas
+pub mod ReadyLemmas
+pub mod RunLemmas

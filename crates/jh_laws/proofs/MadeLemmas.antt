@@ -1,0 +1,261 @@
+-- What is due to a CPU of root's, and what the entries of a legal journal are: accesses by root, each the
+-- operation that its CPU is at.
+use Rattle.std.proofs.Common.{◌≡◌, ◌≢◌, ℕ, ◌+◌, ◌-◌, ◌<◌, ◌≤◌, ◌^◌, List, [], ◌∷◌, ◌++◌, length, Bool, true, false, cond, eqb, Option, Some, None, refl, sym, ap, subst, ◌∙◌, arith}
+use Rattle.std.specs.Prelude.{IsTrue, option_map, option_and_then, slice_get, min}
+use Rattle.std.specs.List.{fold}
+use Rattle.std.proofs.lemmas.Bool.{cond_both, eq-eqb, ne_eqb, eqb-true}
+use Rattle.std.proofs.lemmas.Option.{none-some, same_Some, slice_get_within}
+use Rattle.jh_num.proofs.Booleans.{same_number}
+use Rattle.jh_cellcfg.specs.Cells.{name_of}
+use Rattle.jh_cpu.specs.declared.cpu.Cpu.{Cpu}
+use Rattle.jh_cpu.specs.declared.cpu.Mode.{Mode}
+use Rattle.jh_cpu.specs.declared.cpu.Mode.TheVariants.{Running, Parked, Failed}
+use Rattle.jh_cpu.specs.Changes.{moved, failed}
+use Rattle.jh_script.specs.declared.image.Image.{Image}
+use Rattle.jh_script.specs.declared.op.Op.{Op}
+use Rattle.jh_script.specs.declared.op.Op.TheVariants.{Read as ReadOp, Write as WriteOp, Fetch as FetchOp, Await as AwaitOp, Irq as IrqOp, Hvc as HvcOp}
+use Rattle.jh_script.specs.Operations.{IsPlain, is_width}
+use Rattle.jh_history.specs.declared.access.Access.TheVariants.{Read as ToRead, Write as ToWrite, Fetch as ToFetch}
+use Rattle.jh_history.specs.declared.entry.Entry.{Entry}
+use Rattle.jh_history.specs.declared.entry.Act.{Act}
+use Rattle.jh_history.specs.declared.entry.Act.TheVariants.{Read, Write, Fetch, Await, Irq, Hvc, Begin, Stop, Decide, Settle, Commit, Note, Noted, Finish}
+use Rattle.jh_history.specs.Access.{read_of, is_reached}
+use Rattle.jh_history.specs.Facts.{Facts}
+use Rattle.jh_history.specs.Lives.{is_on_board, op_at}
+use Rattle.jh_history.specs.Grants.{reach}
+use Rattle.jh_history.specs.Cpus.{change_of, changed, cpu_after}
+use Rattle.jh_history.specs.History.{start, after, facts}
+use Rattle.jh_history.specs.Wants.{is_running}
+use Rattle.jh_history.specs.Due.{due_at, act_of, await_of, entry_by, IsLegal, IsLegalFrom}
+use Rattle.jh_history.specs.Admitted.{IsAdmitted}
+use Rattle.jh_history.proofs.DueLemmas.{due_at-absent, due_at-present}
+use Rattle.jh_history.proofs.FactsLemmas.{cpu-after}
+use Rattle.jh_history.proofs.LegalLemmas.{due-split, IsLegal-begin}
+use Rattle.jh_laws.specs.Moves.{stepped, ended}
+use Rattle.jh_laws.specs.Outcomes.{is_violation}
+use Rattle.jh_laws.specs.Operations.{op_of, program_in}
+use Rattle.jh_laws.proofs.RootLemmas.{program_of-few, op-plain}
+
+-- the CPU is root's, and is neither asked to stop nor stopped
+pub record IsRoots (image : Image) (state : Cpu) : Type 0 where
+  pub owner : state.owner ≡ image.system.root.id
+  pub asked : state.asked ≡ false
+  pub stopped : state.stopped ≡ false
+
+-- the operation that a CPU of root's is at
+pub op_at-root : (image : Image) (f : Facts) (state : Cpu) (cpu : ℕ) → IsRoots image state → op_at image f state cpu ≡ slice_get (program_in image image.system.root cpu) state.position
+op_at-root image f state cpu roots = let e : eqb state.owner image.system.root.id ≡ true = eq-eqb state.owner image.system.root.id roots.owner in rw e refl
+
+-- what is due to a CPU of the board that is root's
+abbrev act_in : Image → Facts → Cpu → ℕ → Mode → Option Op → Option Entry
+act_in image f state cpu mode op = option_map (entry_by cpu state.owner) (option_and_then (act_of image f state.owner) (cond (is_running mode) op None))
+
+pub due_at-root : (image : Image) (f : Facts) (cpu : ℕ) → is_on_board image cpu ≡ true → IsRoots image (f.cpu cpu)
+    → due_at image f cpu ≡ option_map (entry_by cpu (f.cpu cpu).owner) (option_and_then (act_of image f (f.cpu cpu).owner) (cond (is_running (f.cpu cpu).mode) (op_at image f (f.cpu cpu) cpu) None))
+due_at-root image f cpu e roots = due_at-present image f cpu e ∙ rw (roots.asked, roots.stopped) refl
+
+-- the entry is that of a running CPU of the board: its act is what the operation at its position comes to
+pub record IsMade (image : Image) (f : Facts) (cpu : ℕ) (entry : Entry) : Type 0 where
+  pub board : is_on_board image cpu ≡ true
+  pub running : (f.cpu cpu).mode ≡ Running
+  pub cpu_is : entry.cpu ≡ cpu
+  pub cell_is : entry.cell ≡ (f.cpu cpu).owner
+  pub op : Op
+  pub at : slice_get (program_in image image.system.root cpu) (f.cpu cpu).position ≡ Some op
+  pub act : act_of image f image.system.root.id op ≡ Some entry.act
+
+made_act : (image : Image) (f : Facts) (cpu : ℕ) (entry : Entry) (op : Op) (o : Option Act) → is_on_board image cpu ≡ true → IsRoots image (f.cpu cpu) → (f.cpu cpu).mode ≡ Running → op_at image f (f.cpu cpu) cpu ≡ Some op
+    → act_of image f (f.cpu cpu).owner op ≡ o → option_map (entry_by cpu (f.cpu cpu).owner) o ≡ Some entry → IsMade image f cpu entry
+made_act image f cpu entry op None board roots running at is h = absurd (none-some entry h)
+made_act image f cpu entry op (Some act) board roots running at is h =
+    let P : Entry → Type 0 = IsMade image f cpu in
+    subst P (same_Some (entry_by cpu (f.cpu cpu).owner act) entry h) (record {
+      board = board;
+      running = running;
+      cpu_is = refl;
+      cell_is = refl;
+      op = op;
+      at = sym (op_at-root image f (f.cpu cpu) cpu roots) ∙ at;
+      act = ap (λ (c : ℕ). act_of image f c op) (sym roots.owner) ∙ is;
+    })
+
+made_op : (image : Image) (f : Facts) (cpu : ℕ) (entry : Entry) (mode : Mode) (o : Option Op) → is_on_board image cpu ≡ true → IsRoots image (f.cpu cpu) → (f.cpu cpu).mode ≡ mode → op_at image f (f.cpu cpu) cpu ≡ o
+    → act_in image f (f.cpu cpu) cpu mode o ≡ Some entry → IsMade image f cpu entry
+made_op image f cpu entry Running None board roots is at h = absurd (none-some entry h)
+made_op image f cpu entry Running (Some op) board roots is at h = made_act image f cpu entry op (act_of image f (f.cpu cpu).owner op) board roots is at refl h
+made_op image f cpu entry Parked o board roots is at h = absurd (none-some entry h)
+made_op image f cpu entry Failed o board roots is at h = absurd (none-some entry h)
+
+made_board : (image : Image) (f : Facts) (cpu : ℕ) (entry : Entry) (b : Bool) → is_on_board image cpu ≡ b → IsRoots image (f.cpu cpu) → due_at image f cpu ≡ Some entry → IsMade image f cpu entry
+made_board image f cpu entry true e roots h = made_op image f cpu entry (f.cpu cpu).mode (op_at image f (f.cpu cpu) cpu) e roots refl refl (sym (due_at-root image f cpu e roots) ∙ h)
+made_board image f cpu entry false e roots h = absurd (none-some entry (sym (due_at-absent image f cpu e) ∙ h))
+
+-- what is due to a CPU of root's
+pub due_at-made : (image : Image) (f : Facts) (cpu : ℕ) (entry : Entry) → IsRoots image (f.cpu cpu) → due_at image f cpu ≡ Some entry → IsMade image f cpu entry
+due_at-made image f cpu entry roots h = made_board image f cpu entry (is_on_board image cpu) refl roots h
+
+-- and what is, where it runs and is at an operation
+pub due_at-running : (image : Image) (f : Facts) (cpu : ℕ) (op : Op) → is_on_board image cpu ≡ true → IsRoots image (f.cpu cpu) → (f.cpu cpu).mode ≡ Running
+    → slice_get (program_in image image.system.root cpu) (f.cpu cpu).position ≡ Some op → due_at image f cpu ≡ option_map (entry_by cpu (f.cpu cpu).owner) (act_of image f image.system.root.id op)
+due_at-running image f cpu op board roots running at =
+    due_at-root image f cpu board roots
+    ∙ ap (λ (m : Mode). act_in image f (f.cpu cpu) cpu m (op_at image f (f.cpu cpu) cpu)) running
+    ∙ ap (λ (o : Option Op). act_in image f (f.cpu cpu) cpu Running o) (op_at-root image f (f.cpu cpu) cpu roots ∙ at)
+    ∙ ap (λ (c : ℕ). option_map (entry_by cpu (f.cpu cpu).owner) (act_of image f c op)) roots.owner
+
+-- nothing is due to a failed CPU of root's
+failed_on : (image : Image) (f : Facts) (cpu : ℕ) (b : Bool) → is_on_board image cpu ≡ b → IsRoots image (f.cpu cpu) → (f.cpu cpu).mode ≡ Failed → due_at image f cpu ≡ None
+failed_on image f cpu false e roots failed = due_at-absent image f cpu e
+failed_on image f cpu true e roots failed = due_at-root image f cpu e roots ∙ ap (λ (m : Mode). act_in image f (f.cpu cpu) cpu m (op_at image f (f.cpu cpu) cpu)) failed
+
+pub due_at-failed : (image : Image) (f : Facts) (cpu : ℕ) → IsRoots image (f.cpu cpu) → (f.cpu cpu).mode ≡ Failed → due_at image f cpu ≡ None
+due_at-failed image f cpu roots failed = failed_on image f cpu (is_on_board image cpu) refl roots failed
+
+-- how an await that read this ends
+abbrev pub AwaitOf : Option ℕ → ℕ → Bool → Type 0
+AwaitOf got value true = got ≡ Some value
+AwaitOf got value false = got ≡ None
+
+-- the act is an access of the cell with the outcome that the facts give it
+abbrev pub IsAccess : Image → Facts → ℕ → Act → Type 0
+IsAccess image f cell (Read width at got) = IsTrue (is_width width) × (got ≡ read_of f.byte (reach image f cell ToRead at width))
+IsAccess image f cell (Write width at value ok) = IsTrue (is_width width) × (ok ≡ is_reached (reach image f cell ToWrite at width))
+IsAccess image f cell (Fetch at got) = got ≡ read_of f.byte (reach image f cell ToFetch at 4)
+IsAccess image f cell (Await width at value ok) = IsTrue (is_width width) × AwaitOf (read_of f.byte (reach image f cell ToRead at width)) value ok
+IsAccess image f cell _ = ⊥
+
+-- it is one, and that of the operation
+pub record IsAccessOf (image : Image) (f : Facts) (cell : ℕ) (op : Op) (act : Act) : Type 0 where
+  pub access : IsAccess image f cell act
+  pub operation : op_of act ≡ Some op
+
+await_equal : (image : Image) (f : Facts) (cell width at value got : ℕ) (act : Act) (b : Bool) → IsTrue (is_width width) → read_of f.byte (reach image f cell ToRead at width) ≡ Some got → eqb got value ≡ b
+    → cond b (Some (Await width at value true)) None ≡ Some act → IsAccessOf image f cell (AwaitOp width at value) act
+await_equal image f cell width at value got act true plain e is h =
+    let same : got ≡ value = eqb-true got value is in
+    let P : Act → Type 0 = IsAccessOf image f cell (AwaitOp width at value) in
+    subst P (same_Some (Await width at value true) act h) (record { access = (plain, e ∙ ap Some same); operation = refl })
+await_equal image f cell width at value got act false plain e is h = absurd (none-some act h)
+
+await_access : (image : Image) (f : Facts) (cell width at value : ℕ) (act : Act) (o : Option ℕ) → IsTrue (is_width width) → read_of f.byte (reach image f cell ToRead at width) ≡ o
+    → await_of width at value o ≡ Some act → IsAccessOf image f cell (AwaitOp width at value) act
+await_access image f cell width at value act None plain e h =
+    let P : Act → Type 0 = IsAccessOf image f cell (AwaitOp width at value) in
+    subst P (same_Some (Await width at value false) act h) (record { access = (plain, e); operation = refl })
+await_access image f cell width at value act (Some got) plain e h = await_equal image f cell width at value got act (eqb got value) plain e refl h
+
+pub act_access : (image : Image) (f : Facts) (cell : ℕ) (op : Op) (act : Act) → IsPlain op → act_of image f cell op ≡ Some act → IsAccessOf image f cell op act
+act_access image f cell (ReadOp width at) act plain h =
+    let P : Act → Type 0 = IsAccessOf image f cell (ReadOp width at) in
+    subst P (same_Some (Read width at (read_of f.byte (reach image f cell ToRead at width))) act h) (record { access = (plain, refl); operation = refl })
+act_access image f cell (WriteOp width at value) act plain h =
+    let P : Act → Type 0 = IsAccessOf image f cell (WriteOp width at value) in
+    subst P (same_Some (Write width at value (is_reached (reach image f cell ToWrite at width))) act h) (record { access = (plain.0, refl); operation = refl })
+act_access image f cell (FetchOp at) act plain h =
+    let P : Act → Type 0 = IsAccessOf image f cell (FetchOp at) in
+    subst P (same_Some (Fetch at (read_of f.byte (reach image f cell ToFetch at 4))) act h) (record { access = refl; operation = refl })
+act_access image f cell (AwaitOp width at value) act plain h = await_access image f cell width at value act (read_of f.byte (reach image f cell ToRead at width)) plain.0 refl h
+act_access image f cell IrqOp act plain h = absurd (none-some act h)
+act_access image f cell (HvcOp code a b) act plain h = absurd (none-some act h)
+
+-- the act of an entry is such an access
+pub made-access : (image : Image) (f : Facts) (cpu : ℕ) (entry : Entry) (made : IsMade image f cpu entry) → IsAdmitted image → IsAccessOf image f image.system.root.id made.op entry.act
+made-access image f cpu entry made admitted =
+    act_access image f image.system.root.id made.op entry.act (op-plain image (name_of image.system.root) cpu (f.cpu cpu).position made.op admitted made.at) made.act
+
+-- an access moves its CPU on, and fails it where it is a violation
+abbrev pub done_by : Bool → Cpu → Cpu
+done_by true state = failed (moved state)
+done_by false state = moved state
+
+pub changed-access : (image : Image) (f : Facts) (cell : ℕ) (act : Act) (state : Cpu) → IsAccess image f cell act → changed (change_of act) state ≡ done_by (is_violation act) state
+changed-access image f cell (Read width at None) state access = refl
+changed-access image f cell (Read width at (Some got)) state access = refl
+changed-access image f cell (Write width at value true) state access = refl
+changed-access image f cell (Write width at value false) state access = refl
+changed-access image f cell (Fetch at None) state access = refl
+changed-access image f cell (Fetch at (Some got)) state access = refl
+changed-access image f cell (Await width at value true) state access = refl
+changed-access image f cell (Await width at value false) state access = refl
+changed-access image f cell (Irq device vector) state access = absurd access
+changed-access image f cell (Hvc code a b answer) state access = absurd access
+changed-access image f cell (Begin code a b) state access = absurd access
+changed-access image f cell Stop state access = absurd access
+changed-access image f cell (Decide refused) state access = absurd access
+changed-access image f cell (Settle how) state access = absurd access
+changed-access image f cell Commit state access = absurd access
+changed-access image f cell (Note id) state access = absurd access
+changed-access image f cell (Noted id how) state access = absurd access
+changed-access image f cell (Finish answer) state access = absurd access
+
+roots_done : (image : Image) (b : Bool) (state : Cpu) → IsRoots image state → IsRoots image (done_by b state)
+roots_done image true state roots = record { owner = roots.owner; asked = roots.asked; stopped = roots.stopped }
+roots_done image false state roots = record { owner = roots.owner; asked = roots.asked; stopped = roots.stopped }
+
+abbrev pub AllRoots : Image → Facts → Type 0
+AllRoots image f = (cpu : ℕ) → IsRoots image (f.cpu cpu)
+
+-- the entry is made by its own CPU from these facts on
+abbrev pub IsNext : Image → Facts → Entry → Type 0
+IsNext image f entry = IsMade image f entry.cpu entry
+
+-- its CPU after it, and the others
+pub own_after : (image : Image) (f : Facts) (entry : Entry) → IsAdmitted image → IsNext image f entry → (after image f entry).cpu entry.cpu ≡ done_by (is_violation entry.act) (f.cpu entry.cpu)
+own_after image f entry admitted made =
+    let here : cpu_after f entry entry.cpu ≡ changed (change_of entry.act) (f.cpu entry.cpu) = rw (same_number entry.cpu) refl in
+    ap (λ (g : ℕ → Cpu). g entry.cpu) (cpu-after image f entry)
+    ∙ here
+    ∙ changed-access image f image.system.root.id entry.act (f.cpu entry.cpu) (made-access image f entry.cpu entry made admitted).access
+
+pub other_after : (image : Image) (f : Facts) (entry : Entry) (cpu : ℕ) → cpu ≢ entry.cpu → (after image f entry).cpu cpu ≡ f.cpu cpu
+other_after image f entry cpu ne =
+    let here : cpu_after f entry cpu ≡ f.cpu cpu = rw (ne_eqb cpu entry.cpu ne) refl in
+    ap (λ (g : ℕ → Cpu). g cpu) (cpu-after image f entry) ∙ here
+
+pub roots_after : (image : Image) (f : Facts) (entry : Entry) → IsAdmitted image → IsNext image f entry → AllRoots image f → AllRoots image (after image f entry)
+unfolding after
+roots_after image f entry admitted made roots cpu =
+    let own : changed (change_of entry.act) (f.cpu cpu) ≡ done_by (is_violation entry.act) (f.cpu cpu)
+    = changed-access image f image.system.root.id entry.act (f.cpu cpu) (made-access image f entry.cpu entry made admitted).access in
+    let P : Cpu → Type 0 = IsRoots image in
+    cond_both (eqb cpu entry.cpu) (changed (change_of entry.act) (f.cpu cpu)) (f.cpu cpu) P
+    (λ _. subst P (sym own) (roots_done image (is_violation entry.act) (f.cpu cpu) (roots cpu))) (λ _. roots cpu)
+
+-- the first of legal entries is made, where each CPU is root's
+pub next-made : (image : Image) (f : Facts) (entry : Entry) (entries : List Entry) → AllRoots image f → IsLegalFrom image f (entry ∷ entries) → IsNext image f entry
+next-made image f entry entries roots legal = due_at-made image f entry.cpu entry (roots entry.cpu) legal.0
+
+roots_from : (image : Image) (f : Facts) (entries : List Entry) → IsAdmitted image → AllRoots image f → IsLegalFrom image f entries → AllRoots image (fold (after image) f entries)
+roots_from image f [] admitted roots legal = roots
+roots_from image f (entry ∷ entries) admitted roots legal =
+    roots_from image (after image f entry) entries admitted (roots_after image f entry admitted (next-made image f entry entries roots legal) roots) legal.1
+
+pub roots-start : (image : Image) → AllRoots image (start image)
+roots-start image cpu = record { owner = refl; asked = refl; stopped = refl }
+
+-- after a legal journal each CPU is root's
+pub roots-at : (image : Image) (entries : List Entry) → IsAdmitted image → IsLegal image entries → AllRoots image (facts image entries)
+unfolding facts IsLegal
+roots-at image entries admitted legal = roots_from image (start image) entries admitted (roots-start image) legal
+
+-- each entry of a legal journal is made by its CPU
+pub made-at : (image : Image) (before rest : List Entry) (entry : Entry) → IsAdmitted image → IsLegal image (before ++ entry ∷ rest) → IsNext image (facts image before) entry
+made-at image before rest entry admitted legal =
+    due_at-made image (facts image before) entry.cpu entry (roots-at image before admitted (IsLegal-begin image before (entry ∷ rest) legal) entry.cpu) (due-split image before rest entry legal)
+
+-- what an access does to its CPU, where the position isn't at the end of its numbers
+abbrev pub moved_by : Bool → Cpu → Cpu
+moved_by true state = ended state
+moved_by false state = stepped state
+
+by_violation : (b : Bool) (state : Cpu) → min (state.position + 1) (2 ^ 32 - 1) ≡ state.position + 1 → done_by b state ≡ moved_by b state
+by_violation true state e = ap (λ (n : ℕ). record state { position = n; mode = Failed }) e
+by_violation false state e = ap (λ (n : ℕ). record state { position = n }) e
+
+-- as it isn't in a program
+pub done_by-moved : (image : Image) (b : Bool) (state : Cpu) (cpu : ℕ) (op : Op) → IsAdmitted image → slice_get (program_in image image.system.root cpu) state.position ≡ Some op → done_by b state ≡ moved_by b state
+done_by-moved image b state cpu op admitted at =
+    let within : state.position < length (program_in image image.system.root cpu) = slice_get_within (program_in image image.system.root cpu) state.position op at in
+    let few : length (program_in image image.system.root cpu) ≤ 4096 = program_of-few image (name_of image.system.root) cpu admitted in
+    let one : min (state.position + 1) (2 ^ 32 - 1) ≡ state.position + 1 = omega arith in
+    by_violation b state one

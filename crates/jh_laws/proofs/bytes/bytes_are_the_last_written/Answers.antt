@@ -1,0 +1,13 @@
+-- Entries that don't write a place keep its byte.
+use Rattle.std.proofs.Common.{[]}
+use Rattle.std.proofs.lemmas.List.Elements.{recursion_from_All}
+use Rattle.jh_laws.specs.Writes.{WritesNot}
+use Rattle.jh_laws.proofs.ByteLemmas.{byte-last, byte-rest}
+use Rattle.jh_laws.proofs.bytes.bytes_are_the_last_written.Goals as goal
+
+pub returns-clause-last : goal.returns-clause-last
+returns-clause-last c = λ m place byte writes none.
+    byte-last m.image m.before m.rest m.entry place byte m.admitted m.legal writes (recursion_from_All (WritesNot m.image.system.root place) m.rest none)
+
+pub returns-clause-opening : goal.returns-clause-opening
+returns-clause-opening c = λ j place none. byte-rest j.image [] j.entries place j.admitted j.legal (recursion_from_All (WritesNot j.image.system.root place) j.entries none)

@@ -1,0 +1,36 @@
+-- What a cell is granted, by its own regions.
+use Rattle.std.specs.Prelude.{◌≡◌, ◌<◌, ◌≤◌, ◌+◌, ◌-◌, ◌^◌, ℕ, Bool, Contains, IsTrue, if◌then◌else◌}
+use Rattle.jh_cellcfg.specs.declared.region.Region.{Region}
+use Rattle.jh_cellcfg.specs.declared.config.CellConfig.{CellConfig}
+use Rattle.jh_cellcfg.specs.Regions.{rights_of, is_page_mapped, is_comm}
+use Rattle.jh_history.specs.declared.place.Place.{Place}
+use Rattle.jh_history.specs.declared.place.Place.TheVariants.{Physical, Page}
+use Rattle.jh_history.specs.declared.access.Access.{Access}
+use Rattle.jh_history.specs.declared.access.Access.TheVariants.{Read, Write, Fetch}
+
+-- the place of so many bytes behind the region's start: of the cell's communication page where it is
+-- the region of that page, else of physical memory
+abbrev pub place_behind : CellConfig → Region → ℕ → Place
+place_behind cell region offset = if is_comm region then Page cell.id offset else Physical (region.phys_start + offset)
+
+-- the region may be accessed so: read, written, or executed where it is a fetch
+abbrev pub may : Access → Region → Bool
+may Read region = (rights_of region).read
+may Write region = (rights_of region).write
+may Fetch region = (rights_of region).execute
+
+-- the cell is granted the place at the address: the address lies below 2 ^ 39, and one of the cell's
+-- regions has it, is of whole pages, may be accessed so, and gives it that place
+pub record IsGranted (cell : CellConfig) (access : Access) (at : ℕ) (place : Place) : Type 0 where
+  pub below : at < 2 ^ 39
+  pub region : Region
+  pub held : Contains cell.memory_regions region
+  pub pages : IsTrue (is_page_mapped region)
+  pub right : IsTrue (may access region)
+  pub first : region.virt_start ≤ at
+  pub last : at < region.virt_start + region.size
+  pub given : place ≡ place_behind cell region (at - region.virt_start)
+
+-- each of so many bytes from the address on is granted some place
+abbrev pub AreGranted : CellConfig → Access → ℕ → ℕ → Type 0
+AreGranted cell access at width = (k : ℕ) → k < width → (place : Place) × IsGranted cell access (at + k) place

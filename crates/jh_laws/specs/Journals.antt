@@ -1,0 +1,59 @@
+-- The journals that laws speak of, and what stands before and behind an entry of one.
+use Rattle.std.specs.Prelude.{ℕ, List, [], ◌∷◌, ◌++◌}
+use Rattle.jh_cellcfg.specs.declared.config.CellConfig.{CellConfig}
+use Rattle.jh_cpu.specs.declared.cpu.Cpu.{Cpu}
+use Rattle.jh_script.specs.declared.image.Image.{Image}
+use Rattle.jh_history.specs.declared.place.Place.{Place}
+use Rattle.jh_history.specs.declared.entry.Entry.{Entry}
+use Rattle.jh_history.specs.History.{facts}
+use Rattle.jh_history.specs.Due.{IsLegal}
+use Rattle.jh_history.specs.Admitted.{IsAdmitted, IsBuilt}
+
+-- a legal journal of an image that a board may be opened with, and that has nothing which isn't built yet
+pub record LegalJournal : Type 0 where
+  pub image : Image
+  pub entries : List Entry
+  pub admitted : IsAdmitted image
+  pub built : IsBuilt image
+  pub legal : IsLegal image entries
+
+-- an entry of such a journal, with the entries before it and the rest behind it
+pub record Moment : Type 0 where
+  pub image : Image
+  pub before : List Entry
+  pub entry : Entry
+  pub rest : List Entry
+  pub admitted : IsAdmitted image
+  pub built : IsBuilt image
+  pub legal : IsLegal image (before ++ entry ∷ rest)
+
+-- the byte at the place, and the CPU, after the entries
+abbrev pub byte_at : Image → List Entry → Place → ℕ
+byte_at image entries place = (facts image entries).byte place
+
+abbrev pub cpu_at : Image → List Entry → ℕ → Cpu
+cpu_at image entries cpu = (facts image entries).cpu cpu
+
+-- the same, just before the entry and just behind it
+abbrev pub byte_before : Moment → Place → ℕ
+byte_before m = byte_at m.image m.before
+
+abbrev pub byte_behind : Moment → Place → ℕ
+byte_behind m = byte_at m.image (m.before ++ m.entry ∷ [])
+
+abbrev pub cpu_before : Moment → ℕ → Cpu
+cpu_before m = cpu_at m.image m.before
+
+abbrev pub cpu_behind : Moment → ℕ → Cpu
+cpu_behind m = cpu_at m.image (m.before ++ m.entry ∷ [])
+
+-- all entries, with it and the rest
+abbrev pub entries_of : Moment → List Entry
+entries_of m = m.before ++ m.entry ∷ m.rest
+
+-- the cell whose CPU makes the entry, and the cell of a journal's CPUs: root is the one cell that there is yet
+abbrev pub cell_of : Moment → CellConfig
+cell_of m = m.image.system.root
+
+abbrev pub root_of : LegalJournal → CellConfig
+root_of j = j.image.system.root

@@ -1,0 +1,70 @@
+-- Entries as operations of programs, and which operations are due.
+use Rattle.std.specs.Prelude.{◌≡◌, ℕ, false, ◌==◌, List, Option, Some, None, slice_get, IsTrue, if◌then◌else◌}
+use Rattle.std.specs.List.{filter_map}
+use Rattle.jh_cellcfg.specs.declared.config.CellConfig.{CellConfig}
+use Rattle.jh_cellcfg.specs.Cells.{name_of, is_cpu_set}
+use Rattle.jh_cpu.specs.declared.cpu.Mode.TheVariants.{Running}
+use Rattle.jh_script.specs.declared.image.Image.{Image}
+use Rattle.jh_script.specs.declared.op.Op.{Op}
+use Rattle.jh_script.specs.declared.op.Op.TheVariants.{Read as ReadOp, Write as WriteOp, Fetch as FetchOp, Await as AwaitOp, Irq as IrqOp, Hvc as HvcOp}
+use Rattle.jh_history.specs.declared.access.Access.TheVariants.{Read as ToRead}
+use Rattle.jh_history.specs.declared.entry.Entry.{Entry}
+use Rattle.jh_history.specs.declared.entry.Act.{Act}
+use Rattle.jh_history.specs.declared.entry.Act.TheVariants.{Read, Write, Fetch, Await, Irq, Hvc, Begin}
+use Rattle.jh_history.specs.Lives.{program_of}
+use Rattle.jh_laws.specs.Journals.{cpu_at}
+use Rattle.jh_laws.specs.Grants.{AreGranted}
+use Rattle.jh_laws.specs.Outcomes.{IsRead, HasItsOutcome}
+
+-- the operation that the act is, without its outcome; the later phases of a management call are none
+abbrev pub op_of : Act → Option Op
+op_of (Read width at got) = Some (ReadOp width at)
+op_of (Write width at value ok) = Some (WriteOp width at value)
+op_of (Fetch at got) = Some (FetchOp at)
+op_of (Await width at value ok) = Some (AwaitOp width at value)
+op_of (Irq device vector) = Some IrqOp
+op_of (Hvc code a b answer) = Some (HvcOp code a b)
+op_of (Begin code a b) = Some (HvcOp code a b)
+op_of _ = None
+
+-- the operation of the entry, where the CPU made it
+abbrev pub op_by : ℕ → Entry → Option Op
+op_by cpu entry = if entry.cpu == cpu then op_of entry.act else None
+
+-- the operations that the CPU made, in order
+abbrev pub operations_by : ℕ → List Entry → List Op
+operations_by cpu entries = filter_map (op_by cpu) entries
+
+-- the operations of the CPU's program in the cell
+abbrev pub program_in : Image → CellConfig → ℕ → List Op
+program_in image cell cpu = program_of image (name_of cell) cpu
+
+-- the cell's operation is due after the entries: a read, write or fetch always is, and an await where
+-- its bytes, if they are granted, have the value that it waits for. An interrupt or a hypercall never is
+-- yet
+abbrev pub IsDueOp : Image → List Entry → CellConfig → Op → Type 0
+IsDueOp image entries cell (ReadOp width at) = Unit {0}
+IsDueOp image entries cell (WriteOp width at value) = Unit {0}
+IsDueOp image entries cell (FetchOp at) = Unit {0}
+IsDueOp image entries cell (AwaitOp width at value) = AreGranted cell ToRead at width → IsRead image entries cell ToRead at width value
+IsDueOp image entries cell IrqOp = ⊥
+IsDueOp image entries cell (HvcOp code a b) = ⊥
+
+-- the CPU, which is the cell's, is one of the board's, runs, is neither asked to stop nor stopped, and
+-- its program has an operation at its position that is due
+pub record IsReady (image : Image) (entries : List Entry) (cell : CellConfig) (cpu : ℕ) : Type 0 where
+  pub board : IsTrue (is_cpu_set image.system.root.cpu_set cpu)
+  pub running : (cpu_at image entries cpu).mode ≡ Running
+  pub asked : (cpu_at image entries cpu).asked ≡ false
+  pub stopped : (cpu_at image entries cpu).stopped ≡ false
+  pub op : Op
+  pub at : slice_get (program_in image cell cpu) (cpu_at image entries cpu).position ≡ Some op
+  pub due : IsDueOp image entries cell op
+
+-- the entry is what the CPU, which is the cell's, makes of the operation at its position: it has that
+-- CPU, the id of the CPU's owner, and the operation with its outcome
+pub record IsOwn (image : Image) (entries : List Entry) (cell : CellConfig) (cpu : ℕ) (entry : Entry) : Type 0 where
+  pub cpu_is : entry.cpu ≡ cpu
+  pub cell_is : entry.cell ≡ (cpu_at image entries cpu).owner
+  pub operation : op_of entry.act ≡ slice_get (program_in image cell cpu) (cpu_at image entries cpu).position
+  pub outcome : HasItsOutcome image entries cell entry.act

@@ -1,0 +1,33 @@
+//! The laws that every journal obeys, in the words of the subject: what a reader may believe without the
+//! fold over the entries. Each function does nothing; its contract is the law. A law that speaks of
+//! accesses, CPUs or bytes is one over the journals of images that are built, so that what is built
+//! later adds cases to it.
+#![tactic(auto)]
+
+mod access;
+mod bytes;
+mod cpus;
+mod due;
+mod items;
+mod order;
+
+pub use access::{accesses_go_by_grants, root_is_granted_its_addresses};
+pub use bytes::{
+    bytes_are_the_last_written, entries_write_their_bytes, memory_opens_with_the_preloads,
+};
+pub use cpus::{
+    cpus_open_at_their_beginning, entries_follow_the_program, entries_move_their_cpu,
+    violations_end_their_cpu,
+};
+pub use due::{
+    due_entries_are_their_cpus_own, programs_are_found_by_cell_and_cpu,
+    ready_cpus_have_an_entry_due,
+};
+pub use items::{
+    items_run_until_one_is_cut_short, played_journals_are_legal, played_journals_are_quiet_or_full,
+    rounds_are_of_the_boards_cpus,
+};
+pub use order::{
+    beginnings_are_legal, cpus_determine_the_journal, legal_entries_are_due,
+    nothing_extends_a_quiet_journal,
+};

@@ -1,0 +1,97 @@
+-- What answers, by the region or the window that is found.
+use Rattle.std.proofs.Common.{◌≡◌, ℕ, ◌<◌, Bool, true, false, ◌&&◌, not, cond, ltb, List, Option, Some, None, length, get_or, refl, sym, ◌∙◌, ap, subst, arith, IsTrue}
+use Rattle.std.specs.Prelude.{position, slice_get}
+use Rattle.std.specs.List.{position_or_len}
+use Rattle.std.specs.Option.{option_map_or}
+use Rattle.std.proofs.lemmas.Bool.{lt-ltb, le-ltb, and_parts, false_from_ne_true, both_ways}
+use Rattle.std.proofs.lemmas.Option.{none-some, same_Some, slice_get-get_or}
+use Rattle.std.proofs.lemmas.List.Sums.{position_or_len_is}
+use Rattle.jh_num.specs.declared.range.Range.{Range}
+use Rattle.jh_cellcfg.specs.declared.region.Region.{Region}
+use Rattle.jh_cellcfg.specs.Regions.{has_address, has_size, is_page_mapped, virt_end}
+use Rattle.jh_mmio.specs.declared.hitting.Window.{Window}
+use Rattle.jh_mmio.specs.declared.hitting.Hitting.TheVariants.{Subpage, Nothing}
+use Rattle.jh_mmio.specs.Index.{IsNumberAt}
+use Rattle.jh_mmio.specs.Dispatch.{lies_between, is_at_closed, takes_all, has_right, lets_through, by_subpage, by_ecam, by_window, window_has, behind_regions, hitting}
+use Rattle.jh_mmio.proofs.AccessLemmas.{lies_parts}
+use Rattle.jh_mmio.proofs.IndexLemmas.{has_address-from}
+
+-- the first that passes, where none before does
+pub position_here : {X : Type 0} (p : X → Bool) (xs : List X) (k : ℕ) (d : X) → k < length xs → ((j : ℕ) → j < k → p (get_or xs j d) ≡ false) → p (get_or xs k d) ≡ true → Some k ≡ position p xs
+position_here p xs k d lt before passes =
+    let first : position_or_len p xs ≡ k = position_or_len_is p xs k d (omega arith) before (λ h. passes) in
+    let test : ltb k (length xs) ≡ true = lt-ltb k (length xs) lt in
+    sym (ap (λ m. cond (ltb m (length xs)) (Some m) None) first ∙ ap (λ b. cond b (Some k) None) test)
+
+-- and none, where none passes
+pub position_nowhere : {X : Type 0} (p : X → Bool) (xs : List X) (d : X) → ((j : ℕ) → j < length xs → p (get_or xs j d) ≡ false) → None ≡ position p xs
+position_nowhere p xs d none =
+    let first : position_or_len p xs ≡ length xs = position_or_len_is p xs (length xs) d (omega arith) none (λ h. absurd (omega arith)) in
+    let test : ltb (length xs) (length xs) ≡ false = le-ltb (length xs) (length xs) (omega arith) in
+    sym (ap (λ m. cond (ltb m (length xs)) (Some m) None) first ∙ ap (λ b. cond b (Some (length xs)) None) test)
+
+-- a region that has all bytes has the first
+pub takes_all-has : (closed : ℕ → Bool) (at n : ℕ) (r : Region) → 0 < n → takes_all closed at n r ≡ true → IsTrue (has_address r at)
+takes_all-has closed at n r some h =
+    let whole = and_parts (has_size r && not (is_page_mapped r)) (lies_between r.virt_start (virt_end r) at n && not (is_at_closed closed at n r)) h in
+    let lies = and_parts (lies_between r.virt_start (virt_end r) at n) (not (is_at_closed closed at n r)) whole.1 in
+    let parts = lies_parts r.virt_start (virt_end r) at n some lies.0 in
+    has_address-from r at parts.0 (omega arith)
+
+-- so it has the number that the index tells
+pub number_taken : (regions : List Region) (closed : ℕ → Bool) (at n : ℕ) (found : Option ℕ) → 0 < n → IsNumberAt regions at found → (j : ℕ) (d : Region) → j < length regions → takes_all closed at n (get_or regions j d) ≡ true → found ≡ Some j
+number_taken regions closed at n found some is j d lt takes =
+    is.only j (get_or regions j d) (slice_get-get_or regions j d lt) (takes_all-has closed at n (get_or regions j d) some takes)
+
+pub subpage_found : (regions : List Region) (closed : ℕ → Bool) (at n k : ℕ) (d : Region) → 0 < n → IsNumberAt regions at (Some k) → takes_all closed at n (get_or regions k d) ≡ true → Some k ≡ position (takes_all closed at n) regions
+subpage_found regions closed at n k d some is takes =
+    position_here (takes_all closed at n) regions k d is.own
+    (λ j lt. false_from_ne_true (takes_all closed at n (get_or regions j d)) (λ h. let e : k ≡ j = same_Some k j (number_taken regions closed at n (Some k) some is j d (omega (arith, is.own)) h) in omega arith))
+    takes
+
+pub subpage_other : (regions : List Region) (closed : ℕ → Bool) (at n k : ℕ) (d : Region) → 0 < n → IsNumberAt regions at (Some k) → takes_all closed at n (get_or regions k d) ≡ false → None ≡ position (takes_all closed at n) regions
+subpage_other regions closed at n k d some is lacks =
+    position_nowhere (takes_all closed at n) regions d
+    (λ j lt. false_from_ne_true (takes_all closed at n (get_or regions j d)) (λ h.
+    let e : k ≡ j = same_Some k j (number_taken regions closed at n (Some k) some is j d lt h) in
+    let P : ℕ → Type 0 = λ m. takes_all closed at n (get_or regions m d) ≡ false in
+    both_ways (takes_all closed at n (get_or regions j d)) (subst P e lacks) h))
+
+pub subpage_none : (regions : List Region) (closed : ℕ → Bool) (at n : ℕ) (d : Region) → 0 < n → IsNumberAt regions at None → None ≡ position (takes_all closed at n) regions
+subpage_none regions closed at n d some is =
+    position_nowhere (takes_all closed at n) regions d
+    (λ j lt. false_from_ne_true (takes_all closed at n (get_or regions j d)) (λ h. none-some j (number_taken regions closed at n None some is j d lt h)))
+
+-- behind the regions, by the window that is found
+pub behind_window : (ecam : Range) (windows : List Window) (at n : ℕ) (first : Option ℕ) → lies_between ecam.start ecam.end at n ≡ false → first ≡ position (window_has at n) windows → option_map_or (by_window at n) first Nothing ≡ behind_regions ecam windows at n
+behind_window ecam windows at n first past is =
+    ap (λ (o : Option ℕ). option_map_or (by_window at n) o Nothing) is
+    ∙ sym (ap (λ b. cond b (by_ecam ecam at n) (option_map_or (by_window at n) (position (window_has at n) windows) Nothing)) past)
+
+pub behind_ecam : (ecam : Range) (windows : List Window) (at n : ℕ) → lies_between ecam.start ecam.end at n ≡ true → by_ecam ecam at n ≡ behind_regions ecam windows at n
+behind_ecam ecam windows at n lies = sym (ap (λ b. cond b (by_ecam ecam at n) (option_map_or (by_window at n) (position (window_has at n) windows) Nothing)) lies)
+
+-- and all of it
+pub hitting_first : (regions : List Region) (closed : ℕ → Bool) (ecam : Range) (windows : List Window) (at n : ℕ) (write : Bool) (first : Option ℕ) → first ≡ position (takes_all closed at n) regions
+    → option_map_or (by_subpage regions at n write) first (behind_regions ecam windows at n) ≡ hitting regions closed ecam windows at n write
+unfolding hitting
+hitting_first regions closed ecam windows at n write first is = ap (λ (o : Option ℕ). option_map_or (by_subpage regions at n write) o (behind_regions ecam windows at n)) is
+
+-- an access of no bytes is no access
+no_bytes_through : (b : Bool) (k : ℕ) → Nothing ≡ cond (b && false) (Subpage k) Nothing
+no_bytes_through true k = refl
+no_bytes_through false k = refl
+
+no_bytes_at : (at k : ℕ) (write : Bool) (o : Option Region) → Nothing ≡ cond (option_map_or (lets_through at 0 write) o false) (Subpage k) Nothing
+no_bytes_at at k write None = refl
+no_bytes_at at k write (Some r) = no_bytes_through (has_right write r) k
+
+no_bytes_by : (regions : List Region) (ecam : Range) (windows : List Window) (at : ℕ) (write : Bool) (first : Option ℕ) → Nothing ≡ option_map_or (by_subpage regions at 0 write) first (behind_regions ecam windows at 0)
+no_bytes_by regions ecam windows at write None = refl
+no_bytes_by regions ecam windows at write (Some k) = no_bytes_at at k write (slice_get regions k)
+
+pub hitting_no_bytes : (regions : List Region) (closed : ℕ → Bool) (ecam : Range) (windows : List Window) (at n : ℕ) (write : Bool) → n ≡ 0 → Nothing ≡ hitting regions closed ecam windows at n write
+unfolding hitting
+hitting_no_bytes regions closed ecam windows at n write zero =
+    let P : ℕ → Type 0 = λ m. Nothing ≡ hitting regions closed ecam windows at m write in
+    subst P (sym zero) (no_bytes_by regions ecam windows at write (position (takes_all closed at 0) regions))

@@ -1,0 +1,110 @@
+-- What an answer tells of the regions.
+use Rattle.std.proofs.Common.{◌≡◌, ℕ, ◌+◌, ◌<◌, ◌≤◌, Bool, true, false, ◌&&◌, not, cond, ltb, List, Option, Some, None, length, get_or, refl, sym, ◌∙◌, ap, subst, arith, IsTrue}
+use Rattle.std.specs.Prelude.{position, slice_get, AllPairs}
+use Rattle.std.specs.List.{list_any, range_with_len, position_or_len}
+use Rattle.std.specs.Option.{option_map_or}
+use Rattle.std.proofs.lemmas.Bool.{ltb-true, and_parts, false_from_ne_true, both_ways}
+use Rattle.std.proofs.lemmas.Option.{none-some, same_Some, slice_get-get_or, slice_get_within, get_or_from_slice_get}
+use Rattle.std.proofs.lemmas.List.Sums.{passes_at_first}
+use Rattle.jh_num.proofs.Lists.{list_any-from_Contains}
+use Rattle.jh_num.specs.declared.range.Range.{Range}
+use Rattle.jh_cellcfg.specs.declared.region.Region.{Region}
+use Rattle.jh_cellcfg.specs.Regions.{has_address, has_size, is_page_mapped, is_comm, place_in, virt_end}
+use Rattle.jh_mmio.specs.declared.hitting.Window.{Window}
+use Rattle.jh_mmio.specs.declared.hitting.Hitting.TheVariants.{Subpage, Ecam, Bar, Nothing}
+use Rattle.jh_mmio.specs.Index.{SharesNoAddress}
+use Rattle.jh_mmio.specs.Dispatch.{lies_between, is_at_closed, takes_all, lets_through, by_subpage, by_ecam, by_window, window_has, behind_regions, hitting}
+use Rattle.jh_mmio.proofs.AccessLemmas.{byte_of}
+use Rattle.jh_mmio.proofs.IndexLemmas.{one_number}
+use Rattle.jh_mmio.proofs.HittingLemmas.{position_here, takes_all-has}
+
+past : Region
+past = record { phys_start = 0; virt_start = 0; size = 0; flags = 0 }
+
+hit_by : {X : Type 0} (p : X → Bool) (xs : List X) (k : ℕ) (d : X) (b : Bool) → ltb (position_or_len p xs) (length xs) ≡ b → cond b (Some (position_or_len p xs)) None ≡ Some k → (k < length xs) × (p (get_or xs k d) ≡ true)
+hit_by p xs k d true e h =
+    let same : position_or_len p xs ≡ k = same_Some (position_or_len p xs) k h in
+    let P : ℕ → Type 0 = λ m. (m < length xs) × (p (get_or xs m d) ≡ true) in
+    let lt = ltb-true (position_or_len p xs) (length xs) e in
+    subst P same (lt, passes_at_first p xs d lt)
+hit_by p xs k d false e h = absurd (none-some k h)
+
+-- what stands at the position passes
+position_hit : {X : Type 0} (p : X → Bool) (xs : List X) (k : ℕ) (d : X) → position p xs ≡ Some k → (k < length xs) × (p (get_or xs k d) ≡ true)
+position_hit p xs k d h = hit_by p xs k d (ltb (position_or_len p xs) (length xs)) refl h
+
+-- neither configuration space nor a window answers as a region
+no_ecam : (b : Bool) (k : ℕ) → cond b Ecam Nothing ≡ Subpage k → ⊥
+no_ecam true k h = cc
+no_ecam false k h = cc
+
+no_window : (b : Bool) (m k : ℕ) → cond b (Bar m) Nothing ≡ Subpage k → ⊥
+no_window true m k h = cc
+no_window false m k h = cc
+
+no_windows : (at n : ℕ) (o : Option ℕ) (k : ℕ) → option_map_or (by_window at n) o Nothing ≡ Subpage k → ⊥
+no_windows at n None k h = cc
+no_windows at n (Some m) k h = no_window _ m k h
+
+no_region_by : (ecam : Range) (at n : ℕ) (o : Option ℕ) (b : Bool) (k : ℕ) → cond b (by_ecam ecam at n) (option_map_or (by_window at n) o Nothing) ≡ Subpage k → ⊥
+no_region_by ecam at n o true k h = no_ecam _ k h
+no_region_by ecam at n o false k h = no_windows at n o k h
+
+-- so the first region that takes the access is the one that answers, and it lets the access through
+record Answers (regions : List Region) (at n : ℕ) (write : Bool) (first : Option ℕ) (k : ℕ) : Type 0 where
+  it : first ≡ Some k
+  lets : option_map_or (lets_through at n write) (slice_get regions k) false ≡ true
+
+let_through : (at n : ℕ) (write : Bool) (regions : List Region) (m k : ℕ) (b : Bool) → option_map_or (lets_through at n write) (slice_get regions m) false ≡ b → cond b (Subpage m) Nothing ≡ Subpage k → Answers regions at n write (Some m) k
+let_through at n write regions m k true e h =
+    let same : m ≡ k = cc in
+    let P : ℕ → Type 0 = λ x. option_map_or (lets_through at n write) (slice_get regions x) false ≡ true in
+    record { it = ap Some same; lets = subst P same e }
+let_through at n write regions m k false e h = absurd (no_window false m k h)
+
+answers_by : (regions : List Region) (ecam : Range) (windows : List Window) (at n : ℕ) (write : Bool) (first : Option ℕ) (k : ℕ) → option_map_or (by_subpage regions at n write) first (behind_regions ecam windows at n) ≡ Subpage k → Answers regions at n write first k
+answers_by regions ecam windows at n write None k h = absurd (no_region_by ecam at n (position (window_has at n) windows) (lies_between ecam.start ecam.end at n) k h)
+answers_by regions ecam windows at n write (Some m) k h = let_through at n write regions m k _ refl h
+
+pub it_answers : (regions : List Region) (closed : ℕ → Bool) (ecam : Range) (windows : List Window) (at n : ℕ) (write : Bool) (k : ℕ) → hitting regions closed ecam windows at n write ≡ Subpage k
+    → (r : Region) × (slice_get regions k ≡ Some r) × (takes_all closed at n r ≡ true) × (lets_through at n write r ≡ true)
+unfolding hitting
+it_answers regions closed ecam windows at n write k h =
+    let a = answers_by regions ecam windows at n write (position (takes_all closed at n) regions) k h in
+    let hit = position_hit (takes_all closed at n) regions k past a.it in
+    let r : Region = get_or regions k past in
+    let is : slice_get regions k ≡ Some r = slice_get-get_or regions k past hit.0 in
+    (r, is, hit.1, sym (ap (λ (o : Option Region). option_map_or (lets_through at n write) o false) is) ∙ a.lets)
+
+pub only_answers : (regions : List Region) (closed : ℕ → Bool) (ecam : Range) (windows : List Window) (at n : ℕ) (write : Bool) (k : ℕ) → AllPairs SharesNoAddress regions → 0 < n → hitting regions closed ecam windows at n write ≡ Subpage k
+    → (j : ℕ) (r : Region) → slice_get regions j ≡ Some r → IsTrue (has_address r at) → j ≡ k
+only_answers regions closed ecam windows at n write k apart some h j r is has =
+    let a = it_answers regions closed ecam windows at n write k h in
+    one_number regions k j a.0 r at apart a.1 is (takes_all-has closed at n a.0 some a.2) has
+
+pub refusal_ends : (regions : List Region) (closed : ℕ → Bool) (ecam : Range) (windows : List Window) (at n : ℕ) (write : Bool) (k : ℕ) (r : Region) → AllPairs SharesNoAddress regions → 0 < n
+    → slice_get regions k ≡ Some r → takes_all closed at n r ≡ true → lets_through at n write r ≡ false → hitting regions closed ecam windows at n write ≡ Nothing
+unfolding hitting
+refusal_ends regions closed ecam windows at n write k r apart some is takes refuses =
+    let lt = slice_get_within regions k r is in
+    let at_k : get_or regions k r ≡ r = get_or_from_slice_get regions k r r is in
+    let first : Some k ≡ position (takes_all closed at n) regions =
+    position_here (takes_all closed at n) regions k r lt
+    (λ j before. false_from_ne_true (takes_all closed at n (get_or regions j r)) (λ h.
+    let same : j ≡ k = one_number regions k j r (get_or regions j r) at apart is (slice_get-get_or regions j r (omega arith)) (takes_all-has closed at n r some takes) (takes_all-has closed at n (get_or regions j r) some h) in omega arith))
+    (ap (takes_all closed at n) at_k ∙ takes) in
+    sym (ap (λ (o : Option ℕ). option_map_or (by_subpage regions at n write) o (behind_regions ecam windows at n)) first)
+    ∙ ap (λ (o : Option Region). cond (option_map_or (lets_through at n write) o false) (Subpage k) Nothing) is
+    ∙ ap (λ b. cond b (Subpage k) Nothing) refuses
+
+pub closed_none : (regions : List Region) (closed : ℕ → Bool) (ecam : Range) (windows : List Window) (at n : ℕ) (write : Bool) (k : ℕ) (r : Region) (a : ℕ) → slice_get regions k ≡ Some r → is_comm r ≡ false
+    → at ≤ a → a < at + n → closed (place_in r a) ≡ true → hitting regions closed ecam windows at n write ≡ Subpage k → ⊥
+closed_none regions closed ecam windows at n write k r a is comm low high shut h =
+    let answer = it_answers regions closed ecam windows at n write k h in
+    let same : answer.0 ≡ r = same_Some answer.0 r (sym answer.1 ∙ is) in
+    let takes : takes_all closed at n r ≡ true = sym (ap (takes_all closed at n) same) ∙ answer.2 in
+    let whole = and_parts (has_size r && not (is_page_mapped r)) (lies_between r.virt_start (virt_end r) at n && not (is_at_closed closed at n r)) takes in
+    let parts = and_parts (lies_between r.virt_start (virt_end r) at n) (not (is_at_closed closed at n r)) whole.1 in
+    let hit : list_any (λ x. closed (place_in r x)) (range_with_len at n) ≡ true = list_any-from_Contains (λ x. closed (place_in r x)) (range_with_len at n) a (byte_of at n a low high) shut in
+    let shut_there : is_at_closed closed at n r ≡ true = ap (λ b. not b && list_any (λ x. closed (place_in r x)) (range_with_len at n)) comm ∙ hit in
+    both_ways true (sym parts.1 ∙ ap not shut_there) refl

@@ -1,0 +1,4 @@
+mod IndexLemmas
+mod AccessLemmas
+mod HittingLemmas
+mod LawLemmas

@@ -1,0 +1,5 @@
+use Rattle.jh_mmio.proofs.LawLemmas.{refusal_ends}
+use Rattle.jh_mmio.proofs.laws.a_region_that_refuses_ends_the_search.Goals as goal
+
+pub returns : goal.returns
+returns c = refusal_ends

@@ -1,0 +1,8 @@
+-- What is true of every index.
+use Rattle.std.specs.Prelude.{AllPairs}
+use Rattle.jh_mmio.specs.Index.{IsOrder, SharesNoAddress}
+use Rattle.jh_mmio.specs.declared.index.RegionIndex.TheInside.{Inside}
+
+pub record IsIndex (s : Inside) : Type 0 where
+  pub apart : AllPairs SharesNoAddress s.regions.items
+  pub order : IsOrder s.regions.items s.order.items

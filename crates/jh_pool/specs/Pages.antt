@@ -1,0 +1,35 @@
+-- The pages of a range of memory, and which of them are taken.
+use Rattle.std.specs.Prelude.{◌≡◌, ℕ, ◌+◌, ◌-◌, ◌*◌, ◌%◌, ◌<◌, ◌≤◌, Bool, false, ◌==◌, List, length, map}
+use Rattle.std.specs.List.{list_any, range_with_len}
+
+-- what contracts see of a pool: where its range begins, of how many pages of 4,096 bytes it is, and the
+-- addresses of those that are free
+pub record PoolView : Type 0 where
+  pub base : ℕ
+  pub size : ℕ
+  pub free : List ℕ
+
+-- the address begins a page of that range
+pub record IsPageIn (base size page : ℕ) : Type 0 where
+  pub aligned : page % 4096 ≡ 0
+  pub above : base ≤ page
+  pub below : page < base + 4096 * size
+
+abbrev pub IsPageOf : PoolView → ℕ → Type 0
+IsPageOf pool page = IsPageIn pool.base pool.size page
+
+abbrev pub is_free : PoolView → ℕ → Bool
+is_free pool page = list_any (λ free. free == page) pool.free
+
+-- a page of the pool that isn't free
+pub record IsTaken (pool : PoolView) (page : ℕ) : Type 0 where
+  pub in_range : IsPageOf pool page
+  pub taken : is_free pool page ≡ false
+
+-- the pages of the pool, from the lowest on
+abbrev pub pages_of : PoolView → List ℕ
+pages_of pool = map (λ k. pool.base + 4096 * k) (range_with_len 0 pool.size)
+
+-- how many are taken, where none is twice among the free ones
+abbrev pub used_of : PoolView → ℕ
+used_of pool = pool.size - length pool.free

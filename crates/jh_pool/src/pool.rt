@@ -1,0 +1,98 @@
+//! The pages of one range: those that are free, and those that somebody took.
+ghost use Rattle.std.specs.Prelude.{◌≡◌, ◌≢◌, ℕ, ◌+◌, ◌*◌, ◌%◌, ◌^◌, ◌≤◌, ◌↔◌, [], true, false, not, IsNone, IfNone, IfSome, OnSome, IfOk, count_by, sum_by, ◌<◌};
+ghost use Rattle.jh_pool.specs.Pages.{is_free, pages_of, used_of, IsPageOf, IsTaken};
+
+use jh_num::{NoMemory, PAGE_SIZE};
+use std::alloc::Global;
+use std::marker::Model;
+
+/// A pool of pages. Its list of free pages has room for all of them, so only opening takes memory.
+#[derive(Drop)]
+pub struct Pool {
+    base: u64,
+    size: u32,
+    free: Vec<u64>,
+}
+
+impl Model for Pool {
+    ghost use Rattle.std.specs.Prelude.{vec_capacity};
+    ghost use Rattle.jh_pool.specs.Pages.{PoolView};
+    ghost use Rattle.jh_pool.specs.Stands.{Stands};
+
+    ghost Value = { PoolView };
+
+    ghost view = { λ p. record { base = p.base; size = p.size; free = p.free.items } };
+
+    ghost invariant = { λ p. Stands p.base p.size p.free.items (vec_capacity p.free) };
+}
+
+impl Pool {
+    /// A pool of that many pages from `base` on, all of them free.
+    pub fn open(alloc: Global, base: u64, pages: u32) -> Result<Self, NoMemory>
+        requires aligned { base % 4096 ≡ 0 }
+        requires place { base + 4096 * pages ≤ 2 ^ 39 }
+        ensures base { IfOk result (λ pool. pool.base ≡ base) }
+        ensures size { IfOk result (λ pool. pool.size ≡ pages) }
+        ensures free { IfOk result (λ pool. (page : ℕ) → IsPageOf pool page → is_free pool page ≡ true) }
+    {
+        let mut free = Vec::with_capacity(alloc, pages as usize)?;
+        for k in 0..pages {
+            free.push(base + PAGE_SIZE * u64::from(pages - 1 - k))?;
+        }
+        Ok(Pool {
+            base,
+            size: pages,
+            free,
+        })
+    }
+
+    /// Takes a page that nobody has; `None` where each is taken.
+    pub fn take(&mut self) -> Option<u64>
+        ensures none { IsNone result ↔ (used_of self.old ≡ self.old.size) }
+        ensures unchanged { IfNone result (self.new ≡ self.old) }
+        ensures page { IfSome result (IsPageOf self.old) }
+        ensures was_free { IfSome result (λ page. is_free self.old page ≡ true) }
+        ensures taken { IfSome result (IsTaken self.new) }
+        ensures others { IfSome result (λ page. (q : ℕ) → q ≢ page → is_free self.new q ≡ is_free self.old q) }
+        ensures base { self.new.base ≡ self.old.base }
+        ensures size { self.new.size ≡ self.old.size }
+        ensures used { OnSome result (used_of self.new ≡ used_of self.old + 1) }
+    {
+        self.free.pop()
+    }
+
+    /// Gives back a page that was taken.
+    pub fn give(&mut self, page: u64)
+        requires { IsTaken self.old page }
+        ensures given { is_free self.new page ≡ true }
+        ensures others { (q : ℕ) → q ≢ page → is_free self.new q ≡ is_free self.old q }
+        ensures base { self.new.base ≡ self.old.base }
+        ensures size { self.new.size ≡ self.old.size }
+        ensures used { used_of self.new + 1 ≡ used_of self.old }
+    {
+        let _ = self.free.push(page);
+    }
+
+    /// How many pages are taken.
+    pub fn used(&self) -> u32
+        ensures value { result ≡ used_of self.now }
+        ensures exact { result ≡ count_by (λ page. not (is_free self.now page)) (pages_of self.now) }
+    {
+        self.size - self.free.len() as u32
+    }
+
+    /// How many pages there are.
+    pub fn size(&self) -> u32
+        ensures { result ≡ self.now.size }
+    {
+        self.size
+    }
+}
+
+/// Where each page that is taken is had once, and no other page is had, the sum over all pages of how
+/// often each is had is how many are taken.
+pub fn pages_taken_once_are_counted(pool: &Pool)
+    ensures { (had : ℕ → ℕ) → ((page : ℕ) → IsPageOf pool.now page → had page ≤ 1) → ((page : ℕ) → IsPageOf pool.now page → 0 < had page ↔ IsTaken pool.now page) → sum_by had (pages_of pool.now) ≡ used_of pool.now }
+{
+    let _ = &pool.free;
+}

@@ -1,0 +1,266 @@
+-- Marks of slots.
+use Rattle.std.proofs.Common.{◌≡◌, ◌≢◌, ℕ, ◌+◌, ◌-◌, ◌*◌, ◌/◌, ◌%◌, ◌^◌, ◌<◌, ◌≤◌, ◌==◌, zero, suc, min, max, Bool, true, false, not, ◌&&◌, ◌||◌, nat_eq, nat_le, nat_lt, List, length, get_or, set, take, replicate, refl, sym, ap, subst, ◌∙◌, ⊎_elim, arith, w64, bit_or, slice_index}
+use Rattle.std.specs.Int.{bit_at}
+use Rattle.std.specs.List.{list_any}
+use Rattle.std.proofs.lemmas.Bool.{cases_eq, eq-eqb, ne_eqb, eqb-true, and_parts, and_from, and_right, both_ways, leb-true, ltb-true, lt-ltb, le-leb, le-ltb, false_from_ne_true, not_from_true, not_from_false}
+use Rattle.std.proofs.lemmas.Bool.Decides.{nat_tests}
+use Rattle.std.proofs.lemmas.Nat.Bits.{bit_at-zero, bit_at_set_same, bit_at_set_other}
+use Rattle.std.proofs.lemmas.List.{get_or-set_same, get_or-set_other}
+use Rattle.std.proofs.lemmas.List.Folds.{list_any_more}
+use Rattle.std.proofs.Math.Bool.{or-true, or-false}
+use Rattle.std.proofs.Math.Nat.{add-mul, mul-le-mul_right, le-div_iff_mul-le, div-lt_iff_lt-mul, div-mul-le_self, lt-div-mul-add, lt_of_mul-lt-mul_right}
+use Rattle.jh_num.specs.declared.address.TheConstants.{ADDRESS_END}
+use Rattle.jh_num.proofs.Booleans.{same_test, or_assoc}
+use Rattle.jh_cellcfg.specs.declared.region.Region.{Region}
+use Rattle.jh_cellcfg.specs.Regions.{virt_end, is_comm, may_have_blocks, place_in}
+use Rattle.jh_shape.specs.Claims.{Claims}
+use Rattle.jh_shape.specs.Intervals.{touches, spans}
+use Rattle.jh_shape.specs.Marks.{is_marked, is_inside}
+use Rattle.jh_shape.specs.Shapes.{slot_size, is_mapped, are_cut, fits_blocks, may_be_block, is_leaf_by}
+
+-- one mark more
+pub marked : (words : List ℕ) (n k word : ℕ) → n < 64 * length words → word ≡ bit_or (slice_index words (n / 64)) (1 * 2 ^ (n % 64) % 2 ^ 64) → is_marked (set words (n / 64) word) k ≡ (is_marked words k || nat_eq k n)
+marked words n k word within is =
+    let w = slice_index words (n / 64) in
+    let low : n % 64 < 64 = omega arith in
+    let here : n / 64 < length words = omega arith in
+    ⊎_elim
+    (λ (same_word : k / 64 ≡ n / 64).
+    let new_word : slice_index (set words (n / 64) word) (k / 64) ≡ word = rw same_word (get_or-set_same words (n / 64) word 0 here) in
+    let old_word : slice_index words (k / 64) ≡ w = rw same_word refl in
+    ⊎_elim
+    (λ (same_bit : k % 64 ≡ n % 64).
+    let same : k ≡ n = omega arith in
+    let bit : bit_at word (k % 64) ≡ 1 = rw (same_bit, is) (bit_at_set_same w64 w (n % 64) low) in
+    rw (new_word, bit, eq-eqb k n same) (sym (or-true (is_marked words k))))
+    (λ (other_bit : k % 64 ≢ n % 64).
+    let other : k ≢ n = λ e. other_bit (ap (λ m. m % 64) e) in
+    let bit : bit_at word (k % 64) ≡ bit_at w (k % 64) = rw is (bit_at_set_other w64 w (n % 64) low (k % 64) other_bit) in
+    rw (new_word, bit, ne_eqb k n other, old_word) (sym (or-false (nat_eq (bit_at w (k % 64)) 1))))
+    (cases_eq (k % 64) (n % 64)))
+    (λ (other_word : k / 64 ≢ n / 64).
+    let other : k ≢ n = λ e. other_word (ap (λ m. m / 64) e) in
+    let kept : slice_index (set words (n / 64) word) (k / 64) ≡ slice_index words (k / 64) = get_or-set_other words (n / 64) (k / 64) word 0 other_word in
+    rw (kept, ne_eqb k n other) (sym (or-false (is_marked words k))))
+    (cases_eq (k / 64) (n / 64))
+
+-- a span of them, one more
+pub span_none : (k from n : ℕ) (b : Bool) → n ≤ from → b ≡ (b || (nat_le from k && nat_lt k n))
+span_none k from n b h =
+    let none : (nat_le from k && nat_lt k n) ≡ false = grind (arith, nat_tests) in
+    sym (ap (λ v. b || v) none ∙ or-false b)
+
+pub span_more : (k from n : ℕ) (b new old : Bool) → from ≤ n → old ≡ (b || (nat_le from k && nat_lt k n)) → new ≡ (old || nat_eq k n) → new ≡ (b || (nat_le from k && nat_lt k (n + 1)))
+span_more k from n b new old h e f =
+    let more : ((nat_le from k && nat_lt k n) || nat_eq k n) ≡ (nat_le from k && nat_lt k (n + 1)) = grind (arith, nat_tests) in
+    f ∙ ap (λ v. v || nat_eq k n) e ∙ sym (or_assoc b (nat_le from k && nat_lt k n) (nat_eq k n)) ∙ ap (λ v. b || v) more
+
+pub span_end : (k from to n : ℕ) (b new : Bool) → to ≤ n → n ≤ max from to → new ≡ (b || (nat_le from k && nat_lt k n)) → new ≡ (b || (nat_le from k && nat_lt k to))
+span_end k from to n b new h l e =
+    let same : (nat_le from k && nat_lt k n) ≡ (nat_le from k && nat_lt k to) = grind (arith, nat_tests) in
+    e ∙ ap (λ v. b || v) same
+
+-- where nothing is marked
+zeros : (count i : ℕ) → ◌≡◌ {A = ℕ} (get_or (replicate count 0) i 0) 0
+zeros zero i = refl
+zeros (suc count) zero = refl
+zeros (suc count) (suc i) = zeros count i
+
+pub unmarked : (count k : ℕ) → is_marked (replicate count 0) k ≡ false
+unmarked count k = rw (zeros count (k / 64), bit_at-zero (k % 64)) refl
+
+-- the slots of a level below the end of addresses
+pub slots_few : (level x : ℕ) → level < 3 → x ≤ ADDRESS_END → (x + (slot_size level - 1)) / slot_size level ≤ 262144
+slots_few zero x h l = let e : (x + (549755813888 - 1)) / 549755813888 ≤ 262144 = omega arith in e
+slots_few (suc zero) x h l = let e : (x + (1073741824 - 1)) / 1073741824 ≤ 262144 = omega arith in e
+slots_few (suc (suc zero)) x h l = let e : (x + (2097152 - 1)) / 2097152 ≤ 262144 = omega arith in e
+slots_few (suc (suc (suc n))) x h l = absurd (omega arith)
+
+pub slots_fewer : (level x : ℕ) → level < 3 → x ≤ ADDRESS_END → x / slot_size level ≤ 262144
+slots_fewer zero x h l = let e : x / 549755813888 ≤ 262144 = omega arith in e
+slots_fewer (suc zero) x h l = let e : x / 1073741824 ≤ 262144 = omega arith in e
+slots_fewer (suc (suc zero)) x h l = let e : x / 2097152 ≤ 262144 = omega arith in e
+slots_fewer (suc (suc (suc n))) x h l = absurd (omega arith)
+
+pub slot_below : (level x : ℕ) → level < 3 → x < ADDRESS_END → x / slot_size level < ADDRESS_END / slot_size level
+slot_below zero x h l = let e : x / 549755813888 < 1 = omega arith in e
+slot_below (suc zero) x h l = let e : x / 1073741824 < 512 = omega arith in e
+slot_below (suc (suc zero)) x h l = let e : x / 2097152 < 262144 = omega arith in e
+slot_below (suc (suc (suc n))) x h l = absurd (omega arith)
+
+pub place_fits : (level n : ℕ) → level < 3 → n < 262144 → n * slot_size level < 2 ^ 58
+place_fits zero n h l = let e : n * 549755813888 < 2 ^ 58 = omega arith in e
+place_fits (suc zero) n h l = let e : n * 1073741824 < 2 ^ 58 = omega arith in e
+place_fits (suc (suc zero)) n h l = let e : n * 2097152 < 2 ^ 58 = omega arith in e
+place_fits (suc (suc (suc n'))) n h l = absurd (omega arith)
+
+-- a slot below the end of addresses ends there
+next_slot : (n size : ℕ) → (n + 1) * size ≡ n * size + size
+next_slot n size = let e : (n + 1) * size ≡ n * size + 1 * size = add-mul n 1 size in omega arith
+
+slot_ends : (n size top : ℕ) → 0 < size → n < top / size → n * size + size ≤ top
+slot_ends n size top some h =
+    let m : n + 1 ≤ top / size = omega arith in
+    let e : (n + 1) * size ≤ top = (le-div_iff_mul-le {k = size} {x = n + 1} {y = top} some).0 m in
+    let f = next_slot n size in omega arith
+
+-- the slots that an interval touches
+pub touched_slots : (start end size n top : ℕ) → 0 < size → start < end → n < top / size → (nat_le (min start top / size) n && nat_lt n ((min end top + (size - 1)) / size)) ≡ touches start end (n * size) size
+touched_slots start end size n top some order h =
+    let ends = slot_ends n size top some h in
+    let next = next_slot n size in
+    same_test (nat_le (min start top / size) n && nat_lt n ((min end top + (size - 1)) / size)) (touches start end (n * size) size)
+    (λ e.
+    let p = and_parts (nat_le (min start top / size) n) (nat_lt n ((min end top + (size - 1)) / size)) e in
+    let a : min start top / size < n + 1 = (let l = leb-true (min start top / size) n p.0 in omega arith) in
+    let b : min start top < (n + 1) * size = (div-lt_iff_lt-mul {k = size} {x = min start top} {y = n + 1} some).0 a in
+    let c : n + 1 ≤ (min end top + (size - 1)) / size = (let l = ltb-true n ((min end top + (size - 1)) / size) p.1 in omega arith) in
+    let d : (n + 1) * size ≤ min end top + (size - 1) = (le-div_iff_mul-le {k = size} {x = n + 1} {y = min end top + (size - 1)} some).0 c in
+    and_from (nat_lt start end) (nat_lt start (n * size + size) && nat_lt (n * size) end) (lt-ltb start end order)
+    (and_from (nat_lt start (n * size + size)) (nat_lt (n * size) end) (lt-ltb start (n * size + size) (omega arith)) (lt-ltb (n * size) end (omega arith))))
+    (λ e.
+    let p = and_parts (nat_lt start end) (nat_lt start (n * size + size) && nat_lt (n * size) end) e in
+    let q = and_parts (nat_lt start (n * size + size)) (nat_lt (n * size) end) p.1 in
+    let x = ltb-true start (n * size + size) q.0 in
+    let y = ltb-true (n * size) end q.1 in
+    let a : min start top < (n + 1) * size = omega arith in
+    let b : min start top / size < n + 1 = (div-lt_iff_lt-mul {k = size} {x = min start top} {y = n + 1} some).1 a in
+    let c : (n + 1) * size ≤ min end top + (size - 1) = omega arith in
+    let d : n + 1 ≤ (min end top + (size - 1)) / size = (le-div_iff_mul-le {k = size} {x = n + 1} {y = min end top + (size - 1)} some).1 c in
+    and_from (nat_le (min start top / size) n) (nat_lt n ((min end top + (size - 1)) / size)) (le-leb (min start top / size) n (omega arith)) (lt-ltb n ((min end top + (size - 1)) / size) (omega arith)))
+
+-- the slots that it spans
+pub spanned_slots : (start end size n top : ℕ) → 0 < size → n < top / size → (nat_le ((min start top + (size - 1)) / size) n && nat_lt n (min end top / size)) ≡ spans start end (n * size) size
+spanned_slots start end size n top some h =
+    let ends = slot_ends n size top some h in
+    let next = next_slot n size in
+    same_test (nat_le ((min start top + (size - 1)) / size) n && nat_lt n (min end top / size)) (spans start end (n * size) size)
+    (λ e.
+    let p = and_parts (nat_le ((min start top + (size - 1)) / size) n) (nat_lt n (min end top / size)) e in
+    let a : (min start top + (size - 1)) / size < n + 1 = (let l = leb-true ((min start top + (size - 1)) / size) n p.0 in omega arith) in
+    let b : min start top + (size - 1) < (n + 1) * size = (div-lt_iff_lt-mul {k = size} {x = min start top + (size - 1)} {y = n + 1} some).0 a in
+    let c : n + 1 ≤ min end top / size = (let l = ltb-true n (min end top / size) p.1 in omega arith) in
+    let d : (n + 1) * size ≤ min end top = (le-div_iff_mul-le {k = size} {x = n + 1} {y = min end top} some).0 c in
+    and_from (nat_le start (n * size)) (nat_le (n * size + size) end) (le-leb start (n * size) (omega arith)) (le-leb (n * size + size) end (omega arith)))
+    (λ e.
+    let p = and_parts (nat_le start (n * size)) (nat_le (n * size + size) end) e in
+    let x = leb-true start (n * size) p.0 in
+    let y = leb-true (n * size + size) end p.1 in
+    let a : min start top + (size - 1) < (n + 1) * size = omega arith in
+    let b : (min start top + (size - 1)) / size < n + 1 = (div-lt_iff_lt-mul {k = size} {x = min start top + (size - 1)} {y = n + 1} some).1 a in
+    let c : (n + 1) * size ≤ min end top = omega arith in
+    let d : n + 1 ≤ min end top / size = (le-div_iff_mul-le {k = size} {x = n + 1} {y = min end top} some).1 c in
+    and_from (nat_le ((min start top + (size - 1)) / size) n) (nat_lt n (min end top / size)) (le-leb ((min start top + (size - 1)) / size) n (omega arith)) (lt-ltb n (min end top / size) (omega arith)))
+
+-- the slot that a number lies inside of
+pub inside_only : (n size number : ℕ) → 0 < size → (number / size) * size < number → nat_eq n (number / size) ≡ is_inside (n * size) size number
+inside_only n size number some above =
+    let q = number / size in
+    let over : number < q * size + size = lt-div-mul-add {a = number} {b = size} some in
+    same_test (nat_eq n q) (is_inside (n * size) size number)
+    (λ e.
+    let same : n ≡ q = eqb-true n q e in
+    let P : ℕ → Type 0 = λ m. is_inside (m * size) size number ≡ true in
+    subst P (sym same) (and_from (nat_lt (q * size) number) (nat_lt number (q * size + size)) (lt-ltb (q * size) number above) (lt-ltb number (q * size + size) over)))
+    (λ e.
+    let p = and_parts (nat_lt (n * size) number) (nat_lt number (n * size + size)) e in
+    let x = ltb-true (n * size) number p.0 in
+    let y = ltb-true number (n * size + size) p.1 in
+    let next = next_slot n size in
+    let low : n ≤ q = (le-div_iff_mul-le {k = size} {x = n} {y = number} some).1 (omega arith) in
+    let high : q < n + 1 = (div-lt_iff_lt-mul {k = size} {x = number} {y = n + 1} some).1 (omega arith) in
+    eq-eqb n q (omega arith))
+
+-- there is none where it begins one
+pub inside_none : (n size number : ℕ) → 0 < size → number ≤ (number / size) * size → is_inside (n * size) size number ≡ false
+inside_none n size number some begins =
+    let q = number / size in
+    let under : q * size ≤ number = div-mul-le_self number size in
+    false_from_ne_true (is_inside (n * size) size number) (λ e.
+    let p = and_parts (nat_lt (n * size) number) (nat_lt number (n * size + size)) e in
+    let x = ltb-true (n * size) number p.0 in
+    let y = ltb-true number (n * size + size) p.1 in
+    let next = next_slot n size in
+    let low : n < q = (let l : n * size < q * size = omega arith in lt_of_mul-lt-mul_right size {m = n} {n = q} l) in
+    let more : (n + 1) * size ≤ q * size = mul-le-mul_right size (let l : n + 1 ≤ q = omega arith in l) in
+    absurd (omega arith))
+
+-- nor where it lies past the end of addresses
+pub inside_past : (n size number top : ℕ) → 0 < size → n < top / size → top ≤ number → is_inside (n * size) size number ≡ false
+inside_past n size number top some h past =
+    let ends = slot_ends n size top some h in
+    and_right (nat_lt (n * size) number) (nat_lt number (n * size + size)) (le-ltb number (n * size + size) (omega arith))
+
+-- places are had in part where one of the ends lies inside of them
+pub ends_cut : (at size start end : ℕ) → 0 < size → start < end → (is_inside at size start || is_inside at size end) ≡ (touches start end at size && not (spans start end at size))
+ends_cut at size start end some order = grind (arith, nat_tests)
+
+-- a block may map a slot where the level's blocks fit the region and no other cell cuts the slot
+and_four : (a b c d u : Bool) → (a && (b && (c && (d && u)))) ≡ ((a && (b && (c && d))) && u)
+and_four true true true d u = refl
+and_four true true false d u = refl
+and_four true false c d u = refl
+and_four false b c d u = refl
+
+pub block_fits : (claims : Claims) (level start : ℕ) (region : Region) → may_be_block claims level start region ≡ (fits_blocks level region && not (claims.root && are_cut claims.holders (place_in region start) (slot_size level)))
+block_fits claims level start region = and_four (nat_lt 0 level) (may_have_blocks region) (not (is_comm region)) ((region.phys_start % slot_size level) == (region.virt_start % slot_size level)) (not (claims.root && are_cut claims.holders (place_in region start) (slot_size level)))
+
+above_pages : (level : ℕ) → level < 3 → (level == 3) ≡ false
+above_pages level h = ne_eqb level 3 (λ e. absurd (omega arith))
+
+pub leaf_fits : (claims : Claims) (level start : ℕ) (region : Region) → level < 3 → is_mapped region ≡ true → fits_blocks level region ≡ true → is_leaf_by claims level start region ≡ (spans region.virt_start (virt_end region) start (slot_size level) && not (claims.root && are_cut claims.holders (place_in region start) (slot_size level)))
+leaf_fits claims level start region h mapped fits =
+    let s = spans region.virt_start (virt_end region) start (slot_size level) in
+    let u = not (claims.root && are_cut claims.holders (place_in region start) (slot_size level)) in
+    ap (λ v. v && (s && ((level == 3) || may_be_block claims level start region))) mapped
+    ∙ ap (λ v. s && (v || may_be_block claims level start region)) (above_pages level h)
+    ∙ ap (λ v. s && v) (block_fits claims level start region ∙ ap (λ v. v && u) fits)
+
+-- marks of a span but for some of its slots
+one_step : (b a u e : Bool) → (e ≡ true → u ≡ true) → ((b || (a && u)) || e) ≡ (b || ((a || e) && u))
+one_step true a u e h = refl
+one_step false true true e h = refl
+one_step false true false e h = same_test e false (λ t. h t) (λ t. absurd (both_ways false refl t))
+one_step false false true e h = and_comm' e
+  where
+    and_comm' : (v : Bool) → v ≡ (v && true)
+    and_comm' true = refl
+    and_comm' false = refl
+one_step false false false true h = absurd (both_ways false refl (h refl))
+one_step false false false false h = refl
+
+no_step : (b a u e : Bool) → (e ≡ true → u ≡ false) → (b || (a && u)) ≡ (b || ((a || e) && u))
+no_step true a u e h = refl
+no_step false true u e h = refl
+no_step false false u true h = sym (h refl)
+no_step false false u false h = refl
+
+abbrev pub is_from : ℕ → ℕ → ℕ → Bool
+is_from from n k = nat_le from k && nat_lt k n
+
+one_from : (from n k : ℕ) → from ≤ n → (is_from from n k || nat_eq k n) ≡ is_from from (n + 1) k
+one_from from n k h = grind (arith, nat_tests)
+
+pub leaf_step : (kept : ℕ → Bool) (k from n : ℕ) (b old new : Bool) → from ≤ n → kept n ≡ false → old ≡ (b || (is_from from n k && not (kept k))) → new ≡ (old || nat_eq k n) → new ≡ (b || (is_from from (n + 1) k && not (kept k)))
+leaf_step kept k from n b old new h free e f =
+    f ∙ ap (λ v. v || nat_eq k n) e
+    ∙ one_step b (is_from from n k) (not (kept k)) (nat_eq k n) (λ t. not_from_false (kept k) (ap kept (eqb-true k n t) ∙ free))
+    ∙ ap (λ v. b || (v && not (kept k))) (one_from from n k h)
+
+pub leaf_skip : (kept : ℕ → Bool) (k from n : ℕ) (b old : Bool) → from ≤ n → kept n ≡ true → old ≡ (b || (is_from from n k && not (kept k))) → old ≡ (b || (is_from from (n + 1) k && not (kept k)))
+leaf_skip kept k from n b old h held e =
+    e
+    ∙ no_step b (is_from from n k) (not (kept k)) (nat_eq k n) (λ t. not_from_true (kept k) (ap kept (eqb-true k n t) ∙ held))
+    ∙ ap (λ v. b || (v && not (kept k))) (one_from from n k h)
+
+pub leaf_end : (kept : ℕ → Bool) (k from to n : ℕ) (b new span : Bool) → to ≤ n → n ≤ max from to → is_from from to k ≡ span → new ≡ (b || (is_from from n k && not (kept k))) → new ≡ (b || (span && not (kept k)))
+leaf_end kept k from to n b new span h l s e =
+    let same : is_from from n k ≡ is_from from to k = grind (arith, nat_tests) in
+    e ∙ ap (λ v. b || (v && not (kept k))) (same ∙ s)
+
+-- one element more, of a list that marks go over
+pub any_step : {X : Type 0} (p : X → Bool) (xs : List X) (i : ℕ) (d : X) (b old new : Bool) → i < length xs → old ≡ (b || list_any p (take i xs)) → new ≡ (old || p (get_or xs i d)) → new ≡ (b || list_any p (take (i + 1) xs))
+any_step p xs i d b old new l e f =
+    f ∙ ap (λ v. v || p (get_or xs i d)) e
+    ∙ sym (or_assoc b (list_any p (take i xs)) (p (get_or xs i d)))
+    ∙ sym (ap (λ v. b || v) (list_any_more p xs i d l))

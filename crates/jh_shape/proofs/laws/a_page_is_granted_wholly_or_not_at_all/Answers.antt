@@ -1,0 +1,5 @@
+use Rattle.jh_shape.proofs.GrantLemmas.{page_granted}
+use Rattle.jh_shape.proofs.laws.a_page_is_granted_wholly_or_not_at_all.Goals as goal
+
+pub returns : goal.returns
+returns c = page_granted

@@ -1,0 +1,5 @@
+use Rattle.jh_shape.proofs.LawLemmas.{counted_by_wants}
+use Rattle.jh_shape.proofs.laws.each_wanted_table_is_counted.Goals as goal
+
+pub returns : goal.returns
+returns c = counted_by_wants

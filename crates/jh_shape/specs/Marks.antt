@@ -1,0 +1,23 @@
+-- Slots, a bit each, 64 in a word.
+use Rattle.std.specs.Prelude.{◌≡◌, ℕ, ◌+◌, ◌*◌, ◌/◌, ◌%◌, ◌<◌, Bool, ◌&&◌, nat_eq, nat_lt, List, slice_index, IsTrue}
+use Rattle.std.specs.Int.{bit_at}
+use Rattle.jh_num.specs.declared.address.TheConstants.{ADDRESS_END}
+use Rattle.jh_shape.specs.Claims.{Claims}
+use Rattle.jh_shape.specs.Shapes.{slot_size, are_cut}
+
+-- the bit of that number is set
+abbrev pub is_marked : List ℕ → ℕ → Bool
+is_marked words n = nat_eq (bit_at (slice_index words (n / 64)) (n % 64)) 1
+
+-- of the slots of the level below the end of addresses those are marked that pass the test
+abbrev pub AreMarked : List ℕ → ℕ → (ℕ → Bool) → Type 0
+AreMarked words level test = (n : ℕ) → n < ADDRESS_END / slot_size level → is_marked words n ≡ test n
+
+-- the slots of places are marked that other cells cut, which is asked for root alone
+abbrev pub AreCuts : List ℕ → ℕ → Claims → Type 0
+AreCuts words level claims =
+    IsTrue claims.root → AreMarked words level (λ n. are_cut claims.holders (n * slot_size level) (slot_size level))
+
+-- the number lies among so many from `at` on, and isn't the first of them
+abbrev pub is_inside : ℕ → ℕ → ℕ → Bool
+is_inside at size number = nat_lt at number && nat_lt number (at + size)

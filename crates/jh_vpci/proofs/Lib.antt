@@ -1,0 +1,3 @@
+pub mod SplicedLemmas
+pub mod BitLemmas
+pub mod WordLemmas

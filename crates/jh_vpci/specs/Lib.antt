@@ -1,0 +1,4 @@
+pub mod Windows
+pub mod Space
+pub mod Words
+pub mod Writes

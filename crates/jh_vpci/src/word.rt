@@ -1,0 +1,85 @@
+//! Parts of a word of 32 bits: the bytes of one access, and single bits.
+ghost use Rattle.std.specs.Prelude.{◌≡◌, ◌+◌, ◌*◌, ◌/◌, ◌%◌, ◌^◌, ◌<◌, ◌≤◌, if◌then◌else◌};
+ghost use Rattle.jh_vpci.specs.Writes.{has_bit, spliced};
+
+use jh_num::Range;
+
+/// What the lowest byte from `at` on counts in its word.
+fn unit(at: u16) -> u64
+    ensures value { result ≡ 2 ^ (8 * (at % 4)) }
+    ensures bound { result ≤ 2 ^ 24 }
+{
+    1u64 << (u32::from(at % 4) * 8)
+}
+
+/// The numbers of so many bytes.
+fn span(width: u8) -> u64
+    requires { width ≤ 4 }
+    ensures value { result ≡ 2 ^ (8 * width) }
+    ensures bound { result ≤ 2 ^ 32 }
+{
+    1u64 << (u32::from(width) * 8)
+}
+
+/// The bytes of the word from `at` on.
+pub(crate) fn bytes_at(word: u32, at: u16, width: u8) -> u32
+    requires { width ≤ 4 }
+    ensures { result ≡ word / 2 ^ (8 * (at % 4)) % 2 ^ (8 * width) }
+{
+    (u64::from(word) / unit(at) % span(width)) as u32
+}
+
+/// The word with the lowest bytes of the value in place of its bytes from `at` on.
+pub(crate) fn with_bytes(word: u32, at: u16, width: u8, value: u32) -> u32
+    requires { at % 4 + width ≤ 4 }
+    ensures { result ≡ spliced word at width value }
+{
+    let unit = unit(at);
+    let span = span(width);
+    let beyond = unit * span;
+    let low = u64::from(word) % unit;
+    let put = u64::from(value) % span * unit;
+    let high = u64::from(word) / beyond * beyond;
+    (low + put + high) as u32
+}
+
+/// Whether the bit is 1.
+pub(crate) fn has_bit(word: u32, bit: u8) -> bool
+    requires { bit < 32 }
+    ensures { result ≡ has_bit word bit }
+{
+    (word >> bit) % 2 == 1
+}
+
+/// `n` where `on`, else 0.
+pub(crate) fn set(n: u32, on: bool) -> u32
+    ensures { result ≡ (if on then n else 0) }
+{
+    if on { n } else { 0 }
+}
+
+/// The lower half.
+pub(crate) fn low(n: u64) -> u32
+    ensures { result ≡ n % 2 ^ 32 }
+{
+    (n % 0x1_0000_0000) as u32
+}
+
+/// The upper half.
+pub(crate) fn high(n: u64) -> u32
+    ensures { result ≡ n / 2 ^ 32 }
+{
+    (n / 0x1_0000_0000) as u32
+}
+
+/// So many bytes from the start on.
+pub(crate) fn window_from(start: u32, size: u32) -> Range
+    ensures start { result.start ≡ start }
+    ensures end { result.end ≡ start + size }
+{
+    let start = u64::from(start);
+    Range {
+        start,
+        end: start + u64::from(size),
+    }
+}
