@@ -53,7 +53,10 @@ fn root(alloc: Global, regions: &[Region]) -> Result<CellConfig, NoMemory> {
 fn system(root: CellConfig) -> SystemConfig {
     SystemConfig {
         flags: 0,
-        hypervisor_memory: region(0x7fc0_0000, 0),
+        hypervisor_memory: Region {
+            size: 0x1_0000,
+            ..region(0x7fc0_0000, 0)
+        },
         debug_console: Console {
             address: 0,
             size: 0,

@@ -13,6 +13,9 @@ const BASE: u64 = 0x4000_0000;
 /// Where the hypervisor's memory begins.
 const HYPERVISOR: u64 = 0x7fc0_0000;
 
+/// The bytes of that memory: sixteen pages.
+const POOL: u64 = 0x1_0000;
+
 /// The last page below 2^39.
 const LAST: u64 = 0x7f_ffff_f000;
 
@@ -49,7 +52,7 @@ fn root(alloc: Global, region: Region, cpus: u8) -> Result<CellConfig, NoMemory>
 fn system(root: CellConfig) -> SystemConfig {
     SystemConfig {
         flags: 0,
-        hypervisor_memory: region(HYPERVISOR, 0x1000, 0),
+        hypervisor_memory: region(HYPERVISOR, POOL, 0),
         debug_console: Console {
             address: 0,
             size: 0,
@@ -133,8 +136,8 @@ fn images_are_admitted_by_their_region(rt: HostRuntime) -> Result<(), Fail> {
         (BASE, 0x1000, 0x23, false),
         (HYPERVISOR - 0x1000, 0x1000, 3, true),
         (HYPERVISOR - 0x1000, 0x1001, 3, false),
-        (HYPERVISOR + 0x1000, 0x1000, 3, true),
-        (HYPERVISOR + 0xfff, 0x1000, 3, false),
+        (HYPERVISOR + POOL, 0x1000, 3, true),
+        (HYPERVISOR + POOL - 1, 0x1000, 3, false),
         (HYPERVISOR, 0, 3, true),
         (LAST, 0x1000, 3, true),
         (LAST, 0x1001, 3, false),
@@ -151,7 +154,7 @@ fn images_are_admitted_by_their_preload_and_their_operations(rt: HostRuntime) ->
     for (at, op, want) in [
         (HYPERVISOR - 2, READ, true),
         (HYPERVISOR - 1, READ, false),
-        (HYPERVISOR + 0xfff, READ, false),
+        (HYPERVISOR + POOL - 1, READ, false),
         (LAST + 0xffe, READ, true),
         (LAST + 0xfff, READ, false),
         (BASE, Op::Read { width: 3, at: 0 }, false),
