@@ -1,10 +1,10 @@
 -- Places, one page's at a time.
-use Rattle.std.proofs.Common.{◌≡◌, ℕ, zero, suc, ◌+◌, ◌-◌, ◌%◌, ◌<◌, ◌≤◌, List, [], ◌∷◌, ◌++◌, Option, Some, None, refl, ap, sym, ◌∙◌, arith}
+use Rattle.std.proofs.Common.{◌≡◌, ℕ, zero, suc, ◌+◌, ◌<◌, ◌≤◌, List, [], ◌∷◌, ◌++◌, Option, Some, None, refl, ap, sym, ◌∙◌, arith}
 use Rattle.std.specs.Prelude.{option_map, option_and_then}
 use Rattle.std.proofs.lemmas.Grind.{common_steps}
 use Rattle.jh_num.specs.declared.address.TheConstants.{ADDRESS_END}
 use Rattle.jh_history.specs.declared.place.Place.{Place}
-use Rattle.jh_history.specs.declared.access.Reach.TheVariants.{Memory, Nothing}
+use Rattle.jh_history.specs.declared.access.Reach.TheVariants.{Nothing}
 use Rattle.jh_history.specs.Places.{further, places_in_row}
 use Rattle.jh_history.specs.Access.{places_from, memory_or_nothing, reach_by}
 use Rattle.jh_history.proofs.PlaceLemmas.{further-none, further-next}

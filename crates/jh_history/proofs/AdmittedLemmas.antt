@@ -1,6 +1,6 @@
 -- What an admitted image gives its readers.
-use Rattle.std.proofs.Common.{◌≡◌, ◌<◌, ◌≤◌, ℕ, zero, suc, List, [], ◌∷◌, Bool, true, false, cond, Option, Some, None, arith, refl}
-use Rattle.std.specs.Prelude.{IsTrue, find, slice_get, All, IfSome, ◌||◌, ◌==◌}
+use Rattle.std.proofs.Common.{◌<◌, ◌≤◌, ℕ, List, [], ◌∷◌, Bool, true, false, cond, Option, Some, arith}
+use Rattle.std.specs.Prelude.{IsTrue, find, All}
 use Rattle.std.specs.List.{AllByRecursion}
 use Rattle.std.specs.Option.{option_map_or}
 use Rattle.std.proofs.lemmas.List.Elements.{recursion_from_All, All-from_recursion}
@@ -8,7 +8,6 @@ use Rattle.jh_cellcfg.specs.declared.region.Region.{Region}
 use Rattle.jh_cellcfg.specs.Regions.{IsInRange}
 use Rattle.jh_script.specs.declared.image.Image.{Image}
 use Rattle.jh_script.specs.declared.image.Program.{Program}
-use Rattle.jh_script.specs.declared.op.Op.{Op}
 use Rattle.jh_script.specs.Operations.{IsPlain, is_width}
 use Rattle.jh_history.specs.Lives.{program_of, is_program_of}
 use Rattle.jh_check.specs.Clean.{IsSoundRoot}

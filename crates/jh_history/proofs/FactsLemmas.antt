@@ -25,11 +25,11 @@ unfolding facts
 facts-nil image = refl
 
 -- what an entry does to each fact
-pub byte-after : (image : Image) (f : Facts) (entry : Entry) → (after image f entry).byte ≡ byte_after image f entry.cell entry.act
+pub byte-after : (image : Image) (f : Facts) (entry : Entry) → (after image f entry).byte ≡ byte_after image f entry
 unfolding after
 byte-after image f entry = refl
 
-pub cpu-after : (image : Image) (f : Facts) (entry : Entry) → (after image f entry).cpu ≡ cpu_after f entry
+pub cpu-after : (image : Image) (f : Facts) (entry : Entry) → (after image f entry).cpu ≡ cpu_after image f entry
 unfolding after
 cpu-after image f entry = refl
 
@@ -52,10 +52,10 @@ IsLegal-nil image = tt
 pub facts-next : (image : Image) (entries : List Entry) (i : ℕ) (d : Entry) → i < length entries → facts image (take (i + 1) entries) ≡ after image (facts image (take i entries)) (get_or entries i d)
 facts-next image entries i d lt = ap (facts image) (take_more entries i d lt) ∙ facts-push image (take i entries) (get_or entries i d)
 
-pub byte-next : (image : Image) (entries : List Entry) (i : ℕ) (d : Entry) (q : Place) → i < length entries → (facts image (take (i + 1) entries)).byte q ≡ byte_after image (facts image (take i entries)) (get_or entries i d).cell (get_or entries i d).act q
+pub byte-next : (image : Image) (entries : List Entry) (i : ℕ) (d : Entry) (q : Place) → i < length entries → (facts image (take (i + 1) entries)).byte q ≡ byte_after image (facts image (take i entries)) (get_or entries i d) q
 unfolding after
 byte-next image entries i d q lt = ap (λ (f : Facts). f.byte q) (facts-next image entries i d lt)
 
-pub cpu-next : (image : Image) (entries : List Entry) (i : ℕ) (d : Entry) (k : ℕ) → i < length entries → (facts image (take (i + 1) entries)).cpu k ≡ cpu_after (facts image (take i entries)) (get_or entries i d) k
+pub cpu-next : (image : Image) (entries : List Entry) (i : ℕ) (d : Entry) (k : ℕ) → i < length entries → (facts image (take (i + 1) entries)).cpu k ≡ cpu_after image (facts image (take i entries)) (get_or entries i d) k
 unfolding after
 cpu-next image entries i d k lt = ap (λ (f : Facts). f.cpu k) (facts-next image entries i d lt)

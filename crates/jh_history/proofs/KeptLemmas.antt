@@ -1,8 +1,7 @@
 -- What the slow plain program keeps.
-use Rattle.std.proofs.Common.{◌≡◌, ℕ, zero, suc, ◌+◌, ◌-◌, ◌*◌, ◌/◌, ◌%◌, ◌^◌, ◌<◌, ◌≤◌, List, [], ◌∷◌, ◌++◌, length, map, Bool, true, false, cond, Some, None, refl, ap, sym, ◌∙◌, arith, append_assoc}
-use Rattle.std.specs.Prelude.{fold, slice_get}
+use Rattle.std.proofs.Common.{◌≡◌, ℕ, ◌+◌, ◌-◌, ◌/◌, ◌%◌, ◌<◌, List, [], ◌∷◌, ◌++◌, Some, ap, sym, ◌∙◌}
+use Rattle.std.specs.Prelude.{slice_get}
 use Rattle.std.proofs.lemmas.List.Sums.{fold-append}
-use Rattle.jh_num.specs.Memory.{spelled}
 use Rattle.jh_script.specs.declared.image.Image.{Image}
 use Rattle.jh_history.specs.declared.place.Place.{Place}
 use Rattle.jh_history.specs.declared.plain.WrittenByte.{WrittenByte}
@@ -10,17 +9,18 @@ use Rattle.jh_history.specs.declared.entry.Entry.{Entry}
 use Rattle.jh_history.specs.declared.access.Reach.{Reach}
 use Rattle.jh_history.specs.declared.access.Reach.TheVariants.{Memory}
 use Rattle.jh_history.specs.declared.access.Wanted.{Wanted}
-use Rattle.jh_history.specs.Places.{further, places_in_row, over, is_same}
+use Rattle.jh_history.specs.Places.{further, places_in_row, over}
 use Rattle.jh_history.specs.Access.{write_of}
 use Rattle.jh_history.specs.Facts.{Facts}
-use Rattle.jh_history.specs.Bytes.{opening_byte, byte_after}
+use Rattle.jh_history.specs.Bytes.{opening_byte, byte_written}
+use Rattle.jh_history.specs.Alone.{IsRoots}
 use Rattle.jh_history.specs.Cpus.{cpu_after}
 use Rattle.jh_history.specs.History.{after}
 use Rattle.jh_history.specs.Wants.{reach_of}
 use Rattle.jh_history.specs.PlainView.{PlainView, overwritten, last_byte, Stands}
 use Rattle.std.proofs.lemmas.List.{append-nil}
 use Rattle.jh_history.proofs.PlaceLemmas.{row-next, written-over}
-use Rattle.jh_history.proofs.FactsLemmas.{same_function}
+use Rattle.jh_history.proofs.AloneLemmas.{alone-after, byte_after-roots}
 
 -- one byte more
 pub last_byte-push : (image : Image) (bytes : List WrittenByte) (one : WrittenByte) (q : Place) → last_byte image (bytes ++ one ∷ []) q ≡ overwritten q (last_byte image bytes q) one
@@ -47,9 +47,14 @@ kept-write i f cell wanted found places value q old stands is_found is =
     ap (over places value q) (sym (stands.bytes q)) ∙ sym (written-over f.byte places value q) ∙ ap (λ (r : Reach). write_of f.byte r value q) (sym is ∙ is_found)
 
 -- one entry more
-pub Stands-after : (i : Image) (f : Facts) (entry : Entry) (old new : PlainView) → Stands old i f → new.image ≡ old.image
-    → ((k : ℕ) → k < 16 → slice_get new.cpus k ≡ Some (cpu_after f entry k))
-    → ((q : Place) → last_byte i new.bytes q ≡ byte_after i f entry.cell entry.act q)
+pub Stands-after : (i : Image) (f : Facts) (entry : Entry) (old new : PlainView) → Stands old i f → IsRoots i entry → new.image ≡ old.image
+    → ((k : ℕ) → k < 16 → slice_get new.cpus k ≡ Some (cpu_after i f entry k))
+    → ((q : Place) → last_byte i new.bytes q ≡ byte_written i f entry.cell entry.act q)
     → Stands new i (after i f entry)
 unfolding after
-Stands-after i f entry old new stands same cpus bytes = record { same = stands.same ∙ sym same; cpus = cpus; bytes = λ q. sym (bytes q) }
+Stands-after i f entry old new stands own same cpus bytes = record {
+  same = stands.same ∙ sym same;
+  alone = alone-after i f entry stands.alone own;
+  cpus = cpus;
+  bytes = λ q. byte_after-roots i f entry q own ∙ sym (bytes q);
+}

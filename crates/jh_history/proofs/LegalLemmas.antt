@@ -1,5 +1,5 @@
 -- Legal journals, and their parts.
-use Rattle.std.proofs.Common.{◌≡◌, ◌≢◌, ℕ, List, [], ◌∷◌, ◌++◌, map, Option, Some, None, refl, sym, ap, ◌∙◌}
+use Rattle.std.proofs.Common.{◌≡◌, ◌<◌, ℕ, zero, suc, length, take, get_or, arith, List, [], ◌∷◌, ◌++◌, map, Some, refl, sym, ap, ◌∙◌}
 use Rattle.std.specs.List.{fold}
 use Rattle.std.proofs.lemmas.Option.{same_Some}
 use Rattle.std.proofs.lemmas.List.Sums.{fold-append}
@@ -7,7 +7,7 @@ use Rattle.jh_script.specs.declared.image.Image.{Image}
 use Rattle.jh_history.specs.declared.entry.Entry.{Entry}
 use Rattle.jh_history.specs.Facts.{Facts}
 use Rattle.jh_history.specs.History.{start, after, facts}
-use Rattle.jh_history.specs.Due.{due_at, due, IsLegal, IsLegalFrom, IsQuiet}
+use Rattle.jh_history.specs.Due.{due_at, due, IsLegal, IsLegalFrom}
 
 due_from : (image : Image) (f : Facts) (before rest : List Entry) (entry : Entry) → IsLegalFrom image f (before ++ entry ∷ rest) → due_at image (fold (after image) f before) entry.cpu ≡ Some entry
 due_from image f [] rest entry legal = legal.0
@@ -17,6 +17,17 @@ due_from image f (first ∷ before) rest entry legal = due_from image (after ima
 pub due-split : (image : Image) (before rest : List Entry) (entry : Entry) → IsLegal image (before ++ entry ∷ rest) → due image before entry.cpu ≡ Some entry
 unfolding IsLegal facts
 due-split image before rest entry legal = due_from image (start image) before rest entry legal
+
+due_at_index : (image : Image) (f : Facts) (entries : List Entry) (k : ℕ) (d : Entry) → IsLegalFrom image f entries → k < length entries
+    → due_at image (fold (after image) f (take k entries)) (get_or entries k d).cpu ≡ Some (get_or entries k d)
+due_at_index image f [] k d legal lt = absurd (omega arith)
+due_at_index image f (entry ∷ entries) zero d legal lt = legal.0
+due_at_index image f (entry ∷ entries) (suc k) d legal lt = due_at_index image (after image f entry) entries k d legal.1 (omega arith)
+
+-- so is the one with a number
+pub due-index : (image : Image) (entries : List Entry) (k : ℕ) (d : Entry) → IsLegal image entries → k < length entries → due image (take k entries) (get_or entries k d).cpu ≡ Some (get_or entries k d)
+unfolding IsLegal facts
+due-index image entries k d legal lt = due_at_index image (start image) entries k d legal lt
 
 begins_from : (image : Image) (f : Facts) (before rest : List Entry) → IsLegalFrom image f (before ++ rest) → IsLegalFrom image f before
 begins_from image f [] rest legal = tt

@@ -11,3 +11,4 @@ pub mod KeptLemmas
 pub mod ItemsLemmas
 pub mod ApartLemmas
 pub mod LegalLemmas
+pub mod AloneLemmas

@@ -1,6 +1,6 @@
 -- What root reaches in an admitted image is physical memory.
-use Rattle.std.proofs.Common.{◌≡◌, ℕ, zero, suc, ◌+◌, ◌<◌, ◌≤◌, List, [], ◌∷◌, Bool, true, false, cond, leb, eqb, Option, Some, None, refl, sym, ap, ◌∙◌, subst, arith}
-use Rattle.std.specs.Prelude.{All, Contains, option_map, option_and_then, nat_le}
+use Rattle.std.proofs.Common.{◌≡◌, ℕ, zero, suc, ◌+◌, ◌<◌, List, [], ◌∷◌, Bool, true, false, cond, leb, eqb, Option, Some, None, refl, sym, ◌∙◌, subst, arith}
+use Rattle.std.specs.Prelude.{Contains, option_map, option_and_then}
 use Rattle.std.specs.List.{AllByRecursion}
 use Rattle.std.specs.Option.{option_map_or}
 use Rattle.std.proofs.lemmas.Bool.{true≢false}
@@ -26,6 +26,7 @@ use Rattle.jh_history.specs.Wants.{IsReachOfAct, IsPhysicalOf}
 use Rattle.jh_history.specs.Access.{gives, region_of, place_in_cell, place_of, places_from, memory_or_nothing, reach_by, IsPhysical}
 use Rattle.jh_history.specs.Admitted.{IsAdmitted}
 use Rattle.jh_history.specs.Lives.{regions_in}
+use Rattle.jh_history.proofs.AloneLemmas.{reach-alone}
 use Rattle.jh_history.proofs.AdmittedLemmas.{sound_root}
 use Rattle.jh_history.proofs.GrantLemmas.{gives-has, has-some}
 
@@ -79,23 +80,23 @@ none_in image true admitted = λ r held some. (All-contains (λ (x : Region). 0 
 none_in image false admitted = λ r held some. let lt : held.0 < 0 = held.1 in absurd (omega arith)
 
 -- so it is of each cell of an admitted image
-pub reach-physical : (image : Image) (id : ℕ) (access : Access) (at width : ℕ) → IsAdmitted image → IsPhysical (reach_by (place_of id (regions_in image id) access) at width)
+pub reach-physical : (image : Image) (id : ℕ) (access : Access) (at width : ℕ) → IsAdmitted image → IsPhysical (reach_by (place_of id (regions_in image [] id) access) at width)
 reach-physical image id access at width admitted =
-    reach_by-physical (place_of id (regions_in image id) access) (λ a p e. place_of-physical id (regions_in image id) access a p (none_in image (eqb id image.system.root.id) admitted) e) at width
+    reach_by-physical (place_of id (regions_in image [] id) access) (λ a p e. place_of-physical id (regions_in image [] id) access a p (none_in image (eqb id image.system.root.id) admitted) e) at width
 
 -- so is what a write of such an image reaches
-pub write-physical : (image : Image) (f : Facts) (id : ℕ) (act : Act) (found : Reach) → IsAdmitted image → IsReachOfAct image f id act found → IsPhysicalOf act found
-write-physical image f id (Read width at got) found admitted is = tt
-write-physical image f id (Write width at value ok) found admitted is = subst IsPhysical (sym is) (reach-physical image id ToWrite at width admitted)
-write-physical image f id (Fetch at got) found admitted is = tt
-write-physical image f id (Await width at value ok) found admitted is = tt
-write-physical image f id (Irq device vector) found admitted is = tt
-write-physical image f id (Hvc code a b answer) found admitted is = tt
-write-physical image f id (Begin code a b) found admitted is = tt
-write-physical image f id Stop found admitted is = tt
-write-physical image f id (Decide refused) found admitted is = tt
-write-physical image f id (Settle how) found admitted is = tt
-write-physical image f id Commit found admitted is = tt
-write-physical image f id (Note other) found admitted is = tt
-write-physical image f id (Noted other how) found admitted is = tt
-write-physical image f id (Finish answer) found admitted is = tt
+pub write-physical : (image : Image) (f : Facts) (id : ℕ) (act : Act) (found : Reach) → IsAdmitted image → f.cells ≡ [] → IsReachOfAct image f id act found → IsPhysicalOf act found
+write-physical image f id (Read width at got) found admitted none is = tt
+write-physical image f id (Write width at value ok) found admitted none is = subst IsPhysical (sym (is ∙ reach-alone image f id ToWrite at width none)) (reach-physical image id ToWrite at width admitted)
+write-physical image f id (Fetch at got) found admitted none is = tt
+write-physical image f id (Await width at value ok) found admitted none is = tt
+write-physical image f id (Irq device vector) found admitted none is = tt
+write-physical image f id (Hvc code a b answer) found admitted none is = tt
+write-physical image f id (Begin code a b) found admitted none is = tt
+write-physical image f id Stop found admitted none is = tt
+write-physical image f id (Decide refused) found admitted none is = tt
+write-physical image f id (Settle how) found admitted none is = tt
+write-physical image f id Commit found admitted none is = tt
+write-physical image f id (Note other) found admitted none is = tt
+write-physical image f id (Noted other how) found admitted none is = tt
+write-physical image f id (Finish answer) found admitted none is = tt

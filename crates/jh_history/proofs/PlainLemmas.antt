@@ -1,9 +1,10 @@
 -- In a legal journal of an admitted image each act has a width that an access may have.
-use Rattle.std.proofs.Common.{◌≡◌, ℕ, zero, suc, ◌≤◌, List, [], ◌∷◌, Bool, true, false, cond, Option, Some, None, subst, eqb, sym, ◌∙◌, refl}
+use Rattle.std.proofs.Common.{◌≡◌, ℕ, zero, suc, List, [], ◌∷◌, Bool, true, false, cond, Option, Some, None, subst, eqb, sym, ◌∙◌, refl}
 use Rattle.std.specs.Prelude.{option_map, option_and_then, slice_get, All, IfSome}
 use Rattle.std.specs.List.{AllByRecursion}
 use Rattle.std.specs.Option.{option_map_or}
 use Rattle.jh_cellcfg.specs.declared.config.CellConfig.{CellConfig}
+use Rattle.jh_cellcfg.specs.declared.live.Live.{Live}
 use Rattle.std.proofs.lemmas.List.Elements.{recursion_from_All, All-from_recursion}
 use Rattle.std.proofs.lemmas.Option.{none-some, same_Some}
 use Rattle.jh_script.specs.declared.image.Image.{Image}
@@ -16,7 +17,7 @@ use Rattle.jh_history.specs.declared.entry.Act.TheVariants.{Await as AwaitAct, S
 use Rattle.jh_cpu.specs.declared.cpu.Cpu.{Cpu}
 use Rattle.jh_history.specs.Access.{read_of}
 use Rattle.jh_cellcfg.specs.Cells.{name_of}
-use Rattle.jh_history.specs.Lives.{is_on_board, program_of, ops_in, op_at}
+use Rattle.jh_history.specs.Lives.{is_on_board, program_of, cell_in, ops_in, op_at}
 use Rattle.jh_history.specs.Facts.{Facts}
 use Rattle.jh_history.specs.History.{start, after}
 use Rattle.jh_history.specs.Grants.{reach}
@@ -27,13 +28,13 @@ use Rattle.jh_history.specs.Admitted.{IsAdmitted, IsPlainAct, IsPlainEntry}
 use Rattle.jh_history.proofs.AdmittedLemmas.{program_of-plain, width_le}
 use Rattle.jh_history.proofs.DueLemmas.{due_at-absent, due_at-present}
 
-ops_by : (image : Image) (cpu : ℕ) (b : Bool) → IsAdmitted image
-    → AllByRecursion IsPlain (option_map_or (λ (c : CellConfig). program_of image (name_of c) cpu) (cond b (Some image.system.root) None) [])
-ops_by image cpu true admitted = recursion_from_All IsPlain (program_of image (name_of image.system.root) cpu) (program_of-plain image (name_of image.system.root) cpu admitted)
-ops_by image cpu false admitted = tt
+ops_by : (image : Image) (cpu : ℕ) (cell : Option CellConfig) → IsAdmitted image
+    → AllByRecursion IsPlain (option_map_or (λ (c : CellConfig). program_of image (name_of c) cpu) cell [])
+ops_by image cpu (Some c) admitted = recursion_from_All IsPlain (program_of image (name_of c) cpu) (program_of-plain image (name_of c) cpu admitted)
+ops_by image cpu None admitted = tt
 
-pub ops_in-plain : (image : Image) (id cpu : ℕ) → IsAdmitted image → AllByRecursion IsPlain (ops_in image id cpu)
-ops_in-plain image id cpu admitted = ops_by image cpu (eqb id image.system.root.id) admitted
+pub ops_in-plain : (image : Image) (cells : List Live) (id cpu : ℕ) → IsAdmitted image → AllByRecursion IsPlain (ops_in image cells id cpu)
+ops_in-plain image cells id cpu admitted = ops_by image cpu (cell_in image cells id) admitted
 
 pub at_place : (ops : List Op) (i : ℕ) → AllByRecursion IsPlain ops → IfSome (slice_get ops i) IsPlain
 at_place [] i all = tt
@@ -61,7 +62,7 @@ plain_op image f cell None plain = tt
 plain_op image f cell (Some op) plain = plain_act image f cell op plain
 
 plain_pending : (image : Image) (f : Facts) (state : Cpu) (cpu : ℕ) (b : Bool) → IsAdmitted image → IfSome (cond b (op_at image f state cpu) None) IsPlain
-plain_pending image f state cpu true admitted = at_place (ops_in image state.owner cpu) state.position (ops_in-plain image state.owner cpu admitted)
+plain_pending image f state cpu true admitted = at_place (ops_in image f.cells state.owner cpu) state.position (ops_in-plain image f.cells state.owner cpu admitted)
 plain_pending image f state cpu false admitted = tt
 
 plain_state : (image : Image) (f : Facts) (state : Cpu) (cpu : ℕ) (asked : Bool) → IsAdmitted image

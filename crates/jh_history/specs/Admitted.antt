@@ -1,5 +1,5 @@
 -- What an image is asked for before it is opened.
-use Rattle.std.specs.Prelude.{◌≡◌, ◌≢◌, ◌<◌, ◌≤◌, ◌+◌, ◌/◌, ℕ, Bool, ◌&&◌, nat_lt, nat_le, List, [], length, All, AllPairs, IsTrue}
+use Rattle.std.specs.Prelude.{◌≡◌, ◌≢◌, ◌≤◌, ◌+◌, ◌/◌, ℕ, Bool, ◌&&◌, nat_lt, nat_le, [], length, All, AllPairs, IsTrue}
 use Rattle.jh_num.specs.declared.address.TheConstants.{ADDRESS_END, PAGE_SIZE}
 use Rattle.jh_cellcfg.specs.declared.region.Region.{Region}
 use Rattle.jh_cellcfg.specs.declared.config.PciDevice.{PciDevice}
@@ -11,7 +11,7 @@ use Rattle.jh_script.specs.declared.image.Image.{Image}
 use Rattle.jh_script.specs.declared.image.Program.{Program}
 use Rattle.jh_script.specs.declared.image.Preload.{Preload}
 use Rattle.jh_script.specs.declared.op.Op.{Op}
-use Rattle.jh_script.specs.declared.op.Op.TheVariants.{Read, Write, Fetch, Await, Irq, Hvc}
+use Rattle.jh_script.specs.declared.op.Op.TheVariants.{Hvc}
 use Rattle.jh_script.specs.Operations.{IsPlain}
 use Rattle.jh_history.specs.declared.entry.Act.{Act}
 use Rattle.jh_history.specs.declared.entry.Act.TheVariants.{Read as ReadAct, Write as WriteAct}

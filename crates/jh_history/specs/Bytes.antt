@@ -6,11 +6,13 @@ use Rattle.jh_script.specs.declared.image.Preload.{Preload}
 use Rattle.jh_history.specs.declared.place.Place.{Place}
 use Rattle.jh_history.specs.declared.place.Place.TheVariants.{Physical, Page}
 use Rattle.jh_history.specs.declared.access.Access.TheVariants.{Write as ToWrite}
+use Rattle.jh_history.specs.declared.entry.Entry.{Entry}
 use Rattle.jh_history.specs.declared.entry.Act.{Act}
-use Rattle.jh_history.specs.declared.entry.Act.TheVariants.{Read, Write, Fetch, Await, Irq, Hvc, Begin, Stop, Decide, Settle, Commit, Note, Noted, Finish}
+use Rattle.jh_history.specs.declared.entry.Act.TheVariants.{Write}
 use Rattle.jh_history.specs.Access.{write_of}
 use Rattle.jh_history.specs.Facts.{Facts}
 use Rattle.jh_history.specs.Grants.{reach}
+use Rattle.jh_history.specs.Pages.{with_page_write, page_write_by}
 
 -- physical memory, with the preload's bytes over it
 abbrev pub preloaded : (ℕ → ℕ) → Preload → ℕ → ℕ
@@ -21,7 +23,11 @@ abbrev pub opening_byte : Image → Place → ℕ
 opening_byte image (Physical p) = fold preloaded (λ _. 0) image.preloads p
 opening_byte image (Page cell offset) = 0
 
--- the bytes after an act of the cell: a write that succeeds changes those that it reaches
-abbrev pub byte_after : Image → Facts → ℕ → Act → Place → ℕ
-byte_after image facts cell (Write width at value true) = write_of facts.byte (reach image facts cell ToWrite at width) value
-byte_after image facts cell _ = facts.byte
+-- the bytes after what the act of the cell writes itself: a write that succeeds changes those that it reaches
+abbrev pub byte_written : Image → Facts → ℕ → Act → Place → ℕ
+byte_written image facts cell (Write width at value true) = write_of facts.byte (reach image facts cell ToWrite at width) value
+byte_written image facts cell _ = facts.byte
+
+-- the bytes after an entry
+abbrev pub byte_after : Image → Facts → Entry → Place → ℕ
+byte_after image facts entry = with_page_write (page_write_by image facts entry entry.act) (byte_written image facts entry.cell entry.act)

@@ -1,20 +1,40 @@
 -- What an entry does to CPUs.
-use Rattle.std.specs.Prelude.{ℕ, Bool, true, false, ◌==◌, is_some, if◌then◌else◌}
+use Rattle.std.specs.Prelude.{ℕ, Bool, true, false, ◌==◌, ◌&&◌, not, length, Option, is_some, if◌then◌else◌}
+use Rattle.std.specs.Option.{option_map_or}
+use Rattle.jh_cellcfg.specs.Cells.{name_of, is_cpu_set}
 use Rattle.jh_cpu.specs.declared.cpu.Cpu.{Cpu}
-use Rattle.jh_cpu.specs.Changes.{moved, failed, stopped_of}
+use Rattle.jh_cpu.specs.declared.cpu.Mode.{Mode}
+use Rattle.jh_cpu.specs.declared.cpu.Mode.TheVariants.{Running, Parked, Failed}
+use Rattle.jh_cpu.specs.Changes.{moved, failed, asked_of, stopped_of, resumed, lent, parked, restarted, returned}
+use Rattle.jh_call.specs.declared.call.Call.{Call}
+use Rattle.jh_call.specs.declared.call.Call.TheVariants.{Create, Start, Loadable, Destroy}
+use Rattle.jh_script.specs.declared.image.Image.{Image}
+use Rattle.jh_history.specs.declared.call.OpenCall.{OpenCall}
+use Rattle.jh_history.specs.declared.call.Phase.{Phase}
+use Rattle.jh_history.specs.declared.call.Phase.TheVariants.{ToCreate}
 use Rattle.jh_history.specs.declared.change.Change.{Change}
 use Rattle.jh_history.specs.declared.change.Change.TheVariants.{Stay, Step, Fail, Stop as Halt}
 use Rattle.jh_history.specs.declared.entry.Entry.{Entry}
+use Rattle.jh_history.specs.declared.entry.Settled.{Settled}
+use Rattle.jh_history.specs.declared.entry.Settled.TheVariants.{Agreed, Denied, Timeout}
 use Rattle.jh_history.specs.declared.entry.Act.{Act}
-use Rattle.jh_history.specs.declared.entry.Act.TheVariants.{Read, Write, Fetch, Await, Irq, Hvc, Begin, Stop, Decide, Settle, Commit, Note, Noted, Finish}
+use Rattle.jh_history.specs.declared.entry.Act.TheVariants.{Read, Write, Fetch, Await, Irq, Hvc, Begin, Stop, Settle, Commit, Finish}
 use Rattle.jh_history.specs.Facts.{Facts}
+use Rattle.jh_history.specs.Lives.{is_on_board, program_of}
+use Rattle.jh_history.specs.Calls.{is_named}
+
+-- whether a CPU in this mode runs
+abbrev pub is_running : Mode → Bool
+is_running Running = true
+is_running Parked = false
+is_running Failed = false
 
 -- an access that succeeds is done, and a violation fails its CPU
 abbrev pub change_if : Bool → Change
 change_if true = Step
 change_if false = Fail
 
--- what the act does to its CPU; what the phases of a management call do to other CPUs comes with the calls
+-- what the act does to the CPU that makes it, other than with the rest of them
 abbrev pub change_of : Act → Change
 change_of (Read width at got) = change_if (is_some got)
 change_of (Write width at value ok) = change_if ok
@@ -22,14 +42,8 @@ change_of (Fetch at got) = change_if (is_some got)
 change_of (Await width at value ok) = change_if ok
 change_of (Irq device vector) = Step
 change_of (Hvc code a b answer) = Step
-change_of (Begin code a b) = Stay
 change_of Stop = Halt
-change_of (Decide refused) = Stay
-change_of (Settle how) = Stay
-change_of Commit = Stay
-change_of (Note id) = Stay
-change_of (Noted id how) = Stay
-change_of (Finish answer) = Step
+change_of _ = Stay
 
 -- the CPU after the change: a violation moves its CPU, too
 abbrev pub changed : Change → Cpu → Cpu
@@ -38,6 +52,50 @@ changed Step cpu = moved cpu
 changed Fail cpu = failed (moved cpu)
 changed Halt cpu = stopped_of cpu
 
+-- at the Begin each running CPU of root is asked to stop, but the caller
+abbrev pub begun : Image → ℕ → ℕ → Cpu → Cpu
+begun image own i cpu =
+    if is_on_board image i && not (i == own) && (cpu.owner == image.system.root.id) && is_running cpu.mode
+    then asked_of cpu else cpu
+
+-- the call goes on after the Settle
+abbrev pub is_agreed : Settled → Bool
+is_agreed Agreed = true
+is_agreed Denied = false
+is_agreed Timeout = true
+
+-- at a Settle that isn't denied each running CPU of the call's cell is
+abbrev pub settled : Bool → Call → Cpu → Cpu
+settled agreed call cpu = if agreed && is_named call cpu.owner && is_running cpu.mode then asked_of cpu else cpu
+
+-- where in root's program a failed CPU goes on: at its end
+abbrev pub end_in_root : Image → ℕ → ℕ
+end_in_root image i = length (program_of image (name_of image.system.root) i)
+
+-- at the Commit of a create the new cell is lent its CPUs; by a start the cell's CPUs run from their programs'
+-- beginnings, by a set loadable they are parked, by a destroy root has them again
+abbrev pub committed : Image → Call → Phase → ℕ → Cpu → Cpu
+committed image (Create at) (ToCreate config) i cpu = if is_cpu_set config.cpu_set i then lent config.id cpu else cpu
+committed image (Start id) phase i cpu = if cpu.owner == id then restarted cpu else cpu
+committed image (Loadable id) phase i cpu = if cpu.owner == id then parked cpu else cpu
+committed image (Destroy id) phase i cpu = if cpu.owner == id then returned image.system.root.id (end_in_root image i) cpu else cpu
+committed image _ phase i cpu = cpu
+
+-- at the Finish no CPU of root is stopped any more, and the caller has done its operation
+abbrev pub resumed_in : ℕ → Cpu → Cpu
+resumed_in root cpu = if cpu.owner == root then resumed cpu else cpu
+
+abbrev pub finished : Image → ℕ → ℕ → Cpu → Cpu
+finished image own i cpu = let there = resumed_in image.system.root.id cpu in if i == own then moved there else there
+
+-- CPU i after the act, which is CPU `own`'s; the call is the one that is open before it
+abbrev pub acted : Image → Option OpenCall → Act → ℕ → ℕ → Cpu → Cpu
+acted image call (Begin code a b) own i cpu = begun image own i cpu
+acted image call (Settle how) own i cpu = option_map_or (λ (o : OpenCall). settled (is_agreed how) o.call cpu) call cpu
+acted image call Commit own i cpu = option_map_or (λ (o : OpenCall). committed image o.call o.phase i cpu) call cpu
+acted image call (Finish answer) own i cpu = finished image own i cpu
+acted image call act own i cpu = if i == own then changed (change_of act) cpu else cpu
+
 -- the CPUs after an entry
-abbrev pub cpu_after : Facts → Entry → ℕ → Cpu
-cpu_after facts entry i = if i == entry.cpu then changed (change_of entry.act) (facts.cpu i) else facts.cpu i
+abbrev pub cpu_after : Image → Facts → Entry → ℕ → Cpu
+cpu_after image facts entry i = acted image facts.call entry.act entry.cpu i (facts.cpu i)

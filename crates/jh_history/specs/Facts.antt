@@ -1,9 +1,14 @@
 -- What holds after a journal.
-use Rattle.std.specs.Prelude.{ℕ}
+use Rattle.std.specs.Prelude.{ℕ, List, Option}
 use Rattle.jh_cpu.specs.declared.cpu.Cpu.{Cpu}
+use Rattle.jh_cellcfg.specs.declared.live.Live.{Live}
 use Rattle.jh_history.specs.declared.place.Place.{Place}
+use Rattle.jh_history.specs.declared.call.OpenCall.{OpenCall}
 
--- the facts that entries change; those of live cells, devices and the open call come with them
+-- the facts that entries change: bytes, CPUs, the cells that live besides root in order of their creation,
+-- and the management call that is open
 pub record Facts : Type 0 where
   pub byte : Place → ℕ
   pub cpu : ℕ → Cpu
+  pub cells : List Live
+  pub call : Option OpenCall

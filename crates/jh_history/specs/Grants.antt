@@ -1,17 +1,38 @@
 -- What a live cell is granted.
-use Rattle.std.specs.Prelude.{ℕ, Option}
+use Rattle.std.specs.Prelude.{ℕ, Bool, false, ◌&&◌, ◌==◌, List, map, Option, Some, None, option_and_then, if◌then◌else◌}
+use Rattle.jh_cellcfg.specs.declared.live.Live.{Live}
+use Rattle.jh_cellcfg.specs.declared.region.Region.{Region}
+use Rattle.jh_shape.specs.Shapes.{is_closed, holder_of_live}
 use Rattle.jh_script.specs.declared.image.Image.{Image}
 use Rattle.jh_history.specs.declared.place.Place.{Place}
+use Rattle.jh_history.specs.declared.place.Place.TheVariants.{Physical, Page}
 use Rattle.jh_history.specs.declared.access.Access.{Access}
 use Rattle.jh_history.specs.declared.access.Reach.{Reach}
 use Rattle.jh_history.specs.Access.{place_of, reach_by}
 use Rattle.jh_history.specs.Facts.{Facts}
-use Rattle.jh_history.specs.Lives.{regions_of}
+use Rattle.jh_history.specs.Lives.{regions_in}
 
--- the place that the cell with the id is granted at the address, with the right: root is granted what
--- its regions give at places that no other live cell closes to it, and there is no other yet
+-- the cell with the id is kept from the place: it is root, and a cell that lives besides it holds the place
+-- for itself
+abbrev pub is_kept : Image → List Live → ℕ → Place → Bool
+is_kept image cells id (Physical p) = (id == image.system.root.id) && is_closed (map holder_of_live cells) p
+is_kept image cells id (Page cell offset) = false
+
+-- the place, unless one is kept from it
+abbrev pub unless : (Place → Bool) → Place → Option Place
+unless kept place = if kept place then None else Some place
+
+-- what a cell with these regions, kept from such places, is granted at the address, with the right
+abbrev pub granted_by : ℕ → List Region → (Place → Bool) → Access → ℕ → Option Place
+granted_by id regions kept access at = option_and_then (unless kept) (place_of id regions access at)
+
+-- what the cell with the id is granted, where these cells live besides root: a cell besides root what its
+-- regions give, and root what its regions give at places that no other live cell closes to it
+abbrev pub granted_in : Image → List Live → ℕ → Access → ℕ → Option Place
+granted_in image cells id = granted_by id (regions_in image cells id) (is_kept image cells id)
+
 abbrev pub granted : Image → Facts → ℕ → Access → ℕ → Option Place
-granted image facts id access = place_of id (regions_of image facts id) access
+granted image facts id = granted_in image facts.cells id
 
 -- what the cell's access of so many bytes reaches
 abbrev pub reach : Image → Facts → ℕ → Access → ℕ → ℕ → Reach

@@ -4,9 +4,14 @@ pub mod Access
 pub mod Facts
 pub mod Lives
 pub mod Grants
+pub mod Calls
 pub mod Cpus
+pub mod Commits
+pub mod Pages
+pub mod Configs
 pub mod Bytes
 pub mod History
+pub mod Alone
 pub mod Wants
 pub mod Due
 pub mod Items

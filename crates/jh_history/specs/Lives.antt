@@ -1,10 +1,12 @@
 -- The live cells, and what a CPU of one runs.
-use Rattle.std.specs.Prelude.{ℕ, Bool, ◌&&◌, ◌==◌, List, [], find, nat_eq, slice_get, Option, Some, None, if◌then◌else◌}
+use Rattle.std.specs.Prelude.{ℕ, Bool, ◌&&◌, ◌==◌, List, [], find, nat_eq, slice_get, Option, Some, option_map, if◌then◌else◌}
 use Rattle.std.specs.Cmp.Lexicographic.{pointwise}
 use Rattle.std.specs.Option.{option_map_or}
 use Rattle.jh_cellcfg.specs.declared.config.CellConfig.{CellConfig}
 use Rattle.jh_cellcfg.specs.declared.region.Region.{Region}
+use Rattle.jh_cellcfg.specs.declared.live.Live.{Live}
 use Rattle.jh_cellcfg.specs.Cells.{name_of, is_cpu_set}
+use Rattle.jh_cellcfg.specs.Lives.{has_id}
 use Rattle.jh_cpu.specs.declared.cpu.Cpu.{Cpu}
 use Rattle.jh_script.specs.declared.op.Op.{Op}
 use Rattle.jh_script.specs.declared.image.Program.{Program}
@@ -23,28 +25,31 @@ is_program_of name cpu program = pointwise nat_eq program.cell name && (program.
 unfoldable pub program_of : Image → List ℕ → ℕ → List Op
 program_of image name cpu = option_map_or (λ (p : Program). p.ops) (find (is_program_of name cpu) image.programs) []
 
--- the configuration of the live cell with the id; root's is the image's, and root is the one cell that
--- there is yet
-abbrev pub cell_in : Image → ℕ → Option CellConfig
-cell_in image id = if id == image.system.root.id then Some image.system.root else None
+-- the configuration of the cell with the id among these, which live besides root
+abbrev pub live_in : List Live → ℕ → Option CellConfig
+live_in cells id = option_map (λ (live : Live). live.config) (find (has_id id) cells)
+
+-- the configuration of the live cell with the id; root's is the image's
+abbrev pub cell_in : Image → List Live → ℕ → Option CellConfig
+cell_in image cells id = if id == image.system.root.id then Some image.system.root else live_in cells id
 
 -- its regions, none where no live cell has the id
-abbrev pub regions_in : Image → ℕ → List Region
-regions_in image id = option_map_or (λ (c : CellConfig). c.memory_regions) (cell_in image id) []
+abbrev pub regions_in : Image → List Live → ℕ → List Region
+regions_in image cells id = option_map_or (λ (c : CellConfig). c.memory_regions) (cell_in image cells id) []
 
 -- the operations of its program of the CPU: that of its name
-abbrev pub ops_in : Image → ℕ → ℕ → List Op
-ops_in image id cpu = option_map_or (λ (c : CellConfig). program_of image (name_of c) cpu) (cell_in image id) []
+abbrev pub ops_in : Image → List Live → ℕ → ℕ → List Op
+ops_in image cells id cpu = option_map_or (λ (c : CellConfig). program_of image (name_of c) cpu) (cell_in image cells id) []
 
 -- the same, where these facts hold
 abbrev pub cell_of : Image → Facts → ℕ → Option CellConfig
-cell_of image facts id = cell_in image id
+cell_of image facts id = cell_in image facts.cells id
 
 abbrev pub regions_of : Image → Facts → ℕ → List Region
-regions_of image facts id = regions_in image id
+regions_of image facts id = regions_in image facts.cells id
 
 abbrev pub ops_of : Image → Facts → ℕ → ℕ → List Op
-ops_of image facts id cpu = ops_in image id cpu
+ops_of image facts id cpu = ops_in image facts.cells id cpu
 
 -- the operation that the CPU in this state is at
 abbrev pub op_at : Image → Facts → Cpu → ℕ → Option Op

@@ -1,5 +1,5 @@
 -- Where bytes are kept, and what a write over places leaves.
-use Rattle.std.specs.Prelude.{ℕ, zero, suc, ◌+◌, ◌/◌, ◌%◌, ◌^◌, ◌<◌, Bool, true, false, ◌&&◌, ◌==◌, if◌then◌else◌, List, [], ◌∷◌, ◌++◌}
+use Rattle.std.specs.Prelude.{ℕ, zero, suc, ◌+◌, ◌/◌, ◌%◌, ◌^◌, ◌<◌, Bool, true, false, ◌&&◌, ◌==◌, if◌then◌else◌, List, [], ◌∷◌}
 use Rattle.jh_history.specs.declared.place.Place.{Place}
 use Rattle.jh_history.specs.declared.place.Place.TheVariants.{Physical, Page}
 use Rattle.jh_history.specs.declared.place.Run.{Run}

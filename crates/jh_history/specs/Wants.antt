@@ -1,8 +1,6 @@
 -- The access that a CPU's next entry makes, and what it reaches.
-use Rattle.std.specs.Prelude.{◌≡◌, ℕ, Bool, true, false, not, ◌&&◌, Option, Some, None, option_and_then, if◌then◌else◌}
+use Rattle.std.specs.Prelude.{◌≡◌, ℕ, Bool, not, ◌&&◌, Option, Some, None, option_and_then, if◌then◌else◌}
 use Rattle.jh_cpu.specs.declared.cpu.Cpu.{Cpu}
-use Rattle.jh_cpu.specs.declared.cpu.Mode.{Mode}
-use Rattle.jh_cpu.specs.declared.cpu.Mode.TheVariants.{Running, Parked, Failed}
 use Rattle.jh_script.specs.declared.image.Image.{Image}
 use Rattle.jh_script.specs.declared.op.Op.{Op}
 use Rattle.jh_script.specs.declared.op.Op.TheVariants.{Read as ReadOp, Write as WriteOp, Fetch as FetchOp, Await as AwaitOp, Irq as IrqOp, Hvc as HvcOp}
@@ -11,8 +9,9 @@ use Rattle.jh_history.specs.declared.access.Reach.{Reach}
 use Rattle.jh_history.specs.declared.access.Wanted.{Wanted}
 use Rattle.jh_history.specs.declared.entry.Entry.{Entry}
 use Rattle.jh_history.specs.declared.entry.Act.{Act}
-use Rattle.jh_history.specs.declared.entry.Act.TheVariants.{Read, Write, Fetch, Await, Irq, Hvc, Begin, Stop, Decide, Settle, Commit, Note, Noted, Finish}
+use Rattle.jh_history.specs.declared.entry.Act.TheVariants.{Write}
 use Rattle.jh_history.specs.Access.{IsPhysical}
+use Rattle.jh_history.specs.Cpus.{is_running}
 use Rattle.jh_history.specs.Facts.{Facts}
 use Rattle.jh_history.specs.Lives.{op_at}
 use Rattle.jh_history.specs.Grants.{reach}
@@ -33,12 +32,6 @@ reach_of image facts cell wanted = reach image facts cell wanted.access wanted.a
 -- it is what the operation of the cell reaches, where that makes an access
 abbrev pub IsReachOf : Image → Facts → ℕ → Op → Reach → Type 0
 IsReachOf image facts cell op found = (wanted : Wanted) → wanted_of op ≡ Some wanted → found ≡ reach_of image facts cell wanted
-
--- whether a CPU in this mode runs
-abbrev pub is_running : Mode → Bool
-is_running Running = true
-is_running Parked = false
-is_running Failed = false
 
 -- a CPU in this state goes on with its program: it runs, and is neither asked to stop nor stopped
 abbrev pub goes_on : Cpu → Bool

@@ -1,5 +1,5 @@
 //! The live cells: their regions, and what their CPUs run.
-ghost use Rattle.std.specs.Prelude.{◌≡◌, ◌<◌, All, IfSome, IsTrue};
+ghost use Rattle.std.specs.Prelude.{◌≡◌, ◌<◌, [], All, IfSome, IsTrue};
 ghost use Rattle.jh_cellcfg.specs.Regions.{IsInRange, has_address};
 ghost use Rattle.jh_script.specs.Operations.{IsPlain};
 ghost use Rattle.jh_history.specs.Access.{right_of, gives as gives_lem, region_of as region_of_lem};
@@ -73,11 +73,11 @@ fn region_of(regions: &[Region], access: Access, at: u64) -> Option<Region>
     None
 }
 
-/// The regions of the live cell with the id.
+/// The regions of the cell with the id, where root lives alone.
 #[tactic(auto, using(crate::proofs::AdmittedLemmas::within))]
 fn regions_in(image: &Image, id: u32) -> &[Region]
     requires { IsAdmitted image.now }
-    ensures regions { result.now ≡ regions_in_lem image.now id }
+    ensures regions { result.now ≡ regions_in_lem image.now [] id }
     ensures within { All (λ (r : Region). 0 < r.size → IsInRange r) result.now }
 {
     if id == image.system.root.id {
@@ -87,10 +87,10 @@ fn regions_in(image: &Image, id: u32) -> &[Region]
     }
 }
 
-/// The operations of the CPU's program in the live cell with the id.
+/// The operations of the CPU's program in the cell with the id, where root lives alone.
 fn ops_in(image: &Image, id: u32, cpu: u8) -> &[Op]
     requires { IsAdmitted image.now }
-    ensures ops { result.now ≡ ops_in_lem image.now id cpu }
+    ensures ops { result.now ≡ ops_in_lem image.now [] id cpu }
     ensures plain { All IsPlain result.now }
 {
     if id == image.system.root.id {
@@ -100,10 +100,10 @@ fn ops_in(image: &Image, id: u32, cpu: u8) -> &[Op]
     }
 }
 
-/// The operation that the CPU is at, in that state.
+/// The operation that the CPU is at, in that state, where root lives alone.
 pub(crate) fn op_at(image: &Image, state: Cpu, cpu: u8) -> Option<Op>
     requires { IsAdmitted image.now }
-    ensures op { (f : Facts) → result ≡ op_at_lem image.now f state cpu }
+    ensures op { (f : Facts) → f.cells ≡ [] → result ≡ op_at_lem image.now f state cpu }
     ensures plain { IfSome result IsPlain }
 {
     ops_in(image, state.owner, cpu)
@@ -138,9 +138,10 @@ impl<'a> ImageGrants<'a> {
 }
 
 impl<'a> Grants for ImageGrants<'a> {
+    ghost use Rattle.std.specs.Prelude.{[]};
     ghost use Rattle.jh_history.specs.Lives.{regions_in};
 
-    ghost regions = { regions_in };
+    ghost regions = { λ image. regions_in image [] };
 
     fn region(&self, cell: u32, access: Access, at: u64) -> Option<Region> {
         region_of(regions_in(self.image, cell), access, at)

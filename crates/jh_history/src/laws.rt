@@ -1,8 +1,14 @@
-//! What an admitted image gives of root, its regions and its CPUs. The function does nothing; its contract is
-//! the law.
-ghost use Rattle.std.specs.Prelude.{◌≡◌, ◌<◌, ℕ, IsTrue};
+//! What an admitted image gives of root, its regions and its CPUs, and that root is the one cell yet. Each
+//! function does nothing; its contract is the law.
+ghost use Rattle.std.specs.Prelude.{◌≡◌, ◌<◌, ℕ, List, ◌∷◌, ◌++◌, Some, IsTrue};
 ghost use Rattle.jh_check.specs.Clean.{IsSoundRoot};
 ghost use Rattle.jh_history.specs.Admitted.{IsAdmitted};
+ghost use Rattle.jh_script.specs.declared.image.Image.{Image as TheImage};
+ghost use Rattle.jh_history.specs.declared.entry.Entry.{Entry as TheEntry};
+ghost use Rattle.jh_history.specs.Facts.{Facts};
+ghost use Rattle.jh_history.specs.History.{after, facts};
+ghost use Rattle.jh_history.specs.Due.{due_at, IsLegal};
+ghost use Rattle.jh_history.specs.Alone.{IsAlone, IsRoots};
 ghost use Rattle.jh_history.specs.Lives.{is_on_board};
 
 use jh_check::{
@@ -20,3 +26,15 @@ pub fn admitted_roots_are_sound(image: &Image)
     clean_root_is_sound(&image.system, &[]);
     sound_bitmaps_name_few_cpus(image.system.root.cpu_set.as_slice());
 }
+
+/// Hypercalls are never due yet, so in a legal journal no cell lives besides root, no call is open, all CPUs
+/// are root's, and each entry is one of root that is no phase of a call.
+pub fn root_lives_alone()
+    ensures alone { (image : TheImage) (entries : List TheEntry) → IsLegal image entries → IsAlone image (facts image entries) }
+    ensures entries { (image : TheImage) (before rest : List TheEntry) (entry : TheEntry) →
+        IsLegal image (before ++ entry ∷ rest) → IsRoots image entry }
+    ensures due { (image : TheImage) (f : Facts) (cpu : ℕ) (entry : TheEntry) → IsAlone image f →
+        due_at image f cpu ≡ Some entry → IsRoots image entry }
+    ensures kept { (image : TheImage) (f : Facts) (entry : TheEntry) → IsAlone image f →
+        IsRoots image entry → IsAlone image (after image f entry) }
+{}

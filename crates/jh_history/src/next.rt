@@ -5,14 +5,15 @@ ghost use Rattle.jh_script.specs.Operations.{IsPlain};
 ghost use Rattle.jh_cellcfg.specs.Cells.{is_cpu_set as is_cpu_set_lem};
 ghost use Rattle.jh_history.specs.Access.{read_of as read_of_lem, is_reached as is_reached_lem};
 ghost use Rattle.jh_history.specs.Facts.{Facts};
-ghost use Rattle.jh_history.specs.Wants.{wanted_of as wanted_of_lem, goes_on as goes_on_lem, is_running as is_running_lem, pending_op as pending_op_lem, wanted_at, IsReachOf, IsReachIn, IsReachAt, IsReachOfAct, IsReachOfEntry};
+ghost use Rattle.jh_history.specs.Wants.{wanted_of as wanted_of_lem, goes_on as goes_on_lem, pending_op as pending_op_lem, wanted_at, IsReachOf, IsReachIn, IsReachAt, IsReachOfAct, IsReachOfEntry};
 ghost use Rattle.jh_history.specs.Due.{act_of as act_of_lem, await_of as await_of_lem, state_act as state_act_lem, entry_by as entry_by_lem, due_at};
 ghost use Rattle.jh_history.specs.Admitted.{IsPlainAct};
 
 use crate::access::{Access, Reach, Wanted};
+use crate::change::is_running;
 use crate::entry::{Act, Entry};
 use crate::known::Known;
-use jh_cpu::{Cpu, Mode};
+use jh_cpu::Cpu;
 use jh_script::Op;
 
 /// The access that the operation makes.
@@ -38,16 +39,6 @@ fn wanted_of(op: Op) -> Option<Wanted>
             width: 4,
         }),
         Op::Irq | Op::Hvc { .. } => None,
-    }
-}
-
-/// Whether a CPU in this mode runs.
-fn is_running(mode: Mode) -> bool
-    ensures { result ≡ is_running_lem mode }
-{
-    match mode {
-        Mode::Running => true,
-        Mode::Parked | Mode::Failed => false,
     }
 }
 

@@ -7,10 +7,11 @@ ghost use Rattle.jh_history.specs.Access.{write_of};
 ghost use Rattle.jh_history.specs.Wants.{reach_of as reach_of_lem};
 ghost use Rattle.jh_history.specs.Lives.{is_on_board as is_on_board_lem};
 ghost use Rattle.jh_history.specs.Facts.{Facts};
-ghost use Rattle.jh_history.specs.Bytes.{preloaded, opening_byte as opening_byte_lem, byte_after};
+ghost use Rattle.jh_history.specs.Bytes.{preloaded, opening_byte as opening_byte_lem, byte_written};
 ghost use Rattle.jh_history.specs.History.{facts, after, start};
 ghost use Rattle.jh_history.specs.Due.{due as due_lem, IsLegal, IsQuiet};
 ghost use Rattle.jh_history.specs.Admitted.{IsAdmitted, IsBuilt, IsPlainAct, IsPlainEntry};
+ghost use Rattle.jh_history.specs.Alone.{IsRoots};
 ghost use Rattle.jh_history.specs.PlainView.{overwritten, last_byte, Stands};
 
 use crate::access::{Access, Reach, Wanted};
@@ -151,7 +152,7 @@ impl<'a> Plain<'a> {
     /// Writes what the act of the cell writes.
     fn write(&mut self, cell: u32, act: &Act) -> Result<(), NoMemory>
         requires { IsPlainAct act.now }
-        ensures bytes { OnOk result ((i : TheImage) (f : Facts) → Stands self.old i f → (q : ThePlace) → last_byte i self.new.bytes q ≡ byte_after i f cell act.now q) }
+        ensures bytes { OnOk result ((i : TheImage) (f : Facts) → Stands self.old i f → (q : ThePlace) → last_byte i self.new.bytes q ≡ byte_written i f cell act.now q) }
         ensures image { self.new.image ≡ self.old.image }
         ensures cpus { self.new.cpus ≡ self.old.cpus }
     {
@@ -176,9 +177,10 @@ impl<'a> Plain<'a> {
         }
     }
 
-    /// Goes on by an entry.
+    /// Goes on by an entry of root.
     fn follow(&mut self, entry: &Entry) -> Result<(), NoMemory>
-        requires { IsPlainEntry entry.now }
+        requires plain { IsPlainEntry entry.now }
+        requires own { IsRoots self.old.image entry.now }
         ensures { OnOk result ((i : TheImage) (f : Facts) → Stands self.old i f → Stands self.new i (after i f entry.now)) }
     {
         self.write(entry.cell, &entry.act)?;
@@ -189,7 +191,7 @@ impl<'a> Plain<'a> {
     /// What holds after the entries.
     fn after(alloc: Global, image: &'a Image, entries: &[Entry]) -> Result<Self, NoMemory>
         requires admitted { IsAdmitted image.now }
-        requires plain { All IsPlainEntry entries.now }
+        requires legal { IsLegal image.now entries.now }
         ensures { IfOk result (λ plain. Stands plain image.now (facts image.now entries.now)) }
     {
         let mut plain = Plain::open(alloc, image);

@@ -1,5 +1,5 @@
 -- Each item beside each later one.
-use Rattle.std.proofs.Common.{sym, ◌∙◌, inl, inr, arith, ◌≡◌}
+use Rattle.std.proofs.Common.{sym, ◌∙◌, inl, inr, arith}
 use Rattle.std.proofs.lemmas.Bool.{false≢true, cases_eq}
 use Rattle.jh_history.proofs.ApartLemmas.{beside_later, later_beside}
 use Rattle.jh_history.proofs.apart.are_apart.Goals as goal

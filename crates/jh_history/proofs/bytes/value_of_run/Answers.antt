@@ -1,6 +1,5 @@
 -- One byte below those that are spelled already.
 use Rattle.std.proofs.Common.{ℕ, ◌+◌, ◌-◌, ◌*◌, ◌^◌, ◌<◌, ◌∙◌, ap, arith}
-use Rattle.jh_history.specs.Places.{further}
 use Rattle.jh_history.proofs.ValueLemmas.{spelled-more, fits-more, word-more}
 use Rattle.jh_history.proofs.bytes.value_of_run.Goals as goal
 

@@ -1,8 +1,4 @@
 -- The operations of an admitted image's programs are plain.
-use Rattle.std.proofs.Common.{List}
-use Rattle.std.specs.Prelude.{All}
-use Rattle.jh_script.specs.declared.op.Op.{Op}
-use Rattle.jh_script.specs.Operations.{IsPlain}
 use Rattle.jh_history.proofs.AdmittedLemmas.{program_of-plain}
 use Rattle.jh_history.proofs.cells.ops_in.Goals as goal
 

@@ -1,8 +1,7 @@
 -- The places of two stretches.
-use Rattle.std.proofs.Common.{◌≡◌, ◌∙◌, ◌+◌, ◌-◌, Some, None, ap, arith, ℕ, Option, List}
-use Rattle.jh_history.specs.declared.place.Place.{Place}
+use Rattle.std.proofs.Common.{◌∙◌, ◌-◌, arith}
 use Rattle.jh_history.specs.Places.{places_of_run}
-use Rattle.jh_history.specs.Access.{place_of, places_from}
+use Rattle.jh_history.specs.Access.{place_of}
 use Rattle.jh_history.proofs.AccessLemmas.{places_from-both, places_from-no_low, places_from-no_high}
 use Rattle.jh_history.proofs.grants.places_of.Goals as goal
 

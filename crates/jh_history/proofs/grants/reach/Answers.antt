@@ -1,5 +1,5 @@
 -- Memory where each byte has a place.
-use Rattle.std.proofs.Common.{◌≤◌, ◌<◌, ◌+◌, Some, None, sym, arith}
+use Rattle.std.proofs.Common.{◌<◌, ◌+◌, Some, None, sym, arith}
 use Rattle.jh_num.specs.declared.address.TheConstants.{ADDRESS_END}
 use Rattle.jh_history.specs.Access.{place_of}
 use Rattle.jh_history.proofs.AccessLemmas.{reach_by-beyond, reach_by-places}

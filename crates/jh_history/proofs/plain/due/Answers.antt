@@ -1,13 +1,12 @@
--- A legal journal has plain acts.
-use Rattle.std.proofs.Common.{◌∙◌, ap, subst, sym, List}
+-- What is due, by what holds after the journal.
+use Rattle.std.proofs.Common.{◌∙◌, ap, List}
 use Rattle.jh_history.specs.declared.entry.Entry.{Entry}
 use Rattle.jh_history.specs.History.{facts}
 use Rattle.jh_history.specs.Due.{due_at}
-use Rattle.jh_history.proofs.PlainLemmas.{legal_is_plain}
 use Rattle.jh_history.proofs.plain.due.Goals as goal
 
-pub after-requires-clause-plain : goal.after-requires-clause-plain
-after-requires-clause-plain c = rw c.as_slice.ensures (legal_is_plain c.args.image.now c.args.journal.now.entries c.requires.admitted c.requires.legal)
+pub after-requires-clause-legal : goal.after-requires-clause-legal
+after-requires-clause-legal c = rw c.as_slice.ensures c.requires.legal
 
 pub returns : goal.returns
 returns c =

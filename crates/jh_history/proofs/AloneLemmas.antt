@@ -1,0 +1,219 @@
+-- Root lives alone: no entry that is due is a phase of a management call, and so none makes another cell.
+use Rattle.std.proofs.Common.{◌≡◌, ℕ, List, [], ◌∷◌, ◌++◌, Bool, true, false, cond, eqb, Option, Some, None, refl, sym, ap, subst, ◌∙◌}
+use Rattle.std.specs.Prelude.{option_map, option_and_then, is_some, IfSome}
+use Rattle.std.specs.List.{fold}
+use Rattle.std.proofs.lemmas.Bool.{and_right, both_ways}
+use Rattle.jh_num.proofs.Booleans.{same_number}
+use Rattle.std.proofs.lemmas.Option.{none-some, same_Some}
+use Rattle.jh_cellcfg.specs.declared.config.CellConfig.{CellConfig}
+use Rattle.jh_cellcfg.specs.declared.live.Live.{Live}
+use Rattle.jh_cpu.specs.declared.cpu.Cpu.{Cpu}
+use Rattle.jh_script.specs.declared.image.Image.{Image}
+use Rattle.jh_script.specs.declared.op.Op.{Op}
+use Rattle.jh_script.specs.declared.op.Op.TheVariants.{Read as ReadOp, Write as WriteOp, Fetch as FetchOp, Await as AwaitOp, Irq as IrqOp, Hvc as HvcOp}
+use Rattle.jh_history.specs.declared.place.Place.{Place}
+use Rattle.jh_history.specs.declared.place.Place.TheVariants.{Physical, Page}
+use Rattle.jh_history.specs.declared.access.Access.{Access}
+use Rattle.jh_history.specs.declared.access.Access.TheVariants.{Read as ToRead}
+use Rattle.jh_history.specs.declared.call.OpenCall.{OpenCall}
+use Rattle.jh_history.specs.declared.change.Change.{Change}
+use Rattle.jh_history.specs.declared.change.Change.TheVariants.{Stay, Step, Fail, Stop as Halt}
+use Rattle.jh_history.specs.declared.comm.PageWrite.{PageWrite}
+use Rattle.jh_history.specs.declared.entry.Entry.{Entry}
+use Rattle.jh_history.specs.declared.entry.Act.{Act}
+use Rattle.jh_history.specs.declared.entry.Act.TheVariants.{Read, Write, Fetch, Await, Irq, Hvc, Begin, Stop, Decide, Settle, Commit, Note, Noted, Finish}
+use Rattle.jh_history.specs.Access.{place_of, reach_by, read_of}
+use Rattle.jh_history.specs.Facts.{Facts}
+use Rattle.jh_history.specs.Lives.{is_on_board, regions_in}
+use Rattle.jh_history.specs.Grants.{is_kept, unless, granted_in, granted, reach}
+use Rattle.jh_history.specs.Cpus.{change_of, changed, acted}
+use Rattle.jh_history.specs.Calls.{call_by}
+use Rattle.jh_history.specs.Commits.{cells_by}
+use Rattle.jh_history.specs.Pages.{failing, unless_good, page_write_by, with_page_write}
+use Rattle.jh_history.specs.Bytes.{byte_written, byte_after}
+use Rattle.jh_history.specs.History.{start, after, facts, coming_of}
+use Rattle.jh_history.specs.Wants.{pending_op}
+use Rattle.jh_history.specs.Due.{due_at, state_act, act_of, await_of, entry_by, IsLegal, IsLegalFrom}
+use Rattle.jh_history.specs.Alone.{IsAlone, IsRoots, is_phase}
+use Rattle.jh_history.proofs.FactsLemmas.{same_function}
+use Rattle.jh_history.proofs.DueLemmas.{due_at-absent, due_at-present}
+use Rattle.jh_history.proofs.LegalLemmas.{due-split, IsLegal-begin}
+
+-- root alone is kept from nothing
+not_kept : (image : Image) (id : ℕ) (p : Place) → is_kept image [] id p ≡ false
+not_kept image id (Physical p) = and_right (eqb id image.system.root.id) false refl
+not_kept image id (Page cell offset) = refl
+
+all_open : (image : Image) (id : ℕ) (o : Option Place) → option_and_then (unless (is_kept image [] id)) o ≡ o
+all_open image id None = refl
+all_open image id (Some p) = rw (not_kept image id p) refl
+
+-- so what a cell is granted is what its regions give
+pub granted-alone : (image : Image) (f : Facts) (id : ℕ) (access : Access) (at : ℕ) → f.cells ≡ [] → granted image f id access at ≡ place_of id (regions_in image [] id) access at
+granted-alone image f id access at none = ap (λ (cells : List Live). granted_in image cells id access at) none ∙ all_open image id (place_of id (regions_in image [] id) access at)
+
+pub reach-alone : (image : Image) (f : Facts) (id : ℕ) (access : Access) (at width : ℕ) → f.cells ≡ [] → reach image f id access at width ≡ reach_by (place_of id (regions_in image [] id) access) at width
+reach-alone image f id access at width none =
+    ap (λ (place : ℕ → Option Place). reach_by place at width) (same_function (granted image f id access) (place_of id (regions_in image [] id) access) (λ a. granted-alone image f id access a none))
+
+-- at opening
+pub alone-start : (image : Image) → IsAlone image (start image)
+alone-start image = record { cells = refl; call = refl; owners = λ cpu. refl }
+
+-- what is due is no phase
+abbrev IsOwn : Act → Type 0
+IsOwn act = is_phase act ≡ false
+
+own_if : (b : Bool) (o : Option Act) → IfSome o IsOwn → IfSome (cond b o None) IsOwn
+own_if true o own = own
+own_if false o own = tt
+
+own_await : (width at value : ℕ) (o : Option ℕ) → IfSome (await_of width at value o) IsOwn
+own_await width at value None = refl
+own_await width at value (Some got) = own_if (eqb got value) (Some (Await width at value true)) refl
+
+own_act : (image : Image) (f : Facts) (cell : ℕ) (op : Op) → IfSome (act_of image f cell op) IsOwn
+own_act image f cell (ReadOp width at) = refl
+own_act image f cell (WriteOp width at value) = refl
+own_act image f cell (FetchOp at) = refl
+own_act image f cell (AwaitOp width at value) = own_await width at value (read_of f.byte (reach image f cell ToRead at width))
+own_act image f cell IrqOp = tt
+own_act image f cell (HvcOp code a b) = tt
+
+own_op : (image : Image) (f : Facts) (cell : ℕ) (o : Option Op) → IfSome (option_and_then (act_of image f cell) o) IsOwn
+own_op image f cell None = tt
+own_op image f cell (Some op) = own_act image f cell op
+
+own_state : (image : Image) (f : Facts) (state : Cpu) (cpu : ℕ) (asked : Bool) → IfSome (cond asked (Some Stop) (option_and_then (act_of image f state.owner) (pending_op image f state cpu))) IsOwn
+own_state image f state cpu true = refl
+own_state image f state cpu false = own_op image f state.owner (pending_op image f state cpu)
+
+roots_entry : (image : Image) (cpu cell : ℕ) (entry : Entry) (o : Option Act) → IfSome o IsOwn → cell ≡ image.system.root.id → option_map (entry_by cpu cell) o ≡ Some entry → IsRoots image entry
+roots_entry image cpu cell entry None own is h = absurd (none-some entry h)
+roots_entry image cpu cell entry (Some act) own is h =
+    let P : Entry → Type 0 = IsRoots image in
+    subst P (same_Some (entry_by cpu cell act) entry h) (record { cell = is; act = own })
+
+roots_at : (image : Image) (f : Facts) (cpu : ℕ) (entry : Entry) (b : Bool) → IsAlone image f → is_on_board image cpu ≡ b → due_at image f cpu ≡ Some entry → IsRoots image entry
+roots_at image f cpu entry true alone e h =
+    roots_entry image cpu (f.cpu cpu).owner entry (state_act image f (f.cpu cpu) cpu) (own_state image f (f.cpu cpu) cpu (f.cpu cpu).asked) (alone.owners cpu) (sym (due_at-present image f cpu e) ∙ h)
+roots_at image f cpu entry false alone e h = absurd (none-some entry (sym (due_at-absent image f cpu e) ∙ h))
+
+-- where root is alone, an entry that is due is root's
+pub due_at-roots : (image : Image) (f : Facts) (cpu : ℕ) (entry : Entry) → IsAlone image f → due_at image f cpu ≡ Some entry → IsRoots image entry
+due_at-roots image f cpu entry alone h = roots_at image f cpu entry (is_on_board image cpu) alone refl h
+
+-- what such an entry does
+cells_kept : (call : Option OpenCall) (cells : List Live) (act : Act) → is_phase act ≡ false → cells_by call cells act ≡ cells
+cells_kept call cells (Read width at got) own = refl
+cells_kept call cells (Write width at value ok) own = refl
+cells_kept call cells (Fetch at got) own = refl
+cells_kept call cells (Await width at value ok) own = refl
+cells_kept call cells (Irq device vector) own = refl
+cells_kept call cells (Hvc code a b answer) own = refl
+cells_kept call cells Stop own = refl
+cells_kept call cells (Begin code a b) own = absurd (both_ways true own refl)
+cells_kept call cells (Decide refused) own = absurd (both_ways true own refl)
+cells_kept call cells (Settle how) own = absurd (both_ways true own refl)
+cells_kept call cells Commit own = absurd (both_ways true own refl)
+cells_kept call cells (Note id) own = absurd (both_ways true own refl)
+cells_kept call cells (Noted id how) own = absurd (both_ways true own refl)
+cells_kept call cells (Finish answer) own = absurd (both_ways true own refl)
+
+call_kept : (cells : List Live) (coming : Option CellConfig) (entry : Entry) (act : Act) → is_phase act ≡ false → call_by cells coming None entry act ≡ None
+call_kept cells coming entry (Read width at got) own = refl
+call_kept cells coming entry (Write width at value ok) own = refl
+call_kept cells coming entry (Fetch at got) own = refl
+call_kept cells coming entry (Await width at value ok) own = refl
+call_kept cells coming entry (Irq device vector) own = refl
+call_kept cells coming entry (Hvc code a b answer) own = refl
+call_kept cells coming entry Stop own = refl
+call_kept cells coming entry (Begin code a b) own = absurd (both_ways true own refl)
+call_kept cells coming entry (Decide refused) own = absurd (both_ways true own refl)
+call_kept cells coming entry (Settle how) own = absurd (both_ways true own refl)
+call_kept cells coming entry Commit own = absurd (both_ways true own refl)
+call_kept cells coming entry (Note id) own = absurd (both_ways true own refl)
+call_kept cells coming entry (Noted id how) own = absurd (both_ways true own refl)
+call_kept cells coming entry (Finish answer) own = absurd (both_ways true own refl)
+
+-- it changes its own CPU alone
+pub acted-own : (image : Image) (call : Option OpenCall) (act : Act) (own i : ℕ) (cpu : Cpu) → is_phase act ≡ false → acted image call act own i cpu ≡ cond (eqb i own) (changed (change_of act) cpu) cpu
+acted-own image call (Read width at got) own i cpu h = refl
+acted-own image call (Write width at value ok) own i cpu h = refl
+acted-own image call (Fetch at got) own i cpu h = refl
+acted-own image call (Await width at value ok) own i cpu h = refl
+acted-own image call (Irq device vector) own i cpu h = refl
+acted-own image call (Hvc code a b answer) own i cpu h = refl
+acted-own image call Stop own i cpu h = refl
+acted-own image call (Begin code a b) own i cpu h = absurd (both_ways true h refl)
+acted-own image call (Decide refused) own i cpu h = absurd (both_ways true h refl)
+acted-own image call (Settle how) own i cpu h = absurd (both_ways true h refl)
+acted-own image call Commit own i cpu h = absurd (both_ways true h refl)
+acted-own image call (Note id) own i cpu h = absurd (both_ways true h refl)
+acted-own image call (Noted id how) own i cpu h = absurd (both_ways true h refl)
+acted-own image call (Finish answer) own i cpu h = absurd (both_ways true h refl)
+
+owner_kept : (change : Change) (cpu : Cpu) → (changed change cpu).owner ≡ cpu.owner
+owner_kept Stay cpu = refl
+owner_kept Step cpu = refl
+owner_kept Fail cpu = refl
+owner_kept Halt cpu = refl
+
+owner_if : (b : Bool) (change : Change) (cpu : Cpu) → (cond b (changed change cpu) cpu).owner ≡ cpu.owner
+owner_if true change cpu = owner_kept change cpu
+owner_if false change cpu = refl
+
+-- and root is alone behind it
+pub alone-after : (image : Image) (f : Facts) (entry : Entry) → IsAlone image f → IsRoots image entry → IsAlone image (after image f entry)
+unfolding after
+alone-after image f entry alone own = record {
+  cells = cells_kept f.call f.cells entry.act own.act ∙ alone.cells;
+  call = rw alone.call (call_kept f.cells (coming_of image f) entry entry.act own.act);
+  owners = λ i.
+    ap (λ (c : Cpu). c.owner) (acted-own image f.call entry.act entry.cpu i (f.cpu i) own.act)
+    ∙ owner_if (eqb i entry.cpu) (change_of entry.act) (f.cpu i) ∙ alone.owners i;
+}
+
+-- a violation of root writes into no page
+none_fails : (image : Image) (f : Facts) (entry : Entry) → entry.cell ≡ image.system.root.id → failing image f entry ≡ None
+none_fails image f entry is = rw (is, same_number) refl
+
+unless_fails : (good : Bool) → unless_good good None ≡ None
+unless_fails true = refl
+unless_fails false = refl
+
+no_page : (image : Image) (f : Facts) (entry : Entry) (act : Act) → entry.cell ≡ image.system.root.id → is_phase act ≡ false → page_write_by image f entry act ≡ None
+no_page image f entry (Read width at got) is own = ap (unless_good (is_some got)) (none_fails image f entry is) ∙ unless_fails (is_some got)
+no_page image f entry (Write width at value ok) is own = ap (unless_good ok) (none_fails image f entry is) ∙ unless_fails ok
+no_page image f entry (Fetch at got) is own = ap (unless_good (is_some got)) (none_fails image f entry is) ∙ unless_fails (is_some got)
+no_page image f entry (Await width at value ok) is own = ap (unless_good ok) (none_fails image f entry is) ∙ unless_fails ok
+no_page image f entry (Irq device vector) is own = refl
+no_page image f entry (Hvc code a b answer) is own = refl
+no_page image f entry Stop is own = refl
+no_page image f entry (Begin code a b) is own = absurd (both_ways true own refl)
+no_page image f entry (Decide refused) is own = absurd (both_ways true own refl)
+no_page image f entry (Settle how) is own = absurd (both_ways true own refl)
+no_page image f entry Commit is own = absurd (both_ways true own refl)
+no_page image f entry (Note id) is own = absurd (both_ways true own refl)
+no_page image f entry (Noted id how) is own = absurd (both_ways true own refl)
+no_page image f entry (Finish answer) is own = absurd (both_ways true own refl)
+
+-- so the bytes are those that its write leaves
+pub byte_after-roots : (image : Image) (f : Facts) (entry : Entry) (q : Place) → IsRoots image entry → byte_after image f entry q ≡ byte_written image f entry.cell entry.act q
+byte_after-roots image f entry q own =
+    ap (λ (write : Option PageWrite). with_page_write write (byte_written image f entry.cell entry.act) q) (no_page image f entry entry.act own.cell own.act)
+
+alone_from : (image : Image) (f : Facts) (entries : List Entry) → IsAlone image f → IsLegalFrom image f entries → IsAlone image (fold (after image) f entries)
+alone_from image f [] alone legal = alone
+alone_from image f (entry ∷ entries) alone legal =
+    alone_from image (after image f entry) entries (alone-after image f entry alone (due_at-roots image f entry.cpu entry alone legal.0)) legal.1
+
+-- root is alone after each legal journal
+pub legal-alone : (image : Image) (entries : List Entry) → IsLegal image entries → IsAlone image (facts image entries)
+unfolding IsLegal facts
+legal-alone image entries legal = alone_from image (start image) entries (alone-start image) legal
+
+-- and each of its entries is root's
+pub legal-roots : (image : Image) (before rest : List Entry) (entry : Entry) → IsLegal image (before ++ entry ∷ rest) → IsRoots image entry
+legal-roots image before rest entry legal =
+    due_at-roots image (facts image before) entry.cpu entry (legal-alone image before (IsLegal-begin image before (entry ∷ rest) legal)) (due-split image before rest entry legal)

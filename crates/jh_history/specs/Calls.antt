@@ -1,0 +1,96 @@
+-- The management call that is open, by its phases.
+use Rattle.std.specs.Prelude.{ℕ, ℤ, pos, Bool, false, ◌+◌, ◌-◌, ◌^◌, ◌==◌, ◌&&◌, not, min, List, [], ◌∷◌, find, Option, Some, None, option_map, if◌then◌else◌}
+use Rattle.jh_num.specs.declared.error.TheConstants.{EPERM}
+use Rattle.jh_cellcfg.specs.declared.config.CellConfig.{CellConfig}
+use Rattle.jh_cellcfg.specs.declared.live.Live.{Live}
+use Rattle.jh_cellcfg.specs.Lives.{id_of, has_id}
+use Rattle.jh_cellcfg.specs.Cells.{is_passive}
+use Rattle.jh_call.specs.declared.call.Call.{Call}
+use Rattle.jh_call.specs.declared.call.Call.TheVariants.{Create, Start, Loadable, Destroy}
+use Rattle.jh_call.specs.Calls.{decoded}
+use Rattle.jh_history.specs.declared.call.OpenCall.{OpenCall}
+use Rattle.jh_history.specs.declared.call.Phase.{Phase}
+use Rattle.jh_history.specs.declared.call.Phase.TheVariants.{ToDecide, ToSettle, ToCreate, ToCommit, ToNote, ToNoted, ToFinish}
+use Rattle.jh_history.specs.declared.entry.Entry.{Entry}
+use Rattle.jh_history.specs.declared.entry.Settled.{Settled}
+use Rattle.jh_history.specs.declared.entry.Settled.TheVariants.{Agreed, Denied, Timeout}
+use Rattle.jh_history.specs.declared.entry.Act.{Act}
+use Rattle.jh_history.specs.declared.entry.Act.TheVariants.{Begin, Decide, Settle, Commit, Note, Noted, Finish}
+
+-- the call is about the cell with the id, which lives already
+abbrev pub is_named : Call → ℕ → Bool
+is_named (Start cell) id = cell == id
+is_named (Loadable cell) id = cell == id
+is_named (Destroy cell) id = cell == id
+is_named _ id = false
+
+-- one more, or still the last number of 64 bits
+abbrev pub one_more : ℕ → ℕ
+one_more n = min (n + 1) (2 ^ 64 - 1)
+
+-- a cell is told that another was created or destroyed, unless it is passive
+abbrev pub is_told : ℕ → Live → Bool
+is_told about live = not (has_id about live) && not (is_passive live.config)
+
+-- the cells behind the one with the id
+abbrev pub behind : ℕ → List Live → List Live
+behind id [] = []
+behind id (live ∷ lives) = if has_id id live then lives else behind id lives
+
+-- the cell is told next, or, where there is none, the call ends with the answer
+abbrev pub telling : ℕ → ℤ → Option ℕ → Phase
+telling about answer None = ToFinish answer
+telling about answer (Some id) = ToNote id about answer
+
+-- the first of the cells that is told
+abbrev pub first_told : ℕ → List Live → Option ℕ
+first_told about cells = option_map id_of (find (is_told about) cells)
+
+-- a create goes on with the configuration that was read, and is refused where none was; any other call asks
+-- its cell
+abbrev pub decided : Call → Option CellConfig → Option ℤ → Phase
+decided call coming (Some refused) = ToFinish refused
+decided (Create at) (Some config) None = ToCreate config
+decided (Create at) None None = ToDecide
+decided call coming None = ToSettle 0
+
+abbrev pub after_settle : Settled → Phase
+after_settle Agreed = ToCommit
+after_settle Denied = ToFinish EPERM
+after_settle Timeout = ToCommit
+
+-- a create and a destroy are told to the other cells, which live before the Commit as after it
+abbrev pub after_commit : Call → Phase → List Live → Phase
+after_commit (Create at) (ToCreate config) cells = telling config.id (pos config.id) (first_told config.id cells)
+after_commit (Destroy id) phase cells = telling id (pos 0) (first_told id cells)
+after_commit call phase cells = ToFinish (pos 0)
+
+abbrev pub after_note : Phase → Phase
+after_note (ToNote id about answer) = ToNoted id about answer 0
+after_note phase = phase
+
+abbrev pub after_noted : Phase → List Live → Phase
+after_noted (ToNoted id about answer waited) cells = telling about answer (first_told about (behind id cells))
+after_noted phase cells = phase
+
+-- a phase that waits for a cell's answer counts the entries of that cell's CPUs
+abbrev pub counted : ℕ → Call → Phase → Phase
+counted cell call (ToSettle waited) = if is_named call cell then ToSettle (one_more waited) else ToSettle waited
+counted cell call (ToNoted id about answer waited) = if cell == id then ToNoted id about answer (one_more waited) else ToNoted id about answer waited
+counted cell call phase = phase
+
+-- the phase of the open call after the act of the cell's CPU, where these cells live besides root, and a create reads
+-- this configuration
+abbrev pub phase_after : List Live → Option CellConfig → ℕ → Call → Phase → Act → Phase
+phase_after cells coming cell call phase (Decide refused) = decided call coming refused
+phase_after cells coming cell call phase (Settle how) = after_settle how
+phase_after cells coming cell call phase Commit = after_commit call phase cells
+phase_after cells coming cell call phase (Note id) = after_note phase
+phase_after cells coming cell call phase (Noted id how) = after_noted phase cells
+phase_after cells coming cell call phase act = counted cell call phase
+
+-- the call after an entry: opened by a Begin, closed by a Finish, and a phase further by the others
+abbrev pub call_by : List Live → Option CellConfig → Option OpenCall → Entry → Act → Option OpenCall
+call_by cells coming call entry (Begin code a b) = Some (record { caller = entry.cpu; call = decoded code a b; phase = ToDecide })
+call_by cells coming call entry (Finish answer) = None
+call_by cells coming call entry act = option_map (λ (o : OpenCall). record { caller = o.caller; call = o.call; phase = phase_after cells coming entry.cell o.call o.phase act }) call

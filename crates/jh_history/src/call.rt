@@ -1,0 +1,36 @@
+//! A management call that is open.
+
+use jh_call::Call;
+use jh_cellcfg::CellConfig;
+
+/// A management call that has begun and isn't finished.
+#[derive(Drop)]
+pub struct OpenCall {
+    /// The CPU that makes it; each of its phases is an entry of this CPU.
+    pub caller: u8,
+    pub call: Call,
+    pub phase: Phase,
+}
+
+/// What comes next in a call.
+#[derive(Drop)]
+pub enum Phase {
+    ToDecide,
+    /// The cell was asked to shut down. Its CPUs have made so many entries since.
+    ToSettle { waited: u64 },
+    /// The new cell has this configuration.
+    ToCreate { config: CellConfig },
+    /// The cell has agreed.
+    ToCommit,
+    /// The cell `id` is told that the cell `about` was created or destroyed; the call will end with the
+    /// answer.
+    ToNote { id: u32, about: u64, answer: i64 },
+    /// It was told, and its CPUs have made so many entries since.
+    ToNoted {
+        id: u32,
+        about: u64,
+        answer: i64,
+        waited: u64,
+    },
+    ToFinish { answer: i64 },
+}

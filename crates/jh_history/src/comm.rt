@@ -1,0 +1,25 @@
+//! What the hypervisor writes into communication pages.
+
+/// A change of a page's words.
+#[derive(Clone, Copy)]
+pub enum PageChange {
+    /// The cell is in another state.
+    State(u32),
+    /// The cell is sent a message, to which there is no reply yet.
+    Message(u32),
+    /// The page is as new: the cell's state, the console of its configuration, and where the ECAM window
+    /// begins.
+    Fresh {
+        state: u32,
+        console: [u8; 32],
+        window: u64,
+    },
+}
+
+/// A change of a live cell's page.
+#[derive(Clone, Copy)]
+pub struct PageWrite {
+    /// The cell's id.
+    pub cell: u32,
+    pub change: PageChange,
+}
