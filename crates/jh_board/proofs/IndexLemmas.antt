@@ -54,10 +54,10 @@ unfolding program_of
 root_ops_at image places cpu at are lt is = ap (λ (o : Option Program). option_map_or (λ (p : Program). p.ops) o []) (is ∙ sym (are cpu lt))
 
 -- the regions of root, and of no cell
-pub regions_in-root : (image : Image) (id : ℕ) → id ≡ image.system.root.id → image.system.root.memory_regions ≡ regions_in image id
+pub regions_in-root : (image : Image) (id : ℕ) → id ≡ image.system.root.id → image.system.root.memory_regions ≡ regions_in image [] id
 regions_in-root image id e = let t : eqb id image.system.root.id ≡ true = grind (arith, nat_tests) in rw t refl
 
-pub regions_in-other : (image : Image) (id : ℕ) → (id ≡ image.system.root.id → ⊥) → [] ≡ regions_in image id
+pub regions_in-other : (image : Image) (id : ℕ) → (id ≡ image.system.root.id → ⊥) → [] ≡ regions_in image [] id
 regions_in-other image id other = let t : eqb id image.system.root.id ≡ false = grind (arith, nat_tests) in rw t refl
 
 -- a region of root that is found is in range

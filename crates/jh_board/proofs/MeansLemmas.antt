@@ -8,8 +8,10 @@ use Rattle.jh_history.specs.declared.entry.Entry.{Entry}
 use Rattle.jh_cpu.specs.declared.cpu.Cpu.{Cpu}
 use Rattle.jh_history.specs.Facts.{Facts}
 use Rattle.jh_history.specs.History.{facts, start, after}
-use Rattle.jh_history.specs.Bytes.{byte_after, preloaded}
+use Rattle.jh_history.specs.Alone.{IsRoots}
+use Rattle.jh_history.specs.Bytes.{byte_written, preloaded}
 use Rattle.jh_history.specs.Cpus.{cpu_after}
+use Rattle.jh_history.proofs.AloneLemmas.{byte_after-roots}
 use Rattle.jh_history.proofs.FactsLemmas.{facts-nil}
 use Rattle.jh_history.specs.declared.place.Place.{Place}
 use Rattle.jh_history.specs.declared.place.Place.TheVariants.{Physical, Page}
@@ -26,12 +28,12 @@ slice_get-set_other xs i j x y n e =
     slice_get-get_or (set xs i y) j x within ∙ ap Some (get_or-set_other xs i j y x n ∙ get_or_from_slice_get xs j x x e)
 
 -- what is held after an entry
-pub Means-made : (image : Image) (f : Facts) (entry : Entry) (old new : Held) → Means old f
-    → ((q : Place) → byte_of new.pages q ≡ byte_after image f entry.cell entry.act q)
-    → ((i : ℕ) → i < 16 → slice_get new.states i ≡ Some (cpu_after f entry i))
+pub Means-made : (image : Image) (f : Facts) (entry : Entry) (old new : Held) → Means old f → IsRoots image entry
+    → ((q : Place) → byte_of new.pages q ≡ byte_written image f entry.cell entry.act q)
+    → ((i : ℕ) → i < 16 → slice_get new.states i ≡ Some (cpu_after image f entry i))
     → Means new (after image f entry)
 unfolding after
-Means-made image f entry old new means bytes cpus = record { bytes = bytes; cpus = cpus }
+Means-made image f entry old new means own bytes cpus = record { bytes = λ q. bytes q ∙ sym (byte_after-roots image f entry q own); cpus = cpus }
 
 -- what is held with the same bytes
 pub Means-same : (f : Facts) (old new : Held) → Means old f → ((q : Place) → byte_of new.pages q ≡ byte_of old.pages q) → new.states ≡ old.states → Means new f

@@ -15,7 +15,7 @@ use crate::state::{is_quiet, next_step};
 use crate::steps::make;
 use crate::turn::{Turn, TurnFault};
 use jh_cpu::Cpu;
-use jh_history::{Entry, Journal};
+use jh_history::{Entry, Journal, root_lives_alone};
 use jh_num::{NoMemory, Steps};
 use jh_script::Image;
 use std::alloc::Global;
@@ -57,6 +57,7 @@ fn advance(
     requires cpu { cpu < 16 }
     requires within { length journal.old.entries ≤ limit }
     requires means { Means (record { pages = memory.old; states = cpus.old }) (facts image.now journal.old.entries) }
+    requires legal { IsLegal image.now journal.old.entries }
     ensures ok { IfOk result (λ made. Advances image.now limit journal.old.entries cpu made journal.new.entries) }
     ensures full { result ≡ Err TurnFault.Full → IsSome (due image.now journal.old.entries cpu) × (length journal.old.entries ≡ limit) }
     ensures err { OnErr result (journal.new.entries ≡ journal.old.entries) }
@@ -64,6 +65,7 @@ fn advance(
     ensures cpu { IfOk result (λ made. IfSome made (λ entry. entry.cpu ≡ cpu)) }
 {
     image.has_few_cpus();
+    root_lives_alone();
     let Some(step) = next_step(image, memory, cpus, cpu) else {
         return Ok(None);
     };
@@ -137,6 +139,7 @@ impl Board {
     pub fn is_quiet(&self) -> bool
         ensures { IsTrue result ↔ IsQuiet self.now.image self.now.entries }
     {
+        root_lives_alone();
         is_quiet(&self.image, &self.memory, &self.cpus, self.last)
     }
 

@@ -1,5 +1,5 @@
 //! An image with what turns look up in it, found once.
-ghost use Rattle.std.specs.Prelude.{◌≡◌, ℕ, ◌<◌, ◌≤◌, List, All, IsTrue, find, slice_get, IfSome, IfOk, IfErr};
+ghost use Rattle.std.specs.Prelude.{◌≡◌, ℕ, ◌<◌, ◌≤◌, List, [], All, IsTrue, find, slice_get, IfSome, IfOk, IfErr};
 ghost use Rattle.jh_cellcfg.specs.Cells.{name_of as name_of_lem};
 ghost use Rattle.jh_cellcfg.specs.Regions.{IsInRange};
 ghost use Rattle.jh_mmio.specs.Index.{IsRegionAt};
@@ -129,10 +129,10 @@ impl IndexedImage {
         }
     }
 
-    /// The operation that the CPU is at, in that state.
+    /// The operation that the CPU is at, in that state, where root lives alone.
     pub fn operation(&self, cpu: u8, state: Cpu) -> Option<Op>
         requires { cpu < 16 }
-        ensures told { (f : Facts) → result ≡ op_at self.now f state cpu }
+        ensures told { (f : Facts) → f.cells ≡ [] → result ≡ op_at self.now f state cpu }
         ensures plain { IfSome result IsPlain }
     {
         if state.owner == self.image.system.root.id {
@@ -142,19 +142,20 @@ impl IndexedImage {
         }
     }
 
-    /// What the cell's access reaches.
+    /// What the cell's access reaches, where root lives alone.
     pub fn reach(&self, cell: u32, wanted: &Wanted) -> Reach
         requires { wanted.now.width ≤ 8 }
-        ensures reach { result ≡ reach_by (place_of cell (regions_in self.now cell) wanted.now.access) wanted.now.at wanted.now.width }
+        ensures reach { result ≡ reach_by (place_of cell (regions_in self.now [] cell) wanted.now.access) wanted.now.at wanted.now.width }
     {
         reach(self, cell, wanted)
     }
 }
 
 impl Grants for IndexedImage {
+    ghost use Rattle.std.specs.Prelude.{[]};
     ghost use Rattle.jh_history.specs.Lives.{regions_in};
 
-    ghost regions = { regions_in };
+    ghost regions = { λ image. regions_in image [] };
 
     fn region(&self, cell: u32, access: Access, at: u64) -> Option<Region> {
         admitted_roots_are_sound(&self.image);

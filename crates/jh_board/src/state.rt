@@ -1,6 +1,7 @@
 //! A board's memory and CPUs, as what tells the facts of its journal.
 ghost use Rattle.std.specs.Prelude.{◌≡◌, ℕ, ◌<◌, ◌↔◌, None, IfSome, IsTrue, length, option_map};
 ghost use Rattle.jh_history.specs.Due.{due_at};
+ghost use Rattle.jh_history.specs.Alone.{IsAlone};
 ghost use Rattle.jh_history.specs.Facts.{Facts};
 ghost use Rattle.jh_history.specs.Wants.{IsReachOfEntry};
 ghost use Rattle.jh_board.specs.Means.{Means};
@@ -34,9 +35,10 @@ impl<'a> Model for State<'a> {
 
 impl<'a> Known for State<'a> {
     ghost use Rattle.std.specs.Prelude.{◌≡◌};
+    ghost use Rattle.jh_history.specs.Alone.{IsAlone};
     ghost use Rattle.jh_board.specs.Means.{Means};
 
-    ghost Knows = { λ s i f. (i ≡ s.image) × Means s.held f };
+    ghost Knows = { λ s i f. (i ≡ s.image) × Means s.held f × IsAlone i f };
 
     fn has_cpu(&self, cpu: u8) -> bool {
         self.image.has_cpu(cpu)
@@ -70,8 +72,8 @@ pub struct NextStep {
 pub fn next_step(image: &IndexedImage, memory: &Memory, cpus: &[Cpu], cpu: u8) -> Option<NextStep>
     requires cpus { length cpus.now ≡ 16 }
     requires cpu { cpu < 16 }
-    ensures due { (f : Facts) → Means (record { pages = memory.now; states = cpus.now }) f → option_map (λ (s : TheStep). s.entry) result ≡ due_at image.now f cpu }
-    ensures reached { (f : Facts) → Means (record { pages = memory.now; states = cpus.now }) f → IfSome result (λ s. IsReachOfEntry image.now f s.entry s.reach) }
+    ensures due { (f : Facts) → Means (record { pages = memory.now; states = cpus.now }) f → IsAlone image.now f → option_map (λ (s : TheStep). s.entry) result ≡ due_at image.now f cpu }
+    ensures reached { (f : Facts) → Means (record { pages = memory.now; states = cpus.now }) f → IsAlone image.now f → IfSome result (λ s. IsReachOfEntry image.now f s.entry s.reach) }
     ensures cpu { IfSome result (λ s. s.entry.cpu ≡ cpu) }
 {
     let state = State {
@@ -90,7 +92,7 @@ pub fn next_step(image: &IndexedImage, memory: &Memory, cpus: &[Cpu], cpu: u8) -
 pub fn is_quiet(image: &IndexedImage, memory: &Memory, cpus: &[Cpu], first: u8) -> bool
     requires cpus { length cpus.now ≡ 16 }
     requires first { first < 16 }
-    ensures { (f : Facts) → Means (record { pages = memory.now; states = cpus.now }) f → IsTrue result ↔ ((cpu : ℕ) → due_at image.now f cpu ≡ None) }
+    ensures { (f : Facts) → Means (record { pages = memory.now; states = cpus.now }) f → IsAlone image.now f → IsTrue result ↔ ((cpu : ℕ) → due_at image.now f cpu ≡ None) }
 {
     image.has_few_cpus();
     let state = State {

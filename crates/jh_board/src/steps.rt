@@ -1,9 +1,10 @@
 //! What an entry does to memory and to the CPUs.
-ghost use Rattle.std.specs.Prelude.{◌≡◌, ℕ, ◌<◌, ◌≤◌, length, OnOk, OnErr};
+ghost use Rattle.std.specs.Prelude.{◌≡◌, ℕ, ◌<◌, ◌≤◌, false, length, OnOk, OnErr};
 ghost use Rattle.jh_script.specs.declared.image.Image.{Image};
 ghost use Rattle.jh_history.specs.declared.place.Place.{Place as ThePlace};
 ghost use Rattle.jh_history.specs.Access.{write_of, IsPhysical};
-ghost use Rattle.jh_history.specs.Bytes.{byte_after};
+ghost use Rattle.jh_history.specs.Bytes.{byte_written};
+ghost use Rattle.jh_history.specs.Alone.{IsRoots, is_phase};
 ghost use Rattle.jh_history.specs.Facts.{Facts};
 ghost use Rattle.jh_history.specs.History.{after};
 ghost use Rattle.jh_history.specs.Wants.{IsReachOfAct, IsReachOfEntry, IsPhysicalOf};
@@ -34,7 +35,7 @@ fn make_write(memory: &mut Memory, reach: &Reach, value: u64) -> Result<(), NoMe
 /// Writes what the act writes where it reaches.
 fn make_bytes(memory: &mut Memory, act: &Act, reach: &Reach) -> Result<(), NoMemory>
     requires { IsPhysicalOf act.now reach.now }
-    ensures ok { OnOk result ((i : Image) (f : Facts) (cell : ℕ) → ((q : ThePlace) → byte_of memory.old q ≡ f.byte q) → IsReachOfAct i f cell act.now reach.now → (q : ThePlace) → byte_of memory.new q ≡ byte_after i f cell act.now q) }
+    ensures ok { OnOk result ((i : Image) (f : Facts) (cell : ℕ) → ((q : ThePlace) → byte_of memory.old q ≡ f.byte q) → IsReachOfAct i f cell act.now reach.now → (q : ThePlace) → byte_of memory.new q ≡ byte_written i f cell act.now q) }
     ensures err { OnErr result ((q : ThePlace) → byte_of memory.new q ≡ byte_of memory.old q) }
 {
     match *act {
@@ -48,7 +49,7 @@ fn make_bytes(memory: &mut Memory, act: &Act, reach: &Reach) -> Result<(), NoMem
     }
 }
 
-/// Makes the entry in what a board holds; `reach` is what its access reaches, where it makes one.
+/// Makes the entry of root in what a board holds; `reach` is what its access reaches, where it makes one.
 pub fn make(
     memory: &mut Memory,
     cpus: &mut [Cpu],
@@ -56,8 +57,9 @@ pub fn make(
     reach: &Reach,
 ) -> Result<(), NoMemory>
     requires cpus { length cpus.old ≡ 16 }
+    requires own { is_phase entry.now.act ≡ false }
     requires physical { IsPhysicalOf entry.now.act reach.now }
-    ensures ok { OnOk result ((i : Image) (f : Facts) → Means (record { pages = memory.old; states = cpus.old }) f → IsReachOfEntry i f entry.now reach.now → Means (record { pages = memory.new; states = cpus.new }) (after i f entry.now)) }
+    ensures ok { OnOk result ((i : Image) (f : Facts) → Means (record { pages = memory.old; states = cpus.old }) f → IsRoots i entry.now → IsReachOfEntry i f entry.now reach.now → Means (record { pages = memory.new; states = cpus.new }) (after i f entry.now)) }
     ensures err { OnErr result ((f : Facts) → Means (record { pages = memory.old; states = cpus.old }) f → Means (record { pages = memory.new; states = cpus.new }) f) }
 {
     make_bytes(memory, &entry.act, reach)?;
