@@ -1,12 +1,11 @@
 -- Regions and programs by an index.
-use Rattle.std.proofs.Common.{◌≡◌, ℕ, ◌<◌, List, [], Bool, true, false, cond, eqb, Option, Some, None, refl, sym, ◌∙◌, ap, get_or, arith}
-use Rattle.std.specs.Prelude.{slice_get, Contains, IsTrue, IfSome}
+use Rattle.std.proofs.Common.{◌≡◌, ℕ, ◌<◌, List, [], true, false, cond, eqb, Option, Some, None, refl, sym, ◌∙◌, ap, get_or, arith}
+use Rattle.std.specs.Prelude.{slice_get, IfSome}
 use Rattle.std.specs.Option.{option_map_or}
 use Rattle.std.proofs.lemmas.Bool.Decides.{nat_tests}
 use Rattle.std.proofs.lemmas.Option.{none-some, same_Some}
 use Rattle.jh_num.proofs.Lists.{IsFound-from_find, find-None}
 use Rattle.jh_cellcfg.specs.Cells.{name_of}
-use Rattle.jh_cellcfg.specs.declared.config.CellConfig.{CellConfig}
 use Rattle.jh_cellcfg.specs.declared.region.Region.{Region}
 use Rattle.jh_mmio.specs.Index.{IsRegionAt}
 use Rattle.jh_script.specs.declared.image.Image.{Image}

@@ -1,5 +1,5 @@
 -- What a board holds, by the facts.
-use Rattle.std.proofs.Common.{◌≡◌, ◌≢◌, ℕ, ◌<◌, ◌≤◌, List, [], Some, None, refl, sym, ◌∙◌, ap, subst, length, get_or, set, false}
+use Rattle.std.proofs.Common.{◌≡◌, ◌≢◌, ℕ, ◌<◌, List, [], Some, refl, sym, ◌∙◌, ap, length, set}
 use Rattle.std.specs.Prelude.{slice_get, replicate, fold}
 use Rattle.std.proofs.lemmas.Option.{get_or_from_slice_get, slice_get-get_or, slice_get_within}
 use Rattle.std.proofs.lemmas.List.{get_or-set_same, get_or-set_other, length-set, length-replicate, get_or-replicate}
@@ -8,7 +8,7 @@ use Rattle.jh_history.specs.declared.entry.Entry.{Entry}
 use Rattle.jh_cpu.specs.declared.cpu.Cpu.{Cpu}
 use Rattle.jh_history.specs.Facts.{Facts}
 use Rattle.jh_history.specs.History.{facts, start, after}
-use Rattle.jh_history.specs.Alone.{IsRoots}
+use Rattle.jh_history.specs.Alone.{IsByRoot}
 use Rattle.jh_history.specs.Bytes.{byte_written, preloaded}
 use Rattle.jh_history.specs.Cpus.{cpu_after}
 use Rattle.jh_history.proofs.AloneLemmas.{byte_after-roots}
@@ -28,7 +28,7 @@ slice_get-set_other xs i j x y n e =
     slice_get-get_or (set xs i y) j x within ∙ ap Some (get_or-set_other xs i j y x n ∙ get_or_from_slice_get xs j x x e)
 
 -- what is held after an entry
-pub Means-made : (image : Image) (f : Facts) (entry : Entry) (old new : Held) → Means old f → IsRoots image entry
+pub Means-made : (image : Image) (f : Facts) (entry : Entry) (old new : Held) → Means old f → IsByRoot image entry
     → ((q : Place) → byte_of new.pages q ≡ byte_written image f entry.cell entry.act q)
     → ((i : ℕ) → i < 16 → slice_get new.states i ≡ Some (cpu_after image f entry i))
     → Means new (after image f entry)

@@ -4,7 +4,7 @@ ghost use Rattle.jh_script.specs.declared.image.Image.{Image};
 ghost use Rattle.jh_history.specs.declared.place.Place.{Place as ThePlace};
 ghost use Rattle.jh_history.specs.Access.{write_of, IsPhysical};
 ghost use Rattle.jh_history.specs.Bytes.{byte_written};
-ghost use Rattle.jh_history.specs.Alone.{IsRoots, is_phase};
+ghost use Rattle.jh_history.specs.Alone.{IsByRoot, is_phase};
 ghost use Rattle.jh_history.specs.Facts.{Facts};
 ghost use Rattle.jh_history.specs.History.{after};
 ghost use Rattle.jh_history.specs.Wants.{IsReachOfAct, IsReachOfEntry, IsPhysicalOf};
@@ -59,7 +59,7 @@ pub fn make(
     requires cpus { length cpus.old ≡ 16 }
     requires own { is_phase entry.now.act ≡ false }
     requires physical { IsPhysicalOf entry.now.act reach.now }
-    ensures ok { OnOk result ((i : Image) (f : Facts) → Means (record { pages = memory.old; states = cpus.old }) f → IsRoots i entry.now → IsReachOfEntry i f entry.now reach.now → Means (record { pages = memory.new; states = cpus.new }) (after i f entry.now)) }
+    ensures ok { OnOk result ((i : Image) (f : Facts) → Means (record { pages = memory.old; states = cpus.old }) f → IsByRoot i entry.now → IsReachOfEntry i f entry.now reach.now → Means (record { pages = memory.new; states = cpus.new }) (after i f entry.now)) }
     ensures err { OnErr result ((f : Facts) → Means (record { pages = memory.old; states = cpus.old }) f → Means (record { pages = memory.new; states = cpus.new }) f) }
 {
     make_bytes(memory, &entry.act, reach)?;

@@ -34,7 +34,7 @@ use Rattle.jh_history.specs.Bytes.{byte_written, byte_after}
 use Rattle.jh_history.specs.History.{start, after, facts, coming_of}
 use Rattle.jh_history.specs.Wants.{pending_op}
 use Rattle.jh_history.specs.Due.{due_at, state_act, act_of, await_of, entry_by, IsLegal, IsLegalFrom}
-use Rattle.jh_history.specs.Alone.{IsAlone, IsRoots, is_phase}
+use Rattle.jh_history.specs.Alone.{IsAlone, IsByRoot, is_phase}
 use Rattle.jh_history.proofs.FactsLemmas.{same_function}
 use Rattle.jh_history.proofs.DueLemmas.{due_at-absent, due_at-present}
 use Rattle.jh_history.proofs.LegalLemmas.{due-split, IsLegal-begin}
@@ -88,19 +88,19 @@ own_state : (image : Image) (f : Facts) (state : Cpu) (cpu : ℕ) (asked : Bool)
 own_state image f state cpu true = refl
 own_state image f state cpu false = own_op image f state.owner (pending_op image f state cpu)
 
-roots_entry : (image : Image) (cpu cell : ℕ) (entry : Entry) (o : Option Act) → IfSome o IsOwn → cell ≡ image.system.root.id → option_map (entry_by cpu cell) o ≡ Some entry → IsRoots image entry
+roots_entry : (image : Image) (cpu cell : ℕ) (entry : Entry) (o : Option Act) → IfSome o IsOwn → cell ≡ image.system.root.id → option_map (entry_by cpu cell) o ≡ Some entry → IsByRoot image entry
 roots_entry image cpu cell entry None own is h = absurd (none-some entry h)
 roots_entry image cpu cell entry (Some act) own is h =
-    let P : Entry → Type 0 = IsRoots image in
+    let P : Entry → Type 0 = IsByRoot image in
     subst P (same_Some (entry_by cpu cell act) entry h) (record { cell = is; act = own })
 
-roots_at : (image : Image) (f : Facts) (cpu : ℕ) (entry : Entry) (b : Bool) → IsAlone image f → is_on_board image cpu ≡ b → due_at image f cpu ≡ Some entry → IsRoots image entry
+roots_at : (image : Image) (f : Facts) (cpu : ℕ) (entry : Entry) (b : Bool) → IsAlone image f → is_on_board image cpu ≡ b → due_at image f cpu ≡ Some entry → IsByRoot image entry
 roots_at image f cpu entry true alone e h =
     roots_entry image cpu (f.cpu cpu).owner entry (state_act image f (f.cpu cpu) cpu) (own_state image f (f.cpu cpu) cpu (f.cpu cpu).asked) (alone.owners cpu) (sym (due_at-present image f cpu e) ∙ h)
 roots_at image f cpu entry false alone e h = absurd (none-some entry (sym (due_at-absent image f cpu e) ∙ h))
 
 -- where root is alone, an entry that is due is root's
-pub due_at-roots : (image : Image) (f : Facts) (cpu : ℕ) (entry : Entry) → IsAlone image f → due_at image f cpu ≡ Some entry → IsRoots image entry
+pub due_at-roots : (image : Image) (f : Facts) (cpu : ℕ) (entry : Entry) → IsAlone image f → due_at image f cpu ≡ Some entry → IsByRoot image entry
 due_at-roots image f cpu entry alone h = roots_at image f cpu entry (is_on_board image cpu) alone refl h
 
 -- what such an entry does
@@ -164,14 +164,14 @@ owner_if true change cpu = owner_kept change cpu
 owner_if false change cpu = refl
 
 -- and root is alone behind it
-pub alone-after : (image : Image) (f : Facts) (entry : Entry) → IsAlone image f → IsRoots image entry → IsAlone image (after image f entry)
+pub alone-after : (image : Image) (f : Facts) (entry : Entry) → IsAlone image f → IsByRoot image entry → IsAlone image (after image f entry)
 unfolding after
 alone-after image f entry alone own = record {
   cells = cells_kept f.call f.cells entry.act own.act ∙ alone.cells;
   call = rw alone.call (call_kept f.cells (coming_of image f) entry entry.act own.act);
   owners = λ i.
-    ap (λ (c : Cpu). c.owner) (acted-own image f.call entry.act entry.cpu i (f.cpu i) own.act)
-    ∙ owner_if (eqb i entry.cpu) (change_of entry.act) (f.cpu i) ∙ alone.owners i;
+      ap (λ (c : Cpu). c.owner) (acted-own image f.call entry.act entry.cpu i (f.cpu i) own.act)
+      ∙ owner_if (eqb i entry.cpu) (change_of entry.act) (f.cpu i) ∙ alone.owners i;
 }
 
 -- a violation of root writes into no page
@@ -199,7 +199,7 @@ no_page image f entry (Noted id how) is own = absurd (both_ways true own refl)
 no_page image f entry (Finish answer) is own = absurd (both_ways true own refl)
 
 -- so the bytes are those that its write leaves
-pub byte_after-roots : (image : Image) (f : Facts) (entry : Entry) (q : Place) → IsRoots image entry → byte_after image f entry q ≡ byte_written image f entry.cell entry.act q
+pub byte_after-roots : (image : Image) (f : Facts) (entry : Entry) (q : Place) → IsByRoot image entry → byte_after image f entry q ≡ byte_written image f entry.cell entry.act q
 byte_after-roots image f entry q own =
     ap (λ (write : Option PageWrite). with_page_write write (byte_written image f entry.cell entry.act) q) (no_page image f entry entry.act own.cell own.act)
 
@@ -214,6 +214,6 @@ unfolding IsLegal facts
 legal-alone image entries legal = alone_from image (start image) entries (alone-start image) legal
 
 -- and each of its entries is root's
-pub legal-roots : (image : Image) (before rest : List Entry) (entry : Entry) → IsLegal image (before ++ entry ∷ rest) → IsRoots image entry
+pub legal-roots : (image : Image) (before rest : List Entry) (entry : Entry) → IsLegal image (before ++ entry ∷ rest) → IsByRoot image entry
 legal-roots image before rest entry legal =
     due_at-roots image (facts image before) entry.cpu entry (legal-alone image before (IsLegal-begin image before (entry ∷ rest) legal)) (due-split image before rest entry legal)

@@ -13,7 +13,7 @@ use Rattle.jh_history.specs.Places.{further, places_in_row, over}
 use Rattle.jh_history.specs.Access.{write_of}
 use Rattle.jh_history.specs.Facts.{Facts}
 use Rattle.jh_history.specs.Bytes.{opening_byte, byte_written}
-use Rattle.jh_history.specs.Alone.{IsRoots}
+use Rattle.jh_history.specs.Alone.{IsByRoot}
 use Rattle.jh_history.specs.Cpus.{cpu_after}
 use Rattle.jh_history.specs.History.{after}
 use Rattle.jh_history.specs.Wants.{reach_of}
@@ -47,7 +47,7 @@ kept-write i f cell wanted found places value q old stands is_found is =
     ap (over places value q) (sym (stands.bytes q)) ∙ sym (written-over f.byte places value q) ∙ ap (λ (r : Reach). write_of f.byte r value q) (sym is ∙ is_found)
 
 -- one entry more
-pub Stands-after : (i : Image) (f : Facts) (entry : Entry) (old new : PlainView) → Stands old i f → IsRoots i entry → new.image ≡ old.image
+pub Stands-after : (i : Image) (f : Facts) (entry : Entry) (old new : PlainView) → Stands old i f → IsByRoot i entry → new.image ≡ old.image
     → ((k : ℕ) → k < 16 → slice_get new.cpus k ≡ Some (cpu_after i f entry k))
     → ((q : Place) → last_byte i new.bytes q ≡ byte_written i f entry.cell entry.act q)
     → Stands new i (after i f entry)

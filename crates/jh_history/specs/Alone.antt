@@ -24,6 +24,6 @@ is_phase (Finish answer) = true
 is_phase _ = false
 
 -- the entry is root's, and no phase of a call
-pub record IsRoots (image : Image) (entry : Entry) : Type 0 where
+pub record IsByRoot (image : Image) (entry : Entry) : Type 0 where
   pub cell : entry.cell ≡ image.system.root.id
   pub act : is_phase entry.act ≡ false

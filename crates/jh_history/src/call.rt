@@ -17,14 +17,22 @@ pub struct OpenCall {
 pub enum Phase {
     ToDecide,
     /// The cell was asked to shut down. Its CPUs have made so many entries since.
-    ToSettle { waited: u64 },
+    ToSettle {
+        waited: u64,
+    },
     /// The new cell has this configuration.
-    ToCreate { config: CellConfig },
+    ToCreate {
+        config: CellConfig,
+    },
     /// The cell has agreed.
     ToCommit,
     /// The cell `id` is told that the cell `about` was created or destroyed; the call will end with the
     /// answer.
-    ToNote { id: u32, about: u64, answer: i64 },
+    ToNote {
+        id: u32,
+        about: u64,
+        answer: i64,
+    },
     /// It was told, and its CPUs have made so many entries since.
     ToNoted {
         id: u32,
@@ -32,5 +40,7 @@ pub enum Phase {
         answer: i64,
         waited: u64,
     },
-    ToFinish { answer: i64 },
+    ToFinish {
+        answer: i64,
+    },
 }

@@ -8,7 +8,7 @@ ghost use Rattle.jh_history.specs.declared.entry.Entry.{Entry as TheEntry};
 ghost use Rattle.jh_history.specs.Facts.{Facts};
 ghost use Rattle.jh_history.specs.History.{after, facts};
 ghost use Rattle.jh_history.specs.Due.{due_at, IsLegal};
-ghost use Rattle.jh_history.specs.Alone.{IsAlone, IsRoots};
+ghost use Rattle.jh_history.specs.Alone.{IsAlone, IsByRoot};
 ghost use Rattle.jh_history.specs.Lives.{is_on_board};
 
 use jh_check::{
@@ -32,9 +32,9 @@ pub fn admitted_roots_are_sound(image: &Image)
 pub fn root_lives_alone()
     ensures alone { (image : TheImage) (entries : List TheEntry) → IsLegal image entries → IsAlone image (facts image entries) }
     ensures entries { (image : TheImage) (before rest : List TheEntry) (entry : TheEntry) →
-        IsLegal image (before ++ entry ∷ rest) → IsRoots image entry }
+        IsLegal image (before ++ entry ∷ rest) → IsByRoot image entry }
     ensures due { (image : TheImage) (f : Facts) (cpu : ℕ) (entry : TheEntry) → IsAlone image f →
-        due_at image f cpu ≡ Some entry → IsRoots image entry }
+        due_at image f cpu ≡ Some entry → IsByRoot image entry }
     ensures kept { (image : TheImage) (f : Facts) (entry : TheEntry) → IsAlone image f →
-        IsRoots image entry → IsAlone image (after image f entry) }
+        IsByRoot image entry → IsAlone image (after image f entry) }
 {}

@@ -11,7 +11,7 @@ ghost use Rattle.jh_history.specs.Bytes.{preloaded, opening_byte as opening_byte
 ghost use Rattle.jh_history.specs.History.{facts, after, start};
 ghost use Rattle.jh_history.specs.Due.{due as due_lem, IsLegal, IsQuiet};
 ghost use Rattle.jh_history.specs.Admitted.{IsAdmitted, IsBuilt, IsPlainAct, IsPlainEntry};
-ghost use Rattle.jh_history.specs.Alone.{IsRoots};
+ghost use Rattle.jh_history.specs.Alone.{IsByRoot};
 ghost use Rattle.jh_history.specs.PlainView.{overwritten, last_byte, Stands};
 
 use crate::access::{Access, Reach, Wanted};
@@ -180,7 +180,7 @@ impl<'a> Plain<'a> {
     /// Goes on by an entry of root.
     fn follow(&mut self, entry: &Entry) -> Result<(), NoMemory>
         requires plain { IsPlainEntry entry.now }
-        requires own { IsRoots self.old.image entry.now }
+        requires own { IsByRoot self.old.image entry.now }
         ensures { OnOk result ((i : TheImage) (f : Facts) → Stands self.old i f → Stands self.new i (after i f entry.now)) }
     {
         self.write(entry.cell, &entry.act)?;

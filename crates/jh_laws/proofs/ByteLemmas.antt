@@ -19,11 +19,12 @@ use Rattle.jh_history.specs.Places.{over, number_of}
 use Rattle.jh_history.specs.Access.{write_of}
 use Rattle.jh_history.specs.Facts.{Facts}
 use Rattle.jh_history.specs.Grants.{reach}
-use Rattle.jh_history.specs.Bytes.{byte_after, preloaded}
+use Rattle.jh_history.specs.Bytes.{byte_written, preloaded}
 use Rattle.jh_history.specs.History.{after, facts}
 use Rattle.jh_history.specs.Due.{IsLegal, IsLegalFrom}
 use Rattle.jh_history.specs.Admitted.{IsAdmitted, has_byte_at, IsOtherPreload}
 use Rattle.jh_history.proofs.PlaceLemmas.{written-over}
+use Rattle.jh_history.proofs.AloneLemmas.{byte_after-roots}
 use Rattle.jh_history.proofs.FactsLemmas.{byte-after, facts-push, facts-nil}
 use Rattle.jh_history.proofs.LegalLemmas.{IsLegal-begin, IsLegal-rest, facts-append}
 use Rattle.jh_laws.specs.Grants.{IsGranted, AreGranted}
@@ -31,7 +32,7 @@ use Rattle.jh_laws.specs.Outcomes.{is_violation}
 use Rattle.jh_laws.specs.Writes.{Writes, WritesNot}
 use Rattle.jh_laws.proofs.ListedLemmas.{over-other, over-at}
 use Rattle.jh_laws.proofs.GrantLemmas.{granted-same, granted_at, reach-root, reach_by-listed, reached-of}
-use Rattle.jh_laws.proofs.MadeLemmas.{IsAccess, IsNext, AllRoots, made-access, next-made, roots_after, roots-at, made-at}
+use Rattle.jh_laws.proofs.MadeLemmas.{by_root, IsAccess, IsNext, AllRoots, made-access, next-made, roots_after, roots-at, made-at}
 use Rattle.jh_laws.proofs.OutcomeLemmas.{some_width}
 
 -- the places of so many addresses
@@ -39,53 +40,54 @@ abbrev own_places : ℕ → ℕ → Place
 own_places at k = Physical (at + k)
 
 -- a write that reaches writes the addresses' own places, in order
-written_places : (image : Image) (f : Facts) (at width value : ℕ) (place : Place) → IsAdmitted image → 0 < width → AreGranted image.system.root ToWrite at width
+written_places : (image : Image) (f : Facts) (at width value : ℕ) (place : Place) → IsAdmitted image → f.cells ≡ [] → 0 < width → AreGranted image.system.root ToWrite at width
     → write_of f.byte (reach image f image.system.root.id ToWrite at width) value place ≡ over (listed (own_places at) width) value place (f.byte place)
-written_places image f at width value place admitted some granted =
+written_places image f at width value place admitted none some granted =
     let reached : reach image f image.system.root.id ToWrite at width ≡ Memory (listed (own_places at) width)
-    = reach-root image f ToWrite at width ∙ reach_by-listed image ToWrite at width (own_places at) admitted some (granted_at image ToWrite at width admitted granted) in
+    = reach-root image f ToWrite at width none ∙ reach_by-listed image ToWrite at width (own_places at) admitted some (granted_at image ToWrite at width admitted granted) in
     ap (λ (r : Reach). write_of f.byte r value place) reached ∙ written-over f.byte (listed (own_places at) width) value place
 
 same_index : (at j k : ℕ) (place : Place) → place ≡ Physical (at + k) → place ≡ Physical (at + j) → j ≡ k
 same_index at j k place is_k is_j = let e : at + k ≡ at + j = ap number_of (sym is_k ∙ is_j) in omega arith
 
-byte_written : (image : Image) (f : Facts) (act : Act) (place : Place) (byte : ℕ) → IsAdmitted image → IsAccess image f image.system.root.id act → Writes image.system.root act place byte → byte_after image f image.system.root.id act place ≡ byte
-byte_written image f (Write width at value true) place byte admitted access writes =
+is_written : (image : Image) (f : Facts) (act : Act) (place : Place) (byte : ℕ) → IsAdmitted image → f.cells ≡ [] → IsAccess image f image.system.root.id act → Writes image.system.root act place byte → byte_written image f image.system.root.id act place ≡ byte
+is_written image f (Write width at value true) place byte admitted alone access writes =
     let some : 0 < width = some_width width access.0 in
-    let granted : AreGranted image.system.root ToWrite at width = (reached-of image f ToWrite at width admitted some).0 (sym access.1) in
+    let granted : AreGranted image.system.root ToWrite at width = (reached-of image f ToWrite at width admitted alone some).0 (sym access.1) in
     let k = writes.1.index in
     let same : place ≡ Physical (at + k) = granted-same image ToWrite (at + k) place admitted writes.1.granted in
     let within : k < width = writes.1.within in
-    written_places image f at width value place admitted some granted
+    written_places image f at width value place admitted alone some granted
     ∙ over-at (own_places at) width value place (f.byte place) k within same (λ j lt h. same_index at j k place same h)
     ∙ sym writes.1.is
-byte_written image f (Write width at value false) place byte admitted access writes = absurd (false≢true writes.0)
-byte_written image f _ place byte admitted access writes = absurd writes
+is_written image f (Write width at value false) place byte admitted alone access writes = absurd (false≢true writes.0)
+is_written image f _ place byte admitted alone access writes = absurd writes
 
-byte_kept : (image : Image) (f : Facts) (act : Act) (place : Place) → IsAdmitted image → IsAccess image f image.system.root.id act → ((byte : ℕ) → Writes image.system.root act place byte → ⊥) → byte_after image f image.system.root.id act place ≡ f.byte place
-byte_kept image f (Write width at value true) place admitted access none =
+byte_kept : (image : Image) (f : Facts) (act : Act) (place : Place) → IsAdmitted image → f.cells ≡ [] → IsAccess image f image.system.root.id act → ((byte : ℕ) → Writes image.system.root act place byte → ⊥) → byte_written image f image.system.root.id act place ≡ f.byte place
+byte_kept image f (Write width at value true) place admitted alone access none =
     let some : 0 < width = some_width width access.0 in
-    let granted : AreGranted image.system.root ToWrite at width = (reached-of image f ToWrite at width admitted some).0 (sym access.1) in
+    let granted : AreGranted image.system.root ToWrite at width = (reached-of image f ToWrite at width admitted alone some).0 (sym access.1) in
     let P : ℕ → Place → Type 0 = λ a p. IsGranted image.system.root ToWrite a p in
-    written_places image f at width value place admitted some granted
+    written_places image f at width value place admitted alone some granted
     ∙ over-other (own_places at) width value place (f.byte place)
     (λ k lt h. none (value / 256 ^ k % 256) (refl, record { index = k; within = lt; granted = subst (P (at + k)) (sym h) (granted_at image ToWrite at width admitted granted k lt); is = refl }))
-byte_kept image f (Write width at value false) place admitted access none = refl
-byte_kept image f _ place admitted access none = refl
+byte_kept image f (Write width at value false) place admitted alone access none = refl
+byte_kept image f _ place admitted alone access none = refl
 
 -- one entry
-after_at_root : (image : Image) (f : Facts) (entry : Entry) (place : Place) → AllRoots image f → IsNext image f entry → (after image f entry).byte place ≡ byte_after image f image.system.root.id entry.act place
-after_at_root image f entry place roots made =
+after_at_root : (image : Image) (f : Facts) (entry : Entry) (place : Place) → IsAdmitted image → AllRoots image f → IsNext image f entry → (after image f entry).byte place ≡ byte_written image f image.system.root.id entry.act place
+after_at_root image f entry place admitted roots made =
     ap (λ (byte : Place → ℕ). byte place) (byte-after image f entry)
-    ∙ ap (λ (cell : ℕ). byte_after image f cell entry.act place) (made.cell_is ∙ (roots entry.cpu).owner)
+    ∙ byte_after-roots image f entry place (by_root image f entry admitted roots made)
+    ∙ ap (λ (cell : ℕ). byte_written image f cell entry.act place) (made.cell_is ∙ (roots.cpus entry.cpu).owner)
 
 after_written : (image : Image) (f : Facts) (entry : Entry) (place : Place) (byte : ℕ) → IsAdmitted image → AllRoots image f → IsNext image f entry → Writes image.system.root entry.act place byte → (after image f entry).byte place ≡ byte
 after_written image f entry place byte admitted roots made writes =
-    after_at_root image f entry place roots made ∙ byte_written image f entry.act place byte admitted (made-access image f entry.cpu entry made admitted).access writes
+    after_at_root image f entry place admitted roots made ∙ is_written image f entry.act place byte admitted roots.alone.cells (made-access image f entry.cpu entry made admitted).access writes
 
 after_kept : (image : Image) (f : Facts) (entry : Entry) (place : Place) → IsAdmitted image → AllRoots image f → IsNext image f entry → WritesNot image.system.root place entry → (after image f entry).byte place ≡ f.byte place
 after_kept image f entry place admitted roots made none =
-    after_at_root image f entry place roots made ∙ byte_kept image f entry.act place admitted (made-access image f entry.cpu entry made admitted).access none
+    after_at_root image f entry place admitted roots made ∙ byte_kept image f entry.act place admitted roots.alone.cells (made-access image f entry.cpu entry made admitted).access none
 
 roots_before : (image : Image) (before rest : List Entry) → IsAdmitted image → IsLegal image (before ++ rest) → AllRoots image (facts image before)
 roots_before image before rest admitted legal = roots-at image before admitted (IsLegal-begin image before rest legal)

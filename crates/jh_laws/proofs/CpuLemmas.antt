@@ -32,8 +32,8 @@ cpu-by image before rest entry b admitted legal h =
     ∙ own_moved image (facts image before) entry admitted (made-at image before rest entry admitted legal)
     ∙ ap (λ (v : Bool). moved_by v ((facts image before).cpu entry.cpu)) h
 
-pub cpu-other : (image : Image) (before : List Entry) (entry : Entry) (cpu : ℕ) → cpu ≢ entry.cpu → (facts image (before ++ entry ∷ [])).cpu cpu ≡ (facts image before).cpu cpu
-cpu-other image before entry cpu ne = ap (λ (g : Facts). g.cpu cpu) (facts-push image before entry) ∙ other_after image (facts image before) entry cpu ne
+pub cpu-other : (image : Image) (before rest : List Entry) (entry : Entry) (cpu : ℕ) → IsAdmitted image → IsLegal image (before ++ entry ∷ rest) → cpu ≢ entry.cpu → (facts image (before ++ entry ∷ [])).cpu cpu ≡ (facts image before).cpu cpu
+cpu-other image before rest entry cpu admitted legal ne = ap (λ (g : Facts). g.cpu cpu) (facts-push image before entry) ∙ other_after image (facts image before) entry cpu admitted (made-at image before rest entry admitted legal) ne
 
 moved_one : (b : Bool) (state : Cpu) → (moved_by b state).position ≡ state.position + 1
 moved_one true state = refl
@@ -54,11 +54,11 @@ other_than image f cpu entry none due same = none-some entry (sym none ∙ ap (d
 
 failed_from : (image : Image) (f : Facts) (entries : List Entry) (cpu : ℕ) → IsAdmitted image → AllRoots image f → (f.cpu cpu).mode ≡ Failed → IsLegalFrom image f entries
     → AllByRecursion (λ (e : Entry). e.cpu ≢ cpu) entries × (due_at image (fold (after image) f entries) cpu ≡ None)
-failed_from image f [] cpu admitted roots failed legal = (tt, due_at-failed image f cpu (roots cpu) failed)
+failed_from image f [] cpu admitted roots failed legal = (tt, due_at-failed image f cpu (roots.cpus cpu) failed)
 failed_from image f (entry ∷ entries) cpu admitted roots failed legal =
-    let ne : entry.cpu ≢ cpu = other_than image f cpu entry (due_at-failed image f cpu (roots cpu) failed) legal.0 in
+    let ne : entry.cpu ≢ cpu = other_than image f cpu entry (due_at-failed image f cpu (roots.cpus cpu) failed) legal.0 in
     let made : IsNext image f entry = next-made image f entry entries roots legal in
-    let still : ((after image f entry).cpu cpu).mode ≡ Failed = ap (λ (c : Cpu). c.mode) (other_after image f entry cpu (λ e. ne (sym e))) ∙ failed in
+    let still : ((after image f entry).cpu cpu).mode ≡ Failed = ap (λ (c : Cpu). c.mode) (other_after image f entry cpu admitted made (λ e. ne (sym e))) ∙ failed in
     let rest = failed_from image (after image f entry) entries cpu admitted (roots_after image f entry admitted made roots) still legal.1 in
     ((ne, rest.0), rest.1)
 
@@ -99,12 +99,12 @@ made_own image f g entry entries admitted made rest =
     ∙ ap (λ (n : ℕ). take n program ++ operations_by entry.cpu entries) (sym (position_after image f entry admitted made))
     ∙ rest
 
-made_other : (image : Image) (cpu : ℕ) (f g : Facts) (entry : Entry) (entries : List Entry) → entry.cpu ≢ cpu → IsMadeFrom image cpu (after image f entry) g entries → IsMadeFrom image cpu f g (entry ∷ entries)
-made_other image cpu f g entry entries ne rest =
+made_other : (image : Image) (cpu : ℕ) (f g : Facts) (entry : Entry) (entries : List Entry) → IsAdmitted image → IsNext image f entry → entry.cpu ≢ cpu → IsMadeFrom image cpu (after image f entry) g entries → IsMadeFrom image cpu f g (entry ∷ entries)
+made_other image cpu f g entry entries admitted made ne rest =
     let program = program_in image image.system.root cpu in
     let op : op_by cpu entry ≡ None = ap (λ (b : Bool). cond b (op_of entry.act) None) (ne_eqb entry.cpu cpu ne) in
     ap (λ (o : Option Op). take (f.cpu cpu).position program ++ cons_option o (operations_by cpu entries)) op
-    ∙ ap (λ (c : Cpu). take c.position program ++ operations_by cpu entries) (sym (other_after image f entry cpu (λ e. ne (sym e))))
+    ∙ ap (λ (c : Cpu). take c.position program ++ operations_by cpu entries) (sym (other_after image f entry cpu admitted made (λ e. ne (sym e))))
     ∙ rest
 
 made_one : (image : Image) (cpu : ℕ) (f g : Facts) (entry : Entry) (entries : List Entry) → IsAdmitted image → IsNext image f entry → IsMadeFrom image cpu (after image f entry) g entries → IsMadeFrom image cpu f g (entry ∷ entries)
@@ -112,7 +112,7 @@ made_one image cpu f g entry entries admitted made rest = elim (cases_eq entry.c
   | inl same ↦ (
       let P : ℕ → Type 0 = λ c. IsMadeFrom image c (after image f entry) g entries → IsMadeFrom image c f g (entry ∷ entries) in
       subst P same (made_own image f g entry entries admitted made) rest)
-  | inr other ↦ made_other image cpu f g entry entries other rest
+  | inr other ↦ made_other image cpu f g entry entries admitted made other rest
 ]
 
 made_from : (image : Image) (cpu : ℕ) (f : Facts) (entries : List Entry) → IsAdmitted image → AllRoots image f → IsLegalFrom image f entries → IsMadeFrom image cpu f (fold (after image) f entries) entries
@@ -140,11 +140,11 @@ counted_own image f g entry entries admitted made rest =
     let last : (g.cpu entry.cpu).position ≡ ((after image f entry).cpu entry.cpu).position + length (operations_by entry.cpu entries) = rest in
     omega arith
 
-counted_other : (image : Image) (cpu : ℕ) (f g : Facts) (entry : Entry) (entries : List Entry) → entry.cpu ≢ cpu → IsCounted cpu (after image f entry) g entries → IsCounted cpu f g (entry ∷ entries)
-counted_other image cpu f g entry entries ne rest =
+counted_other : (image : Image) (cpu : ℕ) (f g : Facts) (entry : Entry) (entries : List Entry) → IsAdmitted image → IsNext image f entry → entry.cpu ≢ cpu → IsCounted cpu (after image f entry) g entries → IsCounted cpu f g (entry ∷ entries)
+counted_other image cpu f g entry entries admitted made ne rest =
     let op : op_by cpu entry ≡ None = ap (λ (b : Bool). cond b (op_of entry.act) None) (ne_eqb entry.cpu cpu ne) in
     rest
-    ∙ ap (λ (c : Cpu). c.position + length (operations_by cpu entries)) (other_after image f entry cpu (λ e. ne (sym e)))
+    ∙ ap (λ (c : Cpu). c.position + length (operations_by cpu entries)) (other_after image f entry cpu admitted made (λ e. ne (sym e)))
     ∙ ap (λ (o : Option Op). (f.cpu cpu).position + length (cons_option o (operations_by cpu entries))) (sym op)
 
 counted_one : (image : Image) (cpu : ℕ) (f g : Facts) (entry : Entry) (entries : List Entry) → IsAdmitted image → IsNext image f entry → IsCounted cpu (after image f entry) g entries → IsCounted cpu f g (entry ∷ entries)
@@ -152,7 +152,7 @@ counted_one image cpu f g entry entries admitted made rest = elim (cases_eq entr
   | inl same ↦ (
       let P : ℕ → Type 0 = λ c. IsCounted c (after image f entry) g entries → IsCounted c f g (entry ∷ entries) in
       subst P same (counted_own image f g entry entries admitted made) rest)
-  | inr other ↦ counted_other image cpu f g entry entries other rest
+  | inr other ↦ counted_other image cpu f g entry entries admitted made other rest
 ]
 
 counted_from : (image : Image) (cpu : ℕ) (f : Facts) (entries : List Entry) → IsAdmitted image → AllRoots image f → IsLegalFrom image f entries → IsCounted cpu f (fold (after image) f entries) entries

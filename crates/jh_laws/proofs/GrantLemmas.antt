@@ -1,5 +1,5 @@
 -- What accesses by root reach, by what it is granted.
-use Rattle.std.proofs.Common.{inl, inr, ◌≡◌, ℕ, ◌+◌, ◌-◌, ◌<◌, ◌≤◌, List, get_or, map, Bool, true, cond, eqb, Option, Some, None, refl, sym, ap, subst, ◌∙◌, arith}
+use Rattle.std.proofs.Common.{inl, inr, ◌≡◌, ℕ, ◌+◌, ◌-◌, ◌<◌, ◌≤◌, List, [], get_or, map, Bool, true, cond, eqb, Option, Some, None, refl, sym, ap, subst, ◌∙◌, arith}
 use Rattle.std.specs.Prelude.{find, option_map}
 use Rattle.std.proofs.lemmas.Bool.{false≢true, cases_lt}
 use Rattle.std.proofs.lemmas.Option.{none-some, same_Some}
@@ -24,6 +24,7 @@ use Rattle.jh_history.specs.Lives.{regions_in}
 use Rattle.jh_history.specs.Grants.{granted, reach}
 use Rattle.jh_history.specs.History.{facts}
 use Rattle.jh_history.specs.Admitted.{IsAdmitted}
+use Rattle.jh_history.proofs.AloneLemmas.{reach-alone}
 use Rattle.jh_history.proofs.AccessLemmas.{reach_by-within, reach_by-beyond}
 use Rattle.jh_laws.specs.Journals.{byte_at}
 use Rattle.jh_laws.specs.Grants.{may, IsGranted, AreGranted}
@@ -95,11 +96,11 @@ granted_at image access at width admitted granted k lt =
     subst P (granted-same image access (at + k) found.0 admitted found.1) found.1
 
 -- the regions of root are those that its accesses go by
-root_regions : (image : Image) → regions_in image image.system.root.id ≡ regions image
+root_regions : (image : Image) → regions_in image [] image.system.root.id ≡ regions image
 root_regions image = let e : eqb image.system.root.id image.system.root.id ≡ true = same_number image.system.root.id in rw e refl
 
-pub reach-root : (image : Image) (f : Facts) (access : Access) (at width : ℕ) → reach image f image.system.root.id access at width ≡ reach_by (roots_place image access) at width
-reach-root image f access at width = ap (λ (rs : List Region). reach_by (place_of image.system.root.id rs access) at width) (root_regions image)
+pub reach-root : (image : Image) (f : Facts) (access : Access) (at width : ℕ) → f.cells ≡ [] → reach image f image.system.root.id access at width ≡ reach_by (roots_place image access) at width
+reach-root image f access at width none = reach-alone image f image.system.root.id access at width none ∙ ap (λ (rs : List Region). reach_by (place_of image.system.root.id rs access) at width) (root_regions image)
 
 -- where each byte is granted the access reaches memory
 pub reach_by-granted : (image : Image) (access : Access) (at width : ℕ) → IsAdmitted image → 0 < width → AreGranted image.system.root access at width
@@ -156,11 +157,11 @@ got_by image entries access at width Nothing admitted some is = record {
 }
 
 -- what a reading access of root's gets
-pub got-of : (image : Image) (entries : List Entry) (access : Access) (at width : ℕ) → IsAdmitted image → 0 < width
+pub got-of : (image : Image) (entries : List Entry) (access : Access) (at width : ℕ) → IsAdmitted image → (facts image entries).cells ≡ [] → 0 < width
     → IsGot image entries image.system.root access at width (read_of (facts image entries).byte (reach image (facts image entries) image.system.root.id access at width))
-got-of image entries access at width admitted some =
+got-of image entries access at width admitted none some =
     let P : Reach → Type 0 = λ r. IsGot image entries image.system.root access at width (read_of (facts image entries).byte r) in
-    subst P (sym (reach-root image (facts image entries) access at width)) (got_by image entries access at width (reach_by (roots_place image access) at width) admitted some refl)
+    subst P (sym (reach-root image (facts image entries) access at width none)) (got_by image entries access at width (reach_by (roots_place image access) at width) admitted some refl)
 
 reached_by : (image : Image) (access : Access) (at width : ℕ) (r : Reach) → IsAdmitted image → 0 < width → reach_by (roots_place image access) at width ≡ r
     → (is_reached r ≡ true → AreGranted image.system.root access at width) × (AreGranted image.system.root access at width → is_reached r ≡ true)
@@ -171,8 +172,8 @@ reached_by image access at width Nothing admitted some is = (
 )
 
 -- an access of root's reaches memory exactly where each byte is granted
-pub reached-of : (image : Image) (f : Facts) (access : Access) (at width : ℕ) → IsAdmitted image → 0 < width
+pub reached-of : (image : Image) (f : Facts) (access : Access) (at width : ℕ) → IsAdmitted image → f.cells ≡ [] → 0 < width
     → (is_reached (reach image f image.system.root.id access at width) ≡ true → AreGranted image.system.root access at width) × (AreGranted image.system.root access at width → is_reached (reach image f image.system.root.id access at width) ≡ true)
-reached-of image f access at width admitted some =
+reached-of image f access at width admitted none some =
     let P : Reach → Type 0 = λ r. (is_reached r ≡ true → AreGranted image.system.root access at width) × (AreGranted image.system.root access at width → is_reached r ≡ true) in
-    subst P (sym (reach-root image f access at width)) (reached_by image access at width (reach_by (roots_place image access) at width) admitted some refl)
+    subst P (sym (reach-root image f access at width none)) (reached_by image access at width (reach_by (roots_place image access) at width) admitted some refl)

@@ -23,13 +23,14 @@ use Rattle.jh_history.specs.Access.{read_of, is_reached}
 use Rattle.jh_history.specs.Facts.{Facts}
 use Rattle.jh_history.specs.Lives.{is_on_board, op_at}
 use Rattle.jh_history.specs.Grants.{reach}
-use Rattle.jh_history.specs.Cpus.{change_of, changed, cpu_after}
+use Rattle.jh_history.specs.Cpus.{change_of, changed, is_running}
+use Rattle.jh_history.specs.Alone.{IsAlone, IsByRoot, is_phase}
 use Rattle.jh_history.specs.History.{start, after, facts}
-use Rattle.jh_history.specs.Wants.{is_running}
 use Rattle.jh_history.specs.Due.{due_at, act_of, await_of, entry_by, IsLegal, IsLegalFrom}
 use Rattle.jh_history.specs.Admitted.{IsAdmitted}
 use Rattle.jh_history.proofs.DueLemmas.{due_at-absent, due_at-present}
 use Rattle.jh_history.proofs.FactsLemmas.{cpu-after}
+use Rattle.jh_history.proofs.AloneLemmas.{acted-own, alone-start, alone-after}
 use Rattle.jh_history.proofs.LegalLemmas.{due-split, IsLegal-begin}
 use Rattle.jh_laws.specs.Moves.{stepped, ended}
 use Rattle.jh_laws.specs.Outcomes.{is_violation}
@@ -188,42 +189,79 @@ changed-access image f cell (Note id) state access = absurd access
 changed-access image f cell (Noted id how) state access = absurd access
 changed-access image f cell (Finish answer) state access = absurd access
 
+-- so it is no phase of a call
+pub access-own : (image : Image) (f : Facts) (cell : ℕ) (act : Act) → IsAccess image f cell act → is_phase act ≡ false
+access-own image f cell (Read width at got) access = refl
+access-own image f cell (Write width at value ok) access = refl
+access-own image f cell (Fetch at got) access = refl
+access-own image f cell (Await width at value ok) access = refl
+access-own image f cell (Irq device vector) access = absurd access
+access-own image f cell (Hvc code a b answer) access = absurd access
+access-own image f cell (Begin code a b) access = absurd access
+access-own image f cell Stop access = absurd access
+access-own image f cell (Decide refused) access = absurd access
+access-own image f cell (Settle how) access = absurd access
+access-own image f cell Commit access = absurd access
+access-own image f cell (Note id) access = absurd access
+access-own image f cell (Noted id how) access = absurd access
+access-own image f cell (Finish answer) access = absurd access
+
 roots_done : (image : Image) (b : Bool) (state : Cpu) → IsRoots image state → IsRoots image (done_by b state)
 roots_done image true state roots = record { owner = roots.owner; asked = roots.asked; stopped = roots.stopped }
 roots_done image false state roots = record { owner = roots.owner; asked = roots.asked; stopped = roots.stopped }
 
-abbrev pub AllRoots : Image → Facts → Type 0
-AllRoots image f = (cpu : ℕ) → IsRoots image (f.cpu cpu)
+-- each CPU is root's, and root is the one cell
+pub record AllRoots (image : Image) (f : Facts) : Type 0 where
+  pub cpus : (cpu : ℕ) → IsRoots image (f.cpu cpu)
+  pub alone : IsAlone image f
 
 -- the entry is made by its own CPU from these facts on
 abbrev pub IsNext : Image → Facts → Entry → Type 0
 IsNext image f entry = IsMade image f entry.cpu entry
 
+-- it is root's, and no phase of a call
+pub by_root : (image : Image) (f : Facts) (entry : Entry) → IsAdmitted image → AllRoots image f → IsNext image f entry → IsByRoot image entry
+by_root image f entry admitted roots made = record {
+  cell = made.cell_is ∙ roots.alone.owners entry.cpu;
+  act = access-own image f image.system.root.id entry.act (made-access image f entry.cpu entry made admitted).access;
+}
+
+-- what it leaves of each CPU
+cpu_is : (image : Image) (f : Facts) (entry : Entry) (cpu : ℕ) → IsAdmitted image → IsNext image f entry → (after image f entry).cpu cpu ≡ cond (eqb cpu entry.cpu) (changed (change_of entry.act) (f.cpu cpu)) (f.cpu cpu)
+cpu_is image f entry cpu admitted made =
+    ap (λ (g : ℕ → Cpu). g cpu) (cpu-after image f entry)
+    ∙ acted-own image f.call entry.act entry.cpu cpu (f.cpu cpu) (access-own image f image.system.root.id entry.act (made-access image f entry.cpu entry made admitted).access)
+
 -- its CPU after it, and the others
 pub own_after : (image : Image) (f : Facts) (entry : Entry) → IsAdmitted image → IsNext image f entry → (after image f entry).cpu entry.cpu ≡ done_by (is_violation entry.act) (f.cpu entry.cpu)
 own_after image f entry admitted made =
-    let here : cpu_after f entry entry.cpu ≡ changed (change_of entry.act) (f.cpu entry.cpu) = rw (same_number entry.cpu) refl in
-    ap (λ (g : ℕ → Cpu). g entry.cpu) (cpu-after image f entry)
-    ∙ here
+    cpu_is image f entry entry.cpu admitted made
+    ∙ ap (λ (b : Bool). cond b (changed (change_of entry.act) (f.cpu entry.cpu)) (f.cpu entry.cpu)) (same_number entry.cpu)
     ∙ changed-access image f image.system.root.id entry.act (f.cpu entry.cpu) (made-access image f entry.cpu entry made admitted).access
 
-pub other_after : (image : Image) (f : Facts) (entry : Entry) (cpu : ℕ) → cpu ≢ entry.cpu → (after image f entry).cpu cpu ≡ f.cpu cpu
-other_after image f entry cpu ne =
-    let here : cpu_after f entry cpu ≡ f.cpu cpu = rw (ne_eqb cpu entry.cpu ne) refl in
-    ap (λ (g : ℕ → Cpu). g cpu) (cpu-after image f entry) ∙ here
+pub other_after : (image : Image) (f : Facts) (entry : Entry) (cpu : ℕ) → IsAdmitted image → IsNext image f entry → cpu ≢ entry.cpu → (after image f entry).cpu cpu ≡ f.cpu cpu
+other_after image f entry cpu admitted made ne =
+    cpu_is image f entry cpu admitted made
+    ∙ ap (λ (b : Bool). cond b (changed (change_of entry.act) (f.cpu cpu)) (f.cpu cpu)) (ne_eqb cpu entry.cpu ne)
 
-pub roots_after : (image : Image) (f : Facts) (entry : Entry) → IsAdmitted image → IsNext image f entry → AllRoots image f → AllRoots image (after image f entry)
-unfolding after
-roots_after image f entry admitted made roots cpu =
+cpus_after : (image : Image) (f : Facts) (entry : Entry) → IsAdmitted image → IsNext image f entry → AllRoots image f → (cpu : ℕ) → IsRoots image ((after image f entry).cpu cpu)
+cpus_after image f entry admitted made roots cpu =
     let own : changed (change_of entry.act) (f.cpu cpu) ≡ done_by (is_violation entry.act) (f.cpu cpu)
     = changed-access image f image.system.root.id entry.act (f.cpu cpu) (made-access image f entry.cpu entry made admitted).access in
     let P : Cpu → Type 0 = IsRoots image in
-    cond_both (eqb cpu entry.cpu) (changed (change_of entry.act) (f.cpu cpu)) (f.cpu cpu) P
-    (λ _. subst P (sym own) (roots_done image (is_violation entry.act) (f.cpu cpu) (roots cpu))) (λ _. roots cpu)
+    subst P (sym (cpu_is image f entry cpu admitted made))
+    (cond_both (eqb cpu entry.cpu) (changed (change_of entry.act) (f.cpu cpu)) (f.cpu cpu) P
+    (λ _. subst P (sym own) (roots_done image (is_violation entry.act) (f.cpu cpu) (roots.cpus cpu))) (λ _. roots.cpus cpu))
+
+pub roots_after : (image : Image) (f : Facts) (entry : Entry) → IsAdmitted image → IsNext image f entry → AllRoots image f → AllRoots image (after image f entry)
+roots_after image f entry admitted made roots = record {
+  cpus = cpus_after image f entry admitted made roots;
+  alone = alone-after image f entry roots.alone (by_root image f entry admitted roots made);
+}
 
 -- the first of legal entries is made, where each CPU is root's
 pub next-made : (image : Image) (f : Facts) (entry : Entry) (entries : List Entry) → AllRoots image f → IsLegalFrom image f (entry ∷ entries) → IsNext image f entry
-next-made image f entry entries roots legal = due_at-made image f entry.cpu entry (roots entry.cpu) legal.0
+next-made image f entry entries roots legal = due_at-made image f entry.cpu entry (roots.cpus entry.cpu) legal.0
 
 roots_from : (image : Image) (f : Facts) (entries : List Entry) → IsAdmitted image → AllRoots image f → IsLegalFrom image f entries → AllRoots image (fold (after image) f entries)
 roots_from image f [] admitted roots legal = roots
@@ -231,7 +269,7 @@ roots_from image f (entry ∷ entries) admitted roots legal =
     roots_from image (after image f entry) entries admitted (roots_after image f entry admitted (next-made image f entry entries roots legal) roots) legal.1
 
 pub roots-start : (image : Image) → AllRoots image (start image)
-roots-start image cpu = record { owner = refl; asked = refl; stopped = refl }
+roots-start image = record { cpus = λ cpu. record { owner = refl; asked = refl; stopped = refl }; alone = alone-start image }
 
 -- after a legal journal each CPU is root's
 pub roots-at : (image : Image) (entries : List Entry) → IsAdmitted image → IsLegal image entries → AllRoots image (facts image entries)
@@ -241,7 +279,7 @@ roots-at image entries admitted legal = roots_from image (start image) entries a
 -- each entry of a legal journal is made by its CPU
 pub made-at : (image : Image) (before rest : List Entry) (entry : Entry) → IsAdmitted image → IsLegal image (before ++ entry ∷ rest) → IsNext image (facts image before) entry
 made-at image before rest entry admitted legal =
-    due_at-made image (facts image before) entry.cpu entry (roots-at image before admitted (IsLegal-begin image before (entry ∷ rest) legal) entry.cpu) (due-split image before rest entry legal)
+    due_at-made image (facts image before) entry.cpu entry ((roots-at image before admitted (IsLegal-begin image before (entry ∷ rest) legal)).cpus entry.cpu) (due-split image before rest entry legal)
 
 -- what an access does to its CPU, where the position isn't at the end of its numbers
 abbrev pub moved_by : Bool → Cpu → Cpu

@@ -1,5 +1,5 @@
 -- Each access of a legal journal has its outcome.
-use Rattle.std.proofs.Common.{ℕ, ◌<◌, List, ◌∷◌, ◌++◌, Bool, true, false, Option, refl, sym, subst, ◌∙◌, arith}
+use Rattle.std.proofs.Common.{◌≡◌, ℕ, ◌<◌, List, [], ◌∷◌, ◌++◌, Bool, true, false, Option, refl, sym, subst, ◌∙◌, arith}
 use Rattle.std.specs.Prelude.{IsTrue}
 use Rattle.std.proofs.lemmas.Bool.{false≢true}
 use Rattle.jh_script.specs.declared.image.Image.{Image}
@@ -14,6 +14,8 @@ use Rattle.jh_history.specs.Grants.{reach}
 use Rattle.jh_history.specs.Due.{IsLegal}
 use Rattle.jh_history.specs.Admitted.{IsAdmitted}
 use Rattle.jh_laws.specs.Outcomes.{HasItsOutcome, IsGot, IsAwaited}
+use Rattle.jh_history.proofs.LegalLemmas.{IsLegal-begin}
+use Rattle.jh_history.proofs.AloneLemmas.{legal-alone}
 use Rattle.jh_laws.proofs.GrantLemmas.{got-of, reached-of}
 use Rattle.jh_laws.proofs.MadeLemmas.{AwaitOf, IsAccess, made-access, made-at}
 
@@ -27,18 +29,18 @@ awaited image entries at width value false got outcome e = record {
   reads = λ h. absurd (false≢true h);
 }
 
-pub outcome : (image : Image) (entries : List Entry) (act : Act) → IsAdmitted image → IsAccess image (facts image entries) image.system.root.id act → HasItsOutcome image entries image.system.root act
-outcome image entries (Read width at got) admitted access =
-    let P : Option ℕ → Type 0 = IsGot image entries image.system.root ToRead at width in subst P (sym access.1) (got-of image entries ToRead at width admitted (some_width width access.0))
-outcome image entries (Write width at value ok) admitted access =
-    let reached = reached-of image (facts image entries) ToWrite at width admitted (some_width width access.0) in
+pub outcome : (image : Image) (entries : List Entry) (act : Act) → IsAdmitted image → (facts image entries).cells ≡ [] → IsAccess image (facts image entries) image.system.root.id act → HasItsOutcome image entries image.system.root act
+outcome image entries (Read width at got) admitted none access =
+    let P : Option ℕ → Type 0 = IsGot image entries image.system.root ToRead at width in subst P (sym access.1) (got-of image entries ToRead at width admitted none (some_width width access.0))
+outcome image entries (Write width at value ok) admitted none access =
+    let reached = reached-of image (facts image entries) ToWrite at width admitted none (some_width width access.0) in
     (λ h. reached.0 (sym access.1 ∙ h), λ all. access.1 ∙ reached.1 all)
-outcome image entries (Fetch at got) admitted access =
-    let P : Option ℕ → Type 0 = IsGot image entries image.system.root ToFetch at 4 in subst P (sym access) (got-of image entries ToFetch at 4 admitted (omega arith))
-outcome image entries (Await width at value ok) admitted access =
-    awaited image entries at width value ok (read_of (facts image entries).byte (reach image (facts image entries) image.system.root.id ToRead at width)) (got-of image entries ToRead at width admitted (some_width width access.0)) access.1
-outcome image entries _ admitted access = absurd access
+outcome image entries (Fetch at got) admitted none access =
+    let P : Option ℕ → Type 0 = IsGot image entries image.system.root ToFetch at 4 in subst P (sym access) (got-of image entries ToFetch at 4 admitted none (omega arith))
+outcome image entries (Await width at value ok) admitted none access =
+    awaited image entries at width value ok (read_of (facts image entries).byte (reach image (facts image entries) image.system.root.id ToRead at width)) (got-of image entries ToRead at width admitted none (some_width width access.0)) access.1
+outcome image entries _ admitted none access = absurd access
 
 pub outcome-at : (image : Image) (before rest : List Entry) (entry : Entry) → IsAdmitted image → IsLegal image (before ++ entry ∷ rest) → HasItsOutcome image before image.system.root entry.act
 outcome-at image before rest entry admitted legal =
-    outcome image before entry.act admitted (made-access image (facts image before) entry.cpu entry (made-at image before rest entry admitted legal) admitted).access
+    outcome image before entry.act admitted (legal-alone image before (IsLegal-begin image before (entry ∷ rest) legal)).cells (made-access image (facts image before) entry.cpu entry (made-at image before rest entry admitted legal) admitted).access

@@ -1,5 +1,5 @@
 -- The facts after the entry are those after the journal that it ends.
-use Rattle.std.proofs.Common.{◌≡◌, Some, sym, ◌∙◌, ap}
+use Rattle.std.proofs.Common.{sym}
 use Rattle.jh_history.specs.History.{facts}
 use Rattle.jh_history.proofs.FactsLemmas.{facts-push}
 use Rattle.jh_history.proofs.PhysicalLemmas.{write-physical}

@@ -1,5 +1,5 @@
 -- The one region that may have the address decides.
-use Rattle.std.proofs.Common.{Some, sym}
+use Rattle.std.proofs.Common.{sym}
 use Rattle.jh_board.proofs.IndexLemmas.{giving-true, giving-false, region_of-none}
 use Rattle.jh_board.proofs.indexed.giving.Goals as goal
 

@@ -10,4 +10,4 @@ pub returns-clause-moved : goal.returns-clause-moved
 returns-clause-moved c = λ m h. cpu-by m.image m.before m.rest m.entry false m.admitted m.legal h
 
 pub returns-clause-others : goal.returns-clause-others
-returns-clause-others c = λ m cpu ne. cpu-other m.image m.before m.entry cpu ne
+returns-clause-others c = λ m cpu ne. cpu-other m.image m.before m.rest m.entry cpu m.admitted m.legal ne

@@ -1,5 +1,5 @@
 -- They are at the place of root's program.
-use Rattle.std.proofs.Common.{◌≡◌, ◌∙◌, List, [], Some, None, sym, subst}
+use Rattle.std.proofs.Common.{◌≡◌, ◌∙◌, List, Some, None, sym, subst}
 use Rattle.std.specs.Prelude.{All}
 use Rattle.jh_script.specs.declared.op.Op.{Op}
 use Rattle.jh_cellcfg.specs.Cells.{name_of}

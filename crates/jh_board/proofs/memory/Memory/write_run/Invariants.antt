@@ -1,6 +1,5 @@
 -- What is left to write over the bytes as they stand gives all that is to be written, and all places are held.
 use Rattle.std.proofs.Common.{◌≡◌, ◌-◌, ◌++◌, List}
-use Rattle.std.specs.Prelude.{All}
 use Rattle.jh_history.specs.declared.place.Place.{Place}
 use Rattle.jh_history.specs.Places.{further, places_in_row, over}
 use Rattle.jh_board.specs.Pages.{byte_of, HoldsPlace}
