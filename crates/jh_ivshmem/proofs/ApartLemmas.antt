@@ -141,10 +141,10 @@ neither true b h g = cc
 neither false true h g = cc
 neither false false h g = refl
 
-device_turned : (a b : EndpointSpec) → is_device a.cell a.device b ≡ is_device b.cell b.device a
+pub device_turned : (a b : EndpointSpec) → is_device a.cell a.device b ≡ is_device b.cell b.device a
 device_turned a b = rw (turned b.cell a.cell, turned b.device a.device) refl
 
-peer_turned : (a b : EndpointSpec) → is_peer a.bdf a.id b ≡ is_peer b.bdf b.id a
+pub peer_turned : (a b : EndpointSpec) → is_peer a.bdf a.id b ≡ is_peer b.bdf b.id a
 peer_turned a b = rw (turned b.bdf a.bdf, turned b.id a.id) refl
 
 -- what a key tells of being apart

@@ -53,3 +53,18 @@ after-sound change e sound =
       vectors = keeps.vectors ∙ sound.vectors;
       within = subst IsWithin (sym keeps.spec) sound.within;
     }
+
+-- each change keeps the spec
+pub raised-spec : (v : ℕ) (e : Endpoint) → (raised v e).spec ≡ e.spec
+raised-spec v e = (raised-keeps v e).spec
+
+pub register_written-spec : (bar at value : ℕ) (e : Endpoint) → (register_written bar at value e).spec ≡ e.spec
+register_written-spec bar at value e = (written-keeps bar at value e).spec
+
+pub taken-spec : (v : ℕ) (e : Endpoint) → (taken v e).spec ≡ e.spec
+unfolding taken
+taken-spec v e = refl
+
+pub cleared-spec : (e : Endpoint) → (cleared e).spec ≡ e.spec
+unfolding cleared
+cleared-spec e = refl
