@@ -1,5 +1,5 @@
 -- What stays beside the endpoints that a call concerns.
-use Rattle.std.proofs.Common.{ℕ, ◌≡◌, Bool, true, false, not, ◌&&◌, ◌||◌, ◌==◌, cond, List, [], ◌∷◌, filter, Option, Some, None, MatchOption, inl, inr, refl, sym, ◌∙◌, ap, subst}
+use Rattle.std.proofs.Common.{ℕ, ◌≡◌, Bool, true, false, not, ◌&&◌, ◌==◌, cond, List, [], ◌∷◌, filter, Option, Some, None, MatchOption, inl, inr, refl, sym, ◌∙◌, ap}
 use Rattle.std.proofs.lemmas.Bool.{cases_Bool, and_parts, and_from, or_left, or_right, not_from_true, eq-eqb}
 use Rattle.jh_ivshmem.specs.declared.endpoint.Endpoint.{Endpoint}
 use Rattle.jh_ivshmem.specs.declared.spec.EndpointSpec.{EndpointSpec}
@@ -7,7 +7,7 @@ use Rattle.jh_ivshmem.specs.Specs.{is_device, is_before, is_peer, is_other, is_c
 use Rattle.jh_ivshmem.specs.Endpoint.{raised, taken, cleared, fresh}
 use Rattle.jh_ivshmem.specs.Registers.{register_written}
 use Rattle.jh_ivshmem.specs.Changes.{changed}
-use Rattle.jh_ivshmem.specs.Links.{besides, joined, rung, told, told_of, state_written, written, reset_of, left_by, taken_of}
+use Rattle.jh_ivshmem.specs.Links.{besides, joined, told, told_of, written, reset_of, left_by, taken_of}
 use Rattle.jh_ivshmem.proofs.ChangeLemmas.{raised-spec, register_written-spec, taken-spec, cleared-spec}
 
 -- an element that fails stands in no filtered list

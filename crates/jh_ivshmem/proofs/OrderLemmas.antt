@@ -1,8 +1,8 @@
 -- The order of endpoints, by which a device is found by halving.
-use Rattle.std.proofs.Common.{ℕ, zero, suc, ◌≡◌, ◌≢◌, ◌+◌, ◌-◌, ◌<◌, ◌≤◌, ◌⊎◌, Bool, true, false, not, cond, ◌&&◌, ◌||◌, ◌==◌, nat_lt, ltb, List, [], ◌∷◌, ◌++◌, length, map, take, drop, All, AllPairs, Option, Some, None, get_or, position, inl, inr, refl, sym, ◌∙◌, ap, subst, arith}
-use Rattle.std.specs.List.{position_or_len, insert, AllWithin}
+use Rattle.std.proofs.Common.{ℕ, zero, suc, ◌≡◌, ◌+◌, ◌-◌, ◌<◌, ◌≤◌, ◌⊎◌, Bool, true, false, cond, ◌&&◌, ◌||◌, ◌==◌, nat_lt, ltb, List, [], ◌∷◌, ◌++◌, length, map, take, drop, All, AllPairs, Some, None, get_or, position, inl, inr, refl, sym, ◌∙◌, ap, subst, arith}
+use Rattle.std.specs.List.{position_or_len, insert}
 use Rattle.std.specs.List.Sorted.{IsPartitionedBy, IsPartitionPoint}
-use Rattle.std.proofs.lemmas.Bool.{cases_Bool, cases_lt, cases_eq, or_cases, and_parts, and_from, or_left, or_right, ltb-true, lt-ltb, le-ltb, eqb-true, eq-eqb, both_ways, false_from_ne_true}
+use Rattle.std.proofs.lemmas.Bool.{cases_lt, cases_eq, or_cases, and_parts, and_from, or_left, or_right, ltb-true, lt-ltb, le-ltb, eqb-true, eq-eqb, both_ways, false_from_ne_true}
 use Rattle.std.proofs.lemmas.List.{length-map, get_or-map, map-append, take-map, drop-map}
 use Rattle.std.proofs.lemmas.List.Edits.{length-insert, get_or-insert_below, get_or-insert_at, get_or-insert_above}
 use Rattle.std.proofs.lemmas.List.Elements.{All-append, All-take, All-drop}
@@ -11,11 +11,11 @@ use Rattle.jh_ivshmem.specs.declared.change.Whom.TheVariants.{Device}
 use Rattle.jh_ivshmem.specs.declared.endpoint.Endpoint.{Endpoint}
 use Rattle.jh_ivshmem.specs.declared.spec.EndpointSpec.{EndpointSpec}
 use Rattle.jh_ivshmem.specs.declared.key.Key.{Key}
-use Rattle.jh_ivshmem.specs.Specs.{IsWithin, AreApart, ComesBefore, is_device, is_before}
+use Rattle.jh_ivshmem.specs.Specs.{AreApart, ComesBefore, is_device, is_before}
 use Rattle.jh_ivshmem.specs.Endpoint.{fresh}
 use Rattle.jh_ivshmem.specs.Links.{joined}
 use Rattle.jh_ivshmem.specs.Keys.{AreKept, AreInOrder, IsSound, key_of, is_key_before, is_key_meant}
-use Rattle.jh_ivshmem.proofs.ApartLemmas.{devices_apart, peer_turned, device_turned}
+use Rattle.jh_ivshmem.proofs.ApartLemmas.{peer_turned, device_turned}
 
 -- two numbers, the first of which counts first, are lower than two others
 lower : ℕ → ℕ → ℕ → ℕ → Bool

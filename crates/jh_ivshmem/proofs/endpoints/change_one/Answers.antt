@@ -1,7 +1,6 @@
 -- The endpoint at the place of the device's key is changed, or none is.
-use Rattle.std.proofs.Common.{◌≡◌, ◌∙◌, Some, None, position, set, sym, ap, subst, refl}
+use Rattle.std.proofs.Common.{◌∙◌, position, set, sym, ap, subst}
 use Rattle.jh_ivshmem.specs.declared.change.Whom.TheVariants.{Device}
-use Rattle.jh_ivshmem.specs.Changes.{after}
 use Rattle.jh_ivshmem.specs.Keys.{AreInOrder, IsSound, key_of, is_key_meant}
 use Rattle.jh_ivshmem.proofs.ChangeLemmas.{after-sound}
 use Rattle.jh_ivshmem.proofs.LoopLemmas.{device_at, change_found, change_none, sound_at}

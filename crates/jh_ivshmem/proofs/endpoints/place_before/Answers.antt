@@ -1,7 +1,6 @@
 -- The search finds the first key that isn't before the device.
 use Rattle.std.proofs.Common.{rules}
 use Rattle.std.proofs.lemmas.List.Sorted.{IsPartitionPoint-from_clause}
-use Rattle.jh_ivshmem.specs.declared.key.Key.{Key}
 use Rattle.jh_ivshmem.specs.Keys.{is_key_before}
 use Rattle.jh_ivshmem.proofs.OrderLemmas.{keys_partitioned}
 use Rattle.jh_ivshmem.proofs.endpoints.place_before.Goals as goal

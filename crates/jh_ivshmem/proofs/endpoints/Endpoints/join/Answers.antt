@@ -1,7 +1,6 @@
-use Rattle.std.proofs.Common.{◌≡◌, ◌≤◌, List, All, length, refl, sym, ◌∙◌, ap, subst}
+use Rattle.std.proofs.Common.{◌≤◌, List, All, length, refl, sym, ◌∙◌, ap, subst}
 use Rattle.std.specs.List.{insert}
 use Rattle.jh_ivshmem.specs.declared.endpoint.Endpoint.{Endpoint}
-use Rattle.jh_ivshmem.specs.declared.spec.EndpointSpec.{EndpointSpec}
 use Rattle.jh_ivshmem.specs.declared.key.Key.{Key}
 use Rattle.jh_ivshmem.specs.Specs.{AreApart, is_device}
 use Rattle.jh_ivshmem.specs.Seen.{Seen}

@@ -1,5 +1,4 @@
-use Rattle.std.proofs.Common.{◌≡◌, ℕ, List, refl, sym, ◌∙◌, ap}
-use Rattle.jh_ivshmem.specs.declared.endpoint.Endpoint.{Endpoint}
+use Rattle.std.proofs.Common.{◌≡◌, ◌∙◌, ap}
 use Rattle.jh_ivshmem.specs.Specs.{is_device, is_concerned}
 use Rattle.jh_ivshmem.specs.Endpoint.{cleared}
 use Rattle.jh_ivshmem.specs.Changes.{changed}
