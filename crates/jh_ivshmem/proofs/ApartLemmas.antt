@@ -1,5 +1,5 @@
 -- Endpoints are apart, so a name means one of them.
-use Rattle.std.proofs.Common.{ℕ, ◌≡◌, ◌≢◌, ◌<◌, ◌≤◌, ◌⊎◌, Bool, true, false, not, ◌&&◌, ◌==◌, cond, List, [], ◌∷◌, length, map, All, AllPairs, get_or, set, inl, inr, refl, sym, ◌∙◌, ap, subst, arith}
+use Rattle.std.proofs.Common.{ℕ, ◌≡◌, ◌≢◌, ◌<◌, Bool, true, false, not, ◌&&◌, ◌==◌, cond, List, length, map, AllPairs, get_or, set, inl, inr, refl, sym, ◌∙◌, ap, subst, arith}
 use Rattle.std.proofs.lemmas.Bool.{cases_Bool, cases_eq, cases_lt}
 use Rattle.std.proofs.lemmas.Bool.Decides.{nat_tests}
 use Rattle.std.proofs.lemmas.List.{length-set, length-map, get_or-map, get_or-set_same, get_or-set_other, get_or_default, same_lists}
@@ -141,10 +141,10 @@ neither true b h g = cc
 neither false true h g = cc
 neither false false h g = refl
 
-device_turned : (a b : EndpointSpec) → is_device a.cell a.device b ≡ is_device b.cell b.device a
+pub device_turned : (a b : EndpointSpec) → is_device a.cell a.device b ≡ is_device b.cell b.device a
 device_turned a b = rw (turned b.cell a.cell, turned b.device a.device) refl
 
-peer_turned : (a b : EndpointSpec) → is_peer a.bdf a.id b ≡ is_peer b.bdf b.id a
+pub peer_turned : (a b : EndpointSpec) → is_peer a.bdf a.id b ≡ is_peer b.bdf b.id a
 peer_turned a b = rw (turned b.bdf a.bdf, turned b.id a.id) refl
 
 -- what a key tells of being apart

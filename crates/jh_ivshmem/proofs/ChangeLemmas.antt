@@ -1,18 +1,14 @@
 -- What no change touches, and what changes leave of all endpoints.
-use Rattle.std.proofs.Common.{ℕ, ◌≡◌, ◌+◌, ◌<◌, ◌≤◌, ◌/◌, ◌==◌, Bool, true, false, cond, List, [], ◌∷◌, ◌++◌, length, map, get_or, set, take, drop, refl, sym, ◌∙◌, ap, subst, arith}
-use Rattle.std.proofs.lemmas.Bool.{cases_Bool}
+use Rattle.std.proofs.Common.{ℕ, ◌≡◌, ◌/◌, ◌==◌, Bool, true, false, cond, length, refl, sym, ◌∙◌, subst}
 use Rattle.std.proofs.lemmas.List.{length-set}
 use Rattle.jh_ivshmem.specs.declared.change.Change.{Change}
 use Rattle.jh_ivshmem.specs.declared.change.Change.TheVariants.{Raise, Write, State, Reset, Take}
 use Rattle.jh_ivshmem.specs.declared.endpoint.Endpoint.{Endpoint}
-use Rattle.jh_ivshmem.specs.declared.spec.EndpointSpec.{EndpointSpec}
 use Rattle.jh_ivshmem.specs.Endpoint.{raised, taken, cleared, is_open}
 use Rattle.jh_ivshmem.specs.Registers.{register_written, is_in_table}
-use Rattle.jh_ivshmem.specs.Changes.{changed, after, is_meant}
+use Rattle.jh_ivshmem.specs.Changes.{after}
 use Rattle.jh_ivshmem.specs.Specs.{IsWithin}
-use Rattle.jh_ivshmem.specs.declared.change.Whom.{Whom}
-use Rattle.jh_ivshmem.specs.declared.key.Key.{Key}
-use Rattle.jh_ivshmem.specs.Keys.{IsSound, AreKept, key_of, is_key_meant}
+use Rattle.jh_ivshmem.specs.Keys.{IsSound}
 
 -- the endpoint keeps its spec and the number of its vectors
 pub record Keeps (old new : Endpoint) : Type 0 where
@@ -53,3 +49,18 @@ after-sound change e sound =
       vectors = keeps.vectors ∙ sound.vectors;
       within = subst IsWithin (sym keeps.spec) sound.within;
     }
+
+-- each change keeps the spec
+pub raised-spec : (v : ℕ) (e : Endpoint) → (raised v e).spec ≡ e.spec
+raised-spec v e = (raised-keeps v e).spec
+
+pub register_written-spec : (bar at value : ℕ) (e : Endpoint) → (register_written bar at value e).spec ≡ e.spec
+register_written-spec bar at value e = (written-keeps bar at value e).spec
+
+pub taken-spec : (v : ℕ) (e : Endpoint) → (taken v e).spec ≡ e.spec
+unfolding taken
+taken-spec v e = refl
+
+pub cleared-spec : (e : Endpoint) → (cleared e).spec ≡ e.spec
+unfolding cleared
+cleared-spec e = refl

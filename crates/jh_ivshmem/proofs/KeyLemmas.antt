@@ -1,22 +1,21 @@
 -- The keys beside the endpoints: looking by them, and what a change, a joining and a leaving keep.
-use Rattle.std.proofs.Common.{ℕ, zero, suc, ◌≡◌, ◌+◌, ◌-◌, ◌<◌, ◌≤◌, ◌⊎◌, Bool, true, false, not, cond, nat_lt, List, [], ◌∷◌, ◌++◌, length, map, filter, find, position, All, AllPairs, Option, Some, None, is_some, get_or, set, take, drop, inl, inr, refl, sym, ◌∙◌, ap, subst, arith, length-append}
-use Rattle.std.specs.List.{slice_get, position_or_len, list_any}
+use Rattle.std.proofs.Common.{ℕ, ◌≡◌, ◌<◌, ◌≤◌, Bool, true, false, cond, nat_lt, List, [], ◌∷◌, length, map, filter, find, position, AllPairs, Option, Some, None, is_some, get_or, set, inl, inr, refl, sym, ◌∙◌, ap, subst, arith}
+use Rattle.std.specs.List.{slice_get, position_or_len}
 use Rattle.jh_vpci.specs.Space.{Space}
 use Rattle.std.proofs.lemmas.Bool.{cases_Bool, cases_lt}
 use Rattle.std.proofs.lemmas.Bool.Decides.{nat_tests}
-use Rattle.std.proofs.lemmas.List.{length-set, length-map, map-set, map-append, get_or_append_left, get_or-append_right}
-use Rattle.std.proofs.lemmas.List.Elements.{All-get_or, All-set, All-append, All-filter, All-map}
+use Rattle.std.proofs.lemmas.List.{length-map, map-set}
+use Rattle.std.proofs.lemmas.List.Elements.{All-set, All-filter}
 use Rattle.std.proofs.lemmas.List.Folds.{find_at}
 use Rattle.std.proofs.lemmas.List.Kept.{AllPairs-filter}
-use Rattle.std.proofs.lemmas.List.Quantifiers.{position-Some}
-use Rattle.std.proofs.lemmas.Option.{slice_get_past, slice_get_read}
+use Rattle.std.proofs.lemmas.Option.{slice_get_past, slice_get_cases}
 use Rattle.std.proofs.Math.Seq.{map-set_same}
 use Rattle.jh_ivshmem.specs.declared.change.Whom.{Whom}
 use Rattle.jh_ivshmem.specs.declared.change.Whom.TheVariants.{Device, Peer, Others}
 use Rattle.jh_ivshmem.specs.declared.endpoint.Endpoint.{Endpoint}
 use Rattle.jh_ivshmem.specs.declared.spec.EndpointSpec.{EndpointSpec}
 use Rattle.jh_ivshmem.specs.declared.key.Key.{Key}
-use Rattle.jh_ivshmem.specs.Specs.{AreApart}
+use Rattle.jh_ivshmem.specs.Specs.{AreApart, ComesBefore}
 use Rattle.jh_ivshmem.specs.Changes.{is_meant}
 use Rattle.jh_ivshmem.specs.Keys.{key_of, is_key_meant, IsSound, AreKept}
 
@@ -78,14 +77,13 @@ found_none whom es none =
     find_at (λ (o : Endpoint). is_meant whom o.spec) es ∙ slice_get_past es _ past
 
 -- a key is meant where an endpoint is
-pub found_same : (whom : Whom) (es : List Endpoint)
-    → list_any (is_key_meant whom) (map key_of es) ≡ is_some (find (λ (o : Endpoint). is_meant whom o.spec) es)
-found_same whom [] = refl
-found_same whom (e ∷ es) =
-    elim (cases_Bool (is_meant whom e.spec)) as (λ _. list_any (is_key_meant whom) (map key_of (e ∷ es))
-    ≡ is_some (find (λ (o : Endpoint). is_meant whom o.spec) (e ∷ es))) [
-      | inl here ↦ rw (key_meant whom e, here) refl
-      | inr other ↦ rw (key_meant whom e, other) (found_same whom es)
+pub found_some : (whom : Whom) (es : List Endpoint) (o : Option ℕ) → o ≡ position (is_key_meant whom) (map key_of es)
+    → is_some o ≡ is_some (find (λ (e : Endpoint). is_meant whom e.spec) es)
+found_some whom es None is = sym (ap is_some (found_none whom es (sym is)))
+found_some whom es (Some i) is =
+    elim (slice_get_cases es i).1 as (λ _. is_some (Some i) ≡ is_some (find (λ (e : Endpoint). is_meant whom e.spec) es)) [
+      | inl (e, inside, found, read) ↦ sym (ap is_some (found_place whom es i (sym is)) ∙ ap is_some found)
+      | inr past ↦ absurd (let beyond = past.0 in let within = found_within whom es i (sym is) in let no : ⊥ = omega arith in no)
     ]
 
 -- the space of one endpoint is another
@@ -98,6 +96,10 @@ kept-space es ks i e space kept sound read = record {
       let P : List EndpointSpec → Type 0 = λ specs. AllPairs AreApart specs in
       subst P (sym (map-set_same (λ (o : Endpoint). o.spec) es i (record e { space = space }) e (ap (λ (o : Endpoint). o.spec) read)))
       kept.apart;
+  order =
+      let P : List EndpointSpec → Type 0 = λ specs. AllPairs ComesBefore specs in
+      subst P (sym (map-set_same (λ (o : Endpoint). o.spec) es i (record e { space = space }) e (ap (λ (o : Endpoint). o.spec) read)))
+      kept.order;
 }
 
 -- one of the endpoints is another, sound, with the same spec
@@ -109,35 +111,9 @@ kept-set es ks i e old kept read sound same = record {
   apart =
       let P : List EndpointSpec → Type 0 = λ specs. AllPairs AreApart specs in
       subst P (sym (map-set_same (λ (o : Endpoint). o.spec) es i e old (same ∙ ap (λ (o : Endpoint). o.spec) read))) kept.apart;
-}
-
-pairs_push : {X : Type 0} (R : X → X → Type 0) (xs : List X) (y : X) → AllPairs R xs → All (λ x. R x y) xs
-    → AllPairs R (xs ++ y ∷ [])
-pairs_push R xs y pairs new i j d before within =
-    let counted = length-append xs (y ∷ []) in
-    let first : i < length xs = omega arith in
-    elim (cases_lt j (length xs)) as (λ _. R (get_or (xs ++ y ∷ []) i d) (get_or (xs ++ y ∷ []) j d)) [
-      | inl inside ↦
-          rw (get_or_append_left xs (y ∷ []) d i first, get_or_append_left xs (y ∷ []) d j inside) (pairs i j d before inside)
-      | inr past ↦
-          let last : j - length xs ≡ 0 = omega arith in
-          rw (get_or_append_left xs (y ∷ []) d i first, get_or-append_right xs (y ∷ []) (length xs) j d refl past, last)
-          (new i d first)
-    ]
-
-one_sound : (e : Endpoint) → IsSound e → All IsSound (e ∷ [])
-one_sound e sound zero d lt = sound
-one_sound e sound (suc k) d lt = absurd (let no : ⊥ = omega arith in no)
-
--- one joins that is apart from all
-pub kept-push : (es : List Endpoint) (ks : List Key) (e : Endpoint) → AreKept es ks → IsSound e
-    → All (λ (o : Endpoint). AreApart o.spec e.spec) es → AreKept (es ++ e ∷ []) (ks ++ key_of e ∷ [])
-kept-push es ks e kept sound new = record {
-  keys = ap (λ k. k ++ key_of e ∷ []) kept.keys ∙ sym (map-append key_of es (e ∷ []));
-  sound = All-append IsSound es (e ∷ []) kept.sound (one_sound e sound);
-  apart = subst (AllPairs AreApart) (sym (map-append (λ (o : Endpoint). o.spec) es (e ∷ [])))
-      (pairs_push AreApart (map (λ (o : Endpoint). o.spec) es) e.spec kept.apart
-      (All-map (λ s. AreApart s e.spec) (λ (o : Endpoint). o.spec) es new));
+  order =
+      let P : List EndpointSpec → Type 0 = λ specs. AllPairs ComesBefore specs in
+      subst P (sym (map-set_same (λ (o : Endpoint). o.spec) es i e old (same ∙ ap (λ (o : Endpoint). o.spec) read))) kept.order;
 }
 
 map_filter : {X Y : Type 0} (f : X → Y) (p : X → Bool) (q : Y → Bool) → ((x : X) → q (f x) ≡ p x) → (xs : List X)
@@ -158,12 +134,6 @@ kept-filter es ks p q r same by_spec kept = record {
   sound = All-filter p IsSound es kept.sound;
   apart = subst (AllPairs AreApart) (sym (map_filter (λ (o : Endpoint). o.spec) p r by_spec es))
       (AllPairs-filter AreApart r (map (λ (o : Endpoint). o.spec) es) kept.apart);
+  order = subst (AllPairs ComesBefore) (sym (map_filter (λ (o : Endpoint). o.spec) p r by_spec es))
+      (AllPairs-filter ComesBefore r (map (λ (o : Endpoint). o.spec) es) kept.order);
 }
-
--- the same, for what was pushed
-pub kept-joined : (es joined : List Endpoint) (ks keys : List Key) (e : Endpoint) (key : Key) → AreKept es ks
-    → joined ≡ es ++ e ∷ [] → keys ≡ ks ++ key ∷ [] → key ≡ key_of e → IsSound e
-    → All (λ (o : Endpoint). AreApart o.spec e.spec) es → AreKept joined keys
-kept-joined es joined ks keys e key kept pushed keyed is sound new =
-    subst (λ l. AreKept l keys) (sym pushed)
-    (subst (AreKept (es ++ e ∷ [])) (sym (keyed ∙ ap (λ k. ks ++ k ∷ []) is)) (kept-push es ks e kept sound new))

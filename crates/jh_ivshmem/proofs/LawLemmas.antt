@@ -1,9 +1,9 @@
 -- The laws of endpoints.
-use Rattle.std.proofs.Common.{ℕ, ◌≡◌, ◌≢◌, ◌/◌, ◌%◌, ◌^◌, ◌<◌, ◌≤◌, ◌⊎◌, Bool, true, false, not, ◌&&◌, ◌||◌, ◌==◌, nat_lt, cond, List, length, get_or, set, inl, inr, refl, sym, ◌∙◌, ap, subst, arith, if◌then◌else◌}
+use Rattle.std.proofs.Common.{ℕ, ◌≡◌, ◌≢◌, ◌/◌, ◌%◌, ◌^◌, ◌<◌, ◌≤◌, Bool, true, false, not, ◌&&◌, ◌||◌, ◌==◌, nat_lt, cond, List, length, get_or, set, inl, inr, refl, sym, ◌∙◌, ap, arith}
 use Rattle.std.proofs.lemmas.Bool.{cases_Bool, cases_eq, cases_lt}
 use Rattle.std.proofs.lemmas.Bool.Decides.{nat_tests}
-use Rattle.std.proofs.lemmas.List.{length-set, get_or-set_same, get_or-set_other, get_or_past}
-use Rattle.jh_vpci.specs.Space.{Space, has_vectors, is_open as is_function_open}
+use Rattle.std.proofs.lemmas.List.{get_or-set_same, get_or-set_other, get_or_past}
+use Rattle.jh_vpci.specs.Space.{has_vectors, is_open as is_function_open}
 use Rattle.jh_ivshmem.specs.declared.endpoint.Endpoint.{Endpoint}
 use Rattle.jh_ivshmem.specs.declared.vector.Vector.{Vector}
 use Rattle.jh_ivshmem.specs.declared.spec.EndpointSpec.{EndpointSpec}
@@ -11,7 +11,7 @@ use Rattle.jh_ivshmem.specs.Specs.{count_of, is_device, is_peer, is_other}
 use Rattle.jh_ivshmem.specs.Endpoint.{is_open, raised, cleared, vector_at, fresh_vector}
 use Rattle.jh_ivshmem.specs.Registers.{register_written, with_word, is_in_table}
 use Rattle.jh_ivshmem.specs.Changes.{changed}
-use Rattle.jh_ivshmem.specs.Links.{rung, told, told_of, state_written, written, reset_of}
+use Rattle.jh_ivshmem.specs.Links.{told_of, written, reset_of}
 use Rattle.jh_ivshmem.proofs.ApartLemmas.{changed-at, changed-length}
 
 pub closed : (v : ℕ) (e : Endpoint) → is_open e v ≡ false → raised v e ≡ e

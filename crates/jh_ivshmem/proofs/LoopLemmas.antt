@@ -1,18 +1,22 @@
--- The loop that changes each endpoint that is meant.
-use Rattle.std.proofs.Common.{ℕ, ◌≡◌, ◌+◌, ◌<◌, ◌≤◌, ◌⊎◌, Bool, true, false, cond, List, [], ◌∷◌, ◌++◌, length, map, get_or, set, take, drop, inl, inr, refl, sym, ◌∙◌, ap, subst, arith}
+-- The change of each endpoint that is meant, by a loop over all or at the place of one.
+use Rattle.std.proofs.Common.{ℕ, ◌≡◌, ◌+◌, ◌<◌, ◌≤◌, true, false, cond, find, position, Some, None, List, [], ◌∷◌, ◌++◌, length, map, get_or, set, take, drop, inl, inr, refl, sym, ◌∙◌, ap, subst, arith}
 use Rattle.std.proofs.lemmas.Bool.{cases_Bool}
-use Rattle.std.proofs.lemmas.List.{length-set, length-map, set-get_or, get_or-map, take_all, drop_all, append-nil}
+use Rattle.std.proofs.lemmas.List.{length-set, set-get_or, get_or-map, take_all, drop_all, append-nil}
 use Rattle.std.proofs.lemmas.List.Edits.{map_over_more}
 use Rattle.std.proofs.lemmas.List.Elements.{All-get_or}
-use Rattle.std.proofs.lemmas.Option.{slice_get_cases}
+use Rattle.std.proofs.lemmas.List.Quantifiers.{position-Some}
+use Rattle.std.proofs.lemmas.Option.{slice_get_cases, none-some}
 use Rattle.jh_ivshmem.specs.declared.change.Change.{Change}
 use Rattle.jh_ivshmem.specs.declared.change.Whom.{Whom}
+use Rattle.jh_ivshmem.specs.declared.change.Whom.TheVariants.{Device}
+use Rattle.jh_ivshmem.specs.Specs.{is_device}
 use Rattle.jh_ivshmem.specs.declared.key.Key.{Key}
 use Rattle.jh_ivshmem.specs.declared.endpoint.Endpoint.{Endpoint}
 use Rattle.jh_ivshmem.specs.Changes.{changed, after, is_meant}
 use Rattle.jh_ivshmem.specs.Keys.{IsSound, AreKept, key_of, is_key_meant}
 use Rattle.jh_ivshmem.proofs.ChangeLemmas.{after-keeps, after-sound}
-use Rattle.jh_ivshmem.proofs.KeyLemmas.{key_meant, kept-set}
+use Rattle.jh_ivshmem.proofs.KeyLemmas.{key_meant, kept-set, found_within, found_none}
+use Rattle.jh_ivshmem.proofs.ApartLemmas.{set-device}
 
 -- the change of an endpoint that is meant
 abbrev pub changing : Whom → Change → Endpoint → Endpoint
@@ -91,3 +95,53 @@ at_end whom change before now ks i changes past =
 pub at_start : (whom : Whom) (change : Change) (before : List Endpoint) (ks : List Key) → AreKept before ks
     → Changes whom change before before ks 0
 at_start whom change before ks kept = record { list = refl; count = refl; kept = kept }
+
+-- the endpoint of a device is changed alone
+pub record ChangesOne (cell device : ℕ) (change : Change) (es now : List Endpoint) (ks : List Key) : Type 0 where
+  pub list : now ≡ changed (is_device cell device) (after change) es
+  pub kept : AreKept now ks
+
+-- what stands at the place of the device's key
+pub device_at : (cell device : ℕ) (es : List Endpoint) (ks : List Key) (i : ℕ) (e : Endpoint) → AreKept es ks
+    → Some i ≡ position (is_key_meant (Device cell device)) ks → e ≡ get_or es i e → (i < length es) × (is_device cell device e.spec ≡ true)
+device_at cell device es ks i e kept is read =
+    let found : position (is_key_meant (Device cell device)) (map key_of es) ≡ Some i =
+    ap (position (is_key_meant (Device cell device))) (sym kept.keys) ∙ sym is in
+    let inside = found_within (Device cell device) es i found in
+    let at = position-Some (is_key_meant (Device cell device)) (map key_of es) i (key_of e) found in (
+      inside,
+      ap (λ (o : Endpoint). is_device cell device o.spec) read
+          ∙ sym (ap (is_key_meant (Device cell device)) (get_or-map key_of es i e (key_of e) inside)) ∙ at.1,
+    )
+
+pub change_found : (cell device : ℕ) (change : Change) (es now : List Endpoint) (ks keys : List Key) (i : ℕ) (e : Endpoint) → AreKept es ks
+    → Some i ≡ position (is_key_meant (Device cell device)) ks → e ≡ get_or es i e → now ≡ set es i (after change e)
+    → keys ≡ set ks i (key_of (after change e)) → ChangesOne cell device change es now keys
+change_found cell device change es now ks keys i e kept is read put keyed =
+    let at = device_at cell device es ks i e kept is read in
+    let sound = sound_at es ks i e kept at.0 read in
+    record {
+      list = put ∙ set-device cell device (after change) es i e kept.apart at.0 read at.1;
+      kept = subst (λ l. AreKept l keys) (sym put) (subst (AreKept (set es i (after change e))) (sym keyed)
+          (kept-set es ks i (after change e) e kept read (after-sound change e sound) (after-keeps change e sound.vectors).spec));
+    }
+
+none_meant : (cell device : ℕ) (change : Change) (es : List Endpoint) → find (λ (e : Endpoint). is_device cell device e.spec) es ≡ None
+    → es ≡ changed (is_device cell device) (after change) es
+unfolding changed
+none_meant cell device change [] none = refl
+none_meant cell device change (e ∷ es) none =
+    elim (cases_Bool (is_device cell device e.spec)) as (λ _. (e ∷ es) ≡ changed (is_device cell device) (after change) (e ∷ es)) [
+      | inl here ↦ absurd (none-some e (sym (rw here at none)))
+      | inr other ↦
+          ap (λ l. e ∷ l) (none_meant cell device change es (rw other at none))
+          ∙ sym (ap (λ b. cond b (after change e) e ∷ changed (is_device cell device) (after change) es) other)
+    ]
+
+pub change_none : (cell device : ℕ) (change : Change) (es : List Endpoint) (ks : List Key) → AreKept es ks
+    → None ≡ position (is_key_meant (Device cell device)) ks → ChangesOne cell device change es es ks
+change_none cell device change es ks kept is = record {
+  list = none_meant cell device change es (found_none (Device cell device) es
+      (ap (position (is_key_meant (Device cell device))) (sym kept.keys) ∙ sym is));
+  kept = kept;
+}

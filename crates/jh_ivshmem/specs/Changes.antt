@@ -1,5 +1,5 @@
 -- One change of each endpoint that is meant.
-use Rattle.std.specs.Prelude.{ℕ, Bool, List, map, if◌then◌else◌}
+use Rattle.std.specs.Prelude.{Bool, List, map, if◌then◌else◌}
 use Rattle.jh_ivshmem.specs.declared.change.Change.{Change}
 use Rattle.jh_ivshmem.specs.declared.change.Change.TheVariants.{Raise, Write, State, Reset, Take}
 use Rattle.jh_ivshmem.specs.declared.change.Whom.{Whom}

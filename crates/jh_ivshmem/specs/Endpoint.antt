@@ -1,5 +1,5 @@
 -- An endpoint: its vectors, and what raises them.
-use Rattle.std.specs.Prelude.{ℕ, ◌≡◌, Bool, true, false, ◌&&◌, ◌||◌, not, nat_lt, Option, List, length, replicate, position, slice_index_or, slice_set, if◌then◌else◌}
+use Rattle.std.specs.Prelude.{ℕ, Bool, true, false, ◌&&◌, ◌||◌, not, nat_lt, Option, List, replicate, position, slice_index_or, slice_set, if◌then◌else◌}
 use Rattle.jh_vpci.specs.Space.{has_vectors, is_open as is_function_open, fresh as fresh_space}
 use Rattle.jh_ivshmem.specs.declared.spec.EndpointSpec.{EndpointSpec}
 use Rattle.jh_ivshmem.specs.declared.vector.Vector.{Vector}

@@ -1,11 +1,11 @@
 -- What is kept beside the endpoints, so that a scan doesn't touch them.
-use Rattle.std.specs.Prelude.{ℕ, ◌≡◌, Bool, ◌&&◌, ◌==◌, not, Option, None, option_map, if◌then◌else◌, List, All, AllPairs, length, map}
+use Rattle.std.specs.Prelude.{ℕ, ◌≡◌, Bool, true, ◌&&◌, ◌||◌, ◌==◌, not, nat_lt, Option, None, option_map, if◌then◌else◌, List, All, AllPairs, length, map}
 use Rattle.jh_ivshmem.specs.declared.endpoint.Endpoint.{Endpoint}
 use Rattle.jh_ivshmem.specs.declared.spec.EndpointSpec.{EndpointSpec}
 use Rattle.jh_ivshmem.specs.declared.key.Key.{Key}
 use Rattle.jh_ivshmem.specs.declared.change.Whom.{Whom}
 use Rattle.jh_ivshmem.specs.declared.change.Whom.TheVariants.{Device, Peer, Others}
-use Rattle.jh_ivshmem.specs.Specs.{IsWithin, AreApart}
+use Rattle.jh_ivshmem.specs.Specs.{IsWithin, AreApart, ComesBefore}
 use Rattle.jh_ivshmem.specs.Endpoint.{pending_in}
 
 abbrev pub key_of : Endpoint → Key
@@ -22,11 +22,20 @@ pub record IsSound (e : Endpoint) : Type 0 where
   pub vectors : length e.vectors ≡ 16
   pub within : IsWithin e.spec
 
--- the keys are those of the endpoints, which are sound and apart
+-- the keys are those of the endpoints, which are sound, apart and in order
 pub record AreKept (endpoints : List Endpoint) (kept : List Key) : Type 0 where
   pub keys : kept ≡ map key_of endpoints
   pub sound : All IsSound endpoints
   pub apart : AllPairs AreApart (map (λ (e : Endpoint). e.spec) endpoints)
+  pub order : AllPairs ComesBefore (map (λ (e : Endpoint). e.spec) endpoints)
+
+-- its endpoint is of a lower cell, or of a lower device of this cell
+abbrev pub is_key_before : ℕ → ℕ → Key → Bool
+is_key_before cell device key = nat_lt key.cell cell || ((key.cell == cell) && nat_lt key.device device)
+
+-- each key stands before those of higher cells, and in its cell of higher devices
+abbrev pub AreInOrder : List Key → Type 0
+AreInOrder keys = AllPairs (λ (one other : Key). is_key_before other.cell other.device one ≡ true) keys
 
 -- the endpoint with this key is meant
 abbrev pub is_key_meant : Whom → Key → Bool

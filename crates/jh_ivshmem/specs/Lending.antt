@@ -1,5 +1,5 @@
 -- The configuration space of one endpoint, lent to be written.
-use Rattle.std.specs.Prelude.{ℕ, List}
+use Rattle.std.specs.Prelude.{ℕ}
 use Rattle.std.specs.Borrow.{Lends, MutBor, Fml}
 use Rattle.jh_vpci.specs.Space.{Space}
 use Rattle.jh_vpci.specs.contracts.config.ConfigSpace as config

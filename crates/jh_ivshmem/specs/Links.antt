@@ -1,11 +1,11 @@
 -- All endpoints: what each call leaves of them. A link is the endpoints with one bdf.
-use Rattle.std.specs.Prelude.{ℕ, ◌≡◌, ◌/◌, ◌%◌, ◌^◌, Bool, not, ◌&&◌, ◌==◌, nat_lt, Option, None, Some, List, [], ◌∷◌, ◌++◌, fold, filter, find, option_map, if◌then◌else◌}
+use Rattle.std.specs.Prelude.{ℕ, ◌≡◌, ◌/◌, ◌%◌, ◌^◌, Bool, false, not, ◌&&◌, ◌==◌, nat_lt, Option, None, Some, List, [], ◌∷◌, fold, filter, find, option_map, if◌then◌else◌}
 use Rattle.std.specs.Option.{option_map_or}
 use Rattle.jh_ivshmem.specs.declared.endpoint.Endpoint.{Endpoint}
 use Rattle.jh_ivshmem.specs.declared.spec.EndpointSpec.{EndpointSpec}
 use Rattle.jh_ivshmem.specs.declared.spec.Slot.{Slot}
-use Rattle.jh_ivshmem.specs.Specs.{is_device, is_peer, is_other, slot_of}
-use Rattle.jh_ivshmem.specs.Endpoint.{raised, taken, cleared, fresh, pending_in}
+use Rattle.jh_ivshmem.specs.Specs.{is_device, is_before, is_peer, is_other, slot_of}
+use Rattle.jh_ivshmem.specs.Endpoint.{raised, taken, cleared, fresh, pending_in, vector_at}
 use Rattle.jh_ivshmem.specs.Registers.{register_written}
 use Rattle.jh_ivshmem.specs.Changes.{changed}
 
@@ -16,6 +16,19 @@ endpoint_at cell device list = find (λ (e : Endpoint). is_device cell device e.
 -- this holds of the endpoint of this device of this cell
 abbrev pub ForEndpoint : ℕ → ℕ → List Endpoint → (Endpoint → Type 0) → Type 0
 ForEndpoint cell device list P = (e : Endpoint) → endpoint_at cell device list ≡ Some e → P e
+
+-- the endpoints that fail the test
+abbrev pub besides : (EndpointSpec → Bool) → List Endpoint → List Endpoint
+besides test list = filter (λ (e : Endpoint). not (test e.spec)) list
+
+-- the endpoint of this device of this cell has the vector pending
+abbrev pub is_pending : ℕ → ℕ → ℕ → List Endpoint → Bool
+is_pending cell device v list = option_map_or (λ (e : Endpoint). (vector_at e v).pending) (endpoint_at cell device list) false
+
+-- an endpoint joins, as after a reset: it stands behind those of lower cells, and of lower devices of its cell
+abbrev pub joined : EndpointSpec → List Endpoint → List Endpoint
+joined spec [] = fresh spec ∷ []
+joined spec (e ∷ list) = if is_before spec.cell spec.device e.spec then e ∷ joined spec list else fresh spec ∷ e ∷ list
 
 -- the doorbell of a link: the vector of the endpoint with the target's number is raised
 abbrev pub rung : ℕ → ℕ → ℕ → List Endpoint → List Endpoint

@@ -1,6 +1,5 @@
 -- What is fixed of an endpoint.
-use Rattle.std.specs.Prelude.{ℕ, ◌+◌, ◌*◌, ◌^◌, ◌<◌, ◌≤◌, ◌≡◌, ◌≢◌, ◌⊎◌, Bool, true, false, ◌&&◌, not, nat_lt, ◌==◌, if◌then◌else◌, List}
-use Rattle.std.specs.List.{list_any}
+use Rattle.std.specs.Prelude.{ℕ, ◌+◌, ◌*◌, ◌^◌, ◌<◌, ◌≤◌, ◌≡◌, Bool, true, false, ◌&&◌, ◌||◌, not, nat_lt, ◌==◌, if◌then◌else◌}
 use Rattle.jh_vpci.specs.Space.{has_vectors}
 use Rattle.jh_ivshmem.specs.declared.spec.EndpointSpec.{EndpointSpec}
 use Rattle.jh_ivshmem.specs.declared.spec.Slot.{Slot}
@@ -15,6 +14,18 @@ pub record IsWithin (spec : EndpointSpec) : Type 0 where
 -- the endpoint of this device of this cell
 abbrev pub is_device : ℕ → ℕ → EndpointSpec → Bool
 is_device cell device spec = (spec.cell == cell) && (spec.device == device)
+
+-- an endpoint of a lower cell, or of a lower device of this cell
+abbrev pub is_before : ℕ → ℕ → EndpointSpec → Bool
+is_before cell device spec = nat_lt spec.cell cell || ((spec.cell == cell) && nat_lt spec.device device)
+
+-- the first has the lower cell, or in one cell the lower device
+abbrev pub ComesBefore : EndpointSpec → EndpointSpec → Type 0
+ComesBefore one other = is_before other.cell other.device one ≡ true
+
+-- the endpoint itself, or another of its link
+abbrev pub is_concerned : EndpointSpec → EndpointSpec → Bool
+is_concerned spec other = is_device spec.cell spec.device other || (other.bdf == spec.bdf)
 
 -- the endpoint with this number of the link that has this bdf
 abbrev pub is_peer : ℕ → ℕ → EndpointSpec → Bool

@@ -1,12 +1,14 @@
 //! All endpoints of the live cells.
-ghost use Rattle.std.specs.Prelude.{◌≡◌, ℕ, ◌+◌, ◌*◌, ◌%◌, ◌^◌, ◌<◌, ◌≤◌, ◌⊎◌, ◌↔◌, None, Some, [], ◌∷◌, ◌++◌, length, fold, All, map, position, filter, not, ◌&&◌, vec_len, vec_capacity, slice_get, is_some, if◌then◌else◌, ◌==◌, IsSome, IsNone, IsTrue, IsOk, IfOk, OnOk, OnErr};
-ghost use Rattle.std.specs.List.{list_all, list_any};
-ghost use Rattle.jh_ivshmem.specs.Specs.{IsWithin, AreApart, is_device, slot_of};
-ghost use Rattle.jh_ivshmem.specs.Endpoint.{fresh};
+ghost use Rattle.std.specs.Prelude.{◌≡◌, ℕ, ◌+◌, ◌*◌, ◌%◌, ◌^◌, ◌<◌, ◌≤◌, ◌⊎◌, ◌↔◌, None, Some, [], ◌∷◌, ◌++◌, length, fold, All, map, position, filter, not, ◌&&◌, vec_len, vec_capacity, slice_get, is_some, if◌then◌else◌, ◌==◌, IsSome, IsTrue, IsOk, IfOk, OnOk, OnErr, MatchOption, true, false};
+ghost use Rattle.std.specs.List.{list_all, insert};
+ghost use Rattle.std.specs.List.Sorted.{IsPartitionPoint};
+ghost use Rattle.jh_vpci.specs.Space.{Space};
+ghost use Rattle.jh_ivshmem.specs.Specs.{IsWithin, AreApart, is_device, is_concerned, slot_of};
 ghost use Rattle.jh_ivshmem.specs.Registers.{register_of};
 ghost use Rattle.jh_ivshmem.specs.Changes.{changed, is_meant, after};
-ghost use Rattle.jh_ivshmem.specs.Keys.{AreKept, IsSound, is_key_apart, is_key_meant, pending_by};
-ghost use Rattle.jh_ivshmem.specs.Links.{endpoint_at, ForEndpoint, told_of, rung, state_written, written, slot_written, reset_of, left_by, pending_of, taken_of, earlier};
+ghost use Rattle.jh_ivshmem.specs.declared.change.Whom.TheVariants.{Device};
+ghost use Rattle.jh_ivshmem.specs.Keys.{AreKept, AreInOrder, IsSound, is_key_apart, is_key_before, is_key_meant, pending_by};
+ghost use Rattle.jh_ivshmem.specs.Links.{endpoint_at, ForEndpoint, besides, joined, told_of, rung, state_written, written, slot_written, reset_of, left_by, pending_of, taken_of, earlier};
 
 use crate::change::{Change, Whom};
 use crate::endpoint::Endpoint;
@@ -21,8 +23,8 @@ const DOORBELL: u32 = 0x0c;
 
 const STATE: u32 = 0x10;
 
-/// The endpoints, in the order in which they joined. No call looks at more than each of them once or
-/// twice.
+/// The endpoints, in the order of their cells and in each of its devices. One is found by halving; all of
+/// a link, or a pending vector, by one pass over the keys; joining and leaving move those behind.
 #[derive(Drop)]
 pub struct Endpoints {
     endpoints: Vec<Endpoint>,
@@ -44,18 +46,26 @@ impl Model for Endpoints {
     ghost invariant = { λ s. AreKept s.endpoints.items s.keys.items };
 }
 
-/// Where the first key stands whose endpoint is meant.
-fn place_of(keys: &[Key], whom: Whom) -> Option<usize>
-    ensures { result ≡ position (is_key_meant whom) keys.now }
+/// How many keys stand before the device.
+fn place_before(keys: &[Key], cell: u32, device: u32) -> usize
+    requires { AreInOrder keys.now }
+    ensures bound { result ≤ length keys.now }
+    ensures place { IsPartitionPoint (λ key. is_key_before cell device key ≡ true) (λ key. is_key_before cell device key ≡ false) keys.now result }
 {
-    keys.iter().position(|key| key.is_meant(whom))
+    keys.partition_point(|key| key.is_before(cell, device))
 }
 
-/// Whether the endpoint of a key is meant.
-fn any_meant(keys: &[Key], whom: Whom) -> bool
-    ensures { result ≡ list_any (is_key_meant whom) keys.now }
+/// Where the key of the device stands.
+fn place_of(keys: &[Key], cell: u32, device: u32) -> Option<usize>
+    requires { AreInOrder keys.now }
+    ensures { result ≡ position (is_key_meant (Device cell device)) keys.now }
 {
-    keys.iter().any(|key| key.is_meant(whom))
+    let i = place_before(keys, cell, device);
+    if i < keys.len() && keys[i].is_meant(Whom::Device { cell, device }) {
+        Some(i)
+    } else {
+        None
+    }
 }
 
 /// Whether all are apart from the endpoint.
@@ -63,6 +73,30 @@ fn all_apart(keys: &[Key], s: &EndpointSpec) -> bool
     ensures { result ≡ list_all (is_key_apart s.now) keys.now }
 {
     keys.iter().all(|key| key.is_apart(s))
+}
+
+/// Makes the change at the endpoint of the device.
+fn change_one(
+    endpoints: &mut Vec<Endpoint>,
+    keys: &mut Vec<Key>,
+    cell: u32,
+    device: u32,
+    change: Change,
+)
+    requires kept { AreKept endpoints.old.items keys.old.items }
+    ensures list { endpoints.new.items ≡ changed (is_device cell device) (after change) endpoints.old.items }
+    ensures kept { AreKept endpoints.new.items keys.new.items }
+    ensures room { vec_capacity endpoints.new ≡ vec_capacity endpoints.old }
+    ensures key_room { vec_capacity keys.new ≡ vec_capacity keys.old }
+{
+    match place_of(keys, cell, device) {
+        Some(i) => {
+            let endpoint = &mut endpoints[i];
+            endpoint.apply(change);
+            keys[i] = Key::of(endpoint);
+        }
+        None => {}
+    }
 }
 
 /// Makes the change at each endpoint that is meant.
@@ -108,6 +142,20 @@ fn make_room<T>(list: &mut Vec<T>) -> Result<(), NoMemory>
     Ok(())
 }
 
+/// Puts an element at the place, where there is room.
+fn put<T: Drop>(list: &mut Vec<T>, place: usize, element: T)
+    requires place { place ≤ vec_len list.old }
+    requires room { vec_len list.old < vec_capacity list.old }
+    ensures items { list.new.items ≡ insert list.old.items place element }
+    ensures len { vec_len list.new ≡ vec_len list.old + 1 }
+    ensures capacity { vec_capacity list.new ≡ vec_capacity list.old }
+{
+    match list.insert(place, element) {
+        Ok(()) => {}
+        Err(_) => unreachable!(),
+    }
+}
+
 /// Drops the endpoint of the device.
 fn drop_endpoint(endpoints: &mut Vec<Endpoint>, cell: u32, device: u32)
     ensures list { endpoints.new.items ≡ filter (λ (e : Endpoint). not (is_device cell device e.spec)) endpoints.old.items }
@@ -150,7 +198,7 @@ fn first_pending(keys: &[Key], cell: u32) -> Option<(u32, u8)>
 
 impl Endpoints {
     ghost use Rattle.std.specs.Borrow.{sem};
-    ghost use Rattle.jh_ivshmem.specs.Lending.{LendsSpace};
+    ghost use Rattle.jh_ivshmem.specs.Lending.{LendsSpace, with_space};
 
     /// No endpoint, which takes no memory yet.
     pub fn new(alloc: Global) -> Endpoints
@@ -179,7 +227,7 @@ impl Endpoints {
         ensures value { slice_get self.now.list result ≡ endpoint_at cell device self.now.list }
         ensures bound { result < length self.now.list }
     {
-        match place_of(&self.keys, Whom::Device { cell, device }) {
+        match place_of(&self.keys, cell, device) {
             Some(i) => i,
             None => unreachable!(),
         }
@@ -189,7 +237,7 @@ impl Endpoints {
     pub fn has(&self, cell: u32, device: u32) -> bool
         ensures { result ≡ is_some (endpoint_at cell device self.now.list) }
     {
-        any_meant(&self.keys, Whom::Device { cell, device })
+        place_of(&self.keys, cell, device).is_some()
     }
 
     /// The endpoint of the device.
@@ -206,7 +254,11 @@ impl Endpoints {
         ensures list { self.new.list ≡ changed (is_meant whom) (after change) self.old.list }
         ensures spare { self.new.spare ≡ self.old.spare }
     {
-        change_each(&mut self.endpoints, &mut self.keys, whom, change);
+        if let Whom::Device { cell, device } = whom {
+            change_one(&mut self.endpoints, &mut self.keys, cell, device, change);
+        } else {
+            change_each(&mut self.endpoints, &mut self.keys, whom, change);
+        }
     }
 
     /// Whether an endpoint may join: neither its device nor its number of the link is taken.
@@ -221,9 +273,10 @@ impl Endpoints {
     pub fn join(&mut self, s: EndpointSpec) -> Result<Slot, NoMemory>
         requires within { IsWithin s }
         requires new { All (λ e. AreApart e.spec s) self.old.list }
-        ensures ok { OnOk result (self.new.list ≡ self.old.list ++ fresh s ∷ []) }
+        ensures ok { OnOk result (self.new.list ≡ joined s self.old.list) }
         ensures slot { IfOk result (λ slot. slot ≡ slot_of s 0) }
         ensures err { OnErr result (self.new.list ≡ self.old.list) }
+        ensures others { besides (is_device s.cell s.device) self.new.list ≡ besides (is_device s.cell s.device) self.old.list }
         ensures succeeds { 0 < self.old.spare → IsOk result }
         ensures spare { 0 < self.old.spare → self.new.spare + 1 ≡ self.old.spare }
     {
@@ -232,8 +285,9 @@ impl Endpoints {
         let key = Key::of(&endpoint);
         make_room(&mut self.endpoints)?;
         make_room(&mut self.keys)?;
-        self.endpoints.push_reserved(endpoint);
-        self.keys.push_reserved(key);
+        let place = place_before(&self.keys, s.cell, s.device);
+        put(&mut self.endpoints, place, endpoint);
+        put(&mut self.keys, place, key);
         Ok(slot)
     }
 
@@ -242,6 +296,7 @@ impl Endpoints {
     pub fn leave(&mut self, cell: u32, device: u32) -> Slot
         requires there { IsSome (endpoint_at cell device self.old.list) }
         ensures list { ForEndpoint cell device self.old.list (λ e. self.new.list ≡ left_by e self.old.list) }
+        ensures others { ForEndpoint cell device self.old.list (λ e. besides (is_concerned e.spec) self.new.list ≡ besides (is_concerned e.spec) self.old.list) }
         ensures slot { ForEndpoint cell device self.old.list (λ e. result ≡ slot_of e.spec 0) }
         ensures spare { self.old.spare ≤ self.new.spare }
     {
@@ -276,6 +331,7 @@ impl Endpoints {
     pub fn reset(&mut self, cell: u32, device: u32) -> Slot
         requires there { IsSome (endpoint_at cell device self.old.list) }
         ensures list { ForEndpoint cell device self.old.list (λ e. self.new.list ≡ reset_of e self.old.list) }
+        ensures others { ForEndpoint cell device self.old.list (λ e. besides (is_concerned e.spec) self.new.list ≡ besides (is_concerned e.spec) self.old.list) }
         ensures slot { ForEndpoint cell device self.old.list (λ e. result ≡ slot_of e.spec 0) }
         ensures spare { self.new.spare ≡ self.old.spare }
     {
@@ -296,6 +352,7 @@ impl Endpoints {
     pub fn config_mut(&mut self, cell: u32, device: u32) -> &mut ConfigSpace
         requires there { IsSome (endpoint_at cell device self.old.list) }
         ensures value { ForEndpoint cell device self.old.list (λ e. result.now ≡ e.space) }
+        ensures others { (space : Space) → besides (is_device cell device) (with_space cell device space self.old).list ≡ besides (is_device cell device) self.old.list }
         ensures* writes_back { sem 𝓛 (LendsSpace self.entry cell device result) }
     {
         let i = self.place(cell, device);
@@ -322,6 +379,7 @@ impl Endpoints {
         requires aligned { at % 4 ≡ 0 }
         requires within { at < (if bar == 0 then 4096 else 512) }
         ensures list { ForEndpoint cell device self.old.list (λ e. self.new.list ≡ written e bar at value self.old.list) }
+        ensures others { ForEndpoint cell device self.old.list (λ e. besides (is_concerned e.spec) self.new.list ≡ besides (is_concerned e.spec) self.old.list) }
         ensures slot { ForEndpoint cell device self.old.list (λ e. result ≡ slot_written e bar at value) }
         ensures spare { self.new.spare ≡ self.old.spare }
     {
@@ -379,6 +437,7 @@ impl Endpoints {
     pub fn take(&mut self, cell: u32) -> Option<(u32, u8)>
         ensures value { result ≡ pending_of cell self.old.list }
         ensures list { self.new.list ≡ taken_of cell (pending_of cell self.old.list) self.old.list }
+        ensures others { MatchOption result (self.new.list ≡ self.old.list) (λ next. besides (is_device cell next.0) self.new.list ≡ besides (is_device cell next.0) self.old.list) }
         ensures spare { self.new.spare ≡ self.old.spare }
     {
         let next = self.pending(cell);

@@ -17,7 +17,7 @@ pub(crate) struct Key {
 }
 
 impl Key {
-    ghost use Rattle.jh_ivshmem.specs.Keys.{key_of, IsSound, is_key_apart, is_key_meant, pending_by};
+    ghost use Rattle.jh_ivshmem.specs.Keys.{key_of, IsSound, is_key_apart, is_key_before, is_key_meant, pending_by};
 
     pub(crate) fn of(endpoint: &Endpoint) -> Key
         requires sound { IsSound endpoint.now }
@@ -42,6 +42,13 @@ impl Key {
             Whom::Peer { bdf, id } => self.bdf == bdf && u16::from(self.id) == id,
             Whom::Others { bdf, id } => self.bdf == bdf && self.id != id,
         }
+    }
+
+    /// Whether its endpoint is of a lower cell, or of a lower device of the cell.
+    pub(crate) fn is_before(&self, cell: u32, device: u32) -> bool
+        ensures { result ≡ is_key_before cell device self.now }
+    {
+        self.cell < cell || self.cell == cell && self.device < device
     }
 
     /// The device and its lowest pending vector, where it is the cell's.

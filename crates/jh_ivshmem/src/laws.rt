@@ -1,13 +1,15 @@
 //! What holds of endpoints whatever their guests do, in the words of the subject. Each function does nothing;
 //! its contract is the law.
-ghost use Rattle.std.specs.Prelude.{◌≡◌, ◌≢◌, ℕ, ◌<◌, ◌≤◌, true, false, not, List, length, slice_index_or};
-ghost use Rattle.jh_vpci.specs.Space.{has_vectors};
-ghost use Rattle.jh_ivshmem.specs.Specs.{count_of, is_device, is_peer};
+ghost use Rattle.std.specs.Prelude.{◌≡◌, ◌≢◌, ℕ, ◌<◌, ◌≤◌, true, false, not, All, Some, List, length, slice_index_or};
+ghost use Rattle.jh_vpci.specs.Space.{Space, has_vectors};
+ghost use Rattle.jh_ivshmem.specs.Specs.{AreApart, count_of, is_device, is_peer};
 ghost use Rattle.jh_ivshmem.specs.Endpoint.{is_open, raised, vector_at};
-ghost use Rattle.jh_ivshmem.specs.Links.{ForEndpoint, rung, written, reset_of};
+ghost use Rattle.jh_ivshmem.specs.Changes.{changed};
+ghost use Rattle.jh_ivshmem.specs.Links.{ForEndpoint, is_pending, joined, rung, written, reset_of, left_by, pending_of, taken_of};
 
 use crate::endpoint::Endpoint;
 use crate::endpoints::Endpoints;
+use crate::spec::EndpointSpec;
 
 /// A vector that isn't open is never raised, and nothing is remembered of the try: where interrupt control is
 /// off, the endpoint lacks the vector, or, with MSI-X, the function isn't bus master, MSI-X is off, the function
@@ -58,6 +60,24 @@ pub fn a_pending_vector_stays_over_writes()
     ensures { (e : Endpoint) (bar at value : ℕ) (list : List Endpoint) (k v : ℕ) (d : Endpoint) → k < length list
         → (vector_at (slice_index_or list k d) v).pending ≡ true
         → (vector_at (slice_index_or (written e bar at value list) k d) v).pending ≡ true }
+{}
+
+/// A pending vector of a device stays pending over all but its being taken, a reset and the leaving of its own
+/// device: over writes of registers and of configuration space, joinings, resets and leavings of others, and
+/// where another vector is taken.
+pub fn a_pending_vector_goes_only_by_its_own()
+    ensures written { (e : Endpoint) (bar at value : ℕ) (list : List Endpoint) (cell device v : ℕ) → is_pending cell device v list ≡ true
+        → is_pending cell device v (written e bar at value list) ≡ true }
+    ensures configured { (at_cell at_device : ℕ) (space : Space) (list : List Endpoint) (cell device v : ℕ) → is_pending cell device v list ≡ true
+        → is_pending cell device v (changed (is_device at_cell at_device) (λ (e : Endpoint). record e { space = space }) list) ≡ true }
+    ensures joined { (s : EndpointSpec) (list : List Endpoint) (cell device v : ℕ) → All (λ (o : Endpoint). AreApart o.spec s) list
+        → is_pending cell device v list ≡ true → is_pending cell device v (joined s list) ≡ true }
+    ensures reset { (e : Endpoint) (list : List Endpoint) (cell device v : ℕ) → is_device cell device e.spec ≡ false
+        → is_pending cell device v list ≡ true → is_pending cell device v (reset_of e list) ≡ true }
+    ensures left { (e : Endpoint) (list : List Endpoint) (cell device v : ℕ) → is_device cell device e.spec ≡ false
+        → is_pending cell device v list ≡ true → is_pending cell device v (left_by e list) ≡ true }
+    ensures taken { (from : ℕ) (list : List Endpoint) (cell device v : ℕ) → (cell ≡ from → pending_of from list ≡ Some (device, v) → ⊥)
+        → is_pending cell device v list ≡ true → is_pending cell device v (taken_of from (pending_of from list) list) ≡ true }
 {}
 
 /// What an endpoint does is never seen on another link: an endpoint of another bdf that isn't the writing one

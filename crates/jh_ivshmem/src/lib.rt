@@ -13,9 +13,10 @@ mod vector;
 pub use endpoint::Endpoint;
 pub use endpoints::Endpoints;
 pub use laws::{
-    a_doorbell_reaches_one_endpoint, a_pending_vector_stays_over_writes,
-    a_raise_of_a_closed_vector_is_forgotten, a_raise_of_an_open_vector_is_pending,
-    links_never_see_each_other, the_same_state_changes_nothing,
+    a_doorbell_reaches_one_endpoint, a_pending_vector_goes_only_by_its_own,
+    a_pending_vector_stays_over_writes, a_raise_of_a_closed_vector_is_forgotten,
+    a_raise_of_an_open_vector_is_pending, links_never_see_each_other,
+    the_same_state_changes_nothing,
 };
 pub use spec::{EndpointSpec, Slot};
 pub use vector::Vector;

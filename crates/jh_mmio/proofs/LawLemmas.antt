@@ -13,7 +13,7 @@ use Rattle.jh_cellcfg.specs.Regions.{has_address, has_size, is_page_mapped, is_c
 use Rattle.jh_mmio.specs.declared.hitting.Window.{Window}
 use Rattle.jh_mmio.specs.declared.hitting.Hitting.TheVariants.{Subpage, Ecam, Bar, Nothing}
 use Rattle.jh_mmio.specs.Index.{SharesNoAddress}
-use Rattle.jh_mmio.specs.Dispatch.{lies_between, is_at_closed, takes_all, lets_through, by_subpage, by_ecam, by_window, window_has, behind_regions, hitting}
+use Rattle.jh_mmio.specs.Dispatch.{number_told, lies_between, is_at_closed, takes_all, lets_through, by_subpage, by_ecam, by_window, window_has, behind_regions, hitting}
 use Rattle.jh_mmio.proofs.AccessLemmas.{byte_of}
 use Rattle.jh_mmio.proofs.IndexLemmas.{one_number}
 use Rattle.jh_mmio.proofs.HittingLemmas.{position_here, takes_all-has}
@@ -44,43 +44,46 @@ no_window false m k h = cc
 
 no_windows : (at n : ℕ) (o : Option ℕ) (k : ℕ) → option_map_or (by_window at n) o Nothing ≡ Subpage k → ⊥
 no_windows at n None k h = cc
-no_windows at n (Some m) k h = no_window _ m k h
+no_windows at n (Some m) k h = no_window _ (number_told m) k h
 
 no_region_by : (ecam : Range) (at n : ℕ) (o : Option ℕ) (b : Bool) (k : ℕ) → cond b (by_ecam ecam at n) (option_map_or (by_window at n) o Nothing) ≡ Subpage k → ⊥
 no_region_by ecam at n o true k h = no_ecam _ k h
 no_region_by ecam at n o false k h = no_windows at n o k h
 
 -- so the first region that takes the access is the one that answers, and it lets the access through
-record Answers (regions : List Region) (at n : ℕ) (write : Bool) (first : Option ℕ) (k : ℕ) : Type 0 where
-  it : first ≡ Some k
-  lets : option_map_or (lets_through at n write) (slice_get regions k) false ≡ true
+record Answers (regions : List Region) (at n : ℕ) (write : Bool) (first : Option ℕ) (told : ℕ) : Type 0 where
+  number : ℕ
+  it : first ≡ Some number
+  tells : told ≡ number_told number
+  lets : option_map_or (lets_through at n write) (slice_get regions number) false ≡ true
 
-let_through : (at n : ℕ) (write : Bool) (regions : List Region) (m k : ℕ) (b : Bool) → option_map_or (lets_through at n write) (slice_get regions m) false ≡ b → cond b (Subpage m) Nothing ≡ Subpage k → Answers regions at n write (Some m) k
-let_through at n write regions m k true e h =
-    let same : m ≡ k = cc in
-    let P : ℕ → Type 0 = λ x. option_map_or (lets_through at n write) (slice_get regions x) false ≡ true in
-    record { it = ap Some same; lets = subst P same e }
-let_through at n write regions m k false e h = absurd (no_window false m k h)
+let_through : (at n : ℕ) (write : Bool) (regions : List Region) (m told : ℕ) (b : Bool) → option_map_or (lets_through at n write) (slice_get regions m) false ≡ b → cond b (Subpage (number_told m)) Nothing ≡ Subpage told → Answers regions at n write (Some m) told
+let_through at n write regions m told true e h =
+    let same : told ≡ number_told m = cc in
+    record { number = m; it = refl; tells = same; lets = e }
+let_through at n write regions m told false e h = absurd (no_window false m told h)
 
-answers_by : (regions : List Region) (ecam : Range) (windows : List Window) (at n : ℕ) (write : Bool) (first : Option ℕ) (k : ℕ) → option_map_or (by_subpage regions at n write) first (behind_regions ecam windows at n) ≡ Subpage k → Answers regions at n write first k
-answers_by regions ecam windows at n write None k h = absurd (no_region_by ecam at n (position (window_has at n) windows) (lies_between ecam.start ecam.end at n) k h)
-answers_by regions ecam windows at n write (Some m) k h = let_through at n write regions m k _ refl h
+answers_by : (regions : List Region) (ecam : Range) (windows : List Window) (at n : ℕ) (write : Bool) (first : Option ℕ) (told : ℕ) → option_map_or (by_subpage regions at n write) first (behind_regions ecam windows at n) ≡ Subpage told → Answers regions at n write first told
+answers_by regions ecam windows at n write None told h = absurd (no_region_by ecam at n (position (window_has at n) windows) (lies_between ecam.start ecam.end at n) told h)
+answers_by regions ecam windows at n write (Some m) told h = let_through at n write regions m told _ refl h
 
-pub it_answers : (regions : List Region) (closed : ℕ → Bool) (ecam : Range) (windows : List Window) (at n : ℕ) (write : Bool) (k : ℕ) → hitting regions closed ecam windows at n write ≡ Subpage k
-    → (r : Region) × (slice_get regions k ≡ Some r) × (takes_all closed at n r ≡ true) × (lets_through at n write r ≡ true)
+pub it_answers : (regions : List Region) (closed : ℕ → Bool) (ecam : Range) (windows : List Window) (at n : ℕ) (write : Bool) (told : ℕ) → hitting regions closed ecam windows at n write ≡ Subpage told
+    → (k : ℕ) × (r : Region) × (told ≡ number_told k) × (slice_get regions k ≡ Some r) × (takes_all closed at n r ≡ true) × (lets_through at n write r ≡ true)
 unfolding hitting
-it_answers regions closed ecam windows at n write k h =
-    let a = answers_by regions ecam windows at n write (position (takes_all closed at n) regions) k h in
+it_answers regions closed ecam windows at n write told h =
+    let a = answers_by regions ecam windows at n write (position (takes_all closed at n) regions) told h in
+    let k : ℕ = a.number in
     let hit = position_hit (takes_all closed at n) regions k past a.it in
     let r : Region = get_or regions k past in
     let is : slice_get regions k ≡ Some r = slice_get-get_or regions k past hit.0 in
-    (r, is, hit.1, sym (ap (λ (o : Option Region). option_map_or (lets_through at n write) o false) is) ∙ a.lets)
+    (k, r, a.tells, is, hit.1, sym (ap (λ (o : Option Region). option_map_or (lets_through at n write) o false) is) ∙ a.lets)
 
-pub only_answers : (regions : List Region) (closed : ℕ → Bool) (ecam : Range) (windows : List Window) (at n : ℕ) (write : Bool) (k : ℕ) → AllPairs SharesNoAddress regions → 0 < n → hitting regions closed ecam windows at n write ≡ Subpage k
-    → (j : ℕ) (r : Region) → slice_get regions j ≡ Some r → IsTrue (has_address r at) → j ≡ k
-only_answers regions closed ecam windows at n write k apart some h j r is has =
-    let a = it_answers regions closed ecam windows at n write k h in
-    one_number regions k j a.0 r at apart a.1 is (takes_all-has closed at n a.0 some a.2) has
+pub only_answers : (regions : List Region) (closed : ℕ → Bool) (ecam : Range) (windows : List Window) (at n : ℕ) (write : Bool) (told : ℕ) → AllPairs SharesNoAddress regions → 0 < n → hitting regions closed ecam windows at n write ≡ Subpage told
+    → (k : ℕ) (r : Region) → slice_get regions k ≡ Some r → IsTrue (has_address r at) → told ≡ number_told k
+only_answers regions closed ecam windows at n write told apart some h k r is has =
+    let a = it_answers regions closed ecam windows at n write told h in
+    let same : k ≡ a.0 = one_number regions a.0 k a.1 r at apart a.3 is (takes_all-has closed at n a.1 some a.4) has in
+    a.2 ∙ sym (ap number_told same)
 
 pub refusal_ends : (regions : List Region) (closed : ℕ → Bool) (ecam : Range) (windows : List Window) (at n : ℕ) (write : Bool) (k : ℕ) (r : Region) → AllPairs SharesNoAddress regions → 0 < n
     → slice_get regions k ≡ Some r → takes_all closed at n r ≡ true → lets_through at n write r ≡ false → hitting regions closed ecam windows at n write ≡ Nothing
@@ -94,15 +97,17 @@ refusal_ends regions closed ecam windows at n write k r apart some is takes refu
     let same : j ≡ k = one_number regions k j r (get_or regions j r) at apart is (slice_get-get_or regions j r (omega arith)) (takes_all-has closed at n r some takes) (takes_all-has closed at n (get_or regions j r) some h) in omega arith))
     (ap (takes_all closed at n) at_k ∙ takes) in
     sym (ap (λ (o : Option ℕ). option_map_or (by_subpage regions at n write) o (behind_regions ecam windows at n)) first)
-    ∙ ap (λ (o : Option Region). cond (option_map_or (lets_through at n write) o false) (Subpage k) Nothing) is
-    ∙ ap (λ b. cond b (Subpage k) Nothing) refuses
+    ∙ ap (λ (o : Option Region). cond (option_map_or (lets_through at n write) o false) (Subpage (number_told k)) Nothing) is
+    ∙ ap (λ b. cond b (Subpage (number_told k)) Nothing) refuses
 
-pub closed_none : (regions : List Region) (closed : ℕ → Bool) (ecam : Range) (windows : List Window) (at n : ℕ) (write : Bool) (k : ℕ) (r : Region) (a : ℕ) → slice_get regions k ≡ Some r → is_comm r ≡ false
-    → at ≤ a → a < at + n → closed (place_in r a) ≡ true → hitting regions closed ecam windows at n write ≡ Subpage k → ⊥
-closed_none regions closed ecam windows at n write k r a is comm low high shut h =
-    let answer = it_answers regions closed ecam windows at n write k h in
-    let same : answer.0 ≡ r = same_Some answer.0 r (sym answer.1 ∙ is) in
-    let takes : takes_all closed at n r ≡ true = sym (ap (takes_all closed at n) same) ∙ answer.2 in
+pub closed_none : (regions : List Region) (closed : ℕ → Bool) (ecam : Range) (windows : List Window) (at n : ℕ) (write : Bool) (k : ℕ) (r : Region) (a : ℕ) → AllPairs SharesNoAddress regions → slice_get regions k ≡ Some r → IsTrue (has_address r at) → is_comm r ≡ false
+    → at ≤ a → a < at + n → closed (place_in r a) ≡ true → (told : ℕ) → hitting regions closed ecam windows at n write ≡ Subpage told → ⊥
+closed_none regions closed ecam windows at n write k r a apart is has comm low high shut told h =
+    let answer = it_answers regions closed ecam windows at n write told h in
+    let some : 0 < n = omega arith in
+    let number : k ≡ answer.0 = one_number regions answer.0 k answer.1 r at apart answer.3 is (takes_all-has closed at n answer.1 some answer.4) has in
+    let same : answer.1 ≡ r = same_Some answer.1 r (sym answer.3 ∙ sym (ap (slice_get regions) number) ∙ is) in
+    let takes : takes_all closed at n r ≡ true = sym (ap (takes_all closed at n) same) ∙ answer.4 in
     let whole = and_parts (has_size r && not (is_page_mapped r)) (lies_between r.virt_start (virt_end r) at n && not (is_at_closed closed at n r)) takes in
     let parts = and_parts (lies_between r.virt_start (virt_end r) at n) (not (is_at_closed closed at n r)) whole.1 in
     let hit : list_any (λ x. closed (place_in r x)) (range_with_len at n) ≡ true = list_any-from_Contains (λ x. closed (place_in r x)) (range_with_len at n) a (byte_of at n a low high) shut in

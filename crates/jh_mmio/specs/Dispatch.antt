@@ -10,8 +10,9 @@
 --   4. nothing answers
 --
 -- A case that holds and whose tests fail ends the search: nothing answers. Closed places are those that
--- other cells hold; only root has some.
-use Rattle.std.specs.Prelude.{ℕ, ◌+◌, ◌-◌, ◌%◌, Bool, true, false, ◌&&◌, ◌||◌, not, ◌==◌, nat_lt, nat_le, if◌then◌else◌, List, position, slice_get}
+-- other cells hold; only root has some. An answer names the region or the window by its number, in 32
+-- bits; those that have no number of 32 bits share the last one.
+use Rattle.std.specs.Prelude.{ℕ, ◌+◌, ◌-◌, ◌%◌, Bool, true, false, ◌&&◌, ◌||◌, not, ◌==◌, nat_lt, nat_le, min, if◌then◌else◌, List, position, slice_get}
 use Rattle.std.specs.List.{list_all, list_any, range_with_len}
 use Rattle.std.specs.Option.{option_map_or}
 use Rattle.jh_num.specs.declared.range.Range.{Range}
@@ -47,9 +48,14 @@ has_right true r = has_flags 0x2 r
 abbrev pub lets_through : ℕ → ℕ → Bool → Region → Bool
 lets_through at width write r = has_right write r && (allows_width width r && (allows_unaligned r || (at % width == 0)))
 
+-- the number that an answer gives for one among the regions or the windows
+abbrev pub number_told : ℕ → ℕ
+number_told k = min k 0xffffffff
+
 -- the answer of the region with the number
 abbrev pub by_subpage : List Region → ℕ → ℕ → Bool → ℕ → Hitting
-by_subpage regions at width write k = if option_map_or (lets_through at width write) (slice_get regions k) false then Subpage k else Nothing
+by_subpage regions at width write k =
+    if option_map_or (lets_through at width write) (slice_get regions k) false then Subpage (number_told k) else Nothing
 
 -- the answer of configuration space
 abbrev pub by_ecam : Range → ℕ → ℕ → Hitting
@@ -57,7 +63,7 @@ by_ecam ecam at width = if (width == 1 || width == 2 || width == 4) && ((at - ec
 
 -- the answer of the window with the number
 abbrev pub by_window : ℕ → ℕ → ℕ → Hitting
-by_window at width k = if width == 4 && (at % 4 == 0) then Bar k else Nothing
+by_window at width k = if width == 4 && (at % 4 == 0) then Bar (number_told k) else Nothing
 
 abbrev pub window_has : ℕ → ℕ → Window → Bool
 window_has at width w = lies_between w.start (w.start + w.size) at width

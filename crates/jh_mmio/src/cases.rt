@@ -4,7 +4,7 @@ ghost use Rattle.std.specs.Option.{option_map_or};
 ghost use Rattle.jh_num.specs.Bytes.{has_byte};
 ghost use Rattle.jh_cellcfg.specs.declared.region.Region.{Region as TheRegion};
 ghost use Rattle.jh_cellcfg.specs.Regions.{virt_end, IsInRange};
-ghost use Rattle.jh_mmio.specs.Dispatch.{lies_between, is_at_closed, takes_all as takes_all_lem, lets_through as lets_through_lem, by_subpage, by_ecam as by_ecam_lem, by_window as by_window_lem, window_has, behind_regions, hitting};
+ghost use Rattle.jh_mmio.specs.Dispatch.{lies_between, is_at_closed, takes_all as takes_all_lem, lets_through as lets_through_lem, number_told as number_told_lem, by_subpage, by_ecam as by_ecam_lem, by_window as by_window_lem, window_has, behind_regions, hitting};
 
 use crate::hitting::{Hitting, Window};
 use jh_cellcfg::Region;
@@ -61,15 +61,21 @@ fn lets_through(region: &Region, at: u64, width: u8, write: bool) -> bool
     right && region.allows_width(width) && (region.allows_unaligned() || at % u64::from(width) == 0)
 }
 
+/// The number that an answer gives: the last one of 32 bits for all that don't have 32 bits.
+fn number_told(number: usize) -> u32
+    ensures { result ≡ number_told_lem number }
+{
+    u32::try_from(number).unwrap_or(u32::MAX)
+}
+
 /// What the region of that number answers to an access that is its own.
 fn by_number(regions: &[Region], number: usize, at: u64, width: u8, write: bool) -> Hitting
     requires some { 0 < width }
-    requires few { length regions.now ≤ 2 ^ 32 }
     ensures { result ≡ by_subpage regions.now at width write number }
 {
     match regions.get(number) {
         Some(region) if lets_through(region, at, width, write) => Hitting::Subpage {
-            region: number as u32,
+            region: number_told(number),
         },
         _ => Hitting::Nothing,
     }
@@ -97,11 +103,13 @@ fn first_window(windows: &[Window], at: u64, width: u8) -> Option<usize>
 }
 
 /// What the window of that number answers.
-fn by_window(number: u32, at: u64, width: u8) -> Hitting
+fn by_window(number: usize, at: u64, width: u8) -> Hitting
     ensures { result ≡ by_window_lem at width number }
 {
     if width == 4 && at % 4 == 0 {
-        Hitting::Bar { window: number }
+        Hitting::Bar {
+            window: number_told(number),
+        }
     } else {
         Hitting::Nothing
     }
@@ -110,14 +118,13 @@ fn by_window(number: u32, at: u64, width: u8) -> Hitting
 /// What answers where no subpage region has the access.
 fn behind(ecam: Range, windows: &[Window], at: u64, width: u8) -> Hitting
     requires some { 0 < width }
-    requires few { length windows.now ≤ 2 ^ 32 }
     ensures { result ≡ behind_regions ecam windows.now at width }
 {
     if lies_in_range(ecam, at, width) {
         return by_ecam(ecam, at, width);
     }
     match first_window(windows, at, width) {
-        Some(number) => by_window(number as u32, at, width),
+        Some(number) => by_window(number, at, width),
         None => Hitting::Nothing,
     }
 }
@@ -133,8 +140,6 @@ pub(crate) fn by_first(
     write: bool,
 ) -> Hitting
     requires some { 0 < width }
-    requires few_regions { length regions.now ≤ 2 ^ 32 }
-    requires few_windows { length windows.now ≤ 2 ^ 32 }
     ensures { result ≡ option_map_or (by_subpage regions.now at width write) first (behind_regions ecam windows.now at width) }
 {
     match first {
@@ -159,8 +164,8 @@ fn first_subpage(regions: &[Region], closed: &ByteSet, at: u64, width: u8) -> Op
 
 /// What answers an access of so many bytes at the address, where no memory does; `closed` are the
 /// places that are closed to the cell, none but for root. The regions that aren't empty end within the
-/// addresses, and their places within the places that there are. The answer's numbers have 32 bits, so
-/// there are at most 2^32 regions and windows.
+/// addresses, and their places within the places that there are. The numbers in an answer have 32 bits:
+/// regions and windows from number `u32::MAX` on are all told by that number.
 pub fn dispatch(
     regions: &[Region],
     closed: &ByteSet,
@@ -171,8 +176,6 @@ pub fn dispatch(
     write: bool,
 ) -> Hitting
     requires ranges { All (λ (r : TheRegion). 0 < r.size → IsInRange r) regions.now }
-    requires few_regions { length regions.now ≤ 2 ^ 32 }
-    requires few_windows { length windows.now ≤ 2 ^ 32 }
     ensures { result ≡ hitting regions.now (has_byte closed.now.ranges) ecam windows.now at width write }
 {
     if width == 0 {

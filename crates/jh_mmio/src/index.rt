@@ -1,5 +1,5 @@
 //! An index of regions, by which the one that may have an address is found by halving.
-ghost use Rattle.std.specs.Prelude.{◌≡◌, ℕ, ◌<◌, ◌≤◌, ◌^◌, All, AllPairs, IfOk, length, position};
+ghost use Rattle.std.specs.Prelude.{◌≡◌, ℕ, ◌<◌, ◌≤◌, All, AllPairs, IfOk, position};
 ghost use Rattle.jh_num.specs.Bytes.{has_byte};
 ghost use Rattle.jh_cellcfg.specs.declared.region.Region.{Region as TheRegion};
 ghost use Rattle.jh_cellcfg.specs.Regions.{IsInRange};
@@ -105,6 +105,7 @@ impl RegionIndex {
         let number = number_at(regions, self.order.as_slice(), at)?;
         regions.get(number).copied()
     }
+
     /// The number of the first subpage region that has the access, which is the only one.
     fn subpage_at(&self, closed: &ByteSet, at: u64, width: u8) -> Option<usize>
         requires some { 0 < width }
@@ -135,8 +136,6 @@ impl RegionIndex {
         write: bool,
     ) -> Hitting
         requires ranges { All (λ (r : TheRegion). 0 < r.size → IsInRange r) self.now }
-        requires few_regions { length self.now ≤ 2 ^ 32 }
-        requires few_windows { length windows.now ≤ 2 ^ 32 }
         ensures { result ≡ hitting self.now (has_byte closed.now.ranges) ecam windows.now at width write }
     {
         if width == 0 {

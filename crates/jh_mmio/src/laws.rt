@@ -7,13 +7,13 @@ ghost use Rattle.jh_cellcfg.specs.Regions.{has_address, is_comm, place_in};
 ghost use Rattle.jh_mmio.specs.declared.hitting.Window.{Window as TheWindow};
 ghost use Rattle.jh_mmio.specs.declared.hitting.Hitting.TheVariants.{Subpage as TheSubpage, Nothing as NoAnswer};
 ghost use Rattle.jh_mmio.specs.Index.{SharesNoAddress};
-ghost use Rattle.jh_mmio.specs.Dispatch.{takes_all, lets_through, hitting};
+ghost use Rattle.jh_mmio.specs.Dispatch.{number_told, takes_all, lets_through, hitting};
 
 /// The region that answers has the whole access and lets it through, and where no two regions share an
 /// address no other has the first byte.
 pub fn the_region_that_answers_is_the_only_one()
-    ensures it { (regions : List TheRegion) (closed : ℕ → Bool) (ecam : TheRange) (windows : List TheWindow) (at width : ℕ) (write : Bool) (k : ℕ) → hitting regions closed ecam windows at width write ≡ TheSubpage k → (r : TheRegion) × (slice_get regions k ≡ Some r) × (takes_all closed at width r ≡ true) × (lets_through at width write r ≡ true) }
-    ensures only { (regions : List TheRegion) (closed : ℕ → Bool) (ecam : TheRange) (windows : List TheWindow) (at width : ℕ) (write : Bool) (k : ℕ) → AllPairs SharesNoAddress regions → 0 < width → hitting regions closed ecam windows at width write ≡ TheSubpage k → (j : ℕ) (r : TheRegion) → slice_get regions j ≡ Some r → IsTrue (has_address r at) → j ≡ k }
+    ensures it { (regions : List TheRegion) (closed : ℕ → Bool) (ecam : TheRange) (windows : List TheWindow) (at width : ℕ) (write : Bool) (told : ℕ) → hitting regions closed ecam windows at width write ≡ TheSubpage told → (k : ℕ) × (r : TheRegion) × (told ≡ number_told k) × (slice_get regions k ≡ Some r) × (takes_all closed at width r ≡ true) × (lets_through at width write r ≡ true) }
+    ensures only { (regions : List TheRegion) (closed : ℕ → Bool) (ecam : TheRange) (windows : List TheWindow) (at width : ℕ) (write : Bool) (told : ℕ) → AllPairs SharesNoAddress regions → 0 < width → hitting regions closed ecam windows at width write ≡ TheSubpage told → (k : ℕ) (r : TheRegion) → slice_get regions k ≡ Some r → IsTrue (has_address r at) → told ≡ number_told k }
 {}
 
 /// A subpage region that has the access and doesn't let it through ends the search: no window answers
@@ -22,7 +22,8 @@ pub fn a_region_that_refuses_ends_the_search()
     ensures { (regions : List TheRegion) (closed : ℕ → Bool) (ecam : TheRange) (windows : List TheWindow) (at width : ℕ) (write : Bool) (k : ℕ) (r : TheRegion) → AllPairs SharesNoAddress regions → 0 < width → slice_get regions k ≡ Some r → takes_all closed at width r ≡ true → lets_through at width write r ≡ false → hitting regions closed ecam windows at width write ≡ NoAnswer }
 {}
 
-/// A region of which a byte of the access is at a closed place doesn't answer it.
+/// Where a byte of the access is at a closed place of the region that has the first one, no subpage
+/// region answers.
 pub fn a_closed_byte_is_no_subpage_access()
-    ensures { (regions : List TheRegion) (closed : ℕ → Bool) (ecam : TheRange) (windows : List TheWindow) (at width : ℕ) (write : Bool) (k : ℕ) (r : TheRegion) (a : ℕ) → slice_get regions k ≡ Some r → is_comm r ≡ false → at ≤ a → a < at + width → closed (place_in r a) ≡ true → hitting regions closed ecam windows at width write ≡ TheSubpage k → ⊥ }
+    ensures { (regions : List TheRegion) (closed : ℕ → Bool) (ecam : TheRange) (windows : List TheWindow) (at width : ℕ) (write : Bool) (k : ℕ) (r : TheRegion) (a : ℕ) → AllPairs SharesNoAddress regions → slice_get regions k ≡ Some r → IsTrue (has_address r at) → is_comm r ≡ false → at ≤ a → a < at + width → closed (place_in r a) ≡ true → (told : ℕ) → hitting regions closed ecam windows at width write ≡ TheSubpage told → ⊥ }
 {}

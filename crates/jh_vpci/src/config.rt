@@ -2,7 +2,7 @@
 ghost use Rattle.std.specs.Prelude.{◌≡◌, ◌+◌, ◌*◌, ◌/◌, ◌%◌, ◌^◌, ◌<◌, ◌≤◌, ◌⊎◌, ◌↔◌, false, IsNone, option_map, if◌then◌else◌};
 ghost use Rattle.jh_vpci.specs.Space.{fresh, is_open, window_of, ends_of, has_vectors};
 ghost use Rattle.jh_vpci.specs.Words.{command_of, control_of, with_vectors, word_of, word_at, read_of};
-ghost use Rattle.jh_vpci.specs.Writes.{with_word, written};
+ghost use Rattle.jh_vpci.specs.Writes.{has_bit, with_word, written};
 
 use crate::function::FunctionSpec;
 use crate::word::{bytes_at, has_bit, high, low, set, window_from, with_bytes};
@@ -90,6 +90,13 @@ impl ConfigSpace {
         set(1, self.one_shot) * 0x100_0000 + 0x20_0000 + next * 0x100 + 0x09
     }
 
+    /// The class of the function above its protocol and revision.
+    fn class(&self) -> u32
+        ensures { result ≡ 0xff * 2 ^ 24 + self.now.spec.protocol * 2 ^ 8 }
+    {
+        0xff00_0000 + u32::from(self.spec.protocol) * 0x100
+    }
+
     /// The word at the offset.
     #[tactic(auto, unfolding(crate::specs::Words::word_of))]
     fn word(&self, offset: u16) -> u32
@@ -100,7 +107,7 @@ impl ConfigSpace {
         match offset {
             0x00 => 0x4106_110a,
             0x04 => 0x0010_0000 + self.command(),
-            0x08 => 0xff00_0000 + u32::from(spec.protocol) * 0x100,
+            0x08 => self.class(),
             0x10 => self.bar0,
             0x14 => self.bar1,
             0x34 => 0x40,
@@ -120,6 +127,30 @@ impl ConfigSpace {
         }
     }
 
+    /// Puts the word of command.
+    fn put_command(&mut self, word: u32)
+        ensures { self.new ≡ record self.old { memory = has_bit word 1; bus_master = has_bit word 2; interrupts_off = has_bit word 10 } }
+    {
+        self.memory = has_bit(word, 1);
+        self.bus_master = has_bit(word, 2);
+        self.interrupts_off = has_bit(word, 10);
+    }
+
+    /// Puts the word of privileged control.
+    fn put_privileged(&mut self, word: u32)
+        ensures { self.new ≡ record self.old { one_shot = has_bit word 24 } }
+    {
+        self.one_shot = has_bit(word, 24);
+    }
+
+    /// Puts the word of MSI-X's control.
+    fn put_control(&mut self, word: u32)
+        ensures { self.new ≡ record self.old { masked = has_bit word 30; enabled = has_bit word 31 } }
+    {
+        self.masked = has_bit(word, 30);
+        self.enabled = has_bit(word, 31);
+    }
+
     #[tactic(auto, unfolding(crate::specs::Writes::with_word))]
     /// Puts the word at the offset, as far as its bits can be written.
     fn put(&mut self, offset: u16, word: u32)
@@ -127,18 +158,15 @@ impl ConfigSpace {
     {
         let vectors = self.spec.has_vectors();
         if offset == 0x04 {
-            self.memory = has_bit(word, 1);
-            self.bus_master = has_bit(word, 2);
-            self.interrupts_off = has_bit(word, 10);
+            self.put_command(word);
         } else if offset == 0x10 {
             self.bar0 = word / 0x1000 * 0x1000;
         } else if offset == 0x14 && vectors {
             self.bar1 = word / 0x200 * 0x200;
         } else if offset == 0x40 {
-            self.one_shot = has_bit(word, 24);
+            self.put_privileged(word);
         } else if offset == 0x60 && vectors {
-            self.masked = has_bit(word, 30);
-            self.enabled = has_bit(word, 31);
+            self.put_control(word);
         }
     }
 

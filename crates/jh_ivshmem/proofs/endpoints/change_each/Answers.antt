@@ -1,10 +1,7 @@
-use Rattle.std.proofs.Common.{◌≡◌, ◌+◌, ◌<◌, ◌≤◌, ℕ, true, false, List, length, arith, refl, sym, ◌∙◌, ap, subst, vec_capacity, set}
+use Rattle.std.proofs.Common.{◌<◌, ◌≤◌, length, arith, sym, ◌∙◌, ap, subst}
 use Rattle.std.proofs.lemmas.List.{length-map}
-use Rattle.jh_ivshmem.specs.declared.endpoint.Endpoint.{Endpoint}
-use Rattle.jh_ivshmem.specs.declared.key.Key.{Key}
 use Rattle.jh_ivshmem.specs.Keys.{key_of, IsSound}
-use Rattle.jh_ivshmem.specs.Changes.{after}
-use Rattle.jh_ivshmem.proofs.LoopLemmas.{Changes, step_meant, step_other, at_end, sound_at, meant_at}
+use Rattle.jh_ivshmem.proofs.LoopLemmas.{step_meant, step_other, at_end, sound_at, meant_at}
 use Rattle.jh_ivshmem.proofs.ChangeLemmas.{after-sound}
 use Rattle.jh_ivshmem.proofs.endpoints.change_each.Goals as goal
 use Rattle.jh_ivshmem.proofs.endpoints.change_each.Goals.{then-is_meant, else-is_meant}

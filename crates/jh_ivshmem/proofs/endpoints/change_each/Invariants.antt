@@ -1,5 +1,4 @@
-use Rattle.std.proofs.Common.{◌≡◌, ◌≤◌, ◌++◌, length, map, take, drop, vec_capacity}
-use Rattle.jh_ivshmem.specs.Keys.{AreKept}
+use Rattle.std.proofs.Common.{◌≡◌, vec_capacity}
 use Rattle.jh_ivshmem.proofs.LoopLemmas.{Changes}
 use Rattle.jh_ivshmem.proofs.endpoints.change_each.Given as goal
 

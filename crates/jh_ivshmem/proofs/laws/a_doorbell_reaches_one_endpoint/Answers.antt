@@ -1,4 +1,4 @@
-use Rattle.std.proofs.Common.{◌≡◌, List, AllPairs, map, ap, subst}
+use Rattle.std.proofs.Common.{List, AllPairs, map, ap, subst}
 use Rattle.jh_ivshmem.specs.declared.endpoint.Endpoint.{Endpoint}
 use Rattle.jh_ivshmem.specs.Specs.{is_peer, AreApart}
 use Rattle.jh_ivshmem.specs.Endpoint.{raised}

@@ -1,5 +1,5 @@
-use Rattle.std.proofs.Common.{◌≡◌, ◌<◌, ℕ, Bool, true, false, ◌==◌, List, Some, AllPairs, map, length, get_or, set, inl, inr, refl, sym, ◌∙◌, ap, subst, arith}
-use Rattle.std.specs.List.{slice_get, position_or_len}
+use Rattle.std.proofs.Common.{◌≡◌, ℕ, true, ◌==◌, List, Some, AllPairs, map, set, refl, sym, ◌∙◌, ap, subst, arith}
+use Rattle.std.specs.List.{position_or_len}
 use Rattle.std.proofs.lemmas.Bool.Decides.{nat_tests}
 use Rattle.std.proofs.lemmas.List.{set-get_or}
 use Rattle.std.proofs.lemmas.List.Folds.{find_at}
@@ -10,7 +10,6 @@ use Rattle.jh_ivshmem.specs.Changes.{changed}
 use Rattle.jh_ivshmem.specs.Links.{written, told_of, endpoint_at}
 use Rattle.jh_ivshmem.specs.Seen.{Seen}
 use Rattle.jh_ivshmem.proofs.ApartLemmas.{set-device}
-use Rattle.jh_ivshmem.proofs.NamedLemmas.{passes, named-cell, named-device}
 use Rattle.jh_ivshmem.proofs.laws.the_same_state_changes_nothing.Goals as goal
 
 same_number : (n : ℕ) → (n == n) ≡ true

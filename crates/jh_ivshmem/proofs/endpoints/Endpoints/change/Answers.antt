@@ -1,15 +1,33 @@
-use Rattle.std.proofs.Common.{◌≡◌, ◌-◌, min, length, arith, ap}
+use Rattle.std.proofs.Common.{length, arith, ap}
 use Rattle.std.proofs.lemmas.List.{length-map}
-use Rattle.jh_ivshmem.specs.Changes.{changed, is_meant, after}
+use Rattle.jh_ivshmem.specs.Changes.{is_meant, after}
+use Rattle.jh_ivshmem.specs.Specs.{is_device}
 use Rattle.jh_ivshmem.specs.Keys.{key_of}
 use Rattle.jh_ivshmem.specs.Seen.{Seen}
 use Rattle.jh_ivshmem.proofs.NamedLemmas.{length-changed}
 use Rattle.jh_ivshmem.proofs.endpoints.Endpoints.change.Goals as goal
 
-pub returns-clause-spare : goal.returns-clause-spare
-returns-clause-spare c =
-    let old = c.self.inside in
-    let new = c.change_each.new in
+pub returns-in-Device-clause-spare : goal.returns-in-Device-clause-spare
+returns-in-Device-clause-spare c =
+    omega (
+      arith,
+      ap (λ (seen : Seen). seen.spare) c.self.view_is,
+      c.change_one.ensures.room,
+      c.change_one.ensures.key_room,
+      ap length c.change_one.ensures.list,
+      length-changed (is_device c.in-Device.cell c.in-Device.device) (after c.args.change) c.self.inside.endpoints.items,
+      ap length c.self.invariant.keys,
+      length-map c.self.inside.endpoints.items key_of,
+      ap length c.change_one.ensures.kept.keys,
+      length-map c.change_one.new.endpoints.items key_of,
+      c.self.inside.endpoints.ok.0,
+      c.self.inside.keys.ok.0,
+      c.change_one.new.endpoints.ok.0,
+      c.change_one.new.keys.ok.0,
+    )
+
+pub returns-in_default-clause-spare : goal.returns-in_default-clause-spare
+returns-in_default-clause-spare c =
     omega (
       arith,
       ap (λ (seen : Seen). seen.spare) c.self.view_is,

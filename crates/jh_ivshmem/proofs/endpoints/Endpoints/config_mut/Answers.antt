@@ -1,4 +1,4 @@
-use Rattle.std.proofs.Common.{◌≡◌, ◌<◌, ℕ, List, Some, length, get_or, set, refl, sym, ◌∙◌, ap, subst}
+use Rattle.std.proofs.Common.{◌≡◌, List, Some, length, set, refl, sym, ◌∙◌, ap}
 use Rattle.std.proofs.lemmas.Option.{slice_get_read}
 use Rattle.jh_vpci.specs.Space.{Space}
 use Rattle.jh_ivshmem.specs.declared.endpoint.Endpoint.{Endpoint}
@@ -9,6 +9,7 @@ use Rattle.jh_ivshmem.specs.Seen.{Seen}
 use Rattle.jh_ivshmem.specs.Links.{endpoint_at}
 use Rattle.jh_ivshmem.specs.Lending.{with_space}
 use Rattle.jh_ivshmem.proofs.ApartLemmas.{set-device}
+use Rattle.jh_ivshmem.proofs.BesidesLemmas.{besides-changed}
 use Rattle.jh_ivshmem.proofs.KeyLemmas.{kept-space}
 use Rattle.jh_ivshmem.proofs.LoopLemmas.{sound_at}
 use Rattle.jh_ivshmem.proofs.NamedLemmas.{passes, same_found}
@@ -45,5 +46,5 @@ returns c = (
     λ w. ap (λ (list : List Endpoint). record (the_view c.self.inside) { list = list }) (listed c w)
         ∙ ap (λ (seen : Seen). with_space c.args.cell c.args.device w seen) c.self.view_is,
   ),
-  record { value = λ e named. ap (λ (o : Endpoint). o.space) (same_found c.args.cell c.args.device c.args.self.now.list e c.index_mut-endpoint.result.now named (found c)); writes_back = tt },
+  record { value = λ e named. ap (λ (o : Endpoint). o.space) (same_found c.args.cell c.args.device c.args.self.now.list e c.index_mut-endpoint.result.now named (found c)); others = λ space. besides-changed (is_device c.args.cell c.args.device) (is_device c.args.cell c.args.device) (λ (e : Endpoint). record e { space = space }) (λ e. refl) (λ s h. h) c.args.self.now.list; writes_back = tt },
 )

@@ -1,21 +1,41 @@
-use Rattle.std.proofs.Common.{◌≡◌, ◌++◌, ◌∷◌, [], List, All, refl, sym, ◌∙◌, ap, subst}
+use Rattle.std.proofs.Common.{◌≤◌, List, All, length, refl, sym, ◌∙◌, ap, subst}
+use Rattle.std.specs.List.{insert}
 use Rattle.jh_ivshmem.specs.declared.endpoint.Endpoint.{Endpoint}
-use Rattle.jh_ivshmem.specs.declared.spec.EndpointSpec.{EndpointSpec}
-use Rattle.jh_ivshmem.specs.Specs.{AreApart}
+use Rattle.jh_ivshmem.specs.declared.key.Key.{Key}
+use Rattle.jh_ivshmem.specs.Specs.{AreApart, is_device}
 use Rattle.jh_ivshmem.specs.Seen.{Seen}
-use Rattle.jh_ivshmem.specs.Keys.{IsSound}
-use Rattle.jh_ivshmem.proofs.KeyLemmas.{kept-joined}
+use Rattle.jh_ivshmem.specs.Keys.{AreInOrder}
+use Rattle.jh_ivshmem.specs.Links.{besides, joined}
+use Rattle.jh_ivshmem.proofs.BesidesLemmas.{besides-joined, own_device}
+use Rattle.jh_ivshmem.proofs.OrderLemmas.{IsPlace, Joins, joins, keys_in_order}
 use Rattle.jh_ivshmem.proofs.endpoints.Endpoints.join.Goals as goal
 
-pub invariant_of-self-2 : goal.invariant_of-self-2
-invariant_of-self-2 c =
-    kept-joined c.self.inside.endpoints.items c.push_reserved.new.self.items c.self.inside.keys.items
-    c.push_reserved-2.new.self.items c.new-endpoint.result c.of-key.result c.self.invariant
-    (c.push_reserved.ensures.items ∙ ap (λ l. l ++ c.new-endpoint.result ∷ []) c.in_ok-make_room.ensures.items)
-    (c.push_reserved-2.ensures.items ∙ ap (λ l. l ++ c.of-key.result ∷ []) c.in_ok-make_room-2.ensures.items)
-    c.of-key.ensures
-    (subst IsSound (sym c.new-endpoint.ensures) (record { vectors = refl; within = c.requires.within }))
-    (subst (λ (s : EndpointSpec). All (λ (o : Endpoint). AreApart o.spec s) c.self.inside.endpoints.items)
-    (sym (ap (λ (e : Endpoint). e.spec) c.new-endpoint.ensures))
+pub place_before-place-requires : goal.place_before-place-requires
+place_before-place-requires c =
+    subst AreInOrder (sym (c.deref.ensures.value ∙ c.in_ok-make_room-2.ensures.items))
+    (keys_in_order c.self.inside.endpoints.items c.self.inside.keys.items c.self.invariant)
+
+joining : (c : goal.After-put-2) → Joins c.args.s c.self.inside.endpoints.items c.put.new.list.items c.put-2.new.list.items
+joining c =
+    let keys = c.deref.ensures.value ∙ c.in_ok-make_room-2.ensures.items in
+    joins c.args.s c.self.inside.endpoints.items c.put.new.list.items c.self.inside.keys.items c.put-2.new.list.items
+    c.new-endpoint.result c.of-key.result c.place_before-place.result c.self.invariant
+    (subst (λ (l : List Key). c.place_before-place.result ≤ length l) keys c.place_before-place.ensures.bound)
+    (subst (λ (l : List Key). IsPlace c.args.s.cell c.args.s.device l c.place_before-place.result) keys c.place_before-place.ensures.place)
+    c.new-endpoint.ensures c.of-key.ensures
+    (c.put.ensures.items ∙ ap (λ (l : List Endpoint). insert l c.place_before-place.result c.new-endpoint.result) c.in_ok-make_room.ensures.items)
+    (c.put-2.ensures.items ∙ ap (λ (l : List Key). insert l c.place_before-place.result c.of-key.result) c.in_ok-make_room-2.ensures.items)
+    (record { vectors = refl; within = c.requires.within })
     (subst (λ (list : List Endpoint). All (λ (o : Endpoint). AreApart o.spec c.args.s) list)
-    (sym (ap (λ (seen : Seen). seen.list) c.self.view_is)) c.requires.new))
+    (sym (ap (λ (seen : Seen). seen.list) c.self.view_is)) c.requires.new)
+
+pub invariant_of-self-2 : goal.invariant_of-self-2
+invariant_of-self-2 c = (joining c).kept
+
+pub returns-clause-ok : goal.returns-clause-ok
+returns-clause-ok c = (joining c).list ∙ ap (joined c.args.s) (ap (λ (seen : Seen). seen.list) c.self.view_is)
+
+pub returns-clause-others : goal.returns-clause-others
+returns-clause-others c =
+    ap (besides (is_device c.args.s.cell c.args.s.device)) (returns-clause-ok c)
+    ∙ besides-joined (is_device c.args.s.cell c.args.s.device) c.args.s (own_device c.args.s) c.args.self.now.list

@@ -1,12 +1,13 @@
-use Rattle.std.proofs.Common.{◌≡◌, ℕ, List, filter, not, refl, sym, ◌∙◌, ap, subst}
+use Rattle.std.proofs.Common.{◌≡◌, filter, not, refl, sym, ◌∙◌, ap, subst}
 use Rattle.jh_ivshmem.specs.declared.change.Whom.TheVariants.{Device}
 use Rattle.jh_ivshmem.specs.declared.endpoint.Endpoint.{Endpoint}
 use Rattle.jh_ivshmem.specs.declared.spec.EndpointSpec.{EndpointSpec}
 use Rattle.jh_ivshmem.specs.declared.key.Key.{Key}
-use Rattle.jh_ivshmem.specs.Specs.{is_device}
+use Rattle.jh_ivshmem.specs.Specs.{is_device, is_concerned}
 use Rattle.jh_ivshmem.specs.Seen.{Seen}
 use Rattle.jh_ivshmem.specs.Keys.{AreKept, is_key_meant}
-use Rattle.jh_ivshmem.specs.Links.{told_of}
+use Rattle.jh_ivshmem.specs.Links.{told_of, besides}
+use Rattle.jh_ivshmem.proofs.BesidesLemmas.{besides-left}
 use Rattle.jh_ivshmem.proofs.KeyLemmas.{kept-filter}
 use Rattle.jh_ivshmem.proofs.NamedLemmas.{by_own_name}
 use Rattle.jh_ivshmem.proofs.endpoints.Endpoints.leave.Goals as goal
@@ -30,3 +31,6 @@ returns-clause-list c = λ e named.
     (c.drop_endpoint.ensures.list
     ∙ ap (filter (λ (o : Endpoint). not (is_device c.args.cell c.args.device o.spec)))
     (ap (λ (seen : Seen). seen.list) c.self.view_is ∙ c.tell-slot.ensures.list e named))
+
+pub returns-clause-others : goal.returns-clause-others
+returns-clause-others c = λ e named. ap (besides (is_concerned e.spec)) (returns-clause-list c e named) ∙ besides-left e c.args.self.now.list

@@ -1,4 +1,4 @@
-use Rattle.std.proofs.Common.{◌≡◌, ℕ, List, None, fold, refl, sym, ◌∙◌, ap}
+use Rattle.std.proofs.Common.{None, fold, ◌∙◌, ap}
 use Rattle.std.proofs.lemmas.List.Folds.{fold-map}
 use Rattle.jh_ivshmem.specs.declared.key.Key.{Key}
 use Rattle.jh_ivshmem.specs.Keys.{key_of, pending_by}

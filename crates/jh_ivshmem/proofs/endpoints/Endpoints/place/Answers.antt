@@ -1,13 +1,12 @@
-use Rattle.std.proofs.Common.{◌≡◌, ◌<◌, ◌≤◌, ℕ, List, Some, None, IsSome, position, find, map, length, arith, refl, sym, ◌∙◌, ap, subst}
+use Rattle.std.proofs.Common.{◌≡◌, ◌<◌, ℕ, List, Some, None, IsSome, position, map, length, sym, ◌∙◌, ap, subst}
 use Rattle.std.specs.List.{slice_get}
-use Rattle.std.proofs.lemmas.List.{length-map}
-use Rattle.std.proofs.lemmas.List.Quantifiers.{position-Some}
 use Rattle.jh_ivshmem.specs.declared.change.Whom.TheVariants.{Device}
 use Rattle.jh_ivshmem.specs.declared.endpoint.Endpoint.{Endpoint}
 use Rattle.jh_ivshmem.specs.Seen.{Seen}
 use Rattle.jh_ivshmem.specs.Links.{endpoint_at}
-use Rattle.jh_ivshmem.specs.Keys.{key_of, is_key_meant}
+use Rattle.jh_ivshmem.specs.Keys.{key_of, is_key_meant, AreInOrder}
 use Rattle.jh_ivshmem.proofs.KeyLemmas.{found_place, found_none, found_within}
+use Rattle.jh_ivshmem.proofs.OrderLemmas.{keys_in_order}
 use Rattle.jh_ivshmem.proofs.endpoints.Endpoints.place.Goals as goal
 
 absurd_some : IsSome {T = Endpoint} None → ⊥
@@ -42,3 +41,7 @@ returns-clause-bound c =
     subst (λ (list : List Endpoint). c.in-Some.i < length list)
     (ap (λ (seen : Seen). seen.list) c.self.view_is)
     (found_within (Device c.args.cell c.args.device) c.self.inside.endpoints.items c.in-Some.i (found c))
+
+pub place_of-requires : goal.place_of-requires
+place_of-requires c =
+    subst AreInOrder (sym c.deref.ensures.value) (keys_in_order c.self.inside.endpoints.items c.self.inside.keys.items c.self.invariant)

@@ -1,9 +1,9 @@
-use Rattle.std.proofs.Common.{◌≡◌, ℕ, List, refl, sym, ◌∙◌, ap}
-use Rattle.jh_ivshmem.specs.declared.endpoint.Endpoint.{Endpoint}
-use Rattle.jh_ivshmem.specs.Specs.{is_device}
+use Rattle.std.proofs.Common.{◌≡◌, ◌∙◌, ap}
+use Rattle.jh_ivshmem.specs.Specs.{is_device, is_concerned}
 use Rattle.jh_ivshmem.specs.Endpoint.{cleared}
 use Rattle.jh_ivshmem.specs.Changes.{changed}
-use Rattle.jh_ivshmem.specs.Links.{told_of}
+use Rattle.jh_ivshmem.specs.Links.{told_of, besides}
+use Rattle.jh_ivshmem.proofs.BesidesLemmas.{besides-reset}
 use Rattle.jh_ivshmem.proofs.NamedLemmas.{by_own_name}
 use Rattle.jh_ivshmem.proofs.endpoints.Endpoints.reset.Goals as goal
 
@@ -12,3 +12,6 @@ returns-clause-list c = λ e named.
     by_own_name (λ cell device. c.change.new.self.list ≡ changed (is_device cell device) cleared (told_of e 0 c.args.self.now.list))
     c.args.cell c.args.device c.args.self.now.list e named
     (c.change.ensures.list ∙ ap (changed (is_device c.args.cell c.args.device) cleared) (c.tell-slot.ensures.list e named))
+
+pub returns-clause-others : goal.returns-clause-others
+returns-clause-others c = λ e named. ap (besides (is_concerned e.spec)) (returns-clause-list c e named) ∙ besides-reset e c.args.self.now.list

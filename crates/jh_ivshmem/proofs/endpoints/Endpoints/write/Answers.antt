@@ -1,12 +1,13 @@
-use Rattle.std.proofs.Common.{◌≡◌, ◌/◌, ◌%◌, ◌^◌, ◌&&◌, ◌==◌, Bool, true, false, not, ℕ, List, Option, None, Some, if◌then◌else◌, refl, sym, ◌∙◌, ap, inl, inr, arith}
+use Rattle.std.proofs.Common.{◌≡◌, ◌/◌, ◌%◌, ◌^◌, ◌&&◌, ◌==◌, Bool, true, false, not, ℕ, List, None, Some, if◌then◌else◌, refl, sym, ◌∙◌, ap, inl, inr, arith}
 use Rattle.std.proofs.lemmas.Bool.{cases_eq}
 use Rattle.std.proofs.lemmas.Bool.Decides.{nat_tests}
 use Rattle.jh_ivshmem.specs.declared.endpoint.Endpoint.{Endpoint}
 use Rattle.jh_ivshmem.specs.declared.spec.Slot.{Slot}
-use Rattle.jh_ivshmem.specs.Specs.{is_device, slot_of}
+use Rattle.jh_ivshmem.specs.Specs.{is_device, is_concerned, slot_of}
 use Rattle.jh_ivshmem.specs.Registers.{register_written}
 use Rattle.jh_ivshmem.specs.Changes.{changed}
-use Rattle.jh_ivshmem.specs.Links.{written, slot_written, rung, state_written}
+use Rattle.jh_ivshmem.specs.Links.{written, slot_written, rung, state_written, besides}
+use Rattle.jh_ivshmem.proofs.BesidesLemmas.{besides-written}
 use Rattle.jh_ivshmem.proofs.NamedLemmas.{by_own_name}
 use Rattle.jh_ivshmem.proofs.endpoints.Endpoints.write.Goals as goal
 
@@ -90,3 +91,18 @@ returns-else-is_state-clause-list c = λ e named.
 pub returns-else-is_state-clause-slot : goal.returns-else-is_state-clause-slot
 returns-else-is_state-clause-slot c = λ e named.
     sym (no_slot e c.args.bar c.args.at c.args.value (sym c.is_state.ensures ∙ c.if-is_state.false))
+
+pub returns-then-is_doorbell-clause-others : goal.returns-then-is_doorbell-clause-others
+returns-then-is_doorbell-clause-others c = λ e named.
+    ap (besides (is_concerned e.spec)) (returns-then-is_doorbell-clause-list c e named)
+    ∙ besides-written e c.args.bar c.args.at c.args.value c.args.self.now.list
+
+pub returns-then-is_state-clause-others : goal.returns-then-is_state-clause-others
+returns-then-is_state-clause-others c = λ e named.
+    ap (besides (is_concerned e.spec)) (returns-then-is_state-clause-list c e named)
+    ∙ besides-written e c.args.bar c.args.at c.args.value c.args.self.now.list
+
+pub returns-else-is_state-clause-others : goal.returns-else-is_state-clause-others
+returns-else-is_state-clause-others c = λ e named.
+    ap (besides (is_concerned e.spec)) (returns-else-is_state-clause-list c e named)
+    ∙ besides-written e c.args.bar c.args.at c.args.value c.args.self.now.list

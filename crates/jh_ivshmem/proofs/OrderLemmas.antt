@@ -1,0 +1,335 @@
+-- The order of endpoints, by which a device is found by halving.
+use Rattle.std.proofs.Common.{ℕ, zero, suc, ◌≡◌, ◌+◌, ◌-◌, ◌<◌, ◌≤◌, ◌⊎◌, Bool, true, false, cond, ◌&&◌, ◌||◌, ◌==◌, nat_lt, ltb, List, [], ◌∷◌, ◌++◌, length, map, take, drop, All, AllPairs, Some, None, get_or, position, inl, inr, refl, sym, ◌∙◌, ap, subst, arith}
+use Rattle.std.specs.List.{position_or_len, insert}
+use Rattle.std.specs.List.Sorted.{IsPartitionedBy, IsPartitionPoint}
+use Rattle.std.proofs.lemmas.Bool.{cases_lt, cases_eq, or_cases, and_parts, and_from, or_left, or_right, ltb-true, lt-ltb, le-ltb, eqb-true, eq-eqb, both_ways, false_from_ne_true}
+use Rattle.std.proofs.lemmas.List.{length-map, get_or-map, map-append, take-map, drop-map}
+use Rattle.std.proofs.lemmas.List.Edits.{length-insert, get_or-insert_below, get_or-insert_at, get_or-insert_above}
+use Rattle.std.proofs.lemmas.List.Elements.{All-append, All-take, All-drop}
+use Rattle.std.proofs.lemmas.List.Sums.{position_or_len_is}
+use Rattle.jh_ivshmem.specs.declared.change.Whom.TheVariants.{Device}
+use Rattle.jh_ivshmem.specs.declared.endpoint.Endpoint.{Endpoint}
+use Rattle.jh_ivshmem.specs.declared.spec.EndpointSpec.{EndpointSpec}
+use Rattle.jh_ivshmem.specs.declared.key.Key.{Key}
+use Rattle.jh_ivshmem.specs.Specs.{AreApart, ComesBefore, is_device, is_before}
+use Rattle.jh_ivshmem.specs.Endpoint.{fresh}
+use Rattle.jh_ivshmem.specs.Links.{joined}
+use Rattle.jh_ivshmem.specs.Keys.{AreKept, AreInOrder, IsSound, key_of, is_key_before, is_key_meant}
+use Rattle.jh_ivshmem.proofs.ApartLemmas.{peer_turned, device_turned}
+
+-- two numbers, the first of which counts first, are lower than two others
+lower : ℕ → ℕ → ℕ → ℕ → Bool
+lower cell device c d = nat_lt c cell || ((c == cell) && nat_lt d device)
+
+lower-parts : (cell device c d : ℕ) → lower cell device c d ≡ true → (c < cell) ⊎ ((c ≡ cell) × (d < device))
+unfolding lower
+lower-parts cell device c d h =
+    elim (or_cases (nat_lt c cell) ((c == cell) && nat_lt d device) h) as (λ _. (c < cell) ⊎ ((c ≡ cell) × (d < device))) [
+      | inl first ↦ inl (ltb-true c cell first)
+      | inr second ↦
+          let both = and_parts (c == cell) (nat_lt d device) second in
+          inr (eqb-true c cell both.0, ltb-true d device both.1)
+    ]
+
+lower-first : (cell device c d : ℕ) → c < cell → lower cell device c d ≡ true
+unfolding lower
+lower-first cell device c d lt = or_left (nat_lt c cell) ((c == cell) && nat_lt d device) (lt-ltb c cell lt)
+
+lower-second : (cell device c d : ℕ) → c ≡ cell → d < device → lower cell device c d ≡ true
+unfolding lower
+lower-second cell device c d same lt =
+    or_right (nat_lt c cell) ((c == cell) && nat_lt d device) (and_from (c == cell) (nat_lt d device) (eq-eqb c cell same) (lt-ltb d device lt))
+
+lower-trans : (a b c d e f : ℕ) → lower c d a b ≡ true → lower e f c d ≡ true → lower e f a b ≡ true
+lower-trans a b c d e f one two =
+    elim (lower-parts c d a b one) as (λ _. lower e f a b ≡ true) [
+      | inl first ↦ elim (lower-parts e f c d two) as (λ _. lower e f a b ≡ true) [
+        | inl next ↦ lower-first e f a b (omega arith)
+        | inr next ↦ lower-first e f a b (let same = next.0 in omega arith)
+      ]
+      | inr first ↦ elim (lower-parts e f c d two) as (λ _. lower e f a b ≡ true) [
+        | inl next ↦ lower-first e f a b (let same = first.0 in omega arith)
+        | inr next ↦ lower-second e f a b (first.0 ∙ next.0) (let less = first.1 in let more = next.1 in omega arith)
+      ]
+    ]
+
+-- two that differ are in one order or the other
+lower-other : (a b c d : ℕ) → lower c d a b ≡ false → (a ≡ c → b ≡ d → ⊥) → lower a b c d ≡ true
+lower-other a b c d fails differ =
+    elim (cases_lt c a) as (λ _. lower a b c d ≡ true) [
+      | inl above ↦ lower-first a b c d above
+      | inr low ↦ elim (cases_lt a c) as (λ _. lower a b c d ≡ true) [
+        | inl below ↦ absurd (both_ways (lower c d a b) fails (lower-first c d a b below))
+        | inr high ↦
+            let same : a ≡ c = omega arith in
+            elim (cases_lt d b) as (λ _. lower a b c d ≡ true) [
+              | inl above ↦ lower-second a b c d (sym same) above
+              | inr less ↦ elim (cases_lt b d) as (λ _. lower a b c d ≡ true) [
+                | inl below ↦ absurd (both_ways (lower c d a b) fails (lower-second c d a b same below))
+                | inr more ↦ absurd (differ same (let equal : b ≡ d = omega arith in equal))
+              ]
+            ]
+      ]
+    ]
+
+-- what is lower has another name
+lower-differs : (cell device c d : ℕ) → lower cell device c d ≡ true → ((c == cell) && (d == device)) ≡ false
+lower-differs cell device c d h = false_from_ne_true ((c == cell) && (d == device)) (λ same.
+    let both = and_parts (c == cell) (d == device) same in
+    let cells : c ≡ cell = eqb-true c cell both.0 in
+    let devices : d ≡ device = eqb-true d device both.1 in
+    elim (lower-parts cell device c d h) as (λ _. ⊥) [
+      | inl first ↦ (let no : ⊥ = omega arith in no)
+      | inr second ↦ (let less = second.1 in let no : ⊥ = omega arith in no)
+    ])
+
+-- pairs of what a function makes of a list
+pub pairs_map : {X Y : Type 0} (f : X → Y) (S : Y → Y → Type 0) (xs : List X) → AllPairs (λ (a b : X). S (f a) (f b)) xs
+    → AllPairs S (map f xs)
+pairs_map f S [] pairs i j d before within = absurd (let no : ⊥ = omega arith in no)
+pairs_map f S (x ∷ xs) pairs zero zero d before within = absurd (let no : ⊥ = omega arith in no)
+pairs_map f S (x ∷ xs) pairs (suc i) zero d before within = absurd (let no : ⊥ = omega arith in no)
+pairs_map f S (x ∷ xs) pairs zero (suc j) d before within =
+    let counted = length-map xs f in
+    let inside : j < length xs = omega arith in
+    let there : suc j < length (x ∷ xs) = omega arith in
+    subst (S (f x)) (sym (get_or-map f xs j x d inside)) (pairs zero (suc j) x (omega arith) there)
+pairs_map f S (x ∷ xs) pairs (suc i) (suc j) d before within =
+    pairs_map f S xs (λ a b e lt inside. pairs (suc a) (suc b) e (omega arith) (omega arith)) i j d (omega arith) (omega arith)
+
+-- and of the list from those
+pub pairs_of : {X Y : Type 0} (f : X → Y) (S : Y → Y → Type 0) (xs : List X) → AllPairs S (map f xs)
+    → AllPairs (λ (a b : X). S (f a) (f b)) xs
+pairs_of f S xs pairs i j d before within =
+    let counted = length-map xs f in
+    let first : i < length xs = omega arith in
+    let inside : j < length (map f xs) = omega arith in
+    subst (λ y. S y (f (get_or xs j d))) (get_or-map f xs i d (f d) first)
+    (subst (S (get_or (map f xs) i (f d))) (get_or-map f xs j d (f d) within) (pairs i j (f d) before inside))
+
+-- one more between those before it and those behind it
+pub pairs_insert : {X : Type 0} (R : X → X → Type 0) (xs : List X) (i : ℕ) (y : X) → i ≤ length xs → AllPairs R xs
+    → ((k : ℕ) (d : X) → k < i → R (get_or xs k d) y) → ((k : ℕ) (d : X) → i ≤ k → k < length xs → R y (get_or xs k d))
+    → AllPairs R (insert xs i y)
+pairs_insert R xs i y bound pairs ahead behind a b d before within =
+    let counted = length-insert xs i y bound in
+    elim (cases_lt b i) as (λ _. R (get_or (insert xs i y) a d) (get_or (insert xs i y) b d)) [
+      | inl low ↦
+          let first : a < i = omega arith in
+          let inside : b < length xs = omega arith in
+          subst (λ z. R z (get_or (insert xs i y) b d)) (sym (get_or-insert_below xs i y d a first bound))
+          (subst (R (get_or xs a d)) (sym (get_or-insert_below xs i y d b low bound)) (pairs a b d before inside))
+      | inr high ↦ elim (cases_eq b i) as (λ _. R (get_or (insert xs i y) a d) (get_or (insert xs i y) b d)) [
+        | inl same ↦
+            let first : a < i = omega arith in
+            subst (λ z. R z (get_or (insert xs i y) b d)) (sym (get_or-insert_below xs i y d a first bound))
+            (subst (R (get_or xs a d)) (sym (ap (λ n. get_or (insert xs i y) n d) same ∙ get_or-insert_at xs i y d bound))
+            (ahead a d first))
+        | inr other ↦
+            let past : i ≤ b - 1 = omega arith in
+            let inside : b - 1 < length xs = omega arith in
+            let back : b - 1 + 1 ≡ b = omega arith in
+            let last : get_or (insert xs i y) b d ≡ get_or xs (b - 1) d =
+            ap (λ n. get_or (insert xs i y) n d) (sym back) ∙ get_or-insert_above xs i y d (b - 1) past bound in
+            subst (R (get_or (insert xs i y) a d)) (sym last) (elim (cases_lt a i) as (λ _. R (get_or (insert xs i y) a d) (get_or xs (b - 1) d)) [
+              | inl first ↦
+                  let earlier : a < b - 1 = omega arith in
+                  subst (λ z. R z (get_or xs (b - 1) d)) (sym (get_or-insert_below xs i y d a first bound)) (pairs a (b - 1) d earlier inside)
+              | inr later ↦ elim (cases_eq a i) as (λ _. R (get_or (insert xs i y) a d) (get_or xs (b - 1) d)) [
+                | inl here ↦
+                    subst (λ z. R z (get_or xs (b - 1) d)) (sym (ap (λ n. get_or (insert xs i y) n d) here ∙ get_or-insert_at xs i y d bound))
+                    (behind (b - 1) d past inside)
+                | inr beyond ↦
+                    let after : i ≤ a - 1 = omega arith in
+                    let again : a - 1 + 1 ≡ a = omega arith in
+                    let earlier : a - 1 < b - 1 = omega arith in
+                    subst (λ z. R z (get_or xs (b - 1) d))
+                    (sym (ap (λ n. get_or (insert xs i y) n d) (sym again) ∙ get_or-insert_above xs i y d (a - 1) after bound))
+                    (pairs (a - 1) (b - 1) d earlier inside)
+              ]
+            ])
+      ]
+    ]
+
+-- the first that passes, where none before does, and none where none passes
+position_here : {X : Type 0} (p : X → Bool) (xs : List X) (k : ℕ) (d : X) → k < length xs
+    → ((j : ℕ) → j < k → p (get_or xs j d) ≡ false) → p (get_or xs k d) ≡ true → Some k ≡ position p xs
+position_here p xs k d lt before passes =
+    let first : position_or_len p xs ≡ k = position_or_len_is p xs k d (omega arith) before (λ h. passes) in
+    let test : ltb k (length xs) ≡ true = lt-ltb k (length xs) lt in
+    sym (ap (λ m. cond (ltb m (length xs)) (Some m) None) first ∙ ap (λ b. cond b (Some k) None) test)
+
+position_nowhere : {X : Type 0} (p : X → Bool) (xs : List X) (d : X) → ((j : ℕ) → j < length xs → p (get_or xs j d) ≡ false)
+    → None ≡ position p xs
+position_nowhere p xs d none =
+    let first : position_or_len p xs ≡ length xs = position_or_len_is p xs (length xs) d (omega arith) none (λ h. absurd (omega arith)) in
+    let test : ltb (length xs) (length xs) ≡ false = le-ltb (length xs) (length xs) (omega arith) in
+    sym (ap (λ m. cond (ltb m (length xs)) (Some m) None) first ∙ ap (λ b. cond b (Some (length xs)) None) test)
+
+-- the keys are in the order of the endpoints
+pub keys_in_order : (es : List Endpoint) (ks : List Key) → AreKept es ks → AreInOrder ks
+unfolding lower
+keys_in_order es ks kept =
+    subst AreInOrder (sym kept.keys)
+    (pairs_map key_of (λ (one other : Key). is_key_before other.cell other.device one ≡ true) es
+    (pairs_of (λ (o : Endpoint). o.spec) ComesBefore es kept.order))
+
+-- those before a device come first
+pub keys_partitioned : (cell device : ℕ) (ks : List Key) → AreInOrder ks → IsPartitionedBy (is_key_before cell device) ks
+unfolding lower
+keys_partitioned cell device ks order i j d le within h =
+    elim (cases_eq i j) as (λ _. is_key_before cell device (get_or ks i d) ≡ true) [
+      | inl same ↦ ap (λ n. is_key_before cell device (get_or ks n d)) same ∙ h
+      | inr other ↦
+          let before : i < j = omega arith in
+          lower-trans (get_or ks i d).cell (get_or ks i d).device (get_or ks j d).cell (get_or ks j d).device cell device
+          (order i j d before within) h
+    ]
+
+-- where so many keys stand before the device
+abbrev pub IsPlace : ℕ → ℕ → List Key → ℕ → Type 0
+IsPlace cell device ks i = IsPartitionPoint (λ (key : Key). is_key_before cell device key ≡ true) (λ (key : Key). is_key_before cell device key ≡ false) ks i
+
+pub place_found : (cell device : ℕ) (ks : List Key) (i : ℕ) (d : Key) → IsPlace cell device ks i → i < length ks
+    → is_key_meant (Device cell device) (get_or ks i d) ≡ true → Some i ≡ position (is_key_meant (Device cell device)) ks
+unfolding lower
+place_found cell device ks i d place lt meant =
+    position_here (is_key_meant (Device cell device)) ks i d lt
+    (λ j before. lower-differs cell device (get_or ks j d).cell (get_or ks j d).device (place.0 j d (omega arith) before))
+    meant
+
+-- one behind the place isn't meant where the one at the place isn't
+behind_place : (cell device : ℕ) (ks : List Key) (i j : ℕ) (d : Key) → IsPlace cell device ks i → AreInOrder ks → i < j → j < length ks
+    → is_key_meant (Device cell device) (get_or ks j d) ≡ false
+unfolding lower
+behind_place cell device ks i j d place order before within = false_from_ne_true (is_key_meant (Device cell device) (get_or ks j d)) (λ meant.
+    let both = and_parts ((get_or ks j d).cell == cell) ((get_or ks j d).device == device) meant in
+    let cells = eqb-true (get_or ks j d).cell cell both.0 in
+    let devices = eqb-true (get_or ks j d).device device both.1 in
+    let ahead : lower cell device (get_or ks i d).cell (get_or ks i d).device ≡ true =
+    sym (ap (λ n. lower n (get_or ks j d).device (get_or ks i d).cell (get_or ks i d).device) cells
+    ∙ ap (λ n. lower cell n (get_or ks i d).cell (get_or ks i d).device) devices) ∙ order i j d before within in
+    both_ways (lower cell device (get_or ks i d).cell (get_or ks i d).device) (place.1 i d (omega arith) (omega arith)) ahead)
+
+none_by : (cell device : ℕ) (ks : List Key) (i : ℕ) (d : Key) → IsPlace cell device ks i → AreInOrder ks
+    → (i < length ks → is_key_meant (Device cell device) (get_or ks i d) ≡ false) → None ≡ position (is_key_meant (Device cell device)) ks
+unfolding lower
+none_by cell device ks i d place order fails = position_nowhere (is_key_meant (Device cell device)) ks d (λ j within.
+    elim (cases_lt j i) as (λ _. is_key_meant (Device cell device) (get_or ks j d) ≡ false) [
+      | inl before ↦ lower-differs cell device (get_or ks j d).cell (get_or ks j d).device (place.0 j d (omega arith) before)
+      | inr past ↦ elim (cases_eq j i) as (λ _. is_key_meant (Device cell device) (get_or ks j d) ≡ false) [
+        | inl here ↦
+            let inside : i < length ks = omega arith in
+            ap (λ n. is_key_meant (Device cell device) (get_or ks n d)) here ∙ fails inside
+        | inr beyond ↦ let after : i < j = omega arith in behind_place cell device ks i j d place order after within
+      ]
+    ])
+
+no_key : Key
+no_key = record { cell = 0; device = 0; bdf = 0; id = 0; pending = None }
+
+-- no key is the device's where the place is past the end, or the key there isn't
+pub place_past : (cell device : ℕ) (ks : List Key) (i : ℕ) → IsPlace cell device ks i → AreInOrder ks → length ks ≤ i
+    → None ≡ position (is_key_meant (Device cell device)) ks
+place_past cell device ks i place order past = none_by cell device ks i no_key place order (λ lt. absurd (let no : ⊥ = omega arith in no))
+
+pub place_other : (cell device : ℕ) (ks : List Key) (i : ℕ) (d : Key) → IsPlace cell device ks i → AreInOrder ks
+    → is_key_meant (Device cell device) (get_or ks i d) ≡ false → None ≡ position (is_key_meant (Device cell device)) ks
+place_other cell device ks i d place order fails = none_by cell device ks i d place order (λ _. fails)
+
+-- the same place among the endpoints
+abbrev pub StandsAt : ℕ → ℕ → List Endpoint → ℕ → Type 0
+StandsAt cell device es i = IsPartitionPoint (λ (e : Endpoint). is_before cell device e.spec ≡ true) (λ (e : Endpoint). is_before cell device e.spec ≡ false) es i
+
+stands_at : (cell device : ℕ) (es : List Endpoint) (i : ℕ) → i ≤ length es → IsPlace cell device (map key_of es) i → StandsAt cell device es i
+stands_at cell device es i bound place = (
+  (λ k d low before.
+      let inside : k < length es = omega arith in
+      sym (ap (is_key_before cell device) (get_or-map key_of es k d (key_of d) inside)) ∙ place.0 k (key_of d) low before),
+  (λ k d past inside.
+      let counted = length-map es key_of in
+      let there : k < length (map key_of es) = omega arith in
+      sym (ap (is_key_before cell device) (get_or-map key_of es k d (key_of d) inside)) ∙ place.1 k (key_of d) past there),
+)
+
+-- put there, an endpoint has joined
+inserted_joins : (s : EndpointSpec) (es : List Endpoint) (i : ℕ) → i ≤ length es → StandsAt s.cell s.device es i → insert es i (fresh s) ≡ joined s es
+inserted_joins s [] zero bound place = refl
+inserted_joins s [] (suc i) bound place = absurd (let no : ⊥ = omega arith in no)
+inserted_joins s (e ∷ es) zero bound place =
+    let fails : is_before s.cell s.device e.spec ≡ false = place.1 0 e (omega arith) (omega arith) in
+    sym (ap (λ b. cond b (e ∷ joined s es) (fresh s ∷ e ∷ es)) fails)
+inserted_joins s (e ∷ es) (suc i) bound place =
+    let passes : is_before s.cell s.device e.spec ≡ true = place.0 0 e (omega arith) (omega arith) in
+    ap (λ l. e ∷ l) (inserted_joins s es i (omega arith) (
+      (λ k d low before. place.0 (suc k) d (omega arith) (omega arith)),
+      (λ k d past inside. place.1 (suc k) d (omega arith) (omega arith)),
+    ))
+    ∙ sym (ap (λ b. cond b (e ∷ joined s es) (fresh s ∷ e ∷ es)) passes)
+
+apart_turned : (a b : EndpointSpec) → AreApart a b → AreApart b a
+apart_turned a b apart = record { devices = sym (device_turned a b) ∙ apart.devices; peers = sym (peer_turned a b) ∙ apart.peers }
+
+-- of two that are apart the one comes before the other that the other doesn't come before
+comes_before : (a s : EndpointSpec) → AreApart a s → is_before s.cell s.device a ≡ false → ComesBefore s a
+unfolding lower
+comes_before a s apart fails = lower-other a.cell a.device s.cell s.device fails (λ cells devices.
+    both_ways (is_device a.cell a.device s) apart.devices
+    (and_from (s.cell == a.cell) (s.device == a.device) (eq-eqb s.cell a.cell (sym cells)) (eq-eqb s.device a.device (sym devices))))
+
+one_sound : (e : Endpoint) → IsSound e → All IsSound (e ∷ [])
+one_sound e sound zero d lt = sound
+one_sound e sound (suc k) d lt = absurd (let no : ⊥ = omega arith in no)
+
+sound_insert : (es : List Endpoint) (i : ℕ) (e : Endpoint) → All IsSound es → IsSound e → All IsSound (insert es i e)
+sound_insert es i e all sound =
+    subst (All IsSound) (two_appends (take i es) e (drop i es))
+    (All-append IsSound (take i es) (e ∷ [] ++ drop i es) (All-take IsSound i es all) (All-append IsSound (e ∷ []) (drop i es) (one_sound e sound) (All-drop IsSound i es all)))
+  where
+    two_appends : (xs : List Endpoint) (y : Endpoint) (ys : List Endpoint) → xs ++ (y ∷ [] ++ ys) ≡ xs ++ y ∷ ys
+    two_appends xs y ys = refl
+
+keys_insert : (es : List Endpoint) (i : ℕ) (e : Endpoint) → insert (map key_of es) i (key_of e) ≡ map key_of (insert es i e)
+keys_insert es i e =
+    ap (λ l. l ++ key_of e ∷ drop i (map key_of es)) (take-map key_of i es)
+    ∙ ap (λ l. map key_of (take i es) ++ key_of e ∷ l) (drop-map key_of i es)
+    ∙ sym (map-append key_of (take i es) (e ∷ drop i es))
+
+-- an endpoint that is apart from all is put where it belongs
+pub kept-insert : (s : EndpointSpec) (es : List Endpoint) (i : ℕ) → i ≤ length es → AreKept es (map key_of es) → StandsAt s.cell s.device es i
+    → IsSound (fresh s) → All (λ (o : Endpoint). AreApart o.spec s) es → AreKept (insert es i (fresh s)) (insert (map key_of es) i (key_of (fresh s)))
+kept-insert s es i bound kept place sound new = record {
+  keys = keys_insert es i (fresh s);
+  sound = sound_insert es i (fresh s) kept.sound sound;
+  apart = pairs_map (λ (o : Endpoint). o.spec) AreApart (insert es i (fresh s))
+      (pairs_insert (λ (a b : Endpoint). AreApart a.spec b.spec) es i (fresh s) bound (pairs_of (λ (o : Endpoint). o.spec) AreApart es kept.apart)
+      (λ k d before. let inside : k < length es = omega arith in new k d inside)
+      (λ k d past inside. apart_turned (get_or es k d).spec s (new k d inside)));
+  order = pairs_map (λ (o : Endpoint). o.spec) ComesBefore (insert es i (fresh s))
+      (pairs_insert (λ (a b : Endpoint). ComesBefore a.spec b.spec) es i (fresh s) bound (pairs_of (λ (o : Endpoint). o.spec) ComesBefore es kept.order)
+      (λ k d before. place.0 k d (omega arith) before)
+      (λ k d past inside. comes_before (get_or es k d).spec s (new k d inside) (place.1 k d past inside)));
+}
+
+-- the same for what a call has put
+pub record Joins (s : EndpointSpec) (es now : List Endpoint) (keys : List Key) : Type 0 where
+  pub list : now ≡ joined s es
+  pub kept : AreKept now keys
+
+pub joins : (s : EndpointSpec) (es now : List Endpoint) (ks keys : List Key) (e : Endpoint) (key : Key) (i : ℕ) → AreKept es ks → i ≤ length ks
+    → IsPlace s.cell s.device ks i → e ≡ fresh s → key ≡ key_of e → now ≡ insert es i e → keys ≡ insert ks i key
+    → IsSound (fresh s) → All (λ (o : Endpoint). AreApart o.spec s) es → Joins s es now keys
+joins s es now ks keys e key i kept bound place is_e is_key put keyed sound new =
+    let counted = length-map es key_of in
+    let lengths = ap length kept.keys in
+    let inside : i ≤ length es = omega arith in
+    let stands : StandsAt s.cell s.device es i = stands_at s.cell s.device es i inside (subst (λ l. IsPlace s.cell s.device l i) kept.keys place) in
+    let own : AreKept es (map key_of es) = subst (AreKept es) kept.keys kept in
+    let all = kept-insert s es i inside own stands sound new in
+    let put_fresh : now ≡ insert es i (fresh s) = put ∙ ap (insert es i) is_e in
+    let keyed_fresh : keys ≡ insert (map key_of es) i (key_of (fresh s)) =
+    keyed ∙ ap (λ l. insert l i key) kept.keys ∙ ap (insert (map key_of es) i) (is_key ∙ ap key_of is_e) in
+    record {
+      list = put_fresh ∙ inserted_joins s es i inside stands;
+      kept = subst (λ l. AreKept l keys) (sym put_fresh) (subst (AreKept (insert es i (fresh s))) (sym keyed_fresh) all);
+    }
