@@ -8,7 +8,6 @@ use Rattle.std.proofs.lemmas.List.Elements.{recursion_from_All, All-from_recursi
 use Rattle.jh_history.specs.declared.place.Place.{Place}
 use Rattle.jh_history.specs.declared.place.Place.TheVariants.{Physical, Page}
 use Rattle.jh_history.specs.Places.{is_same, is_physical, further, places_in_row, with_byte, over, written}
-use Rattle.jh_history.proofs.FactsLemmas.{same_function}
 use Rattle.jh_history.proofs.PlaceLemmas.{further-none, further-next, row-next, row-end, written-over}
 use Rattle.jh_board.specs.Pages.{byte_at, byte_of, page_at, Holds, HoldsPlace}
 

@@ -1,5 +1,6 @@
 pub mod PagesLemmas
 pub mod BytesLemmas
+pub mod PieceLemmas
 pub mod MeansLemmas
 pub mod ReachesLemmas
 pub mod IndexLemmas
