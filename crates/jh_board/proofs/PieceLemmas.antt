@@ -1,10 +1,11 @@
--- Bytes of one page: read as a number, put at once, and written as a value.
-use Rattle.std.proofs.Common.{◌≡◌, ◌≢◌, ℕ, zero, suc, ◌+◌, ◌-◌, ◌*◌, ◌/◌, ◌%◌, ◌^◌, ◌<◌, ◌≤◌, List, [], ◌∷◌, ◌++◌, length, take, drop, map, get_or, cond, leb, ltb, eqb, true, false, Some, refl, sym, ◌∙◌, ap, inl, inr, arith}
-use Rattle.std.specs.Prelude.{slice_index}
+-- Bytes of one page read as a number, and lists of bytes that are stored.
+use Rattle.std.proofs.Common.{◌≡◌, ◌≢◌, ℕ, zero, suc, ◌+◌, ◌-◌, ◌*◌, ◌/◌, ◌%◌, ◌^◌, ◌<◌, ◌≤◌, List, [], ◌∷◌, ◌++◌, length, length-take, take, drop, map, get_or, cond, leb, ltb, eqb, true, false, Some, refl, sym, ◌∙◌, ap, inl, inr, arith}
+use Rattle.std.specs.Prelude.{min, slice_index, slice_range, ◌&&◌}
 use Rattle.std.specs.Int.{byte_at as byte_of_number, bytes_low_first}
 use Rattle.std.proofs.lemmas.Bool.{cases_eq, cases_lt, eq-eqb, ne_eqb, le-leb, lt-leb, lt-ltb, le-ltb, and_right}
 use Rattle.std.proofs.lemmas.List.{get_or-append_right, get_or_append_left, length-append}
 use Rattle.std.proofs.lemmas.Grind.{pow_more}
+use Rattle.std.proofs.Math.Seq.{take-add}
 use Rattle.std.proofs.Math.Nat.{div-div-eq-div-mul, div-one, pow-suc, pow-le-pow_right}
 use Rattle.jh_num.specs.Memory.{spelled, stored}
 use Rattle.jh_history.specs.declared.place.Place.{Place}
@@ -16,7 +17,7 @@ abbrev Pages : Type 0
 Pages = List (ℕ × List ℕ)
 
 -- the bytes at places in a row of one page
-pub row-of_page : (pages : Pages) (number offset n a : ℕ) → a ≡ number * 4096 + offset → offset + n ≤ 4096 → map (byte_of pages) (places_in_row (Physical a) n) ≡ bytes_from (byte_in (page_at pages number)) offset n
+row-of_page : (pages : Pages) (number offset n a : ℕ) → a ≡ number * 4096 + offset → offset + n ≤ 4096 → map (byte_of pages) (places_in_row (Physical a) n) ≡ bytes_from (byte_in (page_at pages number)) offset n
 row-of_page pages number offset zero a is within = refl
 row-of_page pages number offset (suc n) a is within =
     let quotient : a / 4096 ≡ number = omega arith in
@@ -25,6 +26,10 @@ row-of_page pages number offset (suc n) a is within =
     let rest : map (byte_of pages) (places_in_row (Physical (a + 1)) n) ≡ bytes_from (byte_in (page_at pages number)) (offset + 1) n = row-of_page pages number (offset + 1) n (a + 1) (omega arith) (omega arith) in
     ap (λ (b : ℕ). b ∷ map (byte_of pages) (places_in_row (Physical (a + 1)) n)) first
     ∙ ap (λ (bs : List ℕ). byte_in (page_at pages number) offset ∷ bs) rest
+
+-- so they spell what the page's bytes do
+pub spelled-of_page : (pages : Pages) (at n v : ℕ) → at % 4096 + n ≤ 4096 → v ≡ spelled (bytes_from (byte_in (page_at pages (at / 4096))) (at % 4096) n) → v ≡ spelled (map (byte_of pages) (places_in_row (Physical at) n))
+spelled-of_page pages at n v within is = is ∙ ap spelled (sym (row-of_page pages (at / 4096) (at % 4096) n at (omega arith) within))
 
 -- zeros spell nothing
 pub zeros-spell_nothing : (offset n : ℕ) → spelled (bytes_from (λ k. 0) offset n) ≡ 0
@@ -62,52 +67,8 @@ stored-before byte at bytes q below = rw (lt-leb at q below) refl
 stored-behind : (byte : ℕ → ℕ) (at : ℕ) (bytes : List ℕ) (q : ℕ) → at + length bytes ≤ q → stored byte at bytes q ≡ byte q
 stored-behind byte at bytes q above = rw (and_right (leb at q) (ltb q (at + length bytes)) (le-ltb q (at + length bytes) above)) refl
 
--- what is stored in a page is stored in memory
-stored-from : (f g : ℕ → ℕ) (base offset : ℕ) (bytes : List ℕ) (r : ℕ) → f (base + r) ≡ g r → stored g offset bytes r ≡ stored f (base + offset) bytes (base + r)
-stored-from f g base offset bytes r same = elim (cases_lt r offset) [
-  | inl before ↦ stored-before g offset bytes r before ∙ sym same ∙ sym (stored-before f (base + offset) bytes (base + r) (omega arith))
-  | inr above ↦ elim (cases_lt r (offset + length bytes)) [
-    | inl below ↦
-        let e : (base + r) - (base + offset) ≡ r - offset = omega arith in
-        stored-there g offset bytes r above below ∙ ap (slice_index bytes) (sym e) ∙ sym (stored-there f (base + offset) bytes (base + r) (omega arith) (omega arith))
-    | inr behind ↦ stored-behind g offset bytes r behind ∙ sym same ∙ sym (stored-behind f (base + offset) bytes (base + r) (omega arith))
-  ]
-]
-
--- bytes that another page has stay
-stored-elsewhere : (byte : ℕ → ℕ) (at : ℕ) (bytes : List ℕ) (q : ℕ) → at % 4096 + length bytes ≤ 4096 → q / 4096 ≢ at / 4096 → stored byte at bytes q ≡ byte q
-stored-elsewhere byte at bytes q within other = elim (cases_lt q at) [
-  | inl before ↦ stored-before byte at bytes q before
-  | inr above ↦ elim (cases_lt q (at + length bytes)) [
-    | inl below ↦ absurd (other (omega arith))
-    | inr behind ↦ stored-behind byte at bytes q behind
-  ]
-]
-
--- a page with the bytes put in it, in the place of the page that was there
-pub put-in_page : (old new : Pages) (at : ℕ) (bytes page : List ℕ) → at % 4096 + length bytes ≤ 4096
-    → page_at new (at / 4096) ≡ Some page
-    → ((k : ℕ) → slice_index page k ≡ stored (byte_in (page_at old (at / 4096))) (at % 4096) bytes k)
-    → ((n : ℕ) → n ≢ at / 4096 → page_at new n ≡ page_at old n)
-    → (q : ℕ) → byte_at new q ≡ stored (byte_at old) at bytes q
-put-in_page old new at bytes page within is holds others q = elim (cases_eq (q / 4096) (at / 4096)) [
-  | inl e ↦
-      let base = (at / 4096) * 4096 in
-      let q_is : q ≡ base + q % 4096 = omega arith in
-      let at_is : at ≡ base + at % 4096 = omega arith in
-      let number : (base + q % 4096) / 4096 ≡ at / 4096 = omega arith in
-      let offset : (base + q % 4096) % 4096 ≡ q % 4096 = omega arith in
-      let same : byte_at old (base + q % 4096) ≡ byte_in (page_at old (at / 4096)) (q % 4096) = rw (number, offset) refl in
-      let here : byte_at new q ≡ slice_index page (q % 4096) = rw (e, is) refl in
-      here ∙ holds (q % 4096)
-      ∙ stored-from (byte_at old) (byte_in (page_at old (at / 4096))) base (at % 4096) bytes (q % 4096) same
-      ∙ ap (λ (a : ℕ). stored (byte_at old) a bytes (base + q % 4096)) (sym at_is)
-      ∙ ap (stored (byte_at old) at bytes) (sym q_is)
-  | inr n ↦ ap (λ p. byte_in p (q % 4096)) (others (q / 4096) n) ∙ sym (stored-elsewhere (byte_at old) at bytes q within n)
-]
-
 -- one list behind another
-pub stored-append : (byte : ℕ → ℕ) (at : ℕ) (xs ys : List ℕ) (q : ℕ) → stored (stored byte at xs) (at + length xs) ys q ≡ stored byte at (xs ++ ys) q
+stored-append : (byte : ℕ → ℕ) (at : ℕ) (xs ys : List ℕ) (q : ℕ) → stored (stored byte at xs) (at + length xs) ys q ≡ stored byte at (xs ++ ys) q
 stored-append byte at xs ys q =
     let sum : length (xs ++ ys) ≡ length xs + length ys = length-append xs ys in
     elim (cases_lt q at) [
@@ -127,6 +88,21 @@ stored-append byte at xs ys q =
         ]
       ]
     ]
+
+-- a list that is stored in two steps
+pub stored-more : (byte middle : ℕ → ℕ) (at from upto : ℕ) (bytes : List ℕ) (q : ℕ) → from ≤ upto → upto ≤ length bytes → middle q ≡ stored byte at (take from bytes) q
+    → stored middle (at + from) (slice_range bytes from upto) q ≡ stored byte at (take upto bytes) q
+stored-more byte middle at from upto bytes q le within is =
+    let xs = take from bytes in
+    let ys = slice_range bytes from upto in
+    let shorter : length (take from bytes) ≡ min from (length bytes) = length-take from bytes in
+    let len : length (take from bytes) ≡ from = omega arith in
+    let sum : from + (upto - from) ≡ upto = omega arith in
+    ap (λ (b : ℕ). cond (leb (at + from) q && ltb q (at + from + length ys)) (slice_index ys (q - (at + from))) b) is
+    ∙ ap (λ (n : ℕ). stored (stored byte at xs) (at + n) ys q) (sym len)
+    ∙ stored-append byte at xs ys q
+    ∙ ap (λ (bs : List ℕ). stored byte at bs q) (sym (take-add from (upto - from) bytes))
+    ∙ ap (λ (n : ℕ). stored byte at (take n bytes) q) sum
 
 -- one byte before a list
 stored-first : (byte : ℕ → ℕ) (at b : ℕ) (bytes : List ℕ) (q : ℕ) → stored (λ y. cond (eqb y at) b (byte y)) (at + 1) bytes q ≡ stored byte at (b ∷ bytes) q
