@@ -1,4 +1,5 @@
 pub mod PagesLemmas
 pub mod BytesLemmas
+pub mod PieceLemmas
 pub mod MeansLemmas
 pub mod IndexLemmas

@@ -1,13 +1,13 @@
 //! Bytes at places; a page that isn't held is zero.
-ghost use Rattle.std.specs.Prelude.{◌≡◌, ◌≢◌, ℕ, ◌+◌, ◌<◌, ◌≤◌, ◌^◌, ◌++◌, OnOk, length, List, All, true};
-ghost use Rattle.jh_num.specs.Memory.{stored};
+ghost use Rattle.std.specs.Prelude.{◌≡◌, ◌≢◌, ℕ, ◌+◌, ◌%◌, ◌<◌, ◌≤◌, ◌^◌, ◌++◌, OnOk, OnErr, IfSome, length, map, List, All, true};
+ghost use Rattle.jh_num.specs.Memory.{spelled, stored};
 ghost use Rattle.jh_history.specs.declared.place.Place.{Place as ThePlace};
-ghost use Rattle.jh_history.specs.Places.{is_physical, places_of_run, IsRun, with_byte, written, over};
+ghost use Rattle.jh_history.specs.Places.{is_physical, places_in_row, places_of_run, IsRun, with_byte, written, over};
 ghost use Rattle.jh_board.specs.Pages.{byte_at, byte_of, Holds, HoldsPlace};
 
 use crate::page::Page;
 use indexmap::IndexMap;
-use jh_history::{Bytes, Place, Places, Run};
+use jh_history::{Bytes, Place, Places, Run, value_of};
 use jh_num::NoMemory;
 use std::alloc::Global;
 use std::marker::Model;
@@ -25,6 +25,33 @@ impl Model for Memory {
     ghost Value = { List (ℕ × List ℕ) };
 
     ghost view = { λ m. m.pages.entries };
+}
+
+/// So many bytes from the address on, all of one page.
+#[derive(Clone, Copy)]
+struct Piece {
+    at: u64,
+    count: usize,
+}
+
+/// The piece of memory that the places are, if they are one.
+fn piece_of(places: &Places) -> Option<Piece>
+    ensures page { IfSome result (λ piece. piece.at % 4096 + piece.count ≤ 4096) }
+    ensures few { IfSome result (λ piece. piece.count ≤ 8) }
+    ensures places { IfSome result (λ piece. places.now ≡ places_in_row (Place.Physical piece.at) piece.count) }
+{
+    let (low, high) = places.runs();
+    match low.first {
+        Place::Physical(at) => {
+            let count = usize::from(low.count);
+            if high.count == 0 && (at % 4096) as usize + count <= 4096 {
+                Some(Piece { at, count })
+            } else {
+                None
+            }
+        }
+        Place::Page { .. } => None,
+    }
 }
 
 impl Memory {
@@ -45,6 +72,46 @@ impl Memory {
             None => 0,
             Some(page) => page.get((place % 4096) as usize),
         }
+    }
+
+    /// The number that the bytes of the piece spell, the lowest first.
+    fn value_in_page(&self, piece: Piece) -> u64
+        requires page { piece.at % 4096 + piece.count ≤ 4096 }
+        requires few { piece.count ≤ 8 }
+        ensures { result ≡ spelled (map (byte_of self.now) (places_in_row (Place.Physical piece.at) piece.count)) }
+    {
+        match self.pages.get(&(piece.at / 4096)) {
+            Some(page) => page.value((piece.at % 4096) as usize, piece.count),
+            None => 0,
+        }
+    }
+
+    /// The number that the bytes at the places spell, the lowest first.
+    pub fn value(&self, places: &Places) -> u64
+        ensures { result ≡ spelled (map (byte_of self.now) places.now) }
+    {
+        match piece_of(places) {
+            Some(piece) => self.value_in_page(piece),
+            None => value_of(self, places),
+        }
+    }
+
+    /// Puts the bytes, all into the page of the first.
+    fn put(&mut self, at: u64, bytes: &[u8]) -> Result<(), NoMemory>
+        requires { at % 4096 + length bytes.now ≤ 4096 }
+        ensures ok { OnOk result ((q : ℕ) → byte_at self.new q ≡ stored (byte_at self.old) at bytes.now q) }
+        ensures err { OnErr result ((q : ℕ) → byte_at self.new q ≡ byte_at self.old q) }
+    {
+        let number = at / 4096;
+        let offset = (at % 4096) as usize;
+        if let Some(page) = self.pages.get_mut(&number) {
+            page.put(offset, bytes);
+            return Ok(());
+        }
+        let mut page = Page::zero(self.alloc)?;
+        page.put(offset, bytes);
+        self.pages.insert(number, page)?;
+        Ok(())
     }
 
     /// Holds the page of the place. No byte changes.
@@ -104,7 +171,7 @@ impl Memory {
     }
 
     /// Holds the pages of the places. No byte changes.
-    pub fn hold_places(&mut self, places: &Places) -> Result<(), NoMemory>
+    fn hold_places(&mut self, places: &Places) -> Result<(), NoMemory>
         requires { All (λ p. is_physical p ≡ true) places.now }
         ensures bytes { (q : ThePlace) → byte_of self.new q ≡ byte_of self.old q }
         ensures held { OnOk result (All (HoldsPlace self.new) places.now) }
@@ -144,7 +211,7 @@ impl Memory {
     }
 
     /// Writes the value over places that are held, the lowest byte first.
-    pub fn write_places(&mut self, places: &Places, value: u64)
+    fn write_places(&mut self, places: &Places, value: u64)
         requires { All (HoldsPlace self.old) places.now }
         ensures { (q : ThePlace) → byte_of self.new q ≡ written (byte_of self.old) places.now value q }
     {
@@ -153,15 +220,38 @@ impl Memory {
         let _rest = self.write_run(high, rest);
     }
 
+    /// Writes the value over the places, the lowest byte first.
+    pub fn write_value(&mut self, places: &Places, value: u64) -> Result<(), NoMemory>
+        requires { All (λ p. is_physical p ≡ true) places.now }
+        ensures ok { OnOk result ((q : ThePlace) → byte_of self.new q ≡ written (byte_of self.old) places.now value q) }
+        ensures err { OnErr result ((q : ThePlace) → byte_of self.new q ≡ byte_of self.old q) }
+    {
+        match piece_of(places) {
+            Some(piece) => {
+                let bytes = value.to_le_bytes();
+                self.put(piece.at, &bytes[..piece.count])?;
+                Ok(())
+            }
+            None => {
+                self.hold_places(places)?;
+                self.write_places(places, value);
+                Ok(())
+            }
+        }
+    }
+
     /// Puts the bytes from `at` on.
     pub fn store(&mut self, at: u64, bytes: &[u8]) -> Result<(), NoMemory>
         requires { at + length bytes.now < 2 ^ 64 }
         ensures { OnOk result ((q : ℕ) → byte_at self.new q ≡ stored (byte_at self.old) at bytes.now q) }
     {
-        for k in 0..bytes.len() {
-            let place = at + k as u64;
-            self.hold(place)?;
-            self.write(place, bytes[k]);
+        let mut done = 0;
+        while done < bytes.len() {
+            let from = at + done as u64;
+            let room = 4096 - (from % 4096) as usize;
+            let end = bytes.len().min(done + room);
+            self.put(from, &bytes[done..end])?;
+            done = end;
         }
         Ok(())
     }

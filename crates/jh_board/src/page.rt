@@ -1,5 +1,7 @@
 //! A page of 4,096 bytes.
-ghost use Rattle.std.specs.Prelude.{◌≡◌, ◌≢◌, ℕ, ◌+◌, ◌<◌, length, slice_index, slice_set, IfOk};
+ghost use Rattle.std.specs.Prelude.{◌≡◌, ◌≢◌, ℕ, ◌+◌, ◌<◌, ◌≤◌, length, slice_index, IfOk};
+ghost use Rattle.jh_num.specs.Memory.{spelled, stored};
+ghost use Rattle.jh_board.specs.Pages.{bytes_from};
 
 use jh_num::NoMemory;
 use std::alloc::Global;
@@ -22,10 +24,11 @@ impl Model for Page {
 }
 
 impl Page {
+    /// A page of zeros.
     pub fn zero(alloc: Global) -> Result<Self, NoMemory>
         ensures { IfOk result (λ p. (k : ℕ) → slice_index p k ≡ 0) }
     {
-        let bytes = Vec::from_slice(alloc, &[0; 4096])?;
+        let bytes = vec![in alloc; 0; 4096]?;
         Ok(Page { bytes })
     }
 
@@ -36,11 +39,32 @@ impl Page {
         self.bytes[offset]
     }
 
+    /// The number that so many bytes from the offset on spell, the lowest first.
+    pub fn value(&self, offset: usize, count: usize) -> u64
+        requires within { offset + count ≤ 4096 }
+        requires few { count ≤ 8 }
+        ensures { result ≡ spelled (bytes_from (slice_index self.now) offset count) }
+    {
+        let mut value = 0;
+        for k in (0..count).rev() {
+            value = value * 256 + u64::from(self.get(offset + k));
+        }
+        value
+    }
+
     pub fn set(&mut self, offset: usize, byte: u8)
         requires { offset < 4096 }
         ensures at { slice_index self.new offset ≡ byte }
         ensures others { (k : ℕ) → k ≢ offset → slice_index self.new k ≡ slice_index self.old k }
     {
         self.bytes[offset] = byte;
+    }
+
+    /// Puts the bytes from the offset on.
+    pub fn put(&mut self, offset: usize, bytes: &[u8])
+        requires { offset + length bytes.now ≤ 4096 }
+        ensures { (k : ℕ) → slice_index self.new k ≡ stored (slice_index self.old) offset bytes.now k }
+    {
+        self.bytes[offset..offset + bytes.len()].copy_from_slice(bytes);
     }
 }

@@ -10,7 +10,7 @@ ghost use Rattle.jh_board.specs.declared.state.NextStep.{NextStep as TheStep};
 use crate::indexed::IndexedImage;
 use crate::memory::Memory;
 use jh_cpu::Cpu;
-use jh_history::{Entry, Known, Places, Reach, Wanted, next_of, none_due, reach_of, value_of};
+use jh_history::{Entry, Known, Places, Reach, Wanted, next_of, none_due, reach_of};
 use jh_script::Op;
 use std::marker::Model;
 
@@ -57,7 +57,7 @@ impl<'a> Known for State<'a> {
     }
 
     fn value(&self, places: &Places) -> u64 {
-        value_of(self.memory, places)
+        self.memory.value(places)
     }
 }
 

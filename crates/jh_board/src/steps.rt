@@ -23,11 +23,7 @@ fn make_write(memory: &mut Memory, reach: &Reach, value: u64) -> Result<(), NoMe
     ensures err { OnErr result ((q : ThePlace) → byte_of memory.new q ≡ byte_of memory.old q) }
 {
     match reach {
-        Reach::Memory(places) => {
-            memory.hold_places(places)?;
-            memory.write_places(places, value);
-            Ok(())
-        }
+        Reach::Memory(places) => memory.write_value(places, value),
         Reach::Nothing => Ok(()),
     }
 }

@@ -2,10 +2,11 @@
 ghost use Rattle.std.specs.Prelude.{IfOk};
 ghost use Rattle.jh_history.specs.Admitted.{IsAdmitted, IsBuilt};
 
+use crate::memory::Memory;
 use crate::plain::{LIMIT, Plain};
 use crate::{Board, Turn, TurnFault};
 use jh_cellcfg::{CellConfig, Console, Region, SystemConfig};
-use jh_history::{Act, Entry, admit, is_built, is_on_board};
+use jh_history::{Act, Entry, Place, Places, Run, admit, is_built, is_on_board};
 use jh_num::{NoMemory, Seq, Steps};
 use jh_script::{Image, Op, Preload, Program};
 use std::alloc::Global;
@@ -333,6 +334,16 @@ fn a_write_over_a_border_is_read_back(rt: HostRuntime) -> Result<(), Fail> {
         got(1, 8, NEXT, Some(0x100f_0e11_2233_4455)),
     ];
     plays(&rt, rt.alloc(), case, &[], &entries)?;
+    Ok(())
+}
+
+#[test]
+fn a_store_and_a_value_go_over_the_end_of_a_page(rt: HostRuntime) -> Result<(), Fail> {
+    let mut memory = Memory::new(rt.alloc());
+    memory.store(NEXT - 3, &[1, 2, 3, 4, 5, 6, 7, 8])?;
+    let first = Place::Physical(NEXT - 3);
+    let places = Places::new(Run { first, count: 8 }, Run { first, count: 0 });
+    assert_eq!(rt; memory.value(&places), 0x0807_0605_0403_0201);
     Ok(())
 }
 
