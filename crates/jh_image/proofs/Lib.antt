@@ -1,5 +1,6 @@
 pub mod SeatLemmas
 pub mod StopLemmas
 pub mod LoadLemmas
+pub mod OrderLemmas
 pub mod OneLemmas
 pub mod UnrefusedLemmas

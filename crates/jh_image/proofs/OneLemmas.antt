@@ -14,10 +14,9 @@ use Rattle.jh_image.specs.declared.board.Listing.{Listing}
 use Rattle.jh_image.specs.declared.board.BoardFault.{BoardFault}
 use Rattle.jh_image.specs.declared.board.PreloadFile.{PreloadFile}
 use Rattle.jh_image.specs.declared.board.ProgramFile.{ProgramFile}
-use Rattle.jh_image.specs.declared.read.TheConstants.{MAX_FILE_SIZE}
 use Rattle.jh_spec.specs.Json.{IsText}
 use Rattle.jh_image.specs.Boards.{board_told, Tells}
-use Rattle.jh_image.specs.Files.{Contents, Hands, Lists, SpellsSystem, IsPreloadOf, IsProgramOf, Preloads, no_preloads, one_more_preload, Programs, no_programs, one_more_program}
+use Rattle.jh_image.specs.Files.{max_file_size, Contents, Hands, Lists, SpellsSystem, IsPreloadOf, IsProgramOf, Preloads, no_preloads, one_more_preload, Programs, no_programs, one_more_program}
 use Rattle.jh_image.specs.Images.{HasSystem, MakesImage, IsImage}
 use Rattle.jh_image.specs.Laws.{AreTold}
 
@@ -33,7 +32,7 @@ hands-one (Some None) most one other tells h k = absurd h
 hands-one (Some (Some held)) most one other tells h k = h ∙ sym k
 
 pub bytes-one : (contents : Contents) (name one other : List ℕ) → AreTold contents → Hands contents name one → Hands contents name other → one ≡ other
-bytes-one contents name one other told h k = hands-one (contents name) (MAX_FILE_SIZE + 1) one other (told name) h k
+bytes-one contents name one other told h k = hands-one (contents name) (max_file_size + 1) one other (told name) h k
 
 -- ---- the board's listing
 

@@ -10,7 +10,6 @@ use Rattle.jh_script.specs.Programs.{program_of}
 use Rattle.jh_image.specs.declared.board.Listing.{Listing}
 use Rattle.jh_image.specs.declared.board.PreloadFile.{PreloadFile}
 use Rattle.jh_image.specs.declared.board.ProgramFile.{ProgramFile}
-use Rattle.jh_image.specs.declared.read.TheConstants.{MAX_FILE_SIZE}
 use Rattle.jh_image.specs.Boards.{Tells}
 use Rattle.jh_image.specs.Opening.{IsFit}
 
@@ -18,20 +17,24 @@ use Rattle.jh_image.specs.Opening.{IsFit}
 abbrev pub Contents : Type 0
 Contents = List ℕ → Told
 
+-- the most bytes of a board and of each file that it names: 1 MiB
+abbrev pub max_file_size : ℕ
+max_file_size = 1048576
+
 -- the bytes that the file of this name hands out where one more is asked for than a file may have
 abbrev pub Hands : Contents → List ℕ → List ℕ → Type 0
-Hands contents name bytes = HandsOut (contents name) (MAX_FILE_SIZE + 1) bytes
+Hands contents name bytes = HandsOut (contents name) (max_file_size + 1) bytes
 
 -- the file hands out these bytes, and no more than a file may have
 pub record HasBytes (contents : Contents) (name bytes : List ℕ) : Type 0 where
   pub handed : Hands contents name bytes
-  pub few : length bytes ≤ MAX_FILE_SIZE
+  pub few : length bytes ≤ max_file_size
 
 -- the file has more bytes than a file may have
 pub record IsOversize (contents : Contents) (name : List ℕ) : Type 0 where
   pub bytes : List ℕ
   pub handed : Hands contents name bytes
-  pub many : MAX_FILE_SIZE < length bytes
+  pub many : max_file_size < length bytes
 
 -- the board's file lists these
 pub record Lists (contents : Contents) (board : List ℕ) (listing : Listing) : Type 0 where

@@ -1,4 +1,6 @@
 pub mod Count
+pub mod Trail
+pub mod TrailLaws
 pub mod Reads
 pub mod Refused
 pub mod Writes

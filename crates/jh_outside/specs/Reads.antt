@@ -2,6 +2,7 @@
 use Rattle.std.specs.Prelude.{◌≡◌, ℕ, List, take, ⊤, Option, None, Some, Result, Ok, Err}
 use Rattle.jh_outside.specs.declared.files.FileFault.{FileFault}
 use Rattle.jh_outside.specs.declared.files.FileFault.TheVariants.{Fault, NoMemory}
+use Rattle.jh_outside.specs.Trail.{ask_of, kept_name}
 
 -- What files tell of a name: nothing, that it is missing, or all the bytes that it holds.
 abbrev pub Told : Type 0
@@ -22,6 +23,4 @@ module _ {X : Type 0} where
 
   -- the name of the last read that answered `Fault`, after one more read
   abbrev pub failed_after : List ℕ → List ℕ → Result X FileFault → List ℕ
-  failed_after failed name (Ok _) = failed
-  failed_after failed name (Err Fault) = name
-  failed_after failed name (Err NoMemory) = failed
+  failed_after failed name result = kept_name failed (ask_of name result).name (ask_of name result).answer

@@ -1,8 +1,7 @@
 -- What files of the system keep of the reads that failed.
-use Rattle.std.specs.Prelude.{ℕ, List, Result, Ok, Err}
+use Rattle.std.specs.Prelude.{◌≡◌, ℕ, List}
 use Rattle.jh_outside.specs.Count.{counted_up}
-use Rattle.jh_outside.specs.declared.files.FileFault.{FileFault}
-use Rattle.jh_outside.specs.declared.files.FileFault.TheVariants.{Fault, NoMemory}
+use Rattle.jh_outside.specs.Trail.{Ask, Answer, Handed, Failed, Wanted}
 
 pub record Refused : Type 0 where
   pub faults : ℕ
@@ -10,7 +9,11 @@ pub record Refused : Type 0 where
   pub failed : List ℕ
 
 -- what they keep after a read of the name with this answer: each `Err` is counted
-abbrev pub refused_after : {X : Type 0} → Refused → List ℕ → Result X FileFault → Refused
-refused_after refused name (Ok _) = refused
-refused_after refused name (Err Fault) = record { faults = counted_up refused.faults; failed = name }
-refused_after refused name (Err NoMemory) = record refused { faults = counted_up refused.faults }
+abbrev pub refused_by : Refused → List ℕ → Answer → Refused
+refused_by refused name Handed = refused
+refused_by refused name Failed = record { faults = counted_up refused.faults; failed = name }
+refused_by refused name Wanted = record refused { faults = counted_up refused.faults }
+
+-- what a read of them does
+abbrev pub Refuses : Refused → Ask → Refused → Type 0
+Refuses old ask new = new ≡ refused_by old ask.name ask.answer

@@ -1,13 +1,12 @@
 -- What files in memory hold.
-use Rattle.std.specs.Prelude.{ℕ, List, if◌then◌else◌, Option, None, Some, Result, Ok, Err, refl}
+use Rattle.std.specs.Prelude.{◌≡◌, ℕ, List, if◌then◌else◌, Option, None, Some, refl}
 use Rattle.std.specs.Coded.{Coded, code_by, coded×, coded_ℕ, coded_list}
 use Rattle.std.specs.Ordering.{nat_cmp}
 use Rattle.std.specs.Cmp.Lexicographic.{slice_cmp}
 use Rattle.std.specs.FinMap as map
 use Rattle.std.specs.FinSet as set
 use Rattle.jh_outside.specs.Count.{counted_up}
-use Rattle.jh_outside.specs.declared.files.FileFault.{FileFault}
-use Rattle.jh_outside.specs.declared.files.FileFault.TheVariants.{Fault, NoMemory}
+use Rattle.jh_outside.specs.Trail.{Ask, Answer, Handed, Failed, Wanted}
 
 pub record Shelf : Type 0 where
   -- the bytes under each name
@@ -38,7 +37,11 @@ abbrev pub found_by : Shelf → List ℕ → Option (List ℕ)
 found_by shelf name = if set.contains shelf.failing shelf.reads then None else map.get shelf.files name
 
 -- the files after a read of the name with this answer
-abbrev pub after_read : {X : Type 0} → Shelf → List ℕ → Result X FileFault → Shelf
-after_read shelf name (Ok _) = record shelf { reads = counted_up shelf.reads }
-after_read shelf name (Err Fault) = record shelf { reads = counted_up shelf.reads; faults = counted_up shelf.faults; failed = name }
-after_read shelf name (Err NoMemory) = record shelf { reads = counted_up shelf.reads }
+abbrev pub shelf_after : Shelf → List ℕ → Answer → Shelf
+shelf_after shelf name Handed = record shelf { reads = counted_up shelf.reads }
+shelf_after shelf name Failed = record shelf { reads = counted_up shelf.reads; faults = counted_up shelf.faults; failed = name }
+shelf_after shelf name Wanted = record shelf { reads = counted_up shelf.reads }
+
+-- what a read of them does
+abbrev pub Serves : Shelf → Ask → Shelf → Type 0
+Serves old ask new = new ≡ shelf_after old ask.name ask.answer

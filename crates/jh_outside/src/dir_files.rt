@@ -1,8 +1,10 @@
 //! Files of the system.
-ghost use Rattle.std.specs.Prelude.{◌≡◌, ◌≤◌, [], None, length, IfOk};
+ghost use Rattle.std.specs.Prelude.{◌≡◌, ◌≤◌, ◌↔◌, [], None, length, take, IfOk, IfSome};
+ghost use Rattle.std.specs.IoError.{error_kind};
 ghost use Rattle.jh_outside.specs.Count.{Rose};
 ghost use Rattle.jh_outside.specs.Reads.{HandsOut, OnFault, failed_after};
-ghost use Rattle.jh_outside.specs.Refused.{refused_after};
+ghost use Rattle.jh_outside.specs.Refused.{Refuses};
+ghost use Rattle.jh_outside.specs.Trail.{ask_of};
 
 use crate::files::{FileFault, Files};
 use jh_num::Seq;
@@ -65,6 +67,8 @@ impl<'a, R: rt::Files> Files for DirFiles<'a, R> {
 
     ghost faults = { λ s. s.faults };
 
+    ghost asks = { Refuses };
+
     /// Each `Err` is counted, want of memory too.
     fn read(&mut self, name: &str, most: usize) -> Result<Seq<u8>, FileFault>
         ensures within { IfOk result (λ bytes. length bytes ≤ most) }
@@ -73,7 +77,7 @@ impl<'a, R: rt::Files> Files for DirFiles<'a, R> {
         ensures never_falls { self.old.faults ≤ self.new.faults }
         ensures named { self.new.failed ≡ failed_after self.old.failed name.now result }
         // exactly what it leaves
-        ensures after { self.new ≡ refused_after self.old name.now result }
+        ensures asked { Refuses self.old (ask_of name.now result) self.new }
     {
         let outcome = self.read_naming(name, most);
         if outcome.is_err() {
@@ -104,9 +108,15 @@ fn read_file<R: rt::Files>(
     read_front(alloc, &mut file, most)
 }
 
-// The first `most` bytes that the reader gives.
-fn read_front<T: Read>(alloc: Global, file: &mut T, most: usize) -> Result<Vec<u8>, FileFault>
-    ensures { IfOk result (λ bytes. length bytes.items ≤ most) }
+// The first `most` bytes that the reader has left, and all of them where it has fewer. An interrupted read
+// is tried again, and no other.
+pub(crate) fn read_front<T: Read>(
+    alloc: Global,
+    file: &mut T,
+    most: usize,
+) -> Result<Vec<u8>, FileFault>
+    ensures within { IfOk result (λ bytes. length bytes.items ≤ most) }
+    ensures front { IfOk result (λ bytes. IfSome (T.remaining file.old) (λ held. bytes.items ≡ take most held)) }
 {
     let mut buffer = [0u8; 4096];
     let mut bytes = Vec::new(alloc);
@@ -125,9 +135,13 @@ fn read_front<T: Read>(alloc: Global, file: &mut T, most: usize) -> Result<Vec<u
     Err(FileFault::Fault)
 }
 
-fn fault_of(e: Error) -> FileFault {
-    match e.kind() {
-        ErrorKind::OutOfMemory => FileFault::NoMemory,
-        _ => FileFault::Fault,
+// The system's own want of memory is want of memory, and all else is a fault.
+fn fault_of(e: Error) -> FileFault
+    ensures { (result ≡ FileFault.NoMemory) ↔ (error_kind e ≡ ErrorKind.OutOfMemory) }
+{
+    if e.kind() == ErrorKind::OutOfMemory {
+        FileFault::NoMemory
+    } else {
+        FileFault::Fault
     }
 }

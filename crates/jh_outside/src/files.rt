@@ -2,6 +2,7 @@
 ghost use Rattle.std.specs.Prelude.{◌≡◌, ℕ, ◌≤◌, List, Option, length, IfOk};
 ghost use Rattle.jh_outside.specs.Count.{Rose};
 ghost use Rattle.jh_outside.specs.Reads.{HandsOut, OnFault, failed_after};
+ghost use Rattle.jh_outside.specs.Trail.{Ask, ask_of};
 ghost use Rattle.jh_outside.specs.declared.files.FileFault.TheVariants.{NoMemory as no_memory};
 
 use jh_num::{NoMemory, Seq};
@@ -50,6 +51,9 @@ pub trait Files {
     // How many reads failed, up to 2^64 - 1.
     ghost faults: { Self → ℕ };
 
+    // What a read does to the files, by the name that is asked and what is answered.
+    ghost asks: { Self → Ask → Self → Type 0 };
+
     /// Hands out the first `most` bytes that the name holds, and all of them where it holds fewer.
     fn read(&mut self, name: &str, most: usize) -> Result<Seq<u8>, FileFault>
         ensures within { IfOk result (λ bytes. length bytes ≤ most) }
@@ -57,7 +61,8 @@ pub trait Files {
         ensures counted { OnFault result (Rose (faults self.old) (faults self.new)) }
         ensures never_falls { faults self.old ≤ faults self.new }
         ensures named { failed self.new ≡ failed_after (failed self.old) name.now result }
-        ensures kept { contents self.new ≡ contents self.old };
+        ensures kept { contents self.new ≡ contents self.old }
+        ensures asked { asks self.old (ask_of name.now result) self.new };
 
     /// The name of the last read that answered `Fault`. It is empty before the first, and no other
     /// answer changes it.

@@ -5,7 +5,8 @@ ghost use Rattle.std.specs.FinMap as map;
 ghost use Rattle.std.specs.FinSet as set;
 ghost use Rattle.jh_outside.specs.Count.{Rose};
 ghost use Rattle.jh_outside.specs.Reads.{HandsOut, OnFault, failed_after};
-ghost use Rattle.jh_outside.specs.Shelf.{told_by, found_by, after_read};
+ghost use Rattle.jh_outside.specs.Shelf.{told_by, found_by, Serves};
+ghost use Rattle.jh_outside.specs.Trail.{ask_of};
 
 use crate::files::{FileFault, Files};
 use indexmap::{IndexMap, IndexSet};
@@ -97,6 +98,8 @@ impl Files for MemFiles {
 
     ghost faults = { λ s. s.faults };
 
+    ghost asks = { Serves };
+
     fn read(&mut self, name: &str, most: usize) -> Result<Seq<u8>, FileFault>
         ensures within { IfOk result (λ bytes. length bytes ≤ most) }
         ensures handed { IfOk result (λ bytes. HandsOut (told_by self.old name.now) most bytes) }
@@ -107,7 +110,7 @@ impl Files for MemFiles {
         // exactly when it fails, and what it leaves
         ensures fails { OnFault result (found_by self.old name.now ≡ None) }
         ensures finds { IfOk result (λ bytes. option_map (take most) (found_by self.old name.now) ≡ Some bytes) }
-        ensures after { self.new ≡ after_read self.old name.now result }
+        ensures asked { Serves self.old (ask_of name.now result) self.new }
     {
         match self.found(name) {
             Some(held) => {

@@ -1,6 +1,8 @@
 //! Standard output.
-ghost use Rattle.std.specs.Prelude.{◌≡◌, ◌<◌, ◌≤◌, None, length, IfSome, IfOk, OnOk, OnErr};
+ghost use Rattle.std.specs.Prelude.{◌≡◌, ◌<◌, ◌≤◌, None, length, take, IfSome, IfOk, OnOk, OnErr};
+ghost use Rattle.std.specs.Io.KnownBytes.{Keeps, Appends};
 ghost use Rattle.jh_outside.specs.Count.{Rose, counted_up};
+ghost use Rattle.jh_outside.specs.Writes.{Took};
 
 use crate::sink::{Sink, SinkFault};
 use std::io::{ErrorKind, Stdout, Write};
@@ -44,13 +46,7 @@ impl Sink for StdSink {
         ensures ok { OnOk result (self.new ≡ self.old) }
         ensures err { OnErr result (self.new ≡ counted_up self.old) }
     {
-        match write_some(&mut self.out, piece) {
-            Some(count) => Ok(count),
-            None => {
-                self.faults = self.faults.saturating_add(1);
-                Err(SinkFault)
-            }
-        }
+        write_some(&mut self.out, piece, &mut self.faults)
     }
 
     fn faults(&self) -> u64 {
@@ -58,18 +54,51 @@ impl Sink for StdSink {
     }
 }
 
-// What one write took: at least one byte of a piece that isn't empty, or `None` where it failed.
-fn write_some<W: Write>(out: &mut W, piece: &[u8]) -> Option<usize>
-    ensures within { IfSome result (λ count. count ≤ length piece.now) }
-    ensures some { IfSome result (λ count. 0 < length piece.now → 0 < count) }
+// What one write took, which is at least one byte of a piece that isn't empty; nothing where it was
+// interrupted. Any other failure is counted.
+fn write_once<W: Write>(
+    out: &mut W,
+    piece: &[u8],
+    faults: &mut u64,
+) -> Result<Option<usize>, SinkFault>
+    ensures within { IfOk result (λ took. IfSome took (λ count. count ≤ length piece.now)) }
+    ensures some { IfOk result (λ took. IfSome took (λ count. 0 < length piece.now → 0 < count)) }
+    ensures took { IfOk result (λ took. Took (W.contents out.old) (W.contents out.new) piece.now took) }
+    ensures nothing { OnErr result (Keeps (W.contents out.old) (W.contents out.new)) }
+    ensures ok { OnOk result (faults.new ≡ faults.old) }
+    ensures err { OnErr result (faults.new ≡ counted_up faults.old) }
+    ensures never_falls { faults.old ≤ faults.new }
 {
-    for _ in 0..u64::MAX {
-        match out.write(piece) {
-            Ok(0) if !piece.is_empty() => return None,
-            Ok(count) => return Some(count),
-            Err(e) if e.kind() == ErrorKind::Interrupted => {}
-            Err(_) => return None,
+    match out.write(piece) {
+        Ok(count) if count > 0 || piece.is_empty() => Ok(Some(count)),
+        Err(e) if e.kind() == ErrorKind::Interrupted => Ok(None),
+        _ => {
+            *faults = faults.saturating_add(1);
+            Err(SinkFault)
         }
     }
-    None
+}
+
+// A front of the piece, of which the writer took its length. An interrupted write is tried again, and no
+// other: the first failure is counted and answered.
+pub(crate) fn write_some<W: Write>(
+    out: &mut W,
+    piece: &[u8],
+    faults: &mut u64,
+) -> Result<usize, SinkFault>
+    ensures within { IfOk result (λ count. count ≤ length piece.now) }
+    ensures some { IfOk result (λ count. 0 < length piece.now → 0 < count) }
+    ensures appended { IfOk result (λ count. Appends (W.contents out.old) (W.contents out.new) (take count piece.now)) }
+    ensures nothing { OnErr result (Keeps (W.contents out.old) (W.contents out.new)) }
+    ensures ok { OnOk result (faults.new ≡ faults.old) }
+    ensures err { OnErr result (faults.new ≡ counted_up faults.old) }
+    ensures never_falls { faults.old ≤ faults.new }
+{
+    for _ in 0..u64::MAX {
+        if let Some(count) = write_once(out, piece, faults)? {
+            return Ok(count);
+        }
+    }
+    *faults = faults.saturating_add(1);
+    Err(SinkFault)
 }

@@ -1,6 +1,7 @@
 //! Each call once, faults in the middle, and a caller that is generic over files and sink.
 
 mod both;
+mod slow;
 
 use crate::{
     DirFiles, FileFault, Files, Gate, MemFiles, MemSink, NoGate, Sink, SinkFault, StdSink,
@@ -9,8 +10,10 @@ use crate::{
 use both::{BothFault, append_both};
 use jh_num::NoMemory;
 use std::alloc::Global;
+use std::io::Write;
+use std::os::fd::AsRawFd;
 use std::test::Fail;
-use std::{fs, process};
+use std::{fs, io, process};
 
 fn two_files(alloc: Global) -> Result<MemFiles, NoMemory> {
     let mut files = MemFiles::new(alloc);
@@ -96,6 +99,38 @@ fn files_of_the_system_are_read_up_to_a_limit(rt: HostRuntime) -> Result<(), Fai
     assert!(rt; files.read("no such file", 8).is_err());
     assert_eq!(rt; files.failed(), "no such file");
     assert_eq!(rt; files.faults(), 1);
+    Ok(())
+}
+
+#[test]
+fn a_name_is_opened_as_given_and_a_file_that_grew_is_read_anew(
+    rt: HostRuntime,
+) -> Result<(), Fail> {
+    let number = process::id(rt.process());
+    let name = format!(in rt.alloc(); " jh_outside-{number} ")?;
+    let name = name.as_str();
+    fs::write(&rt, name, b"one".as_slice())?;
+    fs::write(&rt, name.trim(), b"another".as_slice())?;
+    let mut files = DirFiles::new(rt.alloc(), &rt);
+    let first = files.read(name, 20);
+    fs::write(&rt, name, b"one and more".as_slice())?;
+    let second = files.read(name, 20);
+    fs::remove_file(&rt, name)?;
+    fs::remove_file(&rt, name.trim())?;
+    assert_eq!(rt; first?.as_slice(), b"one".as_slice());
+    assert_eq!(rt; second?.as_slice(), b"one and more".as_slice());
+    Ok(())
+}
+
+#[test]
+fn a_pipe_is_read_to_its_end(rt: HostRuntime) -> Result<(), Fail> {
+    let (reader, mut writer) = io::pipe(&rt)?;
+    writer.write_all(&[7; 9000])?;
+    drop(writer);
+    let name = format!(in rt.alloc(); "/dev/fd/{}", reader.as_raw_fd())?;
+    let mut files = DirFiles::new(rt.alloc(), &rt);
+    let bytes = files.read(name.as_str(), 20_000)?;
+    assert_eq!(rt; bytes.as_slice(), [7; 9000].as_slice());
     Ok(())
 }
 

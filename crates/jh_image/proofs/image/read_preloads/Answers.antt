@@ -1,5 +1,11 @@
 -- The loop over the preloads' files.
-use Rattle.std.proofs.Common.{◌≡◌, ◌+◌, ◌<◌, length, get_or, refl, sym, subst, arith}
+use Rattle.std.proofs.Common.{◌≡◌, ◌+◌, ◌<◌, length, get_or, refl, sym, subst, arith, ◌≤◌, map, [], ◌∷◌}
+use Rattle.std.proofs.lemmas.List.{take_all}
+use Rattle.jh_outside.specs.Trail.{Asks, no_ask, AsksAll, AsksUntil}
+use Rattle.jh_image.specs.Order.{ask_for, preload_name}
+use Rattle.jh_outside.specs.TrailLaws.{loop-more, loop-until}
+use Rattle.jh_image.specs.Causes.{OnRefused}
+use Rattle.jh_image.proofs.StopLemmas.{on_refused, passed_up}
 use Rattle.jh_image.proofs.LoadLemmas.{LoadedSoFar, loaded-start, loaded-more}
 use Rattle.jh_image.proofs.image.read_preloads.Goals as goal
 
@@ -7,6 +13,7 @@ pub loop-file-init : goal.loop-file-init
 loop-file-init g c = record {
   kept = refl;
   rises = omega arith;
+  asked = no_ask c.args.files.now;
   so_far = rw c.new-preloads.ensures (loaded-start (g.F.Files.contents c.args.files.now) c.args.system.now.hypervisor_memory c.args.listing.now.preloads);
 }
 
@@ -24,5 +31,28 @@ loop-file-preserved g c =
     record {
       kept = cc;
       rises = omega arith;
+      asked = loop-more preload_name g.F.Files.asks g.F.Files.failed c.args.files.now c.loop-file.files c.next_preload.new.files listing.preloads i file lt is c.loop-file.invariant.asked c.in_ok-preload.ensures.asked;
       so_far = subst (λ ps. LoadedSoFar contents hypervisor listing.preloads (i + 1) ps) (sym c.in_ok-push.ensures.ok) (loaded-more contents hypervisor listing.preloads i file c.loop-file.preloads c.in_ok-preload.preload lt is of fit c.loop-file.invariant.so_far);
     }
+
+pub returns-in_err-preload-clause-asked_until : goal.returns-in_err-preload-clause-asked_until
+returns-in_err-preload-clause-asked_until g c =
+    let one = g.F.Files.asks in
+    let failed = g.F.Files.failed in
+    let files = c.args.listing.now.preloads in
+    let i = c.loop-file.file-index in
+    let file = c.file-item.result in
+    let lt : i < length files = rw c.as_slice-entries.ensures.value at c.loop-file-test.true in
+    let is : file ≡ get_or files i file = rw c.as_slice-entries.ensures.value at c.file-item.is in
+    let s = c.args.files.now in
+    let t = c.loop-file.files in
+    let u = c.next_preload.new.files in
+    passed_up c.from_residual.result c.in_err-preload.field-0.0 (λ e. OnRefused (λ _ cause. AsksUntil one failed (map preload_name files) (ask_for cause) s u) e) c.from_residual.ensures.1
+    (on_refused (λ _ cause. Asks one failed t (ask_for cause file.file ∷ []) u) (λ _ cause. AsksUntil one failed (map preload_name files) (ask_for cause) s u) c.in_err-preload.field-0.0
+    (λ _ cause asked. loop-until preload_name one failed s t u files i file (ask_for cause) lt is c.loop-file.invariant.asked asked) c.in_err-preload.ensures.asked_until)
+
+pub returns-clause-asked : goal.returns-clause-asked
+returns-clause-asked g c =
+    let files = c.args.listing.now.preloads in
+    let le : length files ≤ c.loop-file.file-index = rw c.as_slice-entries.ensures.value at c.loop-file-test.false in
+    subst (λ fs. AsksAll g.F.Files.asks g.F.Files.failed (map preload_name fs) c.args.files.now c.loop-file.files) (take_all c.loop-file.file-index files le) c.loop-file.invariant.asked

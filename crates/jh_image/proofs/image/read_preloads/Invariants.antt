@@ -1,5 +1,7 @@
 -- The preloads so far are those of the first files, and none has a fault.
-use Rattle.std.proofs.Common.{◌≡◌, ◌≤◌}
+use Rattle.std.proofs.Common.{◌≡◌, ◌≤◌, map, take}
+use Rattle.jh_outside.specs.Trail.{AsksAll}
+use Rattle.jh_image.specs.Order.{preload_name}
 use Rattle.jh_image.proofs.LoadLemmas.{LoadedSoFar}
 use Rattle.jh_image.proofs.image.read_preloads.Given as goal
 
@@ -7,5 +9,6 @@ abbrev pub invariant-loop-file : goal.invariant-loop-file
 invariant-loop-file g l = record {
   kept : g.F.Files.contents l.files ≡ g.F.Files.contents l.fn.files;
   rises : g.F.Files.faults l.fn.files ≤ g.F.Files.faults l.files;
+  asked : AsksAll g.F.Files.asks g.F.Files.failed (map preload_name (take l.file-index l.fn.listing.preloads)) l.fn.files l.files;
   so_far : LoadedSoFar (g.F.Files.contents l.fn.files) l.fn.system.hypervisor_memory l.fn.listing.preloads l.file-index l.preloads;
 }

@@ -1,7 +1,11 @@
 -- The loop over the programs' files.
-use Rattle.std.proofs.Common.{◌≡◌, ◌+◌, ◌<◌, ◌≤◌, length, get_or, refl, sym, subst, arith}
+use Rattle.std.proofs.Common.{◌≡◌, ◌+◌, ◌<◌, ◌≤◌, length, get_or, refl, sym, subst, arith, map, [], ◌∷◌}
+use Rattle.std.proofs.lemmas.List.{take_all}
 use Rattle.jh_image.specs.Causes.{IsProgramUnread, OnRefused, Stops}
 use Rattle.jh_image.proofs.StopLemmas.{on_refused, program-stops, passed_up}
+use Rattle.jh_outside.specs.Trail.{Asks, no_ask, AsksAll, AsksUntil}
+use Rattle.jh_image.specs.Order.{ask_for, program_name}
+use Rattle.jh_outside.specs.TrailLaws.{loop-more, loop-until}
 use Rattle.jh_image.proofs.LoadLemmas.{ScriptsSoFar, scripts-start, scripts-more, scripts-next, scripts-owned}
 use Rattle.jh_image.proofs.image.read_programs.Goals as goal
 
@@ -9,6 +13,7 @@ pub loop-file-init : goal.loop-file-init
 loop-file-init g c = record {
   kept = refl;
   rises = omega arith;
+  asked = no_ask c.args.files.now;
   so_far = rw c.new-programs.ensures (scripts-start (g.F.Files.contents c.args.files.now) c.args.listing.now.programs);
 }
 
@@ -40,6 +45,7 @@ loop-file-preserved g c =
     record {
       kept = cc;
       rises = omega arith;
+      asked = loop-more program_name g.F.Files.asks g.F.Files.failed c.args.files.now c.loop-file.files c.read_program_file.new.files listing.programs i file lt is c.loop-file.invariant.asked c.in_ok-program.ensures.asked;
       so_far = subst (λ ps. ScriptsSoFar contents listing.programs (i + 1) ps) (sym c.in_ok-push.ensures.ok) (scripts-more contents listing.programs i file c.loop-file.programs c.in_ok-program.program lt is of c.in_ok-program.ensures.sound c.loop-file.invariant.so_far);
     }
 
@@ -48,3 +54,25 @@ returns-clause-owned g c =
     let listing = c.args.listing.now in
     let le : length listing.programs ≤ c.loop-file.file-index = rw c.as_slice-entries.ensures.value at c.loop-file-test.false in
     scripts-owned (g.F.Files.contents c.args.files.now) listing.programs c.loop-file.file-index c.loop-file.programs le c.requires.distinct c.loop-file.invariant.so_far
+
+pub returns-in_err-program-clause-asked_until : goal.returns-in_err-program-clause-asked_until
+returns-in_err-program-clause-asked_until g c =
+    let one = g.F.Files.asks in
+    let failed = g.F.Files.failed in
+    let files = c.args.listing.now.programs in
+    let i = c.loop-file.file-index in
+    let file = c.file-item.result in
+    let lt : i < length files = rw c.as_slice-entries.ensures.value at c.loop-file-test.true in
+    let is : file ≡ get_or files i file = rw c.as_slice-entries.ensures.value at c.file-item.is in
+    let s = c.args.files.now in
+    let t = c.loop-file.files in
+    let u = c.read_program_file.new.files in
+    passed_up c.from_residual.result c.in_err-program.field-0.0 (λ e. OnRefused (λ _ cause. AsksUntil one failed (map program_name files) (ask_for cause) s u) e) c.from_residual.ensures.1
+    (on_refused (λ _ cause. Asks one failed t (ask_for cause file.file ∷ []) u) (λ _ cause. AsksUntil one failed (map program_name files) (ask_for cause) s u) c.in_err-program.field-0.0
+    (λ _ cause asked. loop-until program_name one failed s t u files i file (ask_for cause) lt is c.loop-file.invariant.asked asked) c.in_err-program.ensures.asked_until)
+
+pub returns-clause-asked : goal.returns-clause-asked
+returns-clause-asked g c =
+    let files = c.args.listing.now.programs in
+    let le : length files ≤ c.loop-file.file-index = rw c.as_slice-entries.ensures.value at c.loop-file-test.false in
+    subst (λ fs. AsksAll g.F.Files.asks g.F.Files.failed (map program_name fs) c.args.files.now c.loop-file.files) (take_all c.loop-file.file-index files le) c.loop-file.invariant.asked

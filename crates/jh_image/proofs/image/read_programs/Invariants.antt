@@ -1,5 +1,7 @@
 -- The programs so far are those of the first files.
-use Rattle.std.proofs.Common.{◌≡◌, ◌≤◌}
+use Rattle.std.proofs.Common.{◌≡◌, ◌≤◌, map, take}
+use Rattle.jh_outside.specs.Trail.{AsksAll}
+use Rattle.jh_image.specs.Order.{program_name}
 use Rattle.jh_image.proofs.LoadLemmas.{ScriptsSoFar}
 use Rattle.jh_image.proofs.image.read_programs.Given as goal
 
@@ -7,5 +9,6 @@ abbrev pub invariant-loop-file : goal.invariant-loop-file
 invariant-loop-file g l = record {
   kept : g.F.Files.contents l.files ≡ g.F.Files.contents l.fn.files;
   rises : g.F.Files.faults l.fn.files ≤ g.F.Files.faults l.files;
+  asked : AsksAll g.F.Files.asks g.F.Files.failed (map program_name (take l.file-index l.fn.listing.programs)) l.fn.files l.files;
   so_far : ScriptsSoFar (g.F.Files.contents l.fn.files) l.fn.listing.programs l.file-index l.programs;
 }

@@ -1,0 +1,36 @@
+-- The order in which a board's files are read, each once, and how far a call comes in it.
+use Rattle.std.specs.Prelude.{◌≡◌, ℕ, List, [], ◌∷◌, ◌++◌, map}
+use Rattle.jh_outside.specs.Trail.{Ask, handed, faulted, AsksAll, AsksUntil}
+use Rattle.jh_image.specs.declared.board.Listing.{Listing}
+use Rattle.jh_image.specs.declared.board.PreloadFile.{PreloadFile}
+use Rattle.jh_image.specs.declared.board.ProgramFile.{ProgramFile}
+use Rattle.jh_image.specs.declared.fault.ImageCause.{ImageCause}
+use Rattle.jh_image.specs.declared.fault.ImageCause.TheVariants.{ReadFault}
+use Rattle.jh_image.specs.Files.{Contents, Lists}
+
+abbrev pub preload_name : PreloadFile → List ℕ
+preload_name file = file.file
+
+abbrev pub program_name : ProgramFile → List ℕ
+program_name file = file.file
+
+-- the board, its system, each preload and each program
+abbrev pub board_files : List ℕ → Listing → List (List ℕ)
+board_files board listing = board ∷ listing.system ∷ (map preload_name listing.preloads ++ map program_name listing.programs)
+
+-- the read of the file at which this cause is found
+abbrev pub ask_for : ImageCause → List ℕ → Ask
+ask_for ReadFault name = faulted name
+ask_for _ name = handed name
+
+module _ {S : Type 0} where
+  -- the files of a board were read
+  pub record AsksBoard (one : S → Ask → S → Type 0) (failed : S → List ℕ) (contents : Contents) (board : List ℕ) (s t : S) : Type 0 where
+    pub listing : Listing
+    pub lists : Lists contents board listing
+    pub all : AsksAll one failed (board_files board listing) s t
+
+  -- the files of a board were read up to the one where the cause is found: the board alone, or what it lists
+  pub data AsksBoardUntil (one : S → Ask → S → Type 0) (failed : S → List ℕ) (contents : Contents) (board : List ℕ) (cause : ImageCause) (s t : S) : Type 0 where
+    until_the_board : AsksUntil one failed (board ∷ []) (ask_for cause) s t → AsksBoardUntil one failed contents board cause s t
+    until_a_file : (listing : Listing) → Lists contents board listing → AsksUntil one failed (board_files board listing) (ask_for cause) s t → AsksBoardUntil one failed contents board cause s t
