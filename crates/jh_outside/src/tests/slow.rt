@@ -51,7 +51,7 @@ impl Write for Slow {
     }
 }
 
-fn slow(left: usize, fails: u64) -> Slow {
+fn of_little(left: usize, fails: u64) -> Slow {
     Slow {
         left,
         calls: 0,
@@ -63,7 +63,7 @@ fn slow(left: usize, fails: u64) -> Slow {
 fn a_slow_reader_is_read_up_to_what_is_asked_or_to_its_end(
     rt: HostRuntime,
 ) -> std::result::Result<(), Fail> {
-    let mut reader = slow(10, 99);
+    let mut reader = of_little(10, 99);
     let front = read_front(rt.alloc(), &mut reader, 7)?;
     assert_eq!(rt; front.as_slice(), [7u8; 7].as_slice());
     let rest = read_front(rt.alloc(), &mut reader, 64)?;
@@ -73,7 +73,7 @@ fn a_slow_reader_is_read_up_to_what_is_asked_or_to_its_end(
 
 #[test]
 fn a_failed_read_is_answered_and_not_tried_again(rt: HostRuntime) {
-    let mut reader = slow(10, 2);
+    let mut reader = of_little(10, 2);
     let fault = read_front(rt.alloc(), &mut reader, 64).err();
     assert_eq!(rt; fault, Some(FileFault::Fault));
     assert_eq!(rt; reader.calls, 3);
@@ -81,7 +81,7 @@ fn a_failed_read_is_answered_and_not_tried_again(rt: HostRuntime) {
 
 #[test]
 fn a_short_write_is_told_and_a_failed_one_not_tried_again(rt: HostRuntime) {
-    let mut writer = slow(10, 2);
+    let mut writer = of_little(10, 2);
     let mut faults = 0;
     let first = write_some(&mut writer, b"piece", &mut faults);
     assert_eq!(rt; first, Ok(3));
