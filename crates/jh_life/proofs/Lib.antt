@@ -1,0 +1,4 @@
+pub mod JoinedLemmas
+pub mod MarkLemmas
+pub mod PageLemmas
+pub mod VerdictLemmas

@@ -1,0 +1,4 @@
+pub mod Lives
+pub mod Seen
+pub mod Stands
+pub mod Verdict
