@@ -1,9 +1,9 @@
 -- What a new cell is refused for where no CPU may be given away: a cell without a CPU is invalid, whatever others
 -- there are.
 use Rattle.std.proofs.Common.{◌≡◌, ◌≢◌, ℕ, zero, suc, ◌+◌, ◌-◌, ◌<◌, ◌≤◌, ◌↔◌, Bool, true, false, ◌||◌, ◌&&◌, not, ◌==◌, nat_lt, List, [], ◌∷◌, ◌++◌, length, take, drop, get_or, Some, None, refl, sym, ap, subst, inl, inr, ◌∙◌, arith}
-use Rattle.std.specs.Prelude.{Option, ℤ, if◌then◌else◌}
+use Rattle.std.specs.Prelude.{Option, ℤ, if◌then◌else◌, is_some, IfNone, IsTrue}
 use Rattle.std.specs.List.{list_all, list_any}
-use Rattle.std.proofs.lemmas.Bool.{false≢true, cases_Bool, both_ways, eq-eqb, eqb-true, and_parts, or_left, or_right, or_parts, not-false}
+use Rattle.std.proofs.lemmas.Bool.{false≢true, cases_Bool, both_ways, eq-eqb, eqb-true, and_parts, or_left, or_right, or_parts, and_left, and_right, not-false, not_from_true}
 use Rattle.std.proofs.lemmas.List.{take_all, take_more, get_or-drop, append-nil}
 use Rattle.std.proofs.lemmas.List.Folds.{list_any-append, list_any_at}
 use Rattle.jh_num.proofs.Lists.{list_any-without}
@@ -22,7 +22,8 @@ use Rattle.jh_check.specs.Lists.{found_from, only_if}
 use Rattle.jh_check.specs.Findings.{finding_of, in_cpus, in_cpus_at, found_by, found_at, rules_in_order, findings}
 use Rattle.jh_check.specs.Verdicts.{is_invalid, verdict_of}
 use Rattle.jh_check.specs.Refusals.{is_namesake, is_known, names_beyond, by_check, refusal_of}
-use Rattle.jh_life.specs.Verdict.{nobody}
+use Rattle.jh_shape.specs.Claims.{has_bit}
+use Rattle.jh_life.specs.Verdict.{nobody, may_have}
 
 -- ---- CPU sets
 
@@ -132,13 +133,13 @@ refused-alike system xs ys new p q r s known idle =
     by-tests system xs new nobody p q
     ∙ ap (λ b. by_tests b busy one p q) known
     ∙ elim (cases_Bool busy) [
-      | inl yes ↦ ap (λ b. by_tests k b one p q) yes ∙ tests-busy k one other p q r s ∙ ap (λ b. by_tests k b other r s) (sym yes)
-      | inr no ↦
-          ap (λ b. by_tests k b one p q) no
-          ∙ ap (λ v. by_tests k false v p q) (idle-invalid system xs new (idle no))
+      | inl named ↦ ap (λ b. by_tests k b one p q) named ∙ tests-busy k one other p q r s ∙ ap (λ b. by_tests k b other r s) (sym named)
+      | inr idles ↦
+          ap (λ b. by_tests k b one p q) idles
+          ∙ ap (λ v. by_tests k false v p q) (idle-invalid system xs new (idle idles))
           ∙ tests-invalid k p q r s
-          ∙ ap (λ v. by_tests k false v r s) (sym (idle-invalid system ys new (idle no)))
-          ∙ ap (λ b. by_tests k b other r s) (sym no)
+          ∙ ap (λ v. by_tests k false v r s) (sym (idle-invalid system ys new (idle idles)))
+          ∙ ap (λ b. by_tests k b other r s) (sym idles)
     ]
     ∙ sym (by-tests system ys new nobody r s)
 
@@ -162,3 +163,50 @@ pub refused-same : (system : SystemConfig) (live : List CellConfig) (new : CellC
 refused-same system live new may other pages more pool same count =
     ap (λ (m : ℕ → Bool). refusal_of system live new m pages pool) (λ i cpu. same cpu i)
     ∙ ap (λ n. refusal_of system live new other n pool) count
+
+-- what is refused where no CPU may be given away: any cell
+tests-some : (known busy : Bool) (p q : ℕ) → is_some (by_tests known busy Invalid p q) ≡ true
+tests-some true busy p q = refl
+tests-some false true p q = refl
+tests-some false false p q = refl
+
+tests-some_busy : (known : Bool) (found : NewCell) (p q : ℕ) → is_some (by_tests known true found p q) ≡ true
+tests-some_busy true found p q = refl
+tests-some_busy false found p q = refl
+
+pub refused-some : (system : SystemConfig) (live : List CellConfig) (new : CellConfig) (p q : ℕ) → (names_beyond nobody new.cpu_set ≡ false → cpus_break new.cpu_set ≡ true) → is_some (refusal_of system live new nobody p q) ≡ true
+refused-some system live new p q idle =
+    let k = is_known (system.root ∷ live) new in
+    let found = verdict_of system live new in
+    ap (λ o. is_some o) (by-tests system live new nobody p q)
+    ∙ elim (cases_Bool (names_beyond nobody new.cpu_set)) [
+      | inl named ↦ ap (λ b. is_some (by_tests k b found p q)) named ∙ tests-some_busy k found p q
+      | inr idles ↦ ap (λ v. is_some (by_tests k (names_beyond nobody new.cpu_set) v p q)) (idle-invalid system live new (idle idles)) ∙ tests-some k (names_beyond nobody new.cpu_set) p q
+    ]
+
+-- what isn't refused has no namesake
+tests-none : (known busy : Bool) (found : NewCell) (p q : ℕ) → by_tests known busy found p q ≡ None → known ≡ false
+tests-none true busy found p q e = cc
+tests-none false busy found p q e = refl
+
+pub accepted-unknown : (o : Option ℤ) (system : SystemConfig) (live : List CellConfig) (new : CellConfig) (may : ℕ → Bool) (p q : ℕ) → o ≡ refusal_of system live new may p q → IfNone o (is_known (system.root ∷ live) new ≡ false)
+accepted-unknown None system live new may p q e = tests-none (is_known (system.root ∷ live) new) (names_beyond may new.cpu_set) (verdict_of system live new) p q (sym (by-tests system live new may p q) ∙ sym e)
+accepted-unknown (Some x) system live new may p q e = tt
+
+pub if_none-from : (o : Option ℤ) (P : Type 0) → P → IfNone o P
+if_none-from None P h = h
+if_none-from (Some x) P h = tt
+
+pub if_none-some : (o : Option ℤ) (P : Type 0) → is_some o ≡ true → IfNone o P
+if_none-some None P e = absurd (false≢true e)
+if_none-some (Some x) P e = tt
+
+-- a CPU of the mask that is the caller's isn't given away
+pub may-none : (owned caller cpu : ℕ) → (IsTrue (has_bit owned cpu) → cpu ≡ caller) → nobody cpu ≡ may_have owned caller cpu
+may-none owned caller cpu only =
+    elim (cases_Bool (has_bit owned cpu)) [
+      | inl set ↦
+          let is : cpu ≡ caller = only set in
+          sym (and_right (has_bit owned cpu) (not (cpu == caller)) (not_from_true (cpu == caller) (eq-eqb cpu caller is)))
+      | inr unset ↦ sym (and_left (has_bit owned cpu) (not (cpu == caller)) unset)
+    ]

@@ -1,5 +1,5 @@
 //! The records of the cells that live.
-ghost use Rattle.std.specs.Prelude.{vec_len, vec_capacity, ◌≡◌, ◌↔◌, ℕ, ◌+◌, ◌-◌, ◌<◌, ◌≤◌, Bool, false, [], ◌∷◌, ◌++◌, length, map, position, remove, slice_set, option_to_list, IfOk, OnOk, OnErr, IsOk, IsTrue};
+ghost use Rattle.std.specs.Prelude.{vec_len, vec_capacity, ◌≡◌, ◌↔◌, ℕ, ◌+◌, ◌-◌, ◌<◌, ◌≤◌, Bool, false, [], ◌∷◌, ◌++◌, length, map, position, remove, slice_set, option_to_list, IfNone, IfOk, OnOk, OnErr, IsOk, IsTrue};
 ghost use Rattle.std.specs.Option.{option_copied};
 ghost use Rattle.jh_cellcfg.specs.declared.live.Live.{Live};
 ghost use Rattle.jh_check.specs.Refusals.{is_known};
@@ -110,7 +110,7 @@ impl Cells {
     /// What the create of a cell is refused for, whose configuration was read: EPERM, EEXIST, EBUSY, EINVAL or
     /// ENOMEM, by the first cause that holds; `None` lets it go on. `locked` says that a live cell allows no create,
     /// `caller` is the CPU that asks for it, `owned` has a bit for each of the 16 CPUs that is root's, and `pool` is
-    /// how many pages there are. It takes no memory.
+    /// how many pages there are. A cell that isn't refused may be added. It takes no memory.
     pub fn verdict(
         &self,
         locked: bool,
@@ -120,7 +120,9 @@ impl Cells {
         pool: u32,
     ) -> Option<i64>
         requires { length self.now.lives ≡ 15 → (cpu : ℕ) → IsTrue (has_bit owned cpu) → cpu ≡ caller }
-        ensures { result ≡ verdict_of_create self.now locked new.now owned caller pool }
+        ensures value { result ≡ verdict_of_create self.now locked new.now owned caller pool }
+        ensures unknown { IfNone result (is_known (cells_of self.now) new.now ≡ false) }
+        ensures room { IfNone result (length self.now.lives < 15) }
     {
         if locked {
             return Some(EPERM);
@@ -143,6 +145,7 @@ impl Cells {
     /// The cells besides root, in order of creation.
     pub fn list(&self) -> &[CellConfig]
         ensures value { result.now ≡ configs_of self.now.lives }
+        ensures count { length result.now ≡ length self.now.lives }
         ensures few { length result.now ≤ 15 }
     {
         self.configs.as_slice()

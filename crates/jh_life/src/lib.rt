@@ -10,3 +10,5 @@ mod verdict;
 
 pub use cells::{Cells, MOST_CELLS};
 
+#[cfg(test)]
+mod tests;

@@ -1,5 +1,5 @@
 //! What a new cell is refused for beside the live ones, however many these are.
-ghost use Rattle.std.specs.Prelude.{◌≡◌, ◌≤◌, ◌==◌, ℕ, ◌||◌, false, take, length, slice_index_or};
+ghost use Rattle.std.specs.Prelude.{◌≡◌, ◌≤◌, ◌==◌, ℕ, ◌||◌, false, IsSome, take, length, slice_index_or};
 ghost use Rattle.std.specs.Cmp.Lexicographic.{pointwise};
 ghost use Rattle.jh_check.specs.Refusals.{is_namesake, refusal_of};
 ghost use Rattle.jh_life.specs.Verdict.{nobody};
@@ -24,7 +24,8 @@ pub(crate) fn refusal_of_another(
     new: &CellConfig,
 ) -> Option<i64>
     requires { length live.now ≡ 15 }
-    ensures { (pages pool : ℕ) → result ≡ refusal_of system.now live.now new.now nobody pages pool }
+    ensures some { IsSome result }
+    ensures value { (pages pool : ℕ) → result ≡ refusal_of system.now live.now new.now nobody pages pool }
 {
     sound_bitmaps_name_few_cpus(new.cpu_set.as_slice());
     beyond_is_a_cpu(new.cpu_set.as_slice());

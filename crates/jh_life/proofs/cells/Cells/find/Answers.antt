@@ -1,5 +1,6 @@
 use Rattle.std.proofs.Common.{◌≡◌, ℕ, ◌+◌, Bool, List, ◌∷◌, Some, None, position, refl, sym, ap, ◌∙◌}
 use Rattle.std.specs.Prelude.{option_map, Option}
+use Rattle.std.proofs.lemmas.Bool.{ne_eqb}
 use Rattle.jh_cellcfg.specs.declared.config.CellConfig.{CellConfig}
 use Rattle.jh_life.specs.Lives.{has_config_id}
 use Rattle.jh_life.proofs.JoinedLemmas.{list-joined, position-behind}
@@ -11,7 +12,7 @@ returns-in-Some c =
     let configs = c.self.inside.configs.items in
     let at : position p configs ≡ Some c.in-Some.index = cc (c.index_of.ensures, c.in-Some.is, c.as_slice.ensures.value) in
     let all = ap (λ (cells : List CellConfig). position p (c.self.inside.system.root ∷ cells)) (list-joined configs c.self.inside.marks.items c.self.invariant.even) in
-    rw (← c.self.view_is) (sym (all ∙ position-behind p c.self.inside.system.root configs c.if-self-id.false ∙ ap (option_map (λ (k : ℕ). k + 1)) at))
+    rw (← c.self.view_is) (sym (all ∙ position-behind p c.self.inside.system.root configs (ne_eqb c.self.inside.system.root.id c.args.id c.if-self-id.false) ∙ ap (option_map (λ (k : ℕ). k + 1)) at))
 
 pub returns-in-None : goal.returns-in-None
 returns-in-None c =
@@ -19,4 +20,4 @@ returns-in-None c =
     let configs = c.self.inside.configs.items in
     let at : position p configs ≡ None = cc (c.index_of.ensures, c.in-None.is, c.as_slice.ensures.value) in
     let all = ap (λ (cells : List CellConfig). position p (c.self.inside.system.root ∷ cells)) (list-joined configs c.self.inside.marks.items c.self.invariant.even) in
-    rw (← c.self.view_is) (sym (all ∙ position-behind p c.self.inside.system.root configs c.if-self-id.false ∙ ap (option_map (λ (k : ℕ). k + 1)) at))
+    rw (← c.self.view_is) (sym (all ∙ position-behind p c.self.inside.system.root configs (ne_eqb c.self.inside.system.root.id c.args.id c.if-self-id.false) ∙ ap (option_map (λ (k : ℕ). k + 1)) at))
