@@ -2,3 +2,4 @@ pub mod JoinedLemmas
 pub mod MarkLemmas
 pub mod PageLemmas
 pub mod VerdictLemmas
+pub mod ChangeLemmas

@@ -1,11 +1,12 @@
 //! The records of the cells that live.
-ghost use Rattle.std.specs.Prelude.{vec_len, vec_capacity, ◌≡◌, ◌↔◌, ℕ, ◌+◌, ◌-◌, ◌<◌, ◌≤◌, Bool, false, [], ◌∷◌, ◌++◌, length, map, position, remove, slice_set, option_to_list, IfNone, IfOk, OnOk, OnErr, IsOk, IsTrue};
+ghost use Rattle.std.specs.Prelude.{vec_len, vec_capacity, ◌≡◌, ◌↔◌, ℕ, ◌+◌, ◌-◌, ◌<◌, ◌≤◌, Bool, false, [], ◌∷◌, ◌++◌, length, map, position, remove, slice_set, option_to_list, IfNone, IfOk, OnOk, OnErr, IsOk, IsTrue, AllPairs};
 ghost use Rattle.std.specs.Option.{option_copied};
 ghost use Rattle.jh_cellcfg.specs.declared.live.Live.{Live};
 ghost use Rattle.jh_check.specs.Refusals.{is_known};
 ghost use Rattle.jh_shape.specs.Claims.{has_bit};
 ghost use Rattle.jh_shape.specs.Pages.{pages_of};
 ghost use Rattle.jh_life.specs.Lives.{new_live, has_config_id, configs_of, marks_of, cells_of, is_loadable_at, place_of};
+ghost use Rattle.jh_life.specs.Stands.{AreTwo};
 ghost use Rattle.jh_life.specs.Verdict.{verdict_of_create};
 
 use crate::copy::copy_of_system;
@@ -211,4 +212,12 @@ impl Cells {
     {
         self.marks[place as usize - 1] = on;
     }
+}
+
+/// No two of root and the live cells have one name or one id, and at most 15 live besides root.
+pub fn live_cells_differ(cells: &Cells)
+    ensures differ { AllPairs AreTwo (cells_of cells.now) }
+    ensures few { length cells.now.lives ≤ 15 }
+{
+    let _ = &cells.system;
 }

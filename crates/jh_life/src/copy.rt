@@ -37,10 +37,7 @@ fn copy_of_cell(alloc: Global, cell: &CellConfig) -> Result<CellConfig, NoMemory
 }
 
 /// A copy of the system's.
-pub(crate) fn copy_of_system(
-    alloc: Global,
-    system: &SystemConfig,
-) -> Result<SystemConfig, NoMemory>
+pub(crate) fn copy_of_system(alloc: Global, system: &SystemConfig) -> Result<SystemConfig, NoMemory>
     ensures { IfOk result (λ copy. copy ≡ system.now) }
 {
     Ok(SystemConfig {

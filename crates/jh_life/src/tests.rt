@@ -74,7 +74,13 @@ fn alone(alloc: Global) -> Result<Cells, NoMemory> {
         pci_is_virtual: 0,
         pci_domain: 0,
         root_head: [0; 8],
-        root: cell(alloc, b'r', 0, 0xff, &[region(ROOT, 0x4000_0000, READ_WRITE)])?,
+        root: cell(
+            alloc,
+            b'r',
+            0,
+            0xff,
+            &[region(ROOT, 0x4000_0000, READ_WRITE)],
+        )?,
     };
     Cells::open(alloc, &system)
 }
@@ -96,7 +102,13 @@ fn join(cells: &mut Cells, new: CellConfig) -> Result<bool, NoMemory> {
 /// Root and the cell `a` of one block and CPU 1.
 fn with_one(alloc: Global) -> Result<Cells, NoMemory> {
     let mut cells = alone(alloc)?;
-    let one = cell(alloc, b'a', 1, 0x2, &[region(ROOT + BLOCK, BLOCK, READ_WRITE)])?;
+    let one = cell(
+        alloc,
+        b'a',
+        1,
+        0x2,
+        &[region(ROOT + BLOCK, BLOCK, READ_WRITE)],
+    )?;
     join(&mut cells, one)?;
     Ok(cells)
 }
@@ -128,18 +140,46 @@ fn judged(alloc: Global, flaws: u8) -> Result<Option<i64>, NoMemory> {
     Ok(cells.verdict(has(flaws, 0x1), &new, 0, 0xd, pool))
 }
 
-/// Makes the cell at the place loadable or not, where there is one besides root.
-fn mark(cells: &mut Cells, place: u32, on: bool) {
-    if place > 0 && place as usize <= cells.list().len() {
-        cells.set_loadable(place, on);
+/// Makes the cell at the place loadable, where there is one besides root.
+fn mark(cells: &mut Cells, place: u32) {
+    if place == 0 || place as usize > cells.list().len() {
+        return;
     }
+    cells.set_loadable(place, true);
 }
 
 /// Drops the cell at the place, where there is one besides root.
 fn leave(cells: &mut Cells, place: u32) {
-    if place > 0 && place as usize <= cells.list().len() {
-        cells.drop_cell(place);
+    if place == 0 || place as usize > cells.list().len() {
+        return;
     }
+    cells.drop_cell(place);
+}
+
+/// Root, `a` and `b`, which is loadable.
+fn with_two(alloc: Global) -> Result<Cells, NoMemory> {
+    let mut cells = with_one(alloc)?;
+    cells.reserve()?;
+    join(&mut cells, another(alloc, 0)?)?;
+    mark(&mut cells, 2);
+    Ok(cells)
+}
+
+/// Where the cells with the ids 0 to 3 are, the pages of all and the marks; where `a` has gone too, or is still there.
+fn told(alloc: Global, gone: bool) -> Result<([Option<u32>; 4], u64, u16), NoMemory> {
+    let mut cells = with_two(alloc)?;
+    if gone {
+        leave(&mut cells, 1);
+    }
+    let places = [cells.find(0), cells.find(1), cells.find(2), cells.find(3)];
+    Ok((places, cells.pages(None), cells.loadable()))
+}
+
+/// The pages of root and `a` with `b`.
+fn pages_with(alloc: Global) -> Result<u64, NoMemory> {
+    let cells = with_one(alloc)?;
+    let new = another(alloc, 0)?;
+    Ok(cells.pages(Some(&new)))
 }
 
 #[test]
@@ -154,20 +194,11 @@ fn the_first_cause_of_a_refusal_is_told(rt: HostRuntime) -> Result<(), Fail> {
 
 #[test]
 fn a_cell_that_leaves_takes_its_mark_along(rt: HostRuntime) -> Result<(), Fail> {
-    let mut cells = with_one(rt.alloc())?;
-    assert_eq!(rt; cells.pages(None), 5);
-    assert_eq!(rt; cells.pages(Some(&another(rt.alloc(), 0)?)), 8);
-    cells.reserve()?;
-    assert!(rt; join(&mut cells, another(rt.alloc(), 0)?)?);
-    assert_eq!(rt; cells.pages(None), 8);
-    assert_eq!(rt; cells.loadable(), 0);
-    mark(&mut cells, 2, true);
-    assert_eq!(rt; cells.loadable(), 0x2);
-    assert_eq!(rt; [cells.find(0), cells.find(1), cells.find(2), cells.find(3)], [Some(0), Some(1), Some(2), None]);
-    leave(&mut cells, 1);
-    assert_eq!(rt; cells.loadable(), 0x1);
-    assert_eq!(rt; [cells.find(1), cells.find(2)], [None, Some(1)]);
-    assert_eq!(rt; cells.list().len(), 1);
+    let two = told(rt.alloc(), false)?;
+    let one = told(rt.alloc(), true)?;
+    assert_eq!(rt; two, ([Some(0), Some(1), Some(2), None], 8, 0x2));
+    assert_eq!(rt; one, ([Some(0), None, Some(1), None], 5, 0x1));
+    assert_eq!(rt; pages_with(rt.alloc())?, 8);
     Ok(())
 }
 
@@ -175,26 +206,30 @@ fn a_cell_that_leaves_takes_its_mark_along(rt: HostRuntime) -> Result<(), Fail> 
 fn crowd(alloc: Global) -> Result<Cells, NoMemory> {
     let mut cells = alone(alloc)?;
     for i in 0..15u8 {
-        let new = cell(alloc, b'a' + i, 1 + u32::from(i), 0x2, &[])?;
-        join(&mut cells, new)?;
+        join(
+            &mut cells,
+            cell(alloc, b'a' + i, 1 + u32::from(i), 0x2, &[])?,
+        )?;
     }
     Ok(cells)
 }
 
 /// The verdict beside them for CPU 0, which alone is root's, on a cell with the id and the CPUs.
-fn crowded(alloc: Global, cells: &Cells, id: u32, cpus: u8) -> Result<Option<i64>, NoMemory> {
+fn crowded(alloc: Global, id: u32, cpus: u8) -> Result<Option<i64>, NoMemory> {
+    let cells = crowd(alloc)?;
     let new = cell(alloc, b'z', id, cpus, &[])?;
+    if cells.list().len() != MOST_CELLS {
+        return Ok(None);
+    }
     Ok(cells.verdict(false, &new, 0, 0x1, 0xffff))
 }
 
 #[test]
 fn no_cell_joins_fifteen_others(rt: HostRuntime) -> Result<(), Fail> {
-    let cells = crowd(rt.alloc())?;
-    assert_eq!(rt; cells.list().len(), 15);
-    assert_eq!(rt; crowded(rt.alloc(), &cells, 15, 0)?, Some(EEXIST));
-    assert_eq!(rt; crowded(rt.alloc(), &cells, 14, 0)?, Some(EEXIST));
-    assert_eq!(rt; crowded(rt.alloc(), &cells, 16, 0x1)?, Some(EBUSY));
-    assert_eq!(rt; crowded(rt.alloc(), &cells, 16, 0x2)?, Some(EBUSY));
-    assert_eq!(rt; crowded(rt.alloc(), &cells, 16, 0)?, Some(EINVAL));
+    assert_eq!(rt; crowded(rt.alloc(), 15, 0)?, Some(EEXIST));
+    assert_eq!(rt; crowded(rt.alloc(), 14, 0)?, Some(EEXIST));
+    assert_eq!(rt; crowded(rt.alloc(), 16, 0x1)?, Some(EBUSY));
+    assert_eq!(rt; crowded(rt.alloc(), 16, 0x2)?, Some(EBUSY));
+    assert_eq!(rt; crowded(rt.alloc(), 16, 0)?, Some(EINVAL));
     Ok(())
 }

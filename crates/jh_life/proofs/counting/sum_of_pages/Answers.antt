@@ -14,9 +14,10 @@ loop-i-preserved c =
     let more : sum_by f (take (i + 1) cells) ≡ sum_by f (take i cells) + f (get_or cells i d) = sum_by_more f cells i d c.loop-i-test.true in
     let item : c.cell_pages-pages.result ≡ f (get_or cells i d) = c.cell_pages-pages.ensures.value ∙ ap f c.index-cells-i.is in
     let bound = c.cell_pages-pages.ensures.bound in
-    let so_far = c.loop-i.invariant.1 in
-    (ap (λ m. m + c.cell_pages-pages.result) c.loop-i.invariant.0 ∙ ap (λ m. sum_by f (take i cells) + m) item ∙ sym more,
-    omega arith)
+    let so_far = c.loop-i.invariant.1 in (
+      ap (λ m. m + c.cell_pages-pages.result) c.loop-i.invariant.0 ∙ ap (λ m. sum_by f (take i cells) + m) item ∙ sym more,
+      omega arith,
+    )
 
 pub returns-clause-value : goal.returns-clause-value
 returns-clause-value c =

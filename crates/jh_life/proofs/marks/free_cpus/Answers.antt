@@ -13,11 +13,12 @@ pub loop-cpu-preserved : goal.loop-cpu-preserved
 loop-cpu-preserved c =
     let free = c.loop-cpu.free in
     let cpu = c.loop-cpu.cpu in
-    let len : length free ≡ 16 = c.loop-cpu.invariant.0 in
-    (length-set free cpu c.is_free.result ∙ len,
-    so-far (λ k. get_or (set free cpu c.is_free.result) k false) (λ k. may_have c.args.owned c.args.caller k) cpu
-    (λ k l. get_or-set_other free cpu k c.is_free.result false (λ (e : k ≡ cpu). omega arith) ∙ c.loop-cpu.invariant.1 k l)
-    (get_or-set_same free cpu c.is_free.result false (omega arith) ∙ c.is_free.ensures))
+    let len : length free ≡ 16 = c.loop-cpu.invariant.0 in (
+      length-set free cpu c.is_free.result ∙ len,
+      so-far (λ k. get_or (set free cpu c.is_free.result) k false) (λ k. may_have c.args.owned c.args.caller k) cpu
+          (λ k l. get_or-set_other free cpu k c.is_free.result false (λ (e : k ≡ cpu). omega arith) ∙ c.loop-cpu.invariant.1 k l)
+          (get_or-set_same free cpu c.is_free.result false (omega arith) ∙ c.is_free.ensures),
+    )
 
 pub returns : goal.returns
 returns c = λ k.

@@ -13,11 +13,12 @@ with_bit-mask-requires-clause-unset c = c.loop-i.invariant.1 c.loop-i.i (omega a
 pub loop-i-preserved : goal.loop-i-preserved
 loop-i-preserved c =
     let i = c.loop-i.i in
-    let others = c.with_bit-mask.ensures.others in
-    (so-far (λ k. has_bit c.with_bit-mask.result k) (λ k. get_or c.args.marks.now k false) i
-    (λ k l. others k (λ (e : k ≡ i). omega arith) ∙ c.loop-i.invariant.0 k l)
-    c.with_bit-mask.ensures.here,
-    λ k l. others k (λ (e : k ≡ i). omega arith) ∙ c.loop-i.invariant.1 k (omega arith))
+    let others = c.with_bit-mask.ensures.others in (
+      so-far (λ k. has_bit c.with_bit-mask.result k) (λ k. get_or c.args.marks.now k false) i
+          (λ k l. others k (λ (e : k ≡ i). omega arith) ∙ c.loop-i.invariant.0 k l)
+          c.with_bit-mask.ensures.here,
+      λ k l. others k (λ (e : k ≡ i). omega arith) ∙ c.loop-i.invariant.1 k (omega arith),
+    )
 
 pub returns : goal.returns
 returns c = λ k.
