@@ -1,5 +1,5 @@
 -- How many pages tables take at most, and the cells that root's tables depend on.
-use Rattle.std.proofs.Common.{◌≡◌, ℕ, zero, suc, ◌+◌, ◌*◌, ◌-◌, ◌/◌, ◌^◌, ◌<◌, ◌≤◌, Bool, true, false, cond, List, [], ◌∷◌, ◌++◌, length, map, Option, Some, None, refl, sym, ap, ◌∙◌, arith}
+use Rattle.std.proofs.Common.{◌≡◌, ℕ, zero, suc, ◌+◌, ◌*◌, ◌/◌, ◌^◌, ◌≤◌, Bool, true, false, cond, List, [], ◌∷◌, ◌++◌, length, map, Option, Some, None, refl, sym, ap, ◌∙◌, arith}
 use Rattle.std.specs.Prelude.{option_to_list}
 use Rattle.std.specs.Option.{option_copied}
 use Rattle.std.specs.Borrow.{Bor}
@@ -8,7 +8,7 @@ use Rattle.std.proofs.lemmas.Nat.Bits.{bit_at-zero, bit_at_ones}
 use Rattle.jh_num.specs.declared.address.TheConstants.{ADDRESS_END}
 use Rattle.jh_cellcfg.specs.declared.config.CellConfig.{CellConfig}
 use Rattle.jh_shape.specs.Claims.{Claims, Holder, has_bit, held_from, one_more}
-use Rattle.jh_shape.specs.Pages.{count_below, tables_at, tables_from, tables_of, holder_of}
+use Rattle.jh_shape.specs.Pages.{count_below, tables_at, tables_of, holder_of}
 use Rattle.jh_shape.specs.Shapes.{slot_size, is_table}
 
 count_one : (b : Bool) (m n : ℕ) → m ≤ n → m + cond b 1 0 ≤ suc n

@@ -1,6 +1,6 @@
 -- What a new cell is refused for where no CPU may be given away: a cell without a CPU is invalid, whatever others
 -- there are.
-use Rattle.std.proofs.Common.{◌≡◌, ◌≢◌, ℕ, zero, suc, ◌+◌, ◌-◌, ◌<◌, ◌≤◌, ◌↔◌, Bool, true, false, ◌||◌, ◌&&◌, not, ◌==◌, nat_lt, List, [], ◌∷◌, ◌++◌, length, take, drop, get_or, Some, None, refl, sym, ap, subst, inl, inr, ◌∙◌, arith}
+use Rattle.std.proofs.Common.{◌≡◌, ◌≢◌, ℕ, zero, suc, ◌+◌, ◌-◌, Bool, true, false, ◌||◌, not, ◌==◌, nat_lt, List, [], ◌∷◌, ◌++◌, length, take, drop, get_or, Some, None, refl, sym, ap, subst, inl, inr, ◌∙◌, arith}
 use Rattle.std.specs.Prelude.{Option, ℤ, if◌then◌else◌, is_some, IfNone, IsTrue}
 use Rattle.std.specs.List.{list_all, list_any}
 use Rattle.std.proofs.lemmas.Bool.{false≢true, cases_Bool, both_ways, eq-eqb, eqb-true, and_parts, or_left, or_right, or_parts, and_left, and_right, not-false, not_from_true}
@@ -19,7 +19,7 @@ use Rattle.jh_check.specs.declared.verdict.NewCell.TheVariants.{Invalid}
 use Rattle.jh_check.specs.Clean.{IsSoundBitmap, IsSoundCpuSet}
 use Rattle.jh_check.specs.Devices.{is_zero, cpus_break}
 use Rattle.jh_check.specs.Lists.{found_from, only_if}
-use Rattle.jh_check.specs.Findings.{finding_of, in_cpus, in_cpus_at, found_by, found_at, rules_in_order, findings}
+use Rattle.jh_check.specs.Findings.{finding_of, in_cpus, in_cpus_at, found_by, found_at, findings}
 use Rattle.jh_check.specs.Verdicts.{is_invalid, verdict_of}
 use Rattle.jh_check.specs.Refusals.{is_namesake, is_known, names_beyond, by_check, refusal_of}
 use Rattle.jh_shape.specs.Claims.{has_bit}

@@ -1,4 +1,4 @@
-use Rattle.std.proofs.Common.{◌≡◌, ◌≤◌, ◌∷◌, List, length, AllPairs, sym, ap, subst, arith}
+use Rattle.std.proofs.Common.{◌≡◌, ◌∷◌, List, length, AllPairs, sym, ap, subst, arith}
 use Rattle.jh_cellcfg.specs.declared.config.CellConfig.{CellConfig}
 use Rattle.jh_life.specs.Lives.{cells_of}
 use Rattle.jh_life.specs.Stands.{AreTwo}

@@ -1,4 +1,4 @@
-use Rattle.std.proofs.Common.{◌≡◌, ◌+◌, ◌≤◌, ◌^◌, ◌<◌, arith}
+use Rattle.std.proofs.Common.{◌≤◌, ◌^◌, arith}
 use Rattle.jh_life.proofs.PageLemmas.{tables-le}
 use Rattle.jh_life.proofs.counting.cell_pages.Goals as goal
 

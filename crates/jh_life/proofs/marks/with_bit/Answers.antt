@@ -1,4 +1,4 @@
-use Rattle.std.proofs.Common.{◌≡◌, refl, sym, ap, nat_eq}
+use Rattle.std.proofs.Common.{sym, ap, nat_eq}
 use Rattle.std.specs.Int.{w16}
 use Rattle.std.proofs.lemmas.Nat.Bits.{bit_at_set_same, bit_at_set_other}
 use Rattle.jh_life.proofs.marks.with_bit.Goals as goal

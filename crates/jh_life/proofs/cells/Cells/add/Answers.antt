@@ -1,9 +1,7 @@
-use Rattle.std.proofs.Common.{◌≡◌, ◌<◌, false, Bool, List, [], ◌∷◌, ◌++◌, length, sym, ap, subst, ◌∙◌, arith}
+use Rattle.std.proofs.Common.{◌≡◌, false, Bool, List, [], ◌∷◌, ◌++◌, length, ap, subst, ◌∙◌, arith}
 use Rattle.jh_cellcfg.specs.declared.config.CellConfig.{CellConfig}
 use Rattle.jh_check.specs.Refusals.{is_known}
-use Rattle.jh_life.specs.Seen.{Seen}
-use Rattle.jh_life.specs.Lives.{new_live, cells_of}
-use Rattle.jh_life.specs.Stands.{Stands, joined}
+use Rattle.jh_life.specs.Lives.{cells_of}
 use Rattle.jh_life.proofs.JoinedLemmas.{list-joined, length-joined, joined-push, stands-push}
 use Rattle.jh_life.proofs.cells.Cells.add.Goals as goal
 

@@ -1,6 +1,4 @@
-use Rattle.std.proofs.Common.{◌≡◌, ◌-◌, ◌<◌, Bool, List, length, remove, vec_len, rules, sym, ap, subst, ◌∙◌, arith}
-use Rattle.jh_cellcfg.specs.declared.config.CellConfig.{CellConfig}
-use Rattle.jh_life.specs.Stands.{Stands, joined}
+use Rattle.std.proofs.Common.{◌≡◌, ◌-◌, ◌<◌, length, vec_len, rules, arith}
 use Rattle.jh_life.proofs.JoinedLemmas.{length-joined, joined-remove, stands-remove}
 use Rattle.jh_life.proofs.cells.Cells.drop_cell.Goals as goal
 

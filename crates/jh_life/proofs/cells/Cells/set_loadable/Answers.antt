@@ -1,4 +1,4 @@
-use Rattle.std.proofs.Common.{◌≡◌, ◌-◌, ◌<◌, Bool, List, length, set, vec_len, rules, sym, ap, ◌∙◌, arith}
+use Rattle.std.proofs.Common.{◌≡◌, ◌-◌, Bool, List, length, set, vec_len, rules, sym, ap, ◌∙◌, arith}
 use Rattle.std.proofs.lemmas.List.{length-set}
 use Rattle.jh_life.proofs.JoinedLemmas.{length-joined, list-joined, marks-joined}
 use Rattle.jh_life.proofs.cells.Cells.set_loadable.Goals as goal
