@@ -128,16 +128,20 @@ fn another(alloc: Global, flaws: u8) -> Result<CellConfig, NoMemory> {
     cell(alloc, b'b', id, cpus, &[region(ROOT + start, BLOCK, flags)])
 }
 
-/// The verdict on it beside `a`, for CPU 0, where CPU 1 isn't root's. All take eight pages: root two tables, each of
-/// the others two and its communication page.
+/// The verdict on it for CPU 0, where CPU 1 isn't root's and one other cell is listed.
+fn verdict_on(cells: &Cells, new: &CellConfig, locked: bool, pool: u32) -> Option<i64> {
+    if cells.list().len() != 1 {
+        return None;
+    }
+    cells.verdict(locked, new, 0, 0xd, pool)
+}
+
+/// That beside `a`. All take eight pages: root two tables, each of the others two and its communication page.
 fn judged(alloc: Global, flaws: u8) -> Result<Option<i64>, NoMemory> {
     let cells = with_one(alloc)?;
     let new = another(alloc, flaws)?;
     let pool = if has(flaws, 0x20) { 7 } else { 8 };
-    if cells.list().len() != 1 {
-        return Ok(Some(0));
-    }
-    Ok(cells.verdict(has(flaws, 0x1), &new, 0, 0xd, pool))
+    Ok(verdict_on(&cells, &new, has(flaws, 0x1), pool))
 }
 
 /// Makes the cell at the place loadable, where there is one besides root.
@@ -202,26 +206,29 @@ fn a_cell_that_leaves_takes_its_mark_along(rt: HostRuntime) -> Result<(), Fail> 
     Ok(())
 }
 
-/// Root and 15 cells with the names `a` to `o` and the ids 1 to 15.
-fn crowd(alloc: Global) -> Result<Cells, NoMemory> {
-    let mut cells = alone(alloc)?;
+/// Adds cells with the names `a` to `o` and the ids 1 to 15.
+fn fill(alloc: Global, cells: &mut Cells) -> Result<(), NoMemory> {
     for i in 0..15u8 {
-        join(
-            &mut cells,
-            cell(alloc, b'a' + i, 1 + u32::from(i), 0x2, &[])?,
-        )?;
+        let new = cell(alloc, b'a' + i, 1 + u32::from(i), 0x2, &[])?;
+        join(cells, new)?;
     }
-    Ok(cells)
+    Ok(())
 }
 
-/// The verdict beside them for CPU 0, which alone is root's, on a cell with the id and the CPUs.
-fn crowded(alloc: Global, id: u32, cpus: u8) -> Result<Option<i64>, NoMemory> {
-    let cells = crowd(alloc)?;
-    let new = cell(alloc, b'z', id, cpus, &[])?;
+/// The verdict for CPU 0, which alone is root's, where 15 cells are listed.
+fn refused(cells: &Cells, new: &CellConfig) -> Option<i64> {
     if cells.list().len() != MOST_CELLS {
-        return Ok(None);
+        return None;
     }
-    Ok(cells.verdict(false, &new, 0, 0x1, 0xffff))
+    cells.verdict(false, new, 0, 0x1, 0xffff)
+}
+
+/// That on a cell with the id and the CPUs beside 15 others.
+fn crowded(alloc: Global, id: u32, cpus: u8) -> Result<Option<i64>, NoMemory> {
+    let mut cells = alone(alloc)?;
+    fill(alloc, &mut cells)?;
+    let new = cell(alloc, b'z', id, cpus, &[])?;
+    Ok(refused(&cells, &new))
 }
 
 #[test]

@@ -3,7 +3,7 @@ use Rattle.std.proofs.Common.{◌≡◌, ℕ, nat_eq, false, ap, ⊎_elim}
 use Rattle.std.proofs.lemmas.Bool.{cases_eq, both_ways}
 use Rattle.std.proofs.lemmas.Nat.Bits.{bit_at-pow_other}
 use Rattle.jh_shape.specs.Claims.{has_bit}
-use Rattle.jh_life.proofs.tests.crowded.Goals as goal
+use Rattle.jh_life.proofs.tests.refused.Goals as goal
 
 pub verdict-requires : goal.verdict-requires
 verdict-requires c = λ full cpu set.
