@@ -1,0 +1,88 @@
+-- Configurations, each with its mark.
+use Rattle.std.proofs.Common.{◌≡◌, ℕ, zero, suc, ◌+◌, ◌<◌, nat_lt, Bool, true, false, cond, List, [], ◌∷◌, ◌++◌, length, get_or, remove, position, Some, None, refl, sym, ap, ◌∙◌, arith}
+use Rattle.std.specs.Prelude.{option_map}
+use Rattle.std.specs.List.{position_or_len}
+use Rattle.std.proofs.lemmas.Bool.Decides.{nat_tests}
+use Rattle.std.proofs.lemmas.List.{length_push}
+use Rattle.std.proofs.lemmas.List.Quantifiers.{all_pairs_push, all_pairs_remove}
+use Rattle.jh_num.proofs.Lists.{list_any-false, read_again}
+use Rattle.jh_cellcfg.specs.declared.config.CellConfig.{CellConfig}
+use Rattle.jh_cellcfg.specs.declared.live.Live.{Live}
+use Rattle.jh_check.specs.Refusals.{is_namesake, is_known}
+use Rattle.jh_life.specs.Lives.{configs_of, marks_of}
+use Rattle.jh_life.specs.Stands.{joined, AreTwo, Stands}
+
+abbrev live_of : CellConfig → Bool → Live
+live_of config mark = record { config = config; loadable = mark }
+
+pub list-joined : (configs : List CellConfig) (marks : List Bool) → length marks ≡ length configs → configs_of (joined configs marks) ≡ configs
+list-joined [] marks e = refl
+list-joined (c ∷ cs) [] e = absurd (omega arith)
+list-joined (c ∷ cs) (m ∷ ms) e = ap (λ (rest : List CellConfig). c ∷ rest) (list-joined cs ms (omega arith))
+
+pub marks-joined : (configs : List CellConfig) (marks : List Bool) → length marks ≡ length configs → marks_of (joined configs marks) ≡ marks
+marks-joined [] [] e = refl
+marks-joined [] (m ∷ ms) e = absurd (omega arith)
+marks-joined (c ∷ cs) [] e = absurd (omega arith)
+marks-joined (c ∷ cs) (m ∷ ms) e = ap (λ (rest : List Bool). m ∷ rest) (marks-joined cs ms (omega arith))
+
+pub length-joined : (configs : List CellConfig) (marks : List Bool) → length marks ≡ length configs → length (joined configs marks) ≡ length configs
+length-joined [] marks e = refl
+length-joined (c ∷ cs) [] e = absurd (omega arith)
+length-joined (c ∷ cs) (m ∷ ms) e = ap (λ n. suc n) (length-joined cs ms (omega arith))
+
+-- one more at the end
+pub joined-push : (configs : List CellConfig) (marks : List Bool) (config : CellConfig) (mark : Bool) → length marks ≡ length configs → joined (configs ++ config ∷ []) (marks ++ mark ∷ []) ≡ joined configs marks ++ live_of config mark ∷ []
+joined-push [] [] config mark e = refl
+joined-push [] (m ∷ ms) config mark e = absurd (omega arith)
+joined-push (c ∷ cs) [] config mark e = absurd (omega arith)
+joined-push (c ∷ cs) (m ∷ ms) config mark e = ap (λ (rest : List Live). live_of c m ∷ rest) (joined-push cs ms config mark (omega arith))
+
+-- one less
+pub joined-remove : (i : ℕ) (configs : List CellConfig) (marks : List Bool) → length marks ≡ length configs → i < length configs → joined (remove configs i) (remove marks i) ≡ remove (joined configs marks) i
+joined-remove i [] marks e l = absurd (omega arith)
+joined-remove i (c ∷ cs) [] e l = absurd (omega arith)
+joined-remove zero (c ∷ cs) (m ∷ ms) e l = refl
+joined-remove (suc i) (c ∷ cs) (m ∷ ms) e l = ap (λ (rest : List Live). live_of c m ∷ rest) (joined-remove i cs ms (omega arith) (omega arith))
+
+pub length-removed : {X : Type 0} (i : ℕ) (xs : List X) → i < length xs → suc (length (remove xs i)) ≡ length xs
+length-removed i [] l = absurd (omega arith)
+length-removed zero (x ∷ xs) l = refl
+length-removed (suc i) (x ∷ xs) l = ap (λ n. suc n) (length-removed i xs (omega arith))
+
+-- the records stand at each change
+pub stands-push : (root : CellConfig) (configs : List CellConfig) (marks : List Bool) (new : CellConfig) → Stands root configs marks → length configs < 15 → is_known (root ∷ configs) new ≡ false → Stands root (configs ++ new ∷ []) (marks ++ false ∷ [])
+stands-push root configs marks new h few unknown =
+    let even = h.even in
+    let a = length_push configs new in
+    let b = length_push marks false in
+    record {
+      even = omega arith;
+      few = omega arith;
+      differ = all_pairs_push AreTwo (root ∷ configs) new h.differ (λ k d l.
+          list_any-false (is_namesake new) (root ∷ configs) (get_or (root ∷ configs) k d) unknown (k, l, sym (read_again (root ∷ configs) k d l)));
+    }
+
+pub stands-remove : (root : CellConfig) (configs : List CellConfig) (marks : List Bool) (i : ℕ) → Stands root configs marks → i < length configs → Stands root (remove configs i) (remove marks i)
+stands-remove root configs marks i h l =
+    let even = h.even in
+    let few = h.few in
+    let a = length-removed i configs l in
+    let b = length-removed i marks (omega arith) in
+    record {
+      even = omega arith;
+      few = omega arith;
+      differ = all_pairs_remove AreTwo (root ∷ configs) (suc i) (omega arith) h.differ;
+    }
+
+-- the first place behind one that fails
+behind : (n m : ℕ) → cond (nat_lt (1 + n) (suc m)) (Some (1 + n)) None ≡ option_map (λ k. k + 1) (cond (nat_lt n m) (Some n) None)
+behind n m =
+    let e : nat_lt (1 + n) (suc m) ≡ nat_lt n m = grind (arith, nat_tests) in
+    let one : 1 + n ≡ n + 1 = omega arith in
+    ap (λ (b : Bool). cond b (Some (1 + n)) None) e
+    ∙ ap (λ (k : ℕ). cond (nat_lt n m) (Some k) None) one
+    ∙ elim (nat_lt n m) as (λ b. cond b (Some (n + 1)) None ≡ option_map (λ k. k + 1) (cond b (Some n) None)) [ true ↦ refl | false ↦ refl ]
+
+pub position-behind : {X : Type 0} (p : X → Bool) (x : X) (xs : List X) → p x ≡ false → position p (x ∷ xs) ≡ option_map (λ k. k + 1) (position p xs)
+position-behind p x xs fails = rw fails (behind (position_or_len p xs) (length xs))

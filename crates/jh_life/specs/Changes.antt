@@ -1,0 +1,40 @@
+-- What befalls the cells besides root, told by their ids.
+use Rattle.std.specs.Prelude.{◌≡◌, ℕ, Bool, not, ◌==◌, List, [], ◌∷◌, ◌++◌, map, filter, Option, Some, None, option_map, if◌then◌else◌}
+use Rattle.std.specs.List.{find}
+use Rattle.jh_cellcfg.specs.declared.config.CellConfig.{CellConfig}
+use Rattle.jh_cellcfg.specs.declared.live.Live.{Live}
+use Rattle.jh_cellcfg.specs.Lives.{has_id}
+use Rattle.jh_life.specs.Lives.{new_live}
+
+-- a cell is created; the cell with the id is dropped; or it becomes loadable, or isn't so any longer
+pub data Change : Type 0 where
+  Created : CellConfig → Change
+  Dropped : ℕ → Change
+  Marked : ℕ → Bool → Change
+
+-- the cell with the mark, or another cell as it is
+abbrev pub marked : ℕ → Bool → Live → Live
+marked id on live = record { config = live.config; loadable = if has_id id live then on else live.loadable }
+
+-- all but the cell with the id
+abbrev pub without : ℕ → List Live → List Live
+without id lives = filter (λ (live : Live). not (has_id id live)) lives
+
+-- a new cell is the last one; the others stay in order
+abbrev pub after : List Live → Change → List Live
+after lives (Created config) = lives ++ new_live config ∷ []
+after lives (Dropped id) = without id lives
+after lives (Marked id on) = map (marked id on) lives
+
+-- what one change tells of the cell with the id alone, of which so much was known
+abbrev pub told : ℕ → Option Live → Change → Option Live
+told id known (Created config) = if config.id == id then Some (new_live config) else known
+told id known (Dropped gone) = if gone == id then None else known
+told id known (Marked set on) = if set == id then option_map (λ (live : Live). record { config = live.config; loadable = on }) known else known
+
+-- no cell is created whose id lives
+abbrev pub AreNew : List Live → List Change → Type 0
+AreNew lives [] = Unit {0}
+AreNew lives (Created config ∷ changes) = (find (has_id config.id) lives ≡ None) × AreNew (after lives (Created config)) changes
+AreNew lives (Dropped id ∷ changes) = AreNew (after lives (Dropped id)) changes
+AreNew lives (Marked id on ∷ changes) = AreNew (after lives (Marked id on)) changes

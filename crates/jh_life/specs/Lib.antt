@@ -1,0 +1,5 @@
+pub mod Changes
+pub mod Lives
+pub mod Seen
+pub mod Stands
+pub mod Verdict

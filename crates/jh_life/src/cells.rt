@@ -1,0 +1,223 @@
+//! The records of the cells that live.
+ghost use Rattle.std.specs.Prelude.{vec_len, vec_capacity, ◌≡◌, ◌↔◌, ℕ, ◌+◌, ◌-◌, ◌<◌, ◌≤◌, Bool, false, [], ◌∷◌, ◌++◌, length, map, position, remove, slice_set, option_to_list, IfNone, IfOk, OnOk, OnErr, IsOk, IsTrue, AllPairs};
+ghost use Rattle.std.specs.Option.{option_copied};
+ghost use Rattle.jh_cellcfg.specs.declared.live.Live.{Live};
+ghost use Rattle.jh_check.specs.Refusals.{is_known};
+ghost use Rattle.jh_shape.specs.Claims.{has_bit};
+ghost use Rattle.jh_shape.specs.Pages.{pages_of};
+ghost use Rattle.jh_life.specs.Lives.{new_live, has_config_id, configs_of, marks_of, cells_of, is_loadable_at, place_of};
+ghost use Rattle.jh_life.specs.Stands.{AreTwo};
+ghost use Rattle.jh_life.specs.Verdict.{verdict_of_create};
+
+use crate::copy::copy_of_system;
+use crate::counting::pages_of;
+use crate::marks::{free_cpus, mask_of};
+use crate::verdict::refusal_of_another;
+use jh_cellcfg::{CellConfig, SystemConfig};
+use jh_check::refusal_of;
+use jh_num::NoMemory;
+use jh_num::error::EPERM;
+use std::alloc::Global;
+use std::marker::Model;
+
+/// How many cells may live besides root.
+pub const MOST_CELLS: usize = 15;
+
+/// The cells that live: root, and at most 15 others in order of creation, of which each is loadable or not. No two
+/// have one name or one id. Root's place is 0, and that of the cell at index i of the others is i + 1.
+#[derive(Drop)]
+pub struct Cells {
+    system: SystemConfig,
+    configs: Vec<CellConfig>,
+    marks: Vec<bool>,
+}
+
+impl Model for Cells {
+    ghost use Rattle.std.specs.Prelude.{◌-◌, min, vec_len, vec_capacity};
+    ghost use Rattle.jh_life.specs.Seen.{Seen};
+    ghost use Rattle.jh_life.specs.Stands.{Stands, joined};
+
+    ghost Value = { Seen };
+
+    ghost view = { λ c. record {
+      system = c.system;
+      lives = joined c.configs.items c.marks.items;
+      spare = min (vec_capacity c.configs - vec_len c.configs) (vec_capacity c.marks - vec_len c.marks);
+    } };
+
+    ghost invariant = { λ c. Stands c.system.root c.configs.items c.marks.items };
+}
+
+/// The index of the cell with the id.
+fn index_of(cells: &[CellConfig], id: u32) -> Option<usize>
+    ensures { result ≡ position (has_config_id id) cells.now }
+{
+    cells.iter().position(|cell| cell.id == id)
+}
+
+/// Makes room for one more, where there is none.
+fn make_room<T>(list: &mut Vec<T>) -> Result<(), NoMemory>
+    ensures items { list.new.items ≡ list.old.items }
+    ensures len { vec_len list.new ≡ vec_len list.old }
+    ensures ok { OnOk result (vec_len list.new < vec_capacity list.new) }
+    ensures spare { vec_len list.old < vec_capacity list.old → IsOk result }
+    ensures capacity { vec_len list.old < vec_capacity list.old → vec_capacity list.new ≡ vec_capacity list.old }
+{
+    if list.len() < list.capacity() {
+        return Ok(());
+    }
+    list.reserve(1)?;
+    Ok(())
+}
+
+impl Cells {
+    /// Root alone. It takes memory for a copy of the system's configuration.
+    pub fn open(alloc: Global, system: &SystemConfig) -> Result<Self, NoMemory>
+        ensures system { IfOk result (λ cells. cells.system ≡ system.now) }
+        ensures alone { IfOk result (λ cells. cells.lives ≡ []) }
+    {
+        Ok(Cells {
+            system: copy_of_system(alloc, system)?,
+            configs: Vec::new(alloc),
+            marks: Vec::new(alloc),
+        })
+    }
+
+    /// The place of the cell with the id; `None` where none that lives has it.
+    pub fn find(&self, id: u32) -> Option<u32>
+        ensures { result ≡ place_of self.now id }
+    {
+        if self.system.root.id == id {
+            return Some(0);
+        }
+        match index_of(self.configs.as_slice(), id) {
+            Some(index) => Some(index as u32 + 1),
+            None => None,
+        }
+    }
+
+    /// How many pages the hypervisor needs for root and the live cells, and for one cell more: their tables, and a
+    /// communication page for each but root.
+    pub fn pages(&self, extra: Option<&CellConfig>) -> u64
+        ensures { result ≡ pages_of self.now.system.root.memory_regions (configs_of self.now.lives ++ option_to_list (option_copied extra.entry)) }
+    {
+        pages_of(
+            self.system.root.memory_regions.as_slice(),
+            self.configs.as_slice(),
+            extra,
+        )
+    }
+
+    /// What the create of a cell is refused for, whose configuration was read: EPERM, EEXIST, EBUSY, EINVAL or
+    /// ENOMEM, by the first cause that holds; `None` lets it go on. `locked` says that a live cell allows no create,
+    /// `caller` is the CPU that asks for it, `owned` has a bit for each of the 16 CPUs that is root's, and `pool` is
+    /// how many pages there are. A cell that isn't refused may be added. It takes no memory.
+    pub fn verdict(
+        &self,
+        locked: bool,
+        new: &CellConfig,
+        caller: u8,
+        owned: u16,
+        pool: u32,
+    ) -> Option<i64>
+        requires { length self.now.lives ≡ 15 → (cpu : ℕ) → IsTrue (has_bit owned cpu) → cpu ≡ caller }
+        ensures value { result ≡ verdict_of_create self.now locked new.now owned caller pool }
+        ensures unknown { IfNone result (is_known (cells_of self.now) new.now ≡ false) }
+        ensures room { IfNone result (length self.now.lives < 15) }
+    {
+        if locked {
+            return Some(EPERM);
+        }
+        let live = self.configs.as_slice();
+        if live.len() == MOST_CELLS {
+            return refusal_of_another(&self.system, live, new);
+        }
+        let free = free_cpus(owned, caller);
+        refusal_of(
+            &self.system,
+            live,
+            new,
+            &free,
+            self.pages(Some(new)),
+            u64::from(pool),
+        )
+    }
+
+    /// The cells besides root, in order of creation.
+    pub fn list(&self) -> &[CellConfig]
+        ensures value { result.now ≡ configs_of self.now.lives }
+        ensures count { length result.now ≡ length self.now.lives }
+        ensures few { length result.now ≤ 15 }
+    {
+        self.configs.as_slice()
+    }
+
+    /// Bit i is set where the cell at index i of the list is loadable.
+    pub fn loadable(&self) -> u16
+        ensures { (i : ℕ) → has_bit result i ≡ is_loadable_at self.now.lives i }
+    {
+        mask_of(self.marks.as_slice())
+    }
+
+    /// Makes room for one cell more. No cell changes.
+    pub fn reserve(&mut self) -> Result<(), NoMemory>
+        ensures system { self.new.system ≡ self.old.system }
+        ensures lives { self.new.lives ≡ self.old.lives }
+        ensures ok { OnOk result (0 < self.new.spare) }
+        ensures spare { self.old.spare ≤ self.new.spare }
+    {
+        self.configs.reserve(1)?;
+        self.marks.reserve(1)?;
+        Ok(())
+    }
+
+    /// A new cell lives, as the last, and isn't loadable. With a positive spare it takes no memory.
+    pub fn add(&mut self, new: CellConfig) -> Result<(), NoMemory>
+        requires few { length self.old.lives < 15 }
+        requires unknown { is_known (cells_of self.old) new ≡ false }
+        ensures system { self.new.system ≡ self.old.system }
+        ensures ok { OnOk result (self.new.lives ≡ self.old.lives ++ new_live new ∷ []) }
+        ensures err { OnErr result (self.new.lives ≡ self.old.lives) }
+        ensures succeeds { 0 < self.old.spare → IsOk result }
+        ensures spare { 0 < self.old.spare → self.new.spare + 1 ≡ self.old.spare }
+    {
+        make_room(&mut self.configs)?;
+        make_room(&mut self.marks)?;
+        self.configs.push_reserved(new);
+        self.marks.push_reserved(false);
+        Ok(())
+    }
+
+    /// The cell at the place, which isn't root, lives no longer.
+    pub fn drop_cell(&mut self, place: u32)
+        requires there { 0 < place }
+        requires within { place ≤ length self.old.lives }
+        ensures system { self.new.system ≡ self.old.system }
+        ensures lives { self.new.lives ≡ remove self.old.lives (place - 1) }
+        ensures spare { self.new.spare ≡ self.old.spare + 1 }
+    {
+        let index = place as usize - 1;
+        let _ = self.configs.remove(index);
+        let _ = self.marks.remove(index);
+    }
+
+    /// The cell at the place, which isn't root, becomes loadable, or isn't so any longer.
+    pub fn set_loadable(&mut self, place: u32, on: bool)
+        requires there { 0 < place }
+        requires within { place ≤ length self.old.lives }
+        ensures system { self.new.system ≡ self.old.system }
+        ensures list { configs_of self.new.lives ≡ configs_of self.old.lives }
+        ensures marks { marks_of self.new.lives ≡ slice_set (marks_of self.old.lives) (place - 1) on }
+        ensures spare { self.new.spare ≡ self.old.spare }
+    {
+        self.marks[place as usize - 1] = on;
+    }
+}
+
+/// No two of root and the live cells have one name or one id, and at most 15 live besides root.
+pub fn live_cells_differ(cells: &Cells)
+    ensures differ { AllPairs AreTwo (cells_of cells.now) }
+    ensures few { length cells.now.lives ≤ 15 }
+{
+    let _ = &cells.system;
+}

@@ -1,0 +1,54 @@
+//! Copies of configurations.
+ghost use Rattle.std.specs.Prelude.{◌≡◌, IfOk};
+
+use jh_cellcfg::{CellConfig, SystemConfig};
+use jh_num::{NoMemory, Seq};
+use std::alloc::Global;
+
+/// A copy of the list.
+fn copy_of<T: Copy>(alloc: Global, items: &Seq<T>) -> Result<Seq<T>, NoMemory>
+    ensures { IfOk result (λ copy. copy ≡ items.now) }
+{
+    let copy = Vec::from_slice(alloc, items.as_slice())?;
+    Ok(Seq::from_vec(copy))
+}
+
+/// A copy of the cell's configuration.
+fn copy_of_cell(alloc: Global, cell: &CellConfig) -> Result<CellConfig, NoMemory>
+    ensures { IfOk result (λ copy. copy ≡ cell.now) }
+{
+    Ok(CellConfig {
+        name: cell.name,
+        id: cell.id,
+        flags: cell.flags,
+        vpci_irq_base: cell.vpci_irq_base,
+        cpu_reset_address: cell.cpu_reset_address,
+        msg_reply_timeout: cell.msg_reply_timeout,
+        console: cell.console,
+        cpu_set: copy_of(alloc, &cell.cpu_set)?,
+        memory_regions: copy_of(alloc, &cell.memory_regions)?,
+        cache_regions: copy_of(alloc, &cell.cache_regions)?,
+        irqchips: copy_of(alloc, &cell.irqchips)?,
+        pio_regions: copy_of(alloc, &cell.pio_regions)?,
+        pci_devices: copy_of(alloc, &cell.pci_devices)?,
+        pci_caps: copy_of(alloc, &cell.pci_caps)?,
+        stream_ids: copy_of(alloc, &cell.stream_ids)?,
+    })
+}
+
+/// A copy of the system's.
+pub(crate) fn copy_of_system(alloc: Global, system: &SystemConfig) -> Result<SystemConfig, NoMemory>
+    ensures { IfOk result (λ copy. copy ≡ system.now) }
+{
+    Ok(SystemConfig {
+        flags: system.flags,
+        hypervisor_memory: system.hypervisor_memory,
+        debug_console: system.debug_console,
+        pci_mmconfig_base: system.pci_mmconfig_base,
+        pci_mmconfig_end_bus: system.pci_mmconfig_end_bus,
+        pci_is_virtual: system.pci_is_virtual,
+        pci_domain: system.pci_domain,
+        root_head: system.root_head,
+        root: copy_of_cell(alloc, &system.root)?,
+    })
+}

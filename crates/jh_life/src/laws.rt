@@ -1,0 +1,37 @@
+//! What holds of the live cells, whatever befalls them: each law is the contract of a function that does nothing.
+ghost use Rattle.std.specs.Prelude.{◌≡◌, ℕ, Bool, List, [], remove, slice_get, slice_set, fold, map, Some, None};
+ghost use Rattle.std.specs.List.{find};
+ghost use Rattle.jh_cellcfg.specs.declared.live.Live.{Live};
+ghost use Rattle.jh_cellcfg.specs.Lives.{has_id};
+ghost use Rattle.jh_life.specs.Seen.{Seen};
+ghost use Rattle.jh_life.specs.Lives.{configs_of, marks_of};
+ghost use Rattle.jh_life.specs.Changes.{Change, marked, without, after, told, AreNew};
+ghost use Rattle.jh_life.specs.Verdict.{verdict_of_create};
+
+use crate::cells::{Cells, live_cells_differ};
+use jh_cellcfg::CellConfig;
+
+/// The cell that is dropped at a place is the one with its id, and the others stay with their marks.
+pub fn a_place_is_dropped_by_its_id(cells: &Cells)
+    ensures { (i : ℕ) (cell : Live) → slice_get cells.now.lives i ≡ Some cell → remove cells.now.lives i ≡ without cell.config.id cells.now.lives }
+{
+    live_cells_differ(cells);
+}
+
+/// The cell whose mark is put at a place is the one with its id, and the others stay with theirs.
+pub fn a_place_is_marked_by_its_id(cells: &Cells)
+    ensures { (i : ℕ) (cell : Live) (on : Bool) (new : List Live) → slice_get cells.now.lives i ≡ Some cell → configs_of new ≡ configs_of cells.now.lives → marks_of new ≡ slice_set (marks_of cells.now.lives) i on → new ≡ map (marked cell.config.id on) cells.now.lives }
+{
+    live_cells_differ(cells);
+}
+
+/// Which cell with an id lives, and whether it is loadable, goes by the changes of that id alone: it lives since it was
+/// last created, and is loadable as it was last set since.
+pub fn a_cell_is_as_it_was_last_set()
+    ensures { (id : ℕ) (changes : List Change) → AreNew [] changes → find (has_id id) (fold after [] changes) ≡ fold (told id) None changes }
+{}
+
+/// Which cells are loadable, and how much room there is, changes no verdict.
+pub fn a_verdict_goes_by_the_listed_cells(_new: &CellConfig)
+    ensures { (one other : Seen) (locked : Bool) (owned caller pool : ℕ) → one.system ≡ other.system → configs_of one.lives ≡ configs_of other.lives → verdict_of_create one locked _new.now owned caller pool ≡ verdict_of_create other locked _new.now owned caller pool }
+{}

@@ -1,0 +1,19 @@
+//! The cells that live beside root: their configurations and marks, the pages that all take, and whether a new
+//! one may join them.
+#![tactic(auto)]
+
+mod cells;
+mod copy;
+mod counting;
+mod laws;
+mod marks;
+mod verdict;
+
+pub use cells::{Cells, MOST_CELLS, live_cells_differ};
+pub use laws::{
+    a_cell_is_as_it_was_last_set, a_place_is_dropped_by_its_id, a_place_is_marked_by_its_id,
+    a_verdict_goes_by_the_listed_cells,
+};
+
+#[cfg(test)]
+mod tests;

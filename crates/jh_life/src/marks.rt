@@ -1,0 +1,56 @@
+//! Marks as bits.
+ghost use Rattle.std.specs.Prelude.{◌≡◌, ◌≢◌, ◌≤◌, ◌<◌, ℕ, false, length, slice_index_or};
+ghost use Rattle.jh_shape.specs.Claims.{has_bit};
+ghost use Rattle.jh_life.specs.Verdict.{may_have};
+
+/// Whether the bit of that number is set.
+pub(crate) fn has_bit(mask: u16, index: usize) -> bool
+    requires { index < 16 }
+    ensures { result ≡ has_bit mask index }
+{
+    mask >> index & 1 == 1
+}
+
+/// The mask with the bit of that number put, which wasn't set.
+fn with_bit(mask: u16, index: usize, on: bool) -> u16
+    requires room { index < 16 }
+    requires unset { has_bit mask index ≡ false }
+    ensures here { has_bit result index ≡ on }
+    ensures others { (k : ℕ) → k ≢ index → has_bit result k ≡ has_bit mask k }
+{
+    if on {
+        return mask | 1 << index;
+    }
+    mask
+}
+
+/// The marks as a mask, the first as its lowest bit.
+pub(crate) fn mask_of(marks: &[bool]) -> u16
+    requires { length marks.now ≤ 15 }
+    ensures { (i : ℕ) → has_bit result i ≡ slice_index_or marks.now i false }
+{
+    let mut mask = 0;
+    for i in 0..marks.len() {
+        mask = with_bit(mask, i, marks[i]);
+    }
+    mask
+}
+
+/// Whether a new cell may have the CPU: it is of the mask, and not the caller's.
+fn is_free(owned: u16, caller: u8, cpu: usize) -> bool
+    requires { cpu < 16 }
+    ensures { result ≡ may_have owned caller cpu }
+{
+    has_bit(owned, cpu) && cpu != usize::from(caller)
+}
+
+/// Which CPUs it may have.
+pub(crate) fn free_cpus(owned: u16, caller: u8) -> [bool; 16]
+    ensures { (cpu : ℕ) → slice_index_or result cpu false ≡ may_have owned caller cpu }
+{
+    let mut free = [false; 16];
+    for cpu in 0..16 {
+        free[cpu] = is_free(owned, caller, cpu);
+    }
+    free
+}
