@@ -1,5 +1,5 @@
 -- A list of 64 loses its first, a shorter one nothing.
-use Rattle.std.proofs.Common.{◌≡◌, ◌≤◌, length, rules, arith, sym, ◌∙◌}
+use Rattle.std.proofs.Common.{◌≡◌, ◌≤◌, length, rules, sym, ◌∙◌}
 use Rattle.jh_cache.proofs.ListLemmas.{newest_full, newest_few}
 use Rattle.jh_cache.proofs.row.drop_oldest.Goals as goal
 

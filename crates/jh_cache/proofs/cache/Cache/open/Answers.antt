@@ -1,5 +1,5 @@
 -- Lists without a translation.
-use Rattle.std.proofs.Common.{◌≡◌, ◌≤◌, ℕ, [], ◌∷◌, ◌++◌, length, get_or, ap, ◌∙◌, rules, arith, length-append}
+use Rattle.std.proofs.Common.{rules, arith}
 use Rattle.jh_cache.proofs.ListLemmas.{empty_more}
 use Rattle.jh_cache.proofs.cache.Cache.open.Goals as goal
 
