@@ -1,6 +1,6 @@
 //! Translations filled, looked up and flushed: 65 fills, a repeat of the oldest, tags and CPUs apart.
 
-ghost use Rattle.std.specs.Prelude.{◌<◌, length};
+ghost use Rattle.std.specs.Prelude.{◌≡◌, ◌<◌, ◌≤◌, length};
 
 use crate::Cache;
 use jh_desc::Hit;
@@ -31,6 +31,17 @@ fn place(cache: &Cache, cpu: u8, tag: u8, page: u64) -> u64
     }
 }
 
+/// Fills the CPU's first pages, each at its own place from 0x40000000 on.
+fn fill_pages(cache: &mut Cache, count: u64)
+    requires cpu { 0 < length cache.old }
+    requires few { count ≤ 65 }
+    ensures { length cache.new ≡ length cache.old }
+{
+    for k in 0..count {
+        cache.fill(0, 3, 0x1000 * k, hit(0x4000_0000 + 0x1000 * k));
+    }
+}
+
 #[test]
 fn what_was_filled_is_found(rt: HostRuntime) -> Result<(), Fail> {
     let mut cache = Cache::open(rt.alloc(), 2)?;
@@ -46,9 +57,7 @@ fn what_was_filled_is_found(rt: HostRuntime) -> Result<(), Fail> {
 #[test]
 fn the_sixty_fifth_takes_the_place_of_the_oldest(rt: HostRuntime) -> Result<(), Fail> {
     let mut cache = Cache::open(rt.alloc(), 1)?;
-    for k in 0..65 {
-        cache.fill(0, 3, 0x1000 * k, hit(0x4000_0000 + 0x1000 * k));
-    }
+    fill_pages(&mut cache, 65);
     assert_eq!(rt; place(&cache, 0, 3, 0), 1);
     assert_eq!(rt; place(&cache, 0, 3, 0x1000), 0x4000_1000);
     assert_eq!(rt; place(&cache, 0, 3, 0x40000), 0x4004_0000);
@@ -58,14 +67,12 @@ fn the_sixty_fifth_takes_the_place_of_the_oldest(rt: HostRuntime) -> Result<(), 
 #[test]
 fn a_page_filled_again_is_the_newest(rt: HostRuntime) -> Result<(), Fail> {
     let mut cache = Cache::open(rt.alloc(), 1)?;
-    for k in 0..64 {
-        cache.fill(0, 3, 0x1000 * k, hit(0x1000 * k));
-    }
+    fill_pages(&mut cache, 64);
     cache.fill(0, 3, 0, hit(0x9000_0000));
     cache.fill(0, 3, 0x100_0000, hit(0x9000_1000));
     assert_eq!(rt; place(&cache, 0, 3, 0), 0x9000_0000);
     assert_eq!(rt; place(&cache, 0, 3, 0x1000), 1);
-    assert_eq!(rt; place(&cache, 0, 3, 0x2000), 0x2000);
+    assert_eq!(rt; place(&cache, 0, 3, 0x2000), 0x4000_2000);
     Ok(())
 }
 
