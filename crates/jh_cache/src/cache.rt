@@ -1,0 +1,86 @@
+//! The translations of all CPUs.
+ghost use Rattle.std.specs.Prelude.{◌≡◌, ◌≢◌, ℕ, ◌<◌, ◌≤◌, [], IfOk, length, map};
+ghost use Rattle.jh_cache.specs.declared.translation.Translation.{Translation as AnyTranslation};
+ghost use Rattle.jh_cache.specs.Translations.{filled, flushed, looked, row_of};
+
+use crate::row::Row;
+use crate::translation::Translation;
+use jh_desc::Hit;
+use jh_num::NoMemory;
+use std::alloc::Global;
+use std::marker::Model;
+
+/// For each CPU a list of translations. Only opening takes memory.
+#[derive(Drop)]
+pub struct Cache {
+    rows: Vec<Row>,
+}
+
+impl Model for Cache {
+    ghost use Rattle.std.specs.Prelude.{ℕ, List, ◌≤◌, length};
+    ghost use Rattle.jh_cache.specs.declared.translation.Translation.{Translation};
+    ghost use Rattle.jh_cache.specs.Translations.{row_of};
+
+    ghost Value = { List (List Translation) };
+
+    ghost view = { λ c. c.rows.items };
+
+    ghost invariant = { λ c. (cpu : ℕ) → length (row_of c.rows.items cpu) ≤ 64 };
+}
+
+fn flush_each(rows: &mut [Row], tag: u8)
+    ensures { rows.new ≡ map (flushed tag) rows.old }
+{
+    for row in rows.iter_mut() {
+        row.flush(tag);
+    }
+}
+
+impl Cache {
+    /// Lists without a translation for that many CPUs.
+    pub fn open(alloc: Global, cpus: u8) -> Result<Self, NoMemory>
+        ensures cpus { IfOk result (λ cache. length cache ≡ cpus) }
+        ensures empty { IfOk result (λ cache. (cpu : ℕ) → row_of cache cpu ≡ []) }
+    {
+        let mut rows = Vec::with_capacity(alloc, cpus as usize)?;
+        for _ in 0..cpus {
+            let row = Row::new(alloc)?;
+            rows.push(row)?;
+        }
+        Ok(Cache { rows })
+    }
+
+    /// What the CPU has cached for the page in the tables with the tag; `None` where it has nothing.
+    pub fn look(&self, cpu: u8, tag: u8, page: u64) -> Option<Hit>
+        requires { cpu < length self.now }
+        ensures { result ≡ looked (row_of self.now cpu) tag page }
+    {
+        self.rows[cpu as usize].look(tag, page)
+    }
+
+    /// Caches what a walk found for the page in the tables with the tag. It takes the place of another of
+    /// the same tag and page, else of the CPU's oldest translation where 64 are held.
+    pub fn fill(&mut self, cpu: u8, tag: u8, page: u64, hit: Hit)
+        requires { cpu < length self.old }
+        ensures filled { row_of self.new cpu ≡ filled (record { tag = tag; page = page; hit = hit }) (row_of self.old cpu) }
+        ensures others { (other : ℕ) → other ≢ cpu → row_of self.new other ≡ row_of self.old other }
+        ensures cpus { length self.new ≡ length self.old }
+    {
+        let row = &mut self.rows[cpu as usize];
+        row.fill(Translation { tag, page, hit });
+    }
+
+    /// Drops the translations of the tag on every CPU, and no other.
+    pub fn flush(&mut self, tag: u8)
+        ensures { self.new ≡ map (flushed tag) self.old }
+    {
+        flush_each(&mut self.rows, tag);
+    }
+}
+
+/// No CPU has more than 64 translations at any time.
+pub fn at_most_64_are_held(cache: &Cache)
+    ensures { (cpu : ℕ) → length (row_of cache.now cpu) ≤ 64 }
+{
+    let _ = &cache.rows;
+}

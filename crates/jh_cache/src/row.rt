@@ -1,0 +1,107 @@
+//! The translations of one CPU.
+ghost use Rattle.std.specs.Prelude.{◌≡◌, ◌≤◌, [], ◌∷◌, ◌++◌, IfOk, length};
+ghost use Rattle.std.specs.List.{list_any};
+ghost use Rattle.std.specs.VecDeque.{deque_capacity};
+ghost use Rattle.jh_cache.specs.Translations.{filled, flushed, is_for, looked, newest, without};
+
+use crate::translation::Translation;
+use jh_desc::Hit;
+use jh_num::NoMemory;
+use std::alloc::Global;
+use std::collections::VecDeque;
+use std::marker::Model;
+
+/// How many translations a CPU holds at most.
+const HELD: usize = 64;
+
+/// One CPU's translations, the oldest first. It has room for all of them.
+#[derive(Drop)]
+pub struct Row {
+    translations: VecDeque<Translation>,
+}
+
+impl Model for Row {
+    ghost use Rattle.std.specs.Prelude.{List, ◌≤◌, length};
+    ghost use Rattle.std.specs.VecDeque.{deque_capacity};
+    ghost use Rattle.jh_cache.specs.declared.translation.Translation.{Translation};
+
+    ghost Value = { List Translation };
+
+    ghost view = { λ r. r.translations.items };
+
+    ghost invariant = { λ r. (length r.translations.items ≤ 64) × (64 ≤ deque_capacity r.translations) };
+}
+
+/// Whether the list has a translation of the page in the tables with the tag.
+fn has(list: &VecDeque<Translation>, tag: u8, page: u64) -> bool
+    ensures { result ≡ list_any (is_for tag page) list.now.items }
+{
+    list.iter().any(|t| t.is_for(tag, page))
+}
+
+/// Takes the translation of the page out, where there is one.
+fn take_out(list: &mut VecDeque<Translation>, tag: u8, page: u64)
+    ensures items { list.new.items ≡ without (is_for tag page) list.old.items }
+    ensures few { length list.new.items ≤ length list.old.items }
+    ensures room { deque_capacity list.new ≡ deque_capacity list.old }
+{
+    if has(list, tag, page) {
+        list.retain(|t| !t.is_for(tag, page));
+    }
+}
+
+/// Takes the oldest out where the list is full.
+fn drop_oldest(list: &mut VecDeque<Translation>)
+    requires { length list.old.items ≤ 64 }
+    ensures items { list.new.items ≡ newest 63 list.old.items }
+    ensures few { length list.new.items ≤ 63 }
+    ensures room { deque_capacity list.new ≡ deque_capacity list.old }
+{
+    if list.len() == HELD {
+        let _ = list.pop_front();
+    }
+}
+
+/// Puts the translation at the end of a list that has room.
+fn append(list: &mut VecDeque<Translation>, translation: Translation)
+    requires few { length list.old.items ≤ 63 }
+    requires room { 64 ≤ deque_capacity list.old }
+    ensures items { list.new.items ≡ list.old.items ++ translation ∷ [] }
+    ensures room { deque_capacity list.new ≡ deque_capacity list.old }
+{
+    let _ = list.push_back(translation);
+}
+
+impl Row {
+    pub fn new(alloc: Global) -> Result<Self, NoMemory>
+        ensures { IfOk result (λ row. row ≡ []) }
+    {
+        let translations = VecDeque::with_capacity(alloc, HELD)?;
+        Ok(Row { translations })
+    }
+
+    pub fn look(&self, tag: u8, page: u64) -> Option<Hit>
+        ensures { result ≡ looked self.now tag page }
+    {
+        self.translations
+            .iter()
+            .find(|t| t.is_for(tag, page))
+            .map(|t| t.hit)
+    }
+
+    pub fn fill(&mut self, translation: Translation)
+        ensures value { self.new ≡ filled translation self.old }
+        ensures few { length self.new ≤ 64 }
+    {
+        take_out(&mut self.translations, translation.tag, translation.page);
+        drop_oldest(&mut self.translations);
+        append(&mut self.translations, translation);
+    }
+
+    pub fn flush(&mut self, tag: u8)
+        ensures value { self.new ≡ flushed tag self.old }
+        ensures few { length self.new ≤ 64 }
+    {
+        self.translations.retain(|t| t.tag != tag);
+    }
+}

@@ -1,0 +1,5 @@
+pub mod ByteLemmas
+pub mod RangeLemmas
+pub mod WordLemmas
+pub mod MemoryLemmas
+pub mod HeldLemmas

@@ -1,0 +1,103 @@
+-- Memory place by place.
+use Rattle.std.proofs.Common.{◌≡◌, ℕ, ◌+◌, ◌-◌, ◌/◌, ◌%◌, ◌<◌, ◌≤◌, Bool, true, false, leb, ltb, List, get_or, take, length, map, slice_index, slice_range, Some, None, refl, sym, ap, ◌∙◌, arith}
+use Rattle.std.specs.List.{range_with_len}
+use Rattle.std.proofs.lemmas.Bool.{and_parts, and_from, le-leb, lt-ltb, leb-true, ltb-true}
+use Rattle.jh_num.specs.Memory.{spelled}
+use Rattle.jh_frames.specs.Memory.{OwnView, FramesView, IsOwn, is_own, own_byte, page_at, byte_in, guest_byte, byte_at}
+use Rattle.jh_frames.specs.Kept.{IsWhole}
+use Rattle.jh_frames.proofs.RangeLemmas.{alike_over, zero_over, read_over, range_read}
+
+-- places of the hypervisor's memory
+pub own_above : (own : OwnView) (q : ℕ) → is_own own q ≡ true → own.base ≤ q
+own_above own q is = leb-true own.base q (and_parts (leb own.base q) (ltb q (own.base + length own.bytes)) is).0
+
+pub own_below : (own : OwnView) (q : ℕ) → is_own own q ≡ true → q < own.base + length own.bytes
+own_below own q is = ltb-true q (own.base + length own.bytes) (and_parts (leb own.base q) (ltb q (own.base + length own.bytes)) is).1
+
+pub own_there : (own : OwnView) (q : ℕ) → own.base ≤ q → q < own.base + length own.bytes → is_own own q ≡ true
+own_there own q above below = and_from (leb own.base q) (ltb q (own.base + length own.bytes)) (le-leb own.base q above) (lt-ltb q (own.base + length own.bytes) below)
+
+pub own_read : (own : OwnView) (q : ℕ) → is_own own q ≡ true → own_byte own q ≡ get_or own.bytes (q - own.base) 0
+own_read own q is = rw is refl
+
+pub byte_own : (v : FramesView) (q : ℕ) → is_own v.own q ≡ true → byte_at v q ≡ own_byte v.own q
+byte_own v q is = rw is refl
+
+pub byte_guest : (v : FramesView) (q : ℕ) → is_own v.own q ≡ false → byte_at v q ≡ guest_byte v.guest.pages q
+byte_guest v q is = rw is refl
+
+-- a place of the hypervisor's, from the first of several
+pub own_all : (own : OwnView) (at n x : ℕ) → IsOwn own at n → at ≤ x → x < at + n → is_own own x ≡ true
+own_all own at n x is above below =
+    let low : own.base ≤ at = is.above in
+    let high : at + n ≤ own.base + length own.bytes = is.below in
+    own_there own x (omega arith) (omega arith)
+
+-- the bytes of one page are the hypervisor's where the first is
+pub own_within : (own : OwnView) (at n : ℕ) → IsWhole own → is_own own at ≡ true → at % 4096 + n ≤ 4096 → IsOwn own at n
+own_within own at n whole is within =
+    let above : own.base ≤ at = own_above own at is in
+    let below : at < own.base + length own.bytes = own_below own at is in
+    let aligned : own.base % 4096 ≡ 0 = whole.aligned in
+    let pages : length own.bytes % 4096 ≡ 0 = whole.whole in
+    record { above = omega arith; below = omega arith }
+
+own_page_by : (own : OwnView) (x y : ℕ) → IsWhole own → x / 4096 ≡ y / 4096 → is_own own x ≡ true → is_own own y ≡ true
+own_page_by own x y whole same is =
+    let above : own.base ≤ x = own_above own x is in
+    let below : x < own.base + length own.bytes = own_below own x is in
+    let aligned : own.base % 4096 ≡ 0 = whole.aligned in
+    let pages : length own.bytes % 4096 ≡ 0 = whole.whole in
+    own_there own y (omega arith) (omega arith)
+
+same_test : (a b : Bool) → (a ≡ true → b ≡ true) → (b ≡ true → a ≡ true) → a ≡ b
+same_test true b h k = sym (h refl)
+same_test false true h k = k refl
+same_test false false h k = refl
+
+-- places of one page are both the hypervisor's, or neither
+pub own_page : (own : OwnView) (x y : ℕ) → IsWhole own → x / 4096 ≡ y / 4096 → is_own own x ≡ is_own own y
+own_page own x y whole same = same_test (is_own own x) (is_own own y) (own_page_by own x y whole same) (own_page_by own y x whole (sym same))
+
+-- the number that bytes of the hypervisor's memory spell
+pub own_value : (v : FramesView) (at n : ℕ) → IsOwn v.own at n → spelled (slice_range v.own.bytes (at - v.own.base) (at - v.own.base + n)) ≡ spelled (map (byte_at v) (range_with_len at n))
+own_value v at n is =
+    let low : v.own.base ≤ at = is.above in
+    let high : at + n ≤ v.own.base + length v.own.bytes = is.below in
+    ap spelled (range_read v.own.bytes (at - v.own.base) n (omega arith)
+    ∙ sym (alike_over (byte_at v) (slice_index v.own.bytes) at (at - v.own.base) n (λ j x y lt p q.
+    let there : is_own v.own x ≡ true = own_all v.own at n x is (omega arith) (omega arith) in
+    let same : x - v.own.base ≡ y = omega arith in
+    byte_own v x there ∙ own_read v.own x there ∙ ap (λ k. get_or v.own.bytes k 0) same)))
+
+-- and those of a guest's page
+pub guest_value : (pages : List (ℕ × List ℕ)) (page : List ℕ) (at n : ℕ) → page_at pages (at / 4096) ≡ Some page → length page ≡ 4096 → at % 4096 + n ≤ 4096 → spelled (slice_range page (at % 4096) (at % 4096 + n)) ≡ spelled (map (guest_byte pages) (range_with_len at n))
+guest_value pages page at n there long within =
+    ap spelled (range_read page (at % 4096) n (omega arith)
+    ∙ sym (alike_over (guest_byte pages) (slice_index page) at (at % 4096) n (λ j x y lt p q.
+    let number : x / 4096 ≡ at / 4096 = omega arith in
+    let offset : x % 4096 ≡ y = omega arith in
+    ap (λ k. byte_in (page_at pages k) (x % 4096)) number ∙ ap (λ o. byte_in o (x % 4096)) there ∙ ap (λ k. get_or page k 0) offset)))
+
+pub no_value : (pages : List (ℕ × List ℕ)) (at n : ℕ) → page_at pages (at / 4096) ≡ None → at % 4096 + n ≤ 4096 → 0 ≡ spelled (map (guest_byte pages) (range_with_len at n))
+no_value pages at n none within =
+    zero_over (guest_byte pages) at n (λ j x lt p.
+    let number : x / 4096 ≡ at / 4096 = omega arith in
+    ap (λ k. byte_in (page_at pages k) (x % 4096)) number ∙ ap (λ o. byte_in o (x % 4096)) none)
+
+-- the value of a page that isn't the hypervisor's is the guests'
+pub guest_all : (v : FramesView) (at n : ℕ) → IsWhole v.own → is_own v.own at ≡ false → at % 4096 + n ≤ 4096 → spelled (map (guest_byte v.guest.pages) (range_with_len at n)) ≡ spelled (map (byte_at v) (range_with_len at n))
+guest_all v at n whole other within =
+    ap spelled (sym (alike_over (byte_at v) (guest_byte v.guest.pages) at at n (λ j x y lt p q.
+    let number : x / 4096 ≡ at / 4096 = omega arith in
+    let same : x ≡ y = omega arith in
+    byte_guest v x (own_page v.own x at whole number ∙ other) ∙ ap (guest_byte v.guest.pages) same)))
+
+-- bytes that were read one by one
+pub torn_value : (v : FramesView) (bytes : List ℕ) (at n : ℕ) → n ≤ length bytes → ((j : ℕ) → j < n → get_or bytes j 0 ≡ byte_at v (at + j)) → spelled (take (n - 0) bytes) ≡ spelled (map (byte_at v) (range_with_len at n))
+torn_value v bytes at n few read =
+    let all : n - 0 ≡ n = omega arith in
+    ap spelled (ap (λ k. take k bytes) all ∙ read_over bytes 0 n (omega arith)
+    ∙ alike_over (slice_index bytes) (byte_at v) 0 at n (λ j x y lt p q.
+    let same : x ≡ j = omega arith in
+    ap (λ k. get_or bytes k 0) same ∙ read j lt ∙ ap (byte_at v) (sym q)))

@@ -1,0 +1,12 @@
+-- A new page is zeros.
+use Rattle.std.proofs.Common.{◌≡◌, ℕ, zero, suc, get_or, refl}
+use Rattle.std.specs.Prelude.{replicate}
+use Rattle.jh_frames.proofs.page.Page.zero.Goals as goal
+
+get_or-same : (n k b : ℕ) → get_or (replicate n b) k b ≡ b
+get_or-same zero k b = refl
+get_or-same (suc n) zero b = refl
+get_or-same (suc n) (suc k) b = get_or-same n k b
+
+pub returns : goal.returns
+returns c = λ k. rw c.in_ok-bytes.ensures.items (get_or-same 4096 k 0)

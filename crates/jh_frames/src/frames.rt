@@ -1,0 +1,341 @@
+//! Memory as bytes at places.
+ghost use Rattle.std.specs.Prelude.{◌≡◌, ◌≢◌, ℕ, ◌+◌, ◌-◌, ◌*◌, ◌%◌, ◌/◌, ◌^◌, ◌≤◌, ◌<◌, ◌⊎◌, true, false, not, map, length, slice_index, slice_range, IfOk, OnOk, OnErr, IsOk, if◌then◌else◌};
+ghost use Rattle.std.specs.List.{range_with_len};
+ghost use Rattle.jh_num.specs.declared.address.TheConstants.{ADDRESS_END};
+ghost use Rattle.jh_num.specs.Memory.{spelled, stored};
+ghost use Rattle.jh_frames.specs.Memory.{byte_at, holds, missing, missing_from, page_at, pages_in, word_in, IsOwn};
+ghost use Rattle.jh_frames.specs.Kept.{IsWhole};
+
+use crate::bytes::number_of;
+use crate::guest::Guest;
+use crate::own::Own;
+use jh_num::{NoMemory, PAGE_SIZE};
+use std::alloc::Global;
+use std::marker::Model;
+
+/// The bytes of memory. Places end at 2^39, and each holds a byte, which is 0 until it is written.
+///
+/// The pages of the hypervisor's range are held from opening on, a guest's page from its first write on,
+/// and held pages are never given back. Only a page that isn't held yet can want memory.
+#[derive(Drop)]
+pub struct Frames {
+    own: Own,
+    guest: Guest,
+}
+
+impl Model for Frames {
+    ghost use Rattle.jh_frames.specs.Memory.{FramesView};
+
+    ghost Value = { FramesView };
+
+    ghost view = { λ f. record { own = f.own; guest = f.guest } };
+}
+
+impl Frames {
+    /// Memory of zeros. It takes the hypervisor's range, of `size` bytes from `base` on.
+    pub fn open(alloc: Global, base: u64, size: u64) -> Result<Self, NoMemory>
+        requires aligned { base % 4096 ≡ 0 }
+        requires whole { size % 4096 ≡ 0 }
+        requires below { base + size ≤ ADDRESS_END }
+        ensures base { IfOk result (λ frames. frames.own.base ≡ base) }
+        ensures size { IfOk result (λ frames. length frames.own.bytes ≡ size) }
+        ensures zero { IfOk result (λ frames. (q : ℕ) → byte_at frames q ≡ 0) }
+    {
+        let own = Own::open(alloc, base, size)?;
+        Ok(Frames {
+            own,
+            guest: Guest::new(alloc),
+        })
+    }
+
+    /// The byte at the place.
+    pub fn read(&self, at: u64) -> u8
+        ensures { result ≡ byte_at self.now at }
+    {
+        if self.own.has(at) {
+            self.own.read(at)
+        } else {
+            self.guest.read(at)
+        }
+    }
+
+    /// Whether the page of the place is held.
+    pub fn holds(&self, at: u64) -> bool
+        ensures value { result ≡ holds self.now at }
+        ensures whole { IsWhole self.now.own }
+    {
+        let own = self.own.has(at);
+        own || self.guest.holds(at)
+    }
+
+    /// The number that bytes of two pages spell.
+    fn torn_value(&self, at: u64, width: usize) -> u64
+        requires place { at + width ≤ ADDRESS_END }
+        requires width { width ≤ 8 }
+        ensures { result ≡ spelled (map (byte_at self.now) (range_with_len at width)) }
+    {
+        let mut bytes = [0; 8];
+        for k in 0..width {
+            bytes[k] = self.read(at + k as u64);
+        }
+        number_of(&bytes[0..width])
+    }
+
+    /// The number that the bytes from the place on spell, the lowest first; at most eight.
+    pub fn value(&self, at: u64, width: u8) -> u64
+        requires place { at + width ≤ ADDRESS_END }
+        requires width { width ≤ 8 }
+        ensures { result ≡ spelled (map (byte_at self.now) (range_with_len at width)) }
+    {
+        if at % PAGE_SIZE + u64::from(width) > PAGE_SIZE {
+            self.torn_value(at, width as usize)
+        } else if self.own.has(at) {
+            self.own.value(at, width as usize)
+        } else {
+            self.guest.value(at, width as usize)
+        }
+    }
+
+    /// The word at a place anywhere.
+    fn any_word(&self, at: u64) -> u64
+        requires { at + 8 ≤ ADDRESS_END }
+        ensures { result ≡ word_in (byte_at self.now) at }
+    {
+        u64::from_le_bytes([
+            self.read(at),
+            self.read(at + 1),
+            self.read(at + 2),
+            self.read(at + 3),
+            self.read(at + 4),
+            self.read(at + 5),
+            self.read(at + 6),
+            self.read(at + 7),
+        ])
+    }
+
+    /// The word of eight bytes at the place, the lowest first.
+    pub fn word(&self, at: u64) -> u64
+        requires { at + 8 ≤ ADDRESS_END }
+        ensures { result ≡ word_in (byte_at self.now) at }
+    {
+        if self.own.has_word(at) {
+            self.own.word(at)
+        } else {
+            self.any_word(at)
+        }
+    }
+
+    /// Writes the bytes of a word of the hypervisor's memory.
+    fn set_bytes(&mut self, at: u64, word: u64)
+        requires { IsOwn self.old.own at 8 }
+        ensures base { self.new.own.base ≡ self.old.own.base }
+        ensures size { length self.new.own.bytes ≡ length self.old.own.bytes }
+        ensures guest { self.new.guest ≡ self.old.guest }
+        ensures at { word_in (byte_at self.new) at ≡ word }
+        ensures below { (q : ℕ) → q < at → byte_at self.new q ≡ byte_at self.old q }
+        ensures above { (q : ℕ) → at + 8 ≤ q → byte_at self.new q ≡ byte_at self.old q }
+    {
+        self.own.set_word(at, word);
+    }
+
+    /// Writes a word of the hypervisor's memory.
+    pub fn set_word(&mut self, at: u64, word: u64)
+        requires { IsOwn self.old.own at 8 }
+        ensures base { self.new.own.base ≡ self.old.own.base }
+        ensures size { length self.new.own.bytes ≡ length self.old.own.bytes }
+        ensures guest { self.new.guest ≡ self.old.guest }
+        ensures at { word_in (byte_at self.new) at ≡ word }
+        ensures below { (q : ℕ) → q < at → byte_at self.new q ≡ byte_at self.old q }
+        ensures above { (q : ℕ) → at + 8 ≤ q → byte_at self.new q ≡ byte_at self.old q }
+        ensures words_below { (q : ℕ) → q + 8 ≤ at → word_in (byte_at self.new) q ≡ word_in (byte_at self.old) q }
+        ensures words_above { (q : ℕ) → at + 8 ≤ q → word_in (byte_at self.new) q ≡ word_in (byte_at self.old) q }
+    {
+        self.set_bytes(at, word);
+    }
+
+    /// A page of the hypervisor's memory.
+    pub fn page(&self, at: u64) -> &[u8]
+        requires { IsOwn self.now.own at 4096 }
+        ensures len { length result.now ≡ 4096 }
+        ensures bytes { (k : ℕ) → k < 4096 → slice_index result.now k ≡ byte_at self.now (at + k) }
+    {
+        self.own.page(at)
+    }
+
+    /// Puts the bytes there if they lie in one page that is held, and tells whether they do.
+    fn write_held(&mut self, at: u64, bytes: &[u8]) -> bool
+        requires { at + length bytes.now ≤ ADDRESS_END }
+        ensures done { at % 4096 + length bytes.now ≤ 4096 → holds self.old at ≡ true → result ≡ true }
+        ensures bytes { result ≡ true → (q : ℕ) → byte_at self.new q ≡ stored (byte_at self.old) at bytes.now q }
+        ensures unchanged { result ≡ false → self.new ≡ self.old }
+        ensures base { self.new.own.base ≡ self.old.own.base }
+        ensures size { length self.new.own.bytes ≡ length self.old.own.bytes }
+        ensures held { (q : ℕ) → holds self.new q ≡ holds self.old q }
+        ensures inside { result ≡ true → holds self.old at ≡ true }
+        ensures one_page { result ≡ true → at % 4096 + length bytes.now ≤ 4096 }
+        ensures spare { self.new.guest.spare ≡ self.old.guest.spare }
+        ensures whole { IsWhole self.old.own }
+    {
+        let own = self.own.has(at);
+        if at % PAGE_SIZE + bytes.len() as u64 > PAGE_SIZE {
+            return false;
+        }
+        if own {
+            self.own.write(at, bytes);
+            true
+        } else {
+            self.guest.write(at, bytes)
+        }
+    }
+
+    /// How many of so many pages from the number on aren't held.
+    fn missing_from(&self, first: u64, count: u64) -> usize
+        requires { 4096 * (first + count) ≤ ADDRESS_END }
+        ensures value { result ≡ missing_from self.now first count }
+        ensures most { result ≤ count }
+    {
+        let mut missing = 0;
+        for number in first..first + count {
+            if !self.holds(PAGE_SIZE * number) {
+                missing += 1;
+            }
+        }
+        missing
+    }
+
+    /// Holds the page of the number, for which there is a spare one where it isn't held.
+    fn hold_page(&mut self, number: u64)
+        requires place { 4096 * number < ADDRESS_END }
+        requires spare { holds self.old (4096 * number) ≡ false → 0 < self.old.guest.spare }
+        ensures held { holds self.new (4096 * number) ≡ true }
+        ensures bytes { (q : ℕ) → byte_at self.new q ≡ byte_at self.old q }
+        ensures own { self.new.own ≡ self.old.own }
+        ensures others { (other : ℕ) → other ≢ number → page_at self.new.guest.pages other ≡ page_at self.old.guest.pages other }
+        ensures kept { (q : ℕ) → holds self.old q ≡ true → holds self.new q ≡ true }
+        ensures spare { self.old.guest.spare ≤ self.new.guest.spare + (if holds self.old (4096 * number) then 0 else 1) }
+    {
+        if !self.holds(PAGE_SIZE * number) {
+            self.guest.hold(number);
+        }
+    }
+
+    /// Holds so many pages from the number on, as far as they aren't held; so many are spare.
+    fn hold_pages(&mut self, first: u64, count: u64)
+        requires place { 4096 * (first + count) ≤ ADDRESS_END }
+        requires spare { missing_from self.old first count ≤ self.old.guest.spare }
+        ensures held { (number : ℕ) → first ≤ number → number < first + count → holds self.new (4096 * number) ≡ true }
+        ensures bytes { (q : ℕ) → byte_at self.new q ≡ byte_at self.old q }
+        ensures own { self.new.own ≡ self.old.own }
+        ensures kept { (q : ℕ) → holds self.old q ≡ true → holds self.new q ≡ true }
+        ensures spare { self.old.guest.spare ≤ self.new.guest.spare + missing_from self.old first count }
+    {
+        for number in first..first + count {
+            self.hold_page(number);
+        }
+    }
+
+    /// Holds the pages of so many bytes from the place on.
+    fn hold_all(&mut self, at: u64, count: usize) -> Result<(), NoMemory>
+        requires { at + count ≤ ADDRESS_END }
+        ensures held { OnOk result ((q : ℕ) → at ≤ q → q < at + count → holds self.new q ≡ true) }
+        ensures bytes { (q : ℕ) → byte_at self.new q ≡ byte_at self.old q }
+        ensures own { self.new.own ≡ self.old.own }
+        ensures unchanged { OnErr result (self.new.guest.pages ≡ self.old.guest.pages) }
+        ensures kept { (q : ℕ) → holds self.old q ≡ true → holds self.new q ≡ true }
+        ensures succeeds { missing self.old at count ≤ self.old.guest.spare → IsOk result }
+        ensures spare { self.old.guest.spare ≤ self.new.guest.spare + missing self.old at count }
+    {
+        let _ = self.holds(at);
+        let first = at / PAGE_SIZE;
+        let pages = pages_in(at, count);
+        let missing = self.missing_from(first, pages);
+        self.guest.reserve(missing)?;
+        self.hold_pages(first, pages);
+        Ok(())
+    }
+
+    /// Puts the bytes into pages that are held, page by page.
+    fn write_pages(&mut self, at: u64, bytes: &[u8])
+        requires place { at + length bytes.now ≤ ADDRESS_END }
+        requires held { (q : ℕ) → at ≤ q → q < at + length bytes.now → holds self.old q ≡ true }
+        ensures bytes { (q : ℕ) → byte_at self.new q ≡ stored (byte_at self.old) at bytes.now q }
+        ensures base { self.new.own.base ≡ self.old.own.base }
+        ensures size { length self.new.own.bytes ≡ length self.old.own.bytes }
+        ensures held { (q : ℕ) → holds self.new q ≡ holds self.old q }
+        ensures spare { self.new.guest.spare ≡ self.old.guest.spare }
+    {
+        let mut done = 0;
+        while done < bytes.len() {
+            let place = at + done as u64;
+            let end = bytes
+                .len()
+                .min(done + (PAGE_SIZE - place % PAGE_SIZE) as usize);
+            self.write_held(place, &bytes[done..end]);
+            done = end;
+        }
+    }
+
+    /// Writes the bytes from the place on, all of them, or none where a page wants memory. A page that is
+    /// held or the hypervisor's doesn't.
+    pub fn write(&mut self, at: u64, bytes: &[u8]) -> Result<(), NoMemory>
+        requires { at + length bytes.now ≤ ADDRESS_END }
+        ensures bytes { OnOk result ((q : ℕ) → byte_at self.new q ≡ stored (byte_at self.old) at bytes.now q) }
+        ensures held { OnOk result ((q : ℕ) → at ≤ q → q < at + length bytes.now → holds self.new q ≡ true) }
+        ensures unchanged { OnErr result ((self.new.own ≡ self.old.own) × (self.new.guest.pages ≡ self.old.guest.pages)) }
+        ensures base { self.new.own.base ≡ self.old.own.base }
+        ensures size { length self.new.own.bytes ≡ length self.old.own.bytes }
+        ensures kept { (q : ℕ) → holds self.old q ≡ true → holds self.new q ≡ true }
+        ensures succeeds { missing self.old at (length bytes.now) ≤ self.old.guest.spare → IsOk result }
+        ensures spare { self.old.guest.spare ≤ self.new.guest.spare + missing self.old at (length bytes.now) }
+    {
+        if self.write_held(at, bytes) {
+            return Ok(());
+        }
+        self.hold_all(at, bytes.len())?;
+        self.write_pages(at, bytes);
+        Ok(())
+    }
+
+    /// Holds the page of the place. No byte changes.
+    pub fn hold(&mut self, at: u64) -> Result<(), NoMemory>
+        requires { at < ADDRESS_END }
+        ensures held { OnOk result (holds self.new at ≡ true) }
+        ensures bytes { (q : ℕ) → byte_at self.new q ≡ byte_at self.old q }
+        ensures own { self.new.own ≡ self.old.own }
+        ensures others { (other : ℕ) → other ≢ at / 4096 → page_at self.new.guest.pages other ≡ page_at self.old.guest.pages other }
+        ensures unchanged { OnErr result (self.new.guest.pages ≡ self.old.guest.pages) }
+        ensures kept { (q : ℕ) → holds self.old q ≡ true → holds self.new q ≡ true }
+        ensures succeeds { (holds self.old at ≡ false → 0 < self.old.guest.spare) → IsOk result }
+        ensures spare { self.old.guest.spare ≤ self.new.guest.spare + (if holds self.old at then 0 else 1) }
+    {
+        if !self.holds(at) {
+            self.guest.reserve(1)?;
+            self.guest.hold(at / PAGE_SIZE);
+        }
+        Ok(())
+    }
+
+    /// Takes memory for so many pages that are held later.
+    pub fn reserve(&mut self, pages: usize) -> Result<(), NoMemory>
+        ensures own { self.new.own ≡ self.old.own }
+        ensures pages { self.new.guest.pages ≡ self.old.guest.pages }
+        ensures ok { OnOk result (pages ≤ self.new.guest.spare) }
+        ensures spare { self.old.guest.spare ≤ self.new.guest.spare }
+        ensures succeeds { pages ≤ self.old.guest.spare → IsOk result }
+    {
+        self.guest.reserve(pages)
+    }
+}
+
+/// How many pages so many bytes from the place on lie in.
+fn pages_in(at: u64, count: usize) -> u64
+    requires { at + count ≤ ADDRESS_END }
+    ensures value { result ≡ pages_in at count }
+    ensures within { 4096 * (at / 4096 + result) ≤ ADDRESS_END }
+{
+    if count == 0 {
+        0
+    } else {
+        (at + count as u64 - 1) / PAGE_SIZE + 1 - at / PAGE_SIZE
+    }
+}

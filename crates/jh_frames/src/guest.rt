@@ -1,0 +1,172 @@
+//! The pages of guests.
+ghost use Rattle.std.specs.Prelude.{◌≡◌, ◌≢◌, ℕ, ◌+◌, ◌-◌, ◌%◌, ◌/◌, ◌^◌, ◌≤◌, ◌<◌, true, false, None, Some, map, length, slice_index, is_some, IsSome, IfSome, OnOk, IsOk};
+ghost use Rattle.std.specs.List.{range_with_len};
+ghost use Rattle.jh_num.specs.Memory.{spelled, stored};
+ghost use Rattle.indexmap.specs.IndexMap.{spare};
+ghost use Rattle.jh_frames.specs.Memory.{byte_in, guest_byte, page_at};
+ghost use Rattle.jh_frames.specs.Kept.{AreZero};
+
+use crate::page::Page;
+use indexmap::IndexMap;
+use jh_num::{NoMemory, PAGE_SIZE};
+use std::alloc::Global;
+use std::marker::Model;
+
+/// Pages by number, and pages of zeros that are laid by to be held later.
+#[derive(Drop)]
+pub struct Guest {
+    pages: IndexMap<u64, Page>,
+    laid: Vec<Page>,
+    alloc: Global,
+}
+
+impl Model for Guest {
+    ghost use Rattle.std.specs.Prelude.{min, length};
+    ghost use Rattle.indexmap.specs.IndexMap.{spare};
+    ghost use Rattle.jh_frames.specs.Memory.{GuestView};
+    ghost use Rattle.jh_frames.specs.Kept.{AreZero};
+
+    ghost Value = { GuestView };
+
+    ghost view = { λ g. record { pages = g.pages.entries; spare = min (length g.laid.items) (spare g.pages) } };
+
+    ghost invariant = { λ g. AreZero g.laid.items };
+}
+
+/// Lays pages by until there are so many.
+fn lay_by(alloc: Global, laid: &mut Vec<Page>, count: usize) -> Result<(), NoMemory>
+    requires { AreZero laid.old.items }
+    ensures zero { AreZero laid.new.items }
+    ensures ok { OnOk result (count ≤ length laid.new.items) }
+    ensures grows { length laid.old.items ≤ length laid.new.items }
+    ensures succeeds { count ≤ length laid.old.items → IsOk result }
+{
+    for _ in laid.len()..count {
+        let page = Page::zero(alloc)?;
+        laid.push(page)?;
+    }
+    Ok(())
+}
+
+/// Puts the bytes into the page of the number from the offset on, and tells whether it is held.
+fn put_page(pages: &mut IndexMap<u64, Page>, number: u64, offset: usize, bytes: &[u8]) -> bool
+    requires { offset + length bytes.now ≤ 4096 }
+    ensures told { result ≡ is_some (page_at pages.old.entries number) }
+    ensures page { result ≡ true → (k : ℕ) → byte_in (page_at pages.new.entries number) k ≡ stored (byte_in (page_at pages.old.entries number)) offset bytes.now k }
+    ensures unchanged { result ≡ false → pages.new ≡ pages.old }
+    ensures others { (other : ℕ) → other ≢ number → page_at pages.new.entries other ≡ page_at pages.old.entries other }
+    ensures held { is_some (page_at pages.new.entries number) ≡ is_some (page_at pages.old.entries number) }
+    ensures spare { spare pages.new ≡ spare pages.old }
+{
+    match pages.get_mut(&number) {
+        None => false,
+        Some(page) => {
+            page.write(offset, bytes);
+            true
+        }
+    }
+}
+
+/// Holds the page under a number that has none.
+fn add_page(pages: &mut IndexMap<u64, Page>, number: u64, page: Page)
+    requires absent { page_at pages.old.entries number ≡ None }
+    requires room { 0 < spare pages.old }
+    ensures page { page_at pages.new.entries number ≡ Some page }
+    ensures others { (other : ℕ) → other ≢ number → page_at pages.new.entries other ≡ page_at pages.old.entries other }
+    ensures spare { spare pages.old ≤ spare pages.new + 1 }
+{
+    let _ = pages.insert(number, page);
+}
+
+/// Takes a page that was laid by.
+fn take_page(laid: &mut Vec<Page>) -> Option<Page>
+    requires { AreZero laid.old.items }
+    ensures some { 0 < length laid.old.items → IsSome result }
+    ensures zero { IfSome result (λ page. (k : ℕ) → slice_index page k ≡ 0) }
+    ensures others { AreZero laid.new.items }
+    ensures count { length laid.old.items ≤ length laid.new.items + 1 }
+{
+    laid.pop()
+}
+
+impl Guest {
+    pub fn new(alloc: Global) -> Self
+        ensures { (number : ℕ) → page_at result.pages number ≡ None }
+    {
+        Guest {
+            pages: IndexMap::new(alloc),
+            laid: Vec::new(alloc),
+            alloc,
+        }
+    }
+
+    /// Whether the page of the place is held.
+    pub fn holds(&self, at: u64) -> bool
+        ensures { result ≡ is_some (page_at self.now.pages (at / 4096)) }
+    {
+        self.pages.contains_key(&(at / PAGE_SIZE))
+    }
+
+    pub fn read(&self, at: u64) -> u8
+        ensures { result ≡ guest_byte self.now.pages at }
+    {
+        match self.pages.get(&(at / PAGE_SIZE)) {
+            None => 0,
+            Some(page) => page.get((at % PAGE_SIZE) as usize),
+        }
+    }
+
+    /// The number that bytes of one page spell, the lowest first.
+    pub fn value(&self, at: u64, width: usize) -> u64
+        requires width { width ≤ 8 }
+        requires within { at % 4096 + width ≤ 4096 }
+        ensures { result ≡ spelled (map (guest_byte self.now.pages) (range_with_len at width)) }
+    {
+        match self.pages.get(&(at / PAGE_SIZE)) {
+            None => 0,
+            Some(page) => page.value((at % PAGE_SIZE) as usize, width),
+        }
+    }
+
+    /// Puts the bytes into their one page, and tells whether it is held.
+    pub fn write(&mut self, at: u64, bytes: &[u8]) -> bool
+        requires { at % 4096 + length bytes.now ≤ 4096 }
+        ensures told { result ≡ is_some (page_at self.old.pages (at / 4096)) }
+        ensures bytes { result ≡ true → (q : ℕ) → guest_byte self.new.pages q ≡ stored (guest_byte self.old.pages) at bytes.now q }
+        ensures unchanged { result ≡ false → self.new ≡ self.old }
+        ensures held { (number : ℕ) → is_some (page_at self.new.pages number) ≡ is_some (page_at self.old.pages number) }
+        ensures spare { self.new.spare ≡ self.old.spare }
+    {
+        put_page(
+            &mut self.pages,
+            at / PAGE_SIZE,
+            (at % PAGE_SIZE) as usize,
+            bytes,
+        )
+    }
+
+    /// Holds a page that isn't held.
+    pub fn hold(&mut self, number: u64)
+        requires absent { is_some (page_at self.old.pages number) ≡ false }
+        requires spare { 0 < self.old.spare }
+        ensures bytes { (q : ℕ) → guest_byte self.new.pages q ≡ guest_byte self.old.pages q }
+        ensures held { is_some (page_at self.new.pages number) ≡ true }
+        ensures others { (other : ℕ) → other ≢ number → page_at self.new.pages other ≡ page_at self.old.pages other }
+        ensures spare { self.old.spare ≤ self.new.spare + 1 }
+    {
+        if let Some(page) = take_page(&mut self.laid) {
+            add_page(&mut self.pages, number, page);
+        }
+    }
+
+    /// Lays so many pages by.
+    pub fn reserve(&mut self, pages: usize) -> Result<(), NoMemory>
+        ensures pages { self.new.pages ≡ self.old.pages }
+        ensures ok { OnOk result (pages ≤ self.new.spare) }
+        ensures spare { self.old.spare ≤ self.new.spare }
+        ensures succeeds { pages ≤ self.old.spare → IsOk result }
+    {
+        self.pages.reserve(pages)?;
+        lay_by(self.alloc, &mut self.laid, pages)
+    }
+}

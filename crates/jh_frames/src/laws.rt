@@ -1,0 +1,25 @@
+//! What holds of memory and of words.
+ghost use Rattle.std.specs.Prelude.{◌≡◌, ℕ, ◌+◌, ◌/◌, ◌%◌, ◌<◌, map, is_some};
+ghost use Rattle.std.specs.List.{range_with_len};
+ghost use Rattle.jh_num.specs.Memory.{spelled};
+ghost use Rattle.jh_frames.specs.Memory.{byte_at, byte_in, holds, page_of, word_in};
+
+use crate::frames::Frames;
+
+/// A byte is the one of its page, in a finite map that has the hypervisor's pages too.
+pub fn bytes_are_those_of_pages(frames: &Frames)
+    ensures byte { (place : ℕ) → byte_at frames.now place ≡ byte_in (page_of frames.now (place / 4096)) (place % 4096) }
+    ensures held { (place : ℕ) → holds frames.now place ≡ is_some (page_of frames.now (place / 4096)) }
+{
+    let _ = frames.holds(0);
+}
+
+/// A word is the number that its eight bytes spell, the lowest first.
+pub fn a_word_is_spelled()
+    ensures { (byte : ℕ → ℕ) (at : ℕ) → word_in byte at ≡ spelled (map byte (range_with_len at 8)) }
+{}
+
+/// A word depends on its eight bytes alone.
+pub fn equal_bytes_make_equal_words()
+    ensures { (byte other : ℕ → ℕ) (at : ℕ) → ((k : ℕ) → k < 8 → other (at + k) ≡ byte (at + k)) → word_in other at ≡ word_in byte at }
+{}

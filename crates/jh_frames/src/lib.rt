@@ -1,0 +1,16 @@
+//! Memory as bytes at places: the hypervisor's range, held from the start, and pages of guests, held
+//! from their first write on.
+#![tactic(auto)]
+
+mod bytes;
+mod frames;
+mod guest;
+mod laws;
+mod own;
+mod page;
+
+pub use frames::Frames;
+pub use laws::{a_word_is_spelled, bytes_are_those_of_pages, equal_bytes_make_equal_words};
+
+#[cfg(test)]
+mod tests;

@@ -1,0 +1,148 @@
+//! The hypervisor's memory.
+ghost use Rattle.std.specs.Prelude.{◌≡◌, ◌≢◌, ℕ, ◌+◌, ◌-◌, ◌%◌, ◌^◌, ◌≤◌, ◌<◌, true, MatchBool, length, slice_index, slice_range, IfOk};
+ghost use Rattle.jh_num.specs.Memory.{spelled, stored};
+ghost use Rattle.jh_frames.specs.Memory.{is_own, own_byte, word_in, IsOwn};
+ghost use Rattle.jh_frames.specs.Kept.{IsWhole};
+
+use crate::bytes::{number_of, put};
+use jh_num::NoMemory;
+use std::alloc::Global;
+use std::marker::Model;
+
+/// One range of whole pages, taken at opening.
+#[derive(Drop)]
+pub struct Own {
+    base: u64,
+    bytes: Vec<u8>,
+}
+
+impl Model for Own {
+    ghost use Rattle.jh_frames.specs.Memory.{OwnView};
+    ghost use Rattle.jh_frames.specs.Kept.{IsWhole};
+
+    ghost Value = { OwnView };
+
+    ghost view = { λ o. record { base = o.base; bytes = o.bytes.items } };
+
+    ghost invariant = { λ o. IsWhole (record { base = o.base; bytes = o.bytes.items }) };
+}
+
+impl Own {
+    pub fn open(alloc: Global, base: u64, size: u64) -> Result<Self, NoMemory>
+        requires aligned { base % 4096 ≡ 0 }
+        requires whole { size % 4096 ≡ 0 }
+        requires below { base + size ≤ 2 ^ 39 }
+        ensures base { IfOk result (λ own. own.base ≡ base) }
+        ensures size { IfOk result (λ own. length own.bytes ≡ size) }
+        ensures zero { IfOk result (λ own. (k : ℕ) → slice_index own.bytes k ≡ 0) }
+    {
+        let bytes = vec![in alloc; 0; size as usize]?;
+        Ok(Own { base, bytes })
+    }
+
+    /// Whether the place is in it.
+    pub fn has(&self, at: u64) -> bool
+        ensures value { result ≡ is_own self.now at }
+        ensures whole { IsWhole self.now }
+    {
+        self.base <= at && at < self.base + self.bytes.len() as u64
+    }
+
+    pub fn read(&self, at: u64) -> u8
+        requires { is_own self.now at ≡ true }
+        ensures { result ≡ own_byte self.now at }
+    {
+        self.bytes[(at - self.base) as usize]
+    }
+
+    /// Whether the eight bytes from the place on are in it.
+    pub fn has_word(&self, at: u64) -> bool
+        requires { at < 2 ^ 48 }
+        ensures { MatchBool result (IsOwn self.now at 8) (Unit {0}) }
+    {
+        self.base <= at && at + 8 <= self.base + self.bytes.len() as u64
+    }
+
+    /// The word at the place.
+    pub fn word(&self, at: u64) -> u64
+        requires { IsOwn self.now at 8 }
+        ensures { result ≡ word_in (own_byte self.now) at }
+    {
+        let k = (at - self.base) as usize;
+        let b = &self.bytes[k..k + 8];
+        u64::from_le_bytes([b[0], b[1], b[2], b[3], b[4], b[5], b[6], b[7]])
+    }
+
+    /// The number that the bytes from the place on spell, the lowest first.
+    pub fn value(&self, at: u64, width: usize) -> u64
+        requires width { width ≤ 8 }
+        requires own { IsOwn self.now at width }
+        ensures { result ≡ spelled (slice_range self.now.bytes (at - self.now.base) (at - self.now.base + width)) }
+    {
+        let k = (at - self.base) as usize;
+        number_of(&self.bytes[k..k + width])
+    }
+
+    fn set(&mut self, at: u64, byte: u8)
+        requires { IsOwn self.old at 1 }
+        ensures base { self.new.base ≡ self.old.base }
+        ensures size { length self.new.bytes ≡ length self.old.bytes }
+        ensures at { own_byte self.new at ≡ byte }
+        ensures others { (q : ℕ) → q ≢ at → own_byte self.new q ≡ own_byte self.old q }
+    {
+        let k = (at - self.base) as usize;
+        self.bytes[k] = byte;
+    }
+
+    fn set_bytes(&mut self, at: u64, word: u64)
+        requires own { IsOwn self.old at 8 }
+        requires fits { at + 8 < 2 ^ 64 }
+        ensures base { self.new.base ≡ self.old.base }
+        ensures size { length self.new.bytes ≡ length self.old.bytes }
+        ensures at { word_in (own_byte self.new) at ≡ word }
+        ensures below { (q : ℕ) → q < at → own_byte self.new q ≡ own_byte self.old q }
+        ensures above { (q : ℕ) → at + 8 ≤ q → own_byte self.new q ≡ own_byte self.old q }
+    {
+        let b = word.to_le_bytes();
+        self.set(at, b[0]);
+        self.set(at + 1, b[1]);
+        self.set(at + 2, b[2]);
+        self.set(at + 3, b[3]);
+        self.set(at + 4, b[4]);
+        self.set(at + 5, b[5]);
+        self.set(at + 6, b[6]);
+        self.set(at + 7, b[7]);
+    }
+
+    /// Writes the word at the place.
+    pub fn set_word(&mut self, at: u64, word: u64)
+        requires { IsOwn self.old at 8 }
+        ensures base { self.new.base ≡ self.old.base }
+        ensures size { length self.new.bytes ≡ length self.old.bytes }
+        ensures at { word_in (own_byte self.new) at ≡ word }
+        ensures below { (q : ℕ) → q < at → own_byte self.new q ≡ own_byte self.old q }
+        ensures above { (q : ℕ) → at + 8 ≤ q → own_byte self.new q ≡ own_byte self.old q }
+    {
+        let _ = &self.base;
+        self.set_bytes(at, word);
+    }
+
+    /// Puts the bytes from the place on.
+    pub fn write(&mut self, at: u64, bytes: &[u8])
+        requires { IsOwn self.old at (length bytes.now) }
+        ensures base { self.new.base ≡ self.old.base }
+        ensures size { length self.new.bytes ≡ length self.old.bytes }
+        ensures bytes { (q : ℕ) → is_own self.old q ≡ true → own_byte self.new q ≡ stored (own_byte self.old) at bytes.now q }
+    {
+        put(&mut self.bytes, (at - self.base) as usize, bytes);
+    }
+
+    /// The page at the place.
+    pub fn page(&self, at: u64) -> &[u8]
+        requires { IsOwn self.now at 4096 }
+        ensures { result.now ≡ slice_range self.now.bytes (at - self.now.base) (at - self.now.base + 4096) }
+    {
+        let k = (at - self.base) as usize;
+        &self.bytes[k..k + 4096]
+    }
+}

@@ -1,0 +1,57 @@
+//! A page of 4,096 bytes.
+ghost use Rattle.std.specs.Prelude.{◌≡◌, ℕ, ◌+◌, ◌≤◌, ◌<◌, length, slice_index, slice_range, IfOk};
+ghost use Rattle.jh_num.specs.Memory.{spelled, stored};
+
+use crate::bytes::{number_of, put};
+use jh_num::NoMemory;
+use std::alloc::Global;
+use std::marker::Model;
+
+/// The bytes of one page.
+#[derive(Drop)]
+pub struct Page {
+    bytes: Vec<u8>,
+}
+
+impl Model for Page {
+    ghost use Rattle.std.specs.Prelude.{◌≡◌, ℕ, List, length};
+
+    ghost Value = { List ℕ };
+
+    ghost view = { λ p. p.bytes.items };
+
+    ghost invariant = { λ p. length p.bytes.items ≡ 4096 };
+}
+
+impl Page {
+    pub fn zero(alloc: Global) -> Result<Self, NoMemory>
+        ensures { IfOk result (λ p. (k : ℕ) → slice_index p k ≡ 0) }
+    {
+        let bytes = Vec::from_slice(alloc, &[0; 4096])?;
+        Ok(Page { bytes })
+    }
+
+    pub fn get(&self, offset: usize) -> u8
+        requires { offset < 4096 }
+        ensures { result ≡ slice_index self.now offset }
+    {
+        self.bytes[offset]
+    }
+
+    /// The number that the bytes from the offset on spell, the lowest first.
+    pub fn value(&self, offset: usize, width: usize) -> u64
+        requires width { width ≤ 8 }
+        requires within { offset + width ≤ 4096 }
+        ensures value { result ≡ spelled (slice_range self.now offset (offset + width)) }
+        ensures whole { length self.now ≡ 4096 }
+    {
+        number_of(&self.bytes[offset..offset + width])
+    }
+
+    pub fn write(&mut self, offset: usize, bytes: &[u8])
+        requires { offset + length bytes.now ≤ 4096 }
+        ensures { (k : ℕ) → slice_index self.new k ≡ stored (slice_index self.old) offset bytes.now k }
+    {
+        put(&mut self.bytes, offset, bytes);
+    }
+}

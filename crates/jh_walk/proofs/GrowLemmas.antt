@@ -1,0 +1,61 @@
+-- Walks over words of which the valid ones stay.
+use Rattle.std.proofs.Common.{◌≡◌, ℕ, ◌+◌, ◌-◌, ◌*◌, ◌/◌, ◌%◌, ◌<◌, ◌≤◌, ◌⊎◌, inl, inr, ◌∙◌, sym, ap, nat_lt, if◌then◌else◌, None, Some, zero, suc, arith, refl}
+use Rattle.std.proofs.lemmas.Bool.{cases_lt}
+use Rattle.jh_num.specs.declared.address.TheConstants.{ADDRESS_END}
+use Rattle.jh_desc.specs.declared.descriptor.Descriptor.{Descriptor}
+use Rattle.jh_desc.specs.declared.descriptor.Descriptor.TheVariants.{Invalid, Table, Leaf}
+use Rattle.jh_desc.specs.declared.descriptor.Hit.{Hit}
+use Rattle.jh_desc.specs.Descriptors.{read_of}
+use Rattle.jh_desc.specs.Levels.{last_level, index_of, slot_size}
+use Rattle.jh_walk.specs.Walks.{walk_of, walk_on, slot_at}
+use Rattle.jh_walk.specs.Pages.{sum_below, by_next, count, is_page, times, slot_counts, Grows, IsKept}
+use Rattle.jh_walk.proofs.WalkLemmas.{below_end, past_end}
+use Rattle.jh_walk.proofs.LiftLemmas.{count_more, count_none}
+
+index_small : (x : ℕ) → x % 512 < 512
+index_small x = omega arith
+
+next_by : (w w' : ℕ → ℕ) (n at next : ℕ) (hit : Hit) → (walk_of w n next at ≡ Some hit → walk_of w' n next at ≡ Some hit) → (if nat_lt next ADDRESS_END then walk_of w n next at else None) ≡ Some hit → (next < ADDRESS_END) ⊎ (ADDRESS_END ≤ next) → (if nat_lt next ADDRESS_END then walk_of w' n next at else None) ≡ Some hit
+next_by w w' n at next hit rest e (inl lt) = sym (below_end next (walk_of w' n next at) None lt) ∙ rest (below_end next (walk_of w n next at) None lt ∙ e)
+next_by w w' n at next hit rest e (inr le) = let wrong : None ≡ Some hit = past_end next (walk_of w n next at) None le ∙ e in cc
+
+grow_by : (w w' : ℕ → ℕ) (n level slot at : ℕ) (hit : Hit) (d : Descriptor) → read_of (w slot) level ≡ d → IsKept (Grows w w' n) d (w' slot ≡ w slot) → ((next : ℕ) → Grows w w' n next → walk_of w n next at ≡ Some hit → walk_of w' n next at ≡ Some hit) → walk_on (λ next. walk_of w n next at) level at d ≡ Some hit → walk_on (λ next. walk_of w' n next at) level at (read_of (w' slot) level) ≡ Some hit
+grow_by w w' n level slot at hit Invalid is kept rest e = cc
+grow_by w w' n level slot at hit (Leaf out rights device) is kept rest e =
+    ap (λ z. walk_on (λ next. walk_of w' n next at) level at (read_of z level)) kept ∙ ap (walk_on (λ next. walk_of w' n next at) level at) is ∙ e
+grow_by w w' n level slot at hit (Table next) is kept rest e =
+    ap (λ z. walk_on (λ next. walk_of w' n next at) level at (read_of z level)) kept.0 ∙ ap (walk_on (λ next. walk_of w' n next at) level at) is
+    ∙ next_by w w' n at next hit (rest next kept.1) e (cases_lt next ADDRESS_END)
+
+pub grown_walk : (w w' : ℕ → ℕ) (n t at : ℕ) (hit : Hit) → Grows w w' n t → walk_of w n t at ≡ Some hit → walk_of w' n t at ≡ Some hit
+unfolding walk_of
+grown_walk w w' zero t at hit grows e = cc
+grown_walk w w' (suc n) t at hit grows e =
+    let small : index_of (last_level - n) at < 512 = index_small (at / slot_size (last_level - n)) in
+    grow_by w w' n (last_level - n) (slot_at (last_level - n) t at) at hit (read_of (w (slot_at (last_level - n) t at)) (last_level - n)) refl (grows (index_of (last_level - n) at) small)
+    (λ next more found. grown_walk w w' n next at hit more found) e
+
+sum_le : (n : ℕ) (f g : ℕ → ℕ) → ((i : ℕ) → i < n → f i ≤ g i) → sum_below n f ≤ sum_below n g
+unfolding sum_below
+sum_le zero f g h = omega arith
+sum_le (suc n) f g h =
+    let rest : sum_below n f ≤ sum_below n g = sum_le n f g (λ i lt. h i (omega arith)) in
+    let last : f n ≤ g n = h n (omega arith) in omega arith
+
+slot_by : (w w' : ℕ → ℕ) (n q level slot : ℕ) (d : Descriptor) → read_of (w slot) level ≡ d → IsKept (Grows w w' n) d (w' slot ≡ w slot) → ((next : ℕ) → Grows w w' n next → times w n next q ≤ times w' n next q) → by_next (count (is_page q) w n) d ≤ by_next (count (is_page q) w' n) (read_of (w' slot) level)
+slot_by w w' n q level slot Invalid is kept rest = omega arith
+slot_by w w' n q level slot (Leaf out rights device) is kept rest = omega arith
+slot_by w w' n q level slot (Table next) is kept rest =
+    let same : by_next (count (is_page q) w' n) (read_of (w' slot) level) ≡ times w' n next q = ap (λ z. by_next (count (is_page q) w' n) (read_of z level)) kept.0 ∙ ap (by_next (count (is_page q) w' n)) is in
+    let more : times w n next q ≤ times w' n next q = rest next kept.1 in
+    omega arith
+
+pub grown_times : (w w' : ℕ → ℕ) (n t q : ℕ) → Grows w w' n t → times w n t q ≤ times w' n t q
+grown_times w w' zero t q grows =
+    let a : times w 0 t q ≡ 0 = count_none (is_page q) w t in omega arith
+grown_times w w' (suc n) t q grows =
+    let a : times w (suc n) t q ≡ is_page q w n t + sum_below 512 (slot_counts (is_page q) w n t) = count_more (is_page q) w n t in
+    let b : times w' (suc n) t q ≡ is_page q w' n t + sum_below 512 (slot_counts (is_page q) w' n t) = count_more (is_page q) w' n t in
+    let slots : sum_below 512 (slot_counts (is_page q) w n t) ≤ sum_below 512 (slot_counts (is_page q) w' n t) = sum_le 512 (slot_counts (is_page q) w n t) (slot_counts (is_page q) w' n t) (λ i lt.
+    slot_by w w' n q (last_level - n) (t + 8 * i) (read_of (w (t + 8 * i)) (last_level - n)) refl (grows i lt) (λ next more. grown_times w w' n next q more)) in
+    omega arith

@@ -1,0 +1,8 @@
+pub mod SumLemmas
+pub mod LiftLemmas
+pub mod ReadLemmas
+pub mod WalkLemmas
+pub mod PathLemmas
+pub mod SameLemmas
+pub mod SlotLemmas
+pub mod GrowLemmas

@@ -1,0 +1,5 @@
+use Rattle.jh_walk.proofs.PathLemmas.{few_probes}
+use Rattle.jh_walk.proofs.laws.a_walk_reads_few.Goals as goal
+
+pub returns : goal.returns
+returns c = λ word n table at. few_probes word n table at

@@ -1,0 +1,25 @@
+-- The way of an address through its tables, level by level from the first on.
+use Rattle.std.specs.Prelude.{◌≡◌, ℕ, ◌+◌, ◌-◌, ◌%◌, ◌<◌, Bool}
+use Rattle.jh_num.specs.declared.address.TheConstants.{ADDRESS_END}
+use Rattle.jh_num.specs.declared.rights.Rights.{Rights}
+use Rattle.jh_desc.specs.declared.descriptor.Descriptor.TheVariants.{Table, Leaf}
+use Rattle.jh_desc.specs.declared.descriptor.Hit.{Hit}
+use Rattle.jh_desc.specs.Descriptors.{read_of}
+use Rattle.jh_walk.specs.Walks.{slot_at, hit_of}
+
+-- the descriptor of the address in the table of the level leads to that table of the next level
+pub record LeadsTo (word : ℕ → ℕ) (level table at next : ℕ) : Type 0 where
+  pub descriptor : read_of (word (slot_at level table at)) level ≡ Table next
+  pub place : next < ADDRESS_END
+
+-- the descriptor of the address in the table of the level is a leaf, which gives that
+pub record IsLeafAt (word : ℕ → ℕ) (level table at : ℕ) (hit : Hit) : Type 0 where
+  pub out : ℕ
+  pub rights : Rights
+  pub device : Bool
+  pub descriptor : read_of (word (slot_at level table at)) level ≡ Leaf out rights device
+  pub gives : hit ≡ hit_of level at out rights device
+
+-- what the same leaf gives another address of its slot
+abbrev pub moved : ℕ → ℕ → Hit → Hit
+moved at other hit = record hit { out = hit.out - at % hit.span + other % hit.span }

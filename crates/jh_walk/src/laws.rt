@@ -1,0 +1,46 @@
+//! What holds of every walk, over any words.
+ghost use Rattle.std.specs.Prelude.{◌≡◌, ◌≢◌, ℕ, ◌+◌, ◌/◌, ◌<◌, ◌≤◌, ◌⊎◌, List, length, Some};
+ghost use Rattle.jh_desc.specs.declared.descriptor.Hit.{Hit as AnyHit};
+ghost use Rattle.jh_walk.specs.Walks.{levels, probes_of, walk_of};
+ghost use Rattle.jh_walk.specs.Paths.{moved, IsLeafAt, LeadsTo};
+ghost use Rattle.jh_walk.specs.Pages.{count, times, AlikeBut, AreAligned, Grows, IsReached, SameTables, Weight};
+
+/// A walk gives something exactly where table descriptors, from level 1 on, lead to a leaf: at once, over
+/// one table more, or over two.
+pub fn a_walk_ends_at_a_leaf()
+    ensures leaf { (word : ℕ → ℕ) (table at : ℕ) (hit : AnyHit) → IsLeafAt word 1 table at hit → walk_of word levels table at ≡ Some hit }
+    ensures second { (word : ℕ → ℕ) (table next at : ℕ) (hit : AnyHit) → LeadsTo word 1 table at next → IsLeafAt word 2 next at hit → walk_of word levels table at ≡ Some hit }
+    ensures third { (word : ℕ → ℕ) (table next last at : ℕ) (hit : AnyHit) → LeadsTo word 1 table at next → LeadsTo word 2 next at last → IsLeafAt word 3 last at hit → walk_of word levels table at ≡ Some hit }
+    ensures only { (word : ℕ → ℕ) (table at : ℕ) (hit : AnyHit) → walk_of word levels table at ≡ Some hit → IsLeafAt word 1 table at hit ⊎ ((next : ℕ) × (LeadsTo word 1 table at next × (IsLeafAt word 2 next at hit ⊎ ((last : ℕ) × (LeadsTo word 2 next at last × IsLeafAt word 3 last at hit))))) }
+{}
+
+/// What an address is given, each other address of the slot is given at its own offset.
+pub fn a_hit_covers_its_slot()
+    ensures { (word : ℕ → ℕ) (table at other : ℕ) (hit : AnyHit) → walk_of word levels table at ≡ Some hit → other / hit.span ≡ at / hit.span → walk_of word levels table other ≡ Some (moved at other hit) }
+{}
+
+/// A walk reads a descriptor a level at most.
+pub fn a_walk_reads_few()
+    ensures { (word : ℕ → ℕ) (n table at : ℕ) → length (probes_of word n table at) ≤ n }
+{}
+
+/// A walk, its reads and every count depend on the words of the pages that are reached alone.
+pub fn walks_read_their_pages()
+    ensures walk { (word word' : ℕ → ℕ) (n table at : ℕ) → SameTables word word' n table → walk_of word' n table at ≡ walk_of word n table at }
+    ensures probes { (word word' : ℕ → ℕ) (n table at : ℕ) → SameTables word word' n table → probes_of word' n table at ≡ probes_of word n table at }
+    ensures pages { (word word' : ℕ → ℕ) (n table q : ℕ) → SameTables word word' n table → times word' n table q ≡ times word n table q }
+{}
+
+/// A change within one page alone changes a count by as much, where that page is reached once, and not at
+/// all where it isn't reached.
+pub fn changes_are_lifted()
+    ensures elsewhere { (inner : ℕ) (w : Weight) (word word' : ℕ → ℕ) (n page : ℕ) → AlikeBut inner w word word' → AreAligned word n page → times word n page inner ≡ 0 → count w word' n page ≡ count w word n page }
+    ensures falls { (inner m : ℕ) (w : Weight) (word word' : ℕ → ℕ) (n page : ℕ) → AlikeBut inner w word word' → AreAligned word n page → times word n page inner ≤ 1 → IsReached word n page m inner → count w word' m inner + 1 ≡ count w word m inner → count w word' n page + 1 ≡ count w word n page }
+{}
+
+/// Where the words that read valid stay, in all tables that are reached, what a walk found it still finds,
+/// and pages are reached no less often.
+pub fn walks_grow()
+    ensures walk { (word word' : ℕ → ℕ) (n table at : ℕ) (hit : AnyHit) → Grows word word' n table → walk_of word n table at ≡ Some hit → walk_of word' n table at ≡ Some hit }
+    ensures pages { (word word' : ℕ → ℕ) (n table q : ℕ) → Grows word word' n table → times word n table q ≤ times word' n table q }
+{}

@@ -1,0 +1,76 @@
+//! The walk.
+ghost use Rattle.std.specs.Prelude.{◌≡◌, ℕ, ◌+◌, ◌-◌, ◌*◌, ◌%◌, ◌^◌, ◌<◌, ◌≤◌};
+ghost use Rattle.jh_num.specs.declared.address.TheConstants.{ADDRESS_END};
+ghost use Rattle.jh_desc.specs.Descriptors.{read_of};
+ghost use Rattle.jh_desc.specs.Levels.{last_level, index_of, slot_size};
+ghost use Rattle.jh_frames.specs.Memory.{byte_at, word_in};
+ghost use Rattle.jh_walk.specs.Walks.{all_counted, counted, levels, probes_of, slot_at, walk_of};
+
+use jh_desc::{Descriptor, FIRST_LEVEL, Hit, LAST_LEVEL, index, offset, read, slot_size};
+use jh_frames::Frames;
+use jh_num::{ADDRESS_END, Probe, Rights, Steps};
+
+/// How many levels tables have.
+const LEVELS: u8 = LAST_LEVEL + 1 - FIRST_LEVEL;
+
+/// The word of the address's descriptor in its table of the level, told to `steps`.
+fn descriptor_word(f: &Frames, level: u8, table: u64, ipa: u64, steps: &mut Steps) -> u64
+    requires level { level ≤ last_level }
+    requires aligned { table % 4096 ≡ 0 }
+    requires place { table < ADDRESS_END }
+    ensures word { result ≡ word_in (byte_at f.now) (slot_at level table ipa) }
+    ensures steps { steps.new ≡ counted steps.old (record { at = slot_at level table ipa; word = word_in (byte_at f.now) (slot_at level table ipa) }) }
+{
+    let at = table + 8 * index(level, ipa);
+    let word = f.word(at);
+    steps.probe(Probe { at, word });
+    word
+}
+
+/// The walk of the levels that are left.
+fn walk_from(f: &Frames, left: u8, table: u64, ipa: u64, steps: &mut Steps) -> Option<Hit>
+    requires left { left ≤ levels }
+    requires aligned { table % 4096 ≡ 0 }
+    requires place { table < ADDRESS_END }
+    ensures value { result ≡ walk_of (word_in (byte_at f.now)) left table ipa }
+    ensures probes { steps.new ≡ all_counted steps.old (probes_of (word_in (byte_at f.now)) left table ipa) }
+{
+    if left == 0 {
+        return None;
+    }
+    let level = LAST_LEVEL + 1 - left;
+    let word = descriptor_word(f, level, table, ipa, steps);
+    match read(word, level) {
+        Descriptor::Invalid => None,
+        Descriptor::Leaf {
+            out,
+            rights,
+            device,
+        } => Some(Hit {
+            out: out + offset(level, ipa),
+            rights,
+            device,
+            span: slot_size(level),
+        }),
+        Descriptor::Table { next } => {
+            if next < ADDRESS_END {
+                walk_from(f, left - 1, next, ipa, steps)
+            } else {
+                None
+            }
+        }
+    }
+}
+
+/// What the tables give an intermediate physical address, from the first table on: the place of the very
+/// address, what may be done there, the kind of memory and the size of the slot. `None` where a descriptor
+/// on the way is invalid or names a table at `ADDRESS_END` or past it. Bits of the address above those of
+/// the levels aren't looked at. Each descriptor that is read goes to `steps`, in order.
+pub fn walk(f: &Frames, table: u64, ipa: u64, steps: &mut Steps) -> Option<Hit>
+    requires aligned { table % 4096 ≡ 0 }
+    requires place { table < ADDRESS_END }
+    ensures value { result ≡ walk_of (word_in (byte_at f.now)) levels table ipa }
+    ensures probes { steps.new ≡ all_counted steps.old (probes_of (word_in (byte_at f.now)) levels table ipa) }
+{
+    walk_from(f, LEVELS, table, ipa, steps)
+}
