@@ -15,13 +15,14 @@ mod journal;
 mod known;
 mod laws;
 mod next;
+mod phases;
 mod place;
 mod plain;
 
 pub use access::{Access, Reach, Wanted};
 pub use admission::{admit, is_built, is_other_preload, is_sound_preload, pool_pages, root_pages};
 pub use bytes::{Bytes, value_of};
-pub use call::{OpenCall, Phase};
+pub use call::{Creation, OpenCall, Phase};
 pub use cells::{gives, is_on_board, is_program_of, program_of};
 pub use change::{Change, cpus_after};
 pub use comm::{PageChange, PageWrite};
