@@ -1,5 +1,5 @@
 //! What tells the facts of a journal, however it knows them.
-ghost use Rattle.std.specs.Prelude.{◌≡◌, ◌<◌, ◌≤◌, IfSome, map, option_copied, ◌+◌, length, IfOk};
+ghost use Rattle.std.specs.Prelude.{◌≡◌, ◌<◌, ◌≤◌, IfSome, map, option_copied, ◌+◌, length, IfOk, ℕ, ◌^◌, IsTrue};
 ghost use Rattle.std.specs.List.{list_any};
 
 use crate::access::{Reach, Wanted};
@@ -61,6 +61,10 @@ pub trait Known {
     fn call(&self) -> Option<&OpenCall>
         ensures { (i : Image) (f : Facts) → Knows self.now i f → option_copied result ≡ f.call };
 
+    /// The board has no CPU above 15. It does nothing; its contract is what holds of each image.
+    fn has_few_cpus(&self)
+        ensures { (i : Image) (f : Facts) → Knows self.now i f → (cpu : ℕ) → IsTrue (is_on_board i cpu) → cpu < 16 };
+
     /// Whether the board has the CPU.
     fn has_cpu(&self, cpu: u8) -> bool
         ensures { (i : Image) (f : Facts) → Knows self.now i f → result ≡ is_on_board i cpu };
@@ -83,5 +87,6 @@ pub trait Known {
 
     /// The number that the bytes at the places spell, the lowest first.
     fn value(&self, places: &Places) -> u64
-        ensures { (i : Image) (f : Facts) → Knows self.now i f → result ≡ spelled (map f.byte places.now) };
+        ensures value { (i : Image) (f : Facts) → Knows self.now i f → result ≡ spelled (map f.byte places.now) }
+        ensures fits { result < 256 ^ length places.now };
 }

@@ -11,6 +11,7 @@ mod change;
 mod comm;
 mod entry;
 mod grants;
+mod hypercalls;
 mod journal;
 mod known;
 mod laws;

@@ -44,7 +44,7 @@ pub(crate) fn is_named(call: &Call, id: u64) -> bool
 }
 
 /// The number of 32 bits at the offset of the cell's page.
-fn word_at<K: Known>(known: &K, cell: u32, offset: u64) -> u64
+fn word_at<K: Known>(known: &K, cell: u32, offset: u64) -> u32
     requires { offset < 4096 }
     ensures { (i : TheImage) (f : Facts) → K.Knows known.now i f → result ≡ word_in (λ k. f.byte (Page cell k)) offset }
 {
@@ -53,18 +53,18 @@ fn word_at<K: Known>(known: &K, cell: u32, offset: u64) -> u64
         count: 4,
     };
     let none = Run { count: 0, ..run };
-    known.value(&Places::new(run, none))
+    known.value(&Places::new(run, none)) as u32
 }
 
 /// The state of the live cell.
-fn state_word<K: Known>(known: &K, cell: u32) -> u64
+pub(crate) fn state_word<K: Known>(known: &K, cell: u32) -> u32
     ensures { (i : TheImage) (f : Facts) → K.Knows known.now i f → result ≡ state_word_lem f cell }
 {
     word_at(known, cell, STATE_AT)
 }
 
 /// What the live cell replied.
-fn reply_word<K: Known>(known: &K, cell: u32) -> u64
+fn reply_word<K: Known>(known: &K, cell: u32) -> u32
     ensures { (i : TheImage) (f : Facts) → K.Knows known.now i f → result ≡ reply_word_lem f cell }
 {
     word_at(known, cell, REPLY_AT)
@@ -120,10 +120,10 @@ fn any_keeps_commit<K: Known>(known: &K, call: &Call) -> bool
 }
 
 /// Whether a cell in that state doesn't run.
-fn is_down(state: u64) -> bool
+fn is_down(state: u32) -> bool
     ensures { result ≡ is_down_lem state }
 {
-    state == u64::from(STATE_SHUT_DOWN) || state == u64::from(STATE_FAILED)
+    state == STATE_SHUT_DOWN || state == STATE_FAILED
 }
 
 /// Whether the cell has had its time.
@@ -134,10 +134,10 @@ fn is_over(timeout: u64, waited: u64, idle: bool) -> bool
 }
 
 /// How the cell met the request to shut down; nothing yet where it hasn't.
-fn settled_by(passive: bool, state: u64, reply: u64, over: bool) -> Option<Settled>
+fn settled_by(passive: bool, state: u32, reply: u32, over: bool) -> Option<Settled>
     ensures { result ≡ settled_by_lem passive state reply over }
 {
-    if passive || is_down(state) || reply == u64::from(REPLY_REQUEST_APPROVED) {
+    if passive || is_down(state) || reply == REPLY_REQUEST_APPROVED {
         return Some(Settled::Agreed);
     }
     if reply != 0 {
@@ -147,13 +147,13 @@ fn settled_by(passive: bool, state: u64, reply: u64, over: bool) -> Option<Settl
 }
 
 /// How the cell met the note of a change; nothing yet where it hasn't.
-fn heard_by(state: u64, reply: u64, over: bool) -> Option<Heard>
+fn heard_by(state: u32, reply: u32, over: bool) -> Option<Heard>
     ensures { result ≡ heard_by_lem state reply over }
 {
     if is_down(state) {
         return Some(Heard::Down);
     }
-    if reply == u64::from(REPLY_RECEIVED) {
+    if reply == REPLY_RECEIVED {
         return Some(Heard::Received);
     }
     if reply != 0 {

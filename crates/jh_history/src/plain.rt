@@ -266,6 +266,10 @@ impl<'a> Known for Plain<'a> {
         None
     }
 
+    fn has_few_cpus(&self) {
+        admitted_roots_are_sound(self.image);
+    }
+
     fn has_cpu(&self, cpu: u8) -> bool {
         is_on_board(self.image, cpu)
     }
