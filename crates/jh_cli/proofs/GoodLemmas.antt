@@ -37,7 +37,7 @@ use Rattle.jh_image.specs.Images.{IsImage}
 use Rattle.jh_image.specs.Laws.{AreTold}
 use Rattle.jh_cli.specs.declared.status.Status.{Status}
 use Rattle.jh_cli.specs.declared.status.Status.TheVariants.{Good, Found, ReadFault, WriteFault}
-use Rattle.jh_cli.specs.declared.limits.TheConstants.{MOST, MOST_OF_A_JOURNAL, JOURNAL_LIMIT}
+use Rattle.jh_cli.specs.Limits.{most_of_a_file, most_of_a_journal, journal_limit}
 use Rattle.jh_cli.specs.Words.{Asked, CheckOf, PackOf, PlayOf, AuditOf}
 use Rattle.jh_cli.specs.Reading.{Said, Contents, StopsAt, ReadsAt}
 use Rattle.jh_cli.specs.Check.{IsCellFile, CellRefusal, IsSystemFile, SystemRefusal, StopsAmong, ChecksCells, Checks, checked_status}
@@ -114,19 +114,19 @@ ok_one r one other h k = cc
 
 -- ---- check
 
-system_sound : SystemsAreFaultless → (system : SystemConfig) → IsSound SystemRefusal IsSystemFile MOST system
-system_sound faultless system bytes words within form (inl over) = no_more MOST bytes within over.0
+system_sound : SystemsAreFaultless → (system : SystemConfig) → IsSound SystemRefusal IsSystemFile most_of_a_file system
+system_sound faultless system bytes words within form (inl over) = no_more most_of_a_file bytes within over.0
 system_sound faultless system bytes words within form (inr bad) =
     some_none (system_fault bytes) bad.fault (ap system_fault form.spelled ∙ faultless system form.typed form.limits) bad.first
 
-cell_sound : CellsAreFaultless → (cell : CellConfig) → IsSound CellRefusal IsCellFile MOST cell
-cell_sound faultless cell bytes words within form (inl over) = no_more MOST bytes within over.0
+cell_sound : CellsAreFaultless → (cell : CellConfig) → IsSound CellRefusal IsCellFile most_of_a_file cell
+cell_sound faultless cell bytes words within form (inl over) = no_more most_of_a_file bytes within over.0
 cell_sound faultless cell bytes words within form (inr bad) =
     some_none (first_fault bytes) bad.fault (ap first_fault form.spelled ∙ faultless cell form.typed form.limits) bad.first
 
 -- each of the files holds a cell
 one_of_cells : (contents : Contents) (before : List (List ℕ)) (name : List ℕ) (rest : List (List ℕ)) (cells : List CellConfig)
-    → HoldCells contents (before ++ name ∷ rest) cells → (cell : CellConfig) × Holds MOST contents name IsCellFile cell
+    → HoldCells contents (before ++ name ∷ rest) cells → (cell : CellConfig) × Holds most_of_a_file contents name IsCellFile cell
 one_of_cells contents [] name rest [] held = absurd held
 one_of_cells contents [] name rest (cell ∷ cells) held = (cell, held.0)
 one_of_cells contents (b ∷ before) name rest [] held = absurd held
@@ -136,7 +136,7 @@ among_unrefused : CellsAreFaultless → (contents : Contents) (names : List (Lis
 among_unrefused faultless contents names cells said held among =
     let split : HoldCells contents (among.before ++ among.name ∷ among.rest) cells = subst (λ (ns : List (List ℕ)). HoldCells contents ns cells) among.split held in
     let one = one_of_cells contents among.before among.name among.rest cells split in
-    stops_unrefused MOST contents among.name CellRefusal IsCellFile one.0 said (cell_sound faultless one.0) one.1 among.stops
+    stops_unrefused most_of_a_file contents among.name CellRefusal IsCellFile one.0 said (cell_sound faultless one.0) one.1 among.stops
 
 checked_unrefused : (any : Bool) → (cond any Found Good ≡ Good) ⊎ (cond any Found Good ≡ Found) ⊎ (cond any Found Good ≡ ReadFault)
 checked_unrefused true = inr (inl refl)
@@ -149,13 +149,13 @@ cells_unrefused faultless contents names cells system said held (inr all) =
 
 check_unrefused : CellsAreFaultless → SystemsAreFaultless → (contents : Contents) (system : List ℕ) (cells : List (List ℕ)) (said : Said) → AreGoodToCheck contents system cells → Checks contents system cells said → IsUnrefused said
 check_unrefused cells_faultless systems_faultless contents system cells said good h =
-    reads_unrefused MOST contents system SystemRefusal IsSystemFile (ChecksCells contents cells) good.of_system said (system_sound systems_faultless good.of_system) good.system_held
+    reads_unrefused most_of_a_file contents system SystemRefusal IsSystemFile (ChecksCells contents cells) good.of_system said (system_sound systems_faultless good.of_system) good.system_held
     (λ bytes other form form_other went. cells_unrefused cells_faultless contents cells good.of_cells other said good.cells_held went) h
 
 -- ---- pack
 
-spec_sound : (spec : Spec) → IsSound SpecRefusal IsSpecFile MOST spec
-spec_sound spec bytes words within form (inl over) = no_more MOST bytes within over.0
+spec_sound : (spec : Spec) → IsSound SpecRefusal IsSpecFile most_of_a_file spec
+spec_sound spec bytes words within form (inl over) = no_more most_of_a_file bytes within over.0
 spec_sound spec bytes words within form (inr (inl bad)) =
     let told = form.1 in
     ok_err (spec_told told.0) spec specs.Json told.2 (bad.1 told.0 told.1)
@@ -168,7 +168,7 @@ spec_sound spec bytes words within form (inr (inr bad)) =
 
 pack_unrefused : (contents : Contents) (name : List ℕ) (said : Said) → IsGoodToPack contents name → Packs contents name said → IsUnrefused said
 pack_unrefused contents name said good h =
-    reads_unrefused MOST contents name SpecRefusal IsSpecFile (λ (spec : Spec) (s : Said). s ≡ record { status = Good; text = packed spec }) good.spec said (spec_sound good.spec) good.held
+    reads_unrefused most_of_a_file contents name SpecRefusal IsSpecFile (λ (spec : Spec) (s : Said). s ≡ record { status = Good; text = packed spec }) good.spec said (spec_sound good.spec) good.held
     (λ bytes other form form_other went. of_status said Good (ap (λ (s : Said). s.status) went) (inl refl)) h
 
 -- ---- boards
@@ -204,23 +204,23 @@ same_schedule one other same text = ap (λ (items : List (Option ℕ)). unless (
 same_for_image : (image : Image) (one other : ℕ) (text : List ℕ) → AreCpus image one → AreCpus image other → schedule_of one text ≡ schedule_of other text
 same_for_image image one other text h k = same_schedule one other (λ n lt. h n lt ∙ sym (k n lt)) text
 
-schedule_sound : (image : Image) (items : List ℕ) → IsSound (ScheduleRefusal image) (IsSchedule image) MOST items
-schedule_sound image items bytes words within form (inl over) = no_more MOST bytes within over.0
+schedule_sound : (image : Image) (items : List ℕ) → IsSound (ScheduleRefusal image) (IsSchedule image) most_of_a_file items
+schedule_sound image items bytes words within form (inl over) = no_more most_of_a_file bytes within over.0
 schedule_sound image items bytes words within form (inr bad) =
     ok_err (schedule_of form.cpus bytes) items bad.fault form.told (same_for_image image form.cpus bad.cpus bytes form.are bad.are ∙ bad.first)
 
 one_schedule : (image : Image) (bytes one other : List ℕ) → IsSchedule image bytes one → IsSchedule image bytes other → one ≡ other
 one_schedule image bytes one other h k = ok_one (schedule_of h.cpus bytes) one other h.told (same_for_image image h.cpus k.cpus bytes h.are k.are ∙ k.told)
 
-played_unrefused : (image : Image) (items other : List ℕ) (said : Said) → (played image JOURNAL_LIMIT items).full ≡ false → items ≡ other → IsPlayed image other said → IsUnrefused said
+played_unrefused : (image : Image) (items other : List ℕ) (said : Said) → (played image journal_limit items).full ≡ false → items ≡ other → IsPlayed image other said → IsUnrefused said
 played_unrefused image items other said under same is =
-    let full : (played image JOURNAL_LIMIT other).full ≡ false = subst (λ (xs : List ℕ). (played image JOURNAL_LIMIT xs).full ≡ false) same under in
+    let full : (played image journal_limit other).full ≡ false = subst (λ (xs : List ℕ). (played image journal_limit xs).full ≡ false) same under in
     of_status said Good (ap (λ (s : Said). s.status) is.told ∙ ap played_status full) (inl refl)
 
-plays_unrefused : (contents : Contents) (schedule : List ℕ) (image : Image) (items : List ℕ) (said : Said) → Holds MOST contents schedule (IsSchedule image) items → (played image JOURNAL_LIMIT items).full ≡ false
+plays_unrefused : (contents : Contents) (schedule : List ℕ) (image : Image) (items : List ℕ) (said : Said) → Holds most_of_a_file contents schedule (IsSchedule image) items → (played image journal_limit items).full ≡ false
     → PlaysBy contents schedule image said → IsUnrefused said
 plays_unrefused contents schedule image items said held under h =
-    reads_unrefused MOST contents schedule (ScheduleRefusal image) (IsSchedule image) (IsPlayed image) items said (schedule_sound image items) held
+    reads_unrefused most_of_a_file contents schedule (ScheduleRefusal image) (IsSchedule image) (IsPlayed image) items said (schedule_sound image items) held
     (λ bytes other form form_other is. played_unrefused image items other said under (one_schedule image bytes items other form form_other) is) h
 
 play_unrefused : OneImage → BoardsAreUnrefused → (contents : Contents) (board schedule : List ℕ) (said : Said) → AreGoodToPlay contents board schedule → Plays contents board schedule said → IsUnrefused said
@@ -231,8 +231,8 @@ play_unrefused one_image unrefused contents board schedule said good (inr (image
 
 -- ---- audit
 
-journal_sound : NoBadLine → NotLong → (entries : List Entry) → IsSound JournalRefusal IsJournalFile MOST_OF_A_JOURNAL entries
-journal_sound no_bad not_long entries bytes words within form (inl over) = no_more MOST_OF_A_JOURNAL bytes within over.0
+journal_sound : NoBadLine → NotLong → (entries : List Entry) → IsSound JournalRefusal IsJournalFile most_of_a_journal entries
+journal_sound no_bad not_long entries bytes words within form (inl over) = no_more most_of_a_journal bytes within over.0
 journal_sound no_bad not_long entries bytes words within form (inr bad) = faultless bad.fault bad.is_of_text bad.first where
   faultless : (fault : JournalFault) → fault ≢ journals.NoMemory → IsFault bytes fault → ⊥
   faultless (journals.Line number) other first = no_bad bytes entries number form.told first
@@ -243,10 +243,10 @@ verdict_unrefused : (verdict : Verdict) → (verdict_status verdict ≡ Good) �
 verdict_unrefused (Legal quiet) = inl refl
 verdict_unrefused (Illegal line expected) = inr (inl refl)
 
-audits_unrefused : NoBadLine → NotLong → (contents : Contents) (journal : List ℕ) (image : Image) (entries : List Entry) (said : Said) → Holds MOST_OF_A_JOURNAL contents journal IsJournalFile entries
+audits_unrefused : NoBadLine → NotLong → (contents : Contents) (journal : List ℕ) (image : Image) (entries : List Entry) (said : Said) → Holds most_of_a_journal contents journal IsJournalFile entries
     → AuditsBy contents journal image said → IsUnrefused said
 audits_unrefused no_bad not_long contents journal image entries said held h =
-    reads_unrefused MOST_OF_A_JOURNAL contents journal JournalRefusal IsJournalFile (IsAudited image) entries said (journal_sound no_bad not_long entries) held
+    reads_unrefused most_of_a_journal contents journal JournalRefusal IsJournalFile (IsAudited image) entries said (journal_sound no_bad not_long entries) held
     (λ bytes other form form_other is. of_status said (verdict_status is.verdict) (ap (λ (s : Said). s.status) is.told) (verdict_unrefused is.verdict)) h
 
 audit_unrefused : BoardsAreUnrefused → NoBadLine → NotLong → (contents : Contents) (board journal : List ℕ) (said : Said) → AreGoodToAudit contents board journal → Audits contents board journal said → IsUnrefused said

@@ -17,7 +17,7 @@ use Rattle.jh_cli.specs.Play.{IsSchedule}
 use Rattle.jh_cli.specs.Audit.{IsJournalFile}
 use Rattle.jh_cli.specs.declared.status.Status.{Status}
 use Rattle.jh_cli.specs.declared.status.Status.TheVariants.{Good, Found, ReadFault, NoMemory}
-use Rattle.jh_cli.specs.declared.limits.TheConstants.{MOST, MOST_OF_A_JOURNAL, JOURNAL_LIMIT}
+use Rattle.jh_cli.specs.Limits.{most_of_a_file, most_of_a_journal, journal_limit}
 
 module _ {A : Type 0} where
   -- the file of this name holds these bytes, fewer than `most`, and they spell the value
@@ -30,20 +30,20 @@ module _ {A : Type 0} where
 -- the files of these names hold these cells, one each
 abbrev pub HoldCells : Contents → List (List ℕ) → List CellConfig → Type 0
 HoldCells contents [] [] = ⊤
-HoldCells contents (name ∷ names) (cell ∷ cells) = Holds MOST contents name IsCellFile cell × HoldCells contents names cells
+HoldCells contents (name ∷ names) (cell ∷ cells) = Holds most_of_a_file contents name IsCellFile cell × HoldCells contents names cells
 HoldCells contents _ _ = ⊥
 
 -- the files of a check hold a system and a cell each, whatever the check finds in them
 pub record AreGoodToCheck (contents : Contents) (system : List ℕ) (cells : List (List ℕ)) : Type 0 where
   pub of_system : SystemConfig
-  pub system_held : Holds MOST contents system IsSystemFile of_system
+  pub system_held : Holds most_of_a_file contents system IsSystemFile of_system
   pub of_cells : List CellConfig
   pub cells_held : HoldCells contents cells of_cells
 
 -- the file of a pack holds a configuration's SPEC
 pub record IsGoodToPack (contents : Contents) (name : List ℕ) : Type 0 where
   pub spec : Spec
-  pub held : Holds MOST contents name IsSpecFile spec
+  pub held : Holds most_of_a_file contents name IsSpecFile spec
 
 -- the board's files make an image, the schedule's holds items for it, and the journal that they make stays under its
 -- limit
@@ -52,8 +52,8 @@ pub record AreGoodToPlay (contents : Contents) (board schedule : List ℕ) : Typ
   pub image : Image
   pub is : IsImage contents board image
   pub items : List ℕ
-  pub held : Holds MOST contents schedule (IsSchedule image) items
-  pub under : (played image JOURNAL_LIMIT items).full ≡ false
+  pub held : Holds most_of_a_file contents schedule (IsSchedule image) items
+  pub under : (played image journal_limit items).full ≡ false
 
 -- the board's files make an image, and the journal's holds a journal, whether it is legal or not
 pub record AreGoodToAudit (contents : Contents) (board journal : List ℕ) : Type 0 where
@@ -61,7 +61,7 @@ pub record AreGoodToAudit (contents : Contents) (board journal : List ℕ) : Typ
   pub image : Image
   pub is : IsImage contents board image
   pub entries : List Entry
-  pub held : Holds MOST_OF_A_JOURNAL contents journal IsJournalFile entries
+  pub held : Holds most_of_a_journal contents journal IsJournalFile entries
 
 -- the words have a command, and its files are good for it
 abbrev pub AreGood : Contents → Option Asked → Type 0

@@ -3,7 +3,7 @@ ghost use Rattle.std.specs.Prelude.{◌≡◌, ◌≢◌, ◌≤◌, length, IfO
 ghost use Rattle.jh_history.specs.Admitted.{IsAdmitted, IsBuilt};
 ghost use Rattle.jh_text.specs.FaultText.{fault_text};
 ghost use Rattle.jh_text.specs.declared.fault.JournalFault.TheVariants.{NoMemory as for_memory};
-ghost use Rattle.jh_cli.specs.declared.limits.TheConstants.{MOST_OF_A_JOURNAL as most_of_a_journal, JOURNAL_LIMIT as journal_limit};
+ghost use Rattle.jh_cli.specs.Limits.{most_of_a_journal, journal_limit};
 ghost use Rattle.jh_cli.specs.Lines.{refusal_line as refusal_line_lem};
 ghost use Rattle.jh_cli.specs.Reading.{SpellsAt, StopsAt};
 ghost use Rattle.jh_cli.specs.Audit.{IsJournalFile, JournalRefusal, IsAudited, AuditsBy, Audits, due_text as due_text_lem, verdict_text as verdict_text_lem, verdict_status};

@@ -2,6 +2,7 @@
 ghost use Rattle.std.specs.Prelude.{◌≡◌, ◌≤◌, ◌<◌, ◌⊎◌, length, codes, OnOk, IfOk, IfErr};
 ghost use Rattle.jh_outside.specs.Reads.{HandsOut};
 ghost use Rattle.jh_cli.specs.Lines.{fault_line as fault_line_lem, refusal_line as refusal_line_lem};
+ghost use Rattle.jh_cli.specs.Limits.{most_of_a_file};
 ghost use Rattle.jh_cli.specs.Reading.{Said, Stops, StopsAt, IsOversize, IsOversizeAt};
 ghost use Rattle.jh_cli.specs.Stopped.{said_of, OnEnded, IsCounted};
 
@@ -106,8 +107,8 @@ pub fn read_below<F: Files>(
 
 /// What the file of this name hands out, which is at most 1 MiB.
 pub fn read_whole<F: Files>(alloc: Global, files: &mut F, name: &str) -> Result<Seq<u8>, Stop>
-    ensures ok { IfOk result (λ bytes. HandsOut (F.contents files.old name.now) MOST bytes) }
-    ensures within { IfOk result (λ bytes. length bytes < MOST) }
+    ensures ok { IfOk result (λ bytes. HandsOut (F.contents files.old name.now) most_of_a_file bytes) }
+    ensures within { IfOk result (λ bytes. length bytes < most_of_a_file) }
     ensures err { IfErr result (λ stop. OnEnded stop (Stops (F.contents files.old) name.now IsOversize)) }
     ensures counted { IfErr result (λ stop. OnEnded stop (IsCounted (F.faults files.old) (F.faults files.new) (F.failed files.new))) }
     ensures never_falls { F.faults files.old ≤ F.faults files.new }

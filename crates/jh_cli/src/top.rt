@@ -24,7 +24,7 @@ pub fn jailhouse<F: Files, K: Sink>(
     out: &mut K,
 ) -> Status
     // the status, and what was appended, are those that the words ask for
-    ensures ends { Ends (F.contents files.old) (command_of (map string_bytes words.now)) (K.written out.old) (K.written out.new) result }
+    ensures ends { Ends (F.contents files.old) (F.faults files.old) (F.faults files.new) (F.failed files.new) (command_of (map string_bytes words.now)) (K.written out.old) (K.written out.new) result }
     // a fault of reading or writing comes only where the count rose in this call
     ensures read_fault { result ≡ Status.ReadFault → Rose (F.faults files.old) (F.faults files.new) × Appended (K.written out.old) (K.written out.new) (fault_line (F.failed files.new)) }
     ensures write_fault { result ≡ Status.WriteFault → Rose (K.faults out.old) (K.faults out.new) }

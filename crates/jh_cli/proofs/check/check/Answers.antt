@@ -1,6 +1,6 @@
 -- The system is read, and then the cells.
 use Rattle.std.specs.Prelude.{map, string_bytes}
-use Rattle.jh_cli.specs.declared.limits.TheConstants.{MOST}
+use Rattle.jh_cli.specs.Limits.{most_of_a_file}
 use Rattle.jh_cli.specs.Check.{IsSystemFile, SystemRefusal, ChecksCells}
 use Rattle.jh_cli.proofs.StopLemmas.{goes_on_ok, goes_on_err}
 use Rattle.jh_cli.proofs.check.check.Goals as goal
@@ -9,10 +9,10 @@ pub returns-clause-ok : goal.returns-clause-ok
 returns-clause-ok g c =
     let contents = g.F.Files.contents c.args.files.now in
     let rest = rw c.system.ensures.kept at c.check_cells.ensures.ok in
-    goes_on_ok MOST contents c.args.system_name.now SystemRefusal IsSystemFile (ChecksCells contents (map string_bytes c.args.names.now)) c.in_ok-system.system c.in_ok-system.ensures.ok c.check_cells.result rest
+    goes_on_ok most_of_a_file contents c.args.system_name.now SystemRefusal IsSystemFile (ChecksCells contents (map string_bytes c.args.names.now)) c.in_ok-system.system c.in_ok-system.ensures.ok c.check_cells.result rest
 
 pub returns-clause-err : goal.returns-clause-err
 returns-clause-err g c =
     let contents = g.F.Files.contents c.args.files.now in
     let rest = rw c.system.ensures.kept at c.check_cells.ensures.err in
-    goes_on_err MOST contents c.args.system_name.now SystemRefusal IsSystemFile (ChecksCells contents (map string_bytes c.args.names.now)) c.in_ok-system.system c.in_ok-system.ensures.ok c.check_cells.result rest
+    goes_on_err most_of_a_file contents c.args.system_name.now SystemRefusal IsSystemFile (ChecksCells contents (map string_bytes c.args.names.now)) c.in_ok-system.system c.in_ok-system.ensures.ok c.check_cells.result rest

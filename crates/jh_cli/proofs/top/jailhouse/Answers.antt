@@ -1,10 +1,14 @@
 -- A sink that failed is told by its count.
+use Rattle.std.proofs.Common.{inr}
 use Rattle.std.specs.Prelude.{map, string_bytes}
 use Rattle.jh_cli.specs.Words.{command_of}
 use Rattle.jh_cli.specs.Stopped.{said_of}
 use Rattle.jh_cli.proofs.GoodLemmas.{done_or_rose}
 use Rattle.jh_cli.proofs.StatusLemmas.{outcome_other}
 use Rattle.jh_cli.proofs.top.jailhouse.Goals as goal
+
+pub returns-in-Ok-clause-ends : goal.returns-in-Ok-clause-ends
+returns-in-Ok-clause-ends g c = inr (said_of c.in-Ok.told, c.in-Ok.ensures.outcome, c.in-Ok.ensures.counted, c.send.ensures.sent)
 
 pub returns-in-Ok-clause-write_fault : goal.returns-in-Ok-clause-write_fault
 returns-in-Ok-clause-write_fault g c failed =
