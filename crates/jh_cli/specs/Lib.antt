@@ -8,5 +8,6 @@ pub mod Boards
 pub mod Play
 pub mod Audit
 pub mod Stopped
+pub mod Order
 pub mod Outcome
 pub mod Complete

@@ -8,7 +8,6 @@ use Rattle.jh_cli.specs.Check.{Checks}
 use Rattle.jh_cli.specs.Pack.{Packs}
 use Rattle.jh_cli.specs.Play.{Plays}
 use Rattle.jh_cli.specs.Audit.{Audits}
-use Rattle.jh_cli.specs.Stopped.{IsCounted}
 use Rattle.jh_cli.specs.declared.status.Status.{Status}
 use Rattle.jh_cli.specs.declared.status.Status.TheVariants.{Usage, WriteFault, NoMemory}
 
@@ -24,9 +23,7 @@ Outcome contents (Some (AuditOf board journal)) said = Audits contents board jou
 abbrev pub Sent : Option (List ℕ) → Option (List ℕ) → Said → Status → Type 0
 Sent old new said status = ((status ≡ said.status) × Appended old new said.text) ⊎ ((status ≡ WriteFault) × AppendedPart old new said.text)
 
--- a call with these words over these files ends with the status, and leaves the sink so: what is said, and what was
--- appended of it, tells of a file that could not be read only where the count of the files rose from `before` to
--- `after`, and names the file that failed; where memory was wanted nothing was appended
-abbrev pub Ends : Contents → ℕ → ℕ → List ℕ → Option Asked → Option (List ℕ) → Option (List ℕ) → Status → Type 0
-Ends contents before after failed asked old new status =
-    ((status ≡ NoMemory) × (new ≡ old)) ⊎ ((said : Said) × Outcome contents asked said × IsCounted before after failed said × Sent old new said status)
+-- a call with these words over these files ends with the status, and leaves the sink so; `Reads` says how the files
+-- were read for what is said; where memory was wanted nothing was appended
+abbrev pub Ends : Contents → (Said → Type 0) → Option Asked → Option (List ℕ) → Option (List ℕ) → Status → Type 0
+Ends contents Reads asked old new status = ((status ≡ NoMemory) × (new ≡ old)) ⊎ ((said : Said) × Outcome contents asked said × Reads said × Sent old new said status)

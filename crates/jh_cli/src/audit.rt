@@ -1,8 +1,10 @@
 //! Auditing a journal by a board.
-ghost use Rattle.std.specs.Prelude.{◌≡◌, ◌≢◌, ◌≤◌, length, IfOk, IfErr};
+ghost use Rattle.std.specs.Prelude.{◌≡◌, ◌≢◌, ◌≤◌, length, IfOk, IfErr, ◌∷◌, [], OnOk};
 ghost use Rattle.jh_history.specs.Admitted.{IsAdmitted, IsBuilt};
 ghost use Rattle.jh_text.specs.FaultText.{fault_text};
 ghost use Rattle.jh_text.specs.declared.fault.JournalFault.TheVariants.{NoMemory as for_memory};
+ghost use Rattle.jh_outside.specs.Trail.{Asks, handed};
+ghost use Rattle.jh_cli.specs.Order.{StopsAtOne, ReadsBoard, StopsInBoard};
 ghost use Rattle.jh_cli.specs.Limits.{most_of_a_journal, journal_limit};
 ghost use Rattle.jh_cli.specs.Lines.{refusal_line as refusal_line_lem};
 ghost use Rattle.jh_cli.specs.Reading.{SpellsAt, StopsAt};
@@ -51,6 +53,8 @@ fn journal<F: Files>(alloc: Global, files: &mut F, name: &str) -> Result<Journal
     ensures counted { IfErr result (λ stop. OnEnded stop (IsCounted (F.faults files.old) (F.faults files.new) (F.failed files.new))) }
     ensures never_falls { F.faults files.old ≤ F.faults files.new }
     ensures kept { F.contents files.new ≡ F.contents files.old }
+    ensures asked { OnOk result (Asks F.asks F.failed files.old (handed name.now ∷ []) files.new) }
+    ensures asked_until { IfErr result (λ stop. OnEnded stop (StopsAtOne F.asks F.failed name.now files.old files.new)) }
 {
     let bytes = read_below(alloc, files, name, MOST_OF_A_JOURNAL)?;
     match read_journal(alloc, bytes.as_slice()) {
@@ -120,6 +124,8 @@ fn audit_by<F: Files>(alloc: Global, files: &mut F, image: Image, name: &str) ->
     ensures err { IfErr result (λ stop. OnEnded stop (AuditsBy (F.contents files.old) name.now image)) }
     ensures counted_ok { IfOk result (λ told. IsCounted (F.faults files.old) (F.faults files.new) (F.failed files.new) (said_of told)) }
     ensures counted { IfErr result (λ stop. OnEnded stop (IsCounted (F.faults files.old) (F.faults files.new) (F.failed files.new))) }
+    ensures asked { OnOk result (Asks F.asks F.failed files.old (handed name.now ∷ []) files.new) }
+    ensures asked_until { IfErr result (λ stop. OnEnded stop (StopsAtOne F.asks F.failed name.now files.old files.new)) }
 {
     let journal = journal(alloc, files, name)?;
     Ok(tell_verdict(alloc, image, &journal)?)
@@ -131,6 +137,8 @@ pub fn audit<F: Files>(alloc: Global, files: &mut F, board: &str, name: &str) ->
     ensures err { IfErr result (λ stop. OnEnded stop (Audits (F.contents files.old) board.now name.now)) }
     ensures counted_ok { IfOk result (λ told. IsCounted (F.faults files.old) (F.faults files.new) (F.failed files.new) (said_of told)) }
     ensures counted { IfErr result (λ stop. OnEnded stop (IsCounted (F.faults files.old) (F.faults files.new) (F.failed files.new))) }
+    ensures asked { OnOk result (ReadsBoard F.asks F.failed (F.contents files.old) board.now (name.now ∷ []) files.old files.new) }
+    ensures asked_until { IfErr result (λ stop. OnEnded stop (StopsInBoard F.asks F.failed (F.contents files.old) board.now (name.now ∷ []) files.old files.new)) }
 {
     let image = open(alloc, files, board)?;
     audit_by(alloc, files, image, name)

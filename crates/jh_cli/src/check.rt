@@ -1,9 +1,11 @@
 //! Checking a system and its cells.
-ghost use Rattle.std.specs.Prelude.{◌≡◌, ◌≤◌, ◌⊎◌, length, map, string_bytes, IfOk, IfErr, OnOk, ◌++◌};
+ghost use Rattle.std.specs.Prelude.{◌≡◌, ◌≤◌, ◌⊎◌, length, map, string_bytes, IfOk, IfErr, OnOk, ◌++◌, ◌∷◌, []};
 ghost use Rattle.jh_cellcfg.specs.Texts.{fault_text};
 ghost use Rattle.jh_check.specs.Findings.{findings};
 ghost use Rattle.jh_check.specs.Lists.{capped};
 ghost use Rattle.jh_check.specs.Texts.{finding_text};
+ghost use Rattle.jh_outside.specs.Trail.{Asks, AsksAll, handed};
+ghost use Rattle.jh_cli.specs.Order.{StopsAtOne, StopsIn};
 ghost use Rattle.jh_cli.specs.Lines.{refusal_line as refusal_line_lem};
 ghost use Rattle.jh_cli.specs.Reading.{Spells, Stops};
 ghost use Rattle.jh_cli.specs.Check.{IsCellFile, CellRefusal, IsSystemFile, SystemRefusal, SpellCells, StopsAmong, ChecksCells, Checks, checked, checked_status, findings_text as findings_text_lem};
@@ -36,6 +38,8 @@ fn cell<F: Files>(alloc: Global, files: &mut F, name: &str) -> Result<CellConfig
     ensures counted { IfErr result (λ stop. OnEnded stop (IsCounted (F.faults files.old) (F.faults files.new) (F.failed files.new))) }
     ensures never_falls { F.faults files.old ≤ F.faults files.new }
     ensures kept { F.contents files.new ≡ F.contents files.old }
+    ensures asked { OnOk result (Asks F.asks F.failed files.old (handed name.now ∷ []) files.new) }
+    ensures asked_until { IfErr result (λ stop. OnEnded stop (StopsAtOne F.asks F.failed name.now files.old files.new)) }
 {
     let bytes = read_whole(alloc, files, name)?;
     match read_cell(alloc, bytes.as_slice()) {
@@ -52,6 +56,8 @@ fn system<F: Files>(alloc: Global, files: &mut F, name: &str) -> Result<SystemCo
     ensures counted { IfErr result (λ stop. OnEnded stop (IsCounted (F.faults files.old) (F.faults files.new) (F.failed files.new))) }
     ensures never_falls { F.faults files.old ≤ F.faults files.new }
     ensures kept { F.contents files.new ≡ F.contents files.old }
+    ensures asked { OnOk result (Asks F.asks F.failed files.old (handed name.now ∷ []) files.new) }
+    ensures asked_until { IfErr result (λ stop. OnEnded stop (StopsAtOne F.asks F.failed name.now files.old files.new)) }
 {
     let bytes = read_whole(alloc, files, name)?;
     match read_system(alloc, bytes.as_slice()) {
@@ -68,6 +74,8 @@ fn cells<F: Files>(alloc: Global, files: &mut F, names: &[String]) -> Result<Seq
     ensures err { IfErr result (λ stop. OnEnded stop (StopsAmong (F.contents files.old) (map string_bytes names.now))) }
     ensures counted { IfErr result (λ stop. OnEnded stop (IsCounted (F.faults files.old) (F.faults files.new) (F.failed files.new))) }
     ensures never_falls { F.faults files.old ≤ F.faults files.new }
+    ensures asked { OnOk result (AsksAll F.asks F.failed (map string_bytes names.now) files.old files.new) }
+    ensures asked_until { IfErr result (λ stop. OnEnded stop (StopsIn F.asks F.failed (map string_bytes names.now) files.old files.new)) }
 {
     let mut cells = Seq::new(alloc);
     for name in names {
@@ -122,6 +130,8 @@ fn check_cells<F: Files>(
     ensures err { IfErr result (λ stop. OnEnded stop (ChecksCells (F.contents files.old) (map string_bytes names.now) system.now)) }
     ensures counted_ok { IfOk result (λ told. IsCounted (F.faults files.old) (F.faults files.new) (F.failed files.new) (said_of told)) }
     ensures counted { IfErr result (λ stop. OnEnded stop (IsCounted (F.faults files.old) (F.faults files.new) (F.failed files.new))) }
+    ensures asked { OnOk result (AsksAll F.asks F.failed (map string_bytes names.now) files.old files.new) }
+    ensures asked_until { IfErr result (λ stop. OnEnded stop (StopsIn F.asks F.failed (map string_bytes names.now) files.old files.new)) }
 {
     let cells = cells(alloc, files, names)?;
     Ok(tell_findings(alloc, system, cells.as_slice())?)
@@ -139,6 +149,8 @@ pub fn check<F: Files>(
     ensures err { IfErr result (λ stop. OnEnded stop (Checks (F.contents files.old) system_name.now (map string_bytes names.now))) }
     ensures counted_ok { IfOk result (λ told. IsCounted (F.faults files.old) (F.faults files.new) (F.failed files.new) (said_of told)) }
     ensures counted { IfErr result (λ stop. OnEnded stop (IsCounted (F.faults files.old) (F.faults files.new) (F.failed files.new))) }
+    ensures asked { OnOk result (AsksAll F.asks F.failed (system_name.now ∷ map string_bytes names.now) files.old files.new) }
+    ensures asked_until { IfErr result (λ stop. OnEnded stop (StopsIn F.asks F.failed (system_name.now ∷ map string_bytes names.now) files.old files.new)) }
 {
     let system = system(alloc, files, system_name)?;
     check_cells(alloc, files, &system, names)

@@ -1,6 +1,8 @@
 //! Writing the configuration that a SPEC describes.
-ghost use Rattle.std.specs.Prelude.{◌≡◌, ◌≤◌, ◌++◌, codes, IfOk, IfErr};
+ghost use Rattle.std.specs.Prelude.{◌≡◌, ◌≤◌, ◌++◌, codes, IfOk, IfErr, ◌∷◌, [], OnOk};
 ghost use Rattle.jh_spec.specs.Specs.{MayBeWritten};
+ghost use Rattle.jh_outside.specs.Trail.{Asks, handed};
+ghost use Rattle.jh_cli.specs.Order.{StopsAtOne};
 ghost use Rattle.jh_cli.specs.Lines.{refusal_line as refusal_line_lem};
 ghost use Rattle.jh_cli.specs.Reading.{Spells, Stops};
 ghost use Rattle.jh_cli.specs.Pack.{IsSpecFile, SpecRefusal, Packs, packed};
@@ -41,6 +43,8 @@ fn spec<F: Files>(alloc: Global, files: &mut F, name: &str) -> Result<Spec, Stop
     ensures err { IfErr result (λ stop. OnEnded stop (Stops (F.contents files.old) name.now SpecRefusal)) }
     ensures counted { IfErr result (λ stop. OnEnded stop (IsCounted (F.faults files.old) (F.faults files.new) (F.failed files.new))) }
     ensures never_falls { F.faults files.old ≤ F.faults files.new }
+    ensures asked { OnOk result (Asks F.asks F.failed files.old (handed name.now ∷ []) files.new) }
+    ensures asked_until { IfErr result (λ stop. OnEnded stop (StopsAtOne F.asks F.failed name.now files.old files.new)) }
 {
     let bytes = read_whole(alloc, files, name)?;
     match read_spec(alloc, bytes.as_slice()) {
@@ -68,6 +72,8 @@ pub fn pack<F: Files>(alloc: Global, files: &mut F, name: &str) -> Result<Told, 
     ensures err { IfErr result (λ stop. OnEnded stop (Packs (F.contents files.old) name.now)) }
     ensures counted_ok { IfOk result (λ told. IsCounted (F.faults files.old) (F.faults files.new) (F.failed files.new) (said_of told)) }
     ensures counted { IfErr result (λ stop. OnEnded stop (IsCounted (F.faults files.old) (F.faults files.new) (F.failed files.new))) }
+    ensures asked { OnOk result (Asks F.asks F.failed files.old (handed name.now ∷ []) files.new) }
+    ensures asked_until { IfErr result (λ stop. OnEnded stop (StopsAtOne F.asks F.failed name.now files.old files.new)) }
 {
     let spec = spec(alloc, files, name)?;
     Ok(Told {

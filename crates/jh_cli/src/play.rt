@@ -1,8 +1,14 @@
 //! Playing a board by a schedule.
-ghost use Rattle.std.specs.Prelude.{◌≡◌, All, IsTrue, IfOk, IfErr};
+ghost use Rattle.std.specs.Prelude.{◌≡◌, All, IsTrue, IfOk, IfErr, ◌∷◌, [], OnOk};
 ghost use Rattle.jh_history.specs.Admitted.{IsAdmitted, IsBuilt};
 ghost use Rattle.jh_history.specs.Lives.{is_on_board};
+<<<<<<< ours
 ghost use Rattle.jh_run.specs.Ends.{is_full};
+=======
+ghost use Rattle.jh_board.specs.Plays.{is_full};
+ghost use Rattle.jh_outside.specs.Trail.{Asks, handed};
+ghost use Rattle.jh_cli.specs.Order.{StopsAtOne, ReadsBoard, StopsInBoard};
+>>>>>>> theirs
 ghost use Rattle.jh_cli.specs.Play.{IsPlayed, played_status, PlaysBy, Plays};
 ghost use Rattle.jh_cli.specs.Stopped.{said_of, OnEnded, IsCounted};
 
@@ -51,6 +57,8 @@ fn play_by<F: Files>(alloc: Global, files: &mut F, image: Image, items: &str) ->
     ensures err { IfErr result (λ stop. OnEnded stop (PlaysBy (F.contents files.old) items.now image)) }
     ensures counted_ok { IfOk result (λ told. IsCounted (F.faults files.old) (F.faults files.new) (F.failed files.new) (said_of told)) }
     ensures counted { IfErr result (λ stop. OnEnded stop (IsCounted (F.faults files.old) (F.faults files.new) (F.failed files.new))) }
+    ensures asked { OnOk result (Asks F.asks F.failed files.old (handed items.now ∷ []) files.new) }
+    ensures asked_until { IfErr result (λ stop. OnEnded stop (StopsAtOne F.asks F.failed items.now files.old files.new)) }
 {
     let cpus = schedule(alloc, files, items, &image)?;
     Ok(render(alloc, image, cpus.as_slice())?)
@@ -62,6 +70,8 @@ pub fn play<F: Files>(alloc: Global, files: &mut F, board: &str, items: &str) ->
     ensures err { IfErr result (λ stop. OnEnded stop (Plays (F.contents files.old) board.now items.now)) }
     ensures counted_ok { IfOk result (λ told. IsCounted (F.faults files.old) (F.faults files.new) (F.failed files.new) (said_of told)) }
     ensures counted { IfErr result (λ stop. OnEnded stop (IsCounted (F.faults files.old) (F.faults files.new) (F.failed files.new))) }
+    ensures asked { OnOk result (ReadsBoard F.asks F.failed (F.contents files.old) board.now (items.now ∷ []) files.old files.new) }
+    ensures asked_until { IfErr result (λ stop. OnEnded stop (StopsInBoard F.asks F.failed (F.contents files.old) board.now (items.now ∷ []) files.old files.new)) }
 {
     let image = open(alloc, files, board)?;
     play_by(alloc, files, image, items)

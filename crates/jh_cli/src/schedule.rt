@@ -1,7 +1,9 @@
 //! The schedule of a board's CPUs.
-ghost use Rattle.std.specs.Prelude.{◌≡◌, ◌≤◌, ◌<◌, ℕ, All, IsTrue, IfOk, IfErr};
+ghost use Rattle.std.specs.Prelude.{◌≡◌, ◌≤◌, ◌<◌, ℕ, All, IsTrue, IfOk, IfErr, ◌∷◌, [], OnOk};
 ghost use Rattle.jh_script.specs.FaultText.{schedule_fault_text};
 ghost use Rattle.jh_history.specs.Lives.{is_on_board as is_on_board_lem};
+ghost use Rattle.jh_outside.specs.Trail.{Asks, handed};
+ghost use Rattle.jh_cli.specs.Order.{StopsAtOne};
 ghost use Rattle.jh_cli.specs.Lines.{refusal_line as refusal_line_lem};
 ghost use Rattle.jh_cli.specs.Reading.{Spells, Stops};
 ghost use Rattle.jh_cli.specs.Play.{AreCpus, IsSchedule, ScheduleRefusal};
@@ -52,6 +54,8 @@ pub fn schedule<F: Files>(
     ensures counted { IfErr result (λ stop. OnEnded stop (IsCounted (F.faults files.old) (F.faults files.new) (F.failed files.new))) }
     ensures never_falls { F.faults files.old ≤ F.faults files.new }
     ensures kept { F.contents files.new ≡ F.contents files.old }
+    ensures asked { OnOk result (Asks F.asks F.failed files.old (handed name.now ∷ []) files.new) }
+    ensures asked_until { IfErr result (λ stop. OnEnded stop (StopsAtOne F.asks F.failed name.now files.old files.new)) }
 {
     let bytes = read_whole(alloc, files, name)?;
     match read_schedule(alloc, bytes.as_slice(), cpus_of(image)) {

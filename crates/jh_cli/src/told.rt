@@ -1,6 +1,8 @@
 //! How a call ends, and where it ends at a file.
-ghost use Rattle.std.specs.Prelude.{◌≡◌, ◌≤◌, ◌<◌, ◌⊎◌, length, codes, OnOk, IfOk, IfErr};
+ghost use Rattle.std.specs.Prelude.{◌≡◌, ◌≤◌, ◌<◌, ◌⊎◌, length, codes, OnOk, IfOk, IfErr, ◌∷◌, []};
 ghost use Rattle.jh_outside.specs.Reads.{HandsOut};
+ghost use Rattle.jh_outside.specs.Trail.{Asks, handed};
+ghost use Rattle.jh_cli.specs.Order.{StopsAtOne};
 ghost use Rattle.jh_cli.specs.Lines.{fault_line as fault_line_lem, refusal_line as refusal_line_lem};
 ghost use Rattle.jh_cli.specs.Limits.{most_of_a_file};
 ghost use Rattle.jh_cli.specs.Reading.{Said, Stops, StopsAt, IsOversize, IsOversizeAt};
@@ -76,6 +78,8 @@ fn read_file<F: Files>(
     ensures counted { IfErr result (λ stop. OnEnded stop (IsCounted (F.faults files.old) (F.faults files.new) (F.failed files.new))) }
     ensures never_falls { F.faults files.old ≤ F.faults files.new }
     ensures kept { F.contents files.new ≡ F.contents files.old }
+    ensures asked { OnOk result (Asks F.asks F.failed files.old (handed name.now ∷ []) files.new) }
+    ensures asked_until { IfErr result (λ stop. OnEnded stop (StopsAtOne F.asks F.failed name.now files.old files.new)) }
 {
     match files.read(name, most) {
         Ok(bytes) => Ok(bytes),
@@ -97,6 +101,8 @@ pub fn read_below<F: Files>(
     ensures counted { IfErr result (λ stop. OnEnded stop (IsCounted (F.faults files.old) (F.faults files.new) (F.failed files.new))) }
     ensures never_falls { F.faults files.old ≤ F.faults files.new }
     ensures kept { F.contents files.new ≡ F.contents files.old }
+    ensures asked { OnOk result (Asks F.asks F.failed files.old (handed name.now ∷ []) files.new) }
+    ensures asked_until { IfErr result (λ stop. OnEnded stop (StopsAtOne F.asks F.failed name.now files.old files.new)) }
 {
     let bytes = read_file(alloc, files, name, most)?;
     if bytes.len() >= most {
@@ -113,6 +119,8 @@ pub fn read_whole<F: Files>(alloc: Global, files: &mut F, name: &str) -> Result<
     ensures counted { IfErr result (λ stop. OnEnded stop (IsCounted (F.faults files.old) (F.faults files.new) (F.failed files.new))) }
     ensures never_falls { F.faults files.old ≤ F.faults files.new }
     ensures kept { F.contents files.new ≡ F.contents files.old }
+    ensures asked { OnOk result (Asks F.asks F.failed files.old (handed name.now ∷ []) files.new) }
+    ensures asked_until { IfErr result (λ stop. OnEnded stop (StopsAtOne F.asks F.failed name.now files.old files.new)) }
 {
     read_below(alloc, files, name, MOST)
 }

@@ -1,7 +1,16 @@
 -- The board is read, and what is asked of its image is done.
 use Rattle.jh_cli.specs.Audit.{AuditsBy}
 use Rattle.jh_cli.proofs.BoardLemmas.{opens_ok, opens_err}
+use Rattle.jh_cli.proofs.OrderLemmas.{board_ok, board_err}
 use Rattle.jh_cli.proofs.audit.audit.Goals as goal
+
+pub returns-clause-asked : goal.returns-clause-asked
+returns-clause-asked g c =
+    board_ok g.F.Files.asks g.F.Files.failed (g.F.Files.contents c.args.files.now) c.args.board.now c.args.name.now c.args.files.now c.open.new.files c.audit_by.new.files c.in_ok-image.ensures.asked c.audit_by.result c.audit_by.ensures.asked
+
+pub returns-clause-asked_until : goal.returns-clause-asked_until
+returns-clause-asked_until g c =
+    board_err g.F.Files.asks g.F.Files.failed (g.F.Files.contents c.args.files.now) c.args.board.now c.args.name.now c.args.files.now c.open.new.files c.audit_by.new.files c.in_ok-image.ensures.asked c.audit_by.result c.audit_by.ensures.asked_until
 
 pub returns-clause-ok : goal.returns-clause-ok
 returns-clause-ok g c =

@@ -24,3 +24,27 @@ returns-in-Pack-clause-ok g c = rw c.in-Pack.is c.pack.ensures.ok
 
 pub returns-in-Pack-clause-err : goal.returns-in-Pack-clause-err
 returns-in-Pack-clause-err g c = rw c.in-Pack.is c.pack.ensures.err
+
+pub returns-in-Check-clause-asked : goal.returns-in-Check-clause-asked
+returns-in-Check-clause-asked g c = rw c.in-Check.is c.check.ensures.asked
+
+pub returns-in-Check-clause-asked_until : goal.returns-in-Check-clause-asked_until
+returns-in-Check-clause-asked_until g c = rw c.in-Check.is c.check.ensures.asked_until
+
+pub returns-in-Play-clause-asked : goal.returns-in-Play-clause-asked
+returns-in-Play-clause-asked g c = rw c.in-Play.is c.play.ensures.asked
+
+pub returns-in-Play-clause-asked_until : goal.returns-in-Play-clause-asked_until
+returns-in-Play-clause-asked_until g c = rw c.in-Play.is c.play.ensures.asked_until
+
+pub returns-in-Audit-clause-asked : goal.returns-in-Audit-clause-asked
+returns-in-Audit-clause-asked g c = rw c.in-Audit.is c.audit.ensures.asked
+
+pub returns-in-Audit-clause-asked_until : goal.returns-in-Audit-clause-asked_until
+returns-in-Audit-clause-asked_until g c = rw c.in-Audit.is c.audit.ensures.asked_until
+
+pub returns-in-Pack-clause-asked : goal.returns-in-Pack-clause-asked
+returns-in-Pack-clause-asked g c = rw c.in-Pack.is c.pack.ensures.asked
+
+pub returns-in-Pack-clause-asked_until : goal.returns-in-Pack-clause-asked_until
+returns-in-Pack-clause-asked_until g c = rw c.in-Pack.is c.pack.ensures.asked_until

@@ -8,7 +8,7 @@ use Rattle.jh_cli.proofs.StatusLemmas.{outcome_other}
 use Rattle.jh_cli.proofs.top.jailhouse.Goals as goal
 
 pub returns-in-Ok-clause-ends : goal.returns-in-Ok-clause-ends
-returns-in-Ok-clause-ends g c = inr (said_of c.in-Ok.told, c.in-Ok.ensures.outcome, c.in-Ok.ensures.counted, c.send.ensures.sent)
+returns-in-Ok-clause-ends g c = inr (said_of c.in-Ok.told, c.in-Ok.ensures.outcome, (c.in-Ok.ensures.asked, c.in-Ok.ensures.counted), c.send.ensures.sent)
 
 pub returns-in-Ok-clause-write_fault : goal.returns-in-Ok-clause-write_fault
 returns-in-Ok-clause-write_fault g c failed =
