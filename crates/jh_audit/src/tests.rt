@@ -5,9 +5,9 @@ ghost use Rattle.jh_history.specs.Admitted.{IsAdmitted, IsBuilt};
 
 use crate::plain::{LIMIT, Plain};
 use crate::{AUDIT_LIMIT, Verdict, audit};
-use jh_board::play;
+use jh_board::{Board, TurnFault};
 use jh_history::{Act, Entry, Journal, admit, is_built};
-use jh_num::{NoMemory, Seq};
+use jh_num::{NoMemory, Seq, Steps};
 use jh_script::{Image, Program, read_program};
 use jh_syscfg::read_system;
 use jh_text::read_journal;
@@ -195,6 +195,34 @@ fn is_plain(
     Ok(())
 }
 
+/// One turn of the CPU.
+fn take_turn(rt: &impl Abort, board: &mut Board, cpu: u8) -> Result<(), NoMemory> {
+    assert!(rt; board.has_cpu(cpu));
+    match board.turn(cpu, &mut Steps::new()) {
+        Ok(_) => Ok(()),
+        Err(fault) => {
+            assert_eq!(rt; fault, TurnFault::NoMemory);
+            Err(NoMemory)
+        }
+    }
+}
+
+/// A board of these programs, whose CPUs took turns until nothing is due.
+fn played(rt: &impl Abort, alloc: Global, zero: &str, one: &str) -> Result<Board, Fail> {
+    let mut board = match Board::open(alloc, ready(rt, alloc, zero, one)?, LIMIT) {
+        Ok(board) => board,
+        Err(_) => return Err(NoMemory.into()),
+    };
+    for _ in 0..LIMIT {
+        if board.is_quiet() {
+            break;
+        }
+        take_turn(rt, &mut board, 0)?;
+        take_turn(rt, &mut board, 1)?;
+    }
+    Ok(board)
+}
+
 /// The engine plays these programs to so many entries, and the audit and the plain definition agree.
 fn all_agree(
     rt: &impl Abort,
@@ -203,7 +231,7 @@ fn all_agree(
     one: &str,
     count: usize,
 ) -> Result<(), Fail> {
-    let (board, _) = play(alloc, ready(rt, alloc, zero, one)?, &[], LIMIT)?;
+    let board = played(rt, alloc, zero, one)?;
     assert_eq!(rt; board.journal().len(), count);
     is_legal(rt, alloc, zero, one, board.journal())?;
     is_plain(rt, alloc, zero, one, board.journal().as_slice())

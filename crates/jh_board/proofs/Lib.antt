@@ -1,5 +1,4 @@
 pub mod PagesLemmas
 pub mod BytesLemmas
 pub mod MeansLemmas
-pub mod ReachesLemmas
 pub mod IndexLemmas

@@ -4,6 +4,5 @@ pub mod Means
 pub mod BoardView
 pub mod Turns
 pub mod Stands
-pub mod Plays
 pub mod Indexed
 pub mod IsIndexed

@@ -1,9 +1,8 @@
 -- What a turn of a CPU answers.
-use Rattle.std.specs.Prelude.{◌≡◌, ℕ, ◌<◌, List, [], ◌∷◌, ◌++◌, Bool, length, Option, Some, None, IsSome}
+use Rattle.std.specs.Prelude.{◌≡◌, ℕ, ◌<◌, List, [], ◌∷◌, ◌++◌, length, Option, Some, None, IsSome}
 use Rattle.jh_script.specs.declared.image.Image.{Image}
 use Rattle.jh_history.specs.declared.entry.Entry.{Entry}
 use Rattle.jh_history.specs.Due.{due, IsQuiet}
-use Rattle.jh_history.specs.Items.{Reached}
 use Rattle.jh_board.specs.BoardView.{BoardView}
 use Rattle.jh_board.specs.declared.turn.Turn.{Turn}
 use Rattle.jh_board.specs.declared.turn.Turn.TheVariants.{Made, Edited, NotNow, Done}
@@ -26,7 +25,3 @@ Turns old cpu Done new = IsQuiet old.image old.entries × (new ≡ old)
 abbrev pub Refuses : BoardView → ℕ → TurnFault → BoardView → Type 0
 Refuses old cpu Full new = IsSome (due old.image old.entries cpu) × (length old.entries ≡ old.limit) × (new ≡ old)
 Refuses old cpu NoMemory new = new ≡ old
-
--- items from old end as reached says, and leave new
-abbrev pub Reaches : BoardView → Reached → Bool → BoardView → Type 0
-Reaches old reached full new = (reached ≡ record { entries = new.entries; full = full }) × (new ≡ record old { entries = new.entries })

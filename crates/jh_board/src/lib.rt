@@ -5,13 +5,11 @@ mod board;
 mod indexed;
 mod memory;
 mod page;
-mod schedule;
 mod state;
 mod steps;
 mod turn;
 
 pub use board::Board;
-pub use schedule::{Ended, follow, play};
 pub use turn::{Turn, TurnFault};
 
 #[cfg(test)]

@@ -3,7 +3,7 @@ ghost use Rattle.std.specs.Prelude.{IfOk};
 ghost use Rattle.jh_history.specs.Admitted.{IsAdmitted, IsBuilt};
 
 use crate::plain::{LIMIT, Plain};
-use crate::{Board, Ended, Turn, TurnFault, follow, play};
+use crate::{Board, Turn, TurnFault};
 use jh_cellcfg::{CellConfig, Console, Region, SystemConfig};
 use jh_history::{Act, Entry, admit, is_built, is_on_board};
 use jh_num::{NoMemory, Seq, Steps};
@@ -148,10 +148,12 @@ fn plays(
     entries: &[Entry],
 ) -> Result<(), NoMemory> {
     plays_plainly(rt, alloc, case, schedule, entries)?;
-    let image = ready(rt, alloc, case)?;
-    assert!(rt; schedule.iter().all(|cpu| is_on_board(&image, *cpu)));
-    let (board, ended) = play(alloc, image, schedule, LIMIT)?;
-    assert_eq!(rt; ended, Ended::Quiet);
+    let mut board = opened(rt, alloc, case, LIMIT)?;
+    turns(rt, &mut board, schedule)?;
+    for _ in 0..LIMIT {
+        turns(rt, &mut board, &[0, 1])?;
+    }
+    assert!(rt; board.is_quiet());
     assert_eq!(rt; board.journal().as_slice(), entries);
     Ok(())
 }
@@ -166,6 +168,20 @@ fn opened(rt: &impl Abort, alloc: Global, case: Case, limit: u32) -> Result<Boar
 fn turn(rt: &impl Abort, board: &mut Board, cpu: u8) -> Result<Turn, TurnFault> {
     assert!(rt; board.has_cpu(cpu));
     board.turn(cpu, &mut Steps::new())
+}
+
+/// One turn of each of the CPUs, none of which the limit refuses.
+fn turns(rt: &impl Abort, board: &mut Board, cpus: &[u8]) -> Result<(), NoMemory> {
+    for cpu in cpus {
+        match turn(rt, board, *cpu) {
+            Ok(_) => {}
+            Err(fault) => {
+                assert_eq!(rt; fault, TurnFault::NoMemory);
+                return Err(NoMemory);
+            }
+        }
+    }
+    Ok(())
 }
 
 fn read(width: u8, at: u64) -> Op {
@@ -385,39 +401,5 @@ fn a_full_board_goes_on_from_the_same_journal(rt: HostRuntime) -> Result<(), Fai
     assert_eq!(rt; turn(&rt, &mut board, 1), Ok(Turn::NotNow));
     assert_eq!(rt; turn(&rt, &mut board, 0), Err(TurnFault::Full));
     assert_eq!(rt; board.journal().as_slice(), [first].as_slice());
-    Ok(())
-}
-
-#[test]
-fn follow_makes_the_items_alone(rt: HostRuntime) -> Result<(), Fail> {
-    let case = Case {
-        regions: &[region(BASE, 1)],
-        zero: &[read(1, BASE), read(2, BASE)],
-        one: &[],
-    };
-    let image = ready(&rt, rt.alloc(), case)?;
-    assert!(rt; is_on_board(&image, 0));
-    let (board, ended) = follow(rt.alloc(), image, &[0], LIMIT)?;
-    assert_eq!(rt; ended, Ended::Quiet);
-    assert_eq!(rt;
-        board.journal().as_slice(),
-        [got(0, 1, BASE, Some(0))].as_slice()
-    );
-    Ok(())
-}
-
-#[test]
-fn play_stops_at_a_full_journal(rt: HostRuntime) -> Result<(), Fail> {
-    let case = Case {
-        regions: &[region(BASE, 1)],
-        zero: &[read(1, BASE), read(2, BASE)],
-        one: &[],
-    };
-    let (board, ended) = play(rt.alloc(), ready(&rt, rt.alloc(), case)?, &[], 1)?;
-    assert_eq!(rt; ended, Ended::Full);
-    assert_eq!(rt;
-        board.journal().as_slice(),
-        [got(0, 1, BASE, Some(0))].as_slice()
-    );
     Ok(())
 }

@@ -1,5 +1,5 @@
 -- What `play` ends with.
-use Rattle.std.specs.Prelude.{◌≡◌, ◌<◌, ℕ, ◌⊎◌, Bool, if◌then◌else◌, List, length, Ok, Err}
+use Rattle.std.specs.Prelude.{◌≡◌, ◌<◌, ◌↔◌, ℕ, ◌⊎◌, Bool, if◌then◌else◌, List, length, Ok, Err}
 use Rattle.jh_script.specs.declared.image.Image.{Image}
 use Rattle.jh_script.specs.declared.fault.ScheduleFault.{ScheduleFault}
 use Rattle.jh_script.specs.FaultText.{schedule_fault_text}
@@ -8,6 +8,7 @@ use Rattle.jh_history.specs.Lives.{is_on_board}
 use Rattle.jh_history.specs.Due.{IsLegal, IsQuiet}
 use Rattle.jh_history.specs.Items.{played}
 use Rattle.jh_text.specs.Text.{journal_text}
+use Rattle.jh_run.specs.Plays.{IsFullAtCpu}
 use Rattle.jh_cli.specs.Reading.{Said, Contents, Reads, IsOversize}
 use Rattle.jh_cli.specs.Boards.{Opens}
 use Rattle.jh_cli.specs.declared.status.Status.{Status}
@@ -41,11 +42,13 @@ ScheduleRefusal image bytes words = IsOversize bytes words ⊎ IsNoSchedule imag
 abbrev pub played_status : Bool → Status
 played_status full = if full then Full else Good
 
--- the played journal's text; the journal is legal, and with status `Good` nothing is due after it
+-- the played journal's text; the journal is legal, and with status `Good` nothing is due after it. The status is
+-- `Full` exactly where the journal is at its limit and some CPU has an entry due
 pub record IsPlayed (image : Image) (cpus : List ℕ) (said : Said) : Type 0 where
   pub told : said ≡ record { status = played_status (played image JOURNAL_LIMIT cpus).full; text = journal_text (played image JOURNAL_LIMIT cpus).entries }
   pub legal : IsLegal image (played image JOURNAL_LIMIT cpus).entries
   pub quiet : said.status ≡ Good → IsQuiet image (played image JOURNAL_LIMIT cpus).entries
+  pub full : (said.status ≡ Full) ↔ IsFullAtCpu image JOURNAL_LIMIT (played image JOURNAL_LIMIT cpus).entries
 
 -- what a play of the image by the schedule ends with
 abbrev pub PlaysBy : Contents → List ℕ → Image → Said → Type 0

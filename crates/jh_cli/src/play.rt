@@ -2,7 +2,7 @@
 ghost use Rattle.std.specs.Prelude.{◌≡◌, All, IsTrue, IfOk, IfErr};
 ghost use Rattle.jh_history.specs.Admitted.{IsAdmitted, IsBuilt};
 ghost use Rattle.jh_history.specs.Lives.{is_on_board};
-ghost use Rattle.jh_board.specs.Plays.{is_full};
+ghost use Rattle.jh_run.specs.Ends.{is_full};
 ghost use Rattle.jh_cli.specs.Play.{IsPlayed, played_status, PlaysBy, Plays};
 ghost use Rattle.jh_cli.specs.Stopped.{said_of, OnEnded, IsCounted};
 
@@ -11,7 +11,7 @@ use crate::limits::JOURNAL_LIMIT;
 use crate::schedule::schedule;
 use crate::status::Status;
 use crate::told::{Stop, Told};
-use jh_board::{Ended, play as play_board};
+use jh_run::{Ended, play as play_board};
 use jh_num::NoMemory;
 use jh_outside::Files;
 use jh_script::Image;

@@ -8,5 +8,5 @@ use Rattle.jh_cli.proofs.play.render.Goals as goal
 pub returns : goal.returns
 returns c =
     IsPlayed-from c.args.image c.args.cpus.now c.in_ok-board.board c.in_ok-board.ended c.status_of.result c.in_ok-text.text.items
-    c.in_ok-board.ensures.played c.in_ok-board.ensures.legal c.in_ok-board.ensures.quiet c.status_of.ensures
+    c.in_ok-board.ensures.played c.in_ok-board.ensures.legal c.in_ok-board.ensures.quiet c.in_ok-board.ensures.full c.status_of.ensures
     (c.in_ok-text.ensures ∙ ap (λ (es : List Entry). journal_text es) c.journal.ensures.entries)

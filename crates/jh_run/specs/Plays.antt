@@ -1,15 +1,13 @@
--- How a schedule ends.
-use Rattle.std.specs.Prelude.{◌≡◌, ℕ, Bool, true, false, List, []}
+-- What schedules make, and when the limit stops them.
+use Rattle.std.specs.Prelude.{◌≡◌, ℕ, List, [], length, IsSome}
 use Rattle.jh_script.specs.declared.image.Image.{Image}
+use Rattle.jh_history.specs.declared.entry.Entry.{Entry}
+use Rattle.jh_history.specs.Due.{due}
 use Rattle.jh_history.specs.Items.{items, played}
+use Rattle.jh_laws.specs.Runs.{IsCutShort}
 use Rattle.jh_board.specs.BoardView.{BoardView}
-use Rattle.jh_board.specs.declared.schedule.Ended.{Ended}
-use Rattle.jh_board.specs.declared.schedule.Ended.TheVariants.{Quiet, Full}
-
--- whether the limit stopped it
-abbrev pub is_full : Ended → Bool
-is_full Quiet = false
-is_full Full = true
+use Rattle.jh_run.specs.declared.ended.Ended.{Ended}
+use Rattle.jh_run.specs.Ends.{is_full}
 
 -- the board is one of the image with the limit
 abbrev pub IsBoardOf : Image → ℕ → BoardView → Type 0
@@ -22,3 +20,11 @@ Follows image limit schedule board ended = (items image limit schedule [] ≡ re
 -- the board is one of the image at the journal that is played, and it ended so
 abbrev pub Plays : Image → ℕ → List ℕ → BoardView → Ended → Type 0
 Plays image limit schedule board ended = (played image limit schedule ≡ record { entries = board.entries; full = is_full ended }) × IsBoardOf image limit board
+
+-- the journal has `limit` entries, which the first items of the schedule make, and the next item has an entry due
+abbrev pub IsFullAtItem : Image → ℕ → List ℕ → List Entry → Type 0
+IsFullAtItem image limit schedule entries = (length entries ≡ limit) × IsCutShort image limit schedule [] entries
+
+-- the journal has `limit` entries, and some CPU has an entry due
+abbrev pub IsFullAtCpu : Image → ℕ → List Entry → Type 0
+IsFullAtCpu image limit entries = (length entries ≡ limit) × ((cpu : ℕ) × IsSome (due image entries cpu))

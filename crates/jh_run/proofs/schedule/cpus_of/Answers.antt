@@ -4,7 +4,7 @@ use Rattle.std.specs.Prelude.{All, IsTrue, filter}
 use Rattle.std.proofs.lemmas.List.Elements.{filter_passes}
 use Rattle.jh_history.specs.Lives.{is_on_board}
 use Rattle.jh_history.specs.Items.{below}
-use Rattle.jh_board.proofs.schedule.cpus_of.Goals as goal
+use Rattle.jh_run.proofs.schedule.cpus_of.Goals as goal
 
 pub returns-clause-present : goal.returns-clause-present
 returns-clause-present c =

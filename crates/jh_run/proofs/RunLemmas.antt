@@ -1,0 +1,54 @@
+-- Items after items.
+use Rattle.std.proofs.Common.{◌≡◌, ℕ, Bool, zero, suc, ◌+◌, List, [], ◌∷◌, ◌++◌, true, false, refl, sym, ◌∙◌, ap, subst, append_assoc, inl, inr, add-zero, add-suc, add-one}
+use Rattle.std.specs.Prelude.{filter}
+use Rattle.std.proofs.lemmas.List.{append-nil}
+use Rattle.std.proofs.lemmas.List.Elements.{filter-append}
+use Rattle.jh_script.specs.declared.image.Image.{Image}
+use Rattle.jh_history.specs.declared.entry.Entry.{Entry}
+use Rattle.jh_history.specs.Due.{IsQuiet}
+use Rattle.jh_history.specs.Items.{below, rounds}
+use Rattle.jh_laws.specs.Runs.{IsRun, IsCutShort}
+
+-- items behind a run
+pub run-append : (image : Image) (limit : ℕ) (xs ys : List ℕ) (es fs gs : List Entry) → IsRun image limit xs es fs → IsRun image limit ys fs gs → IsRun image limit (xs ++ ys) es gs
+run-append image limit [] ys es fs gs first second = let P : List Entry → Type 0 = λ hs. IsRun image limit ys hs gs in subst P first second
+run-append image limit (x ∷ xs) ys es fs gs first second = elim first [
+  | inl same ↦ inl (same.0, run-append image limit xs ys es fs gs same.1 second)
+  | inr more ↦ inr (more.0, more.1, more.2, run-append image limit xs ys (es ++ more.0 ∷ []) fs gs more.3 second)
+]
+
+-- a stop behind a run
+pub cut-behind : (image : Image) (limit : ℕ) (xs ys : List ℕ) (es fs gs : List Entry) → IsRun image limit xs es fs → IsCutShort image limit ys fs gs → IsCutShort image limit (xs ++ ys) es gs
+cut-behind image limit xs ys es fs gs first cut = record {
+  done = xs ++ cut.done;
+  next = cut.next;
+  left = cut.left;
+  split = ap (λ (zs : List ℕ). xs ++ zs) cut.split ∙ sym (append_assoc xs cut.done (cut.next ∷ cut.left));
+  run = run-append image limit xs cut.done es fs gs first cut.run;
+  is_due = cut.is_due;
+  reached = cut.reached;
+}
+
+-- items behind a stop
+pub cut-before : (image : Image) (limit : ℕ) (xs ys : List ℕ) (es fs : List Entry) → IsCutShort image limit xs es fs → IsCutShort image limit (xs ++ ys) es fs
+cut-before image limit xs ys es fs cut = record {
+  done = cut.done;
+  next = cut.next;
+  left = cut.left ++ ys;
+  split = ap (λ (zs : List ℕ). zs ++ ys) cut.split ∙ append_assoc cut.done (cut.next ∷ cut.left) ys;
+  run = cut.run;
+  is_due = cut.is_due;
+  reached = cut.reached;
+}
+
+-- at a quiet journal no item changes anything
+pub run-quiet : (image : Image) (limit : ℕ) (cpus : List ℕ) (es : List Entry) → IsQuiet image es → IsRun image limit cpus es es
+run-quiet image limit [] es quiet = refl
+run-quiet image limit (cpu ∷ cpus) es quiet = inl (quiet cpu, run-quiet image limit cpus es quiet)
+
+-- one number more that passes, or that doesn't
+pub filter_below_more : (p : ℕ → Bool) (k : ℕ) → p k ≡ true → filter p (below (k + 1)) ≡ filter p (below k) ++ k ∷ []
+filter_below_more p k e = rw (add-one, filter-append, e) refl
+
+pub filter_below_skip : (p : ℕ → Bool) (k : ℕ) → p k ≡ false → filter p (below (k + 1)) ≡ filter p (below k)
+filter_below_skip p k e = rw (add-one, filter-append, e) (append-nil (filter p (below k)))

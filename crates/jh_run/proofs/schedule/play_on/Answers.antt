@@ -1,0 +1,10 @@
+-- The schedule, and then the rounds.
+use Rattle.std.proofs.Common.{true, false, ◌+◌}
+use Rattle.jh_history.specs.Items.{rounds}
+use Rattle.jh_run.proofs.RanLemmas.{Ran-stopped, Ran-append}
+use Rattle.jh_run.proofs.schedule.play_on.Goals as goal
+
+pub returns-then-branch : goal.returns-then-branch
+returns-then-branch c =
+    let done = rw c.if-branch.true at c.in_ok-follow_on.ensures in
+    Ran-stopped c.args.board.now c.follow_on.new.board c.args.schedule.now (rounds (c.args.limit + 1) c.args.cpus.now) done

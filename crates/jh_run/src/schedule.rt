@@ -1,0 +1,148 @@
+//! Schedules on one board.
+ghost use Rattle.std.specs.Prelude.{◌≡◌, ℕ, ◌+◌, ◌<◌, ◌≤◌, ◌↔◌, [], ◌∷◌, ◌++◌, length, All, IsTrue, IsSome, IfOk, OnErr};
+ghost use Rattle.jh_history.specs.Due.{due, IsLegal, IsQuiet};
+ghost use Rattle.jh_history.specs.Items.{rounds, cpus_of as cpus_of_lem};
+ghost use Rattle.jh_history.specs.Lives.{is_on_board as is_on_board_lem};
+ghost use Rattle.jh_history.specs.Admitted.{IsAdmitted, IsBuilt};
+ghost use Rattle.jh_laws.specs.Runs.{IsCutShort};
+ghost use Rattle.jh_run.specs.Ends.{is_full};
+ghost use Rattle.jh_run.specs.Plays.{Follows, Plays, IsFullAtItem, IsFullAtCpu};
+ghost use Rattle.jh_run.specs.Ran.{Ran};
+
+use crate::ended::{Ended, how_ended};
+use jh_board::{Board, TurnFault};
+use jh_history::is_on_board;
+use jh_laws::{
+    items_run_until_one_is_cut_short, played_journals_are_quiet_or_full,
+    rounds_are_of_the_boards_cpus,
+};
+use jh_num::{NoMemory, Steps};
+use jh_script::Image;
+use std::alloc::Global;
+
+/// The board's CPUs in rising order.
+pub fn cpus_of(alloc: Global, image: &Image) -> Result<Vec<u8>, NoMemory>
+    ensures cpus { IfOk result (λ cpus. cpus.items ≡ cpus_of_lem image.now) }
+    ensures present { IfOk result (λ cpus. All (λ cpu. IsTrue (is_on_board_lem image.now cpu)) cpus.items) }
+{
+    let mut cpus = Vec::new(alloc);
+    for cpu in 0..16u8 {
+        if is_on_board(image, cpu) {
+            cpus.push(cpu)?;
+        }
+    }
+    Ok(cpus)
+}
+
+/// A board of the image, with an empty journal.
+fn opened(alloc: Global, image: Image, limit: u32) -> Result<Board, NoMemory>
+    requires admitted { IsAdmitted image }
+    requires built { IsBuilt image }
+    ensures { IfOk result (λ board. board ≡ record { image = image; limit = limit; entries = [] }) }
+{
+    match Board::open(alloc, image, limit) {
+        Ok(board) => Ok(board),
+        Err(_) => Err(NoMemory),
+    }
+}
+
+/// One item of the CPU; tells whether the limit stopped it.
+fn item(board: &mut Board, cpu: u8) -> Result<bool, NoMemory>
+    requires { IsTrue (is_on_board_lem board.old.image cpu) }
+    ensures ok { IfOk result (λ full. Ran board.old (cpu ∷ []) full board.new) }
+    ensures err { OnErr result (board.new ≡ board.old) }
+{
+    match board.turn(cpu, &mut Steps::new()) {
+        Ok(_) => Ok(false),
+        Err(TurnFault::Full) => Ok(true),
+        Err(TurnFault::NoMemory) => Err(NoMemory),
+    }
+}
+
+/// The items of the CPUs, one after another; tells whether the limit stopped them.
+fn follow_on(board: &mut Board, cpus: &[u8]) -> Result<bool, NoMemory>
+    requires { All (λ cpu. IsTrue (is_on_board_lem board.old.image cpu)) cpus.now }
+    ensures ok { IfOk result (λ full. Ran board.old cpus.now full board.new) }
+{
+    for cpu in cpus {
+        if item(board, *cpu)? {
+            return Ok(true);
+        }
+    }
+    Ok(false)
+}
+
+/// Rounds of the CPUs, one more than the limit, or until nothing is due; tells whether the limit
+/// stopped them.
+fn finish(board: &mut Board, cpus: &[u8], limit: u32) -> Result<bool, NoMemory>
+    requires present { All (λ cpu. IsTrue (is_on_board_lem board.old.image cpu)) cpus.now }
+    ensures ok { IfOk result (λ full. Ran board.old (rounds (limit + 1) cpus.now) full board.new) }
+{
+    for n in 0..u64::from(limit) + 1 {
+        if board.is_quiet() {
+            return Ok(false);
+        }
+        if follow_on(board, cpus)? {
+            return Ok(true);
+        }
+    }
+    Ok(false)
+}
+
+/// The items of the schedule, and then the rounds; tells whether the limit stopped them.
+fn play_on(board: &mut Board, schedule: &[u8], cpus: &[u8], limit: u32) -> Result<bool, NoMemory>
+    requires schedule { All (λ cpu. IsTrue (is_on_board_lem board.old.image cpu)) schedule.now }
+    requires present { All (λ cpu. IsTrue (is_on_board_lem board.old.image cpu)) cpus.now }
+    ensures ok { IfOk result (λ full. Ran board.old (schedule.now ++ rounds (limit + 1) cpus.now) full board.new) }
+{
+    if follow_on(board, schedule)? {
+        return Ok(true);
+    }
+    finish(board, cpus, limit)
+}
+
+/// Makes the items of the schedule alone, on a board of the image.
+pub fn follow(
+    alloc: Global,
+    image: Image,
+    schedule: &[u8],
+    limit: u32,
+) -> Result<(Board, Ended), NoMemory>
+    requires admitted { IsAdmitted image }
+    requires built { IsBuilt image }
+    requires schedule { All (λ cpu. IsTrue (is_on_board_lem image cpu)) schedule.now }
+    ensures followed { IfOk result (λ r. Follows image limit schedule.now r.0 r.1) }
+    ensures legal { IfOk result (λ r. IsLegal image r.0.entries) }
+    ensures full { IfOk result (λ r. (r.1 ≡ Ended.Full) ↔ IsFullAtItem image limit schedule.now r.0.entries) }
+{
+    items_run_until_one_is_cut_short();
+    let mut board = opened(alloc, image, limit)?;
+    let full = follow_on(&mut board, schedule)?;
+    let _ = board.journal();
+    Ok((board, how_ended(full)))
+}
+
+/// Plays the schedule on a board of the image, and then rounds of all CPUs until nothing is due.
+pub fn play(
+    alloc: Global,
+    image: Image,
+    schedule: &[u8],
+    limit: u32,
+) -> Result<(Board, Ended), NoMemory>
+    requires admitted { IsAdmitted image }
+    requires built { IsBuilt image }
+    requires schedule { All (λ cpu. IsTrue (is_on_board_lem image cpu)) schedule.now }
+    ensures played { IfOk result (λ r. Plays image limit schedule.now r.0 r.1) }
+    ensures legal { IfOk result (λ r. IsLegal image r.0.entries) }
+    ensures quiet { IfOk result (λ r. (r.1 ≡ Ended.Quiet) ↔ IsQuiet image r.0.entries) }
+    ensures full { IfOk result (λ r. (r.1 ≡ Ended.Full) ↔ IsFullAtCpu image limit r.0.entries) }
+{
+    items_run_until_one_is_cut_short();
+    played_journals_are_quiet_or_full();
+    rounds_are_of_the_boards_cpus();
+    let cpus = cpus_of(alloc, &image)?;
+    let mut board = opened(alloc, image, limit)?;
+    let full = play_on(&mut board, schedule, cpus.as_slice(), limit)?;
+    let _ = board.journal();
+    Ok((board, how_ended(full)))
+}

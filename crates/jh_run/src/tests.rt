@@ -1,0 +1,233 @@
+//! Schedules on small boards.
+ghost use Rattle.std.specs.Prelude.{IfOk};
+ghost use Rattle.jh_history.specs.Admitted.{IsAdmitted, IsBuilt};
+
+use crate::{Ended, follow, play};
+use jh_cellcfg::{CellConfig, Console, Region, SystemConfig};
+use jh_history::{Act, Entry, admit, is_built, is_on_board};
+use jh_num::{NoMemory, Seq};
+use jh_script::{Image, Op, Program};
+use std::alloc::Global;
+use std::process::Abort;
+use std::test::Fail;
+
+/// The one page of root's memory.
+const BASE: u64 = 0x4000_0000;
+
+/// More entries than any of the boards makes.
+const AMPLE: u32 = 64;
+
+/// The region, whose page may be read and written.
+fn region() -> Region {
+    Region {
+        phys_start: BASE,
+        virt_start: BASE,
+        size: 0x1000,
+        flags: 3,
+    }
+}
+
+/// Root with CPUs 0, 1 and 3.
+fn root(alloc: Global) -> Result<CellConfig, NoMemory> {
+    Ok(CellConfig {
+        name: [0; 32],
+        id: 0,
+        flags: 0,
+        vpci_irq_base: 0,
+        cpu_reset_address: 0,
+        msg_reply_timeout: 0,
+        console: [0; 32],
+        cpu_set: Seq::from_vec(Vec::from_slice(alloc, &[0xb])?),
+        memory_regions: Seq::from_vec(Vec::from_slice(alloc, &[region()])?),
+        cache_regions: Seq::new(alloc),
+        irqchips: Seq::new(alloc),
+        pio_regions: Seq::new(alloc),
+        pci_devices: Seq::new(alloc),
+        pci_caps: Seq::new(alloc),
+        stream_ids: Seq::new(alloc),
+    })
+}
+
+fn system(root: CellConfig) -> SystemConfig {
+    SystemConfig {
+        flags: 0,
+        hypervisor_memory: Region {
+            phys_start: 0x7fc0_0000,
+            virt_start: 0x7fc0_0000,
+            size: 0x1_0000,
+            flags: 0,
+        },
+        debug_console: Console {
+            address: 0,
+            size: 0,
+            kind: 0,
+            flags: 0,
+            divider: 0,
+            gate_nr: 0,
+            clock_reg: 0,
+        },
+        pci_mmconfig_base: 0,
+        pci_mmconfig_end_bus: 0,
+        pci_is_virtual: 0,
+        pci_domain: 0,
+        root_head: [0; 8],
+        root,
+    }
+}
+
+fn program(alloc: Global, cpu: u8, ops: &[Op]) -> Result<Program, NoMemory> {
+    Ok(Program {
+        cell: Seq::new(alloc),
+        cpu,
+        ops: Seq::from_vec(Vec::from_slice(alloc, ops)?),
+    })
+}
+
+/// The image of that root, where CPUs 0 and 3 have these programs.
+fn image(alloc: Global, zero: &[Op], three: &[Op]) -> Result<Image, NoMemory> {
+    let mut programs = Seq::new(alloc);
+    programs.push(program(alloc, 3, three)?)?;
+    programs.push(program(alloc, 0, zero)?)?;
+    Ok(Image {
+        system: system(root(alloc)?),
+        preloads: Seq::new(alloc),
+        programs,
+    })
+}
+
+/// The same image, which may be opened.
+fn ready(rt: &impl Abort, alloc: Global, zero: &[Op], three: &[Op]) -> Result<Image, NoMemory>
+    ensures admitted { IfOk result IsAdmitted }
+    ensures built { IfOk result IsBuilt }
+{
+    let image = image(alloc, zero, three)?;
+    let admitted = admit(alloc, &image)?;
+    assert!(rt; admitted);
+    assert!(rt; is_built(&image));
+    Ok(image)
+}
+
+fn read(width: u8) -> Op {
+    Op::Read { width, at: BASE }
+}
+
+fn write(value: u64) -> Op {
+    Op::Write {
+        width: 1,
+        at: BASE,
+        value,
+    }
+}
+
+fn got(cpu: u8, width: u8, value: u64) -> Entry {
+    Entry {
+        cpu,
+        cell: 0,
+        act: Act::Read {
+            width,
+            at: BASE,
+            got: Some(value),
+        },
+    }
+}
+
+fn wrote(cpu: u8, value: u64) -> Entry {
+    Entry {
+        cpu,
+        cell: 0,
+        act: Act::Write {
+            width: 1,
+            at: BASE,
+            value,
+            ok: true,
+        },
+    }
+}
+
+/// The items of the schedule alone end so, with these entries.
+fn follows(
+    rt: &impl Abort,
+    alloc: Global,
+    image: Image,
+    schedule: &[u8],
+    limit: u32,
+    ended: Ended,
+    entries: &[Entry],
+) -> Result<(), NoMemory>
+    requires admitted { IsAdmitted image }
+    requires built { IsBuilt image }
+{
+    assert!(rt; schedule.iter().all(|cpu| is_on_board(&image, *cpu)));
+    let (board, how) = follow(alloc, image, schedule, limit)?;
+    assert_eq!(rt; how, ended);
+    assert_eq!(rt; board.journal().as_slice(), entries);
+    Ok(())
+}
+
+/// The schedule and the rounds after it end so, with these entries.
+fn plays(
+    rt: &impl Abort,
+    alloc: Global,
+    image: Image,
+    schedule: &[u8],
+    limit: u32,
+    ended: Ended,
+    entries: &[Entry],
+) -> Result<(), NoMemory>
+    requires admitted { IsAdmitted image }
+    requires built { IsBuilt image }
+{
+    assert!(rt; schedule.iter().all(|cpu| is_on_board(&image, *cpu)));
+    let (board, how) = play(alloc, image, schedule, limit)?;
+    assert_eq!(rt; how, ended);
+    assert_eq!(rt; board.journal().as_slice(), entries);
+    Ok(())
+}
+
+#[test]
+fn follow_makes_the_items_alone(rt: HostRuntime) -> Result<(), Fail> {
+    let alloc = rt.alloc();
+    let image = ready(&rt, alloc, &[read(1), read(2)], &[write(7)])?;
+    let entries = [wrote(3, 7), got(0, 1, 7)];
+    follows(
+        &rt,
+        alloc,
+        image,
+        &[1, 3, 0, 3],
+        AMPLE,
+        Ended::Quiet,
+        &entries,
+    )?;
+    Ok(())
+}
+
+#[test]
+fn follow_stops_at_the_first_item_that_is_one_too_many(rt: HostRuntime) -> Result<(), Fail> {
+    let alloc = rt.alloc();
+    let image = ready(&rt, alloc, &[read(1), read(2)], &[write(7)])?;
+    let entries = [got(0, 1, 0)];
+    follows(&rt, alloc, image, &[0, 1, 0, 3], 1, Ended::Full, &entries)?;
+    let image = ready(&rt, alloc, &[read(1), read(2)], &[write(7)])?;
+    follows(&rt, alloc, image, &[0, 1], 1, Ended::Quiet, &entries)?;
+    Ok(())
+}
+
+#[test]
+fn play_goes_on_in_rounds_of_rising_cpus(rt: HostRuntime) -> Result<(), Fail> {
+    let alloc = rt.alloc();
+    let image = ready(&rt, alloc, &[write(1), read(1)], &[write(2), read(1)])?;
+    let entries = [wrote(3, 2), wrote(0, 1), got(3, 1, 1), got(0, 1, 1)];
+    plays(&rt, alloc, image, &[3], AMPLE, Ended::Quiet, &entries)?;
+    Ok(())
+}
+
+#[test]
+fn play_stops_at_a_full_journal(rt: HostRuntime) -> Result<(), Fail> {
+    let alloc = rt.alloc();
+    let entries = [got(0, 1, 0)];
+    let image = ready(&rt, alloc, &[read(1), read(2)], &[])?;
+    plays(&rt, alloc, image, &[], 1, Ended::Full, &entries)?;
+    let image = ready(&rt, alloc, &[read(1)], &[])?;
+    plays(&rt, alloc, image, &[], 1, Ended::Quiet, &entries)?;
+    Ok(())
+}
