@@ -127,6 +127,7 @@ impl Board {
         ensures legal { IsLegal self.now.image self.now.entries }
         ensures within { length self.now.entries ≤ self.now.limit }
         ensures admitted { IsAdmitted self.now.image }
+        ensures built { IsBuilt self.now.image }
         ensures few { (cpu : ℕ) → IsTrue (is_on_board self.now.image cpu) → cpu < 16 }
     {
         self.image.has_few_cpus();

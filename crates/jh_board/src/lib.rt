@@ -2,6 +2,7 @@
 #![tactic(auto)]
 
 mod board;
+mod crossing;
 mod indexed;
 mod memory;
 mod page;

@@ -1,26 +1,22 @@
 //! Schedules on one board.
-ghost use Rattle.std.specs.Prelude.{◌≡◌, ℕ, ◌+◌, ◌<◌, ◌≤◌, ◌↔◌, [], ◌∷◌, ◌++◌, length, All, IsTrue, IsSome, IfOk, OnErr};
-ghost use Rattle.jh_history.specs.Due.{due, IsLegal, IsQuiet};
+ghost use Rattle.std.specs.Prelude.{◌≡◌, ◌+◌, ◌↔◌, [], ◌∷◌, ◌++◌, All, IsTrue, IfOk, OnErr};
+ghost use Rattle.jh_history.specs.Due.{IsLegal, IsQuiet};
 ghost use Rattle.jh_history.specs.Items.{rounds, cpus_of as cpus_of_lem};
 ghost use Rattle.jh_history.specs.Lives.{is_on_board as is_on_board_lem};
 ghost use Rattle.jh_history.specs.Admitted.{IsAdmitted, IsBuilt};
-ghost use Rattle.jh_laws.specs.Runs.{IsCutShort};
-ghost use Rattle.jh_run.specs.Ends.{is_full};
 ghost use Rattle.jh_run.specs.Plays.{Follows, Plays, IsFullAtItem, IsFullAtCpu};
 ghost use Rattle.jh_run.specs.Ran.{Ran};
 
 use crate::ended::{Ended, how_ended};
 use jh_board::{Board, TurnFault};
 use jh_history::is_on_board;
-use jh_laws::{
-    items_run_until_one_is_cut_short, played_journals_are_quiet_or_full,
-    rounds_are_of_the_boards_cpus,
-};
+use jh_laws::{items_run_until_one_is_cut_short, played_journals_are_quiet_or_full};
 use jh_num::{NoMemory, Steps};
 use jh_script::Image;
 use std::alloc::Global;
 
 /// The board's CPUs in rising order.
+#[tactic(auto, using(crate::proofs::RunLemmas::filter_below_more, crate::proofs::RunLemmas::filter_below_skip), unfolding(jh_history::specs::Items::cpus_of))]
 pub fn cpus_of(alloc: Global, image: &Image) -> Result<Vec<u8>, NoMemory>
     ensures cpus { IfOk result (λ cpus. cpus.items ≡ cpus_of_lem image.now) }
     ensures present { IfOk result (λ cpus. All (λ cpu. IsTrue (is_on_board_lem image.now cpu)) cpus.items) }
@@ -35,7 +31,7 @@ pub fn cpus_of(alloc: Global, image: &Image) -> Result<Vec<u8>, NoMemory>
 }
 
 /// A board of the image, with an empty journal.
-fn opened(alloc: Global, image: Image, limit: u32) -> Result<Board, NoMemory>
+pub fn opened(alloc: Global, image: Image, limit: u32) -> Result<Board, NoMemory>
     requires admitted { IsAdmitted image }
     requires built { IsBuilt image }
     ensures { IfOk result (λ board. board ≡ record { image = image; limit = limit; entries = [] }) }
@@ -98,7 +94,8 @@ fn play_on(board: &mut Board, schedule: &[u8], cpus: &[u8], limit: u32) -> Resul
     if follow_on(board, schedule)? {
         return Ok(true);
     }
-    finish(board, cpus, limit)
+    let full = finish(board, cpus, limit)?;
+    Ok(full)
 }
 
 /// Makes the items of the schedule alone, on a board of the image.
@@ -139,7 +136,6 @@ pub fn play(
 {
     items_run_until_one_is_cut_short();
     played_journals_are_quiet_or_full();
-    rounds_are_of_the_boards_cpus();
     let cpus = cpus_of(alloc, &image)?;
     let mut board = opened(alloc, image, limit)?;
     let full = play_on(&mut board, schedule, cpus.as_slice(), limit)?;

@@ -9,7 +9,7 @@ loop-cpu-init c = Ran-nil c.args.board.now
 pub returns-then-branch : goal.returns-then-branch
 returns-then-branch c =
     let done = rw c.if-branch.true at c.in_ok-item.ensures.ok in
-    Ran-stop c.args.board.now c.loop-cpu.board c.item.new.board c.args.cpus.now c.loop-cpu.cpu-index 0 (omega arith) c.loop-cpu.invariant done
+    record { ok = Ran-stop c.args.board.now c.loop-cpu.board c.item.new.board c.args.cpus.now c.loop-cpu.cpu-index 0 (omega arith) c.loop-cpu.invariant done }
 
 pub loop-cpu-preserved : goal.loop-cpu-preserved
 loop-cpu-preserved c =
