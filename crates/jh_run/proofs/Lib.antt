@@ -1,3 +1,7 @@
 pub mod RunLemmas
 pub mod RanLemmas
 pub mod EndLemmas
+pub mod TurnLemmas
+pub mod PortLemmas
+pub mod WholeLemmas
+pub mod SpreadLemmas
