@@ -1,6 +1,6 @@
 -- What a turn of a running board tells.
 use Rattle.std.proofs.Common.{◌≡◌, ℕ, ◌+◌, ◌<◌, ◌≤◌, List, [], ◌∷◌, ◌++◌, true, false, Option, Some, None, refl, sym, ◌∙◌, ap, subst, length, inl, inr}
-use Rattle.std.specs.Prelude.{IsSome}
+use Rattle.std.specs.Prelude.{IsSome, IfSome}
 use Rattle.std.proofs.lemmas.Bool.{false≢true}
 use Rattle.std.proofs.lemmas.Option.{none-some}
 use Rattle.jh_history.specs.declared.entry.Entry.{Entry}
@@ -10,7 +10,7 @@ use Rattle.jh_board.specs.BoardView.{BoardView}
 use Rattle.jh_run.specs.Origins.{Origin}
 use Rattle.jh_run.specs.Turns.{Takes, halt_of, IsFullAndBusy}
 use Rattle.jh_run.specs.Running.{whose_entry, Answers}
-use Rattle.jh_run.specs.Drives.{Tells}
+use Rattle.jh_run.specs.Drives.{Tells, stop_after}
 use Rattle.jh_run.specs.declared.driving.Stop.TheVariants.{Quiet, Halted as StopHalted}
 use Rattle.jh_run.specs.declared.run_turn.Halt.{Halt}
 use Rattle.jh_run.specs.declared.run_turn.Halt.TheVariants.{Full, NoMemory}
@@ -79,3 +79,10 @@ halted_tells origin cpu before after Full h =
     let P : List Entry → Type 0 = λ es. Tells origin (StopHalted Full) es in
     subst P (sym h.2) (h.0, h.1)
 halted_tells origin cpu before after NoMemory h = tt
+
+pub turn_tells : (origin : Origin) (cpu : ℕ) (before after : List Entry) (turn : RunTurn) → Answers origin cpu before after turn → IfSome (stop_after turn) (λ stop. Tells origin stop after)
+turn_tells origin cpu before after (Made entry) h = tt
+turn_tells origin cpu before after (Edited left) h = tt
+turn_tells origin cpu before after NotNow h = tt
+turn_tells origin cpu before after Done h = done_tells origin cpu before after h
+turn_tells origin cpu before after (Halted halt) h = halted_tells origin cpu before after halt h

@@ -7,7 +7,7 @@ use Rattle.jh_script.specs.declared.image.Image.{Image}
 use Rattle.jh_history.specs.declared.entry.Entry.{Entry}
 use Rattle.jh_history.specs.Due.{IsLegal, IsQuiet}
 use Rattle.jh_run.specs.Origins.{Origin}
-use Rattle.jh_run.specs.Drives.{Tells}
+use Rattle.jh_run.specs.Drives.{Tells, end_stop}
 use Rattle.jh_run.specs.declared.ended.Ended.{Ended}
 use Rattle.jh_run.specs.declared.ended.Ended.TheVariants.{Quiet as EndedQuiet, Full as EndedFull}
 use Rattle.jh_run.specs.declared.driving.Stop.{Stop}
@@ -42,14 +42,10 @@ QuietExactly ended image entries = (ended ≡ EndedQuiet) ↔ IsQuiet image entr
 abbrev pub FullExactly : Ended → Image → ℕ → List Entry → Type 0
 FullExactly ended image limit entries = (ended ≡ EndedFull) ↔ ((length entries ≡ limit) × ¬ IsQuiet image entries)
 
-pub quiet-quiet : (image : Image) (entries : List Entry) → IsQuiet image entries → QuietExactly EndedQuiet image entries
-quiet-quiet image entries quiet = (λ e. quiet, λ h. refl)
+pub quiet_exactly : (origin : Origin) (ended : Ended) (entries : List Entry) → Tells origin (end_stop ended) entries → QuietExactly ended origin.image entries
+quiet_exactly origin EndedQuiet entries quiet = (λ e. quiet, λ h. refl)
+quiet_exactly origin EndedFull entries full = (λ e. absurd (cc e), λ quiet. absurd (full.1 quiet))
 
-pub quiet-full : (image : Image) (limit : ℕ) (entries : List Entry) → IsQuiet image entries → FullExactly EndedQuiet image limit entries
-quiet-full image limit entries quiet = (λ e. absurd (cc e), λ h. absurd (h.1 quiet))
-
-pub full-quiet : (image : Image) (limit : ℕ) (entries : List Entry) → (length entries ≡ limit) × ¬ IsQuiet image entries → QuietExactly EndedFull image entries
-full-quiet image limit entries full = (λ e. absurd (cc e), λ quiet. absurd (full.1 quiet))
-
-pub full-full : (image : Image) (limit : ℕ) (entries : List Entry) → (length entries ≡ limit) × ¬ IsQuiet image entries → FullExactly EndedFull image limit entries
-full-full image limit entries full = (λ e. full, λ h. refl)
+pub full_exactly : (origin : Origin) (ended : Ended) (entries : List Entry) → Tells origin (end_stop ended) entries → FullExactly ended origin.image origin.limit entries
+full_exactly origin EndedQuiet entries quiet = (λ e. absurd (cc e), λ h. absurd (h.1 quiet))
+full_exactly origin EndedFull entries full = (λ e. full, λ h. refl)

@@ -8,6 +8,10 @@ use Rattle.jh_turn.specs.Ports.{seen_by}
 use Rattle.jh_run.specs.Origins.{Origin}
 use Rattle.jh_run.specs.declared.driving.Stop.{Stop}
 use Rattle.jh_run.specs.declared.driving.Stop.TheVariants.{Quiet, Halted}
+use Rattle.jh_run.specs.declared.run_turn.RunTurn.{RunTurn}
+use Rattle.jh_run.specs.declared.run_turn.RunTurn.TheVariants.{Made, Edited, NotNow, Done, Halted as TurnHalted}
+use Rattle.jh_run.specs.declared.ended.Ended.{Ended}
+use Rattle.jh_run.specs.declared.ended.Ended.TheVariants.{Quiet as EndedQuiet, Full as EndedFull}
 use Rattle.jh_run.specs.declared.run_turn.Halt.{Halt}
 use Rattle.jh_run.specs.declared.run_turn.Halt.TheVariants.{Full, NoMemory}
 
@@ -15,6 +19,19 @@ use Rattle.jh_run.specs.declared.run_turn.Halt.TheVariants.{Full, NoMemory}
 abbrev pub stop_of : Option Halt → Stop
 stop_of None = Quiet
 stop_of (Some halt) = Halted halt
+
+-- why no turn follows this one, if so
+abbrev pub stop_after : RunTurn → Option Stop
+stop_after (Made entry) = None
+stop_after (Edited left) = None
+stop_after NotNow = None
+stop_after Done = Some Quiet
+stop_after (TurnHalted halt) = Some (Halted halt)
+
+-- the stop at which a run ends so
+abbrev pub end_stop : Ended → Stop
+end_stop EndedQuiet = Quiet
+end_stop EndedFull = Halted Full
 
 -- the entries tell why: they are quiet, or at the limit and not quiet. Want of memory comes at any
 abbrev pub Tells : Origin → Stop → List Entry → Type 0

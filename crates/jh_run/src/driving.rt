@@ -2,7 +2,7 @@
 ghost use Rattle.std.specs.Prelude.{◌≡◌, ◌<◌, All, IfSome, length, None, Some};
 ghost use Rattle.jh_turn.specs.Ports.{IsPortOf, port_caller, opened_value};
 ghost use Rattle.jh_turn.specs.PortSets.{IsSameSet};
-ghost use Rattle.jh_run.specs.Drives.{Shows, SomeShows, stop_of};
+ghost use Rattle.jh_run.specs.Drives.{Shows, SomeShows, stop_of, stop_after};
 ghost use Rattle.jh_run.specs.Running.{origin_of};
 
 use crate::run_turn::{Halt, RunTurn};
@@ -31,6 +31,17 @@ impl Stop {
     }
 }
 
+/// Why no turn follows this one, if so.
+fn stop_by(turn: RunTurn) -> Option<Stop>
+    ensures { result ≡ stop_after turn }
+{
+    match turn {
+        RunTurn::Made(_) | RunTurn::Edited { .. } | RunTurn::NotNow => None,
+        RunTurn::Done => Some(Stop::Quiet),
+        RunTurn::Halted(halt) => Some(Stop::Halted(halt)),
+    }
+}
+
 /// A turn of the port behind the gate. `round` is the number of turns of this port before.
 fn drive_port<R: Wait, G: Gate>(
     rt: &R,
@@ -45,11 +56,8 @@ fn drive_port<R: Wait, G: Gate>(
     ensures shows { IfSome result (λ stop. Shows (origin_of (opened_value shared.now)) stop port.new) }
 {
     gate.pass(port.caller(), round);
-    match shared.turn(rt, port) {
-        RunTurn::Done => Some(Stop::Quiet),
-        RunTurn::Halted(halt) => Some(Stop::Halted(halt)),
-        RunTurn::Made(_) | RunTurn::Edited { .. } | RunTurn::NotNow => None,
-    }
+    let turn = shared.turn(rt, port);
+    stop_by(turn)
 }
 
 /// A turn of each port in their order, until one is the last.

@@ -4,7 +4,7 @@ ghost use mathlib.Core.List.{IsPrefix};
 ghost use Rattle.jh_history.specs.Admitted.{IsAdmitted, IsBuilt};
 ghost use Rattle.jh_history.specs.Due.{IsLegal, IsQuiet};
 ghost use Rattle.jh_turn.specs.Ports.{IsPortOf, port_caller, opened_value};
-ghost use Rattle.jh_run.specs.Drives.{SomeShows, stop_of};
+ghost use Rattle.jh_run.specs.Drives.{SomeShows, stop_of, end_stop};
 ghost use Rattle.jh_run.specs.Plays.{IsBoardOf};
 ghost use Rattle.jh_run.specs.Running.{origin_of};
 ghost use Rattle.jh_run.specs.Workers.{AreBack};
@@ -208,6 +208,17 @@ fn drive_all<R: Threads + Wait + Sync, G: Gate + Sync>(
     )
 }
 
+/// How a run ended whose board was halted so, if it was.
+fn ended_by(halted: Option<Halt>) -> Result<Ended, NoMemory>
+    ensures { IfOk result (λ ended. stop_of halted ≡ end_stop ended) }
+{
+    match halted {
+        None => Ok(Ended::Quiet),
+        Some(Halt::Full) => Ok(Ended::Full),
+        Some(Halt::NoMemory) => Err(NoMemory),
+    }
+}
+
 /// A worker for each CPU of the image's board, each in a thread of its own where one can be had, until
 /// nothing is due to any CPU or the journal is full. Each worker passes the gate before each of its turns.
 /// It waits for the workers, and may wait for ever.
@@ -241,9 +252,6 @@ pub fn run<R: Threads + Wait + Sync, G: Gate + Sync>(
     let driven = drive_all(rt, alloc, &shared, ports, gate)?;
     let Running { board, halted: _ } = shared.close(driven.ports);
     let _ = board.journal();
-    match driven.halted {
-        None => Ok((board, Ended::Quiet)),
-        Some(Halt::Full) => Ok((board, Ended::Full)),
-        Some(Halt::NoMemory) => Err(NoMemory),
-    }
+    let ended = ended_by(driven.halted)?;
+    Ok((board, ended))
 }
