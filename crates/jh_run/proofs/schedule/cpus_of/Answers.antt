@@ -1,6 +1,6 @@
 -- Those that are kept are the board's.
-use Rattle.std.proofs.Common.{ℕ, List, subst, sym, arith}
-use Rattle.std.specs.Prelude.{All, IsTrue, filter}
+use Rattle.std.proofs.Common.{ℕ, List, subst, sym}
+use Rattle.std.specs.Prelude.{All, IsTrue}
 use Rattle.std.proofs.lemmas.List.Elements.{filter_passes}
 use Rattle.jh_history.specs.Lives.{is_on_board}
 use Rattle.jh_history.specs.Items.{below}
