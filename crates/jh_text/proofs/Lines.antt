@@ -110,7 +110,7 @@ pub no_line_unsplit : (text : List ℕ) → split_once 10 text ≡ None → Begi
 no_line_unsplit text none = λ entry rest h e. none-some _ (sym none ∙ ap (split_once 10) e ∙ line_split entry rest h)
 
 -- the part before the line feed is the text of the entry whose line begins
-first_text : (text front back rest : List ℕ) (entry : Entry) → split_once 10 text ≡ Some (front, back) → IsReadable entry → text ≡ line entry ++ rest → front ≡ entry_text entry
+pub first_text : (text front back rest : List ℕ) (entry : Entry) → split_once 10 text ≡ Some (front, back) → IsReadable entry → text ≡ line entry ++ rest → front ≡ entry_text entry
 first_text text front back rest entry split h e =
     ap (λ (x : List ℕ × List ℕ). x.0) (same_Some (front, back) (entry_text entry, rest) (sym split ∙ ap (split_once 10) e ∙ line_split entry rest h))
 
@@ -129,11 +129,11 @@ pub line_found : (text front back : List ℕ) (entry : Entry) → split_once 10 
 line_found text front back entry split e =
     split_once_whole 10 text front back split ∙ ap (λ f. f ++ 10 ∷ back) (sym e) ∙ sym (append_assoc (entry_text entry) (10 ∷ []) back)
 
-all_push : (entries : List Entry) (entry : Entry) → AllByRecursion IsReadable entries → IsReadable entry → AllByRecursion IsReadable (entries ++ entry ∷ [])
+pub all_push : (entries : List Entry) (entry : Entry) → AllByRecursion IsReadable entries → IsReadable entry → AllByRecursion IsReadable (entries ++ entry ∷ [])
 all_push [] entry all h = (h, tt)
 all_push (first ∷ entries) entry all h = (all.0, all_push entries entry all.1 h)
 
-text_push : (entries : List Entry) (entry : Entry) (rest : List ℕ) → journal_text (entries ++ entry ∷ []) ++ rest ≡ journal_text entries ++ (line entry ++ rest)
+pub text_push : (entries : List Entry) (entry : Entry) (rest : List ℕ) → journal_text (entries ++ entry ∷ []) ++ rest ≡ journal_text entries ++ (line entry ++ rest)
 text_push [] entry rest = append_assoc (line entry) [] rest
 text_push (first ∷ entries) entry rest =
     append_assoc (line first) (journal_text (entries ++ entry ∷ [])) rest ∙ ap (λ t. line first ++ t) (text_push entries entry rest) ∙ sym (append_assoc (line first) (journal_text entries) (line entry ++ rest))

@@ -109,16 +109,3 @@ line_is text r err number e = let P : Result Log JournalFault → Type 0 = λ x.
 
 pub too_long_is : (text : List ℕ) (r : Result Log JournalFault) → IfErr r (IsFault text) → r ≡ Err TooLong → IsTooLong text
 too_long_is text r err e = let P : Result Log JournalFault → Type 0 = λ x. IfErr x (IsFault text) in subst P e err
-
--- entries with the same text
-pub one_entry : (a b : Entry) → IsReadable a → IsReadable b → entry_text a ≡ entry_text b → a ≡ b
-one_entry a b h k e = (one_line a b [] [] h k (ap (λ t. (t ++ 10 ∷ []) ++ []) e)).0
-
--- journals with the same text, of any length
-pub one_list : (a b : List Entry) → AllByRecursion IsReadable a → AllByRecursion IsReadable b → journal_text a ≡ journal_text b → a ≡ b
-one_list a b h k e = ⊎_elim (λ l. sym (part a b h k e l)) (λ l. part b a k h (sym e) l) (either_way (length a) (length b))
-  where
-    part : (es fs : List Entry) → AllByRecursion IsReadable es → AllByRecursion IsReadable fs → journal_text es ≡ journal_text fs → length es ≤ length fs → fs ≡ es
-    part es fs j k t le =
-        let on = goes_on es fs [] [] j k le (ap (λ x. x ++ []) t) in
-        on.entries ∙ ap (λ gs. es ++ gs) (nothing on.more [] on.text).0 ∙ append-nil es

@@ -1,5 +1,5 @@
 -- What the reader answers to a text.
-use Rattle.std.specs.Prelude.{◌≡◌, ◌≢◌, ℕ, ◌+◌, ◌≤◌, List, [], ◌++◌, length}
+use Rattle.std.specs.Prelude.{◌≡◌, ◌≢◌, ◌⊎◌, ℕ, ◌+◌, ◌≤◌, List, [], ◌++◌, length}
 use Rattle.std.specs.List.{AllByRecursion}
 use Rattle.jh_history.specs.declared.entry.Entry.{Entry}
 use Rattle.jh_text.specs.declared.fault.TheConstants.{MAX_ENTRIES}
@@ -37,6 +37,10 @@ pub record IsTooLong (text : List ℕ) : Type 0 where
   pub readable : AllByRecursion IsReadable first
   pub long : length first ≡ MAX_ENTRIES + 1
   pub whole : text ≡ journal_text first ++ rest
+
+-- the text is a journal's, or it has a first bad line, or it is too long
+abbrev pub HasAnswer : List ℕ → Type 0
+HasAnswer text = ((entries : List Entry) × IsJournalText text entries) ⊎ (((number : ℕ) × IsFirstBadLine text number) ⊎ IsTooLong text)
 
 -- the fault is one that the text has; want of memory is no fault of a text
 abbrev pub IsFault : List ℕ → JournalFault → Type 0

@@ -32,3 +32,26 @@ pub record IsReadable (entry : Entry) : Type 0 where
   pub cpu : entry.cpu < 16
   pub cell : entry.cell < 2 ^ 32
   pub act : IsReadableAct entry.act
+
+-- the numbers of an act are below the ends of their types
+abbrev pub IsTypedAct : Act → Type 0
+IsTypedAct (Read width at got) = (width < 256) × (at < 2 ^ 64) × IfSome got (λ value. value < 2 ^ 64)
+IsTypedAct (Write width at value ok) = (width < 256) × (at < 2 ^ 64) × (value < 2 ^ 64)
+IsTypedAct (Fetch at got) = (at < 2 ^ 64) × IfSome got (λ value. value < 2 ^ 64)
+IsTypedAct (Await width at value ok) = (width < 256) × (at < 2 ^ 64) × (value < 2 ^ 64)
+IsTypedAct (Irq device vector) = (device < 2 ^ 32) × (vector < 256)
+IsTypedAct (Hvc code a b answer) = (code < 2 ^ 64) × (a < 2 ^ 64) × (b < 2 ^ 64) × FitsSigned w64 answer
+IsTypedAct (Begin code a b) = (code < 2 ^ 64) × (a < 2 ^ 64) × (b < 2 ^ 64)
+IsTypedAct Stop = Unit {0}
+IsTypedAct (Decide refused) = IfSome refused (FitsSigned w64)
+IsTypedAct (Settle how) = Unit {0}
+IsTypedAct Commit = Unit {0}
+IsTypedAct (Note id) = id < 2 ^ 32
+IsTypedAct (Noted id how) = id < 2 ^ 32
+IsTypedAct (Finish answer) = FitsSigned w64 answer
+
+-- an entry as any value of its type is
+pub record IsTyped (entry : Entry) : Type 0 where
+  pub cpu : entry.cpu < 256
+  pub cell : entry.cell < 2 ^ 32
+  pub act : IsTypedAct entry.act

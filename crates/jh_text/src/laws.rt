@@ -3,15 +3,16 @@ ghost use Rattle.std.specs.Prelude.{◌≡◌, ◌≤◌, ℕ, List, length};
 ghost use Rattle.std.specs.List.{AllByRecursion};
 ghost use Rattle.jh_history.specs.declared.entry.Entry.{Entry};
 ghost use Rattle.jh_text.specs.Text.{entry_text, journal_text};
-ghost use Rattle.jh_text.specs.Ranges.{IsReadable};
-ghost use Rattle.jh_text.specs.Faults.{IsFirstBadLine, IsJournalText, IsTooLong};
+ghost use Rattle.jh_text.specs.Ranges.{IsReadable, IsTyped};
+ghost use Rattle.jh_text.specs.Faults.{HasAnswer, IsFirstBadLine, IsJournalText, IsTooLong};
 
 use crate::fault::MAX_ENTRIES;
 
-/// Entries with the same text are the same, and so are journals with the same text.
+/// Entries with the same text are the same, and so are journals with the same text, whatever numbers of their types
+/// they have.
 pub fn texts_differ()
-    ensures entries { (a b : Entry) → IsReadable a → IsReadable b → entry_text a ≡ entry_text b → a ≡ b }
-    ensures journals { (a b : List Entry) → AllByRecursion IsReadable a → AllByRecursion IsReadable b
+    ensures entries { (a b : Entry) → IsTyped a → IsTyped b → entry_text a ≡ entry_text b → a ≡ b }
+    ensures journals { (a b : List Entry) → AllByRecursion IsTyped a → AllByRecursion IsTyped b
         → journal_text a ≡ journal_text b → a ≡ b }
 {}
 
@@ -30,4 +31,9 @@ pub fn one_answer()
     ensures good_or_long { (text : List ℕ) (entries : List Entry) → IsJournalText text entries → IsTooLong text → ⊥ }
     ensures bad_or_long { (text : List ℕ) (number : ℕ) → IsFirstBadLine text number → IsTooLong text → ⊥ }
     ensures one_line { (text : List ℕ) (m n : ℕ) → IsFirstBadLine text m → IsFirstBadLine text n → m ≡ n }
+{}
+
+/// Every text is a journal's, or has a first bad line, or is too long.
+pub fn every_text_has_an_answer()
+    ensures { (text : List ℕ) → HasAnswer text }
 {}

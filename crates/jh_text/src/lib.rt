@@ -10,7 +10,7 @@ mod read;
 mod words;
 
 pub use fault::{JournalFault, MAX_ENTRIES};
-pub use laws::{one_answer, texts_differ, texts_go_both_ways};
+pub use laws::{every_text_has_an_answer, one_answer, texts_differ, texts_go_both_ways};
 pub use print::{print_entry, print_journal};
 pub use read::read_journal;
 
