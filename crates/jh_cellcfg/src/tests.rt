@@ -4,6 +4,7 @@ use std::alloc::{AllocError, Global};
 use std::test::*;
 
 mod bytes;
+mod fields;
 
 fn region(at: u64, virt_start: u64, size: u64, flags: u64) -> Region {
     Region {

@@ -5,3 +5,6 @@ pub mod NamesTold
 pub mod Steps
 pub mod Roots
 pub mod KindTold
+pub mod FieldLaws
+pub mod FaultLaws
+pub mod BitLaws

@@ -4,3 +4,4 @@ pub mod Faults
 pub mod Cpus
 pub mod Cells
 pub mod Specs
+pub mod Laws

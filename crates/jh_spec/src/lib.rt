@@ -5,6 +5,7 @@ mod cell;
 mod cpus;
 mod fault;
 pub mod json;
+mod laws;
 mod list;
 mod name;
 mod numbers;
@@ -13,6 +14,9 @@ mod spec;
 mod system;
 mod told;
 
+pub use laws::{
+    a_cpu_that_is_named_has_its_bit, each_field_is_its_members_number, the_first_fault_is_to_blame,
+};
 pub use spec::{Spec, SpecFault, read_spec};
 
 #[cfg(test)]

@@ -93,6 +93,15 @@ fn the_spec_of_other_makes_its_172_bytes(rt: HostRuntime) -> Result<(), Fail> {
 }
 
 #[test]
+fn each_member_is_its_field(rt: HostRuntime) -> Result<(), Fail> {
+    let cell = packed(rt.alloc(), bytes::CELL_FIELDS)?;
+    assert_eq!(rt; cell.as_slice(), bytes::fields());
+    let system = packed(rt.alloc(), bytes::SYSTEM_FIELDS)?;
+    assert_eq!(rt; system.as_slice(), bytes::system_fields());
+    Ok(())
+}
+
+#[test]
 fn missing_members_have_their_defaults(rt: HostRuntime) -> Result<(), Fail> {
     let short = packed(rt.alloc(), r#"{"name":"a","kind":"cell"}"#)?;
     let long = packed(

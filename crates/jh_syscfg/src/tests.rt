@@ -5,6 +5,7 @@ use std::alloc::{AllocError, Global};
 use std::test::*;
 
 mod bytes;
+mod fields;
 
 fn region(at: u64, size: u64, flags: u64) -> Region {
     Region {

@@ -1,0 +1,189 @@
+-- Which member is at fault.
+use Rattle.std.proofs.Common.{◌≡◌, ◌↔◌, ℕ, Bool, true, false, cond, List, [], ◌∷◌, ◌++◌, codes, Option, Some, None, Result, Ok, Err, is_some, is_none, is_err, refl, sym, ap, ◌∙◌, subst}
+use Rattle.std.specs.Option.{option_map_or}
+use Rattle.std.proofs.lemmas.Option.{same_Some, none-some}
+use Rattle.serde_json.specs.Data.{Data}
+use Rattle.serde_json.specs.Find.{get, as_object}
+use Rattle.jh_cellcfg.specs.declared.config.CellConfig.{CellConfig}
+use Rattle.jh_cellcfg.specs.declared.config.SystemConfig.{SystemConfig}
+use Rattle.jh_spec.specs.declared.spec.SpecFault.{SpecFault}
+use Rattle.jh_spec.specs.declared.spec.SpecFault.TheVariants.{Json, Member, NoMemory}
+use Rattle.jh_spec.specs.declared.spec.Spec.{Spec}
+use Rattle.jh_spec.specs.declared.spec.Spec.TheVariants.{Cell as CellSpec, System as SystemSpec}
+use Rattle.jh_spec.specs.declared.spec.Kind.{Kind}
+use Rattle.jh_spec.specs.declared.spec.Kind.TheVariants.{Cell, System}
+use Rattle.jh_spec.specs.Faults.{◌>>=◌, member_told, no_name, all_listed}
+use Rattle.jh_spec.specs.Json.{list_at, unlisted}
+use Rattle.jh_spec.specs.Told.{u8_at, u16_at, u32_at, u64_at, region_told, irqchip_told, device_told}
+use Rattle.jh_spec.specs.Cells.{cell_name, cpu_set_size, cpu_set_in, console_at, region_at, cell_names, system_names, identity_told, lists_told, settings_told, cell_told, root_of, root_in, root_told, platform_told, system_told}
+use Rattle.jh_spec.specs.Specs.{names_with_kind, kind_told, told_by, object_told, spec_told}
+use Rattle.jh_spec.specs.Laws.{blamed, identity_members, lists_members, settings_members, cell_members, platform_members, root_member, system_members, blame}
+
+-- the answer is Ok where none is blamed, and else the fault of that member
+IsBlamed : {X : Type 0} → Result X SpecFault → Option (List ℕ) → Type 0
+IsBlamed (Ok x) found = found ≡ None
+IsBlamed (Err (Member m)) found = found ≡ Some m
+IsBlamed (Err Json) found = ⊥
+IsBlamed (Err NoMemory) found = ⊥
+
+-- one member, and what is behind it
+one : {X Y : Type 0} (name : List ℕ) (o : Option X) (next : X → Result Y SpecFault) (ms : List (List ℕ × Bool)) → ((x : X) → o ≡ Some x → IsBlamed (next x) (blamed ms None))
+    → IsBlamed (member_told name o >>= next) (blamed ((name, is_none o) ∷ ms) None)
+unfolding ◌>>=◌ IsBlamed
+one name None next ms rest = refl
+one name (Some x) next ms rest = rest x refl
+
+ended : {X : Type 0} (x : X) → IsBlamed (Ok x) None
+unfolding IsBlamed
+ended x = refl
+
+-- the bitmap of CPUs is looked at where its size is told
+cpus_one : {Y : Type 0} (d : Data) (bytes : ℕ) → cpu_set_size d ≡ Some bytes → (next : List ℕ → Result Y SpecFault) → ((x : List ℕ) → cpu_set_in bytes d ≡ Some x → IsBlamed (next x) None)
+    → IsBlamed (member_told (codes "cpus") (cpu_set_in bytes d) >>= next) (blamed ((codes "cpus", option_map_or (λ b. is_none (cpu_set_in b d)) (cpu_set_size d) false) ∷ []) None)
+cpus_one d bytes is next rest =
+    subst (λ (o : Option ℕ). IsBlamed (member_told (codes "cpus") (cpu_set_in bytes d) >>= next) (blamed ((codes "cpus", option_map_or (λ (b : ℕ). is_none (cpu_set_in b d)) o false) ∷ []) None))
+    (sym is) (one (codes "cpus") (cpu_set_in bytes d) next [] rest)
+
+identity_blamed : (d : Data) → IsBlamed (identity_told d) (blamed (identity_members d) None)
+unfolding identity_told
+identity_blamed d =
+    one (codes "name") (cell_name d) _ ((codes "id", is_none (u32_at (codes "id") d)) ∷ (codes "flags", is_none (u32_at (codes "flags") d)) ∷ (codes "cpu_set_size", is_none (cpu_set_size d)) ∷ (codes "cpus", option_map_or (λ b. is_none (cpu_set_in b d)) (cpu_set_size d) false) ∷ []) (λ name _.
+    one (codes "id") (u32_at (codes "id") d) _ ((codes "flags", is_none (u32_at (codes "flags") d)) ∷ (codes "cpu_set_size", is_none (cpu_set_size d)) ∷ (codes "cpus", option_map_or (λ b. is_none (cpu_set_in b d)) (cpu_set_size d) false) ∷ []) (λ id _.
+    one (codes "flags") (u32_at (codes "flags") d) _ ((codes "cpu_set_size", is_none (cpu_set_size d)) ∷ (codes "cpus", option_map_or (λ b. is_none (cpu_set_in b d)) (cpu_set_size d) false) ∷ []) (λ flags _.
+    one (codes "cpu_set_size") (cpu_set_size d) _ ((codes "cpus", option_map_or (λ b. is_none (cpu_set_in b d)) (cpu_set_size d) false) ∷ []) (λ bytes sized.
+    cpus_one d bytes sized _ (λ cpu_set _. ended _)))))
+
+lists_blamed : (d : Data) → IsBlamed (lists_told d) (blamed (lists_members d) None)
+unfolding lists_told
+lists_blamed d =
+    one (codes "regions") (list_at region_told 1024 (codes "regions") d) _ ((codes "irqchips", is_none (list_at irqchip_told 64 (codes "irqchips") d)) ∷ (codes "devices", is_none (list_at device_told 256 (codes "devices") d)) ∷ []) (λ memory_regions _.
+    one (codes "irqchips") (list_at irqchip_told 64 (codes "irqchips") d) _ ((codes "devices", is_none (list_at device_told 256 (codes "devices") d)) ∷ []) (λ irqchips _.
+    one (codes "devices") (list_at device_told 256 (codes "devices") d) _ ([]) (λ pci_devices _. ended _)))
+
+settings_blamed : (d : Data) → IsBlamed (settings_told d) (blamed (settings_members d) None)
+unfolding settings_told
+settings_blamed d =
+    one (codes "vpci_irq_base") (u32_at (codes "vpci_irq_base") d) _ ((codes "cpu_reset_address", is_none (u64_at (codes "cpu_reset_address") d)) ∷ (codes "msg_reply_timeout", is_none (u64_at (codes "msg_reply_timeout") d)) ∷ (codes "console", is_none (console_at (codes "console") d)) ∷ []) (λ vpci_irq_base _.
+    one (codes "cpu_reset_address") (u64_at (codes "cpu_reset_address") d) _ ((codes "msg_reply_timeout", is_none (u64_at (codes "msg_reply_timeout") d)) ∷ (codes "console", is_none (console_at (codes "console") d)) ∷ []) (λ cpu_reset_address _.
+    one (codes "msg_reply_timeout") (u64_at (codes "msg_reply_timeout") d) _ ((codes "console", is_none (console_at (codes "console") d)) ∷ []) (λ msg_reply_timeout _.
+    one (codes "console") (console_at (codes "console") d) _ ([]) (λ console _. ended _))))
+
+platform_blamed : (d : Data) → IsBlamed (platform_told d) (blamed (platform_members d) None)
+unfolding platform_told
+platform_blamed d =
+    one (codes "flags") (u32_at (codes "flags") d) _ ((codes "hypervisor", is_none (region_at (codes "hypervisor") d)) ∷ (codes "debug_console", is_none (console_at (codes "debug_console") d)) ∷ (codes "mmconfig_base", is_none (u64_at (codes "mmconfig_base") d)) ∷ (codes "end_bus", is_none (u8_at (codes "end_bus") d)) ∷ (codes "is_virtual", is_none (u8_at (codes "is_virtual") d)) ∷ (codes "domain", is_none (u16_at (codes "domain") d)) ∷ []) (λ flags _.
+    one (codes "hypervisor") (region_at (codes "hypervisor") d) _ ((codes "debug_console", is_none (console_at (codes "debug_console") d)) ∷ (codes "mmconfig_base", is_none (u64_at (codes "mmconfig_base") d)) ∷ (codes "end_bus", is_none (u8_at (codes "end_bus") d)) ∷ (codes "is_virtual", is_none (u8_at (codes "is_virtual") d)) ∷ (codes "domain", is_none (u16_at (codes "domain") d)) ∷ []) (λ hypervisor_memory _.
+    one (codes "debug_console") (console_at (codes "debug_console") d) _ ((codes "mmconfig_base", is_none (u64_at (codes "mmconfig_base") d)) ∷ (codes "end_bus", is_none (u8_at (codes "end_bus") d)) ∷ (codes "is_virtual", is_none (u8_at (codes "is_virtual") d)) ∷ (codes "domain", is_none (u16_at (codes "domain") d)) ∷ []) (λ debug_console _.
+    one (codes "mmconfig_base") (u64_at (codes "mmconfig_base") d) _ ((codes "end_bus", is_none (u8_at (codes "end_bus") d)) ∷ (codes "is_virtual", is_none (u8_at (codes "is_virtual") d)) ∷ (codes "domain", is_none (u16_at (codes "domain") d)) ∷ []) (λ pci_mmconfig_base _.
+    one (codes "end_bus") (u8_at (codes "end_bus") d) _ ((codes "is_virtual", is_none (u8_at (codes "is_virtual") d)) ∷ (codes "domain", is_none (u16_at (codes "domain") d)) ∷ []) (λ pci_mmconfig_end_bus _.
+    one (codes "is_virtual") (u8_at (codes "is_virtual") d) _ ((codes "domain", is_none (u16_at (codes "domain") d)) ∷ []) (λ pci_is_virtual _.
+    one (codes "domain") (u16_at (codes "domain") d) _ ([]) (λ pci_domain _. ended _)))))))
+
+-- ---- chains of chains
+
+blamed-append : (ms ns : List (List ℕ × Bool)) (other : Option (List ℕ)) → blamed (ms ++ ns) other ≡ blamed ms (blamed ns other)
+blamed-append [] ns other = refl
+blamed-append (m ∷ ms) ns other = ap (λ rest. cond m.1 (Some m.0) rest) (blamed-append ms ns other)
+
+none_by : (b : Bool) (name : List ℕ) (rest more other : Option (List ℕ)) → cond b (Some name) rest ≡ None → (rest ≡ None → more ≡ other) → cond b (Some name) more ≡ other
+none_by true name rest more other h later = absurd (none-some name (sym h))
+none_by false name rest more other h later = later h
+
+blamed-none : (ms : List (List ℕ × Bool)) (other : Option (List ℕ)) → blamed ms None ≡ None → blamed ms other ≡ other
+blamed-none [] other h = refl
+blamed-none (m ∷ ms) other h = none_by m.1 m.0 (blamed ms None) (blamed ms other) other h (λ rest. blamed-none ms other rest)
+
+some_by : (b : Bool) (name found : List ℕ) (rest more : Option (List ℕ)) → cond b (Some name) rest ≡ Some found → (rest ≡ Some found → more ≡ Some found) → cond b (Some name) more ≡ Some found
+some_by true name found rest more h later = h
+some_by false name found rest more h later = later h
+
+blamed-some : (ms : List (List ℕ × Bool)) (other : Option (List ℕ)) (found : List ℕ) → blamed ms None ≡ Some found → blamed ms other ≡ Some found
+blamed-some [] other found h = absurd (none-some found h)
+blamed-some (m ∷ ms) other found h = some_by m.1 m.0 found (blamed ms None) (blamed ms other) h (λ rest. blamed-some ms other found rest)
+
+then_blamed : {X Y : Type 0} (r : Result X SpecFault) (next : X → Result Y SpecFault) (ms : List (List ℕ × Bool)) (other : Option (List ℕ)) → IsBlamed r (blamed ms None)
+    → ((x : X) → IsBlamed (next x) other) → IsBlamed (r >>= next) (blamed ms other)
+unfolding ◌>>=◌ IsBlamed
+then_blamed (Ok x) next ms other is rest = subst (IsBlamed (next x)) (sym (blamed-none ms other is)) (rest x)
+then_blamed (Err (Member m)) next ms other is rest = blamed-some ms other m is
+then_blamed (Err Json) next ms other is rest = absurd is
+then_blamed (Err NoMemory) next ms other is rest = absurd is
+
+listed_by : {Y : Type 0} (y : Y) (o : Option (List ℕ)) → IsBlamed (no_name o >>= λ _. Ok y) o
+unfolding ◌>>=◌ IsBlamed
+listed_by y None = refl
+listed_by y (Some name) = refl
+
+cell_blamed : (names : List (List ℕ)) (d : Data) → IsBlamed (cell_told names d) (blamed (cell_members d) (unlisted names d))
+unfolding cell_told
+cell_blamed names d =
+    subst (IsBlamed (cell_told names d))
+    (sym (blamed-append (identity_members d) (lists_members d ++ settings_members d) (unlisted names d)
+    ∙ ap (blamed (identity_members d)) (blamed-append (lists_members d) (settings_members d) (unlisted names d))))
+    (then_blamed (identity_told d) _ (identity_members d) (blamed (lists_members d) (blamed (settings_members d) (unlisted names d))) (identity_blamed d) (λ identity.
+    then_blamed (lists_told d) _ (lists_members d) (blamed (settings_members d) (unlisted names d)) (lists_blamed d) (λ lists.
+    then_blamed (settings_told d) _ (settings_members d) (unlisted names d) (settings_blamed d) (λ settings. listed_by _ (unlisted names d)))))
+
+root_by : (o : Option Data) → IsBlamed (root_in o) (blamed ((codes "root", option_map_or (λ root. is_err (cell_told cell_names root)) o true) ∷ []) None)
+unfolding IsBlamed
+root_by None = refl
+root_by (Some root) = told (cell_told cell_names root)
+  where
+    told : (r : Result CellConfig SpecFault) → IsBlamed (root_of r) (blamed ((codes "root", is_err r) ∷ []) None)
+    told (Ok config) = refl
+    told (Err fault) = refl
+
+system_blamed : (d : Data) → IsBlamed (system_told d) (blamed (system_members d) (unlisted (codes "kind" ∷ system_names) d))
+unfolding system_told
+system_blamed d =
+    subst (IsBlamed (system_told d)) (sym (blamed-append (platform_members d) (root_member d ∷ []) (unlisted (codes "kind" ∷ system_names) d)))
+    (then_blamed (platform_told d) _ (platform_members d) (blamed (root_member d ∷ []) (unlisted (codes "kind" ∷ system_names) d)) (platform_blamed d) (λ platform.
+    then_blamed (root_told d) _ (root_member d ∷ []) (unlisted (codes "kind" ∷ system_names) d) (root_by (get (codes "root") d)) (λ root. listed_by _ (unlisted (codes "kind" ∷ system_names) d))))
+
+made : {X Y : Type 0} (r : Result X SpecFault) (f : X → Y) (found : Option (List ℕ)) → IsBlamed r found → IsBlamed (r >>= λ x. Ok (f x)) found
+unfolding ◌>>=◌ IsBlamed
+made (Ok x) f found is = is
+made (Err (Member m)) f found is = is
+made (Err Json) f found is = absurd is
+made (Err NoMemory) f found is = absurd is
+
+kind_blamed : (kind : Option Kind) (d : Data) → IsBlamed (told_by kind d) (blame kind d)
+unfolding IsBlamed
+kind_blamed None d = refl
+kind_blamed (Some Cell) d = made (cell_told names_with_kind d) CellSpec (blame (Some Cell) d) (cell_blamed names_with_kind d)
+kind_blamed (Some System) d = made (system_told d) SystemSpec (blame (Some System) d) (system_blamed d)
+
+-- ---- the laws
+
+abbrev fault_of : List ℕ → Result Spec SpecFault
+fault_of m = Err (Member m)
+
+same_member : (m n : List ℕ) → fault_of m ≡ fault_of n → m ≡ n
+same_member m n h = cc
+
+member_by : (r : Result Spec SpecFault) (found : Option (List ℕ)) → IsBlamed r found → (m : List ℕ) → (r ≡ Err (Member m)) ↔ (found ≡ Some m)
+unfolding IsBlamed
+member_by (Ok x) found is m = ((λ h. cc), (λ h. absurd (none-some m (sym is ∙ h))))
+member_by (Err (Member n)) found is m = ((λ h. is ∙ ap (λ k. Some k) (same_member n m h)), (λ h. ap (λ k. Err (Member k)) (same_Some n m (sym is ∙ h))))
+member_by (Err Json) found is m = absurd is
+member_by (Err NoMemory) found is m = absurd is
+
+told_by_none : (r : Result Spec SpecFault) (found : Option (List ℕ)) → IsBlamed r found → ((spec : Spec) × (r ≡ Ok spec)) ↔ (found ≡ None)
+unfolding IsBlamed
+told_by_none (Ok x) found is = ((λ h. is), (λ h. (x, refl)))
+told_by_none (Err (Member n)) found is = ((λ h. let e = h.1 in cc), (λ h. absurd (none-some n (sym h ∙ is))))
+told_by_none (Err Json) found is = absurd is
+told_by_none (Err NoMemory) found is = absurd is
+
+of_object : (d : Data) → is_some (as_object d) ≡ true → spec_told d ≡ object_told d
+of_object d h = ap (λ b. cond b (object_told d) (Err Json)) h
+
+pub member_law : (d : Data) (m : List ℕ) → is_some (as_object d) ≡ true → (spec_told d ≡ Err (Member m)) ↔ (blame (kind_told d) d ≡ Some m)
+member_law d m object =
+    let law = member_by (object_told d) (blame (kind_told d) d) (kind_blamed (kind_told d) d) m in
+    ((λ h. law.0 (sym (of_object d object) ∙ h)), (λ h. of_object d object ∙ law.1 h))
+
+pub told_law : (d : Data) → is_some (as_object d) ≡ true → ((spec : Spec) × (spec_told d ≡ Ok spec)) ↔ (blame (kind_told d) d ≡ None)
+told_law d object =
+    let law = told_by_none (object_told d) (blame (kind_told d) d) (kind_blamed (kind_told d) d) in
+    ((λ h. law.0 (h.0, sym (of_object d object) ∙ h.1)), (λ h. let made = law.1 h in (made.0, of_object d object ∙ made.1)))

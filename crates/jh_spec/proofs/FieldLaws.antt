@@ -1,0 +1,330 @@
+-- Each field is its member's number.
+use Rattle.std.proofs.Common.{◌≡◌, ◌⊎◌, ℕ, ◌^◌, ◌<◌, Bool, true, false, ◌&&◌, ◌==◌, cond, if◌then◌else◌, nat_lt, List, [], ◌∷◌, length, codes, Option, Some, None, Result, Ok, Err, is_some, unwrap_or, replicate, inl, inr, refl, sym, ap, ◌∙◌, subst, option_and_then}
+use Rattle.std.proofs.lemmas.Bool.{and_parts, ltb-true, eqb-true, cases_Bool, false≢true}
+use Rattle.std.proofs.lemmas.Option.{same_Some, none-some}
+use Rattle.serde_json.specs.Data.{Data}
+use Rattle.serde_json.specs.Find.{get}
+use Rattle.jh_cellcfg.specs.declared.config.CellConfig.{CellConfig}
+use Rattle.jh_cellcfg.specs.declared.config.SystemConfig.{SystemConfig}
+use Rattle.jh_cellcfg.specs.declared.config.Irqchip.{Irqchip}
+use Rattle.jh_cellcfg.specs.declared.config.PciDevice.{PciDevice}
+use Rattle.jh_cellcfg.specs.declared.config.Console.{Console}
+use Rattle.jh_cellcfg.specs.declared.region.Region.{Region}
+use Rattle.jh_cellcfg.specs.Spelling.{console_bytes}
+use Rattle.jh_syscfg.specs.declared.platform.Platform.{Platform}
+use Rattle.jh_spec.specs.declared.spec.SpecFault.{SpecFault}
+use Rattle.jh_spec.specs.declared.spec.SpecFault.TheVariants.{Json, Member, NoMemory}
+use Rattle.jh_spec.specs.declared.cell.Identity.{Identity}
+use Rattle.jh_spec.specs.declared.cell.Lists.{Lists}
+use Rattle.jh_spec.specs.declared.cell.Settings.{Settings}
+use Rattle.jh_spec.specs.Faults.{◌>>=◌, member_told, all_listed}
+use Rattle.jh_spec.specs.Json.{told_or, number_told, number_below, list_told, list_at, has_only}
+use Rattle.jh_spec.specs.Told.{u8_at, u16_at, u32_at, u64_at, u32_told, words_at, words_told, where_told, region_names, irqchip_names, device_names, console_names, region_told, irqchip_told, device_told, console_told}
+use Rattle.jh_spec.specs.Cells.{cell_name, cpu_set_size, cpu_set_in, console_at, region_at, cell_names, system_names, identity_told, lists_told, settings_told, cell_of, cell_told, root_of, root_in, root_told, platform_told, system_of, system_told}
+use Rattle.jh_spec.specs.Laws.{IsNumberOf, AreWordsOf, IsRegionOf, IsIrqchipOf, IsDeviceOf, IsConsoleOf, IsCellOf, IsSystemOf}
+
+-- ---- one number
+
+below_by : (limit n : ℕ) (b : Bool) → nat_lt n limit ≡ b → (m : ℕ) → cond b (Some n) None ≡ Some m → (n ≡ m) × (n < limit)
+below_by limit n true is m h = (same_Some n m h, ltb-true n limit is)
+below_by limit n false is m h = absurd (none-some m h)
+
+below_told : (limit : ℕ) (o : Option ℕ) (m : ℕ) → option_and_then (λ n. if nat_lt n limit then Some n else None) o ≡ Some m → (o ≡ Some m) × (m < limit)
+below_told limit None m h = absurd (none-some m h)
+below_told limit (Some n) m h =
+    let is = below_by limit n (nat_lt n limit) refl m h in
+    (ap (λ k. Some k) is.0, subst (λ k. k < limit) is.0 is.1)
+
+number_by : (bits : ℕ) (name : List ℕ) (d : Data) (o : Option Data) → get name d ≡ o → (n : ℕ) → told_or (number_below (2 ^ bits)) 0 o ≡ Some n → IsNumberOf bits name d n
+number_by bits name d None is n h = inl (is, sym (same_Some 0 n h))
+number_by bits name d (Some value) is n h =
+    let told = below_told (2 ^ bits) (number_told value) n h in
+    inr (value, is, told.0, told.1)
+
+-- the number of a member that tells one
+number_is : (bits : ℕ) (name : List ℕ) (d : Data) (n : ℕ) → told_or (number_below (2 ^ bits)) 0 (get name d) ≡ Some n → IsNumberOf bits name d n
+number_is bits name d n h = number_by bits name d (get name d) refl n h
+
+is_value : {X : Type 0} (o : Option X) (z : X) → is_some o ≡ true → o ≡ Some (unwrap_or o z)
+is_value None z h = absurd (false≢true h)
+is_value (Some x) z h = refl
+
+field : (bits : ℕ) (name : List ℕ) (d : Data) → is_some (told_or (number_below (2 ^ bits)) 0 (get name d)) ≡ true
+    → IsNumberOf bits name d (unwrap_or (told_or (number_below (2 ^ bits)) 0 (get name d)) 0)
+field bits name d h = number_is bits name d _ (is_value (told_or (number_below (2 ^ bits)) 0 (get name d)) 0 h)
+
+-- ---- a list of words
+
+count_by : (count : ℕ) (ws : List ℕ) (b : Bool) → (length ws == count) ≡ b → (vs : List ℕ) → cond b (Some ws) None ≡ Some vs → (ws ≡ vs) × (length ws ≡ count)
+count_by count ws true is vs h = (same_Some ws vs h, eqb-true (length ws) count is)
+count_by count ws false is vs h = absurd (none-some vs h)
+
+words_told_by : (count : ℕ) (o : Option (List ℕ)) (vs : List ℕ) → option_and_then (λ words. if length words == count then Some words else None) o ≡ Some vs → (o ≡ Some vs) × (length vs ≡ count)
+words_told_by count None vs h = absurd (none-some vs h)
+words_told_by count (Some ws) vs h =
+    let is = count_by count ws (length ws == count) refl vs h in
+    (ap (λ l. Some l) is.0, subst (λ (l : List ℕ). length l ≡ count) is.0 is.1)
+
+words_by : (count : ℕ) (name : List ℕ) (d : Data) (o : Option Data) → get name d ≡ o → (ws : List ℕ) → told_or (words_told count) (replicate count 0) o ≡ Some ws → AreWordsOf count name d ws
+words_by count name d None is ws h = inl (is, sym (same_Some (replicate count 0) ws h))
+words_by count name d (Some value) is ws h =
+    let told = words_told_by count (list_told u32_told value) ws h in
+    inr (value, is, told.0, told.1)
+
+words : (count : ℕ) (name : List ℕ) (d : Data) → is_some (words_at count name d) ≡ true
+    → AreWordsOf count name d (unwrap_or (words_at count name d) (replicate count 0))
+words count name d h = words_by count name d (get name d) refl _ (is_value (words_at count name d) (replicate count 0) h)
+
+-- ---- records
+
+where_by : {X : Type 0} (b : Bool) (x y : X) → cond b (Some x) None ≡ Some y → (b ≡ true) × (x ≡ y)
+where_by true x y h = (refl, same_Some x y h)
+where_by false x y h = absurd (none-some y h)
+
+pub region_fields : (d : Data) (told : Region) → region_told d ≡ Some told → IsRegionOf d told
+region_fields d told h =
+    let is = where_by (has_only region_names d && is_some (u64_at (codes "phys") d) && is_some (u64_at (codes "virt") d) && is_some (u64_at (codes "size") d) && is_some (u64_at (codes "flags") d)) _ told h in
+    let p4 = and_parts (has_only region_names d && is_some (u64_at (codes "phys") d) && is_some (u64_at (codes "virt") d) && is_some (u64_at (codes "size") d)) (is_some (u64_at (codes "flags") d)) is.0 in
+    let p3 = and_parts (has_only region_names d && is_some (u64_at (codes "phys") d) && is_some (u64_at (codes "virt") d)) (is_some (u64_at (codes "size") d)) p4.0 in
+    let p2 = and_parts (has_only region_names d && is_some (u64_at (codes "phys") d)) (is_some (u64_at (codes "virt") d)) p3.0 in
+    let p1 = and_parts (has_only region_names d) (is_some (u64_at (codes "phys") d)) p2.0 in
+    subst (IsRegionOf d) is.1 (record {
+      phys_start = field 64 (codes "phys") d p1.1;
+      virt_start = field 64 (codes "virt") d p2.1;
+      size = field 64 (codes "size") d p3.1;
+      flags = field 64 (codes "flags") d p4.1;
+    })
+
+pub irqchip_fields : (d : Data) (told : Irqchip) → irqchip_told d ≡ Some told → IsIrqchipOf d told
+irqchip_fields d told h =
+    let is = where_by (has_only irqchip_names d && is_some (u64_at (codes "address") d) && is_some (u32_at (codes "id") d) && is_some (u32_at (codes "pin_base") d) && is_some (words_at 4 (codes "bitmap") d)) _ told h in
+    let p4 = and_parts (has_only irqchip_names d && is_some (u64_at (codes "address") d) && is_some (u32_at (codes "id") d) && is_some (u32_at (codes "pin_base") d)) (is_some (words_at 4 (codes "bitmap") d)) is.0 in
+    let p3 = and_parts (has_only irqchip_names d && is_some (u64_at (codes "address") d) && is_some (u32_at (codes "id") d)) (is_some (u32_at (codes "pin_base") d)) p4.0 in
+    let p2 = and_parts (has_only irqchip_names d && is_some (u64_at (codes "address") d)) (is_some (u32_at (codes "id") d)) p3.0 in
+    let p1 = and_parts (has_only irqchip_names d) (is_some (u64_at (codes "address") d)) p2.0 in
+    subst (IsIrqchipOf d) is.1 (record {
+      address = field 64 (codes "address") d p1.1;
+      id = field 32 (codes "id") d p2.1;
+      pin_base = field 32 (codes "pin_base") d p3.1;
+      pin_bitmap = words 4 (codes "bitmap") d p4.1;
+    })
+
+pub device_fields : (d : Data) (told : PciDevice) → device_told d ≡ Some told → IsDeviceOf d told
+device_fields d told h =
+    let is = where_by (has_only device_names d && is_some (u8_at (codes "kind") d) && is_some (u8_at (codes "iommu") d) && is_some (u16_at (codes "domain") d) && is_some (u16_at (codes "bdf") d) && is_some (words_at 6 (codes "bar_mask") d) && is_some (u16_at (codes "caps_start") d) && is_some (u16_at (codes "num_caps") d) && is_some (u8_at (codes "num_msi_vectors") d) && is_some (u8_at (codes "msi_bits") d) && is_some (u16_at (codes "num_msix_vectors") d) && is_some (u16_at (codes "msix_region_size") d) && is_some (u64_at (codes "msix_address") d) && is_some (u32_at (codes "shmem_regions_start") d) && is_some (u8_at (codes "shmem_dev_id") d) && is_some (u8_at (codes "shmem_peers") d) && is_some (u16_at (codes "shmem_protocol") d)) _ told h in
+    let p16 = and_parts (has_only device_names d && is_some (u8_at (codes "kind") d) && is_some (u8_at (codes "iommu") d) && is_some (u16_at (codes "domain") d) && is_some (u16_at (codes "bdf") d) && is_some (words_at 6 (codes "bar_mask") d) && is_some (u16_at (codes "caps_start") d) && is_some (u16_at (codes "num_caps") d) && is_some (u8_at (codes "num_msi_vectors") d) && is_some (u8_at (codes "msi_bits") d) && is_some (u16_at (codes "num_msix_vectors") d) && is_some (u16_at (codes "msix_region_size") d) && is_some (u64_at (codes "msix_address") d) && is_some (u32_at (codes "shmem_regions_start") d) && is_some (u8_at (codes "shmem_dev_id") d) && is_some (u8_at (codes "shmem_peers") d)) (is_some (u16_at (codes "shmem_protocol") d)) is.0 in
+    let p15 = and_parts (has_only device_names d && is_some (u8_at (codes "kind") d) && is_some (u8_at (codes "iommu") d) && is_some (u16_at (codes "domain") d) && is_some (u16_at (codes "bdf") d) && is_some (words_at 6 (codes "bar_mask") d) && is_some (u16_at (codes "caps_start") d) && is_some (u16_at (codes "num_caps") d) && is_some (u8_at (codes "num_msi_vectors") d) && is_some (u8_at (codes "msi_bits") d) && is_some (u16_at (codes "num_msix_vectors") d) && is_some (u16_at (codes "msix_region_size") d) && is_some (u64_at (codes "msix_address") d) && is_some (u32_at (codes "shmem_regions_start") d) && is_some (u8_at (codes "shmem_dev_id") d)) (is_some (u8_at (codes "shmem_peers") d)) p16.0 in
+    let p14 = and_parts (has_only device_names d && is_some (u8_at (codes "kind") d) && is_some (u8_at (codes "iommu") d) && is_some (u16_at (codes "domain") d) && is_some (u16_at (codes "bdf") d) && is_some (words_at 6 (codes "bar_mask") d) && is_some (u16_at (codes "caps_start") d) && is_some (u16_at (codes "num_caps") d) && is_some (u8_at (codes "num_msi_vectors") d) && is_some (u8_at (codes "msi_bits") d) && is_some (u16_at (codes "num_msix_vectors") d) && is_some (u16_at (codes "msix_region_size") d) && is_some (u64_at (codes "msix_address") d) && is_some (u32_at (codes "shmem_regions_start") d)) (is_some (u8_at (codes "shmem_dev_id") d)) p15.0 in
+    let p13 = and_parts (has_only device_names d && is_some (u8_at (codes "kind") d) && is_some (u8_at (codes "iommu") d) && is_some (u16_at (codes "domain") d) && is_some (u16_at (codes "bdf") d) && is_some (words_at 6 (codes "bar_mask") d) && is_some (u16_at (codes "caps_start") d) && is_some (u16_at (codes "num_caps") d) && is_some (u8_at (codes "num_msi_vectors") d) && is_some (u8_at (codes "msi_bits") d) && is_some (u16_at (codes "num_msix_vectors") d) && is_some (u16_at (codes "msix_region_size") d) && is_some (u64_at (codes "msix_address") d)) (is_some (u32_at (codes "shmem_regions_start") d)) p14.0 in
+    let p12 = and_parts (has_only device_names d && is_some (u8_at (codes "kind") d) && is_some (u8_at (codes "iommu") d) && is_some (u16_at (codes "domain") d) && is_some (u16_at (codes "bdf") d) && is_some (words_at 6 (codes "bar_mask") d) && is_some (u16_at (codes "caps_start") d) && is_some (u16_at (codes "num_caps") d) && is_some (u8_at (codes "num_msi_vectors") d) && is_some (u8_at (codes "msi_bits") d) && is_some (u16_at (codes "num_msix_vectors") d) && is_some (u16_at (codes "msix_region_size") d)) (is_some (u64_at (codes "msix_address") d)) p13.0 in
+    let p11 = and_parts (has_only device_names d && is_some (u8_at (codes "kind") d) && is_some (u8_at (codes "iommu") d) && is_some (u16_at (codes "domain") d) && is_some (u16_at (codes "bdf") d) && is_some (words_at 6 (codes "bar_mask") d) && is_some (u16_at (codes "caps_start") d) && is_some (u16_at (codes "num_caps") d) && is_some (u8_at (codes "num_msi_vectors") d) && is_some (u8_at (codes "msi_bits") d) && is_some (u16_at (codes "num_msix_vectors") d)) (is_some (u16_at (codes "msix_region_size") d)) p12.0 in
+    let p10 = and_parts (has_only device_names d && is_some (u8_at (codes "kind") d) && is_some (u8_at (codes "iommu") d) && is_some (u16_at (codes "domain") d) && is_some (u16_at (codes "bdf") d) && is_some (words_at 6 (codes "bar_mask") d) && is_some (u16_at (codes "caps_start") d) && is_some (u16_at (codes "num_caps") d) && is_some (u8_at (codes "num_msi_vectors") d) && is_some (u8_at (codes "msi_bits") d)) (is_some (u16_at (codes "num_msix_vectors") d)) p11.0 in
+    let p9 = and_parts (has_only device_names d && is_some (u8_at (codes "kind") d) && is_some (u8_at (codes "iommu") d) && is_some (u16_at (codes "domain") d) && is_some (u16_at (codes "bdf") d) && is_some (words_at 6 (codes "bar_mask") d) && is_some (u16_at (codes "caps_start") d) && is_some (u16_at (codes "num_caps") d) && is_some (u8_at (codes "num_msi_vectors") d)) (is_some (u8_at (codes "msi_bits") d)) p10.0 in
+    let p8 = and_parts (has_only device_names d && is_some (u8_at (codes "kind") d) && is_some (u8_at (codes "iommu") d) && is_some (u16_at (codes "domain") d) && is_some (u16_at (codes "bdf") d) && is_some (words_at 6 (codes "bar_mask") d) && is_some (u16_at (codes "caps_start") d) && is_some (u16_at (codes "num_caps") d)) (is_some (u8_at (codes "num_msi_vectors") d)) p9.0 in
+    let p7 = and_parts (has_only device_names d && is_some (u8_at (codes "kind") d) && is_some (u8_at (codes "iommu") d) && is_some (u16_at (codes "domain") d) && is_some (u16_at (codes "bdf") d) && is_some (words_at 6 (codes "bar_mask") d) && is_some (u16_at (codes "caps_start") d)) (is_some (u16_at (codes "num_caps") d)) p8.0 in
+    let p6 = and_parts (has_only device_names d && is_some (u8_at (codes "kind") d) && is_some (u8_at (codes "iommu") d) && is_some (u16_at (codes "domain") d) && is_some (u16_at (codes "bdf") d) && is_some (words_at 6 (codes "bar_mask") d)) (is_some (u16_at (codes "caps_start") d)) p7.0 in
+    let p5 = and_parts (has_only device_names d && is_some (u8_at (codes "kind") d) && is_some (u8_at (codes "iommu") d) && is_some (u16_at (codes "domain") d) && is_some (u16_at (codes "bdf") d)) (is_some (words_at 6 (codes "bar_mask") d)) p6.0 in
+    let p4 = and_parts (has_only device_names d && is_some (u8_at (codes "kind") d) && is_some (u8_at (codes "iommu") d) && is_some (u16_at (codes "domain") d)) (is_some (u16_at (codes "bdf") d)) p5.0 in
+    let p3 = and_parts (has_only device_names d && is_some (u8_at (codes "kind") d) && is_some (u8_at (codes "iommu") d)) (is_some (u16_at (codes "domain") d)) p4.0 in
+    let p2 = and_parts (has_only device_names d && is_some (u8_at (codes "kind") d)) (is_some (u8_at (codes "iommu") d)) p3.0 in
+    let p1 = and_parts (has_only device_names d) (is_some (u8_at (codes "kind") d)) p2.0 in
+    subst (IsDeviceOf d) is.1 (record {
+      kind = field 8 (codes "kind") d p1.1;
+      iommu = field 8 (codes "iommu") d p2.1;
+      domain = field 16 (codes "domain") d p3.1;
+      bdf = field 16 (codes "bdf") d p4.1;
+      bar_mask = words 6 (codes "bar_mask") d p5.1;
+      caps_start = field 16 (codes "caps_start") d p6.1;
+      num_caps = field 16 (codes "num_caps") d p7.1;
+      num_msi_vectors = field 8 (codes "num_msi_vectors") d p8.1;
+      msi_bits = field 8 (codes "msi_bits") d p9.1;
+      num_msix_vectors = field 16 (codes "num_msix_vectors") d p10.1;
+      msix_region_size = field 16 (codes "msix_region_size") d p11.1;
+      msix_address = field 64 (codes "msix_address") d p12.1;
+      shmem_regions_start = field 32 (codes "shmem_regions_start") d p13.1;
+      shmem_dev_id = field 8 (codes "shmem_dev_id") d p14.1;
+      shmem_peers = field 8 (codes "shmem_peers") d p15.1;
+      shmem_protocol = field 16 (codes "shmem_protocol") d p16.1;
+    })
+
+pub console_fields : (d : Data) (told : Console) → console_told d ≡ Some told → IsConsoleOf d told
+console_fields d told h =
+    let is = where_by (has_only console_names d && is_some (u64_at (codes "address") d) && is_some (u32_at (codes "size") d) && is_some (u16_at (codes "kind") d) && is_some (u16_at (codes "flags") d) && is_some (u32_at (codes "divider") d) && is_some (u32_at (codes "gate_nr") d) && is_some (u64_at (codes "clock_reg") d)) _ told h in
+    let p7 = and_parts (has_only console_names d && is_some (u64_at (codes "address") d) && is_some (u32_at (codes "size") d) && is_some (u16_at (codes "kind") d) && is_some (u16_at (codes "flags") d) && is_some (u32_at (codes "divider") d) && is_some (u32_at (codes "gate_nr") d)) (is_some (u64_at (codes "clock_reg") d)) is.0 in
+    let p6 = and_parts (has_only console_names d && is_some (u64_at (codes "address") d) && is_some (u32_at (codes "size") d) && is_some (u16_at (codes "kind") d) && is_some (u16_at (codes "flags") d) && is_some (u32_at (codes "divider") d)) (is_some (u32_at (codes "gate_nr") d)) p7.0 in
+    let p5 = and_parts (has_only console_names d && is_some (u64_at (codes "address") d) && is_some (u32_at (codes "size") d) && is_some (u16_at (codes "kind") d) && is_some (u16_at (codes "flags") d)) (is_some (u32_at (codes "divider") d)) p6.0 in
+    let p4 = and_parts (has_only console_names d && is_some (u64_at (codes "address") d) && is_some (u32_at (codes "size") d) && is_some (u16_at (codes "kind") d)) (is_some (u16_at (codes "flags") d)) p5.0 in
+    let p3 = and_parts (has_only console_names d && is_some (u64_at (codes "address") d) && is_some (u32_at (codes "size") d)) (is_some (u16_at (codes "kind") d)) p4.0 in
+    let p2 = and_parts (has_only console_names d && is_some (u64_at (codes "address") d)) (is_some (u32_at (codes "size") d)) p3.0 in
+    let p1 = and_parts (has_only console_names d) (is_some (u64_at (codes "address") d)) p2.0 in
+    subst (IsConsoleOf d) is.1 (record {
+      address = field 64 (codes "address") d p1.1;
+      size = field 32 (codes "size") d p2.1;
+      kind = field 16 (codes "kind") d p3.1;
+      flags = field 16 (codes "flags") d p4.1;
+      divider = field 32 (codes "divider") d p5.1;
+      gate_nr = field 32 (codes "gate_nr") d p6.1;
+      clock_reg = field 64 (codes "clock_reg") d p7.1;
+    })
+
+-- ---- cells and systems
+
+-- the parts of a chain of steps that found no fault
+steps : {X Y : Type 0} (r : Result X SpecFault) (next : X → Result Y SpecFault) (y : Y) → (r >>= next) ≡ Ok y → (x : X) × (r ≡ Ok x) × (next x ≡ Ok y)
+unfolding ◌>>=◌
+steps (Ok x) next y h = (x, refl, h)
+steps (Err fault) next y h = cc
+
+abbrev fine : {X : Type 0} → X → Result X SpecFault
+fine x = Ok x
+
+same_Ok : {X : Type 0} (x y : X) → fine x ≡ fine y → x ≡ y
+same_Ok x y h = cc
+
+told_member : {X : Type 0} (name : List ℕ) (o : Option X) (x : X) → member_told name o ≡ Ok x → o ≡ Some x
+told_member name None x h = cc
+told_member name (Some y) x h = ap (λ z. Some z) (same_Ok y x h)
+
+record IdentityOf (d : Data) (x : Identity) : Type 0 where
+  name : cell_name d ≡ Some x.name
+  id : IsNumberOf 32 (codes "id") d x.id
+  flags : IsNumberOf 32 (codes "flags") d x.flags
+  cpu_set : (bytes : ℕ) × (cpu_set_size d ≡ Some bytes) × (cpu_set_in bytes d ≡ Some x.cpu_set)
+
+identity_fields : (d : Data) (x : Identity) → identity_told d ≡ Ok x → IdentityOf d x
+unfolding identity_told
+identity_fields d x h =
+    let s1 = steps (member_told (codes "name") (cell_name d)) _ x h in
+    let s2 = steps (member_told (codes "id") (u32_at (codes "id") d)) _ x s1.2 in
+    let s3 = steps (member_told (codes "flags") (u32_at (codes "flags") d)) _ x s2.2 in
+    let s4 = steps (member_told (codes "cpu_set_size") (cpu_set_size d)) _ x s3.2 in
+    let s5 = steps (member_told (codes "cpus") (cpu_set_in s4.0 d)) _ x s4.2 in
+    subst (IdentityOf d) (same_Ok _ x s5.2) (record {
+      name = told_member (codes "name") (cell_name d) s1.0 s1.1;
+      id = number_is 32 (codes "id") d s2.0 (told_member (codes "id") (u32_at (codes "id") d) s2.0 s2.1);
+      flags = number_is 32 (codes "flags") d s3.0 (told_member (codes "flags") (u32_at (codes "flags") d) s3.0 s3.1);
+      cpu_set = (s4.0, told_member (codes "cpu_set_size") (cpu_set_size d) s4.0 s4.1, told_member (codes "cpus") (cpu_set_in s4.0 d) s5.0 s5.1);
+    })
+
+record ListsOf (d : Data) (x : Lists) : Type 0 where
+  memory_regions : list_at region_told 1024 (codes "regions") d ≡ Some x.memory_regions
+  irqchips : list_at irqchip_told 64 (codes "irqchips") d ≡ Some x.irqchips
+  pci_devices : list_at device_told 256 (codes "devices") d ≡ Some x.pci_devices
+
+lists_fields : (d : Data) (x : Lists) → lists_told d ≡ Ok x → ListsOf d x
+unfolding lists_told
+lists_fields d x h =
+    let s1 = steps (member_told (codes "regions") (list_at region_told 1024 (codes "regions") d)) _ x h in
+    let s2 = steps (member_told (codes "irqchips") (list_at irqchip_told 64 (codes "irqchips") d)) _ x s1.2 in
+    let s3 = steps (member_told (codes "devices") (list_at device_told 256 (codes "devices") d)) _ x s2.2 in
+    subst (ListsOf d) (same_Ok _ x s3.2) (record {
+      memory_regions = told_member (codes "regions") (list_at region_told 1024 (codes "regions") d) s1.0 s1.1;
+      irqchips = told_member (codes "irqchips") (list_at irqchip_told 64 (codes "irqchips") d) s2.0 s2.1;
+      pci_devices = told_member (codes "devices") (list_at device_told 256 (codes "devices") d) s3.0 s3.1;
+    })
+
+record SettingsOf (d : Data) (x : Settings) : Type 0 where
+  vpci_irq_base : IsNumberOf 32 (codes "vpci_irq_base") d x.vpci_irq_base
+  cpu_reset_address : IsNumberOf 64 (codes "cpu_reset_address") d x.cpu_reset_address
+  msg_reply_timeout : IsNumberOf 64 (codes "msg_reply_timeout") d x.msg_reply_timeout
+  console : (console : Console) × (console_at (codes "console") d ≡ Some console) × (x.console ≡ console_bytes console)
+
+settings_fields : (d : Data) (x : Settings) → settings_told d ≡ Ok x → SettingsOf d x
+unfolding settings_told
+settings_fields d x h =
+    let s1 = steps (member_told (codes "vpci_irq_base") (u32_at (codes "vpci_irq_base") d)) _ x h in
+    let s2 = steps (member_told (codes "cpu_reset_address") (u64_at (codes "cpu_reset_address") d)) _ x s1.2 in
+    let s3 = steps (member_told (codes "msg_reply_timeout") (u64_at (codes "msg_reply_timeout") d)) _ x s2.2 in
+    let s4 = steps (member_told (codes "console") (console_at (codes "console") d)) _ x s3.2 in
+    subst (SettingsOf d) (same_Ok _ x s4.2) (record {
+      vpci_irq_base = number_is 32 (codes "vpci_irq_base") d s1.0 (told_member (codes "vpci_irq_base") (u32_at (codes "vpci_irq_base") d) s1.0 s1.1);
+      cpu_reset_address = number_is 64 (codes "cpu_reset_address") d s2.0 (told_member (codes "cpu_reset_address") (u64_at (codes "cpu_reset_address") d) s2.0 s2.1);
+      msg_reply_timeout = number_is 64 (codes "msg_reply_timeout") d s3.0 (told_member (codes "msg_reply_timeout") (u64_at (codes "msg_reply_timeout") d) s3.0 s3.1);
+      console = (s4.0, told_member (codes "console") (console_at (codes "console") d) s4.0 s4.1, refl);
+    })
+
+pub cell_fields : (names : List (List ℕ)) (d : Data) (x : CellConfig) → cell_told names d ≡ Ok x → IsCellOf d x
+unfolding cell_told
+cell_fields names d x h =
+    let s1 = steps (identity_told d) _ x h in
+    let s2 = steps (lists_told d) _ x s1.2 in
+    let s3 = steps (settings_told d) _ x s2.2 in
+    let s4 = steps (all_listed names d) _ x s3.2 in
+    let identity = identity_fields d s1.0 s1.1 in
+    let lists = lists_fields d s2.0 s2.1 in
+    let settings = settings_fields d s3.0 s3.1 in
+    subst (IsCellOf d) (same_Ok (cell_of s1.0 s2.0 s3.0) x s4.2) (record {
+      name = identity.name;
+      id = identity.id;
+      flags = identity.flags;
+      cpu_set = identity.cpu_set;
+      memory_regions = lists.memory_regions;
+      irqchips = lists.irqchips;
+      pci_devices = lists.pci_devices;
+      vpci_irq_base = settings.vpci_irq_base;
+      cpu_reset_address = settings.cpu_reset_address;
+      msg_reply_timeout = settings.msg_reply_timeout;
+      console = settings.console;
+      cache_regions = refl;
+      pio_regions = refl;
+      pci_caps = refl;
+      stream_ids = refl;
+    })
+
+record PlatformOf (d : Data) (x : Platform) : Type 0 where
+  flags : IsNumberOf 32 (codes "flags") d x.flags
+  hypervisor_memory : region_at (codes "hypervisor") d ≡ Some x.hypervisor_memory
+  debug_console : console_at (codes "debug_console") d ≡ Some x.debug_console
+  pci_mmconfig_base : IsNumberOf 64 (codes "mmconfig_base") d x.pci_mmconfig_base
+  pci_mmconfig_end_bus : IsNumberOf 8 (codes "end_bus") d x.pci_mmconfig_end_bus
+  pci_is_virtual : IsNumberOf 8 (codes "is_virtual") d x.pci_is_virtual
+  pci_domain : IsNumberOf 16 (codes "domain") d x.pci_domain
+  root_head : x.root_head ≡ replicate 8 0
+
+platform_fields : (d : Data) (x : Platform) → platform_told d ≡ Ok x → PlatformOf d x
+unfolding platform_told
+platform_fields d x h =
+    let s1 = steps (member_told (codes "flags") (u32_at (codes "flags") d)) _ x h in
+    let s2 = steps (member_told (codes "hypervisor") (region_at (codes "hypervisor") d)) _ x s1.2 in
+    let s3 = steps (member_told (codes "debug_console") (console_at (codes "debug_console") d)) _ x s2.2 in
+    let s4 = steps (member_told (codes "mmconfig_base") (u64_at (codes "mmconfig_base") d)) _ x s3.2 in
+    let s5 = steps (member_told (codes "end_bus") (u8_at (codes "end_bus") d)) _ x s4.2 in
+    let s6 = steps (member_told (codes "is_virtual") (u8_at (codes "is_virtual") d)) _ x s5.2 in
+    let s7 = steps (member_told (codes "domain") (u16_at (codes "domain") d)) _ x s6.2 in
+    subst (PlatformOf d) (same_Ok _ x s7.2) (record {
+      flags = number_is 32 (codes "flags") d s1.0 (told_member (codes "flags") (u32_at (codes "flags") d) s1.0 s1.1);
+      hypervisor_memory = told_member (codes "hypervisor") (region_at (codes "hypervisor") d) s2.0 s2.1;
+      debug_console = told_member (codes "debug_console") (console_at (codes "debug_console") d) s3.0 s3.1;
+      pci_mmconfig_base = number_is 64 (codes "mmconfig_base") d s4.0 (told_member (codes "mmconfig_base") (u64_at (codes "mmconfig_base") d) s4.0 s4.1);
+      pci_mmconfig_end_bus = number_is 8 (codes "end_bus") d s5.0 (told_member (codes "end_bus") (u8_at (codes "end_bus") d) s5.0 s5.1);
+      pci_is_virtual = number_is 8 (codes "is_virtual") d s6.0 (told_member (codes "is_virtual") (u8_at (codes "is_virtual") d) s6.0 s6.1);
+      pci_domain = number_is 16 (codes "domain") d s7.0 (told_member (codes "domain") (u16_at (codes "domain") d) s7.0 s7.1);
+      root_head = refl;
+    })
+
+root_ok : (r : Result CellConfig SpecFault) (x : CellConfig) → root_of r ≡ Ok x → r ≡ Ok x
+root_ok (Ok y) x h = h
+root_ok (Err fault) x h = cc
+
+root_by : (d : Data) (o : Option Data) → get (codes "root") d ≡ o → (x : CellConfig) → root_in o ≡ Ok x → (root : Data) × (get (codes "root") d ≡ Some root) × IsCellOf root x
+root_by d None is x h = cc
+root_by d (Some root) is x h = (root, is, cell_fields cell_names root x (root_ok (cell_told cell_names root) x h))
+
+pub system_fields : (d : Data) (x : SystemConfig) → system_told d ≡ Ok x → IsSystemOf d x
+unfolding system_told
+system_fields d x h =
+    let s1 = steps (platform_told d) _ x h in
+    let s2 = steps (root_told d) _ x s1.2 in
+    let s3 = steps (all_listed (codes "kind" ∷ system_names) d) _ x s2.2 in
+    let platform = platform_fields d s1.0 s1.1 in
+    subst (IsSystemOf d) (same_Ok (system_of s1.0 s2.0) x s3.2) (record {
+      flags = platform.flags;
+      hypervisor_memory = platform.hypervisor_memory;
+      debug_console = platform.debug_console;
+      pci_mmconfig_base = platform.pci_mmconfig_base;
+      pci_mmconfig_end_bus = platform.pci_mmconfig_end_bus;
+      pci_is_virtual = platform.pci_is_virtual;
+      pci_domain = platform.pci_domain;
+      root_head = platform.root_head;
+      root = root_by d (get (codes "root") d) refl s2.0 s2.1;
+    })

@@ -1,0 +1,159 @@
+-- What a SPEC tells, in the words of who writes one: which member each field is, and which member is at fault.
+use Rattle.std.specs.Prelude.{◌≡◌, ◌⊎◌, ℕ, ◌^◌, ◌<◌, Bool, true, false, List, [], ◌∷◌, ◌++◌, length, codes, replicate, Option, Some, None, is_none, is_err, if◌then◌else◌}
+use Rattle.std.specs.Option.{option_map_or}
+use Rattle.serde_json.specs.Data.{Data}
+use Rattle.serde_json.specs.Find.{get}
+use Rattle.jh_cellcfg.specs.declared.config.CellConfig.{CellConfig}
+use Rattle.jh_cellcfg.specs.declared.config.SystemConfig.{SystemConfig}
+use Rattle.jh_cellcfg.specs.declared.config.Irqchip.{Irqchip}
+use Rattle.jh_cellcfg.specs.declared.config.PciDevice.{PciDevice}
+use Rattle.jh_cellcfg.specs.declared.config.Console.{Console}
+use Rattle.jh_cellcfg.specs.declared.region.Region.{Region}
+use Rattle.jh_cellcfg.specs.Spelling.{console_bytes}
+use Rattle.jh_spec.specs.declared.spec.Kind.{Kind}
+use Rattle.jh_spec.specs.declared.spec.Kind.TheVariants.{Cell, System}
+use Rattle.jh_spec.specs.Json.{number_told, list_told, list_at, unlisted}
+use Rattle.jh_spec.specs.Told.{u8_at, u16_at, u32_at, u64_at, u32_told, region_told, irqchip_told, device_told}
+use Rattle.jh_spec.specs.Cells.{cell_name, cpu_set_size, cpu_set_in, console_at, region_at, cell_names, system_names, cell_told}
+use Rattle.jh_spec.specs.Specs.{names_with_kind}
+
+-- ---- which member a field is
+
+-- the field of so many bits is the number that the member of this name tells, or 0 where there is no such member
+abbrev pub IsNumberOf : ℕ → List ℕ → Data → ℕ → Type 0
+IsNumberOf bits name d n =
+    ((get name d ≡ None) × (n ≡ 0)) ⊎ ((value : Data) × (get name d ≡ Some value) × (number_told value ≡ Some n) × (n < 2 ^ bits))
+
+-- the field is the list of so many numbers of 32 bits that the member of this name tells, or zeros where there is none
+abbrev pub AreWordsOf : ℕ → List ℕ → Data → List ℕ → Type 0
+AreWordsOf count name d words =
+    ((get name d ≡ None) × (words ≡ replicate count 0))
+    ⊎ ((value : Data) × (get name d ≡ Some value) × (list_told u32_told value ≡ Some words) × (length words ≡ count))
+
+pub record IsRegionOf (d : Data) (region : Region) : Type 0 where
+  pub phys_start : IsNumberOf 64 (codes "phys") d region.phys_start
+  pub virt_start : IsNumberOf 64 (codes "virt") d region.virt_start
+  pub size : IsNumberOf 64 (codes "size") d region.size
+  pub flags : IsNumberOf 64 (codes "flags") d region.flags
+
+pub record IsIrqchipOf (d : Data) (irqchip : Irqchip) : Type 0 where
+  pub address : IsNumberOf 64 (codes "address") d irqchip.address
+  pub id : IsNumberOf 32 (codes "id") d irqchip.id
+  pub pin_base : IsNumberOf 32 (codes "pin_base") d irqchip.pin_base
+  pub pin_bitmap : AreWordsOf 4 (codes "bitmap") d irqchip.pin_bitmap
+
+pub record IsDeviceOf (d : Data) (device : PciDevice) : Type 0 where
+  pub kind : IsNumberOf 8 (codes "kind") d device.kind
+  pub iommu : IsNumberOf 8 (codes "iommu") d device.iommu
+  pub domain : IsNumberOf 16 (codes "domain") d device.domain
+  pub bdf : IsNumberOf 16 (codes "bdf") d device.bdf
+  pub bar_mask : AreWordsOf 6 (codes "bar_mask") d device.bar_mask
+  pub caps_start : IsNumberOf 16 (codes "caps_start") d device.caps_start
+  pub num_caps : IsNumberOf 16 (codes "num_caps") d device.num_caps
+  pub num_msi_vectors : IsNumberOf 8 (codes "num_msi_vectors") d device.num_msi_vectors
+  pub msi_bits : IsNumberOf 8 (codes "msi_bits") d device.msi_bits
+  pub num_msix_vectors : IsNumberOf 16 (codes "num_msix_vectors") d device.num_msix_vectors
+  pub msix_region_size : IsNumberOf 16 (codes "msix_region_size") d device.msix_region_size
+  pub msix_address : IsNumberOf 64 (codes "msix_address") d device.msix_address
+  pub shmem_regions_start : IsNumberOf 32 (codes "shmem_regions_start") d device.shmem_regions_start
+  pub shmem_dev_id : IsNumberOf 8 (codes "shmem_dev_id") d device.shmem_dev_id
+  pub shmem_peers : IsNumberOf 8 (codes "shmem_peers") d device.shmem_peers
+  pub shmem_protocol : IsNumberOf 16 (codes "shmem_protocol") d device.shmem_protocol
+
+pub record IsConsoleOf (d : Data) (console : Console) : Type 0 where
+  pub address : IsNumberOf 64 (codes "address") d console.address
+  pub size : IsNumberOf 32 (codes "size") d console.size
+  pub kind : IsNumberOf 16 (codes "kind") d console.kind
+  pub flags : IsNumberOf 16 (codes "flags") d console.flags
+  pub divider : IsNumberOf 32 (codes "divider") d console.divider
+  pub gate_nr : IsNumberOf 32 (codes "gate_nr") d console.gate_nr
+  pub clock_reg : IsNumberOf 64 (codes "clock_reg") d console.clock_reg
+
+-- a cell's fields; its lists are told item by item, and what a SPEC doesn't tell is empty
+pub record IsCellOf (d : Data) (cell : CellConfig) : Type 0 where
+  pub name : cell_name d ≡ Some cell.name
+  pub id : IsNumberOf 32 (codes "id") d cell.id
+  pub flags : IsNumberOf 32 (codes "flags") d cell.flags
+  pub cpu_set : (bytes : ℕ) × (cpu_set_size d ≡ Some bytes) × (cpu_set_in bytes d ≡ Some cell.cpu_set)
+  pub memory_regions : list_at region_told 1024 (codes "regions") d ≡ Some cell.memory_regions
+  pub irqchips : list_at irqchip_told 64 (codes "irqchips") d ≡ Some cell.irqchips
+  pub pci_devices : list_at device_told 256 (codes "devices") d ≡ Some cell.pci_devices
+  pub vpci_irq_base : IsNumberOf 32 (codes "vpci_irq_base") d cell.vpci_irq_base
+  pub cpu_reset_address : IsNumberOf 64 (codes "cpu_reset_address") d cell.cpu_reset_address
+  pub msg_reply_timeout : IsNumberOf 64 (codes "msg_reply_timeout") d cell.msg_reply_timeout
+  pub console : (console : Console) × (console_at (codes "console") d ≡ Some console) × (cell.console ≡ console_bytes console)
+  pub cache_regions : cell.cache_regions ≡ []
+  pub pio_regions : cell.pio_regions ≡ []
+  pub pci_caps : cell.pci_caps ≡ []
+  pub stream_ids : cell.stream_ids ≡ []
+
+pub record IsSystemOf (d : Data) (system : SystemConfig) : Type 0 where
+  pub flags : IsNumberOf 32 (codes "flags") d system.flags
+  pub hypervisor_memory : region_at (codes "hypervisor") d ≡ Some system.hypervisor_memory
+  pub debug_console : console_at (codes "debug_console") d ≡ Some system.debug_console
+  pub pci_mmconfig_base : IsNumberOf 64 (codes "mmconfig_base") d system.pci_mmconfig_base
+  pub pci_mmconfig_end_bus : IsNumberOf 8 (codes "end_bus") d system.pci_mmconfig_end_bus
+  pub pci_is_virtual : IsNumberOf 8 (codes "is_virtual") d system.pci_is_virtual
+  pub pci_domain : IsNumberOf 16 (codes "domain") d system.pci_domain
+  pub root_head : system.root_head ≡ replicate 8 0
+  pub root : (root : Data) × (get (codes "root") d ≡ Some root) × IsCellOf root system.root
+
+-- ---- which member is at fault
+
+-- the first of the members that is marked as at fault, else the other name
+abbrev pub blamed : List (List ℕ × Bool) → Option (List ℕ) → Option (List ℕ)
+blamed [] other = other
+blamed (member ∷ members) other = if member.1 then Some member.0 else blamed members other
+
+abbrev pub identity_members : Data → List (List ℕ × Bool)
+identity_members d =
+    (codes "name", is_none (cell_name d))
+    ∷ (codes "id", is_none (u32_at (codes "id") d))
+    ∷ (codes "flags", is_none (u32_at (codes "flags") d))
+    ∷ (codes "cpu_set_size", is_none (cpu_set_size d))
+    ∷ (codes "cpus", option_map_or (λ bytes. is_none (cpu_set_in bytes d)) (cpu_set_size d) false)
+    ∷ []
+
+abbrev pub lists_members : Data → List (List ℕ × Bool)
+lists_members d =
+    (codes "regions", is_none (list_at region_told 1024 (codes "regions") d))
+    ∷ (codes "irqchips", is_none (list_at irqchip_told 64 (codes "irqchips") d))
+    ∷ (codes "devices", is_none (list_at device_told 256 (codes "devices") d))
+    ∷ []
+
+abbrev pub settings_members : Data → List (List ℕ × Bool)
+settings_members d =
+    (codes "vpci_irq_base", is_none (u32_at (codes "vpci_irq_base") d))
+    ∷ (codes "cpu_reset_address", is_none (u64_at (codes "cpu_reset_address") d))
+    ∷ (codes "msg_reply_timeout", is_none (u64_at (codes "msg_reply_timeout") d))
+    ∷ (codes "console", is_none (console_at (codes "console") d))
+    ∷ []
+
+-- a cell's members in the order of its table, each with whether it is at fault
+abbrev pub cell_members : Data → List (List ℕ × Bool)
+cell_members d = identity_members d ++ (lists_members d ++ settings_members d)
+
+abbrev pub platform_members : Data → List (List ℕ × Bool)
+platform_members d =
+    (codes "flags", is_none (u32_at (codes "flags") d))
+    ∷ (codes "hypervisor", is_none (region_at (codes "hypervisor") d))
+    ∷ (codes "debug_console", is_none (console_at (codes "debug_console") d))
+    ∷ (codes "mmconfig_base", is_none (u64_at (codes "mmconfig_base") d))
+    ∷ (codes "end_bus", is_none (u8_at (codes "end_bus") d))
+    ∷ (codes "is_virtual", is_none (u8_at (codes "is_virtual") d))
+    ∷ (codes "domain", is_none (u16_at (codes "domain") d))
+    ∷ []
+
+-- root is at fault where it is missing, and where anything in it is
+abbrev pub root_member : Data → List ℕ × Bool
+root_member d = (codes "root", option_map_or (λ root. is_err (cell_told cell_names root)) (get (codes "root") d) true)
+
+abbrev pub system_members : Data → List (List ℕ × Bool)
+system_members d = platform_members d ++ root_member d ∷ []
+
+-- the member of an object of this kind that is at fault: the first of those that are listed, else the first name that
+-- isn't listed, in the order of an object's names, which is that of their bytes
+abbrev pub blame : Option Kind → Data → Option (List ℕ)
+blame None d = Some (codes "kind")
+blame (Some Cell) d = blamed (cell_members d) (unlisted names_with_kind d)
+blame (Some System) d = blamed (system_members d) (unlisted (codes "kind" ∷ system_names) d)
