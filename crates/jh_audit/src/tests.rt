@@ -207,20 +207,29 @@ fn take_turn(rt: &impl Abort, board: &mut Board, cpu: u8) -> Result<(), NoMemory
     }
 }
 
-/// A board of these programs, whose CPUs took turns until nothing is due.
-fn played(rt: &impl Abort, alloc: Global, zero: &str, one: &str) -> Result<Board, Fail> {
-    let mut board = match Board::open(alloc, ready(rt, alloc, zero, one)?, LIMIT) {
-        Ok(board) => board,
-        Err(_) => return Err(NoMemory.into()),
-    };
+/// A board of these programs.
+fn opened(rt: &impl Abort, alloc: Global, zero: &str, one: &str) -> Result<Board, Fail> {
+    match Board::open(alloc, ready(rt, alloc, zero, one)?, LIMIT) {
+        Ok(board) => Ok(board),
+        Err(_) => Err(NoMemory.into()),
+    }
+}
+
+/// One turn of each CPU.
+fn take_round(rt: &impl Abort, board: &mut Board) -> Result<(), NoMemory> {
+    take_turn(rt, board, 0)?;
+    take_turn(rt, board, 1)
+}
+
+/// Rounds until nothing is due.
+fn finish(rt: &impl Abort, board: &mut Board) -> Result<(), NoMemory> {
     for _ in 0..LIMIT {
         if board.is_quiet() {
             break;
         }
-        take_turn(rt, &mut board, 0)?;
-        take_turn(rt, &mut board, 1)?;
+        take_round(rt, board)?;
     }
-    Ok(board)
+    Ok(())
 }
 
 /// The engine plays these programs to so many entries, and the audit and the plain definition agree.
@@ -231,7 +240,8 @@ fn all_agree(
     one: &str,
     count: usize,
 ) -> Result<(), Fail> {
-    let board = played(rt, alloc, zero, one)?;
+    let mut board = opened(rt, alloc, zero, one)?;
+    finish(rt, &mut board)?;
     assert_eq!(rt; board.journal().len(), count);
     is_legal(rt, alloc, zero, one, board.journal())?;
     is_plain(rt, alloc, zero, one, board.journal().as_slice())

@@ -1,5 +1,5 @@
 -- How items and plays end, by the laws of journals.
-use Rattle.std.proofs.Common.{◌≡◌, ℕ, ◌+◌, ◌<◌, ◌≤◌, List, [], ◌++◌, Bool, true, false, Option, None, refl, sym, ◌∙◌, ap, subst, length, arith}
+use Rattle.std.proofs.Common.{◌≡◌, ℕ, ◌+◌, ◌≤◌, List, [], ◌++◌, Bool, true, false, Option, None, refl, sym, ◌∙◌, ap, subst, length, arith}
 use Rattle.std.specs.Prelude.{◌↔◌, IsSome}
 use Rattle.std.proofs.lemmas.Bool.{false≢true}
 use Rattle.jh_script.specs.declared.image.Image.{Image}
@@ -11,7 +11,7 @@ use Rattle.jh_board.specs.BoardView.{BoardView}
 use Rattle.jh_run.specs.declared.ended.Ended.{Ended}
 use Rattle.jh_run.specs.declared.ended.Ended.TheVariants.{Quiet, Full}
 use Rattle.jh_run.specs.Ends.{is_full}
-use Rattle.jh_run.specs.Ran.{Ran, IsSameBut}
+use Rattle.jh_run.specs.Ran.{Ran}
 use Rattle.jh_run.specs.Plays.{IsBoardOf, Follows, Plays, IsFullAtItem, IsFullAtCpu}
 
 -- the laws on items, as they are stated

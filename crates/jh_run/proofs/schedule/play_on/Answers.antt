@@ -1,5 +1,5 @@
 -- The schedule, and then the rounds.
-use Rattle.std.proofs.Common.{true, false, ◌+◌}
+use Rattle.std.proofs.Common.{◌+◌}
 use Rattle.jh_history.specs.Items.{rounds}
 use Rattle.jh_run.proofs.RanLemmas.{Ran-stopped, Ran-append}
 use Rattle.jh_run.proofs.schedule.play_on.Goals as goal
