@@ -1,10 +1,12 @@
 -- What is due to a CPU, and which journals are legal and quiet.
-use Rattle.std.specs.Prelude.{◌≡◌, ℕ, true, false, ◌==◌, if◌then◌else◌, List, [], ◌∷◌, Option, Some, None, option_map, option_and_then}
+use Rattle.std.specs.Prelude.{◌≡◌, ℕ, true, false, ◌==◌, if◌then◌else◌, List, [], ◌∷◌, Option, Some, None, option_map, option_and_then, is_some, Bool}
+use Rattle.std.specs.Option.{option_map_or}
 use Rattle.jh_cpu.specs.declared.cpu.Cpu.{Cpu}
 use Rattle.jh_script.specs.declared.image.Image.{Image}
 use Rattle.jh_script.specs.declared.op.Op.{Op}
 use Rattle.jh_script.specs.declared.op.Op.TheVariants.{Read as ReadOp, Write as WriteOp, Fetch as FetchOp, Await as AwaitOp, Irq as IrqOp, Hvc as HvcOp}
 use Rattle.jh_history.specs.declared.access.Access.TheVariants.{Read as ToRead, Write as ToWrite, Fetch as ToFetch}
+use Rattle.jh_history.specs.declared.call.OpenCall.{OpenCall}
 use Rattle.jh_history.specs.declared.entry.Entry.{Entry}
 use Rattle.jh_history.specs.declared.entry.Act.{Act}
 use Rattle.jh_history.specs.declared.entry.Act.TheVariants.{Read, Write, Fetch, Await, Stop}
@@ -12,7 +14,9 @@ use Rattle.jh_history.specs.Access.{read_of, is_reached}
 use Rattle.jh_history.specs.Facts.{Facts}
 use Rattle.jh_history.specs.Lives.{is_on_board}
 use Rattle.jh_history.specs.Grants.{reach}
-use Rattle.jh_history.specs.Wants.{pending_op}
+use Rattle.jh_history.specs.Phases.{phase_act, is_idle}
+use Rattle.jh_history.specs.Hypercalls.{hvc_act}
+use Rattle.jh_history.specs.Wants.{pending_op, goes_on}
 use Rattle.jh_history.specs.History.{start, after, facts}
 
 -- an await that reads nothing is a violation; one that reads another value isn't due
@@ -21,18 +25,37 @@ await_of width at value None = Some (Await width at value false)
 await_of width at value (Some got) = if got == value then Some (Await width at value true) else None
 
 -- what the cell's operation comes to, where it is due. No device has a pending vector yet, so an
--- interrupt is never due; hypercalls come with the calls, and no image that is built has one
+-- interrupt is never due
 abbrev pub act_of : Image → Facts → ℕ → Op → Option Act
 act_of image facts cell (ReadOp width at) = Some (Read width at (read_of facts.byte (reach image facts cell ToRead at width)))
 act_of image facts cell (WriteOp width at value) = Some (Write width at value (is_reached (reach image facts cell ToWrite at width)))
 act_of image facts cell (FetchOp at) = Some (Fetch at (read_of facts.byte (reach image facts cell ToFetch at 4)))
 act_of image facts cell (AwaitOp width at value) = await_of width at value (read_of facts.byte (reach image facts cell ToRead at width))
 act_of image facts cell IrqOp = None
-act_of image facts cell (HvcOp code a b) = None
+act_of image facts cell (HvcOp code a b) = Some (hvc_act image facts cell code a b)
 
--- what a CPU in this state does next: asked, it stops; else its program's operation, where it goes on
+-- what a CPU in this state does next that has no call open: asked, it stops; else its program's operation, where
+-- it goes on
 abbrev pub state_act : Image → Facts → Cpu → ℕ → Option Act
 state_act image facts state cpu = if state.asked then Some Stop else option_and_then (act_of image facts state.owner) (pending_op image facts state cpu)
+
+-- the call that is open, where the CPU made it
+abbrev pub call_of : Facts → ℕ → Option OpenCall
+call_of facts cpu = option_and_then (λ (o : OpenCall). if o.caller == cpu then Some o else None) facts.call
+
+-- no other CPU than the caller has anything due: asked to stop or not, each by its own program
+abbrev pub is_idle_but : Image → Facts → ℕ → Bool
+is_idle_but image facts caller = is_idle (λ i. is_some (state_act image facts (facts.cpu i) i)) image caller
+
+-- what the caller of the call does next: the call's next phase, where it goes on
+abbrev pub caller_act : Image → Facts → Cpu → OpenCall → Option Act
+caller_act image facts state o =
+    if state.asked then Some Stop
+    else (if goes_on state then phase_act image facts (is_idle_but image facts o.caller) o.caller o.call o.phase else None)
+
+-- what a CPU in this state does next
+abbrev pub next_act : Image → Facts → Cpu → ℕ → Option Act
+next_act image facts state cpu = option_map_or (caller_act image facts state) (call_of facts cpu) (state_act image facts state cpu)
 
 -- the CPU's act as an entry, in the name of its owner
 abbrev pub entry_by : ℕ → ℕ → Act → Entry
@@ -40,7 +63,7 @@ entry_by cpu cell act = record { cpu = cpu; cell = cell; act = act }
 
 -- the entry that a CPU in this state makes next
 abbrev pub entry_of : Image → Facts → Cpu → ℕ → Option Entry
-entry_of image facts state cpu = option_map (entry_by cpu state.owner) (state_act image facts state cpu)
+entry_of image facts state cpu = option_map (entry_by cpu state.owner) (next_act image facts state cpu)
 
 -- the entry that the CPU makes next, where these facts hold
 unfoldable pub due_at : Image → Facts → ℕ → Option Entry

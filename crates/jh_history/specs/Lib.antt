@@ -12,6 +12,8 @@ pub mod Configs
 pub mod Bytes
 pub mod History
 pub mod Alone
+pub mod Phases
+pub mod Hypercalls
 pub mod Wants
 pub mod Due
 pub mod Items

@@ -34,7 +34,8 @@ fn value_of_run<B: Bytes>(bytes: &B, run: Run, above: u64) -> u64
 
 /// The number that the bytes at the places spell, the lowest first.
 pub fn value_of<B: Bytes>(bytes: &B, places: &Places) -> u64
-    ensures { result ≡ spelled (map (B.byte_of bytes.now) places.now) }
+    ensures value { result ≡ spelled (map (B.byte_of bytes.now) places.now) }
+    ensures fits { result < 256 ^ length places.now }
 {
     let (low, high) = places.runs();
     let above = value_of_run(bytes, high, 0);

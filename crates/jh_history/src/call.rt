@@ -44,3 +44,11 @@ pub enum Phase {
         answer: i64,
     },
 }
+
+/// What comes of a create.
+#[derive(Drop)]
+pub enum Creation {
+    Refused { number: i64 },
+    /// The new cell has this configuration.
+    Comes { config: CellConfig },
+}

@@ -1,9 +1,13 @@
 //! What tells the facts of a journal, however it knows them.
-ghost use Rattle.std.specs.Prelude.{◌≡◌, ◌<◌, ◌≤◌, IfSome, map};
+ghost use Rattle.std.specs.Prelude.{◌≡◌, ◌<◌, ◌≤◌, IfSome, map, option_copied, ◌+◌, length, IfOk, ℕ, ◌^◌, IsTrue};
+ghost use Rattle.std.specs.List.{list_any};
 
 use crate::access::{Reach, Wanted};
+use crate::call::{Creation, OpenCall};
 use crate::place::Places;
+use jh_cellcfg::CellConfig;
 use jh_cpu::Cpu;
+use jh_num::NoMemory;
 use jh_script::Op;
 
 /// Tells what holds after a journal of an image: CPUs, their operations, what accesses reach, and bytes.
@@ -12,11 +16,54 @@ pub trait Known {
     ghost use Rattle.jh_script.specs.declared.image.Image.{Image};
     ghost use Rattle.jh_script.specs.Operations.{IsPlain};
     ghost use Rattle.jh_history.specs.Facts.{Facts};
-    ghost use Rattle.jh_history.specs.Lives.{is_on_board, op_at};
+    ghost use Rattle.jh_history.specs.Lives.{is_on_board, live_in, cell_of, op_at};
+    ghost use Rattle.jh_shape.specs.Pages.{pages_of};
+    ghost use Rattle.jh_history.specs.Admitted.{pool_pages};
+    ghost use Rattle.jh_history.specs.Phases.{configs_of, is_other_locked, creation_of};
     ghost use Rattle.jh_history.specs.Wants.{reach_of};
 
     /// It knows these facts of this image.
     ghost Knows: { Self → Image → Facts → Type 0 };
+
+    /// The id of root.
+    fn root(&self) -> u32
+        ensures { (i : Image) (f : Facts) → Knows self.now i f → result ≡ i.system.root.id };
+
+    /// The configuration of the live cell with the id, root's too.
+    fn cell(&self, id: u64) -> Option<&CellConfig>
+        ensures { (i : Image) (f : Facts) → Knows self.now i f → option_copied result ≡ cell_of i f id };
+
+    /// The same of a cell that lives besides root.
+    fn live(&self, id: u64) -> Option<&CellConfig>
+        ensures { (i : Image) (f : Facts) → Knows self.now i f → option_copied result ≡ live_in f.cells id };
+
+    /// How many cells live, root too.
+    fn count(&self) -> u32
+        ensures { (i : Image) (f : Facts) → Knows self.now i f → result ≡ length f.cells + 1 };
+
+    /// How many pages the pool has.
+    fn size(&self) -> u32
+        ensures { (i : Image) (f : Facts) → Knows self.now i f → result ≡ pool_pages i.system };
+
+    /// How many pages the live cells use.
+    fn used(&self) -> u32
+        ensures { (i : Image) (f : Facts) → Knows self.now i f → result ≡ pages_of i.system.root.memory_regions (configs_of f.cells) };
+
+    /// Whether a cell besides root and the one with the id is locked.
+    fn is_other_locked(&self, id: u64) -> bool
+        ensures { (i : Image) (f : Facts) → Knows self.now i f → result ≡ list_any (is_other_locked f id) f.cells };
+
+    /// What comes of a create by the caller, of the configuration at the address.
+    fn creation(&self, caller: u8, at: u64) -> Result<Creation, NoMemory>
+        ensures { (i : Image) (f : Facts) → Knows self.now i f → IfOk result (λ creation. creation ≡ creation_of i f caller at) };
+
+    /// The management call that is open.
+    fn call(&self) -> Option<&OpenCall>
+        ensures { (i : Image) (f : Facts) → Knows self.now i f → option_copied result ≡ f.call };
+
+    /// The board has no CPU above 15. It does nothing; its contract is what holds of each image.
+    fn has_few_cpus(&self)
+        ensures { (i : Image) (f : Facts) → Knows self.now i f → (cpu : ℕ) → IsTrue (is_on_board i cpu) → cpu < 16 };
 
     /// Whether the board has the CPU.
     fn has_cpu(&self, cpu: u8) -> bool
@@ -40,5 +87,6 @@ pub trait Known {
 
     /// The number that the bytes at the places spell, the lowest first.
     fn value(&self, places: &Places) -> u64
-        ensures { (i : Image) (f : Facts) → Knows self.now i f → result ≡ spelled (map f.byte places.now) };
+        ensures value { (i : Image) (f : Facts) → Knows self.now i f → result ≡ spelled (map f.byte places.now) }
+        ensures fits { result < 256 ^ length places.now };
 }

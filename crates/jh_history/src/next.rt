@@ -131,11 +131,11 @@ fn await_of(width: u8, at: u64, value: u64, got: Option<u64>) -> Option<Act>
     }
 }
 
-/// What the operation comes to, where it is due; `reach` is what its access reaches.
-fn act_of<K: Known>(known: &K, op: Op, reach: &Reach) -> Option<Act>
+/// What the cell's operation comes to, where it is due; `reach` is what its access reaches.
+fn act_of<K: Known>(known: &K, cell: u32, op: Op, reach: &Reach) -> Option<Act>
     requires { IsPlain op }
-    ensures act { (i : TheImage) (f : Facts) → K.Knows known.now i f → (cell : ℕ) → IsReachOf i f cell op reach.now → result ≡ act_of_lem i f cell op }
-    ensures reached { (i : TheImage) (f : Facts) (cell : ℕ) → IsReachOf i f cell op reach.now → IfSome result (λ act. IsReachOfAct i f cell act reach.now) }
+    ensures act { (i : TheImage) (f : Facts) → K.Knows known.now i f → IsReachOf i f cell op reach.now → result ≡ act_of_lem i f cell op }
+    ensures reached { (i : TheImage) (f : Facts) → IsReachOf i f cell op reach.now → IfSome result (λ act. IsReachOfAct i f cell act reach.now) }
     ensures plain { IfSome result IsPlainAct }
 {
     match op {
@@ -160,11 +160,13 @@ fn act_of<K: Known>(known: &K, op: Op, reach: &Reach) -> Option<Act>
             let got = read_of(known, reach);
             await_of(width, at, value, got)
         }
-        Op::Irq | Op::Hvc { .. } => None,
+        Op::Irq => None,
+        Op::Hvc { code, a, b } => Some(hvc_act(known, cell, code, a, b)),
     }
 }
 
-/// What a CPU in this state does next; `reach` is what the access reaches that it is about to make.
+/// What a CPU in this state does next that has no call open; `reach` is what the access reaches that it is
+/// about to make.
 fn state_act<K: Known>(known: &K, cpu: u8, state: Cpu, reach: &Reach) -> Option<Act>
     requires { cpu < 16 }
     ensures act { (i : TheImage) (f : Facts) → K.Knows known.now i f → IsReachIn i f state cpu reach.now → result ≡ state_act_lem i f state cpu }
@@ -175,34 +177,9 @@ fn state_act<K: Known>(known: &K, cpu: u8, state: Cpu, reach: &Reach) -> Option<
         return Some(Act::Stop);
     }
     match pending_op(known, cpu, state) {
-        Some(op) => act_of(known, op, reach),
+        Some(op) => act_of(known, state.owner, op, reach),
         None => None,
     }
-}
-
-/// The CPU's act as an entry, in the name of its owner.
-fn entry_by(cpu: u8, cell: u32, act: Option<Act>) -> Option<Entry>
-    ensures { result ≡ option_map (entry_by_lem cpu cell) act }
-{
-    match act {
-        None => None,
-        Some(act) => Some(Entry { cpu, cell, act }),
-    }
-}
-
-/// The entry that the CPU makes next; `reach` is what its access reaches, where it makes one.
-pub fn next_of<K: Known>(known: &K, cpu: u8, reach: &Reach) -> Option<Entry>
-    requires { cpu < 16 }
-    ensures due { (i : TheImage) (f : Facts) → K.Knows known.now i f → IsReachAt i f cpu reach.now → result ≡ due_at i f cpu }
-    ensures reached { (i : TheImage) (f : Facts) → K.Knows known.now i f → IsReachAt i f cpu reach.now → IfSome result (λ entry. IsReachOfEntry i f entry reach.now) }
-    ensures cpu { IfSome result (λ entry. entry.cpu ≡ cpu) }
-    ensures plain { IfSome result (λ entry. IsPlainAct entry.act) }
-{
-    if !known.has_cpu(cpu) {
-        return None;
-    }
-    let state = known.cpu(cpu);
-    entry_by(cpu, state.owner, state_act(known, cpu, state, reach))
 }
 
 /// Whether an await of the value is due, where its read got this: it is where it read the value, or
@@ -231,7 +208,8 @@ fn is_op_due<K: Known>(known: &K, cell: u32, op: Op) -> bool
             };
             is_await_due(value, read_of(known, &known.reach(cell, &wanted)))
         }
-        Op::Irq | Op::Hvc { .. } => false,
+        Op::Irq => false,
+        Op::Hvc { .. } => true,
     }
 }
 
@@ -247,6 +225,83 @@ fn is_state_due<K: Known>(known: &K, cpu: u8, state: Cpu) -> bool
         Some(op) => is_op_due(known, state.owner, op),
         None => false,
     }
+}
+
+/// The call that is open, where the CPU made it.
+fn call_of<K: Known>(known: &K, cpu: u8) -> Option<&OpenCall>
+    ensures { (i : TheImage) (f : Facts) → K.Knows known.now i f → option_copied result ≡ call_of_lem f cpu }
+{
+    match known.call() {
+        Some(begun) => {
+            if begun.caller == cpu {
+                Some(begun)
+            } else {
+                None
+            }
+        }
+        None => None,
+    }
+}
+
+/// Whether no CPU but the caller has anything due, each by its own program.
+fn is_idle_but<K: Known>(known: &K, caller: u8) -> bool
+    ensures { (i : TheImage) (f : Facts) → K.Knows known.now i f → result ≡ is_idle_but_lem i f caller }
+{
+    for cpu in 0..16u8 {
+        if known.has_cpu(cpu) && cpu != caller && is_state_due(known, cpu, known.cpu(cpu)) {
+            return false;
+        }
+    }
+    true
+}
+
+/// What the caller of the call does next.
+fn caller_act<K: Known>(
+    known: &K,
+    state: Cpu,
+    begun: &OpenCall,
+) -> Result<Option<Act>, NoMemory>
+    ensures { (i : TheImage) (f : Facts) → K.Knows known.now i f → IfOk result (λ act. act ≡ caller_act_lem i f state begun.now) }
+{
+    if state.asked {
+        return Ok(Some(Act::Stop));
+    }
+    if !goes_on(state) {
+        return Ok(None);
+    }
+    phase_act(known, is_idle_but(known, begun.caller), begun)
+}
+
+/// Whether the caller of the call has something due.
+fn is_caller_due<K: Known>(known: &K, state: Cpu, begun: &OpenCall) -> bool
+    ensures { (i : TheImage) (f : Facts) → K.Knows known.now i f → result ≡ is_some (caller_act_lem i f state begun.now) }
+{
+    state.asked || goes_on(state) && is_phase_due(known, is_idle_but(known, begun.caller), begun)
+}
+
+/// The CPU's act as an entry, in the name of its owner.
+fn entry_by(cpu: u8, cell: u32, act: Option<Act>) -> Option<Entry>
+    ensures { result ≡ option_map (entry_by_lem cpu cell) act }
+{
+    match act {
+        None => None,
+        Some(act) => Some(Entry { cpu, cell, act }),
+    }
+}
+
+/// The entry that the CPU makes next; `reach` is what its access reaches, where it makes one.
+pub fn next_of<K: Known>(known: &K, cpu: u8, reach: &Reach) -> Option<Entry>
+    requires { cpu < 16 }
+    ensures due { (i : TheImage) (f : Facts) → K.Knows known.now i f → IsReachAt i f cpu reach.now → result ≡ due_at i f cpu }
+    ensures reached { (i : TheImage) (f : Facts) → K.Knows known.now i f → IsReachAt i f cpu reach.now → IfSome result (λ entry. IsReachOfEntry i f entry reach.now) }
+    ensures cpu { IfSome result (λ entry. entry.cpu ≡ cpu) }
+    ensures plain { IfSome result (λ entry. IsPlainAct entry.act) }
+{
+    if !known.has_cpu(cpu) {
+        return None;
+    }
+    let state = known.cpu(cpu);
+    entry_by(cpu, state.owner, state_act(known, cpu, state, reach))
 }
 
 /// Whether an entry is due to the CPU.

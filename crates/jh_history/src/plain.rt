@@ -16,6 +16,8 @@ ghost use Rattle.jh_history.specs.PlainView.{overwritten, last_byte, Stands};
 
 use crate::access::{Access, Reach, Wanted};
 use crate::bytes::{Bytes, value_of};
+use crate::admission::{pool_pages, root_pages};
+use crate::call::{Creation, OpenCall};
 use crate::cells::{ImageGrants, is_on_board, op_at};
 use crate::change::cpus_after;
 use crate::entry::{Act, Entry};
@@ -25,6 +27,7 @@ use crate::known::Known;
 use crate::laws::admitted_roots_are_sound;
 use crate::next::{next_of, none_due, reach_of};
 use crate::place::{Place, Places, Run};
+use jh_cellcfg::CellConfig;
 use jh_cpu::Cpu;
 use jh_num::NoMemory;
 use jh_script::{Image, Op, Preload};
@@ -222,6 +225,50 @@ impl<'a> Known for Plain<'a> {
     ghost use Rattle.jh_history.specs.PlainView.{Stands};
 
     ghost Knows = { Stands };
+
+    fn root(&self) -> u32 {
+        self.image.system.root.id
+    }
+
+    fn cell(&self, id: u64) -> Option<&CellConfig> {
+        if id == u64::from(self.image.system.root.id) {
+            Some(&self.image.system.root)
+        } else {
+            None
+        }
+    }
+
+    fn live(&self, _id: u64) -> Option<&CellConfig> {
+        None
+    }
+
+    fn count(&self) -> u32 {
+        1
+    }
+
+    fn size(&self) -> u32 {
+        pool_pages(&self.image.system) as u32
+    }
+
+    fn used(&self) -> u32 {
+        root_pages(&self.image.system) as u32
+    }
+
+    fn is_other_locked(&self, _id: u64) -> bool {
+        false
+    }
+
+    fn creation(&self, _caller: u8, _at: u64) -> Result<Creation, NoMemory> {
+        Err(NoMemory)
+    }
+
+    fn call(&self) -> Option<&OpenCall> {
+        None
+    }
+
+    fn has_few_cpus(&self) {
+        admitted_roots_are_sound(self.image);
+    }
 
     fn has_cpu(&self, cpu: u8) -> bool {
         is_on_board(self.image, cpu)

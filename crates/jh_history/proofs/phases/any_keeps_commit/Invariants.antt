@@ -1,0 +1,10 @@
+-- None of the CPUs so far.
+use Rattle.std.proofs.Common.{◌≡◌, ℕ, false}
+use Rattle.jh_check.specs.Refusals.{any_below}
+use Rattle.jh_script.specs.declared.image.Image.{Image}
+use Rattle.jh_history.specs.Facts.{Facts}
+use Rattle.jh_history.specs.Phases.{keeps_commit}
+use Rattle.jh_history.proofs.phases.any_keeps_commit.Given as goal
+
+abbrev pub invariant-loop-cpu : goal.invariant-loop-cpu
+invariant-loop-cpu g l = (i : Image) (f : Facts) → g.K.Known.Knows l.known i f → any_below (λ k. keeps_commit i l.call k (f.cpu k)) l.cpu ≡ false

@@ -1,0 +1,320 @@
+//! What is due to the caller of an open management call.
+ghost use Rattle.std.specs.Prelude.{◌≡◌, ℕ, ◌<◌, Bool, List, map, is_some, IfOk, option_map, option_copied};
+ghost use Rattle.std.specs.Option.{option_map_or};
+ghost use Rattle.jh_script.specs.declared.image.Image.{Image as TheImage};
+ghost use Rattle.jh_check.specs.Refusals.{any_below};
+ghost use Rattle.jh_comm.specs.Page.{word_in};
+ghost use Rattle.jh_history.specs.declared.place.Place.TheVariants.{Page};
+ghost use Rattle.jh_history.specs.Facts.{Facts};
+ghost use Rattle.jh_history.specs.Phases.{keeps_decide as keeps_decide_lem, keeps_commit as keeps_commit_lem, id_refusal as id_refusal_lem, first_refusal as first_refusal_lem, is_down as is_down_lem, is_over as is_over_lem, settled_by as settled_by_lem, heard_by as heard_by_lem, state_word as state_word_lem, reply_word as reply_word_lem, settled_of as settled_of_lem, heard_of as heard_of_lem, refused_by as refused_by_lem, decision as decision_lem, phase_act as phase_act_lem};
+ghost use Rattle.jh_history.specs.Pages.{named_cell as named_cell_lem};
+ghost use Rattle.jh_history.specs.declared.entry.Settled.{Settled as TheSettled};
+ghost use Rattle.jh_history.specs.declared.entry.Heard.{Heard as TheHeard};
+ghost use Rattle.jh_history.specs.declared.entry.Act.TheVariants.{Settle, Noted};
+ghost use Rattle.jh_history.specs.Calls.{is_named as is_named_lem};
+
+use crate::change::is_running;
+use crate::call::{Creation, OpenCall, Phase};
+use crate::entry::{Act, Heard, Settled};
+use crate::known::Known;
+use crate::place::{Place, Places, Run};
+use jh_call::Call;
+use jh_cellcfg::CellConfig;
+use jh_comm::{
+    REPLY_RECEIVED, REPLY_REQUEST_APPROVED, STATE_FAILED, STATE_SHUT_DOWN,
+};
+use jh_num::NoMemory;
+use jh_num::error::{EINVAL, ENOENT, EPERM};
+
+/// Where the state and the reply stand in a communication page.
+const STATE_AT: u64 = 8;
+
+const REPLY_AT: u64 = 16;
+
+/// Whether the call is about the cell with the id.
+pub(crate) fn is_named(call: &Call, id: u64) -> bool
+    ensures { result ≡ is_named_lem call.now id }
+{
+    match *call {
+        Call::Start { id: cell } | Call::Loadable { id: cell } | Call::Destroy { id: cell } => {
+            cell == id
+        }
+        _ => false,
+    }
+}
+
+/// The number of 32 bits at the offset of the cell's page.
+fn word_at<K: Known>(known: &K, cell: u32, offset: u64) -> u32
+    requires { offset < 4096 }
+    ensures { (i : TheImage) (f : Facts) → K.Knows known.now i f → result ≡ word_in (λ k. f.byte (Page cell k)) offset }
+{
+    let run = Run {
+        first: Place::Page { cell, offset },
+        count: 4,
+    };
+    let none = Run { count: 0, ..run };
+    known.value(&Places::new(run, none)) as u32
+}
+
+/// The state of the live cell.
+pub(crate) fn state_word<K: Known>(known: &K, cell: u32) -> u32
+    ensures { (i : TheImage) (f : Facts) → K.Knows known.now i f → result ≡ state_word_lem f cell }
+{
+    word_at(known, cell, STATE_AT)
+}
+
+/// What the live cell replied.
+fn reply_word<K: Known>(known: &K, cell: u32) -> u32
+    ensures { (i : TheImage) (f : Facts) → K.Knows known.now i f → result ≡ reply_word_lem f cell }
+{
+    word_at(known, cell, REPLY_AT)
+}
+
+/// Whether the Decide waits for the CPU.
+fn keeps_decide<K: Known>(known: &K, caller: u8, cpu: u8) -> bool
+    requires { cpu < 16 }
+    ensures { (i : TheImage) (f : Facts) → K.Knows known.now i f → result ≡ keeps_decide_lem i caller cpu (f.cpu cpu) }
+{
+    let state = known.cpu(cpu);
+    known.has_cpu(cpu)
+        && cpu != caller
+        && state.owner == known.root()
+        && is_running(state.mode)
+        && !state.stopped
+}
+
+/// Whether the Decide waits for any.
+fn any_keeps_decide<K: Known>(known: &K, caller: u8) -> bool
+    ensures { (i : TheImage) (f : Facts) → K.Knows known.now i f → result ≡ any_below (λ k. keeps_decide_lem i caller k (f.cpu k)) 16 }
+{
+    for cpu in 0..16u8 {
+        if keeps_decide(known, caller, cpu) {
+            return true;
+        }
+    }
+    false
+}
+
+/// Whether the Commit waits for the CPU.
+fn keeps_commit<K: Known>(known: &K, call: &Call, cpu: u8) -> bool
+    requires { cpu < 16 }
+    ensures { (i : TheImage) (f : Facts) → K.Knows known.now i f → result ≡ keeps_commit_lem i call.now cpu (f.cpu cpu) }
+{
+    let state = known.cpu(cpu);
+    known.has_cpu(cpu)
+        && is_named(call, u64::from(state.owner))
+        && is_running(state.mode)
+        && !state.stopped
+}
+
+/// Whether the Commit waits for any.
+fn any_keeps_commit<K: Known>(known: &K, call: &Call) -> bool
+    ensures { (i : TheImage) (f : Facts) → K.Knows known.now i f → result ≡ any_below (λ k. keeps_commit_lem i call.now k (f.cpu k)) 16 }
+{
+    for cpu in 0..16u8 {
+        if keeps_commit(known, call, cpu) {
+            return true;
+        }
+    }
+    false
+}
+
+/// Whether a cell in that state doesn't run.
+fn is_down(state: u32) -> bool
+    ensures { result ≡ is_down_lem state }
+{
+    state == STATE_SHUT_DOWN || state == STATE_FAILED
+}
+
+/// Whether the cell has had its time.
+fn is_over(timeout: u64, waited: u64, idle: bool) -> bool
+    ensures { result ≡ is_over_lem timeout waited idle }
+{
+    (timeout != 0 && timeout <= waited) || idle
+}
+
+/// How the cell met the request to shut down; nothing yet where it hasn't.
+fn settled_by(passive: bool, state: u32, reply: u32, over: bool) -> Option<Settled>
+    ensures { result ≡ settled_by_lem passive state reply over }
+{
+    if passive || is_down(state) || reply == REPLY_REQUEST_APPROVED {
+        return Some(Settled::Agreed);
+    }
+    if reply != 0 {
+        return Some(Settled::Denied);
+    }
+    if over { Some(Settled::Timeout) } else { None }
+}
+
+/// How the cell met the note of a change; nothing yet where it hasn't.
+fn heard_by(state: u32, reply: u32, over: bool) -> Option<Heard>
+    ensures { result ≡ heard_by_lem state reply over }
+{
+    if is_down(state) {
+        return Some(Heard::Down);
+    }
+    if reply == REPLY_RECEIVED {
+        return Some(Heard::Received);
+    }
+    if reply != 0 {
+        return Some(Heard::Other);
+    }
+    if over { Some(Heard::Timeout) } else { None }
+}
+
+/// What a call about the id is refused for, by which cell it is.
+fn id_refusal<K: Known>(known: &K, id: u64) -> Option<i64>
+    ensures { (i : TheImage) (f : Facts) → K.Knows known.now i f → result ≡ id_refusal_lem i f id }
+{
+    if known.cell(id).is_none() {
+        return Some(ENOENT);
+    }
+    if id == u64::from(known.root()) {
+        Some(EINVAL)
+    } else {
+        None
+    }
+}
+
+/// The first refusal, else that of a locked cell.
+fn first_refusal(refusal: Option<i64>, locked: bool) -> Option<i64>
+    ensures { result ≡ first_refusal_lem refusal locked }
+{
+    match refusal {
+        Some(number) => Some(number),
+        None => if locked { Some(EPERM) } else { None },
+    }
+}
+
+/// The live cell that the call names.
+fn named_cell<'a, K: Known>(known: &'a K, call: &Call) -> Option<&'a CellConfig>
+    ensures { (i : TheImage) (f : Facts) → K.Knows known.now i f → option_copied result ≡ named_cell_lem f.cells call.now }
+{
+    match *call {
+        Call::Start { id } | Call::Loadable { id } | Call::Destroy { id } => known.live(id),
+        _ => None,
+    }
+}
+
+/// How the call's cell met the request to shut down; nothing yet where it hasn't.
+fn settled_of<K: Known>(known: &K, idle: bool, call: &Call, waited: u64) -> Option<Settled>
+    ensures { (i : TheImage) (f : Facts) → K.Knows known.now i f → result ≡ settled_of_lem f idle call.now waited }
+{
+    match named_cell(known, call) {
+        Some(cell) => settled_by(
+            cell.is_passive(),
+            state_word(known, cell.id),
+            reply_word(known, cell.id),
+            is_over(cell.msg_reply_timeout, waited, idle),
+        ),
+        None => None,
+    }
+}
+
+/// How the cell met the note of a change; nothing yet where it hasn't.
+fn heard_of<K: Known>(known: &K, idle: bool, id: u32, waited: u64) -> Option<Heard>
+    ensures { (i : TheImage) (f : Facts) → K.Knows known.now i f → result ≡ heard_of_lem f idle id waited }
+{
+    match known.live(u64::from(id)) {
+        Some(cell) => heard_by(
+            state_word(known, id),
+            reply_word(known, id),
+            is_over(cell.msg_reply_timeout, waited, idle),
+        ),
+        None => None,
+    }
+}
+
+/// What a create is refused for.
+fn refused_by(creation: &Creation) -> Option<i64>
+    ensures { result ≡ refused_by_lem creation.now }
+{
+    match creation {
+        Creation::Refused { number } => Some(*number),
+        Creation::Comes { .. } => None,
+    }
+}
+
+/// What the call is refused for at its Decide.
+fn decision<K: Known>(known: &K, caller: u8, call: &Call) -> Result<Option<i64>, NoMemory>
+    ensures { (i : TheImage) (f : Facts) → K.Knows known.now i f → IfOk result (λ refused. refused ≡ decision_lem i f caller call.now) }
+{
+    match *call {
+        Call::Create { at } => {
+            let creation = known.creation(caller, at)?;
+            Ok(refused_by(&creation))
+        }
+        Call::Destroy { id } => {
+            let locked = known.is_other_locked(id);
+            Ok(first_refusal(id_refusal(known, id), locked))
+        }
+        Call::Start { id } | Call::Loadable { id } => Ok(id_refusal(known, id)),
+        _ => Ok(None),
+    }
+}
+
+/// How the cell settled, as an act.
+fn settle(how: Option<Settled>) -> Option<Act>
+    ensures { result ≡ option_map (λ (how : TheSettled). Settle how) how }
+{
+    match how {
+        Some(how) => Some(Act::Settle { how }),
+        None => None,
+    }
+}
+
+/// What the cell heard, as an act.
+fn noted(id: u32, how: Option<Heard>) -> Option<Act>
+    ensures { result ≡ option_map (λ (how : TheHeard). Noted id how) how }
+{
+    match how {
+        Some(how) => Some(Act::Noted { id, how }),
+        None => None,
+    }
+}
+
+/// What is due to the caller in the phase of its call; `idle` says that no other CPU has anything due.
+pub(crate) fn phase_act<K: Known>(
+    known: &K,
+    idle: bool,
+    begun: &OpenCall,
+) -> Result<Option<Act>, NoMemory>
+    ensures { (i : TheImage) (f : Facts) → K.Knows known.now i f → IfOk result (λ act. act ≡ phase_act_lem i f idle begun.now.caller begun.now.call begun.now.phase) }
+{
+    match &begun.phase {
+        Phase::ToDecide => {
+            if any_keeps_decide(known, begun.caller) {
+                return Ok(None);
+            }
+            let refused = decision(known, begun.caller, &begun.call)?;
+            Ok(Some(Act::Decide { refused }))
+        }
+        Phase::ToSettle { waited } => Ok(settle(settled_of(known, idle, &begun.call, *waited))),
+        Phase::ToCreate { .. } => Ok(Some(Act::Commit)),
+        Phase::ToCommit => {
+            if any_keeps_commit(known, &begun.call) {
+                Ok(None)
+            } else {
+                Ok(Some(Act::Commit))
+            }
+        }
+        Phase::ToNote { id, .. } => Ok(Some(Act::Note { id: *id })),
+        Phase::ToNoted { id, waited, .. } => {
+            Ok(noted(*id, heard_of(known, idle, *id, *waited)))
+        }
+        Phase::ToFinish { answer } => Ok(Some(Act::Finish { answer: *answer })),
+    }
+}
+
+/// Whether something is due to the caller in the phase of its call.
+pub(crate) fn is_phase_due<K: Known>(known: &K, idle: bool, begun: &OpenCall) -> bool
+    ensures { (i : TheImage) (f : Facts) → K.Knows known.now i f → result ≡ is_some (phase_act_lem i f idle begun.now.caller begun.now.call begun.now.phase) }
+{
+    match &begun.phase {
+        Phase::ToDecide => !any_keeps_decide(known, begun.caller),
+        Phase::ToSettle { waited } => settled_of(known, idle, &begun.call, *waited).is_some(),
+        Phase::ToCommit => !any_keeps_commit(known, &begun.call),
+        Phase::ToNoted { id, waited, .. } => heard_of(known, idle, *id, *waited).is_some(),
+        Phase::ToCreate { .. } | Phase::ToNote { .. } | Phase::ToFinish { .. } => true,
+    }
+}
