@@ -135,10 +135,6 @@ abbrev pub heard_of : Facts → Bool → ℕ → ℕ → Option Heard
 heard_of facts idle id waited =
     option_and_then (λ (c : CellConfig). heard_by (state_word facts id) (reply_word facts id) (is_over c.msg_reply_timeout waited idle)) (live_in facts.cells id)
 
--- no CPU but the caller has anything due, asked of each by its state alone
-abbrev pub is_idle : (ℕ → Bool) → Image → ℕ → Bool
-is_idle has_due image caller = not (any_below (λ i. is_on_board image i && not (i == caller) && has_due i) 16)
-
 -- what is due to the caller in the phase
 abbrev pub phase_act : Image → Facts → Bool → ℕ → Call → Phase → Option Act
 phase_act image facts idle caller call ToDecide =
