@@ -1,5 +1,5 @@
 -- What an admitted image gives its readers.
-use Rattle.std.proofs.Common.{◌<◌, ◌≤◌, ℕ, List, [], ◌∷◌, Bool, true, false, cond, Option, Some, arith}
+use Rattle.std.proofs.Common.{◌<◌, ◌≤◌, ℕ, List, [], ◌∷◌, Bool, true, false, cond, Option, Some, length, arith}
 use Rattle.std.specs.Prelude.{IsTrue, find, All}
 use Rattle.std.specs.List.{AllByRecursion}
 use Rattle.std.specs.Option.{option_map_or}
@@ -41,6 +41,19 @@ program_of-all P image name cpu all = All-from_recursion P (program_of image nam
 -- the operations of each CPU are plain
 pub program_of-plain : (image : Image) (name : List ℕ) (cpu : ℕ) → IsAdmitted image → All IsPlain (program_of image name cpu)
 program_of-plain image name cpu admitted = program_of-all IsPlain image name cpu (λ i d lt. (admitted.programs i d lt).plain)
+
+few_at : (b : Bool) (x : Program) (o : Option Program) → IsSoundProgram x → length (option_map_or (λ (p : Program). p.ops) o []) ≤ 4096 → length (option_map_or (λ (p : Program). p.ops) (cond b (Some x) o) []) ≤ 4096
+few_at true x o fine rest = fine.few
+few_at false x o fine rest = rest
+
+few_found : (p : Program → Bool) (xs : List Program) → AllByRecursion IsSoundProgram xs → length (option_map_or (λ (x : Program). x.ops) (find p xs) []) ≤ 4096
+few_found p [] all = omega arith
+few_found p (x ∷ xs) all = few_at (p x) x (find p xs) all.0 (few_found p xs all.1)
+
+-- and they are few
+pub few_operations : (image : Image) (name : List ℕ) (cpu : ℕ) → IsAdmitted image → length (program_of image name cpu) ≤ 4096
+unfolding program_of
+few_operations image name cpu admitted = few_found (is_program_of name cpu) image.programs (recursion_from_All IsSoundProgram image.programs admitted.programs)
 
 -- a width is that of a register at most
 pub width_le : (w : ℕ) → IsTrue (is_width w) → w ≤ 8

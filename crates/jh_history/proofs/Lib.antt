@@ -12,3 +12,4 @@ pub mod ItemsLemmas
 pub mod ApartLemmas
 pub mod LegalLemmas
 pub mod AloneLemmas
+pub mod LiveLemmas

@@ -32,6 +32,10 @@ one_more n = min (n + 1) (2 ^ 64 - 1)
 abbrev pub is_told : ℕ → Live → Bool
 is_told about live = not (has_id about live) && not (is_passive live.config)
 
+-- the same by the cell's configuration
+abbrev pub is_told_by : ℕ → CellConfig → Bool
+is_told_by about config = not (config.id == about) && not (is_passive config)
+
 -- the cells behind the one with the id
 abbrev pub behind : ℕ → List Live → List Live
 behind id [] = []

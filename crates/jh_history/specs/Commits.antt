@@ -1,6 +1,7 @@
 -- Which cells live after an entry.
-use Rattle.std.specs.Prelude.{ℕ, Bool, true, false, not, List, [], ◌∷◌, ◌++◌, map, filter, Option, if◌then◌else◌}
+use Rattle.std.specs.Prelude.{ℕ, Bool, true, false, not, List, [], ◌∷◌, ◌++◌, map, filter, Option, Some, None, option_and_then, if◌then◌else◌}
 use Rattle.std.specs.Option.{option_map_or}
+use Rattle.jh_cellcfg.specs.declared.config.CellConfig.{CellConfig}
 use Rattle.jh_cellcfg.specs.declared.live.Live.{Live}
 use Rattle.jh_cellcfg.specs.Lives.{has_id}
 use Rattle.jh_call.specs.declared.call.Call.{Call}
@@ -31,3 +32,16 @@ committed_cells call phase cells = cells
 abbrev pub cells_by : Option OpenCall → List Live → Act → List Live
 cells_by call cells Commit = option_map_or (λ (o : OpenCall). committed_cells o.call o.phase cells) call cells
 cells_by call cells act = cells
+
+-- the configuration of the cell that the Commit of the call creates
+abbrev pub created : Call → Phase → Option CellConfig
+created (Create at) (ToCreate config) = Some config
+created call phase = None
+
+-- that of the cell which the act creates
+abbrev pub created_at : Call → Phase → Act → Option CellConfig
+created_at call phase Commit = created call phase
+created_at call phase act = None
+
+abbrev pub created_by : Option OpenCall → Act → Option CellConfig
+created_by call act = option_and_then (λ (o : OpenCall). created_at o.call o.phase act) call

@@ -19,5 +19,6 @@ pub mod Due
 pub mod Items
 pub mod Admitted
 pub mod PastView
+pub mod LiveView
 pub mod PlainView
 pub mod Apart

@@ -1,12 +1,20 @@
-//! What an entry does to its CPU.
-ghost use Rattle.std.specs.Prelude.{◌≡◌, ℕ, ◌<◌, Some, false, length, slice_get};
+//! What an entry does to CPUs.
+ghost use Rattle.std.specs.Prelude.{◌≡◌, ℕ, ◌<◌, ◌==◌, Some, Option, false, length, slice_get, option_copied, if◌then◌else◌};
+ghost use Rattle.jh_cpu.specs.declared.cpu.Cpu.{Cpu as TheCpu};
+ghost use Rattle.jh_call.specs.declared.call.Call.TheVariants.{Create};
 ghost use Rattle.jh_script.specs.declared.image.Image.{Image as TheImage};
-ghost use Rattle.jh_history.specs.Alone.{is_phase};
+ghost use Rattle.jh_history.specs.declared.call.OpenCall.{OpenCall as TheOpenCall};
+ghost use Rattle.jh_history.specs.Admitted.{IsAdmitted};
 ghost use Rattle.jh_history.specs.Facts.{Facts};
-ghost use Rattle.jh_history.specs.Cpus.{change_if as change_if_lem, change_of as change_of_lem, changed as changed_lem, cpu_after, is_running as is_running_lem};
+ghost use Rattle.jh_history.specs.Cpus.{change_if as change_if_lem, change_of as change_of_lem, changed as changed_lem, begun, is_agreed as is_agreed_lem, settled, end_in_root as end_in_root_lem, committed, finished, acted, cpu_after, is_running as is_running_lem};
 
-use crate::entry::{Act, Entry};
+use crate::call::{OpenCall, Phase};
+use crate::cells::{is_on_board, program_of};
+use crate::entry::{Act, Entry, Settled};
+use crate::phases::is_named;
+use jh_call::Call;
 use jh_cpu::{Cpu, Mode};
+use jh_script::Image;
 
 /// What an entry does to its CPU.
 #[derive(Clone, Copy, PartialEq, Eq, Debug)]
@@ -73,13 +81,152 @@ impl Change {
     }
 }
 
-/// Changes the CPUs as the entry does, which is no phase of a management call: its own alone.
-pub fn cpus_after(cpus: &mut [Cpu], entry: &Entry)
-    requires cpus { length cpus.old ≡ 16 }
-    requires own { is_phase entry.now.act ≡ false }
-    ensures { (image : TheImage) (f : Facts) → ((i : ℕ) → i < 16 → slice_get cpus.old i ≡ Some (f.cpu i)) → (i : ℕ) → i < 16 → slice_get cpus.new i ≡ Some (cpu_after image f entry.now i) }
+/// At a Begin each running CPU of root is asked to stop, but the caller.
+fn begin(image: &Image, own: u8, i: u8, cpu: &mut Cpu)
+    ensures { cpu.new ≡ begun image.now own i cpu.old }
 {
-    if entry.cpu < 16 {
+    let is_other_of_root = i != own && cpu.owner == image.system.root.id;
+    if is_on_board(image, i) && is_other_of_root && is_running(cpu.mode) {
+        cpu.ask();
+    }
+}
+
+/// Whether the call goes on.
+fn is_agreed(how: Settled) -> bool
+    ensures { result ≡ is_agreed_lem how }
+{
+    match how {
+        Settled::Agreed | Settled::Timeout => true,
+        Settled::Denied => false,
+    }
+}
+
+/// At a Settle that isn't denied each running CPU of the call's cell is asked to stop.
+fn settle(agreed: bool, call: &Call, cpu: &mut Cpu)
+    ensures { cpu.new ≡ settled agreed call.now cpu.old }
+{
+    if agreed && is_named(call, u64::from(cpu.owner)) && is_running(cpu.mode) {
+        cpu.ask();
+    }
+}
+
+/// How many operations root's program of the CPU has.
+#[tactic(auto, using(crate::proofs::AdmittedLemmas::few_operations))]
+fn end_in_root(image: &Image, i: u8) -> u32
+    requires { IsAdmitted image.now }
+    ensures { result ≡ end_in_root_lem image.now i }
+{
+    program_of(image, image.system.root.name(), i).len() as u32
+}
+
+/// The CPU is lent to the new cell, where that has it.
+fn lend(phase: &Phase, i: u8, cpu: &mut Cpu)
+    ensures { (image : TheImage) (at : ℕ) → cpu.new ≡ committed image (Create at) phase.now i cpu.old }
+{
+    match phase {
+        Phase::ToCreate { config } => {
+            if config.has_cpu(i) {
+                cpu.lend(config.id);
+            }
+        }
+        _ => {}
+    }
+}
+
+/// At a Commit the cell's CPUs come and go, or begin and end to run.
+fn commit(image: &Image, begun: &OpenCall, i: u8, cpu: &mut Cpu)
+    requires { IsAdmitted image.now }
+    ensures { cpu.new ≡ committed image.now begun.now.call begun.now.phase i cpu.old }
+{
+    match begun.call {
+        Call::Create { .. } => lend(&begun.phase, i, cpu),
+        Call::Start { id } => {
+            if u64::from(cpu.owner) == id {
+                cpu.reset();
+            }
+        }
+        Call::Loadable { id } => {
+            if u64::from(cpu.owner) == id {
+                cpu.park();
+            }
+        }
+        Call::Destroy { id } => {
+            if u64::from(cpu.owner) == id {
+                cpu.give_back(image.system.root.id, end_in_root(image, i));
+            }
+        }
+        _ => {}
+    }
+}
+
+/// At a Finish no CPU of root is stopped any more, and the caller has done its operation.
+fn finish(root: u32, own: u8, i: u8, cpu: &mut Cpu)
+    ensures { (image : TheImage) → image.system.root.id ≡ root → cpu.new ≡ finished image own i cpu.old }
+{
+    if cpu.owner == root {
+        cpu.resume();
+    }
+    if i == own {
+        cpu.advance();
+    }
+}
+
+/// Changes CPU `i` as the entry does; `call` is the call that was open before it.
+fn act_on(image: &Image, call: Option<&OpenCall>, entry: &Entry, i: u8, cpu: &mut Cpu)
+    requires { IsAdmitted image.now }
+    ensures { cpu.new ≡ acted image.now (option_copied call.entry) entry.now.act entry.now.cpu i cpu.old }
+{
+    match entry.act {
+        Act::Begin { .. } => begin(image, entry.cpu, i, cpu),
+        Act::Settle { how } => {
+            if let Some(begun) = call {
+                settle(is_agreed(how), &begun.call, cpu);
+            }
+        }
+        Act::Commit => {
+            if let Some(begun) = call {
+                commit(image, begun, i, cpu);
+            }
+        }
+        Act::Finish { .. } => finish(image.system.root.id, entry.cpu, i, cpu),
+        _ => {
+            if i == entry.cpu {
+                Change::of(&entry.act).apply(cpu);
+            }
+        }
+    }
+}
+
+/// Whether the act changes more CPUs than that which makes it.
+fn is_for_many(act: &Act) -> bool
+    ensures { (image : TheImage) (call : Option TheOpenCall) (own i : ℕ) (cpu : TheCpu) → result ≡ false → acted image call act.now own i cpu ≡ (if i == own then changed_lem (change_of_lem act.now) cpu else cpu) }
+{
+    matches!(
+        act,
+        Act::Begin { .. } | Act::Settle { .. } | Act::Commit | Act::Finish { .. }
+    )
+}
+
+/// Changes each of the CPUs as the entry does.
+fn act_on_all(image: &Image, call: Option<&OpenCall>, entry: &Entry, cpus: &mut [Cpu])
+    requires admitted { IsAdmitted image.now }
+    requires cpus { length cpus.old ≡ 16 }
+    ensures { (i : ℕ) (state : TheCpu) → slice_get cpus.old i ≡ Some state → slice_get cpus.new i ≡ Some (acted image.now (option_copied call.entry) entry.now.act entry.now.cpu i state) }
+{
+    for i in 0..16u8 {
+        act_on(image, call, entry, i, &mut cpus[usize::from(i)]);
+    }
+}
+
+/// Changes the CPUs as the entry does; `call` is the call that was open before it.
+pub fn cpus_after(cpus: &mut [Cpu], image: &Image, call: Option<&OpenCall>, entry: &Entry)
+    requires admitted { IsAdmitted image.now }
+    requires cpus { length cpus.old ≡ 16 }
+    ensures { (f : Facts) → f.call ≡ option_copied call.entry → ((i : ℕ) → i < 16 → slice_get cpus.old i ≡ Some (f.cpu i)) → (i : ℕ) → i < 16 → slice_get cpus.new i ≡ Some (cpu_after image.now f entry.now i) }
+{
+    if is_for_many(&entry.act) {
+        act_on_all(image, call, entry, cpus);
+    } else if entry.cpu < 16 {
         Change::of(&entry.act).apply(&mut cpus[usize::from(entry.cpu)]);
     }
 }

@@ -15,8 +15,8 @@ ghost use Rattle.jh_history.specs.Alone.{IsByRoot};
 ghost use Rattle.jh_history.specs.PlainView.{overwritten, last_byte, Stands};
 
 use crate::access::{Access, Reach, Wanted};
-use crate::bytes::{Bytes, value_of};
 use crate::admission::{pool_pages, root_pages};
+use crate::bytes::{Bytes, value_of};
 use crate::call::{Creation, OpenCall};
 use crate::cells::{ImageGrants, is_on_board, op_at};
 use crate::change::cpus_after;
@@ -187,7 +187,7 @@ impl<'a> Plain<'a> {
         ensures { OnOk result ((i : TheImage) (f : Facts) → Stands self.old i f → Stands self.new i (after i f entry.now)) }
     {
         self.write(entry.cell, &entry.act)?;
-        cpus_after(&mut self.cpus, entry);
+        cpus_after(&mut self.cpus, self.image, None, entry);
         Ok(())
     }
 

@@ -1,0 +1,302 @@
+//! What an entry does to the management call that is open.
+ghost use Rattle.std.specs.Prelude.{◌≡◌, ℕ, List};
+ghost use Rattle.jh_call.specs.declared.call.Call.TheVariants.{Create};
+ghost use Rattle.jh_cellcfg.specs.declared.live.Live.{Live as TheLive};
+ghost use Rattle.jh_history.specs.Phases.{configs_of};
+ghost use Rattle.jh_history.specs.Commits.{created, created_at, created_by};
+ghost use Rattle.jh_history.specs.Calls.{one_more as one_more_lem, is_told_by, first_told as first_told_lem, behind, telling as telling_lem, decided as decided_lem, after_settle as after_settle_lem, after_commit as after_commit_lem, after_note as after_note_lem, after_noted as after_noted_lem, counted as counted_lem, phase_after as phase_after_lem, call_by};
+
+use crate::call::{OpenCall, Phase};
+use crate::entry::{Act, Entry, Settled};
+use crate::phases::is_named;
+use jh_call::{Call, decode};
+use jh_cellcfg::CellConfig;
+use jh_num::error::EPERM;
+
+/// The call after an entry, and the configuration of the cell that the entry creates.
+#[derive(Drop)]
+pub struct Called {
+    pub call: Option<OpenCall>,
+    pub created: Option<CellConfig>,
+}
+
+/// The phase after an entry, and the configuration of the cell that the entry creates.
+#[derive(Drop)]
+struct Next {
+    phase: Phase,
+    created: Option<CellConfig>,
+}
+
+/// One more, or still the last number of 64 bits.
+fn one_more(n: u64) -> u64
+    ensures { result ≡ one_more_lem n }
+{
+    n.saturating_add(1)
+}
+
+/// Whether the cell is told that another, `about`, was created or destroyed.
+fn is_told(about: u64, cell: &CellConfig) -> bool
+    ensures { result ≡ is_told_by about cell.now }
+{
+    u64::from(cell.id) != about && !cell.is_passive()
+}
+
+/// The id of the first of the cells that is told.
+fn first_told(about: u64, cells: &[CellConfig]) -> Option<u32>
+    ensures { (lives : List TheLive) → configs_of lives ≡ cells.now → result ≡ first_told_lem about lives }
+{
+    for cell in cells {
+        if is_told(about, cell) {
+            return Some(cell.id);
+        }
+    }
+    None
+}
+
+/// That of those behind the one with the id.
+fn next_told(about: u64, cells: &[CellConfig], id: u32) -> Option<u32>
+    ensures { (lives : List TheLive) → configs_of lives ≡ cells.now → result ≡ first_told_lem about (behind id lives) }
+{
+    let mut is_behind = false;
+    for cell in cells {
+        if is_behind && is_told(about, cell) {
+            return Some(cell.id);
+        }
+        is_behind = is_behind || cell.id == id;
+    }
+    None
+}
+
+/// The cell is told next, or, where there is none, the call ends with the answer.
+fn telling(about: u64, answer: i64, told: Option<u32>) -> Phase
+    ensures { result ≡ telling_lem about answer told }
+{
+    match told {
+        Some(id) => Phase::ToNote { id, about, answer },
+        None => Phase::ToFinish { answer },
+    }
+}
+
+/// The phase after a Decide that goes on.
+fn go_on(call: &Call, coming: Option<CellConfig>) -> Phase
+    ensures { result ≡ decided_lem call.now coming None }
+{
+    match *call {
+        Call::Create { .. } => match coming {
+            Some(config) => Phase::ToCreate { config },
+            None => Phase::ToDecide,
+        },
+        _ => Phase::ToSettle { waited: 0 },
+    }
+}
+
+/// The phase after a Decide.
+fn decided(call: &Call, coming: Option<CellConfig>, refused: Option<i64>) -> Phase
+    ensures { result ≡ decided_lem call.now coming refused }
+{
+    match refused {
+        Some(answer) => Phase::ToFinish { answer },
+        None => go_on(call, coming),
+    }
+}
+
+fn after_settle(how: Settled) -> Phase
+    ensures { result ≡ after_settle_lem how }
+{
+    match how {
+        Settled::Agreed | Settled::Timeout => Phase::ToCommit,
+        Settled::Denied => Phase::ToFinish { answer: EPERM },
+    }
+}
+
+/// What the Commit of a create comes to.
+fn after_create(phase: Phase, cells: &[CellConfig]) -> Next
+    ensures phase { (at : ℕ) (lives : List TheLive) → configs_of lives ≡ cells.now → result.phase ≡ after_commit_lem (Create at) phase lives }
+    ensures created { (at : ℕ) → result.created ≡ created (Create at) phase }
+{
+    match phase {
+        Phase::ToCreate { config } => {
+            let about = u64::from(config.id);
+            let told = first_told(about, cells);
+            Next {
+                phase: telling(about, i64::from(config.id), told),
+                created: Some(config),
+            }
+        }
+        _ => Next {
+            phase: Phase::ToFinish { answer: 0 },
+            created: None,
+        },
+    }
+}
+
+/// What a Commit comes to.
+fn after_commit(call: &Call, phase: Phase, cells: &[CellConfig]) -> Next
+    ensures phase { (lives : List TheLive) → configs_of lives ≡ cells.now → result.phase ≡ after_commit_lem call.now phase lives }
+    ensures created { result.created ≡ created call.now phase }
+{
+    match *call {
+        Call::Create { .. } => after_create(phase, cells),
+        Call::Destroy { id } => Next {
+            phase: telling(id, 0, first_told(id, cells)),
+            created: None,
+        },
+        _ => Next {
+            phase: Phase::ToFinish { answer: 0 },
+            created: None,
+        },
+    }
+}
+
+fn after_note(phase: Phase) -> Phase
+    ensures { result ≡ after_note_lem phase }
+{
+    match phase {
+        Phase::ToNote { id, about, answer } => Phase::ToNoted {
+            id,
+            about,
+            answer,
+            waited: 0,
+        },
+        phase => phase,
+    }
+}
+
+fn after_noted(phase: Phase, cells: &[CellConfig]) -> Phase
+    ensures { (lives : List TheLive) → configs_of lives ≡ cells.now → result ≡ after_noted_lem phase lives }
+{
+    match phase {
+        Phase::ToNoted {
+            id,
+            about,
+            answer,
+            ..
+        } => telling(about, answer, next_told(about, cells, id)),
+        phase => phase,
+    }
+}
+
+/// The phase after an entry of the cell that is none of the call's own.
+fn counted(cell: u32, call: &Call, phase: Phase) -> Phase
+    ensures { result ≡ counted_lem cell call.now phase }
+{
+    match phase {
+        Phase::ToSettle { waited } => {
+            if is_named(call, u64::from(cell)) {
+                Phase::ToSettle {
+                    waited: one_more(waited),
+                }
+            } else {
+                Phase::ToSettle { waited }
+            }
+        }
+        Phase::ToNoted {
+            id,
+            about,
+            answer,
+            waited,
+        } => {
+            let waited = if cell == id { one_more(waited) } else { waited };
+            Phase::ToNoted {
+                id,
+                about,
+                answer,
+                waited,
+            }
+        }
+        phase => phase,
+    }
+}
+
+/// A phase after which no cell was created.
+fn only(phase: Phase) -> Next
+    ensures phase { result.phase ≡ phase }
+    ensures created { result.created ≡ None }
+{
+    Next {
+        phase,
+        created: None,
+    }
+}
+
+/// What the phase of the call comes to.
+fn phase_after(
+    cells: &[CellConfig],
+    coming: Option<CellConfig>,
+    call: &Call,
+    phase: Phase,
+    entry: &Entry,
+) -> Next
+    ensures phase { (lives : List TheLive) → configs_of lives ≡ cells.now → result.phase ≡ phase_after_lem lives coming entry.now.cell call.now phase entry.now.act }
+    ensures created { result.created ≡ created_at call.now phase entry.now.act }
+{
+    match entry.act {
+        Act::Decide { refused } => only(decided(call, coming, refused)),
+        Act::Settle { how } => only(after_settle(how)),
+        Act::Commit => after_commit(call, phase, cells),
+        Act::Note { .. } => only(after_note(phase)),
+        Act::Noted { .. } => only(after_noted(phase, cells)),
+        _ => only(counted(entry.cell, call, phase)),
+    }
+}
+
+/// The open call after an entry of it, or of another CPU.
+fn goes_on(
+    cells: &[CellConfig],
+    coming: Option<CellConfig>,
+    begun: OpenCall,
+    entry: &Entry,
+) -> Called
+    ensures phase { (lives : List TheLive) → configs_of lives ≡ cells.now → result.call ≡ Some (record { caller = begun.caller; call = begun.call; phase = phase_after_lem lives coming entry.now.cell begun.call begun.phase entry.now.act }) }
+    ensures created { result.created ≡ created_at begun.call begun.phase entry.now.act }
+{
+    let OpenCall {
+        caller,
+        call,
+        phase,
+    } = begun;
+    let next = phase_after(cells, coming, &call, phase, entry);
+    Called {
+        call: Some(OpenCall {
+            caller,
+            call,
+            phase: next.phase,
+        }),
+        created: next.created,
+    }
+}
+
+/// The open call after the entry. `cells` are the configurations of the cells that live besides root before
+/// it, `coming` is the configuration that the call reads, where the entry is the Decide of a create. It
+/// takes no memory.
+pub fn call_after(
+    cells: &[CellConfig],
+    coming: Option<CellConfig>,
+    call: Option<OpenCall>,
+    entry: &Entry,
+) -> Called
+    ensures call { (lives : List TheLive) → configs_of lives ≡ cells.now → result.call ≡ call_by lives coming call entry.now entry.now.act }
+    ensures created { result.created ≡ created_by call entry.now.act }
+{
+    match entry.act {
+        Act::Begin { code, a, b } => Called {
+            call: Some(OpenCall {
+                caller: entry.cpu,
+                call: decode(code, a, b),
+                phase: Phase::ToDecide,
+            }),
+            created: None,
+        },
+        Act::Finish { .. } => Called {
+            call: None,
+            created: None,
+        },
+        _ => match call {
+            Some(begun) => goes_on(cells, coming, begun, entry),
+            None => Called {
+                call: None,
+                created: None,
+            },
+        },
+    }
+}
