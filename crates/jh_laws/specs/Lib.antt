@@ -5,3 +5,4 @@ pub mod Writes
 pub mod Moves
 pub mod Operations
 pub mod Runs
+pub mod Sound
