@@ -185,7 +185,7 @@ owned-returned image configs cpu id sound owned = record {
 
 -- behind a Commit or a note the first that is to be told is, or the call ends
 told_by : (image : Image) (configs : List CellConfig) (cpu : ℕ → Cpu) (caller about : ℕ) (call : Call) (answer : ℤ) (cells : List Live) (o : Option Live) → find (is_told about) cells ≡ o
-    → ((live : Live) → Contains cells live → live.config.id ≢ about → Contains configs live.config) → IsNews configs call about
+    → ((live : Live) → Contains cells live → live.config.id ≢ about → Contains configs live.config) → IsNews configs call about answer
     → IsLate (telling about answer (option_map id_of o)) × IsInPhase image configs cpu caller call (telling about answer (option_map id_of o))
 told_by image configs cpu caller about call answer cells None e held news = (tt, tt)
 told_by image configs cpu caller about call answer cells (Some live) e held news =
@@ -195,7 +195,7 @@ told_by image configs cpu caller about call answer cells (Some live) e held news
     (tt, (record { config = live.config; held = held live found.held other; named = refl; other = other; active = not-true (is_passive live.config) parts.1 }, news))
 
 pub told-first : (image : Image) (configs : List CellConfig) (cpu : ℕ → Cpu) (caller about : ℕ) (call : Call) (answer : ℤ) (cells : List Live)
-    → ((live : Live) → Contains cells live → live.config.id ≢ about → Contains configs live.config) → IsNews configs call about
+    → ((live : Live) → Contains cells live → live.config.id ≢ about → Contains configs live.config) → IsNews configs call about answer
     → IsLate (telling about answer (first_told about cells)) × IsInPhase image configs cpu caller call (telling about answer (first_told about cells))
 told-first image configs cpu caller about call answer cells held news = told_by image configs cpu caller about call answer cells (find (is_told about) cells) refl held news
 
@@ -223,7 +223,7 @@ open-destroyed image cells cpu caller id sound owned opens none =
     λ i off e. both_ways (eqb id (cpu i).owner) (absent-unnamed image configs cpu (Destroy id) i owned about off) (eq-eqb id (cpu i).owner (sym e)) in
     let next = told-first image rest (cell_returned image id cpu) caller id (Destroy id) (pos 0) cells
     (λ live held other. Contains-filter (is_other_config id) configs live.config (Contains-map (λ (l : Live). l.config) cells live held) (is_other_from id live.config other))
-    (refl, λ config held. other_config id config (IsFound-from_filter (is_other_config id) configs config held).passes) in
+    (refl, λ config held. other_config id config (IsFound-from_filter (is_other_config id) configs config held).passes, refl) in
     open-late image rest (cell_returned image id cpu) caller (Destroy id) (telling id (pos 0) (first_told id cells)) next.0
     (subst (IsCaller image caller (Destroy id)) (sym caller_same) opens.caller)
     (λ i on other.
@@ -325,7 +325,7 @@ open-created image cells cpu caller at new sound owned opens =
     let apart : root ≢ new.id = unknown-id (image.system.root ∷ configs) new image.system.root may.unknown (Contains-head image.system.root configs) in
     let next = told-first image all (cell_lent new cpu) caller new.id (Create at) (pos new.id) cells
     (λ live held _. Contains-append_left configs (new ∷ []) live.config (Contains-map (λ (l : Live). l.config) cells live held))
-    (new, Contains-push configs new, refl) in
+    (new, Contains-push configs new, refl, refl) in
     open-late image all (cell_lent new cpu) caller (Create at) (telling new.id (pos new.id) (first_told new.id cells)) next.0
     (⊎_elim
     (λ lent. absurd (may.other caller lent.0 refl))

@@ -1,6 +1,6 @@
 -- What holds after every legal journal of an admitted image: of the cells that live, of whose the CPUs are, and
 -- of the management call that is open.
-use Rattle.std.specs.Prelude.{◌≡◌, ◌≢◌, ◌⊎◌, ◌≤◌, ℕ, true, false, List, [], ◌∷◌, ◌++◌, Contains, AllPairs, Option, Some, None, slice_get}
+use Rattle.std.specs.Prelude.{◌≡◌, ◌≢◌, ◌⊎◌, ◌≤◌, ℕ, ℤ, pos, true, false, List, [], ◌∷◌, ◌++◌, Contains, AllPairs, Option, Some, None, slice_get}
 use Rattle.jh_cellcfg.specs.declared.config.CellConfig.{CellConfig}
 use Rattle.jh_cellcfg.specs.declared.config.SystemConfig.{SystemConfig}
 use Rattle.jh_cellcfg.specs.Cells.{name_of, is_cpu_set, is_passive}
@@ -125,11 +125,12 @@ pub record IsTold (configs : List CellConfig) (id about : ℕ) : Type 0 where
   pub other : id ≢ about
   pub active : is_passive config ≡ false
 
--- what is told of: a cell that the call made, or one that it destroyed and that lives no more
-abbrev pub IsNews : List CellConfig → Call → ℕ → Type 0
-IsNews configs (Create at) about = (config : CellConfig) × Contains configs config × (config.id ≡ about)
-IsNews configs (Destroy id) about = (about ≡ id) × ((config : CellConfig) → Contains configs config → config.id ≢ about)
-IsNews configs _ about = ⊥
+-- what is told of, before the call ends with the answer: a cell that the call made, and then its id, or one that it
+-- destroyed and that lives no more, and then 0
+abbrev pub IsNews : List CellConfig → Call → ℕ → ℤ → Type 0
+IsNews configs (Create at) about answer = (config : CellConfig) × Contains configs config × (config.id ≡ about) × (answer ≡ pos about)
+IsNews configs (Destroy id) about answer = (about ≡ id) × ((config : CellConfig) → Contains configs config → config.id ≢ about) × (answer ≡ pos 0)
+IsNews configs _ about answer = ⊥
 
 abbrev pub IsCreate : Call → Type 0
 IsCreate (Create at) = Unit {0}
@@ -141,8 +142,8 @@ IsInPhase image configs cpu caller call ToDecide = Unit {0}
 IsInPhase image configs cpu caller call (ToSettle waited) = IsAboutLive configs call
 IsInPhase image configs cpu caller call (ToCreate config) = IsCreate call × MayCome image configs cpu caller config
 IsInPhase image configs cpu caller call ToCommit = IsAboutLive configs call
-IsInPhase image configs cpu caller call (ToNote id about answer) = IsTold configs id about × IsNews configs call about
-IsInPhase image configs cpu caller call (ToNoted id about answer waited) = IsTold configs id about × IsNews configs call about
+IsInPhase image configs cpu caller call (ToNote id about answer) = IsTold configs id about × IsNews configs call about answer
+IsInPhase image configs cpu caller call (ToNoted id about answer waited) = IsTold configs id about × IsNews configs call about answer
 IsInPhase image configs cpu caller call (ToFinish answer) = Unit {0}
 
 -- the call is open, beside these cells and CPUs
