@@ -1,10 +1,9 @@
 -- Calls over the entries of a legal journal: which is open, who is suspended by it, and what follows what in it.
-use Rattle.std.proofs.Common.{◌≡◌, ◌≢◌, ℕ, ℤ, pos, List, [], ◌∷◌, ◌++◌, Bool, true, false, cond, eqb, Option, Some, None, refl, sym, ap, subst, ◌∙◌, inl, inr, ◌⊎◌, ⊎_elim, append_assoc, All}
+use Rattle.std.proofs.Common.{◌≡◌, ◌≢◌, ℕ, ℤ, pos, List, [], ◌∷◌, ◌++◌, Bool, true, false, cond, eqb, Option, Some, None, refl, sym, ap, subst, ◌∙◌, inl, inr, ◌⊎◌, ⊎_elim, All}
 use Rattle.std.specs.Prelude.{option_map, option_and_then}
 use Rattle.std.specs.List.{fold}
-use Rattle.std.proofs.lemmas.Bool.{both_ways, cond_both}
+use Rattle.std.proofs.lemmas.Bool.{both_ways, cond_both, eqb-true, eq-eqb, cases_Bool}
 use Rattle.std.proofs.lemmas.List.Elements.{All-head, All-tail}
-use Rattle.std.proofs.lemmas.List.Sums.{fold-append}
 use Rattle.std.proofs.lemmas.Option.{none-some, same_Some}
 use Rattle.jh_num.specs.declared.error.TheConstants.{EPERM}
 use Rattle.jh_cellcfg.specs.declared.config.CellConfig.{CellConfig}
@@ -27,17 +26,18 @@ use Rattle.jh_history.specs.declared.entry.Heard.{Heard}
 use Rattle.jh_history.specs.declared.entry.Act.{Act}
 use Rattle.jh_history.specs.declared.entry.Act.TheVariants.{Read, Write, Fetch, Await, Irq, Hvc, Begin, Stop, Decide, Settle, Commit, Note, Noted, Finish}
 use Rattle.jh_history.specs.Facts.{Facts}
-use Rattle.jh_history.specs.Calls.{is_named, counted, one_more, telling, first_told, behind, decided, after_settle, after_commit, call_by}
+use Rattle.jh_history.specs.Calls.{is_named, counted, one_more, telling, first_told, behind, decided, after_settle, after_commit, phase_after, call_by}
 use Rattle.jh_history.specs.Configs.{ReadCell, config_read}
 use Rattle.jh_history.specs.History.{start, after, facts, coming_of, coming_by}
 use Rattle.jh_history.specs.Phases.{phase_act, configs_of, settled_of, heard_of, decision, keeps_decide, keeps_commit}
 use Rattle.jh_history.specs.Wants.{goes_on}
 use Rattle.jh_history.specs.Due.{due_at, due, is_idle_but, IsLegal, IsLegalFrom}
-use Rattle.jh_history.proofs.LegalLemmas.{due-split, IsLegal-begin, IsLegal-rest, facts-append}
-use Rattle.jh_laws.specs.Sound.{IsCalm, IsHalted, HasCome, IsAboutLive, IsCreate, IsNews, IsOpen, IsSoundCall, IsSound}
-use Rattle.jh_laws.specs.Ways.{is_phase, is_call, is_decide, is_finish, is_agreement, is_commit, IsNoteOr, MayFollow}
-use Rattle.jh_laws.proofs.SoundCpusLemmas.{come-rests, halting-rests}
-use Rattle.jh_laws.proofs.SoundDueLemmas.{IsNext, next-from_due, Comes, IsOfProgram, IsOfState, state-parts, IsOfCall, call-parts}
+use Rattle.jh_history.proofs.FactsLemmas.{facts-push}
+use Rattle.jh_history.proofs.LegalLemmas.{due-split, IsLegal-begin, IsLegal-rest}
+use Rattle.jh_laws.specs.Sound.{HasCome, IsAboutLive, IsCreate, IsNews, IsOpen, IsSoundCall, IsSound}
+use Rattle.jh_laws.specs.Ways.{is_phase, is_call, is_decide, is_finish, is_agreement, is_commit, call_begun, begun_by, begun, IsBegun, IsNoteOr, IsTelling, IsBehindGo, IsBehindCommit, MayFollow}
+use Rattle.jh_laws.proofs.SoundCpusLemmas.{come-rests, halting-rests, root-unnamed}
+use Rattle.jh_laws.proofs.SoundDueLemmas.{IsNext, next-from_due, Comes, IsOfProgram, state-parts, IsOfCall, call-parts}
 use Rattle.jh_laws.proofs.SoundDecideLemmas.{coming-from_decision}
 use Rattle.jh_laws.proofs.SoundLemmas.{sound-after, legal-sound}
 
@@ -350,9 +350,9 @@ phase-goes image f entry sound due phase more =
     let next = phase_follows image f entry o.caller o.call o.phase (is_idle_but image f o.caller) (sound-open image f o sound of.opens) of.act more in
     let coming : coming_of image f ≡ coming_by image f o.call = ap (option_and_then (λ (c : OpenCall). coming_by image f c.call)) of.opens in
     let behind_it : (after image f entry).call ≡ call_by f.cells (coming_by image f o.call) (Some o) entry entry.act =
-        call-after image f entry
-        ∙ ap (λ (c : Option OpenCall). call_by f.cells (coming_of image f) c entry entry.act) of.opens
-        ∙ ap (λ (k : Option CellConfig). call_by f.cells k (Some o) entry entry.act) coming in
+    call-after image f entry
+    ∙ ap (λ (c : Option OpenCall). call_by f.cells (coming_of image f) c entry entry.act) of.opens
+    ∙ ap (λ (k : Option CellConfig). call_by f.cells k (Some o) entry entry.act) coming in
     (next.0, behind_it ∙ next.1, next.2 ∙ of.caller, next.3)
 
 -- behind a beginning
@@ -426,9 +426,13 @@ waiting_kept image caller call act f entry sound waiting due other =
     let o : OpenCall = waiting.0 in
     ⊎_elim
     (λ made. absurd (other (sym made.0 ∙ waiting.2)))
-    (λ (beside : IsBeside image f o entry).
-    (record { caller = o.caller; call = o.call; phase = counted entry.cell o.call o.phase }, call-counted image f o entry waiting.1 beside.act, waiting.2, waiting.3,
-    λ next h. waiting.4 next (expects-counted entry.cell o.call o.phase next h)))
+    (λ (beside : IsBeside image f o entry). (
+      record { caller = o.caller; call = o.call; phase = counted entry.cell o.call o.phase },
+      call-counted image f o entry waiting.1 beside.act,
+      waiting.2,
+      waiting.3,
+      λ next h. waiting.4 next (expects-counted entry.cell o.call o.phase next h),
+    ))
     (entry-of_call image f o entry sound waiting.1 due)
 
 waiting_next : (image : Image) (caller : ℕ) (call : Call) (act : Act) (f : Facts) (entry : Entry) → IsSound image f → IsWaiting caller call act f → due_at image f entry.cpu ≡ Some entry → entry.cpu ≡ caller → MayFollow call act entry.act
@@ -450,7 +454,7 @@ follows image before middle rest first last admitted legal call more others own 
     let o : OpenCall = goes.0 in
     let waiting : IsWaiting first.cpu o.call first.act f = (o, goes.1, goes.2, refl, goes.3) in
     let end = along image (IsWaiting first.cpu o.call first.act) (λ (e : Entry). e.cpu ≢ first.cpu) (waiting_kept image first.cpu o.call first.act) f middle
-        (sound-after image (facts image before) first s.sound s.first_due) waiting s.between others in
+    (sound-after image (facts image before) first s.sound s.first_due) waiting s.between others in
     (o, goes.1, waiting_next image first.cpu o.call first.act (fold (after image) f middle) last end.0 end.1 s.last_due own)
 
 -- ---- suspension
@@ -487,6 +491,295 @@ past-other image f o entry sound is past due other root =
     beside.who)
     (entry-of_call image f o entry sound is due)
 
--- behind a Decide the call is past it
-not_again : (call : Call) (refused : Option ℤ) → MayFollow call (Decide refused) (Decide None) → ⊥
-not_again call refused h = ?
+-- two acts that a test tells apart
+not_same : (test : Act → Bool) (one other : Act) → test one ≡ true → test other ≡ false → one ≡ other → ⊥
+not_same test one other passes fails same = both_ways (test other) fails (sym (ap test same) ∙ passes)
+
+never_behind_go : (call : Call) → IsBehindGo call (Decide None) → ⊥
+never_behind_go (Create at) h = not_same is_decide (Decide None) Commit refl refl h
+never_behind_go (Start id) h = not_same is_decide (Decide None) (Settle h.0) refl refl h.1
+never_behind_go (Loadable id) h = not_same is_decide (Decide None) (Settle h.0) refl refl h.1
+never_behind_go (Destroy id) h = not_same is_decide (Decide None) (Settle h.0) refl refl h.1
+never_behind_go (Info kind) h = not_same is_decide (Decide None) (Settle h.0) refl refl h.1
+never_behind_go (State id) h = not_same is_decide (Decide None) (Settle h.0) refl refl h.1
+never_behind_go (CpuInfo cpu kind) h = not_same is_decide (Decide None) (Settle h.0) refl refl h.1
+never_behind_go Unknown h = not_same is_decide (Decide None) (Settle h.0) refl refl h.1
+
+never_note : (answers : ℤ → Type 0) → IsNoteOr answers (Decide None) → ⊥
+never_note answers h = ⊎_elim (λ note. not_same is_decide (Decide None) (Note note.0) refl refl note.1) (λ ends. not_same is_decide (Decide None) (Finish ends.0) refl refl ends.2) h
+
+never_telling : (call : Call) → IsTelling call (Decide None) → ⊥
+never_telling (Create at) h = never_note (λ (answer : ℤ). (id : ℕ) × (answer ≡ pos id)) h
+never_telling (Destroy id) h = never_note (λ (answer : ℤ). answer ≡ pos 0) h
+never_telling (Start id) h = h
+never_telling (Loadable id) h = h
+never_telling (Info kind) h = h
+never_telling (State id) h = h
+never_telling (CpuInfo cpu kind) h = h
+never_telling Unknown h = h
+
+never_behind_commit : (call : Call) → IsBehindCommit call (Decide None) → ⊥
+never_behind_commit (Create at) h = never_telling (Create at) h
+never_behind_commit (Start id) h = not_same is_decide (Decide None) (Finish (pos 0)) refl refl h
+never_behind_commit (Loadable id) h = not_same is_decide (Decide None) (Finish (pos 0)) refl refl h
+never_behind_commit (Destroy id) h = never_telling (Destroy id) h
+never_behind_commit (Info kind) h = h
+never_behind_commit (State id) h = h
+never_behind_commit (CpuInfo cpu kind) h = h
+never_behind_commit Unknown h = h
+
+-- a Decide follows the beginning alone
+never_decide : (call : Call) (act : Act) → is_phase act ≡ true → MayFollow call act (Decide None) → ⊥
+never_decide call (Decide (Some number)) phase h = not_same is_decide (Decide None) (Finish number) refl refl h
+never_decide call (Decide None) phase h = never_behind_go call h
+never_decide call (Settle Agreed) phase h = not_same is_decide (Decide None) Commit refl refl h
+never_decide call (Settle Timeout) phase h = not_same is_decide (Decide None) Commit refl refl h
+never_decide call (Settle Denied) phase h = not_same is_decide (Decide None) (Finish EPERM) refl refl h
+never_decide call Commit phase h = never_behind_commit call h
+never_decide call (Note id) phase h = not_same is_decide (Decide None) (Noted id h.0) refl refl h.1
+never_decide call (Noted id how) phase h = never_telling call h
+never_decide call (Finish answer) phase h = h
+never_decide call (Begin code a b) phase h = both_ways false refl phase
+never_decide call (Read width at got) phase h = h
+never_decide call (Write width at value ok) phase h = h
+never_decide call (Fetch at got) phase h = h
+never_decide call (Await width at value ok) phase h = h
+never_decide call (Irq device vector) phase h = h
+never_decide call (Hvc code a b answer) phase h = h
+never_decide call Stop phase h = h
+
+-- so behind each phase the call is past it
+past_from : (call : Call) (act : Act) (phase : Phase) → is_phase act ≡ true → ((next : Act) → Expects phase next → MayFollow call act next) → IsPast phase
+past_from call act ToDecide is h = never_decide call act is (h (Decide None) (None, refl))
+past_from call act (ToSettle waited) is h = tt
+past_from call act (ToCreate config) is h = tt
+past_from call act ToCommit is h = tt
+past_from call act (ToNote id about answer) is h = tt
+past_from call act (ToNoted id about answer waited) is h = tt
+past_from call act (ToFinish answer) is h = tt
+
+past_counted : (cell : ℕ) (call : Call) (phase : Phase) → IsPast phase → IsPast (counted cell call phase)
+past_counted cell call ToDecide past = absurd past
+past_counted cell call (ToSettle waited) past = cond_both (is_named call cell) (ToSettle (one_more waited)) (ToSettle waited) IsPast (λ _. tt) (λ _. tt)
+past_counted cell call (ToCreate config) past = tt
+past_counted cell call ToCommit past = tt
+past_counted cell call (ToNote id about answer) past = tt
+past_counted cell call (ToNoted id about answer waited) past = cond_both (eqb cell id) (ToNoted id about answer (one_more waited)) (ToNoted id about answer waited) IsPast (λ _. tt) (λ _. tt)
+past_counted cell call (ToFinish answer) past = tt
+
+phase_expected : (phase : Phase) (act : Act) → Expects phase act → is_phase act ≡ true
+phase_expected ToDecide act h = ap is_phase h.1
+phase_expected (ToSettle waited) act h = ap is_phase h.1
+phase_expected (ToCreate config) act h = ap is_phase h
+phase_expected ToCommit act h = ap is_phase h
+phase_expected (ToNote id about answer) act h = ap is_phase h
+phase_expected (ToNoted id about answer waited) act h = ap is_phase h.1
+phase_expected (ToFinish answer) act h = ap is_phase h
+
+suspending_kept : (image : Image) (caller : ℕ) (f : Facts) (entry : Entry) → IsSound image f → IsSuspending caller f → due_at image f entry.cpu ≡ Some entry → is_finish entry.act ≡ false → IsSuspending caller (after image f entry)
+suspending_kept image caller f entry sound suspending due more =
+    let o : OpenCall = suspending.0 in
+    ⊎_elim
+    (λ made.
+    let phase : is_phase entry.act ≡ true = phase_expected o.phase entry.act (phase-expects image f (is_idle_but image f o.caller) o.caller o.call o.phase entry.act made.1) in
+    let goes = phase-goes image f entry sound due phase more in
+    (goes.0, goes.1, goes.2 ∙ sym made.0 ∙ suspending.2, past_from goes.0.call entry.act goes.0.phase phase goes.3))
+    (λ (beside : IsBeside image f o entry). (
+      record { caller = o.caller; call = o.call; phase = counted entry.cell o.call o.phase },
+      call-counted image f o entry suspending.1 beside.act,
+      suspending.2,
+      past_counted entry.cell o.call o.phase suspending.3,
+    ))
+    (entry-of_call image f o entry sound suspending.1 due)
+
+decide_phase : (act : Act) → is_decide act ≡ true → (is_phase act ≡ true) × (is_finish act ≡ false)
+decide_phase (Decide refused) h = (refl, refl)
+decide_phase (Settle how) h = absurd (both_ways false refl h)
+decide_phase Commit h = absurd (both_ways false refl h)
+decide_phase (Note id) h = absurd (both_ways false refl h)
+decide_phase (Noted id how) h = absurd (both_ways false refl h)
+decide_phase (Finish answer) h = absurd (both_ways false refl h)
+decide_phase (Begin code a b) h = absurd (both_ways false refl h)
+decide_phase (Read width at got) h = absurd (both_ways false refl h)
+decide_phase (Write width at value ok) h = absurd (both_ways false refl h)
+decide_phase (Fetch at got) h = absurd (both_ways false refl h)
+decide_phase (Await width at value ok) h = absurd (both_ways false refl h)
+decide_phase (Irq device vector) h = absurd (both_ways false refl h)
+decide_phase (Hvc code a b answer) h = absurd (both_ways false refl h)
+decide_phase Stop h = absurd (both_ways false refl h)
+
+-- from a Decide to the end of its call an entry of root is its caller's
+pub suspended-roots : (image : Image) (before middle rest : List Entry) (first last : Entry) → IsAdmitted image → IsLegal image (before ++ first ∷ (middle ++ last ∷ rest))
+    → is_decide first.act ≡ true → All (λ (e : Entry). is_finish e.act ≡ false) middle → last.cell ≡ image.system.root.id → last.cpu ≡ first.cpu
+suspended-roots image before middle rest first last admitted legal decides others root =
+    let s = stretch image before middle rest first last admitted legal in
+    let f : Facts = after image (facts image before) first in
+    let act = decide_phase first.act decides in
+    let goes = phase-goes image (facts image before) first s.sound s.first_due act.0 act.1 in
+    let start_at : IsSuspending first.cpu f = (goes.0, goes.1, goes.2, past_from goes.0.call first.act goes.0.phase act.0 goes.3) in
+    let end = along image (IsSuspending first.cpu) (λ (e : Entry). is_finish e.act ≡ false) (suspending_kept image first.cpu) f middle
+    (sound-after image (facts image before) first s.sound s.first_due) start_at s.between others in
+    let there : Facts = fold (after image) f middle in
+    ⊎_elim
+    (λ (same : eqb last.cpu first.cpu ≡ true). eqb-true last.cpu first.cpu same)
+    (λ (apart : eqb last.cpu first.cpu ≡ false).
+    absurd (past-other image there end.1.0 last end.0 end.1.1 end.1.3 s.last_due (λ e. both_ways (eqb last.cpu first.cpu) apart (eq-eqb last.cpu first.cpu (e ∙ end.1.2))) root))
+    (cases_Bool (eqb last.cpu first.cpu))
+
+-- the call is about to be committed
+abbrev IsCommitting : Call → Facts → Type 0
+IsCommitting call f = (caller : ℕ) × (f.call ≡ Some (record { caller = caller; call = call; phase = ToCommit }))
+
+committing_kept : (image : Image) (call : Call) (f : Facts) (entry : Entry) → IsSound image f → IsCommitting call f → due_at image f entry.cpu ≡ Some entry → is_commit entry.act ≡ false → IsCommitting call (after image f entry)
+committing_kept image call f entry sound committing due more =
+    let o : OpenCall = record { caller = committing.0; call = call; phase = ToCommit } in
+    ⊎_elim
+    (λ made. absurd (both_ways (is_commit entry.act) more (ap is_commit (phase-expects image f (is_idle_but image f o.caller) o.caller call ToCommit entry.act made.1))))
+    (λ (beside : IsBeside image f o entry). (committing.0, call-counted image f o entry committing.1 beside.act))
+    (entry-of_call image f o entry sound committing.1 due)
+
+committing_stops : (image : Image) (call : Call) (f : Facts) (entry : Entry) → IsSound image f → IsCommitting call f → due_at image f entry.cpu ≡ Some entry → is_named call entry.cell ≡ true → entry.act ≡ Stop
+committing_stops image call f entry sound committing due named =
+    let o : OpenCall = record { caller = committing.0; call = call; phase = ToCommit } in
+    let opens = sound-open image f o sound committing.1 in
+    let next = next-from_due image f entry due in
+    let unnamed = root-unnamed image.system (configs_of f.cells) call sound.cells opens.phase in
+    let P : ℕ → Type 0 = λ k. (f.cpu k).owner ≡ image.system.root.id in
+    let apart : (f.cpu entry.cpu).owner ≢ image.system.root.id = λ root. both_ways (is_named call entry.cell) (ap (is_named call) (next.cell ∙ root) ∙ unnamed) named in
+    ⊎_elim
+    (λ made. absurd (apart (subst P made.0 opens.caller.owner)))
+    (λ (beside : IsBeside image f o entry).
+    ⊎_elim
+    (λ stops. sym stops.1)
+    (λ goes. absurd (halting-rests (f.cpu entry.cpu) ((opens.cells entry.cpu apart).0 (ap (is_named call) (sym next.cell) ∙ named)) goes.0))
+    beside.who)
+    (entry-of_call image f o entry sound committing.1 due)
+
+agreement_settles : (act : Act) → is_agreement act ≡ true → (how : Settled) × (act ≡ Settle how) × (after_settle how ≡ ToCommit) × (is_phase act ≡ true)
+agreement_settles (Settle Agreed) h = (Agreed, refl, refl, refl)
+agreement_settles (Settle Timeout) h = (Timeout, refl, refl, refl)
+agreement_settles (Settle Denied) h = absurd (both_ways false refl h)
+agreement_settles (Decide refused) h = absurd (both_ways false refl h)
+agreement_settles Commit h = absurd (both_ways false refl h)
+agreement_settles (Note id) h = absurd (both_ways false refl h)
+agreement_settles (Noted id how) h = absurd (both_ways false refl h)
+agreement_settles (Finish answer) h = absurd (both_ways false refl h)
+agreement_settles (Begin code a b) h = absurd (both_ways false refl h)
+agreement_settles (Read width at got) h = absurd (both_ways false refl h)
+agreement_settles (Write width at value ok) h = absurd (both_ways false refl h)
+agreement_settles (Fetch at got) h = absurd (both_ways false refl h)
+agreement_settles (Await width at value ok) h = absurd (both_ways false refl h)
+agreement_settles (Irq device vector) h = absurd (both_ways false refl h)
+agreement_settles (Hvc code a b answer) h = absurd (both_ways false refl h)
+agreement_settles Stop h = absurd (both_ways false refl h)
+
+settled_call : (image : Image) (f : Facts) (o : OpenCall) (entry : Entry) (how : Settled) → f.call ≡ Some o → entry.act ≡ Settle how → after_settle how ≡ ToCommit
+    → (after image f entry).call ≡ Some (record { caller = o.caller; call = o.call; phase = ToCommit })
+settled_call image f o entry how opens act commits =
+    call-after image f entry
+    ∙ ap (λ (c : Option OpenCall). call_by f.cells (coming_of image f) c entry entry.act) opens
+    ∙ ap (λ (x : Act). call_by f.cells (coming_of image f) (Some o) entry x) act
+    ∙ ap (λ (p : Phase). Some (record { caller = o.caller; call = o.call; phase = p })) commits
+
+-- ---- the call that was begun
+
+begun_kept : (b : Option Entry) (call : Option OpenCall) (g : OpenCall → Phase) → IsBegun b call → IsBegun b (option_map (λ (o : OpenCall). record { caller = o.caller; call = o.call; phase = g o }) call)
+begun_kept None None g h = h
+begun_kept None (Some o) g h = absurd h
+begun_kept (Some entry) None g h = absurd h
+begun_kept (Some entry) (Some o) g h = h
+
+begun_act : (cells : List Live) (coming : Option CellConfig) (b : Option Entry) (call : Option OpenCall) (entry : Entry) (act : Act) → entry.act ≡ act → IsBegun b call → IsBegun (begun_by b entry act) (call_by cells coming call entry act)
+begun_act cells coming b call entry (Begin code a c) is h = (refl, sym (ap call_begun is))
+begun_act cells coming b call entry (Finish answer) is h = tt
+begun_act cells coming b call entry (Decide refused) is h = begun_kept b call (λ (o : OpenCall). phase_after cells coming entry.cell o.call o.phase (Decide refused)) h
+begun_act cells coming b call entry (Settle how) is h = begun_kept b call (λ (o : OpenCall). phase_after cells coming entry.cell o.call o.phase (Settle how)) h
+begun_act cells coming b call entry Commit is h = begun_kept b call (λ (o : OpenCall). phase_after cells coming entry.cell o.call o.phase Commit) h
+begun_act cells coming b call entry (Note id) is h = begun_kept b call (λ (o : OpenCall). phase_after cells coming entry.cell o.call o.phase (Note id)) h
+begun_act cells coming b call entry (Noted id how) is h = begun_kept b call (λ (o : OpenCall). phase_after cells coming entry.cell o.call o.phase (Noted id how)) h
+begun_act cells coming b call entry (Read width at got) is h = begun_kept b call (λ (o : OpenCall). phase_after cells coming entry.cell o.call o.phase (Read width at got)) h
+begun_act cells coming b call entry (Write width at value ok) is h = begun_kept b call (λ (o : OpenCall). phase_after cells coming entry.cell o.call o.phase (Write width at value ok)) h
+begun_act cells coming b call entry (Fetch at got) is h = begun_kept b call (λ (o : OpenCall). phase_after cells coming entry.cell o.call o.phase (Fetch at got)) h
+begun_act cells coming b call entry (Await width at value ok) is h = begun_kept b call (λ (o : OpenCall). phase_after cells coming entry.cell o.call o.phase (Await width at value ok)) h
+begun_act cells coming b call entry (Irq device vector) is h = begun_kept b call (λ (o : OpenCall). phase_after cells coming entry.cell o.call o.phase (Irq device vector)) h
+begun_act cells coming b call entry (Hvc code a c answer) is h = begun_kept b call (λ (o : OpenCall). phase_after cells coming entry.cell o.call o.phase (Hvc code a c answer)) h
+begun_act cells coming b call entry Stop is h = begun_kept b call (λ (o : OpenCall). phase_after cells coming entry.cell o.call o.phase Stop) h
+
+begun_from : (image : Image) (f : Facts) (b : Option Entry) (entries : List Entry) → IsBegun b f.call → IsBegun (fold (λ (x : Option Entry) (entry : Entry). begun_by x entry entry.act) b entries) (fold (after image) f entries).call
+begun_from image f b [] h = h
+begun_from image f b (entry ∷ entries) h =
+    let P : Option OpenCall → Type 0 = IsBegun (begun_by b entry entry.act) in
+    begun_from image (after image f entry) (begun_by b entry entry.act) entries
+    (subst P (sym (call-after image f entry)) (begun_act f.cells (coming_of image f) b f.call entry entry.act refl h))
+
+pub begun-call : (image : Image) (entries : List Entry) → IsBegun (begun entries) (facts image entries).call
+unfolding facts
+begun-call image entries = begun_from image (start image) None entries tt
+
+begun_none : (b : Option Entry) (call : Option OpenCall) → call ≡ None → IsBegun b call → b ≡ None
+begun_none None call is h = refl
+begun_none (Some entry) None is h = absurd h
+begun_none (Some entry) (Some o) is h = absurd (none-some o (sym is))
+
+begun_some : (b : Option Entry) (call : Option OpenCall) (o : OpenCall) → call ≡ Some o → IsBegun b call → (first : Entry) × (b ≡ Some first) × (o.caller ≡ first.cpu) × (o.call ≡ call_begun first.act)
+begun_some None None o is h = absurd (none-some o is)
+begun_some None (Some p) o is h = absurd h
+begun_some (Some entry) None o is h = absurd h
+begun_some (Some entry) (Some p) o is h =
+    let e : p ≡ o = same_Some p o is in
+    (entry, refl, sym (ap (λ (x : OpenCall). x.caller) e) ∙ h.0, sym (ap (λ (x : OpenCall). x.call) e) ∙ h.1)
+
+-- what the call that is open says of the one that was begun
+pub begun-of : (image : Image) (entries : List Entry) (o : OpenCall) → (facts image entries).call ≡ Some o → (first : Entry) × (begun entries ≡ Some first) × (o.caller ≡ first.cpu) × (o.call ≡ call_begun first.act)
+begun-of image entries o is = begun_some (begun entries) (facts image entries).call o is (begun-call image entries)
+
+begin_none_by : (image : Image) (f : Facts) (entry : Entry) (code a b : ℕ) (call : Option OpenCall) → entry.act ≡ Begin code a b → IsSound image f → f.call ≡ call → due_at image f entry.cpu ≡ Some entry → f.call ≡ None
+begin_none_by image f entry code a b None act sound is due = is
+begin_none_by image f entry code a b (Some o) act sound is due =
+    ⊎_elim
+    (λ made. absurd (both_ways (is_phase entry.act) (ap is_phase act) (phase_expected o.phase entry.act (phase-expects image f (is_idle_but image f o.caller) o.caller o.call o.phase entry.act made.1))))
+    (λ (beside : IsBeside image f o entry). absurd (both_ways (is_call entry.act) beside.act (ap is_call act)))
+    (entry-of_call image f o entry sound is due)
+
+-- none begins while another is open
+pub begins-alone : (image : Image) (before rest : List Entry) (entry : Entry) (code a b : ℕ) → IsAdmitted image → IsLegal image (before ++ entry ∷ rest) → entry.act ≡ Begin code a b → begun before ≡ None
+begins-alone image before rest entry code a b admitted legal act =
+    let f : Facts = facts image before in
+    let sound = legal-sound image before admitted (IsLegal-begin image before (entry ∷ rest) legal) in
+    begun_none (begun before) f.call (begin_none_by image f entry code a b f.call act sound refl (due-split image before rest entry legal)) (begun-call image before)
+
+-- a phase is the caller's
+pub phases-own : (image : Image) (before rest : List Entry) (entry : Entry) → IsAdmitted image → IsLegal image (before ++ entry ∷ rest) → is_phase entry.act ≡ true → (first : Entry) × (begun before ≡ Some first) × (first.cpu ≡ entry.cpu)
+phases-own image before rest entry admitted legal phase =
+    let f : Facts = facts image before in
+    let sound = legal-sound image before admitted (IsLegal-begin image before (entry ∷ rest) legal) in
+    let of = phase-of_due image f entry sound (due-split image before rest entry legal) phase in
+    let first = begun-of image before of.o of.opens in
+    (first.0, first.1, sym first.2 ∙ of.caller)
+
+-- what may follow, by the beginning of the call
+pub follows-begun : (image : Image) (before middle rest : List Entry) (one next : Entry) → IsAdmitted image → IsLegal image (before ++ one ∷ (middle ++ next ∷ rest))
+    → is_call one.act ≡ true → is_finish one.act ≡ false → All (λ (e : Entry). e.cpu ≢ one.cpu) middle → next.cpu ≡ one.cpu
+    → (first : Entry) × (begun (before ++ one ∷ []) ≡ Some first) × MayFollow (call_begun first.act) one.act next.act
+follows-begun image before middle rest one next admitted legal call more others own =
+    let h = follows image before middle rest one next admitted legal call more others own in
+    let first = begun-of image (before ++ one ∷ []) h.0 (ap (λ (f : Facts). f.call) (facts-push image before one) ∙ h.1) in
+    let P : Call → Type 0 = λ k. MayFollow k one.act next.act in
+    (first.0, first.1, subst P first.3 h.2)
+
+-- from a Settle that isn't denied to the Commit the CPUs of the cell stop
+pub suspended-cells : (image : Image) (before middle rest : List Entry) (first settle last : Entry) → IsAdmitted image → IsLegal image (before ++ settle ∷ (middle ++ last ∷ rest))
+    → is_agreement settle.act ≡ true → All (λ (e : Entry). is_commit e.act ≡ false) middle → begun before ≡ Some first → is_named (call_begun first.act) last.cell ≡ true → last.act ≡ Stop
+suspended-cells image before middle rest first settle last admitted legal agreed others is named =
+    let s = stretch image before middle rest settle last admitted legal in
+    let f0 : Facts = facts image before in
+    let f : Facts = after image f0 settle in
+    let how = agreement_settles settle.act agreed in
+    let of = phase-of_due image f0 settle s.sound s.first_due how.3 in
+    let o : OpenCall = of.o in
+    let begins = begun-of image before o of.opens in
+    let same : first ≡ begins.0 = same_Some first begins.0 (sym is ∙ begins.1) in
+    let call : call_begun first.act ≡ o.call = ap (λ (e : Entry). call_begun e.act) same ∙ sym begins.3 in
+    let end = along image (IsCommitting o.call) (λ (e : Entry). is_commit e.act ≡ false) (committing_kept image o.call) f middle
+    (sound-after image f0 settle s.sound s.first_due) (o.caller, settled_call image f0 o settle how.0 of.opens how.1 how.2) s.between others in
+    committing_stops image o.call (fold (after image) f middle) last end.0 end.1 s.last_due (ap (λ (k : Call). is_named k last.cell) (sym call) ∙ named)

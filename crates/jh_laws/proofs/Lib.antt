@@ -14,3 +14,4 @@ pub mod SoundStepLemmas
 pub mod SoundDecideLemmas
 pub mod SoundCommitLemmas
 pub mod SoundLemmas
+pub mod CallLemmas

@@ -6,3 +6,5 @@ pub mod Moves
 pub mod Operations
 pub mod Runs
 pub mod Sound
+pub mod Moments
+pub mod Ways

@@ -2,8 +2,6 @@
 -- open after entries of one.
 use Rattle.std.specs.Prelude.{ℕ, List, [], ◌∷◌, ◌++◌, Option}
 use Rattle.jh_cellcfg.specs.declared.config.CellConfig.{CellConfig}
-use Rattle.jh_cellcfg.specs.declared.live.Live.{Live}
-use Rattle.jh_cpu.specs.declared.cpu.Cpu.{Cpu}
 use Rattle.jh_script.specs.declared.image.Image.{Image}
 use Rattle.jh_history.specs.declared.call.OpenCall.{OpenCall}
 use Rattle.jh_history.specs.declared.entry.Entry.{Entry}

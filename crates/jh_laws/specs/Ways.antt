@@ -1,5 +1,5 @@
 -- The ways of management calls: which entries are theirs, and which may follow which.
-use Rattle.std.specs.Prelude.{◌≡◌, ◌⊎◌, ℕ, ℤ, pos, Bool, true, false, List, [], ◌∷◌, fold, Option, Some, None}
+use Rattle.std.specs.Prelude.{◌≡◌, ◌⊎◌, ℕ, ℤ, pos, Bool, true, false, List, fold, Option, Some, None}
 use Rattle.jh_num.specs.declared.error.TheConstants.{EPERM}
 use Rattle.jh_call.specs.declared.call.Call.{Call}
 use Rattle.jh_call.specs.declared.call.Call.TheVariants.{Create, Start, Loadable, Destroy, Unknown}
@@ -54,9 +54,9 @@ is_agreement (Settle Timeout) = true
 is_agreement _ = false
 
 -- the call that the act begins
-abbrev pub call_by : Act → Call
-call_by (Begin code a b) = decoded code a b
-call_by _ = Unknown
+abbrev pub call_begun : Act → Call
+call_begun (Begin code a b) = decoded code a b
+call_begun _ = Unknown
 
 -- ---- which call is open
 
@@ -74,7 +74,7 @@ abbrev pub IsBegun : Option Entry → Option OpenCall → Type 0
 IsBegun None None = Unit {0}
 IsBegun None (Some o) = ⊥
 IsBegun (Some entry) None = ⊥
-IsBegun (Some entry) (Some o) = (o.caller ≡ entry.cpu) × (o.call ≡ call_by entry.act)
+IsBegun (Some entry) (Some o) = (o.caller ≡ entry.cpu) × (o.call ≡ call_begun entry.act)
 
 -- ---- what follows what
 

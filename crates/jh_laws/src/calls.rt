@@ -7,7 +7,7 @@ ghost use Rattle.jh_history.specs.Due.{IsLegal};
 ghost use Rattle.jh_history.specs.Admitted.{IsAdmitted};
 ghost use Rattle.jh_history.specs.Calls.{is_named};
 ghost use Rattle.jh_laws.specs.Moments.{AdmittedJournal, AdmittedMoment, call_of};
-ghost use Rattle.jh_laws.specs.Ways.{is_call, is_phase, is_decide, is_agreement, is_commit, is_finish, begun, call_by, IsBegun, MayFollow};
+ghost use Rattle.jh_laws.specs.Ways.{is_call, is_phase, is_decide, is_agreement, is_commit, is_finish, begun, call_begun, IsBegun, MayFollow};
 
 /// The call that is open is the last that was begun and not ended, and its CPU is the caller. None begins while
 /// another is open, and each of its phases is an entry of its caller.
@@ -23,7 +23,7 @@ pub fn calls_go_phase_by_phase()
     ensures { (image : TheImage) (before middle rest : List TheEntry) (one next : TheEntry) → IsAdmitted image →
         IsLegal image (before ++ one ∷ (middle ++ next ∷ rest)) → is_call one.act ≡ true → is_finish one.act ≡ false →
         All (λ (e : TheEntry). e.cpu ≢ one.cpu) middle → next.cpu ≡ one.cpu →
-        (first : TheEntry) × (begun (before ++ one ∷ []) ≡ Some first) × MayFollow (call_by first.act) one.act next.act }
+        (first : TheEntry) × (begun (before ++ one ∷ []) ≡ Some first) × MayFollow (call_begun first.act) one.act next.act }
 {}
 
 /// From a Decide to the end of its call no CPU of root but the caller makes an entry. From a Settle that isn't
@@ -36,5 +36,5 @@ pub fn suspended_cpus_make_no_entry()
     ensures cells { (image : TheImage) (before middle rest : List TheEntry) (first settle entry : TheEntry) → IsAdmitted image →
         IsLegal image (before ++ settle ∷ (middle ++ entry ∷ rest)) → is_agreement settle.act ≡ true →
         All (λ (e : TheEntry). is_commit e.act ≡ false) middle →
-        begun before ≡ Some first → is_named (call_by first.act) entry.cell ≡ true → entry.act ≡ Stop }
+        begun before ≡ Some first → is_named (call_begun first.act) entry.cell ≡ true → entry.act ≡ Stop }
 {}
