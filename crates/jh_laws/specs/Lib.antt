@@ -5,3 +5,6 @@ pub mod Writes
 pub mod Moves
 pub mod Operations
 pub mod Runs
+pub mod Sound
+pub mod Moments
+pub mod Ways
