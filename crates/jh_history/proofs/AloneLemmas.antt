@@ -1,5 +1,5 @@
--- Root lives alone where the image is built: no program has a hypercall, so no entry that is due is a phase of
--- a management call, and none makes another cell.
+-- Root lives alone where no program has a hypercall: no entry that is due is a phase of a management call, so none
+-- makes another cell.
 use Rattle.std.proofs.Common.{◌≡◌, ℕ, zero, suc, List, [], ◌∷◌, ◌++◌, Bool, true, false, cond, eqb, Option, Some, None, refl, sym, ap, subst, ◌∙◌}
 use Rattle.std.specs.Prelude.{option_map, option_and_then, is_some, IfSome, slice_get}
 use Rattle.std.specs.List.{fold, AllByRecursion}
@@ -37,7 +37,7 @@ use Rattle.jh_history.specs.Pages.{failing, unless_good, page_write_by, with_pag
 use Rattle.jh_history.specs.Bytes.{byte_written, byte_after}
 use Rattle.jh_history.specs.History.{start, after, facts, coming_of}
 use Rattle.jh_history.specs.Wants.{pending_op, goes_on}
-use Rattle.jh_history.specs.Admitted.{IsBuilt, IsNoCall}
+use Rattle.jh_history.specs.Admitted.{HasNoCall, IsNoCall}
 use Rattle.jh_history.specs.Due.{due_at, state_act, next_act, act_of, await_of, entry_by, IsLegal, IsLegalFrom}
 use Rattle.jh_history.specs.Alone.{IsAlone, IsByRoot, is_phase}
 use Rattle.jh_history.proofs.AdmittedLemmas.{program_of-all}
@@ -90,33 +90,33 @@ own_op : (image : Image) (f : Facts) (cell : ℕ) (o : Option Op) → IfSome o I
 own_op image f cell None no_call = tt
 own_op image f cell (Some op) no_call = own_act image f cell op no_call
 
--- no program of an image that is built has a hypercall
+-- no program of such an image has a hypercall
 no_call_at : (ops : List Op) (i : ℕ) → AllByRecursion IsNoCall ops → IfSome (slice_get ops i) IsNoCall
 no_call_at [] i all = tt
 no_call_at (op ∷ ops) zero all = all.0
 no_call_at (op ∷ ops) (suc i) all = no_call_at ops i all.1
 
-no_calls_by : (image : Image) (cpu : ℕ) (cell : Option CellConfig) → IsBuilt image
+no_calls_by : (image : Image) (cpu : ℕ) (cell : Option CellConfig) → HasNoCall image
     → AllByRecursion IsNoCall (option_map_or (λ (c : CellConfig). program_of image (name_of c) cpu) cell [])
-no_calls_by image cpu (Some c) built = recursion_from_All IsNoCall (program_of image (name_of c) cpu) (program_of-all IsNoCall image (name_of c) cpu built.calls)
-no_calls_by image cpu None built = tt
+no_calls_by image cpu (Some c) silent = recursion_from_All IsNoCall (program_of image (name_of c) cpu) (program_of-all IsNoCall image (name_of c) cpu silent)
+no_calls_by image cpu None silent = tt
 
-no_call_pending : (image : Image) (f : Facts) (state : Cpu) (cpu : ℕ) (b : Bool) → IsBuilt image → IfSome (cond b (op_at image f state cpu) None) IsNoCall
-no_call_pending image f state cpu true built = no_call_at (ops_in image f.cells state.owner cpu) state.position (no_calls_by image cpu (cell_in image f.cells state.owner) built)
-no_call_pending image f state cpu false built = tt
+no_call_pending : (image : Image) (f : Facts) (state : Cpu) (cpu : ℕ) (b : Bool) → HasNoCall image → IfSome (cond b (op_at image f state cpu) None) IsNoCall
+no_call_pending image f state cpu true silent = no_call_at (ops_in image f.cells state.owner cpu) state.position (no_calls_by image cpu (cell_in image f.cells state.owner) silent)
+no_call_pending image f state cpu false silent = tt
 
-own_state : (image : Image) (f : Facts) (state : Cpu) (cpu : ℕ) (asked : Bool) → IsBuilt image → IfSome (cond asked (Some Stop) (option_and_then (act_of image f state.owner) (pending_op image f state cpu))) IsOwn
-own_state image f state cpu true built = refl
-own_state image f state cpu false built = own_op image f state.owner (pending_op image f state cpu) (no_call_pending image f state cpu (goes_on state) built)
+own_state : (image : Image) (f : Facts) (state : Cpu) (cpu : ℕ) (asked : Bool) → HasNoCall image → IfSome (cond asked (Some Stop) (option_and_then (act_of image f state.owner) (pending_op image f state cpu))) IsOwn
+own_state image f state cpu true silent = refl
+own_state image f state cpu false silent = own_op image f state.owner (pending_op image f state cpu) (no_call_pending image f state cpu (goes_on state) silent)
 
 -- no CPU is the caller of a call where none is open
 pub next_act-alone : (image : Image) (f : Facts) (state : Cpu) (cpu : ℕ) → f.call ≡ None → next_act image f state cpu ≡ state_act image f state cpu
 next_act-alone image f state cpu none = rw none refl
 
-own_next : (image : Image) (f : Facts) (state : Cpu) (cpu : ℕ) → IsBuilt image → f.call ≡ None → IfSome (next_act image f state cpu) IsOwn
-own_next image f state cpu built none =
+own_next : (image : Image) (f : Facts) (state : Cpu) (cpu : ℕ) → HasNoCall image → f.call ≡ None → IfSome (next_act image f state cpu) IsOwn
+own_next image f state cpu silent none =
     let P : Option Act → Type 0 = λ o. IfSome o IsOwn in
-    subst P (sym (next_act-alone image f state cpu none)) (own_state image f state cpu state.asked built)
+    subst P (sym (next_act-alone image f state cpu none)) (own_state image f state cpu state.asked silent)
 
 roots_entry : (image : Image) (cpu cell : ℕ) (entry : Entry) (o : Option Act) → IfSome o IsOwn → cell ≡ image.system.root.id → option_map (entry_by cpu cell) o ≡ Some entry → IsByRoot image entry
 roots_entry image cpu cell entry None own is h = absurd (none-some entry h)
@@ -124,14 +124,14 @@ roots_entry image cpu cell entry (Some act) own is h =
     let P : Entry → Type 0 = IsByRoot image in
     subst P (same_Some (entry_by cpu cell act) entry h) (record { cell = is; act = own })
 
-roots_at : (image : Image) (f : Facts) (cpu : ℕ) (entry : Entry) (b : Bool) → IsBuilt image → IsAlone image f → is_on_board image cpu ≡ b → due_at image f cpu ≡ Some entry → IsByRoot image entry
-roots_at image f cpu entry true built alone e h =
-    roots_entry image cpu (f.cpu cpu).owner entry (next_act image f (f.cpu cpu) cpu) (own_next image f (f.cpu cpu) cpu built alone.call) (alone.owners cpu) (sym (due_at-present image f cpu e) ∙ h)
-roots_at image f cpu entry false built alone e h = absurd (none-some entry (sym (due_at-absent image f cpu e) ∙ h))
+roots_at : (image : Image) (f : Facts) (cpu : ℕ) (entry : Entry) (b : Bool) → HasNoCall image → IsAlone image f → is_on_board image cpu ≡ b → due_at image f cpu ≡ Some entry → IsByRoot image entry
+roots_at image f cpu entry true silent alone e h =
+    roots_entry image cpu (f.cpu cpu).owner entry (next_act image f (f.cpu cpu) cpu) (own_next image f (f.cpu cpu) cpu silent alone.call) (alone.owners cpu) (sym (due_at-present image f cpu e) ∙ h)
+roots_at image f cpu entry false silent alone e h = absurd (none-some entry (sym (due_at-absent image f cpu e) ∙ h))
 
 -- where root is alone, an entry that is due is root's
-pub due_at-roots : (image : Image) (f : Facts) (cpu : ℕ) (entry : Entry) → IsBuilt image → IsAlone image f → due_at image f cpu ≡ Some entry → IsByRoot image entry
-due_at-roots image f cpu entry built alone h = roots_at image f cpu entry (is_on_board image cpu) built alone refl h
+pub due_at-roots : (image : Image) (f : Facts) (cpu : ℕ) (entry : Entry) → HasNoCall image → IsAlone image f → due_at image f cpu ≡ Some entry → IsByRoot image entry
+due_at-roots image f cpu entry silent alone h = roots_at image f cpu entry (is_on_board image cpu) silent alone refl h
 
 -- what such an entry does
 cells_kept : (call : Option OpenCall) (cells : List Live) (act : Act) → is_phase act ≡ false → cells_by call cells act ≡ cells
@@ -233,17 +233,17 @@ pub byte_after-roots : (image : Image) (f : Facts) (entry : Entry) (q : Place) �
 byte_after-roots image f entry q own =
     ap (λ (write : Option PageWrite). with_page_write write (byte_written image f entry.cell entry.act) q) (no_page image f entry entry.act own.cell own.act)
 
-alone_from : (image : Image) (f : Facts) (entries : List Entry) → IsBuilt image → IsAlone image f → IsLegalFrom image f entries → IsAlone image (fold (after image) f entries)
-alone_from image f [] built alone legal = alone
-alone_from image f (entry ∷ entries) built alone legal =
-    alone_from image (after image f entry) entries built (alone-after image f entry alone (due_at-roots image f entry.cpu entry built alone legal.0)) legal.1
+alone_from : (image : Image) (f : Facts) (entries : List Entry) → HasNoCall image → IsAlone image f → IsLegalFrom image f entries → IsAlone image (fold (after image) f entries)
+alone_from image f [] silent alone legal = alone
+alone_from image f (entry ∷ entries) silent alone legal =
+    alone_from image (after image f entry) entries silent (alone-after image f entry alone (due_at-roots image f entry.cpu entry silent alone legal.0)) legal.1
 
 -- root is alone after each legal journal
-pub legal-alone : (image : Image) (entries : List Entry) → IsBuilt image → IsLegal image entries → IsAlone image (facts image entries)
+pub legal-alone : (image : Image) (entries : List Entry) → HasNoCall image → IsLegal image entries → IsAlone image (facts image entries)
 unfolding IsLegal facts
-legal-alone image entries built legal = alone_from image (start image) entries built (alone-start image) legal
+legal-alone image entries silent legal = alone_from image (start image) entries silent (alone-start image) legal
 
 -- and each of its entries is root's
-pub legal-roots : (image : Image) (before rest : List Entry) (entry : Entry) → IsBuilt image → IsLegal image (before ++ entry ∷ rest) → IsByRoot image entry
-legal-roots image before rest entry built legal =
-    due_at-roots image (facts image before) entry.cpu entry built (legal-alone image before built (IsLegal-begin image before (entry ∷ rest) legal)) (due-split image before rest entry legal)
+pub legal-roots : (image : Image) (before rest : List Entry) (entry : Entry) → HasNoCall image → IsLegal image (before ++ entry ∷ rest) → IsByRoot image entry
+legal-roots image before rest entry silent legal =
+    due_at-roots image (facts image before) entry.cpu entry silent (legal-alone image before silent (IsLegal-begin image before (entry ∷ rest) legal)) (due-split image before rest entry legal)

@@ -34,12 +34,12 @@ use Rattle.jh_history.specs.Wants.{goes_on}
 use Rattle.jh_history.specs.Due.{due_at, due, is_idle_but, IsLegal, IsLegalFrom}
 use Rattle.jh_history.proofs.FactsLemmas.{facts-push}
 use Rattle.jh_history.proofs.LegalLemmas.{due-split, IsLegal-begin, IsLegal-rest}
-use Rattle.jh_laws.specs.Sound.{HasCome, IsAboutLive, IsCreate, IsNews, IsOpen, IsSoundCall, IsSound}
+use Rattle.jh_history.specs.Sound.{HasCome, IsAboutLive, IsCreate, IsNews, IsOpen, IsSoundCall, IsSound}
 use Rattle.jh_laws.specs.Ways.{is_phase, is_call, is_decide, is_finish, is_agreement, is_commit, call_begun, begun_by, begun, IsBegun, IsNoteOr, IsTelling, IsBehindGo, IsBehindCommit, MayFollow}
-use Rattle.jh_laws.proofs.SoundCpusLemmas.{come-rests, halting-rests, root-unnamed}
-use Rattle.jh_laws.proofs.SoundDueLemmas.{IsNext, next-from_due, Comes, IsOfProgram, state-parts, IsOfCall, call-parts}
-use Rattle.jh_laws.proofs.SoundDecideLemmas.{coming-from_decision}
-use Rattle.jh_laws.proofs.SoundLemmas.{sound-after, legal-sound}
+use Rattle.jh_history.proofs.SoundCpusLemmas.{come-rests, halting-rests, root-unnamed}
+use Rattle.jh_history.proofs.SoundDueLemmas.{IsNext, next-from_due, Comes, IsOfProgram, state-parts, IsOfCall, call-parts}
+use Rattle.jh_history.proofs.SoundDecideLemmas.{coming-from_decision}
+use Rattle.jh_history.proofs.SoundLemmas.{sound-after, legal-sound}
 
 -- ---- an entry beside a call
 

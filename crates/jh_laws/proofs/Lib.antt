@@ -7,11 +7,4 @@ pub mod ByteLemmas
 pub mod CpuLemmas
 pub mod ReadyLemmas
 pub mod RunLemmas
-pub mod SoundCellsLemmas
-pub mod SoundCpusLemmas
-pub mod SoundDueLemmas
-pub mod SoundStepLemmas
-pub mod SoundDecideLemmas
-pub mod SoundCommitLemmas
-pub mod SoundLemmas
 pub mod CallLemmas

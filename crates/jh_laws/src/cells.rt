@@ -6,7 +6,7 @@ ghost use Rattle.jh_check.specs.Findings.{findings};
 ghost use Rattle.jh_shape.specs.Pages.{pages_of};
 ghost use Rattle.jh_history.specs.Admitted.{pool_pages};
 ghost use Rattle.jh_history.specs.Lives.{is_on_board};
-ghost use Rattle.jh_laws.specs.Sound.{AreTwo};
+ghost use Rattle.jh_history.specs.Sound.{AreTwo};
 ghost use Rattle.jh_laws.specs.Moments.{AdmittedJournal, cells_of, owner_of};
 
 /// The check finds nothing in the system with the cells that live, their pages are there, and of root and them no

@@ -12,7 +12,6 @@ mod cpus;
 mod due;
 mod items;
 mod order;
-mod sound;
 
 pub use access::{accesses_go_by_grants, root_is_granted_its_addresses};
 pub use bytes::{
@@ -36,4 +35,3 @@ pub use order::{
     beginnings_are_legal, cpus_determine_the_journal, legal_entries_are_due,
     nothing_extends_a_quiet_journal,
 };
-pub use sound::legal_journals_are_sound;

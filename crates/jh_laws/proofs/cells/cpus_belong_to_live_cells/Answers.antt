@@ -3,8 +3,8 @@ use Rattle.std.proofs.Common.{sym, ◌∙◌, ⊎_elim}
 use Rattle.std.proofs.lemmas.Bool.{both_ways, false_from_ne_true}
 use Rattle.jh_cellcfg.specs.Cells.{is_cpu_set}
 use Rattle.jh_laws.specs.Moments.{cells_of}
-use Rattle.jh_laws.proofs.SoundCpusLemmas.{other-root}
-use Rattle.jh_laws.proofs.SoundLemmas.{legal-sound}
+use Rattle.jh_history.proofs.SoundCpusLemmas.{other-root}
+use Rattle.jh_history.proofs.SoundLemmas.{legal-sound}
 use Rattle.jh_laws.proofs.cells.cpus_belong_to_live_cells.Goals as goal
 
 pub returns-clause-cells : goal.returns-clause-cells

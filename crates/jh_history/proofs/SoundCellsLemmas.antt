@@ -14,7 +14,7 @@ use Rattle.jh_check.proofs.JoinLemmas.{clean-from_nothing, fewer-clean}
 use Rattle.jh_shape.specs.Pages.{pages_of}
 use Rattle.jh_shape.proofs.OrderLemmas.{pages_of-fewer}
 use Rattle.jh_history.specs.Admitted.{IsAdmittedSystem, pool_pages}
-use Rattle.jh_laws.specs.Sound.{AreTwo, AreSoundCells}
+use Rattle.jh_history.specs.Sound.{AreTwo, AreSoundCells}
 
 -- at opening
 pub cells-open : (system : SystemConfig) → IsAdmittedSystem system → AreSoundCells system []

@@ -23,7 +23,7 @@ use Rattle.jh_history.specs.Hypercalls.{seen_of}
 use Rattle.jh_history.specs.Phases.{phase_act}
 use Rattle.jh_history.specs.Wants.{goes_on, pending_op}
 use Rattle.jh_history.specs.Due.{due_at, entry_of, entry_by, next_act, state_act, act_of, await_of, caller_act, is_idle_but}
-use Rattle.jh_laws.specs.Sound.{IsCaller}
+use Rattle.jh_history.specs.Sound.{IsCaller}
 
 -- ---- the entry
 

@@ -39,13 +39,13 @@ use Rattle.jh_history.specs.Wants.{goes_on}
 use Rattle.jh_history.specs.Phases.{phase_act, keeps_decide, keeps_commit, configs_of, decision, settled_of, heard_of}
 use Rattle.jh_history.specs.Due.{due_at, is_idle_but, IsLegal, IsLegalFrom}
 use Rattle.jh_history.proofs.FactsLemmas.{same_function}
-use Rattle.jh_laws.specs.Sound.{AreSoundCells, AreOwned, IsCalm, IsHalted, IsOpen, IsSound}
-use Rattle.jh_laws.proofs.SoundCellsLemmas.{cells-open, cells-joined, cells-fewer}
-use Rattle.jh_laws.proofs.SoundCpusLemmas.{IsMild, owned-kept, come-rests}
-use Rattle.jh_laws.proofs.SoundDueLemmas.{IsNext, next-from_due, IsOfProgram, IsOfState, state-parts, IsOfCall, call-parts}
-use Rattle.jh_laws.proofs.SoundStepLemmas.{one_changed, one-owner, calm-one, open-mild, open-stop, owned-begun, open-begun, owned-finished, calm-finished}
-use Rattle.jh_laws.proofs.SoundDecideLemmas.{open-decided, owned-settled, open-settled}
-use Rattle.jh_laws.proofs.SoundCommitLemmas.{cell_changed, owned-changed, open-changed, restarted-calm, parked-calm, configs-marked, is_other_config, configs-others, owned-returned, open-destroyed, configs-joined, owned-lent, open-created, open-noted, open-note}
+use Rattle.jh_history.specs.Sound.{AreSoundCells, AreOwned, IsCalm, IsHalted, IsOpen, IsSound}
+use Rattle.jh_history.proofs.SoundCellsLemmas.{cells-open, cells-joined, cells-fewer}
+use Rattle.jh_history.proofs.SoundCpusLemmas.{IsMild, owned-kept, come-rests}
+use Rattle.jh_history.proofs.SoundDueLemmas.{IsNext, next-from_due, IsOfProgram, IsOfState, state-parts, IsOfCall, call-parts}
+use Rattle.jh_history.proofs.SoundStepLemmas.{one_changed, one-owner, calm-one, open-mild, open-stop, owned-begun, open-begun, owned-finished, calm-finished}
+use Rattle.jh_history.proofs.SoundDecideLemmas.{open-decided, owned-settled, open-settled}
+use Rattle.jh_history.proofs.SoundCommitLemmas.{cell_changed, owned-changed, open-changed, restarted-calm, parked-calm, configs-marked, is_other_config, configs-others, owned-returned, open-destroyed, configs-joined, owned-lent, open-created, open-noted, open-note}
 
 -- the facts, part by part
 abbrev board : (Place → ℕ) → (ℕ → Cpu) → List Live → Option OpenCall → Facts

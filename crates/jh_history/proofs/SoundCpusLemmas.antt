@@ -22,7 +22,7 @@ use Rattle.jh_history.specs.declared.change.Change.TheVariants.{Stay, Step, Fail
 use Rattle.jh_history.specs.Calls.{is_named, counted, one_more}
 use Rattle.jh_history.specs.Cpus.{changed, is_running}
 use Rattle.jh_history.specs.Wants.{goes_on}
-use Rattle.jh_laws.specs.Sound.{AreTwo, AreSoundCells, IsOwner, AreOwned, IsCalm, IsHalted, IsAsked, IsHalting, HasCome, GoesOn, IsAboutLive, MayCome, IsInPhase}
+use Rattle.jh_history.specs.Sound.{AreTwo, AreSoundCells, IsOwner, AreOwned, IsCalm, IsHalted, IsAsked, IsHalting, HasCome, GoesOn, IsAboutLive, MayCome, IsInPhase}
 
 -- ---- one CPU
 

@@ -20,8 +20,8 @@ use Rattle.jh_history.specs.Lives.{is_on_board, program_of}
 use Rattle.jh_history.specs.Calls.{counted}
 use Rattle.jh_history.specs.Cpus.{changed, is_running, begun, finished, resumed_in}
 use Rattle.jh_history.specs.Wants.{goes_on}
-use Rattle.jh_laws.specs.Sound.{AreOwned, IsCalm, IsHalting, HasCome, GoesOn, IsCaller, IsOpen}
-use Rattle.jh_laws.proofs.SoundCpusLemmas.{IsMild, mild-calm, changed-owner, goes-running, running-mode, come-rests, come-stopped, goes-stopped, goes-mild, come-counted, goes-counted, owned-kept, phase-counted}
+use Rattle.jh_history.specs.Sound.{AreOwned, IsCalm, IsHalting, HasCome, GoesOn, IsCaller, IsOpen}
+use Rattle.jh_history.proofs.SoundCpusLemmas.{IsMild, mild-calm, changed-owner, goes-running, running-mode, come-rests, come-stopped, goes-stopped, goes-mild, come-counted, goes-counted, owned-kept, phase-counted}
 
 -- one CPU changes
 abbrev pub one_changed : Change → ℕ → (ℕ → Cpu) → ℕ → Cpu

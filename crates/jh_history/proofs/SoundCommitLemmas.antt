@@ -21,9 +21,9 @@ use Rattle.jh_history.specs.Calls.{is_named, is_told, first_told, telling, behin
 use Rattle.jh_history.specs.Commits.{marked, is_other}
 use Rattle.jh_history.specs.Cpus.{end_in_root}
 use Rattle.jh_history.specs.Phases.{keeps_commit, configs_of}
-use Rattle.jh_laws.specs.Sound.{AreSoundCells, HasItsCpus, IsOwner, AreOwned, IsCalm, IsHalted, IsAsked, IsHalting, IsCaller, IsAboutLive, MayCome, IsNews, IsInPhase, IsOpen}
-use Rattle.jh_laws.proofs.SoundCpusLemmas.{owned-kept, other-root, unknown-id, named-same, root-unnamed}
-use Rattle.jh_laws.proofs.SoundDecideLemmas.{IsLate, open-late, board-few, absent-unnamed}
+use Rattle.jh_history.specs.Sound.{AreSoundCells, HasItsCpus, IsOwner, AreOwned, IsCalm, IsHalted, IsAsked, IsHalting, IsCaller, IsAboutLive, MayCome, IsNews, IsInPhase, IsOpen}
+use Rattle.jh_history.proofs.SoundCpusLemmas.{owned-kept, other-root, unknown-id, named-same, root-unnamed}
+use Rattle.jh_history.proofs.SoundDecideLemmas.{IsLate, open-late, board-few, absent-unnamed}
 
 -- ---- the Commit of a call about a cell that lives
 

@@ -6,7 +6,7 @@ ghost use Rattle.jh_history.specs.Facts.{Facts};
 ghost use Rattle.jh_history.specs.History.{start, after, facts};
 ghost use Rattle.jh_history.specs.Due.{due_at, IsLegal};
 ghost use Rattle.jh_history.specs.Admitted.{IsAdmitted};
-ghost use Rattle.jh_laws.specs.Sound.{IsSound};
+ghost use Rattle.jh_history.specs.Sound.{IsSound};
 
 /// An admitted image opens sound, an entry that is due leaves sound what is sound, and so each legal journal
 /// does.
