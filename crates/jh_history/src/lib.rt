@@ -16,7 +16,9 @@ mod hypercalls;
 mod journal;
 mod known;
 mod laws;
+mod live_cells;
 mod next;
+mod pages;
 mod phases;
 mod place;
 mod plain;
@@ -36,6 +38,7 @@ pub use journal::Journal;
 pub use known::Known;
 pub use laws::{admitted_roots_are_sound, root_lives_alone};
 pub use next::{access_of, is_due, next_of, none_due, reach_of};
+pub use pages::page_write;
 pub use place::{Place, Places, Run};
 pub use plain::{due, quiet};
 
