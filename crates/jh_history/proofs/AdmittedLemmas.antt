@@ -8,12 +8,13 @@ use Rattle.jh_cellcfg.specs.declared.region.Region.{Region}
 use Rattle.jh_cellcfg.specs.Regions.{IsInRange}
 use Rattle.jh_script.specs.declared.image.Image.{Image}
 use Rattle.jh_script.specs.declared.image.Program.{Program}
+use Rattle.jh_script.specs.declared.op.Op.{Op}
 use Rattle.jh_script.specs.Operations.{IsPlain, is_width}
 use Rattle.jh_history.specs.Lives.{program_of, is_program_of}
 use Rattle.jh_check.specs.Clean.{IsSoundRoot}
 use Rattle.jh_check.proofs.GivenLemmas.{sound-root}
 use Rattle.jh_check.proofs.JoinLemmas.{clean-from_nothing}
-use Rattle.jh_history.specs.Admitted.{IsAdmitted, IsSoundProgram}
+use Rattle.jh_history.specs.Admitted.{IsAdmitted}
 
 -- root's regions are sound, and the hypervisor's memory
 pub sound_root : (image : Image) → IsAdmitted image → IsSoundRoot image.system
@@ -23,19 +24,23 @@ sound_root image admitted = sound-root image.system [] (clean-from_nothing image
 pub within : (image : Image) → IsAdmitted image → All (λ (r : Region). 0 < r.size → IsInRange r) image.system.root.memory_regions
 within image admitted = λ i d lt some. let h = ((sound_root image admitted).regions i d lt some).within in record { virt = h.virt; phys = λ _. h.phys }
 
-found_at : (b : Bool) (x : Program) (o : Option Program) → IsSoundProgram x → AllByRecursion IsPlain (option_map_or (λ (p : Program). p.ops) o []) → AllByRecursion IsPlain (option_map_or (λ (p : Program). p.ops) (cond b (Some x) o) [])
-found_at true x o fine rest = recursion_from_All IsPlain x.ops fine.plain
-found_at false x o fine rest = rest
+found_at : (P : Op → Type 0) (b : Bool) (x : Program) (o : Option Program) → All P x.ops → AllByRecursion P (option_map_or (λ (p : Program). p.ops) o []) → AllByRecursion P (option_map_or (λ (p : Program). p.ops) (cond b (Some x) o) [])
+found_at P true x o fine rest = recursion_from_All P x.ops fine
+found_at P false x o fine rest = rest
 
--- what holds of each program holds of the operations of the one that is found
-found : (p : Program → Bool) (xs : List Program) → AllByRecursion IsSoundProgram xs → AllByRecursion IsPlain (option_map_or (λ (x : Program). x.ops) (find p xs) [])
-found p [] all = tt
-found p (x ∷ xs) all = found_at (p x) x (find p xs) all.0 (found p xs all.1)
+-- what holds of each program's operations holds of those of the one that is found
+found : (P : Op → Type 0) (p : Program → Bool) (xs : List Program) → AllByRecursion (λ (x : Program). All P x.ops) xs → AllByRecursion P (option_map_or (λ (x : Program). x.ops) (find p xs) [])
+found P p [] all = tt
+found P p (x ∷ xs) all = found_at P (p x) x (find p xs) all.0 (found P p xs all.1)
+
+-- what holds of all operations of an image holds of each CPU's
+pub program_of-all : (P : Op → Type 0) (image : Image) (name : List ℕ) (cpu : ℕ) → All (λ (p : Program). All P p.ops) image.programs → All P (program_of image name cpu)
+unfolding program_of
+program_of-all P image name cpu all = All-from_recursion P (program_of image name cpu) (found P (is_program_of name cpu) image.programs (recursion_from_All (λ (x : Program). All P x.ops) image.programs all))
 
 -- the operations of each CPU are plain
 pub program_of-plain : (image : Image) (name : List ℕ) (cpu : ℕ) → IsAdmitted image → All IsPlain (program_of image name cpu)
-unfolding program_of
-program_of-plain image name cpu admitted = All-from_recursion IsPlain (program_of image name cpu) (found (is_program_of name cpu) image.programs (recursion_from_All IsSoundProgram image.programs admitted.programs))
+program_of-plain image name cpu admitted = program_of-all IsPlain image name cpu (λ i d lt. (admitted.programs i d lt).plain)
 
 few_at : (b : Bool) (x : Program) (o : Option Program) → IsSoundProgram x → length (option_map_or (λ (p : Program). p.ops) o []) ≤ 4096 → length (option_map_or (λ (p : Program). p.ops) (cond b (Some x) o) []) ≤ 4096
 few_at true x o fine rest = fine.few

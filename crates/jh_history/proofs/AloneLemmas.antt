@@ -1,7 +1,11 @@
--- Root lives alone: no entry that is due is a phase of a management call, and so none makes another cell.
-use Rattle.std.proofs.Common.{◌≡◌, ℕ, List, [], ◌∷◌, ◌++◌, Bool, true, false, cond, eqb, Option, Some, None, refl, sym, ap, subst, ◌∙◌}
-use Rattle.std.specs.Prelude.{option_map, option_and_then, is_some, IfSome}
-use Rattle.std.specs.List.{fold}
+-- Root lives alone where no program has a hypercall: no entry that is due is a phase of a management call, so none
+-- makes another cell.
+use Rattle.std.proofs.Common.{◌≡◌, ℕ, zero, suc, List, [], ◌∷◌, ◌++◌, Bool, true, false, cond, eqb, Option, Some, None, refl, sym, ap, subst, ◌∙◌}
+use Rattle.std.specs.Prelude.{option_map, option_and_then, is_some, IfSome, slice_get}
+use Rattle.std.specs.List.{fold, AllByRecursion}
+use Rattle.std.specs.Option.{option_map_or}
+use Rattle.std.proofs.lemmas.List.Elements.{recursion_from_All}
+use Rattle.jh_cellcfg.specs.Cells.{name_of}
 use Rattle.std.proofs.lemmas.Bool.{and_right, both_ways}
 use Rattle.jh_num.proofs.Booleans.{same_number}
 use Rattle.std.proofs.lemmas.Option.{none-some, same_Some}
@@ -24,7 +28,7 @@ use Rattle.jh_history.specs.declared.entry.Act.{Act}
 use Rattle.jh_history.specs.declared.entry.Act.TheVariants.{Read, Write, Fetch, Await, Irq, Hvc, Begin, Stop, Decide, Settle, Commit, Note, Noted, Finish}
 use Rattle.jh_history.specs.Access.{place_of, reach_by, read_of}
 use Rattle.jh_history.specs.Facts.{Facts}
-use Rattle.jh_history.specs.Lives.{is_on_board, regions_in}
+use Rattle.jh_history.specs.Lives.{is_on_board, cell_in, regions_in, program_of, ops_in, op_at}
 use Rattle.jh_history.specs.Grants.{is_kept, unless, granted_in, granted, reach}
 use Rattle.jh_history.specs.Cpus.{change_of, changed, acted}
 use Rattle.jh_history.specs.Calls.{call_by}
@@ -32,9 +36,11 @@ use Rattle.jh_history.specs.Commits.{cells_by}
 use Rattle.jh_history.specs.Pages.{failing, unless_good, page_write_by, with_page_write}
 use Rattle.jh_history.specs.Bytes.{byte_written, byte_after}
 use Rattle.jh_history.specs.History.{start, after, facts, coming_of}
-use Rattle.jh_history.specs.Wants.{pending_op}
-use Rattle.jh_history.specs.Due.{due_at, state_act, act_of, await_of, entry_by, IsLegal, IsLegalFrom}
+use Rattle.jh_history.specs.Wants.{pending_op, goes_on}
+use Rattle.jh_history.specs.Admitted.{HasNoCall, IsNoCall}
+use Rattle.jh_history.specs.Due.{due_at, state_act, next_act, act_of, await_of, entry_by, IsLegal, IsLegalFrom}
 use Rattle.jh_history.specs.Alone.{IsAlone, IsByRoot, is_phase}
+use Rattle.jh_history.proofs.AdmittedLemmas.{program_of-all}
 use Rattle.jh_history.proofs.FactsLemmas.{same_function}
 use Rattle.jh_history.proofs.DueLemmas.{due_at-absent, due_at-present}
 use Rattle.jh_history.proofs.LegalLemmas.{due-split, IsLegal-begin}
@@ -72,21 +78,45 @@ own_await : (width at value : ℕ) (o : Option ℕ) → IfSome (await_of width a
 own_await width at value None = refl
 own_await width at value (Some got) = own_if (eqb got value) (Some (Await width at value true)) refl
 
-own_act : (image : Image) (f : Facts) (cell : ℕ) (op : Op) → IfSome (act_of image f cell op) IsOwn
-own_act image f cell (ReadOp width at) = refl
-own_act image f cell (WriteOp width at value) = refl
-own_act image f cell (FetchOp at) = refl
-own_act image f cell (AwaitOp width at value) = own_await width at value (read_of f.byte (reach image f cell ToRead at width))
-own_act image f cell IrqOp = tt
-own_act image f cell (HvcOp code a b) = tt
+own_act : (image : Image) (f : Facts) (cell : ℕ) (op : Op) → IsNoCall op → IfSome (act_of image f cell op) IsOwn
+own_act image f cell (ReadOp width at) no_call = refl
+own_act image f cell (WriteOp width at value) no_call = refl
+own_act image f cell (FetchOp at) no_call = refl
+own_act image f cell (AwaitOp width at value) no_call = own_await width at value (read_of f.byte (reach image f cell ToRead at width))
+own_act image f cell IrqOp no_call = tt
+own_act image f cell (HvcOp code a b) no_call = absurd no_call
 
-own_op : (image : Image) (f : Facts) (cell : ℕ) (o : Option Op) → IfSome (option_and_then (act_of image f cell) o) IsOwn
-own_op image f cell None = tt
-own_op image f cell (Some op) = own_act image f cell op
+own_op : (image : Image) (f : Facts) (cell : ℕ) (o : Option Op) → IfSome o IsNoCall → IfSome (option_and_then (act_of image f cell) o) IsOwn
+own_op image f cell None no_call = tt
+own_op image f cell (Some op) no_call = own_act image f cell op no_call
 
-own_state : (image : Image) (f : Facts) (state : Cpu) (cpu : ℕ) (asked : Bool) → IfSome (cond asked (Some Stop) (option_and_then (act_of image f state.owner) (pending_op image f state cpu))) IsOwn
-own_state image f state cpu true = refl
-own_state image f state cpu false = own_op image f state.owner (pending_op image f state cpu)
+-- no program of such an image has a hypercall
+no_call_at : (ops : List Op) (i : ℕ) → AllByRecursion IsNoCall ops → IfSome (slice_get ops i) IsNoCall
+no_call_at [] i all = tt
+no_call_at (op ∷ ops) zero all = all.0
+no_call_at (op ∷ ops) (suc i) all = no_call_at ops i all.1
+
+no_calls_by : (image : Image) (cpu : ℕ) (cell : Option CellConfig) → HasNoCall image
+    → AllByRecursion IsNoCall (option_map_or (λ (c : CellConfig). program_of image (name_of c) cpu) cell [])
+no_calls_by image cpu (Some c) silent = recursion_from_All IsNoCall (program_of image (name_of c) cpu) (program_of-all IsNoCall image (name_of c) cpu silent)
+no_calls_by image cpu None silent = tt
+
+no_call_pending : (image : Image) (f : Facts) (state : Cpu) (cpu : ℕ) (b : Bool) → HasNoCall image → IfSome (cond b (op_at image f state cpu) None) IsNoCall
+no_call_pending image f state cpu true silent = no_call_at (ops_in image f.cells state.owner cpu) state.position (no_calls_by image cpu (cell_in image f.cells state.owner) silent)
+no_call_pending image f state cpu false silent = tt
+
+own_state : (image : Image) (f : Facts) (state : Cpu) (cpu : ℕ) (asked : Bool) → HasNoCall image → IfSome (cond asked (Some Stop) (option_and_then (act_of image f state.owner) (pending_op image f state cpu))) IsOwn
+own_state image f state cpu true silent = refl
+own_state image f state cpu false silent = own_op image f state.owner (pending_op image f state cpu) (no_call_pending image f state cpu (goes_on state) silent)
+
+-- no CPU is the caller of a call where none is open
+pub next_act-alone : (image : Image) (f : Facts) (state : Cpu) (cpu : ℕ) → f.call ≡ None → next_act image f state cpu ≡ state_act image f state cpu
+next_act-alone image f state cpu none = rw none refl
+
+own_next : (image : Image) (f : Facts) (state : Cpu) (cpu : ℕ) → HasNoCall image → f.call ≡ None → IfSome (next_act image f state cpu) IsOwn
+own_next image f state cpu silent none =
+    let P : Option Act → Type 0 = λ o. IfSome o IsOwn in
+    subst P (sym (next_act-alone image f state cpu none)) (own_state image f state cpu state.asked silent)
 
 roots_entry : (image : Image) (cpu cell : ℕ) (entry : Entry) (o : Option Act) → IfSome o IsOwn → cell ≡ image.system.root.id → option_map (entry_by cpu cell) o ≡ Some entry → IsByRoot image entry
 roots_entry image cpu cell entry None own is h = absurd (none-some entry h)
@@ -94,14 +124,14 @@ roots_entry image cpu cell entry (Some act) own is h =
     let P : Entry → Type 0 = IsByRoot image in
     subst P (same_Some (entry_by cpu cell act) entry h) (record { cell = is; act = own })
 
-roots_at : (image : Image) (f : Facts) (cpu : ℕ) (entry : Entry) (b : Bool) → IsAlone image f → is_on_board image cpu ≡ b → due_at image f cpu ≡ Some entry → IsByRoot image entry
-roots_at image f cpu entry true alone e h =
-    roots_entry image cpu (f.cpu cpu).owner entry (state_act image f (f.cpu cpu) cpu) (own_state image f (f.cpu cpu) cpu (f.cpu cpu).asked) (alone.owners cpu) (sym (due_at-present image f cpu e) ∙ h)
-roots_at image f cpu entry false alone e h = absurd (none-some entry (sym (due_at-absent image f cpu e) ∙ h))
+roots_at : (image : Image) (f : Facts) (cpu : ℕ) (entry : Entry) (b : Bool) → HasNoCall image → IsAlone image f → is_on_board image cpu ≡ b → due_at image f cpu ≡ Some entry → IsByRoot image entry
+roots_at image f cpu entry true silent alone e h =
+    roots_entry image cpu (f.cpu cpu).owner entry (next_act image f (f.cpu cpu) cpu) (own_next image f (f.cpu cpu) cpu silent alone.call) (alone.owners cpu) (sym (due_at-present image f cpu e) ∙ h)
+roots_at image f cpu entry false silent alone e h = absurd (none-some entry (sym (due_at-absent image f cpu e) ∙ h))
 
 -- where root is alone, an entry that is due is root's
-pub due_at-roots : (image : Image) (f : Facts) (cpu : ℕ) (entry : Entry) → IsAlone image f → due_at image f cpu ≡ Some entry → IsByRoot image entry
-due_at-roots image f cpu entry alone h = roots_at image f cpu entry (is_on_board image cpu) alone refl h
+pub due_at-roots : (image : Image) (f : Facts) (cpu : ℕ) (entry : Entry) → HasNoCall image → IsAlone image f → due_at image f cpu ≡ Some entry → IsByRoot image entry
+due_at-roots image f cpu entry silent alone h = roots_at image f cpu entry (is_on_board image cpu) silent alone refl h
 
 -- what such an entry does
 cells_kept : (call : Option OpenCall) (cells : List Live) (act : Act) → is_phase act ≡ false → cells_by call cells act ≡ cells
@@ -203,17 +233,17 @@ pub byte_after-roots : (image : Image) (f : Facts) (entry : Entry) (q : Place) �
 byte_after-roots image f entry q own =
     ap (λ (write : Option PageWrite). with_page_write write (byte_written image f entry.cell entry.act) q) (no_page image f entry entry.act own.cell own.act)
 
-alone_from : (image : Image) (f : Facts) (entries : List Entry) → IsAlone image f → IsLegalFrom image f entries → IsAlone image (fold (after image) f entries)
-alone_from image f [] alone legal = alone
-alone_from image f (entry ∷ entries) alone legal =
-    alone_from image (after image f entry) entries (alone-after image f entry alone (due_at-roots image f entry.cpu entry alone legal.0)) legal.1
+alone_from : (image : Image) (f : Facts) (entries : List Entry) → HasNoCall image → IsAlone image f → IsLegalFrom image f entries → IsAlone image (fold (after image) f entries)
+alone_from image f [] silent alone legal = alone
+alone_from image f (entry ∷ entries) silent alone legal =
+    alone_from image (after image f entry) entries silent (alone-after image f entry alone (due_at-roots image f entry.cpu entry silent alone legal.0)) legal.1
 
 -- root is alone after each legal journal
-pub legal-alone : (image : Image) (entries : List Entry) → IsLegal image entries → IsAlone image (facts image entries)
+pub legal-alone : (image : Image) (entries : List Entry) → HasNoCall image → IsLegal image entries → IsAlone image (facts image entries)
 unfolding IsLegal facts
-legal-alone image entries legal = alone_from image (start image) entries (alone-start image) legal
+legal-alone image entries silent legal = alone_from image (start image) entries silent (alone-start image) legal
 
 -- and each of its entries is root's
-pub legal-roots : (image : Image) (before rest : List Entry) (entry : Entry) → IsLegal image (before ++ entry ∷ rest) → IsByRoot image entry
-legal-roots image before rest entry legal =
-    due_at-roots image (facts image before) entry.cpu entry (legal-alone image before (IsLegal-begin image before (entry ∷ rest) legal)) (due-split image before rest entry legal)
+pub legal-roots : (image : Image) (before rest : List Entry) (entry : Entry) → HasNoCall image → IsLegal image (before ++ entry ∷ rest) → IsByRoot image entry
+legal-roots image before rest entry silent legal =
+    due_at-roots image (facts image before) entry.cpu entry silent (legal-alone image before silent (IsLegal-begin image before (entry ∷ rest) legal)) (due-split image before rest entry legal)

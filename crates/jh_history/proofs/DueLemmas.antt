@@ -18,7 +18,7 @@ use Rattle.jh_history.specs.History.{facts}
 use Rattle.jh_history.specs.Lives.{is_on_board}
 use Rattle.jh_history.specs.Grants.{reach}
 use Rattle.jh_history.specs.Wants.{wanted_of, pending_op, IsReachOf, IsReachIn, IsReachOfAct, IsReachOfEntry}
-use Rattle.jh_history.specs.Due.{due, IsLegal, due_at, entry_of, state_act, act_of, await_of, entry_by}
+use Rattle.jh_history.specs.Due.{due, IsLegal, due_at, entry_of, call_of, state_act, next_act, act_of, await_of, entry_by}
 use Rattle.jh_history.proofs.FactsLemmas.{IsLegal-push}
 
 -- nothing is due to a CPU that the board lacks
@@ -36,7 +36,7 @@ by_cpu cpu cell entry None h = absurd (none-some entry h)
 by_cpu cpu cell entry (Some act) h = ap (λ (e : Entry). e.cpu) (sym (same_Some (entry_by cpu cell act) entry h))
 
 at_board : (image : Image) (f : Facts) (cpu : ℕ) (entry : Entry) (b : Bool) → is_on_board image cpu ≡ b → due_at image f cpu ≡ Some entry → entry.cpu ≡ cpu
-at_board image f cpu entry true e h = by_cpu cpu (f.cpu cpu).owner entry (state_act image f (f.cpu cpu) cpu) (sym (due_at-present image f cpu e) ∙ h)
+at_board image f cpu entry true e h = by_cpu cpu (f.cpu cpu).owner entry (next_act image f (f.cpu cpu) cpu) (sym (due_at-present image f cpu e) ∙ h)
 at_board image f cpu entry false e h = absurd (none-some entry (sym (due_at-absent image f cpu e) ∙ h))
 
 -- what is due to a CPU is its own
@@ -103,8 +103,8 @@ is_some-entry cpu cell None = refl
 is_some-entry cpu cell (Some act) = refl
 
 -- whether an entry is due to a CPU of the board
-pub due_at-some : (i : Image) (f : Facts) (cpu : ℕ) (state : Cpu) → is_on_board i cpu ≡ true → state ≡ f.cpu cpu → is_some (state_act i f state cpu) ≡ is_some (due_at i f cpu)
+pub due_at-some : (i : Image) (f : Facts) (cpu : ℕ) (state : Cpu) → is_on_board i cpu ≡ true → state ≡ f.cpu cpu → is_some (next_act i f state cpu) ≡ is_some (due_at i f cpu)
 due_at-some i f cpu state on is =
-    ap (λ (s : Cpu). is_some (state_act i f s cpu)) is
-    ∙ sym (is_some-entry cpu (f.cpu cpu).owner (state_act i f (f.cpu cpu) cpu))
+    ap (λ (s : Cpu). is_some (next_act i f s cpu)) is
+    ∙ sym (is_some-entry cpu (f.cpu cpu).owner (next_act i f (f.cpu cpu) cpu))
     ∙ ap (λ (o : Option Entry). is_some o) (sym (due_at-present i f cpu on))

@@ -13,3 +13,10 @@ pub mod ApartLemmas
 pub mod LegalLemmas
 pub mod AloneLemmas
 pub mod LiveLemmas
+pub mod SoundCellsLemmas
+pub mod SoundCpusLemmas
+pub mod SoundDueLemmas
+pub mod SoundStepLemmas
+pub mod SoundDecideLemmas
+pub mod SoundCommitLemmas
+pub mod SoundLemmas

@@ -1,6 +1,6 @@
 -- In a legal journal of an admitted image each act has a width that an access may have.
 use Rattle.std.proofs.Common.{◌≡◌, ℕ, zero, suc, List, [], ◌∷◌, Bool, true, false, cond, Option, Some, None, subst, eqb, sym, ◌∙◌, refl}
-use Rattle.std.specs.Prelude.{option_map, option_and_then, slice_get, All, IfSome}
+use Rattle.std.specs.Prelude.{ℤ, ◌&&◌, option_map, option_and_then, slice_get, All, IfSome}
 use Rattle.std.specs.List.{AllByRecursion}
 use Rattle.std.specs.Option.{option_map_or}
 use Rattle.jh_cellcfg.specs.declared.config.CellConfig.{CellConfig}
@@ -13,7 +13,18 @@ use Rattle.jh_script.specs.declared.op.Op.TheVariants.{Read, Write, Fetch, Await
 use Rattle.jh_history.specs.declared.access.Access.TheVariants.{Read as ToRead}
 use Rattle.jh_history.specs.declared.entry.Entry.{Entry}
 use Rattle.jh_history.specs.declared.entry.Act.{Act}
-use Rattle.jh_history.specs.declared.entry.Act.TheVariants.{Await as AwaitAct, Stop}
+use Rattle.jh_history.specs.declared.entry.Act.TheVariants.{Await as AwaitAct, Stop, Hvc as HvcAct, Begin, Decide, Settle, Commit, Noted}
+use Rattle.jh_history.specs.declared.entry.Settled.{Settled}
+use Rattle.jh_history.specs.declared.entry.Heard.{Heard}
+use Rattle.jh_history.specs.declared.call.OpenCall.{OpenCall}
+use Rattle.jh_history.specs.declared.call.Phase.{Phase}
+use Rattle.jh_history.specs.declared.call.Phase.TheVariants.{ToDecide, ToSettle, ToCreate, ToCommit, ToNote, ToNoted, ToFinish}
+use Rattle.jh_call.specs.declared.call.Call.{Call}
+use Rattle.jh_call.specs.Calls.{decoded, is_management}
+use Rattle.jh_call.specs.Answers.{answer_of}
+use Rattle.jh_check.specs.Refusals.{any_below}
+use Rattle.jh_history.specs.Hypercalls.{seen_of}
+use Rattle.jh_history.specs.Phases.{keeps_decide, keeps_commit, decision, settled_of, heard_of, phase_act}
 use Rattle.jh_cpu.specs.declared.cpu.Cpu.{Cpu}
 use Rattle.jh_history.specs.Access.{read_of}
 use Rattle.jh_cellcfg.specs.Cells.{name_of}
@@ -22,7 +33,7 @@ use Rattle.jh_history.specs.Facts.{Facts}
 use Rattle.jh_history.specs.History.{start, after}
 use Rattle.jh_history.specs.Grants.{reach}
 use Rattle.jh_history.specs.Wants.{pending_op, goes_on}
-use Rattle.jh_history.specs.Due.{due_at, state_act, act_of, await_of, entry_by, IsLegal, IsLegalFrom}
+use Rattle.jh_history.specs.Due.{due_at, call_of, is_idle_but, caller_act, state_act, next_act, act_of, await_of, entry_by, IsLegal, IsLegalFrom}
 use Rattle.jh_script.specs.Operations.{IsPlain}
 use Rattle.jh_history.specs.Admitted.{IsAdmitted, IsPlainAct, IsPlainEntry}
 use Rattle.jh_history.proofs.AdmittedLemmas.{program_of-plain, width_le}
@@ -49,13 +60,17 @@ plain_await : (width at value : ℕ) (o : Option ℕ) → IfSome (await_of width
 plain_await width at value None = tt
 plain_await width at value (Some got) = plain_if (eqb got value) (Some (AwaitAct width at value true)) tt
 
+plain_hvc : (code a b : ℕ) (answer : ℤ) (begins : Bool) → IsPlainAct (cond begins (Begin code a b) (HvcAct code a b answer))
+plain_hvc code a b answer true = tt
+plain_hvc code a b answer false = tt
+
 plain_act : (image : Image) (f : Facts) (cell : ℕ) (op : Op) → IsPlain op → IfSome (act_of image f cell op) IsPlainAct
 plain_act image f cell (Read width at) plain = width_le width plain
 plain_act image f cell (Write width at value) plain = width_le width plain.0
 plain_act image f cell (Fetch at) plain = tt
 plain_act image f cell (Await width at value) plain = plain_await width at value (read_of f.byte (reach image f cell ToRead at width))
 plain_act image f cell Irq plain = tt
-plain_act image f cell (Hvc code a b) plain = tt
+plain_act image f cell (Hvc code a b) plain = plain_hvc code a b (answer_of (decoded code a b) (seen_of image f cell (decoded code a b))) ((eqb cell image.system.root.id) && is_management (decoded code a b))
 
 plain_op : (image : Image) (f : Facts) (cell : ℕ) (o : Option Op) → IfSome o IsPlain → IfSome (option_and_then (act_of image f cell) o) IsPlainAct
 plain_op image f cell None plain = tt
@@ -70,13 +85,43 @@ plain_state : (image : Image) (f : Facts) (state : Cpu) (cpu : ℕ) (asked : Boo
 plain_state image f state cpu true admitted = tt
 plain_state image f state cpu false admitted = plain_op image f state.owner (pending_op image f state cpu) (plain_pending image f state cpu (goes_on state) admitted)
 
+plain_unless : (b : Bool) (act : Act) → IsPlainAct act → IfSome (cond b None (Some act)) IsPlainAct
+plain_unless true act plain = tt
+plain_unless false act plain = plain
+
+plain_settle : (o : Option Settled) → IfSome (option_map (λ (how : Settled). Settle how) o) IsPlainAct
+plain_settle None = tt
+plain_settle (Some how) = tt
+
+plain_noted : (id : ℕ) (o : Option Heard) → IfSome (option_map (λ (how : Heard). Noted id how) o) IsPlainAct
+plain_noted id None = tt
+plain_noted id (Some how) = tt
+
+plain_phase : (image : Image) (f : Facts) (idle : Bool) (caller : ℕ) (call : Call) (phase : Phase) → IfSome (phase_act image f idle caller call phase) IsPlainAct
+plain_phase image f idle caller call ToDecide = plain_unless (any_below (λ i. keeps_decide image caller i (f.cpu i)) 16) (Decide (decision image f caller call)) tt
+plain_phase image f idle caller call (ToSettle waited) = plain_settle (settled_of f idle call waited)
+plain_phase image f idle caller call (ToCreate config) = tt
+plain_phase image f idle caller call ToCommit = plain_unless (any_below (λ i. keeps_commit image call i (f.cpu i)) 16) Commit tt
+plain_phase image f idle caller call (ToNote id about answer) = tt
+plain_phase image f idle caller call (ToNoted id about answer waited) = plain_noted id (heard_of f idle id waited)
+plain_phase image f idle caller call (ToFinish answer) = tt
+
+plain_caller : (asked : Bool) (goes : Bool) (o : Option Act) → IfSome o IsPlainAct → IfSome (cond asked (Some Stop) (cond goes o None)) IsPlainAct
+plain_caller true goes o plain = tt
+plain_caller false goes o plain = plain_if goes o plain
+
+plain_call : (image : Image) (f : Facts) (state : Cpu) (cpu : ℕ) (begun : Option OpenCall) → IsAdmitted image
+    → IfSome (option_map_or (caller_act image f state) begun (state_act image f state cpu)) IsPlainAct
+plain_call image f state cpu None admitted = plain_state image f state cpu state.asked admitted
+plain_call image f state cpu (Some o) admitted = plain_caller state.asked (goes_on state) (phase_act image f (is_idle_but image f o.caller) o.caller o.call o.phase) (plain_phase image f (is_idle_but image f o.caller) o.caller o.call o.phase)
+
 entry_plain : (cpu cell : ℕ) (entry : Entry) (o : Option Act) → IfSome o IsPlainAct → option_map (entry_by cpu cell) o ≡ Some entry → IsPlainEntry entry
 entry_plain cpu cell entry None plain h = absurd (none-some entry h)
 entry_plain cpu cell entry (Some act) plain h = let P : Entry → Type 0 = IsPlainEntry in subst P (same_Some (entry_by cpu cell act) entry h) plain
 
 at_board : (image : Image) (f : Facts) (cpu : ℕ) (entry : Entry) (b : Bool) → IsAdmitted image → is_on_board image cpu ≡ b → due_at image f cpu ≡ Some entry → IsPlainEntry entry
 at_board image f cpu entry true admitted e h =
-    entry_plain cpu (f.cpu cpu).owner entry (state_act image f (f.cpu cpu) cpu) (plain_state image f (f.cpu cpu) cpu (f.cpu cpu).asked admitted) (sym (due_at-present image f cpu e) ∙ h)
+    entry_plain cpu (f.cpu cpu).owner entry (next_act image f (f.cpu cpu) cpu) (plain_call image f (f.cpu cpu) cpu (call_of f cpu) admitted) (sym (due_at-present image f cpu e) ∙ h)
 at_board image f cpu entry false admitted e h = absurd (none-some entry (sym (due_at-absent image f cpu e) ∙ h))
 
 pub due_at-plain : (image : Image) (f : Facts) (cpu : ℕ) (entry : Entry) → IsAdmitted image → due_at image f cpu ≡ Some entry → IsPlainEntry entry

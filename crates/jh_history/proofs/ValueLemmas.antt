@@ -1,11 +1,12 @@
 -- Numbers that the bytes at places in a row spell.
-use Rattle.std.proofs.Common.{◌≡◌, ℕ, ◌+◌, ◌-◌, ◌*◌, ◌^◌, ◌<◌, ◌≤◌, List, [], ◌∷◌, ◌++◌, map, ap, sym, ◌∙◌, arith}
+use Rattle.std.proofs.Common.{◌≡◌, ℕ, zero, suc, length, refl, subst, ◌+◌, ◌-◌, ◌*◌, ◌^◌, ◌<◌, ◌≤◌, List, [], ◌∷◌, ◌++◌, map, ap, sym, ◌∙◌, arith}
 use Rattle.std.proofs.Math.Nat.{pow-le-pow_right, one-le-pow}
-use Rattle.std.proofs.lemmas.List.{append-nil, map-append}
+use Rattle.std.proofs.lemmas.List.{append-nil, map-append, length-append}
 use Rattle.jh_num.specs.Memory.{spelled}
 use Rattle.jh_num.proofs.MemoryLemmas.{byte_fits, word_fits}
 use Rattle.jh_history.specs.declared.place.Place.{Place}
-use Rattle.jh_history.specs.Places.{further, places_in_row}
+use Rattle.jh_history.specs.declared.place.Run.{Run}
+use Rattle.jh_history.specs.Places.{further, places_in_row, places_of_run}
 use Rattle.jh_history.proofs.PlaceLemmas.{row-next}
 
 -- one byte below those that are spelled already
@@ -40,3 +41,20 @@ value-of_runs f places low high above value is first second =
     second (map f high) (first ∙ ap spelled (append-nil (map f high)))
     ∙ ap spelled (sym (map-append f low high))
     ∙ ap (λ (ps : List Place). spelled (map f ps)) (sym is)
+
+pub fits-alone : (v n : ℕ) → v < 256 ^ (0 + n) → v < 256 ^ n
+fits-alone v n h = let e : 0 + n ≡ n = omega arith in let P : ℕ → Type 0 = λ m. v < 256 ^ m in subst P e h
+
+-- a run has so many places
+row-length : (p : Place) (n : ℕ) → length (places_in_row p n) ≡ n
+row-length p zero = refl
+row-length p (suc n) = ap suc (row-length (further p 1) n)
+
+-- a number of so many bytes as two runs have, by their places
+pub fits-in_places : (v : ℕ) (low high : Run) (places : List Place) → places ≡ places_of_run low ++ places_of_run high → v < 256 ^ (high.count + low.count) → v < 256 ^ length places
+fits-in_places v low high places is fits =
+    let both : length places ≡ low.count + high.count =
+        ap (λ (ps : List Place). length ps) is ∙ length-append (places_of_run low) (places_of_run high) ∙ ap (λ (n : ℕ). n + length (places_of_run high)) (row-length low.first low.count) ∙ ap (λ (n : ℕ). low.count + n) (row-length high.first high.count) in
+    let e : high.count + low.count ≡ length places = omega (arith, both) in
+    let P : ℕ → Type 0 = λ n. v < 256 ^ n in
+    subst P e fits

@@ -1,4 +1,4 @@
--- That root lives alone. Hypercalls are never due yet, so no journal makes another cell.
+-- That root lives alone: where no program has a hypercall, no journal makes another cell.
 use Rattle.std.specs.Prelude.{◌≡◌, ℕ, Bool, true, false, [], None}
 use Rattle.jh_script.specs.declared.image.Image.{Image}
 use Rattle.jh_history.specs.declared.entry.Entry.{Entry}

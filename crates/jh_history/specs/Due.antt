@@ -1,6 +1,7 @@
 -- What is due to a CPU, and which journals are legal and quiet.
-use Rattle.std.specs.Prelude.{◌≡◌, ℕ, true, false, ◌==◌, if◌then◌else◌, List, [], ◌∷◌, Option, Some, None, option_map, option_and_then, is_some, Bool}
+use Rattle.std.specs.Prelude.{◌≡◌, ℕ, true, false, ◌==◌, if◌then◌else◌, List, [], ◌∷◌, Option, Some, None, option_map, option_and_then, is_some, Bool, ◌&&◌, not}
 use Rattle.std.specs.Option.{option_map_or}
+use Rattle.jh_check.specs.Refusals.{any_below}
 use Rattle.jh_cpu.specs.declared.cpu.Cpu.{Cpu}
 use Rattle.jh_script.specs.declared.image.Image.{Image}
 use Rattle.jh_script.specs.declared.op.Op.{Op}
@@ -14,7 +15,7 @@ use Rattle.jh_history.specs.Access.{read_of, is_reached}
 use Rattle.jh_history.specs.Facts.{Facts}
 use Rattle.jh_history.specs.Lives.{is_on_board}
 use Rattle.jh_history.specs.Grants.{reach}
-use Rattle.jh_history.specs.Phases.{phase_act, is_idle}
+use Rattle.jh_history.specs.Phases.{phase_act}
 use Rattle.jh_history.specs.Hypercalls.{hvc_act}
 use Rattle.jh_history.specs.Wants.{pending_op, goes_on}
 use Rattle.jh_history.specs.History.{start, after, facts}
@@ -43,9 +44,13 @@ state_act image facts state cpu = if state.asked then Some Stop else option_and_
 abbrev pub call_of : Facts → ℕ → Option OpenCall
 call_of facts cpu = option_and_then (λ (o : OpenCall). if o.caller == cpu then Some o else None) facts.call
 
--- no other CPU than the caller has anything due: asked to stop or not, each by its own program
+-- another CPU of the board than the caller has something due: it is asked to stop, or goes on with its program
+abbrev pub is_other_due : Image → Facts → ℕ → ℕ → Bool
+is_other_due image facts caller cpu = is_on_board image cpu && not (cpu == caller) && is_some (state_act image facts (facts.cpu cpu) cpu)
+
+-- no other CPU than the caller has anything due
 abbrev pub is_idle_but : Image → Facts → ℕ → Bool
-is_idle_but image facts caller = is_idle (λ i. is_some (state_act image facts (facts.cpu i) i)) image caller
+is_idle_but image facts caller = not (any_below (is_other_due image facts caller) 16)
 
 -- what the caller of the call does next: the call's next phase, where it goes on
 abbrev pub caller_act : Image → Facts → Cpu → OpenCall → Option Act

@@ -16,6 +16,7 @@ pub mod Phases
 pub mod Hypercalls
 pub mod Wants
 pub mod Due
+pub mod Sound
 pub mod Items
 pub mod Admitted
 pub mod PastView

@@ -1,10 +1,12 @@
 -- The phases of an open management call: what is due to its caller, and when.
 use Rattle.std.specs.Prelude.{ℕ, ℤ, Bool, true, false, ◌==◌, ◌&&◌, ◌||◌, not, nat_le, List, ◌∷◌, [], ◌++◌, map, Option, Some, None, option_map, option_and_then, is_some, if◌then◌else◌}
-use Rattle.std.specs.List.{list_any}
-use Rattle.jh_num.specs.declared.error.TheConstants.{EPERM, ENOENT, EINVAL}
+use Rattle.std.specs.List.{list_any, list_all}
+use Rattle.jh_num.specs.declared.error.TheConstants.{EPERM, ENOENT, EINVAL, ENOSYS}
 use Rattle.jh_cellcfg.specs.declared.config.CellConfig.{CellConfig}
 use Rattle.jh_cellcfg.specs.declared.live.Live.{Live}
 use Rattle.jh_cellcfg.specs.Lives.{id_of, has_id}
+use Rattle.jh_cellcfg.specs.declared.config.PciDevice.{PciDevice}
+use Rattle.jh_cellcfg.specs.Regions.{is_page_mapped}
 use Rattle.jh_cellcfg.specs.Cells.{is_passive}
 use Rattle.jh_check.specs.Refusals.{any_below, refusal_of}
 use Rattle.jh_shape.specs.Pages.{pages_of}
@@ -69,13 +71,24 @@ abbrev pub unless_refused : CellConfig → Option ℤ → Creation
 unless_refused config None = Comes config
 unless_refused config (Some number) = Refused number
 
+-- the configuration has nothing that isn't built yet of cells: no subpage region, of size 0 too, and no ivshmem
+-- device
+abbrev pub is_built_cell : CellConfig → Bool
+is_built_cell config = list_all is_page_mapped config.memory_regions && not (list_any (λ (d : PciDevice). d.kind == 3) config.pci_devices)
+
+-- else it is refused last of all
+abbrev pub or_unbuilt : Option ℤ → Option ℤ
+or_unbuilt (Some number) = Some number
+or_unbuilt None = Some ENOSYS
+
 -- a configuration that was read is refused by its own order of causes, in which the pages are those of all cells
--- with it
+-- with it; what isn't built is told before want of pages
 abbrev pub creation_by : Image → Facts → ℕ → ReadCell → Creation
 creation_by image facts caller (Refuses number) = Refused number
 creation_by image facts caller (Reads config) =
-    unless_refused config (refusal_of image.system (configs_of facts.cells) config (may_give image facts caller)
-    (pages_of image.system.root.memory_regions (configs_of facts.cells ++ config ∷ [])) (pool_pages image.system))
+    unless_refused config (if is_built_cell config
+    then refusal_of image.system (configs_of facts.cells) config (may_give image facts caller) (pages_of image.system.root.memory_regions (configs_of facts.cells ++ config ∷ [])) (pool_pages image.system)
+    else or_unbuilt (refusal_of image.system (configs_of facts.cells) config (may_give image facts caller) 0 (pool_pages image.system)))
 
 -- what comes of a create at the address: it is refused where a cell is locked, and else by its configuration
 unfoldable pub creation_of : Image → Facts → ℕ → ℕ → Creation
@@ -134,10 +147,6 @@ heard_by state reply over =
 abbrev pub heard_of : Facts → Bool → ℕ → ℕ → Option Heard
 heard_of facts idle id waited =
     option_and_then (λ (c : CellConfig). heard_by (state_word facts id) (reply_word facts id) (is_over c.msg_reply_timeout waited idle)) (live_in facts.cells id)
-
--- no CPU but the caller has anything due, asked of each by its state alone
-abbrev pub is_idle : (ℕ → Bool) → Image → ℕ → Bool
-is_idle has_due image caller = not (any_below (λ i. is_on_board image i && not (i == caller) && has_due i) 16)
 
 -- what is due to the caller in the phase
 abbrev pub phase_act : Image → Facts → Bool → ℕ → Call → Phase → Option Act

@@ -1,5 +1,5 @@
 //! Numbers that the bytes at an access's places spell.
-ghost use Rattle.std.specs.Prelude.{◌≡◌, ℕ, ◌+◌, ◌-◌, ◌<◌, ◌≤◌, ◌^◌, ◌++◌, List, map};
+ghost use Rattle.std.specs.Prelude.{◌≡◌, ℕ, ◌+◌, ◌-◌, ◌<◌, ◌≤◌, ◌^◌, ◌++◌, List, map, length};
 ghost use Rattle.jh_num.specs.Memory.{spelled};
 ghost use Rattle.jh_history.specs.Places.{places_of_run, IsRun};
 

@@ -1,6 +1,9 @@
 //! Hypercalls: which begin a management call, and what the others are answered.
 ghost use Rattle.std.specs.Prelude.{◌≡◌, ◌≢◌, ℕ, Option, option_map, true, false, nat_eq};
 ghost use Rattle.jh_script.specs.declared.image.Image.{Image as TheImage};
+ghost use Rattle.jh_history.specs.declared.access.Reach.{Reach as TheReach};
+ghost use Rattle.jh_history.specs.Admitted.{IsPlainAct};
+ghost use Rattle.jh_history.specs.Wants.{IsReachOfAct};
 ghost use Rattle.jh_history.specs.Facts.{Facts};
 ghost use Rattle.jh_history.specs.Hypercalls.{state_told as state_told_lem, state_seen as state_seen_lem, mode_seen as mode_seen_lem, cpu_told as cpu_told_lem, cpu_seen as cpu_seen_lem, seen_of as seen_of_lem, hvc_act as hvc_act_lem};
 ghost use Rattle.jh_call.specs.Calls.{is_management as is_management_lem};
@@ -100,7 +103,9 @@ fn is_management(call: &Call) -> bool
 
 /// What the cell's hypercall comes to.
 pub(crate) fn hvc_act<K: Known>(known: &K, cell: u32, code: u64, a: u64, b: u64) -> Act
-    ensures { (i : TheImage) (f : Facts) → K.Knows known.now i f → result ≡ hvc_act_lem i f cell code a b }
+    ensures act { (i : TheImage) (f : Facts) → K.Knows known.now i f → result ≡ hvc_act_lem i f cell code a b }
+    ensures reached { (i : TheImage) (f : Facts) (own : ℕ) (found : TheReach) → IsReachOfAct i f own result found }
+    ensures plain { IsPlainAct result }
 {
     let call = decode(code, a, b);
     let root = cell == known.root();

@@ -2,7 +2,7 @@
 //! function does nothing; its contract is the law.
 ghost use Rattle.std.specs.Prelude.{◌≡◌, ◌<◌, ℕ, List, ◌∷◌, ◌++◌, Some, IsTrue};
 ghost use Rattle.jh_check.specs.Clean.{IsSoundRoot};
-ghost use Rattle.jh_history.specs.Admitted.{IsAdmitted};
+ghost use Rattle.jh_history.specs.Admitted.{HasNoCall, IsAdmitted};
 ghost use Rattle.jh_script.specs.declared.image.Image.{Image as TheImage};
 ghost use Rattle.jh_history.specs.declared.entry.Entry.{Entry as TheEntry};
 ghost use Rattle.jh_history.specs.Facts.{Facts};
@@ -27,13 +27,13 @@ pub fn admitted_roots_are_sound(image: &Image)
     sound_bitmaps_name_few_cpus(image.system.root.cpu_set.as_slice());
 }
 
-/// Hypercalls are never due yet, so in a legal journal no cell lives besides root, no call is open, all CPUs
-/// are root's, and each entry is one of root that is no phase of a call.
+/// Where no program of an image has a hypercall, in its legal journals no cell lives besides root, no
+/// call is open, all CPUs are root's, and each entry is one of root that is no phase of a call.
 pub fn root_lives_alone()
-    ensures alone { (image : TheImage) (entries : List TheEntry) → IsLegal image entries → IsAlone image (facts image entries) }
-    ensures entries { (image : TheImage) (before rest : List TheEntry) (entry : TheEntry) →
+    ensures alone { (image : TheImage) (entries : List TheEntry) → HasNoCall image → IsLegal image entries → IsAlone image (facts image entries) }
+    ensures entries { (image : TheImage) (before rest : List TheEntry) (entry : TheEntry) → HasNoCall image →
         IsLegal image (before ++ entry ∷ rest) → IsByRoot image entry }
-    ensures due { (image : TheImage) (f : Facts) (cpu : ℕ) (entry : TheEntry) → IsAlone image f →
+    ensures due { (image : TheImage) (f : Facts) (cpu : ℕ) (entry : TheEntry) → HasNoCall image → IsAlone image f →
         due_at image f cpu ≡ Some entry → IsByRoot image entry }
     ensures kept { (image : TheImage) (f : Facts) (entry : TheEntry) → IsAlone image f →
         IsByRoot image entry → IsAlone image (after image f entry) }

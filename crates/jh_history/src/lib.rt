@@ -22,6 +22,7 @@ mod pages;
 mod phases;
 mod place;
 mod plain;
+mod sound;
 
 pub use access::{Access, Reach, Wanted};
 pub use admission::{admit, is_built, is_other_preload, is_sound_preload, pool_pages, root_pages};
@@ -41,6 +42,7 @@ pub use next::{access_of, is_due, next_of, none_due, reach_of};
 pub use pages::page_write;
 pub use place::{Place, Places, Run};
 pub use plain::{due, quiet};
+pub use sound::legal_journals_are_sound;
 
 #[cfg(test)]
 mod tests;

@@ -1,19 +1,25 @@
 //! What a CPU does next, told by what is known.
-ghost use Rattle.std.specs.Prelude.{◌≡◌, ◌<◌, ◌≤◌, ℕ, None, IfSome, IsTrue, ◌↔◌, is_some, option_map};
+ghost use Rattle.std.specs.Prelude.{◌≡◌, ◌<◌, ◌≤◌, ℕ, None, IfSome, IfOk, IsTrue, ◌↔◌, is_some, option_map, option_copied};
 ghost use Rattle.jh_script.specs.declared.image.Image.{Image as TheImage};
 ghost use Rattle.jh_script.specs.Operations.{IsPlain};
 ghost use Rattle.jh_cellcfg.specs.Cells.{is_cpu_set as is_cpu_set_lem};
+ghost use Rattle.jh_check.specs.Refusals.{any_below};
 ghost use Rattle.jh_history.specs.Access.{read_of as read_of_lem, is_reached as is_reached_lem};
+ghost use Rattle.jh_history.specs.declared.access.Reach.{Reach as TheReach};
 ghost use Rattle.jh_history.specs.Facts.{Facts};
 ghost use Rattle.jh_history.specs.Wants.{wanted_of as wanted_of_lem, goes_on as goes_on_lem, pending_op as pending_op_lem, wanted_at, IsReachOf, IsReachIn, IsReachAt, IsReachOfAct, IsReachOfEntry};
-ghost use Rattle.jh_history.specs.Due.{act_of as act_of_lem, await_of as await_of_lem, state_act as state_act_lem, entry_by as entry_by_lem, due_at};
+ghost use Rattle.jh_history.specs.Due.{act_of as act_of_lem, await_of as await_of_lem, state_act as state_act_lem, call_of as call_of_lem, is_other_due as is_other_due_lem, is_idle_but as is_idle_but_lem, caller_act as caller_act_lem, next_act as next_act_lem, entry_by as entry_by_lem, due_at};
 ghost use Rattle.jh_history.specs.Admitted.{IsPlainAct};
 
 use crate::access::{Access, Reach, Wanted};
+use crate::call::OpenCall;
 use crate::change::is_running;
 use crate::entry::{Act, Entry};
+use crate::hypercalls::hvc_act;
 use crate::known::Known;
+use crate::phases::{is_phase_due, phase_act};
 use jh_cpu::Cpu;
+use jh_num::NoMemory;
 use jh_script::Op;
 
 /// The access that the operation makes.
@@ -243,25 +249,38 @@ fn call_of<K: Known>(known: &K, cpu: u8) -> Option<&OpenCall>
     }
 }
 
+/// Whether the CPU is another of the board's than the caller, and has something due by its own program.
+fn is_other_due<K: Known>(known: &K, caller: u8, cpu: u8) -> bool
+    requires { cpu < 16 }
+    ensures { (i : TheImage) (f : Facts) → K.Knows known.now i f → result ≡ is_other_due_lem i f caller cpu }
+{
+    known.has_cpu(cpu) && cpu != caller && is_state_due(known, cpu, known.cpu(cpu))
+}
+
+/// Whether any CPU is.
+fn any_other_due<K: Known>(known: &K, caller: u8) -> bool
+    ensures { (i : TheImage) (f : Facts) → K.Knows known.now i f → result ≡ any_below (is_other_due_lem i f caller) 16 }
+{
+    for cpu in 0..16u8 {
+        if is_other_due(known, caller, cpu) {
+            return true;
+        }
+    }
+    false
+}
+
 /// Whether no CPU but the caller has anything due, each by its own program.
 fn is_idle_but<K: Known>(known: &K, caller: u8) -> bool
     ensures { (i : TheImage) (f : Facts) → K.Knows known.now i f → result ≡ is_idle_but_lem i f caller }
 {
-    for cpu in 0..16u8 {
-        if known.has_cpu(cpu) && cpu != caller && is_state_due(known, cpu, known.cpu(cpu)) {
-            return false;
-        }
-    }
-    true
+    !any_other_due(known, caller)
 }
 
 /// What the caller of the call does next.
-fn caller_act<K: Known>(
-    known: &K,
-    state: Cpu,
-    begun: &OpenCall,
-) -> Result<Option<Act>, NoMemory>
-    ensures { (i : TheImage) (f : Facts) → K.Knows known.now i f → IfOk result (λ act. act ≡ caller_act_lem i f state begun.now) }
+fn caller_act<K: Known>(known: &K, state: Cpu, begun: &OpenCall) -> Result<Option<Act>, NoMemory>
+    ensures act { (i : TheImage) (f : Facts) → K.Knows known.now i f → IfOk result (λ act. act ≡ caller_act_lem i f state begun.now) }
+    ensures reached { (i : TheImage) (f : Facts) (cell : ℕ) (found : TheReach) → IfOk result (λ act. IfSome act (λ act. IsReachOfAct i f cell act found)) }
+    ensures plain { IfOk result (λ act. IfSome act IsPlainAct) }
 {
     if state.asked {
         return Ok(Some(Act::Stop));
@@ -276,7 +295,34 @@ fn caller_act<K: Known>(
 fn is_caller_due<K: Known>(known: &K, state: Cpu, begun: &OpenCall) -> bool
     ensures { (i : TheImage) (f : Facts) → K.Knows known.now i f → result ≡ is_some (caller_act_lem i f state begun.now) }
 {
-    state.asked || goes_on(state) && is_phase_due(known, is_idle_but(known, begun.caller), begun)
+    if state.asked {
+        return true;
+    }
+    goes_on(state) && is_phase_due(known, is_idle_but(known, begun.caller), begun)
+}
+
+/// What a CPU in this state does next; `reach` is what the access reaches that it is about to make.
+fn next_act<K: Known>(known: &K, cpu: u8, state: Cpu, reach: &Reach) -> Result<Option<Act>, NoMemory>
+    requires { cpu < 16 }
+    ensures act { (i : TheImage) (f : Facts) → K.Knows known.now i f → IsReachIn i f state cpu reach.now → IfOk result (λ act. act ≡ next_act_lem i f state cpu) }
+    ensures reached { (i : TheImage) (f : Facts) → K.Knows known.now i f → IsReachIn i f state cpu reach.now → IfOk result (λ act. IfSome act (λ act. IsReachOfAct i f state.owner act reach.now)) }
+    ensures plain { IfOk result (λ act. IfSome act IsPlainAct) }
+{
+    match call_of(known, cpu) {
+        Some(begun) => caller_act(known, state, begun),
+        None => Ok(state_act(known, cpu, state, reach)),
+    }
+}
+
+/// Whether a CPU in this state has something due.
+fn is_next_due<K: Known>(known: &K, cpu: u8, state: Cpu) -> bool
+    requires { cpu < 16 }
+    ensures { (i : TheImage) (f : Facts) → K.Knows known.now i f → result ≡ is_some (next_act_lem i f state cpu) }
+{
+    match call_of(known, cpu) {
+        Some(begun) => is_caller_due(known, state, begun),
+        None => is_state_due(known, cpu, state),
+    }
 }
 
 /// The CPU's act as an entry, in the name of its owner.
@@ -289,19 +335,21 @@ fn entry_by(cpu: u8, cell: u32, act: Option<Act>) -> Option<Entry>
     }
 }
 
-/// The entry that the CPU makes next; `reach` is what its access reaches, where it makes one.
-pub fn next_of<K: Known>(known: &K, cpu: u8, reach: &Reach) -> Option<Entry>
+/// The entry that the CPU makes next; `reach` is what its access reaches, where it makes one. Only what a
+/// create reads takes memory.
+pub fn next_of<K: Known>(known: &K, cpu: u8, reach: &Reach) -> Result<Option<Entry>, NoMemory>
     requires { cpu < 16 }
-    ensures due { (i : TheImage) (f : Facts) → K.Knows known.now i f → IsReachAt i f cpu reach.now → result ≡ due_at i f cpu }
-    ensures reached { (i : TheImage) (f : Facts) → K.Knows known.now i f → IsReachAt i f cpu reach.now → IfSome result (λ entry. IsReachOfEntry i f entry reach.now) }
-    ensures cpu { IfSome result (λ entry. entry.cpu ≡ cpu) }
-    ensures plain { IfSome result (λ entry. IsPlainAct entry.act) }
+    ensures due { (i : TheImage) (f : Facts) → K.Knows known.now i f → IsReachAt i f cpu reach.now → IfOk result (λ entry. entry ≡ due_at i f cpu) }
+    ensures reached { (i : TheImage) (f : Facts) → K.Knows known.now i f → IsReachAt i f cpu reach.now → IfOk result (λ entry. IfSome entry (λ entry. IsReachOfEntry i f entry reach.now)) }
+    ensures cpu { IfOk result (λ entry. IfSome entry (λ entry. entry.cpu ≡ cpu)) }
+    ensures plain { IfOk result (λ entry. IfSome entry (λ entry. IsPlainAct entry.act)) }
 {
     if !known.has_cpu(cpu) {
-        return None;
+        return Ok(None);
     }
     let state = known.cpu(cpu);
-    entry_by(cpu, state.owner, state_act(known, cpu, state, reach))
+    let act = next_act(known, cpu, state, reach)?;
+    Ok(entry_by(cpu, state.owner, act))
 }
 
 /// Whether an entry is due to the CPU.
@@ -309,7 +357,7 @@ pub fn is_due<K: Known>(known: &K, cpu: u8) -> bool
     requires { cpu < 16 }
     ensures { (i : TheImage) (f : Facts) → K.Knows known.now i f → result ≡ is_some (due_at i f cpu) }
 {
-    known.has_cpu(cpu) && is_state_due(known, cpu, known.cpu(cpu))
+    known.has_cpu(cpu) && is_next_due(known, cpu, known.cpu(cpu))
 }
 
 /// Whether nothing is due to any CPU. They are asked from `first` on, which had better be one that has

@@ -1,5 +1,5 @@
 //! What is due to the caller of an open management call.
-ghost use Rattle.std.specs.Prelude.{◌≡◌, ℕ, ◌<◌, Bool, List, map, is_some, IfOk, option_map, option_copied};
+ghost use Rattle.std.specs.Prelude.{◌≡◌, ℕ, ◌<◌, Bool, true, List, map, is_some, IfOk, IfSome, option_map, option_copied};
 ghost use Rattle.std.specs.Option.{option_map_or};
 ghost use Rattle.jh_script.specs.declared.image.Image.{Image as TheImage};
 ghost use Rattle.jh_check.specs.Refusals.{any_below};
@@ -11,6 +11,7 @@ ghost use Rattle.jh_history.specs.Pages.{named_cell as named_cell_lem};
 ghost use Rattle.jh_history.specs.declared.entry.Settled.{Settled as TheSettled};
 ghost use Rattle.jh_history.specs.declared.entry.Heard.{Heard as TheHeard};
 ghost use Rattle.jh_history.specs.declared.entry.Act.TheVariants.{Settle, Noted};
+ghost use Rattle.jh_history.specs.Alone.{is_phase};
 ghost use Rattle.jh_history.specs.Calls.{is_named as is_named_lem};
 
 use crate::change::is_running;
@@ -255,7 +256,8 @@ fn decision<K: Known>(known: &K, caller: u8, call: &Call) -> Result<Option<i64>,
 
 /// How the cell settled, as an act.
 fn settle(how: Option<Settled>) -> Option<Act>
-    ensures { result ≡ option_map (λ (how : TheSettled). Settle how) how }
+    ensures act { result ≡ option_map (λ (how : TheSettled). Settle how) how }
+    ensures phase { IfSome result (λ act. is_phase act ≡ true) }
 {
     match how {
         Some(how) => Some(Act::Settle { how }),
@@ -265,7 +267,8 @@ fn settle(how: Option<Settled>) -> Option<Act>
 
 /// What the cell heard, as an act.
 fn noted(id: u32, how: Option<Heard>) -> Option<Act>
-    ensures { result ≡ option_map (λ (how : TheHeard). Noted id how) how }
+    ensures act { result ≡ option_map (λ (how : TheHeard). Noted id how) how }
+    ensures phase { IfSome result (λ act. is_phase act ≡ true) }
 {
     match how {
         Some(how) => Some(Act::Noted { id, how }),
@@ -279,7 +282,8 @@ pub(crate) fn phase_act<K: Known>(
     idle: bool,
     begun: &OpenCall,
 ) -> Result<Option<Act>, NoMemory>
-    ensures { (i : TheImage) (f : Facts) → K.Knows known.now i f → IfOk result (λ act. act ≡ phase_act_lem i f idle begun.now.caller begun.now.call begun.now.phase) }
+    ensures act { (i : TheImage) (f : Facts) → K.Knows known.now i f → IfOk result (λ act. act ≡ phase_act_lem i f idle begun.now.caller begun.now.call begun.now.phase) }
+    ensures phase { IfOk result (λ act. IfSome act (λ act. is_phase act ≡ true)) }
 {
     match &begun.phase {
         Phase::ToDecide => {

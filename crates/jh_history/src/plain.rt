@@ -194,6 +194,7 @@ impl<'a> Plain<'a> {
     /// What holds after the entries.
     fn after(alloc: Global, image: &'a Image, entries: &[Entry]) -> Result<Self, NoMemory>
         requires admitted { IsAdmitted image.now }
+        requires built { IsBuilt image.now }
         requires legal { IsLegal image.now entries.now }
         ensures { IfOk result (λ plain. Stands plain image.now (facts image.now entries.now)) }
     {
@@ -307,7 +308,7 @@ pub fn due(
     admitted_roots_are_sound(image);
     let plain = Plain::after(alloc, image, journal.as_slice())?;
     let reach = reach_of(&plain, cpu);
-    Ok(next_of(&plain, cpu, &reach))
+    next_of(&plain, cpu, &reach)
 }
 
 /// Whether nothing is due to any CPU after the journal, by the plain definition.

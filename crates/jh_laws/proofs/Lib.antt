@@ -7,3 +7,4 @@ pub mod ByteLemmas
 pub mod CpuLemmas
 pub mod ReadyLemmas
 pub mod RunLemmas
+pub mod CallLemmas

@@ -5,3 +5,5 @@ pub mod Writes
 pub mod Moves
 pub mod Operations
 pub mod Runs
+pub mod Moments
+pub mod Ways

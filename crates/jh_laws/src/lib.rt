@@ -6,6 +6,8 @@
 
 mod access;
 mod bytes;
+mod calls;
+mod cells;
 mod cpus;
 mod due;
 mod items;
@@ -15,6 +17,8 @@ pub use access::{accesses_go_by_grants, root_is_granted_its_addresses};
 pub use bytes::{
     bytes_are_the_last_written, entries_write_their_bytes, memory_opens_with_the_preloads,
 };
+pub use calls::{calls_go_phase_by_phase, one_call_is_open, suspended_cpus_make_no_entry};
+pub use cells::{cpus_belong_to_live_cells, the_check_holds_of_live_cells};
 pub use cpus::{
     cpus_open_at_their_beginning, entries_follow_the_program, entries_move_their_cpu,
     violations_end_their_cpu,

@@ -15,7 +15,7 @@ pub returns-clause-due : goal.returns-clause-due
 returns-clause-due g c = λ i f h reached.
     let P : Cpu → Type 0 = λ s. IsReachIn i f s c.args.cpu c.args.reach.now in
     c.entry_by.ensures
-    ∙ ap (option_map (entry_by c.args.cpu c.cpu-state.result.owner)) (c.state_act.ensures.act i f h (subst P (sym (c.cpu-state.ensures i f h)) reached))
+    ∙ ap (option_map (entry_by c.args.cpu c.cpu-state.result.owner)) (c.in_ok-act.ensures.act i f h (subst P (sym (c.cpu-state.ensures i f h)) reached))
     ∙ ap (λ (s : Cpu). entry_of i f s c.args.cpu) (c.cpu-state.ensures i f h)
     ∙ sym (due_at-present i f c.args.cpu (sym (c.has_cpu.ensures i f h) ∙ c.if-not-has_cpu.false))
 
@@ -23,4 +23,4 @@ pub returns-clause-reached : goal.returns-clause-reached
 returns-clause-reached g c = λ i f h reached.
     let P : Cpu → Type 0 = λ s. IsReachIn i f s c.args.cpu c.args.reach.now in
     let Q : Option Entry → Type 0 = λ o. IfSome o (λ entry. IsReachOfEntry i f entry c.args.reach.now) in
-    subst Q (sym c.entry_by.ensures) (entry-reaches i f c.args.cpu c.cpu-state.result.owner c.args.reach.now c.state_act.result (c.state_act.ensures.reached i f h (subst P (sym (c.cpu-state.ensures i f h)) reached)))
+    subst Q (sym c.entry_by.ensures) (entry-reaches i f c.args.cpu c.cpu-state.result.owner c.args.reach.now c.in_ok-act.act (c.in_ok-act.ensures.reached i f h (subst P (sym (c.cpu-state.ensures i f h)) reached)))

@@ -1,8 +1,5 @@
 -- What is due, by what holds after the journal.
-use Rattle.std.proofs.Common.{◌∙◌, ap, List}
-use Rattle.jh_history.specs.declared.entry.Entry.{Entry}
 use Rattle.jh_history.specs.History.{facts}
-use Rattle.jh_history.specs.Due.{due_at}
 use Rattle.jh_history.proofs.plain.due.Goals as goal
 
 pub after-requires-clause-legal : goal.after-requires-clause-legal
@@ -11,8 +8,7 @@ after-requires-clause-legal c = rw c.as_slice.ensures c.requires.legal
 pub returns : goal.returns
 returns c =
     let stands = c.in_ok-plain.ensures in
-    c.next_of.ensures.due c.args.image.now (facts c.args.image.now c.as_slice.result.now) stands (c.reach_of-reach.ensures c.args.image.now (facts c.args.image.now c.as_slice.result.now) stands)
-    ∙ ap (λ (es : List Entry). due_at c.args.image.now (facts c.args.image.now es) c.args.cpu) c.as_slice.ensures
+    rw (← c.as_slice.ensures) (c.next_of.ensures.due c.args.image.now (facts c.args.image.now c.as_slice.result.now) stands (c.reach_of-reach.ensures c.args.image.now (facts c.args.image.now c.as_slice.result.now) stands))
 
 pub reach_of-reach-requires : goal.reach_of-reach-requires
 reach_of-reach-requires c = c.admitted_roots_are_sound.ensures.cpus c.requires.admitted c.args.cpu c.requires.cpu

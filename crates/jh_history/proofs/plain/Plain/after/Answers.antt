@@ -20,7 +20,7 @@ follow-requires-clause-plain c =
 pub follow-requires-clause-own : goal.follow-requires-clause-own
 follow-requires-clause-own c =
     let lt : c.loop-entry.entry-index < length c.args.entries.now = omega arith in
-    rw (← c.loop-entry.invariant.same) (due_at-roots c.args.image.now (facts c.args.image.now (take c.loop-entry.entry-index c.args.entries.now)) _ _ c.loop-entry.invariant.alone (due-index c.args.image.now c.args.entries.now c.loop-entry.entry-index _ c.requires.legal lt))
+    rw (← c.loop-entry.invariant.same) (due_at-roots c.args.image.now (facts c.args.image.now (take c.loop-entry.entry-index c.args.entries.now)) _ _ c.requires.built c.loop-entry.invariant.alone (due-index c.args.image.now c.args.entries.now c.loop-entry.entry-index _ c.requires.legal lt))
 
 pub loop-entry-preserved : goal.loop-entry-preserved
 loop-entry-preserved c =

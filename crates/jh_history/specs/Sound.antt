@@ -1,0 +1,167 @@
+-- What holds after every legal journal of an admitted image: of the cells that live, of whose the CPUs are, and
+-- of the management call that is open.
+use Rattle.std.specs.Prelude.{◌≡◌, ◌≢◌, ◌⊎◌, ◌≤◌, ℕ, ℤ, pos, true, false, List, [], ◌∷◌, ◌++◌, Contains, AllPairs, Option, Some, None, slice_get}
+use Rattle.jh_cellcfg.specs.declared.config.CellConfig.{CellConfig}
+use Rattle.jh_cellcfg.specs.declared.config.SystemConfig.{SystemConfig}
+use Rattle.jh_cellcfg.specs.Cells.{name_of, is_cpu_set, is_passive}
+use Rattle.jh_check.specs.Refusals.{is_namesake, is_known}
+use Rattle.jh_check.specs.Clean.{IsClean}
+use Rattle.jh_shape.specs.Pages.{pages_of}
+use Rattle.jh_cpu.specs.declared.cpu.Cpu.{Cpu}
+use Rattle.jh_cpu.specs.declared.cpu.Mode.TheVariants.{Running}
+use Rattle.jh_call.specs.declared.call.Call.{Call}
+use Rattle.jh_call.specs.declared.call.Call.TheVariants.{Create, Destroy}
+use Rattle.jh_call.specs.Calls.{decoded, is_management}
+use Rattle.jh_script.specs.declared.image.Image.{Image}
+use Rattle.jh_script.specs.declared.op.Op.TheVariants.{Hvc as HvcOp}
+use Rattle.jh_history.specs.declared.call.OpenCall.{OpenCall}
+use Rattle.jh_history.specs.declared.call.Phase.{Phase}
+use Rattle.jh_history.specs.declared.call.Phase.TheVariants.{ToDecide, ToSettle, ToCreate, ToCommit, ToNote, ToNoted, ToFinish}
+use Rattle.jh_history.specs.Facts.{Facts}
+use Rattle.jh_history.specs.Lives.{is_on_board, program_of}
+use Rattle.jh_history.specs.Admitted.{pool_pages}
+use Rattle.jh_history.specs.Calls.{is_named}
+use Rattle.jh_history.specs.Cpus.{is_running}
+use Rattle.jh_history.specs.Phases.{configs_of}
+
+-- ---- the cells
+
+-- neither the name nor the id is one that both have
+abbrev pub AreTwo : CellConfig → CellConfig → Type 0
+AreTwo earlier later = is_namesake later earlier ≡ false
+
+-- beside root live cells with these configurations: the check finds nothing in them, their pages are there, and
+-- no two of all have one name or one id
+pub record AreSoundCells (system : SystemConfig) (configs : List CellConfig) : Type 0 where
+  pub clean : IsClean system configs
+  pub room : pages_of system.root.memory_regions configs ≤ pool_pages system
+  pub differ : AllPairs AreTwo (system.root ∷ configs)
+
+-- ---- whose the CPUs are
+
+-- a live cell with the configuration has exactly the CPUs that its set names, and they are the board's
+pub record HasItsCpus (image : Image) (cpu : ℕ → Cpu) (config : CellConfig) : Type 0 where
+  pub owned : (i : ℕ) → is_cpu_set config.cpu_set i ≡ true → (cpu i).owner ≡ config.id
+  pub named : (i : ℕ) → (cpu i).owner ≡ config.id → is_cpu_set config.cpu_set i ≡ true
+  pub board : (i : ℕ) → is_cpu_set config.cpu_set i ≡ true → is_on_board image i ≡ true
+
+-- the owner is root or a live cell
+abbrev pub IsOwner : Image → List CellConfig → ℕ → Type 0
+IsOwner image configs owner = (owner ≡ image.system.root.id) ⊎ ((config : CellConfig) × Contains configs config × (owner ≡ config.id))
+
+-- so is each live cell, and each other CPU is root's
+pub record AreOwned (image : Image) (configs : List CellConfig) (cpu : ℕ → Cpu) : Type 0 where
+  pub cells : (config : CellConfig) → Contains configs config → HasItsCpus image cpu config
+  pub others : (i : ℕ) → IsOwner image configs (cpu i).owner
+
+-- ---- stopping
+
+-- the CPU isn't asked to stop, and isn't stopped
+pub record IsCalm (cpu : Cpu) : Type 0 where
+  pub asked : cpu.asked ≡ false
+  pub stopped : cpu.stopped ≡ false
+
+-- it is no longer asked, and is stopped exactly where it would run
+pub record IsHalted (cpu : Cpu) : Type 0 where
+  pub asked : cpu.asked ≡ false
+  pub stopped : cpu.stopped ≡ is_running cpu.mode
+
+-- it runs, and is asked to stop
+pub record IsAsked (cpu : Cpu) : Type 0 where
+  pub asked : cpu.asked ≡ true
+  pub stopped : cpu.stopped ≡ false
+  pub running : cpu.mode ≡ Running
+
+-- it is asked to stop until it has
+abbrev pub IsHalting : Cpu → Type 0
+IsHalting cpu = IsAsked cpu ⊎ IsHalted cpu
+
+-- ---- the call that is open
+
+-- the CPU made the call: it is one of the board's and root's, it runs, is neither asked nor stopped, and is at the
+-- hypercall that began the call
+pub record IsCaller (image : Image) (caller : ℕ) (call : Call) (cpu : Cpu) : Type 0 where
+  pub board : is_on_board image caller ≡ true
+  pub owner : cpu.owner ≡ image.system.root.id
+  pub running : cpu.mode ≡ Running
+  pub calm : IsCalm cpu
+  pub code : ℕ
+  pub a : ℕ
+  pub b : ℕ
+  pub at : slice_get (program_of image (name_of image.system.root) caller) cpu.position ≡ Some (HvcOp code a b)
+  pub asks : call ≡ decoded code a b
+  pub management : is_management call ≡ true
+
+-- another CPU of root on the board: up to the Decide it is asked to stop until it has, from then on it has
+abbrev pub HasCome : Phase → Cpu → Type 0
+HasCome ToDecide cpu = IsHalting cpu
+HasCome _ cpu = IsHalted cpu
+
+-- a CPU of the cell that the call is about, once that cell has agreed, is asked to stop until it has; any other CPU
+-- of a cell goes on
+abbrev pub GoesOn : Call → Phase → Cpu → Type 0
+GoesOn call ToCommit cpu = (is_named call cpu.owner ≡ true → IsHalting cpu) × (is_named call cpu.owner ≡ false → IsCalm cpu)
+GoesOn call _ cpu = IsCalm cpu
+
+-- the cell that the call is about lives
+abbrev pub IsAboutLive : List CellConfig → Call → Type 0
+IsAboutLive configs call = (config : CellConfig) × Contains configs config × (is_named call config.id ≡ true)
+
+-- the cell with the configuration may come: no cell has its name or its id, each CPU that it names is another one of
+-- root's, and with it the check finds nothing and the pages are there
+pub record MayCome (image : Image) (configs : List CellConfig) (cpu : ℕ → Cpu) (caller : ℕ) (config : CellConfig) : Type 0 where
+  pub unknown : is_known (image.system.root ∷ configs) config ≡ false
+  pub board : (i : ℕ) → is_cpu_set config.cpu_set i ≡ true → is_on_board image i ≡ true
+  pub other : (i : ℕ) → is_cpu_set config.cpu_set i ≡ true → i ≢ caller
+  pub owner : (i : ℕ) → is_cpu_set config.cpu_set i ≡ true → (cpu i).owner ≡ image.system.root.id
+  pub clean : IsClean image.system (configs ++ config ∷ [])
+  pub room : pages_of image.system.root.memory_regions (configs ++ config ∷ []) ≤ pool_pages image.system
+
+-- the cell with the id is told of another: it lives, and isn't passive
+pub record IsTold (configs : List CellConfig) (id about : ℕ) : Type 0 where
+  pub config : CellConfig
+  pub held : Contains configs config
+  pub named : config.id ≡ id
+  pub other : id ≢ about
+  pub active : is_passive config ≡ false
+
+-- what is told of, before the call ends with the answer: a cell that the call made, and then its id, or one that it
+-- destroyed and that lives no more, and then 0
+abbrev pub IsNews : List CellConfig → Call → ℕ → ℤ → Type 0
+IsNews configs (Create at) about answer = (config : CellConfig) × Contains configs config × (config.id ≡ about) × (answer ≡ pos about)
+IsNews configs (Destroy id) about answer = (about ≡ id) × ((config : CellConfig) → Contains configs config → config.id ≢ about) × (answer ≡ pos 0)
+IsNews configs _ about answer = ⊥
+
+abbrev pub IsCreate : Call → Type 0
+IsCreate (Create at) = Unit {0}
+IsCreate _ = ⊥
+
+-- what holds in the phase of the call
+abbrev pub IsInPhase : Image → List CellConfig → (ℕ → Cpu) → ℕ → Call → Phase → Type 0
+IsInPhase image configs cpu caller call ToDecide = Unit {0}
+IsInPhase image configs cpu caller call (ToSettle waited) = IsAboutLive configs call
+IsInPhase image configs cpu caller call (ToCreate config) = IsCreate call × MayCome image configs cpu caller config
+IsInPhase image configs cpu caller call ToCommit = IsAboutLive configs call
+IsInPhase image configs cpu caller call (ToNote id about answer) = IsTold configs id about × IsNews configs call about answer
+IsInPhase image configs cpu caller call (ToNoted id about answer waited) = IsTold configs id about × IsNews configs call about answer
+IsInPhase image configs cpu caller call (ToFinish answer) = Unit {0}
+
+-- the call is open, beside these cells and CPUs
+pub record IsOpen (image : Image) (configs : List CellConfig) (cpu : ℕ → Cpu) (o : OpenCall) : Type 0 where
+  pub caller : IsCaller image o.caller o.call (cpu o.caller)
+  pub roots : (i : ℕ) → is_on_board image i ≡ true → i ≢ o.caller → (cpu i).owner ≡ image.system.root.id → HasCome o.phase (cpu i)
+  pub cells : (i : ℕ) → (cpu i).owner ≢ image.system.root.id → GoesOn o.call o.phase (cpu i)
+  pub absent : (i : ℕ) → is_on_board image i ≡ false → IsCalm (cpu i)
+  pub phase : IsInPhase image configs cpu o.caller o.call o.phase
+
+-- without a call no CPU is asked to stop or stopped
+abbrev pub IsSoundCall : Image → List CellConfig → (ℕ → Cpu) → Option OpenCall → Type 0
+IsSoundCall image configs cpu None = (i : ℕ) → IsCalm (cpu i)
+IsSoundCall image configs cpu (Some o) = IsOpen image configs cpu o
+
+-- ---- all of it
+
+pub record IsSound (image : Image) (facts : Facts) : Type 0 where
+  pub cells : AreSoundCells image.system (configs_of facts.cells)
+  pub cpus : AreOwned image (configs_of facts.cells) facts.cpu
+  pub call : IsSoundCall image (configs_of facts.cells) facts.cpu facts.call

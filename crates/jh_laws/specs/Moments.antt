@@ -1,0 +1,62 @@
+-- Legal journals of admitted images, whatever of an image isn't built yet, and which cells live and which call is
+-- open after entries of one.
+use Rattle.std.specs.Prelude.{ℕ, List, [], ◌∷◌, ◌++◌, Option}
+use Rattle.jh_cellcfg.specs.declared.config.CellConfig.{CellConfig}
+use Rattle.jh_script.specs.declared.image.Image.{Image}
+use Rattle.jh_history.specs.declared.call.OpenCall.{OpenCall}
+use Rattle.jh_history.specs.declared.entry.Entry.{Entry}
+use Rattle.jh_history.specs.Facts.{Facts}
+use Rattle.jh_history.specs.History.{facts}
+use Rattle.jh_history.specs.Phases.{configs_of}
+use Rattle.jh_history.specs.Due.{IsLegal}
+use Rattle.jh_history.specs.Admitted.{IsAdmitted}
+
+-- a legal journal of an image that a board may be opened with
+pub record AdmittedJournal : Type 0 where
+  pub image : Image
+  pub entries : List Entry
+  pub admitted : IsAdmitted image
+  pub legal : IsLegal image entries
+
+-- an entry of one, with the entries before it and the rest behind it
+pub record AdmittedMoment : Type 0 where
+  pub image : Image
+  pub before : List Entry
+  pub entry : Entry
+  pub rest : List Entry
+  pub admitted : IsAdmitted image
+  pub legal : IsLegal image (before ++ entry ∷ rest)
+
+-- what holds after a journal, and just before and just behind an entry
+abbrev pub facts_of : AdmittedJournal → Facts
+facts_of j = facts j.image j.entries
+
+abbrev pub facts_before : AdmittedMoment → Facts
+facts_before m = facts m.image m.before
+
+abbrev pub facts_behind : AdmittedMoment → Facts
+facts_behind m = facts m.image (m.before ++ m.entry ∷ [])
+
+-- the configurations of the cells that live besides root, in order of creation
+abbrev pub cells_of : AdmittedJournal → List CellConfig
+cells_of j = configs_of (facts_of j).cells
+
+abbrev pub cells_before : AdmittedMoment → List CellConfig
+cells_before m = configs_of (facts_before m).cells
+
+abbrev pub cells_behind : AdmittedMoment → List CellConfig
+cells_behind m = configs_of (facts_behind m).cells
+
+-- the id of the cell that the CPU belongs to
+abbrev pub owner_of : AdmittedJournal → ℕ → ℕ
+owner_of j cpu = ((facts_of j).cpu cpu).owner
+
+-- the call that is open
+abbrev pub call_of : AdmittedJournal → Option OpenCall
+call_of j = (facts_of j).call
+
+abbrev pub call_before : AdmittedMoment → Option OpenCall
+call_before m = (facts_before m).call
+
+abbrev pub call_behind : AdmittedMoment → Option OpenCall
+call_behind m = (facts_behind m).call

@@ -1,0 +1,112 @@
+-- The ways of management calls: which entries are theirs, and which may follow which.
+use Rattle.std.specs.Prelude.{◌≡◌, ◌⊎◌, ℕ, ℤ, pos, Bool, true, false, List, fold, Option, Some, None}
+use Rattle.jh_num.specs.declared.error.TheConstants.{EPERM}
+use Rattle.jh_call.specs.declared.call.Call.{Call}
+use Rattle.jh_call.specs.declared.call.Call.TheVariants.{Create, Start, Loadable, Destroy, Unknown}
+use Rattle.jh_call.specs.Calls.{decoded}
+use Rattle.jh_history.specs.declared.call.OpenCall.{OpenCall}
+use Rattle.jh_history.specs.declared.entry.Entry.{Entry}
+use Rattle.jh_history.specs.declared.entry.Settled.{Settled}
+use Rattle.jh_history.specs.declared.entry.Settled.TheVariants.{Agreed, Denied, Timeout}
+use Rattle.jh_history.specs.declared.entry.Heard.{Heard}
+use Rattle.jh_history.specs.declared.entry.Act.{Act}
+use Rattle.jh_history.specs.declared.entry.Act.TheVariants.{Begin, Decide, Settle, Commit, Note, Noted, Finish}
+
+-- ---- acts
+
+-- a phase of a call behind its beginning
+abbrev pub is_phase : Act → Bool
+is_phase (Decide refused) = true
+is_phase (Settle how) = true
+is_phase Commit = true
+is_phase (Note id) = true
+is_phase (Noted id how) = true
+is_phase (Finish answer) = true
+is_phase _ = false
+
+-- an act of a call
+abbrev pub is_call : Act → Bool
+is_call (Begin code a b) = true
+is_call (Decide refused) = true
+is_call (Settle how) = true
+is_call Commit = true
+is_call (Note id) = true
+is_call (Noted id how) = true
+is_call (Finish answer) = true
+is_call _ = false
+
+abbrev pub is_decide : Act → Bool
+is_decide (Decide refused) = true
+is_decide _ = false
+
+abbrev pub is_commit : Act → Bool
+is_commit Commit = true
+is_commit _ = false
+
+abbrev pub is_finish : Act → Bool
+is_finish (Finish answer) = true
+is_finish _ = false
+
+-- a Settle after which the call goes on
+abbrev pub is_agreement : Act → Bool
+is_agreement (Settle Agreed) = true
+is_agreement (Settle Timeout) = true
+is_agreement _ = false
+
+-- the call that the act begins
+abbrev pub call_begun : Act → Call
+call_begun (Begin code a b) = decoded code a b
+call_begun _ = Unknown
+
+-- ---- which call is open
+
+abbrev pub begun_by : Option Entry → Entry → Act → Option Entry
+begun_by begun entry (Begin code a b) = Some entry
+begun_by begun entry (Finish answer) = None
+begun_by begun entry act = begun
+
+-- the last beginning of a call that no end follows
+abbrev pub begun : List Entry → Option Entry
+begun entries = fold (λ (b : Option Entry) (entry : Entry). begun_by b entry entry.act) None entries
+
+-- the call that is open is the one that was begun, by its CPU
+abbrev pub IsBegun : Option Entry → Option OpenCall → Type 0
+IsBegun None None = Unit {0}
+IsBegun None (Some o) = ⊥
+IsBegun (Some entry) None = ⊥
+IsBegun (Some entry) (Some o) = (o.caller ≡ entry.cpu) × (o.call ≡ call_begun entry.act)
+
+-- ---- what follows what
+
+-- behind the Commit, or the last note that was heard, of a call that others are told of
+abbrev pub IsNoteOr : (ℤ → Type 0) → Act → Type 0
+IsNoteOr answers next = ((id : ℕ) × (next ≡ Note id)) ⊎ ((answer : ℤ) × answers answer × (next ≡ Finish answer))
+
+-- a create ends with an id, a destroy with 0
+abbrev pub IsTelling : Call → Act → Type 0
+IsTelling (Create at) next = IsNoteOr (λ (answer : ℤ). (id : ℕ) × (answer ≡ pos id)) next
+IsTelling (Destroy id) next = IsNoteOr (λ (answer : ℤ). answer ≡ pos 0) next
+IsTelling call next = ⊥
+
+abbrev pub IsBehindCommit : Call → Act → Type 0
+IsBehindCommit (Start id) next = next ≡ Finish (pos 0)
+IsBehindCommit (Loadable id) next = next ≡ Finish (pos 0)
+IsBehindCommit call next = IsTelling call next
+
+-- where nothing refuses the call, a create is committed, and any other call asks its cell
+abbrev pub IsBehindGo : Call → Act → Type 0
+IsBehindGo (Create at) next = next ≡ Commit
+IsBehindGo call next = (how : Settled) × (next ≡ Settle how)
+
+-- the caller's next act behind this one of its call
+abbrev pub MayFollow : Call → Act → Act → Type 0
+MayFollow call (Begin code a b) next = (refused : Option ℤ) × (next ≡ Decide refused)
+MayFollow call (Decide (Some number)) next = next ≡ Finish number
+MayFollow call (Decide None) next = IsBehindGo call next
+MayFollow call (Settle Agreed) next = next ≡ Commit
+MayFollow call (Settle Timeout) next = next ≡ Commit
+MayFollow call (Settle Denied) next = next ≡ Finish EPERM
+MayFollow call Commit next = IsBehindCommit call next
+MayFollow call (Note id) next = (how : Heard) × (next ≡ Noted id how)
+MayFollow call (Noted id how) next = IsTelling call next
+MayFollow call act next = ⊥

@@ -1,0 +1,40 @@
+//! Management calls: which is open, who is suspended by it, and what may follow what in it.
+ghost use Rattle.std.specs.Prelude.{◌≡◌, ◌≢◌, ℕ, List, [], ◌∷◌, ◌++◌, Some, None, true, false, All};
+ghost use Rattle.jh_script.specs.declared.image.Image.{Image as TheImage};
+ghost use Rattle.jh_history.specs.declared.entry.Entry.{Entry as TheEntry};
+ghost use Rattle.jh_history.specs.declared.entry.Act.TheVariants.{Begin, Stop};
+ghost use Rattle.jh_history.specs.Due.{IsLegal};
+ghost use Rattle.jh_history.specs.Admitted.{IsAdmitted};
+ghost use Rattle.jh_history.specs.Calls.{is_named};
+ghost use Rattle.jh_laws.specs.Moments.{AdmittedJournal, AdmittedMoment, call_of};
+ghost use Rattle.jh_laws.specs.Ways.{is_call, is_phase, is_decide, is_agreement, is_commit, is_finish, begun, call_begun, IsBegun, MayFollow};
+
+/// The call that is open is the last that was begun and not ended, and its CPU is the caller. None begins while
+/// another is open, and each of its phases is an entry of its caller.
+pub fn one_call_is_open()
+    ensures open { (j : AdmittedJournal) → IsBegun (begun j.entries) (call_of j) }
+    ensures begins { (m : AdmittedMoment) (code a b : ℕ) → m.entry.act ≡ Begin code a b → begun m.before ≡ None }
+    ensures phases { (m : AdmittedMoment) → is_phase m.entry.act ≡ true →
+        (first : TheEntry) × (begun m.before ≡ Some first) × (first.cpu ≡ m.entry.cpu) }
+{}
+
+/// What the CPU does next, behind an entry of its call that doesn't end it.
+pub fn calls_go_phase_by_phase()
+    ensures { (image : TheImage) (before middle rest : List TheEntry) (one next : TheEntry) → IsAdmitted image →
+        IsLegal image (before ++ one ∷ (middle ++ next ∷ rest)) → is_call one.act ≡ true → is_finish one.act ≡ false →
+        All (λ (e : TheEntry). e.cpu ≢ one.cpu) middle → next.cpu ≡ one.cpu →
+        (first : TheEntry) × (begun (before ++ one ∷ []) ≡ Some first) × MayFollow (call_begun first.act) one.act next.act }
+{}
+
+/// From a Decide to the end of its call no CPU of root but the caller makes an entry. From a Settle that isn't
+/// denied to the Commit a CPU of the cell that the call is about makes no entry but its stop.
+pub fn suspended_cpus_make_no_entry()
+    ensures roots { (image : TheImage) (before middle rest : List TheEntry) (decide entry : TheEntry) → IsAdmitted image →
+        IsLegal image (before ++ decide ∷ (middle ++ entry ∷ rest)) → is_decide decide.act ≡ true →
+        All (λ (e : TheEntry). is_finish e.act ≡ false) middle →
+        entry.cell ≡ image.system.root.id → entry.cpu ≡ decide.cpu }
+    ensures cells { (image : TheImage) (before middle rest : List TheEntry) (first settle entry : TheEntry) → IsAdmitted image →
+        IsLegal image (before ++ settle ∷ (middle ++ entry ∷ rest)) → is_agreement settle.act ≡ true →
+        All (λ (e : TheEntry). is_commit e.act ≡ false) middle →
+        begun before ≡ Some first → is_named (call_begun first.act) entry.cell ≡ true → entry.act ≡ Stop }
+{}
