@@ -1,5 +1,5 @@
 -- Live cells by their configurations, and lists that loops change an element at a time.
-use Rattle.std.proofs.Common.{◌≡◌, ℕ, zero, suc, ◌+◌, ◌<◌, ◌≤◌, Bool, true, false, cond, ◌||◌, ◌&&◌, eqb, List, [], ◌∷◌, ◌++◌, length, get_or, drop, set, remove, Option, Some, None, refl, sym, ap, ◌∙◌, arith}
+use Rattle.std.proofs.Common.{◌≡◌, ℕ, zero, suc, ◌+◌, ◌-◌, ◌<◌, ◌≤◌, Bool, true, false, cond, ◌||◌, ◌&&◌, not, eqb, List, [], ◌∷◌, ◌++◌, length, get_or, drop, set, remove, Option, Some, None, refl, sym, ap, ◌∙◌, arith}
 use Rattle.std.specs.Prelude.{find, map, filter, option_map}
 use Rattle.std.proofs.lemmas.List.{drop_more, drop_all}
 use Rattle.jh_num.proofs.Lists.{find-map}
@@ -9,7 +9,7 @@ use Rattle.jh_cellcfg.specs.Lives.{has_id, id_of}
 use Rattle.jh_history.specs.Lives.{live_in}
 use Rattle.jh_history.specs.Phases.{configs_of}
 use Rattle.jh_history.specs.Calls.{is_told, is_told_by, first_told, behind}
-use Rattle.jh_history.specs.Commits.{marked}
+use Rattle.jh_history.specs.Commits.{marked, is_other}
 use Rattle.jh_history.specs.LiveView.{joined}
 
 abbrev config : Live → CellConfig
@@ -206,3 +206,58 @@ joined-at i [] marks d c e lt = absurd (omega arith)
 joined-at i (x ∷ cs) [] d c e lt = absurd (omega arith)
 joined-at zero (x ∷ cs) (m ∷ ms) d c e lt = refl
 joined-at (suc i) (x ∷ cs) (m ∷ ms) d c e lt = joined-at i cs ms d c (omega arith) (omega arith)
+
+-- a loop that takes cells away, from the last one on
+leave-at : (k id : ℕ) (first cells : List CellConfig) (first_marks marks : List Bool) (c : CellConfig) → length first_marks ≡ length first → length marks ≡ length cells → k < length first
+    → k < length cells → c ≡ get_or cells k c → joined cells marks ≡ left_from (suc k) (is_other id) (joined first first_marks)
+    → is_other id (get_or (joined first first_marks) k (live_of c false)) ≡ not (has_number id c)
+leave-at k id first cells first_marks marks c even_first even lt within is left =
+    let d = live_of c false in
+    let long : k < length (joined first first_marks) = (let e = length-joined first first_marks even_first in omega arith) in
+    let same : get_or (joined cells marks) k d ≡ get_or (joined first first_marks) k d =
+    ap (λ (lives : List Live). get_or lives k d) left ∙ left_from-at k (is_other id) (joined first first_marks) d long in
+    let at : config (get_or (joined first first_marks) k d) ≡ c = ap config (sym same) ∙ joined-at k cells marks d c even within ∙ sym is in
+    ap (λ (x : CellConfig). not (has_number id x)) at
+
+pub leave-within : (k id : ℕ) (first cells : List CellConfig) (first_marks marks : List Bool) → length first_marks ≡ length first → length marks ≡ length cells → k < length first
+    → joined cells marks ≡ left_from (suc k) (is_other id) (joined first first_marks) → k < length cells
+leave-within k id first cells first_marks marks even_first even lt left =
+    let long : k < length (joined first first_marks) = (let e = length-joined first first_marks even_first in omega arith) in
+    let h = left_from-long k (is_other id) (joined first first_marks) long in
+    let e : length (joined cells marks) ≡ length (left_from (suc k) (is_other id) (joined first first_marks)) = ap (λ (lives : List Live). length lives) left in
+    let f = length-joined cells marks even in
+    omega arith
+
+pub leave-keep : (k id : ℕ) (first cells : List CellConfig) (first_marks marks : List Bool) (c : CellConfig) → length first_marks ≡ length first → length marks ≡ length cells → k < length first
+    → c ≡ get_or cells k c → joined cells marks ≡ left_from (suc k) (is_other id) (joined first first_marks) → has_number id c ≡ false
+    → joined cells marks ≡ left_from k (is_other id) (joined first first_marks)
+leave-keep k id first cells first_marks marks c even_first even lt is left other =
+    let within = leave-within k id first cells first_marks marks even_first even lt left in
+    let long : k < length (joined first first_marks) = (let e = length-joined first first_marks even_first in omega arith) in
+    left
+    ∙ left_from-keep k (is_other id) (joined first first_marks) (live_of c false) long
+    (leave-at k id first cells first_marks marks c even_first even lt within is left ∙ ap not other)
+
+pub leave-drop : (k id : ℕ) (first cells : List CellConfig) (first_marks marks : List Bool) (c : CellConfig) → length first_marks ≡ length first → length marks ≡ length cells → k < length first
+    → c ≡ get_or cells k c → joined cells marks ≡ left_from (suc k) (is_other id) (joined first first_marks) → has_number id c ≡ true
+    → joined (remove cells k) (remove marks k) ≡ left_from k (is_other id) (joined first first_marks)
+leave-drop k id first cells first_marks marks c even_first even lt is left other =
+    let within = leave-within k id first cells first_marks marks even_first even lt left in
+    let long : k < length (joined first first_marks) = (let e = length-joined first first_marks even_first in omega arith) in
+    joined-remove k cells marks even within
+    ∙ ap (λ (lives : List Live). remove lives k) left
+    ∙ left_from-drop k (is_other id) (joined first first_marks) (live_of c false) long
+    (leave-at k id first cells first_marks marks c even_first even lt within is left ∙ ap not other)
+
+pub leave-even : (k : ℕ) (cells : List CellConfig) (marks : List Bool) → length marks ≡ length cells → k < length cells → length (remove marks k) ≡ length (remove cells k)
+leave-even k cells marks even lt =
+    let a = length-removed k cells lt in
+    let b = length-removed k marks (omega arith) in
+    omega arith
+
+pub leave-so_far : (i id : ℕ) (lives rest : List Live) → 0 < i → lives ≡ left_from i (is_other id) rest → lives ≡ left_from (suc (i - 1)) (is_other id) rest
+leave-so_far i id lives rest some is = is ∙ (let e : i ≡ suc (i - 1) = omega arith in ap (λ (n : ℕ). left_from n (is_other id) rest) e)
+
+pub leave-begin : (n id : ℕ) (cells : List CellConfig) (marks : List Bool) → length marks ≡ length cells → n ≡ length cells → joined cells marks ≡ left_from n (is_other id) (joined cells marks)
+leave-begin n id cells marks even is =
+    sym (ap (λ (k : ℕ). left_from k (is_other id) (joined cells marks)) (is ∙ sym (length-joined cells marks even)) ∙ left_from-all (is_other id) (joined cells marks))

@@ -1,0 +1,245 @@
+//! What an entry writes into a communication page, for the hypervisor.
+ghost use Rattle.std.specs.Prelude.{◌≡◌, ℕ, ◌<◌, ◌&&◌, List, Some, length, slice_get, option_map, option_and_then, option_copied};
+ghost use Rattle.jh_call.specs.declared.call.Call.TheVariants.{Create};
+ghost use Rattle.jh_history.specs.declared.call.OpenCall.{OpenCall as TheOpenCall};
+ghost use Rattle.jh_history.specs.declared.comm.PageChange.TheVariants.{State, Fresh};
+ghost use Rattle.jh_history.specs.Commits.{created};
+ghost use Rattle.jh_cpu.specs.declared.cpu.Cpu.{Cpu as TheCpu};
+ghost use Rattle.jh_cellcfg.specs.declared.config.CellConfig.{CellConfig as TheConfig};
+ghost use Rattle.jh_cellcfg.specs.declared.live.Live.{Live as TheLive};
+ghost use Rattle.jh_check.specs.Refusals.{any_below};
+ghost use Rattle.jh_history.specs.Facts.{Facts};
+ghost use Rattle.jh_history.specs.Lives.{is_on_board as is_on_board_lem, live_in as live_in_lem};
+ghost use Rattle.jh_history.specs.Cpus.{cpu_after};
+ghost use Rattle.jh_history.specs.Phases.{configs_of};
+ghost use Rattle.jh_history.specs.Pages.{on_page as on_page_lem, named_cell as named_cell_lem, is_left as is_left_lem, failing as failing_lem, unless_good as unless_good_lem, asking as asking_lem, committing as committing_lem, page_write_by};
+
+use crate::call::{OpenCall, Phase};
+use crate::cells::is_on_board;
+use crate::comm::{PageChange, PageWrite};
+use crate::entry::{Act, Entry, Heard, Settled};
+use jh_call::Call;
+use jh_cellcfg::CellConfig;
+use jh_comm::{
+    MESSAGE_RECONFIG_COMPLETED, MESSAGE_SHUTDOWN_REQUEST, STATE_FAILED, STATE_RUNNING,
+    STATE_SHUT_DOWN,
+};
+use jh_cpu::{Cpu, Mode};
+use jh_script::Image;
+
+/// A write into the page of the cell.
+fn on_page(change: PageChange, cell: &CellConfig) -> PageWrite
+    ensures { result ≡ on_page_lem change cell.now }
+{
+    PageWrite {
+        cell: cell.id,
+        change,
+    }
+}
+
+/// The configuration of the cell with the id among these.
+pub(crate) fn live_in(cells: &[CellConfig], id: u64) -> Option<&CellConfig>
+    ensures { (lives : List TheLive) → configs_of lives ≡ cells.now → option_copied result ≡ live_in_lem lives id }
+{
+    for cell in cells {
+        if u64::from(cell.id) == id {
+            return Some(cell);
+        }
+    }
+    None
+}
+
+/// The live cell that the call names.
+fn named_cell<'a>(cells: &'a [CellConfig], call: &Call) -> Option<&'a CellConfig>
+    ensures { (lives : List TheLive) → configs_of lives ≡ cells.now → option_copied result ≡ named_cell_lem lives call.now }
+{
+    match *call {
+        Call::Start { id } | Call::Loadable { id } | Call::Destroy { id } => live_in(cells, id),
+        _ => None,
+    }
+}
+
+/// Whether the CPU is the cell's, and hasn't failed.
+fn is_left(cell: u32, cpu: Cpu) -> bool
+    ensures { result ≡ is_left_lem cell cpu }
+{
+    cpu.owner == cell
+        && match cpu.mode {
+            Mode::Running | Mode::Parked => true,
+            Mode::Failed => false,
+        }
+}
+
+/// Whether one of the CPUs is the cell's, and hasn't failed.
+fn is_any_left(image: &Image, cell: u32, cpus: &[Cpu]) -> bool
+    requires { length cpus.now ≡ 16 }
+    ensures { (state : ℕ → TheCpu) → ((i : ℕ) → i < 16 → slice_get cpus.now i ≡ Some (state i)) → result ≡ any_below (λ i. is_on_board_lem image.now i && is_left_lem cell (state i)) 16 }
+{
+    for i in 0..16u8 {
+        if is_on_board(image, i) && is_left(cell, cpus[usize::from(i)]) {
+            return true;
+        }
+    }
+    false
+}
+
+/// A violation after which all CPUs of a cell besides root have failed puts it into the state FAILED.
+fn failing(image: &Image, cpus: &[Cpu], entry: &Entry) -> Option<PageWrite>
+    requires { length cpus.now ≡ 16 }
+    ensures { (f : Facts) → ((i : ℕ) → i < 16 → slice_get cpus.now i ≡ Some (cpu_after image.now f entry.now i)) → result ≡ failing_lem image.now f entry.now }
+{
+    if entry.cell == image.system.root.id || is_any_left(image, entry.cell, cpus) {
+        return None;
+    }
+    Some(PageWrite {
+        cell: entry.cell,
+        change: PageChange::State(STATE_FAILED),
+    })
+}
+
+fn unless_good(good: bool, write: Option<PageWrite>) -> Option<PageWrite>
+    ensures { result ≡ unless_good_lem good write }
+{
+    if good { None } else { write }
+}
+
+/// At a Decide that goes on, the cell is asked to shut down, unless it is passive.
+fn asking(cells: &[CellConfig], call: &Call) -> Option<PageWrite>
+    ensures { (lives : List TheLive) → configs_of lives ≡ cells.now → result ≡ asking_lem lives call.now }
+{
+    match named_cell(cells, call) {
+        Some(cell) => {
+            if cell.is_passive() {
+                None
+            } else {
+                Some(on_page(PageChange::Message(MESSAGE_SHUTDOWN_REQUEST), cell))
+            }
+        }
+        None => None,
+    }
+}
+
+/// The change of the page, where there is a cell.
+fn on_page_of(change: PageChange, cell: Option<&CellConfig>) -> Option<PageWrite>
+    ensures { result ≡ option_map (on_page_lem change) (option_copied cell.entry) }
+{
+    match cell {
+        Some(cell) => Some(on_page(change, cell)),
+        None => None,
+    }
+}
+
+/// A fresh page of the cell.
+fn fresh_of(state: u32, window: u64, cell: Option<&CellConfig>) -> Option<PageWrite>
+    ensures { result ≡ option_map (λ (c : TheConfig). on_page_lem (Fresh state c.console window) c) (option_copied cell.entry) }
+{
+    match cell {
+        Some(cell) => {
+            let console = cell.console;
+            let change = PageChange::Fresh {
+                state,
+                console,
+                window,
+            };
+            Some(on_page(change, cell))
+        }
+        None => None,
+    }
+}
+
+/// The configuration of the cell that the phase creates.
+fn coming_in(phase: &Phase) -> Option<&CellConfig>
+    ensures { (at : ℕ) → option_copied result ≡ created (Create at) phase.now }
+{
+    match phase {
+        Phase::ToCreate { config } => Some(config),
+        _ => None,
+    }
+}
+
+/// By the Commit of a create and of a start the page is fresh, by that of a set loadable its state is
+/// SHUT_DOWN.
+fn committing(window: u64, cells: &[CellConfig], begun: &OpenCall) -> Option<PageWrite>
+    ensures { (lives : List TheLive) → configs_of lives ≡ cells.now → result ≡ committing_lem window lives begun.now.call begun.now.phase }
+{
+    match begun.call {
+        Call::Create { .. } => fresh_of(STATE_SHUT_DOWN, window, coming_in(&begun.phase)),
+        Call::Start { id } => fresh_of(STATE_RUNNING, window, live_in(cells, id)),
+        Call::Loadable { id } => {
+            on_page_of(PageChange::State(STATE_SHUT_DOWN), live_in(cells, id))
+        }
+        _ => None,
+    }
+}
+
+/// What a Decide that goes on writes.
+fn at_decide(cells: &[CellConfig], call: Option<&OpenCall>) -> Option<PageWrite>
+    ensures { (lives : List TheLive) → configs_of lives ≡ cells.now → result ≡ option_and_then (λ (o : TheOpenCall). asking_lem lives o.call) (option_copied call.entry) }
+{
+    match call {
+        Some(begun) => asking(cells, &begun.call),
+        None => None,
+    }
+}
+
+/// What a Settle writes at which the cell's time is over.
+fn at_timeout(cells: &[CellConfig], call: Option<&OpenCall>) -> Option<PageWrite>
+    ensures { (lives : List TheLive) → configs_of lives ≡ cells.now → result ≡ option_and_then (λ (o : TheOpenCall). option_map (on_page_lem (State STATE_FAILED)) (named_cell_lem lives o.call)) (option_copied call.entry) }
+{
+    match call {
+        Some(begun) => on_page_of(
+            PageChange::State(STATE_FAILED),
+            named_cell(cells, &begun.call),
+        ),
+        None => None,
+    }
+}
+
+/// What a Commit writes.
+fn at_commit(window: u64, cells: &[CellConfig], call: Option<&OpenCall>) -> Option<PageWrite>
+    ensures { (lives : List TheLive) → configs_of lives ≡ cells.now → result ≡ option_and_then (λ (o : TheOpenCall). committing_lem window lives o.call o.phase) (option_copied call.entry) }
+{
+    match call {
+        Some(begun) => committing(window, cells, begun),
+        None => None,
+    }
+}
+
+/// What the entry writes into a page, and into which. `cells` are the configurations of the cells that live
+/// besides root and `call` is the call that is open, both before the entry; `cpus` are the CPUs after it.
+pub fn page_write(
+    image: &Image,
+    cells: &[CellConfig],
+    call: Option<&OpenCall>,
+    cpus: &[Cpu],
+    entry: &Entry,
+) -> Option<PageWrite>
+    requires { length cpus.now ≡ 16 }
+    ensures { (f : Facts) → configs_of f.cells ≡ cells.now → f.call ≡ option_copied call.entry → ((i : ℕ) → i < 16 → slice_get cpus.now i ≡ Some (cpu_after image.now f entry.now i)) → result ≡ page_write_by image.now f entry.now entry.now.act }
+{
+    match entry.act {
+        Act::Read { got, .. } | Act::Fetch { got, .. } => {
+            unless_good(got.is_some(), failing(image, cpus, entry))
+        }
+        Act::Write { ok, .. } | Act::Await { ok, .. } => {
+            unless_good(ok, failing(image, cpus, entry))
+        }
+        Act::Note { id } => Some(PageWrite {
+            cell: id,
+            change: PageChange::Message(MESSAGE_RECONFIG_COMPLETED),
+        }),
+        Act::Noted {
+            id,
+            how: Heard::Timeout,
+        } => Some(PageWrite {
+            cell: id,
+            change: PageChange::State(STATE_FAILED),
+        }),
+        Act::Decide { refused: None } => at_decide(cells, call),
+        Act::Settle {
+            how: Settled::Timeout,
+        } => at_timeout(cells, call),
+        Act::Commit => at_commit(image.system.pci_mmconfig_base, cells, call),
+        _ => None,
+    }
+}
