@@ -1,17 +1,20 @@
 //! What an entry does to what a board holds.
-ghost use Rattle.std.specs.Prelude.{◌≡◌, ℕ, ◌<◌, ◌≤◌, OnOk, OnErr, IfOk, IfSome, None};
+ghost use Rattle.std.specs.Prelude.{◌≡◌, ℕ, ◌<◌, ◌≤◌, AllPairs, OnOk, OnErr, IfOk, IfSome, Some, None};
+ghost use Rattle.std.specs.Option.{option_map_or};
+ghost use Rattle.jh_cellcfg.specs.declared.config.CellConfig.{CellConfig as TheConfig};
+ghost use Rattle.jh_mmio.specs.Index.{SharesNoAddress};
 ghost use Rattle.jh_script.specs.declared.image.Image.{Image};
 ghost use Rattle.jh_history.specs.declared.place.Place.{Place as ThePlace};
 ghost use Rattle.jh_history.specs.Access.{write_of};
 ghost use Rattle.jh_history.specs.Bytes.{byte_written};
 ghost use Rattle.jh_history.specs.Commits.{cells_by, created_by};
 ghost use Rattle.jh_history.specs.Facts.{Facts};
-ghost use Rattle.jh_history.specs.History.{after, call_after as call_after_lem};
-ghost use Rattle.jh_history.specs.Calls.{call_by};
-ghost use Rattle.jh_history.specs.Wants.{IsReachOfAct};
+ghost use Rattle.jh_history.specs.History.{after};
+ghost use Rattle.jh_history.specs.Due.{due_at};
+ghost use Rattle.jh_history.specs.Wants.{IsReachOfAct, IsReachOfEntry};
 ghost use Rattle.jh_board.specs.Pages.{byte_of, HoldsComm};
-ghost use Rattle.jh_board.specs.Means.{Means, IsReady};
-ghost use Rattle.jh_board.specs.Steps.{CellsChange as TheChange, change_of_cells as change_of_cells_lem, changed_cells, IsNext, IsDue, IsWritten, MayWrite, MayJoin};
+ghost use Rattle.jh_board.specs.Means.{Means, IsReadyFor};
+ghost use Rattle.jh_board.specs.Steps.{change_of_call as change_of_call_lem, change_of_cells as change_of_cells_lem, changed_cells, IsNext, IsRead, WillBeReady, IsPrepared, MayWrite, MayWriteOf, MayJoin, joined_cells};
 
 use crate::cells::LiveCells;
 use crate::held::Held;
@@ -29,28 +32,35 @@ use jh_num::NoMemory;
 /// What a Commit does to the cells that live already.
 #[derive(Clone, Copy, PartialEq, Eq, Debug)]
 pub enum CellsChange {
-    None,
+    Keep,
     /// The cell becomes loadable, or is so no longer.
     Mark { id: u64, loadable: bool },
     /// The cell lives no longer.
     Remove { id: u64 },
 }
 
+/// What the Commit of the call does to the cells that live already.
+fn change_of_call(call: &Call) -> CellsChange
+    ensures { result ≡ change_of_call_lem call.now }
+{
+    match *call {
+        Call::Start { id } => CellsChange::Mark {
+            id,
+            loadable: false,
+        },
+        Call::Loadable { id } => CellsChange::Mark { id, loadable: true },
+        Call::Destroy { id } => CellsChange::Remove { id },
+        _ => CellsChange::Keep,
+    }
+}
+
 /// What the act does to the cells that live already, where the call is open.
 fn change_of_cells(call: Option<&OpenCall>, act: &Act) -> CellsChange
-    ensures { (f : Facts) → f.call ≡ option_copied call.entry → result ≡ change_of_cells_lem f.call act.now }
+    ensures { result ≡ change_of_cells_lem (option_copied call.entry) act.now }
 {
     match (act, call) {
-        (Act::Commit, Some(begun)) => match begun.call {
-            Call::Start { id } => CellsChange::Mark {
-                id,
-                loadable: false,
-            },
-            Call::Loadable { id } => CellsChange::Mark { id, loadable: true },
-            Call::Destroy { id } => CellsChange::Remove { id },
-            _ => CellsChange::None,
-        },
-        _ => CellsChange::None,
+        (Act::Commit, Some(begun)) => change_of_call(&begun.call),
+        _ => CellsChange::Keep,
     }
 }
 
@@ -60,14 +70,22 @@ fn change_cells(cells: &mut LiveCells, change: CellsChange)
     ensures lives { cells.new.lives ≡ changed_cells change cells.old.lives }
 {
     match change {
-        CellsChange::None => {}
+        CellsChange::Keep => {}
         CellsChange::Mark { id, loadable } => cells.set_loadable(id, loadable),
         CellsChange::Remove { id } => cells.remove(id),
     }
 }
 
 /// The configuration that a create reads at its Decide, where it goes on.
-fn coming_of(image: &IndexedImage, held: &Held, entry: &Entry) -> Result<Option<CellConfig>, NoMemory>
+fn coming_of(
+    image: &IndexedImage,
+    held: &Held,
+    entry: &Entry,
+) -> Result<Option<CellConfig>, NoMemory>
+    requires { IsNext image.now held.now entry.now }
+    ensures read { (f : Facts) → Means image.now held.now f → due_at image.now f entry.now.cpu ≡ Some entry.now → IfOk result (IsRead image.now f entry.now) }
+    ensures ready { (f : Facts) → Means image.now held.now f → due_at image.now f entry.now.cpu ≡ Some entry.now → IfOk result (WillBeReady image.now f entry.now) }
+    ensures apart { IfOk result (λ coming. IfSome coming (λ config. AllPairs SharesNoAddress config.memory_regions)) }
 {
     let Act::Decide { refused: None } = entry.act else {
         return Ok(None);
@@ -78,7 +96,8 @@ fn coming_of(image: &IndexedImage, held: &Held, entry: &Entry) -> Result<Option<
     let Call::Create { at } = begun.call else {
         return Ok(None);
     };
-    match State::new(image, held).creation(begun.caller, at)? {
+    let state = State::new(image, held);
+    match state.creation(begun.caller, at)? {
         Creation::Comes { config } => Ok(Some(config)),
         Creation::Refused { .. } => Ok(None),
     }
@@ -86,6 +105,9 @@ fn coming_of(image: &IndexedImage, held: &Held, entry: &Entry) -> Result<Option<
 
 /// Takes all memory that the cell needs when it comes.
 fn make_ready(held: &mut Held, config: &CellConfig) -> Result<(), NoMemory>
+    requires { AllPairs SharesNoAddress config.now.memory_regions }
+    ensures ready { OnOk result (IsReadyFor held.new config.now) }
+    ensures means { (i : Image) (f : Facts) → Means i held.old f → Means i held.new f }
 {
     let index = held.cells.prepare(held.alloc, config)?;
     held.memory.hold_page(config.id)?;
@@ -94,7 +116,14 @@ fn make_ready(held: &mut Held, config: &CellConfig) -> Result<(), NoMemory>
 }
 
 /// Takes all memory that the entry needs, and tells the configuration that it reads.
-fn prepare(image: &IndexedImage, held: &mut Held, entry: &Entry) -> Result<Option<CellConfig>, NoMemory>
+fn prepare(
+    image: &IndexedImage,
+    held: &mut Held,
+    entry: &Entry,
+) -> Result<Option<CellConfig>, NoMemory>
+    requires { IsNext image.now held.old entry.now }
+    ensures means { (f : Facts) → Means image.now held.old f → Means image.now held.new f }
+    ensures ok { (f : Facts) → Means image.now held.old f → due_at image.now f entry.now.cpu ≡ Some entry.now → IfOk result (IsPrepared image.now held.new f entry.now) }
 {
     let coming = coming_of(image, held, entry)?;
     if let Some(config) = &coming {
@@ -118,6 +147,10 @@ fn make_write(memory: &mut Memory, reach: &Reach, value: u64) -> Result<(), NoMe
 
 /// Writes what the act writes where it reaches.
 fn make_bytes(memory: &mut Memory, act: &Act, reach: &Reach) -> Result<(), NoMemory>
+    requires { MayWriteOf memory.old act.now reach.now }
+    ensures ok { OnOk result ((i : Image) (f : Facts) (cell : ℕ) → ((q : ThePlace) → byte_of memory.old q ≡ f.byte q) → IsReachOfAct i f cell act.now reach.now → (q : ThePlace) → byte_of memory.new q ≡ byte_written i f cell act.now q) }
+    ensures err { OnErr result ((q : ThePlace) → byte_of memory.new q ≡ byte_of memory.old q) }
+    ensures held { (cell : ℕ) → HoldsComm memory.old.comms cell → HoldsComm memory.new.comms cell }
 {
     match *act {
         Act::Write { value, ok, .. } => {
@@ -130,22 +163,29 @@ fn make_bytes(memory: &mut Memory, act: &Act, reach: &Reach) -> Result<(), NoMem
     }
 }
 
-/// The cells after the entry: the one that it creates joins them.
+/// The cells after the entry: the one that it creates joins them, with its index.
 fn make_cells(
     cells: &mut LiveCells,
-    index: Option<RegionIndex>,
+    index: &mut Option<RegionIndex>,
     created: Option<CellConfig>,
     change: CellsChange,
-) {
-    match (created, index) {
-        (Some(config), Some(index)) => cells.add(config, index),
-        _ => change_cells(cells, change),
+)
+    requires { IfSome created (MayJoin cells.old index.old) }
+    ensures system { cells.new.system ≡ cells.old.system }
+    ensures lives { cells.new.lives ≡ option_map_or (joined_cells cells.old.lives) created (changed_cells change cells.old.lives) }
+    ensures kept { created ≡ None → change ≡ CellsChange.Keep → (cells.new ≡ cells.old) × (index.new ≡ index.old) }
+{
+    match created {
+        Some(config) => match index.take() {
+            Some(index) => cells.add(config, index),
+            None => unreachable!(),
+        },
+        None => change_cells(cells, change),
     }
 }
 
-/// All that the entry does but its write.
-fn finish(image: &IndexedImage, held: &mut Held, entry: &Entry, coming: Option<CellConfig>) {
-    cpus_after(&mut held.cpus, image.image(), held.call.as_ref(), entry);
+/// Writes into a communication page what the entry of the hypervisor's writes; the CPUs are those after it.
+fn make_page(image: &IndexedImage, held: &mut Held, entry: &Entry) {
     let write = page_write(
         image.image(),
         held.cells.list(),
@@ -156,12 +196,15 @@ fn finish(image: &IndexedImage, held: &mut Held, entry: &Entry, coming: Option<C
     if let Some(write) = &write {
         held.memory.change_page(write);
     }
+}
+
+/// The open call after the entry, and the live cells.
+fn make_call(held: &mut Held, entry: &Entry, coming: Option<CellConfig>) {
     let change = change_of_cells(held.call.as_ref(), &entry.act);
     let begun = held.call.take();
     let Called { call, created } = call_after(held.cells.list(), coming, begun, entry);
     held.call = call;
-    let index = held.index.take();
-    make_cells(&mut held.cells, index, created, change);
+    make_cells(&mut held.cells, &mut held.index, created, change);
 }
 
 /// Makes the entry in what a board holds; `reach` is what its access reaches, where it makes one.
@@ -171,12 +214,20 @@ pub fn make(
     entry: &Entry,
     reach: &Reach,
 ) -> Result<(), NoMemory>
-    requires { IsNext image.now held.old entry.now reach.now }
-    ensures ok { OnOk result ((f : Facts) → Means image.now held.old f → IsDue image.now f entry.now reach.now → Means image.now held.new (after image.now f entry.now)) }
+    requires next { IsNext image.now held.old entry.now }
+    requires reached { (f : Facts) → Means image.now held.old f → IsReachOfEntry image.now f entry.now reach.now }
+    ensures ok { OnOk result ((f : Facts) → Means image.now held.old f → due_at image.now f entry.now.cpu ≡ Some entry.now → Means image.now held.new (after image.now f entry.now)) }
     ensures err { OnErr result ((f : Facts) → Means image.now held.old f → Means image.now held.new f) }
 {
     let coming = prepare(image, held, entry)?;
     make_bytes(&mut held.memory, &entry.act, reach)?;
-    finish(image, held, entry, coming);
+    cpus_after(
+        &mut held.cpus,
+        image.image(),
+        held.call.as_ref(),
+        entry,
+    );
+    make_page(image, held, entry);
+    make_call(held, entry, coming);
     Ok(())
 }
