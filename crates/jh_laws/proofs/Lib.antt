@@ -15,3 +15,4 @@ pub mod SoundDecideLemmas
 pub mod SoundCommitLemmas
 pub mod SoundLemmas
 pub mod CallLemmas
+pub mod HeldLemmas

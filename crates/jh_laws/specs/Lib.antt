@@ -8,3 +8,4 @@ pub mod Runs
 pub mod Sound
 pub mod Moments
 pub mod Ways
+pub mod Held
