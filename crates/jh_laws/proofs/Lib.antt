@@ -8,3 +8,4 @@ pub mod CpuLemmas
 pub mod ReadyLemmas
 pub mod RunLemmas
 pub mod CallLemmas
+pub mod HeldLemmas

@@ -7,3 +7,4 @@ pub mod Operations
 pub mod Runs
 pub mod Moments
 pub mod Ways
+pub mod Held

@@ -10,6 +10,7 @@ mod calls;
 mod cells;
 mod cpus;
 mod due;
+mod held;
 mod items;
 mod order;
 
@@ -27,6 +28,7 @@ pub use due::{
     due_entries_are_their_cpus_own, programs_are_found_by_cell_and_cpu,
     ready_cpus_have_an_entry_due,
 };
+pub use held::{accesses_end_as_granted, cells_are_granted_their_places, root_is_granted_the_rest};
 pub use items::{
     items_run_until_one_is_cut_short, played_journals_are_legal, played_journals_are_quiet_or_full,
     rounds_are_of_the_boards_cpus,
