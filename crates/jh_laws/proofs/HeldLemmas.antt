@@ -47,16 +47,16 @@ use Rattle.jh_history.specs.Due.{due_at, act_of, await_of, IsLegal}
 use Rattle.jh_history.specs.Admitted.{IsAdmitted}
 use Rattle.jh_history.proofs.LegalLemmas.{due-split, IsLegal-begin}
 use Rattle.jh_history.proofs.AccessLemmas.{reach_by-within, reach_by-beyond}
-use Rattle.jh_laws.specs.Sound.{AreTwo, AreSoundCells, IsSound}
+use Rattle.jh_history.specs.Sound.{AreTwo, AreSoundCells, IsSound}
 use Rattle.jh_laws.specs.Grants.{may, IsGranted}
 use Rattle.jh_laws.specs.Ways.{is_phase}
 use Rattle.jh_laws.specs.Held.{IsLive, IsLeft, IsGrantedTo, AreGrantedTo, IsGotBy, IsAwaitedBy, EndsAsGranted}
 use Rattle.jh_laws.proofs.RootLemmas.{has_address-first, has_address-last, has_address-from, gives-address, gives-pages, gives-right, gives-from, op-plain}
 use Rattle.jh_laws.proofs.ListedLemmas.{places_from-listed, places_from-each, places_from-some}
-use Rattle.jh_laws.proofs.SoundCpusLemmas.{other-root}
-use Rattle.jh_laws.proofs.SoundDecideLemmas.{found-live}
-use Rattle.jh_laws.proofs.SoundDueLemmas.{next-from_due}
-use Rattle.jh_laws.proofs.SoundLemmas.{legal-sound}
+use Rattle.jh_history.proofs.SoundCpusLemmas.{other-root}
+use Rattle.jh_history.proofs.SoundDecideLemmas.{found-live}
+use Rattle.jh_history.proofs.SoundDueLemmas.{next-from_due}
+use Rattle.jh_history.proofs.SoundLemmas.{legal-sound}
 use Rattle.jh_laws.proofs.CallLemmas.{IsMadeBy, Stopping, Running, Calling, made-by}
 
 -- ---- live cells by their ids
