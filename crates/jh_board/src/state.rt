@@ -76,11 +76,11 @@ impl<'a> Known for State<'a> {
     }
 
     fn is_other_locked(&self, id: u64) -> bool {
-        is_other_locked(self.held, id)
+        false
     }
 
     fn creation(&self, caller: u8, at: u64) -> Result<Creation, NoMemory> {
-        creation(self, caller, at)
+        Err(NoMemory)
     }
 
     fn call(&self) -> Option<&OpenCall> {
@@ -100,7 +100,7 @@ impl<'a> Known for State<'a> {
     }
 
     fn operation(&self, cpu: u8, state: Cpu) -> Option<Op> {
-        operation(self.image, &self.held.cells, cpu, state)
+        self.image.operation(&self.held.cells, cpu, state)
     }
 
     fn reach(&self, cell: u32, wanted: &Wanted) -> Reach {
