@@ -20,3 +20,5 @@ pub mod SoundStepLemmas
 pub mod SoundDecideLemmas
 pub mod SoundCommitLemmas
 pub mod SoundLemmas
+pub mod DuePhaseLemmas
+pub mod DueDecideLemmas

@@ -1,0 +1,31 @@
+//! What the facts of a sound board say where an entry is due, or where a cell is about to come. Each function
+//! does nothing; its contract is the law.
+ghost use Rattle.std.specs.Prelude.{◌≡◌, ◌≢◌, ℕ, ℤ, Option, Some, None};
+ghost use Rattle.jh_cellcfg.specs.declared.config.CellConfig.{CellConfig as TheConfig};
+ghost use Rattle.jh_call.specs.declared.call.Call.TheVariants.{Create};
+ghost use Rattle.jh_script.specs.declared.image.Image.{Image as TheImage};
+ghost use Rattle.jh_history.specs.declared.call.OpenCall.{OpenCall as TheCall};
+ghost use Rattle.jh_history.specs.declared.call.Creation.TheVariants.{Comes};
+ghost use Rattle.jh_history.specs.declared.call.Phase.TheVariants.{ToDecide};
+ghost use Rattle.jh_history.specs.declared.entry.Entry.{Entry as TheEntry};
+ghost use Rattle.jh_history.specs.declared.entry.Act.TheVariants.{Decide};
+ghost use Rattle.jh_history.specs.Facts.{Facts};
+ghost use Rattle.jh_history.specs.Configs.{Reads, read_at};
+ghost use Rattle.jh_history.specs.Phases.{creation_of};
+ghost use Rattle.jh_history.specs.Due.{due_at};
+ghost use Rattle.jh_history.specs.Sound.{IsSound};
+ghost use Rattle.jh_history.specs.DueFacts.{HasRead};
+
+/// A Decide that is due is an entry of the caller of the open call, which waits for it. A create that goes on
+/// by it has read the configuration of the cell that comes, and what comes of a create is always what it read.
+pub fn decides_are_of_the_open_call()
+    ensures call { (image : TheImage) (f : Facts) (entry : TheEntry) (refused : Option ℤ) → IsSound image f → due_at image f entry.cpu ≡ Some entry →
+        entry.act ≡ Decide refused → f.call ≢ None }
+    ensures caller { (image : TheImage) (f : Facts) (entry : TheEntry) (refused : Option ℤ) (o : TheCall) → IsSound image f → due_at image f entry.cpu ≡ Some entry →
+        entry.act ≡ Decide refused → f.call ≡ Some o → o.caller ≡ entry.cpu }
+    ensures phase { (image : TheImage) (f : Facts) (entry : TheEntry) (refused : Option ℤ) (o : TheCall) → IsSound image f → due_at image f entry.cpu ≡ Some entry →
+        entry.act ≡ Decide refused → f.call ≡ Some o → o.phase ≡ ToDecide }
+    ensures goes_on { (image : TheImage) (f : Facts) (entry : TheEntry) (o : TheCall) (at : ℕ) → IsSound image f → due_at image f entry.cpu ≡ Some entry →
+        entry.act ≡ Decide None → f.call ≡ Some o → o.call ≡ Create at → HasRead image f o.caller at }
+    ensures read { (image : TheImage) (f : Facts) (caller at : ℕ) (config : TheConfig) → creation_of image f caller at ≡ Comes config → read_at image f at ≡ Reads config }
+{}
