@@ -22,3 +22,4 @@ pub mod SoundCommitLemmas
 pub mod SoundLemmas
 pub mod DuePhaseLemmas
 pub mod DueDecideLemmas
+pub mod DueComesLemmas

@@ -6,7 +6,7 @@ ghost use Rattle.jh_call.specs.declared.call.Call.TheVariants.{Create};
 ghost use Rattle.jh_script.specs.declared.image.Image.{Image as TheImage};
 ghost use Rattle.jh_history.specs.declared.call.OpenCall.{OpenCall as TheCall};
 ghost use Rattle.jh_history.specs.declared.call.Creation.TheVariants.{Comes};
-ghost use Rattle.jh_history.specs.declared.call.Phase.TheVariants.{ToDecide};
+ghost use Rattle.jh_history.specs.declared.call.Phase.TheVariants.{ToDecide, ToCreate};
 ghost use Rattle.jh_history.specs.declared.entry.Entry.{Entry as TheEntry};
 ghost use Rattle.jh_history.specs.declared.entry.Act.TheVariants.{Decide};
 ghost use Rattle.jh_history.specs.Facts.{Facts};
@@ -14,7 +14,7 @@ ghost use Rattle.jh_history.specs.Configs.{Reads, read_at};
 ghost use Rattle.jh_history.specs.Phases.{creation_of};
 ghost use Rattle.jh_history.specs.Due.{due_at};
 ghost use Rattle.jh_history.specs.Sound.{IsSound};
-ghost use Rattle.jh_history.specs.DueFacts.{HasRead};
+ghost use Rattle.jh_history.specs.DueFacts.{HasRead, MayLive};
 
 /// A Decide that is due is an entry of the caller of the open call, which waits for it. A create that goes on
 /// by it has read the configuration of the cell that comes, and what comes of a create is always what it read.
@@ -28,4 +28,10 @@ pub fn decides_are_of_the_open_call()
     ensures goes_on { (image : TheImage) (f : Facts) (entry : TheEntry) (o : TheCall) (at : ℕ) → IsSound image f → due_at image f entry.cpu ≡ Some entry →
         entry.act ≡ Decide None → f.call ≡ Some o → o.call ≡ Create at → HasRead image f o.caller at }
     ensures read { (image : TheImage) (f : Facts) (caller at : ℕ) (config : TheConfig) → creation_of image f caller at ≡ Comes config → read_at image f at ≡ Reads config }
+{}
+
+/// A cell whose create isn't refused may live beside those that do, at the Decide and until it comes.
+pub fn a_cell_that_comes_may_live()
+    ensures decided { (image : TheImage) (f : Facts) (caller at : ℕ) (config : TheConfig) → IsSound image f → creation_of image f caller at ≡ Comes config → MayLive image f.cells config }
+    ensures comes { (image : TheImage) (f : Facts) (o : TheCall) (config : TheConfig) → IsSound image f → f.call ≡ Some o → o.phase ≡ ToCreate config → MayLive image f.cells config }
 {}
