@@ -23,3 +23,4 @@ pub mod SoundLemmas
 pub mod DuePhaseLemmas
 pub mod DueDecideLemmas
 pub mod DueComesLemmas
+pub mod DuePageLemmas

@@ -1,5 +1,5 @@
 -- What the facts of a sound board say where an entry is due, or where a cell is about to come.
-use Rattle.std.specs.Prelude.{◌≡◌, ℕ, ◌<◌, false, List, ◌∷◌, All, AllPairs}
+use Rattle.std.specs.Prelude.{◌≡◌, ◌⊎◌, ℕ, ◌<◌, false, List, ◌∷◌, Some, All, AllPairs, Contains}
 use Rattle.jh_cellcfg.specs.declared.config.CellConfig.{CellConfig}
 use Rattle.jh_cellcfg.specs.declared.live.Live.{Live}
 use Rattle.jh_cellcfg.specs.declared.region.Region.{Region}
@@ -7,7 +7,11 @@ use Rattle.jh_cellcfg.specs.Regions.{IsInRange}
 use Rattle.jh_check.specs.Clean.{SharesNoAddress}
 use Rattle.jh_check.specs.Refusals.{is_known}
 use Rattle.jh_script.specs.declared.image.Image.{Image}
+use Rattle.jh_history.specs.declared.call.OpenCall.{OpenCall}
 use Rattle.jh_history.specs.declared.call.Creation.TheVariants.{Comes}
+use Rattle.jh_history.specs.declared.call.Phase.TheVariants.{ToCreate}
+use Rattle.jh_history.specs.declared.entry.Act.{Act}
+use Rattle.jh_history.specs.declared.entry.Act.TheVariants.{Commit}
 use Rattle.jh_history.specs.Facts.{Facts}
 use Rattle.jh_history.specs.Configs.{Reads, read_at}
 use Rattle.jh_history.specs.Phases.{configs_of, creation_of}
@@ -24,3 +28,20 @@ pub record MayLive (image : Image) (cells : List Live) (config : CellConfig) : T
   pub unknown : is_known (image.system.root ∷ configs_of cells) config ≡ false
   pub apart : AllPairs SharesNoAddress config.memory_regions
   pub within : All (λ (r : Region). 0 < r.size → IsInRange r) config.memory_regions
+
+-- the id is that of a cell that lives besides root
+abbrev pub IsLive : List Live → ℕ → Type 0
+IsLive cells id = (live : Live) × Contains cells live × (live.config.id ≡ id)
+
+-- the act is the Commit of the open call that creates the cell with the id
+pub record IsCreated (facts : Facts) (act : Act) (id : ℕ) : Type 0 where
+  pub call : OpenCall
+  pub config : CellConfig
+  pub is : facts.call ≡ Some call
+  pub phase : call.phase ≡ ToCreate config
+  pub named : config.id ≡ id
+  pub commits : act ≡ Commit
+
+-- the act may write into the page of the cell with the id
+abbrev pub HasPage : Facts → Act → ℕ → Type 0
+HasPage facts act id = IsLive facts.cells id ⊎ IsCreated facts act id

@@ -7,14 +7,16 @@ ghost use Rattle.jh_script.specs.declared.image.Image.{Image as TheImage};
 ghost use Rattle.jh_history.specs.declared.call.OpenCall.{OpenCall as TheCall};
 ghost use Rattle.jh_history.specs.declared.call.Creation.TheVariants.{Comes};
 ghost use Rattle.jh_history.specs.declared.call.Phase.TheVariants.{ToDecide, ToCreate};
+ghost use Rattle.jh_history.specs.declared.comm.PageWrite.{PageWrite as ThePageWrite};
 ghost use Rattle.jh_history.specs.declared.entry.Entry.{Entry as TheEntry};
 ghost use Rattle.jh_history.specs.declared.entry.Act.TheVariants.{Decide};
 ghost use Rattle.jh_history.specs.Facts.{Facts};
 ghost use Rattle.jh_history.specs.Configs.{Reads, read_at};
 ghost use Rattle.jh_history.specs.Phases.{creation_of};
+ghost use Rattle.jh_history.specs.Pages.{page_write_by};
 ghost use Rattle.jh_history.specs.Due.{due_at};
 ghost use Rattle.jh_history.specs.Sound.{IsSound};
-ghost use Rattle.jh_history.specs.DueFacts.{HasRead, MayLive};
+ghost use Rattle.jh_history.specs.DueFacts.{HasRead, MayLive, HasPage};
 
 /// A Decide that is due is an entry of the caller of the open call, which waits for it. A create that goes on
 /// by it has read the configuration of the cell that comes, and what comes of a create is always what it read.
@@ -34,4 +36,11 @@ pub fn decides_are_of_the_open_call()
 pub fn a_cell_that_comes_may_live()
     ensures decided { (image : TheImage) (f : Facts) (caller at : ℕ) (config : TheConfig) → IsSound image f → creation_of image f caller at ≡ Comes config → MayLive image f.cells config }
     ensures comes { (image : TheImage) (f : Facts) (o : TheCall) (config : TheConfig) → IsSound image f → f.call ≡ Some o → o.phase ≡ ToCreate config → MayLive image f.cells config }
+{}
+
+/// What the hypervisor writes by an entry that is due, it writes into the page of a cell that lives, or of the one
+/// that comes by this entry.
+pub fn pages_written_are_of_cells()
+    ensures { (image : TheImage) (f : Facts) (entry : TheEntry) (write : ThePageWrite) → IsSound image f → due_at image f entry.cpu ≡ Some entry →
+        page_write_by image f entry entry.act ≡ Some write → HasPage f entry.act write.cell }
 {}

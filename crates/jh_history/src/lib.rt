@@ -33,7 +33,9 @@ pub use calling::{Called, call_after};
 pub use cells::{gives, is_on_board, is_program_of, program_of};
 pub use change::{Change, cpus_after};
 pub use comm::{PageChange, PageWrite};
-pub use due_facts::{a_cell_that_comes_may_live, decides_are_of_the_open_call};
+pub use due_facts::{
+    a_cell_that_comes_may_live, decides_are_of_the_open_call, pages_written_are_of_cells,
+};
 pub use entry::{Act, Entry, Heard, Settled};
 pub use grants::{Grants, reach};
 pub use jh_cpu::{Cpu, Mode};
