@@ -24,3 +24,4 @@ pub mod DuePhaseLemmas
 pub mod DueDecideLemmas
 pub mod DueComesLemmas
 pub mod DuePageLemmas
+pub mod DueReachLemmas

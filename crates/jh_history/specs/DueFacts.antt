@@ -1,5 +1,6 @@
 -- What the facts of a sound board say where an entry is due, or where a cell is about to come.
 use Rattle.std.specs.Prelude.{◌≡◌, ◌⊎◌, ℕ, ◌<◌, false, List, ◌∷◌, Some, All, AllPairs, Contains}
+use Rattle.jh_num.specs.declared.address.TheConstants.{PAGE_SIZE}
 use Rattle.jh_cellcfg.specs.declared.config.CellConfig.{CellConfig}
 use Rattle.jh_cellcfg.specs.declared.live.Live.{Live}
 use Rattle.jh_cellcfg.specs.declared.region.Region.{Region}
@@ -7,11 +8,15 @@ use Rattle.jh_cellcfg.specs.Regions.{IsInRange}
 use Rattle.jh_check.specs.Clean.{SharesNoAddress}
 use Rattle.jh_check.specs.Refusals.{is_known}
 use Rattle.jh_script.specs.declared.image.Image.{Image}
+use Rattle.jh_history.specs.declared.place.Place.{Place}
+use Rattle.jh_history.specs.declared.place.Place.TheVariants.{Physical, Page}
+use Rattle.jh_history.specs.declared.access.Reach.{Reach}
+use Rattle.jh_history.specs.declared.access.Reach.TheVariants.{Memory, Nothing}
 use Rattle.jh_history.specs.declared.call.OpenCall.{OpenCall}
 use Rattle.jh_history.specs.declared.call.Creation.TheVariants.{Comes}
 use Rattle.jh_history.specs.declared.call.Phase.TheVariants.{ToCreate}
 use Rattle.jh_history.specs.declared.entry.Act.{Act}
-use Rattle.jh_history.specs.declared.entry.Act.TheVariants.{Commit}
+use Rattle.jh_history.specs.declared.entry.Act.TheVariants.{Write, Commit}
 use Rattle.jh_history.specs.Facts.{Facts}
 use Rattle.jh_history.specs.Configs.{Reads, read_at}
 use Rattle.jh_history.specs.Phases.{configs_of, creation_of}
@@ -45,3 +50,18 @@ pub record IsCreated (facts : Facts) (act : Act) (id : ℕ) : Type 0 where
 -- the act may write into the page of the cell with the id
 abbrev pub HasPage : Facts → Act → ℕ → Type 0
 HasPage facts act id = IsLive facts.cells id ⊎ IsCreated facts act id
+
+-- the place is one of physical memory, or of the page of a cell that lives
+abbrev pub IsOfCells : List Live → Place → Type 0
+IsOfCells cells (Physical p) = Unit {0}
+IsOfCells cells (Page id offset) = (offset < PAGE_SIZE) × IsLive cells id
+
+-- so is each place that is reached
+abbrev pub ReachesCells : List Live → Reach → Type 0
+ReachesCells cells (Memory places) = All (IsOfCells cells) places
+ReachesCells cells Nothing = Unit {0}
+
+-- where the act is a write
+abbrev pub WritesCells : List Live → Act → Reach → Type 0
+WritesCells cells (Write width at value ok) found = ReachesCells cells found
+WritesCells cells act found = Unit {0}

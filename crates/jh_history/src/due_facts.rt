@@ -4,6 +4,8 @@ ghost use Rattle.std.specs.Prelude.{◌≡◌, ◌≢◌, ℕ, ℤ, Option, Some
 ghost use Rattle.jh_cellcfg.specs.declared.config.CellConfig.{CellConfig as TheConfig};
 ghost use Rattle.jh_call.specs.declared.call.Call.TheVariants.{Create};
 ghost use Rattle.jh_script.specs.declared.image.Image.{Image as TheImage};
+ghost use Rattle.jh_history.specs.declared.access.Access.{Access as TheAccess};
+ghost use Rattle.jh_history.specs.declared.access.Reach.{Reach as TheReach};
 ghost use Rattle.jh_history.specs.declared.call.OpenCall.{OpenCall as TheCall};
 ghost use Rattle.jh_history.specs.declared.call.Creation.TheVariants.{Comes};
 ghost use Rattle.jh_history.specs.declared.call.Phase.TheVariants.{ToDecide, ToCreate};
@@ -14,9 +16,11 @@ ghost use Rattle.jh_history.specs.Facts.{Facts};
 ghost use Rattle.jh_history.specs.Configs.{Reads, read_at};
 ghost use Rattle.jh_history.specs.Phases.{creation_of};
 ghost use Rattle.jh_history.specs.Pages.{page_write_by};
+ghost use Rattle.jh_history.specs.Grants.{reach};
+ghost use Rattle.jh_history.specs.Wants.{IsReachOfEntry};
 ghost use Rattle.jh_history.specs.Due.{due_at};
 ghost use Rattle.jh_history.specs.Sound.{IsSound};
-ghost use Rattle.jh_history.specs.DueFacts.{HasRead, MayLive, HasPage};
+ghost use Rattle.jh_history.specs.DueFacts.{HasRead, MayLive, HasPage, ReachesCells, WritesCells};
 
 /// A Decide that is due is an entry of the caller of the open call, which waits for it. A create that goes on
 /// by it has read the configuration of the cell that comes, and what comes of a create is always what it read.
@@ -43,4 +47,13 @@ pub fn a_cell_that_comes_may_live()
 pub fn pages_written_are_of_cells()
     ensures { (image : TheImage) (f : Facts) (entry : TheEntry) (write : ThePageWrite) → IsSound image f → due_at image f entry.cpu ≡ Some entry →
         page_write_by image f entry entry.act ≡ Some write → HasPage f entry.act write.cell }
+{}
+
+/// An access reaches places of physical memory and of the pages of cells that live, whoever makes it; so does what
+/// an entry writes.
+pub fn places_reached_are_of_cells()
+    ensures reach { (image : TheImage) (f : Facts) (cell at width : ℕ) (access : TheAccess) (found : TheReach) → IsSound image f →
+        found ≡ reach image f cell access at width → ReachesCells f.cells found }
+    ensures write { (image : TheImage) (f : Facts) (entry : TheEntry) (found : TheReach) → IsSound image f →
+        IsReachOfEntry image f entry found → WritesCells f.cells entry.act found }
 {}

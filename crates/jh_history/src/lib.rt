@@ -35,6 +35,7 @@ pub use change::{Change, cpus_after};
 pub use comm::{PageChange, PageWrite};
 pub use due_facts::{
     a_cell_that_comes_may_live, decides_are_of_the_open_call, pages_written_are_of_cells,
+    places_reached_are_of_cells,
 };
 pub use entry::{Act, Entry, Heard, Settled};
 pub use grants::{Grants, reach};
