@@ -21,7 +21,7 @@ use Rattle.jh_history.specs.Facts.{Facts}
 use Rattle.jh_history.specs.Admitted.{pool_pages}
 use Rattle.jh_history.specs.Configs.{Reads, config_read}
 use Rattle.jh_history.specs.Phases.{configs_of, may_give, creation_of, refused_by}
-use Rattle.jh_history.specs.Sound.{MayCome, IsSoundCall, IsInPhase, IsSound}
+use Rattle.jh_history.specs.Sound.{MayCome, IsSoundCall, IsInPhase, IsOpen, IsSound}
 use Rattle.jh_history.specs.DueFacts.{MayLive}
 use Rattle.jh_history.proofs.SoundDecideLemmas.{coming-from_decision}
 use Rattle.jh_history.proofs.DueDecideLemmas.{read-from_comes}
@@ -45,6 +45,7 @@ clean-lives image f config unknown clean =
           let same : i ≡ j = clean.addresses n.0 config n.2 i j (get_or regions i d) (get_or regions j d) (item regions i d (omega arith)) (item regions j d within) at hx hy in
           absurd (omega arith);
       within = λ k d lt some. clean.within n.0 config n.2 k (get_or regions k d) (item regions k d lt) some;
+      cpus = clean.cpus n.0 config n.2;
     }
 
 -- ---- at the Decide
@@ -69,13 +70,16 @@ decided-lives image f caller at config sound comes =
 
 -- ---- until it comes
 
+pub call-open : (image : Image) (f : Facts) (o : OpenCall) → IsSound image f → f.call ≡ Some o → IsOpen image (configs_of f.cells) f.cpu o
+call-open image f o sound call =
+    let P : Option OpenCall → Type 0 = IsSoundCall image (configs_of f.cells) f.cpu in
+    subst P call sound.call
+
 -- the cell that the open call creates
 pub to-come : (image : Image) (f : Facts) (o : OpenCall) (config : CellConfig) → IsSound image f → f.call ≡ Some o → o.phase ≡ ToCreate config → MayCome image (configs_of f.cells) f.cpu o.caller config
 to-come image f o config sound call phase =
-    let P : Option OpenCall → Type 0 = IsSoundCall image (configs_of f.cells) f.cpu in
-    let opens = subst P call sound.call in
-    let Q : Phase → Type 0 = IsInPhase image (configs_of f.cells) f.cpu o.caller o.call in
-    (subst Q phase opens.phase).1
+    let P : Phase → Type 0 = IsInPhase image (configs_of f.cells) f.cpu o.caller o.call in
+    (subst P phase (call-open image f o sound call).phase).1
 
 pub comes-lives : (image : Image) (f : Facts) (o : OpenCall) (config : CellConfig) → IsSound image f → f.call ≡ Some o → o.phase ≡ ToCreate config → MayLive image f.cells config
 comes-lives image f o config sound call phase =

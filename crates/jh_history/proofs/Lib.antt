@@ -25,3 +25,4 @@ pub mod DueDecideLemmas
 pub mod DueComesLemmas
 pub mod DuePageLemmas
 pub mod DueReachLemmas
+pub mod DueFewLemmas

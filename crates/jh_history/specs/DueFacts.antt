@@ -1,11 +1,12 @@
 -- What the facts of a sound board say where an entry is due, or where a cell is about to come.
-use Rattle.std.specs.Prelude.{◌≡◌, ◌⊎◌, ℕ, ◌<◌, false, List, ◌∷◌, Some, All, AllPairs, Contains}
+use Rattle.std.specs.Prelude.{◌≡◌, ◌⊎◌, ℕ, ◌<◌, true, false, List, ◌∷◌, Some, All, AllPairs, Contains}
 use Rattle.jh_num.specs.declared.address.TheConstants.{PAGE_SIZE}
 use Rattle.jh_cellcfg.specs.declared.config.CellConfig.{CellConfig}
 use Rattle.jh_cellcfg.specs.declared.live.Live.{Live}
 use Rattle.jh_cellcfg.specs.declared.region.Region.{Region}
+use Rattle.jh_cellcfg.specs.Cells.{is_cpu_set}
 use Rattle.jh_cellcfg.specs.Regions.{IsInRange}
-use Rattle.jh_check.specs.Clean.{SharesNoAddress}
+use Rattle.jh_check.specs.Clean.{SharesNoAddress, IsSoundBitmap}
 use Rattle.jh_check.specs.Refusals.{is_known}
 use Rattle.jh_script.specs.declared.image.Image.{Image}
 use Rattle.jh_history.specs.declared.place.Place.{Place}
@@ -27,12 +28,18 @@ pub record HasRead (image : Image) (facts : Facts) (caller at : ℕ) : Type 0 wh
   pub comes : creation_of image facts caller at ≡ Comes config
   pub read : read_at image facts at ≡ Reads config
 
+-- the cell's set names a CPU
+abbrev pub NamesCpu : CellConfig → Type 0
+NamesCpu config = (cpu : ℕ) × (is_cpu_set config.cpu_set cpu ≡ true)
+
 -- the cell with the configuration may live beside root and these: none of them has its name or its id, no two of its
--- regions have an address in common, and each that isn't empty ends within the addresses and the places
+-- regions have an address in common, each that isn't empty ends within the addresses and the places, and some byte of
+-- its set isn't 0, none behind the second
 pub record MayLive (image : Image) (cells : List Live) (config : CellConfig) : Type 0 where
   pub unknown : is_known (image.system.root ∷ configs_of cells) config ≡ false
   pub apart : AllPairs SharesNoAddress config.memory_regions
   pub within : All (λ (r : Region). 0 < r.size → IsInRange r) config.memory_regions
+  pub cpus : IsSoundBitmap config.cpu_set
 
 -- the id is that of a cell that lives besides root
 abbrev pub IsLive : List Live → ℕ → Type 0

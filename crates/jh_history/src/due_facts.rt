@@ -1,7 +1,9 @@
 //! What the facts of a sound board say where an entry is due, or where a cell is about to come. Each function
 //! does nothing; its contract is the law.
-ghost use Rattle.std.specs.Prelude.{◌≡◌, ◌≢◌, ℕ, ℤ, Option, Some, None};
+ghost use Rattle.std.specs.Prelude.{◌≡◌, ◌≢◌, ◌<◌, ℕ, ℤ, length, All, Option, Some, None};
 ghost use Rattle.jh_cellcfg.specs.declared.config.CellConfig.{CellConfig as TheConfig};
+ghost use Rattle.jh_cellcfg.specs.declared.live.Live.{Live as TheLive};
+ghost use Rattle.jh_check.specs.Clean.{IsSoundBitmap};
 ghost use Rattle.jh_call.specs.declared.call.Call.TheVariants.{Create};
 ghost use Rattle.jh_script.specs.declared.image.Image.{Image as TheImage};
 ghost use Rattle.jh_history.specs.declared.access.Access.{Access as TheAccess};
@@ -20,7 +22,10 @@ ghost use Rattle.jh_history.specs.Grants.{reach};
 ghost use Rattle.jh_history.specs.Wants.{IsReachOfEntry};
 ghost use Rattle.jh_history.specs.Due.{due_at};
 ghost use Rattle.jh_history.specs.Sound.{IsSound};
-ghost use Rattle.jh_history.specs.DueFacts.{HasRead, MayLive, HasPage, ReachesCells, WritesCells};
+ghost use Rattle.jh_history.specs.DueFacts.{HasRead, MayLive, NamesCpu, HasPage, ReachesCells, WritesCells};
+
+use jh_cellcfg::CellConfig;
+use jh_check::sound_bitmaps_name_few_cpus;
 
 /// A Decide that is due is an entry of the caller of the open call, which waits for it. A create that goes on
 /// by it has read the configuration of the cell that comes, and what comes of a create is always what it read.
@@ -56,4 +61,18 @@ pub fn places_reached_are_of_cells()
         found ≡ reach image f cell access at width → ReachesCells f.cells found }
     ensures write { (image : TheImage) (f : Facts) (entry : TheEntry) (found : TheReach) → IsSound image f →
         IsReachOfEntry image f entry found → WritesCells f.cells entry.act found }
+{}
+
+/// A cell in whose set nothing is found names a CPU.
+pub fn sound_cells_name_a_cpu(config: &CellConfig)
+    ensures { IsSoundBitmap config.now.cpu_set → NamesCpu config.now }
+{
+    sound_bitmaps_name_few_cpus(config.cpu_set.as_slice());
+}
+
+/// Where each cell that lives besides root names a CPU, and one that comes does, fewer than 15 live besides root
+/// until it has come: each has a CPU of the board's 16 for itself, and root keeps the caller.
+pub fn few_cells_live()
+    ensures { (image : TheImage) (f : Facts) (o : TheCall) (config : TheConfig) → IsSound image f → All (λ (live : TheLive). NamesCpu live.config) f.cells →
+        NamesCpu config → f.call ≡ Some o → o.phase ≡ ToCreate config → length f.cells < 15 }
 {}
