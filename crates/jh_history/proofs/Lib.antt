@@ -20,3 +20,9 @@ pub mod SoundStepLemmas
 pub mod SoundDecideLemmas
 pub mod SoundCommitLemmas
 pub mod SoundLemmas
+pub mod DuePhaseLemmas
+pub mod DueDecideLemmas
+pub mod DueComesLemmas
+pub mod DuePageLemmas
+pub mod DueReachLemmas
+pub mod DueFewLemmas
