@@ -14,7 +14,7 @@ use Rattle.jh_history.specs.Lives.{program_of, is_program_of}
 use Rattle.jh_check.specs.Clean.{IsSoundRoot}
 use Rattle.jh_check.proofs.GivenLemmas.{sound-root}
 use Rattle.jh_check.proofs.JoinLemmas.{clean-from_nothing}
-use Rattle.jh_history.specs.Admitted.{IsAdmitted}
+use Rattle.jh_history.specs.Admitted.{IsAdmitted, IsSoundProgram}
 
 -- root's regions are sound, and the hypervisor's memory
 pub sound_root : (image : Image) → IsAdmitted image → IsSoundRoot image.system

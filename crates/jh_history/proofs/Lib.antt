@@ -20,3 +20,8 @@ pub mod SoundStepLemmas
 pub mod SoundDecideLemmas
 pub mod SoundCommitLemmas
 pub mod SoundLemmas
+pub mod GrantedLemmas
+pub mod CountLemmas
+pub mod LoopLemmas
+pub mod PageWriteLemmas
+pub mod PlainStepLemmas
