@@ -25,3 +25,4 @@ pub mod CountLemmas
 pub mod LoopLemmas
 pub mod PageWriteLemmas
 pub mod PlainStepLemmas
+pub mod FewLemmas

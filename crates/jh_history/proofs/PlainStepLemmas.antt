@@ -1,6 +1,15 @@
 -- What an entry does to the open call and to the live cells, for the slow plain program.
-use Rattle.std.proofs.Common.{◌≡◌, ℕ, ℤ, ◌<◌, ◌≤◌, Bool, List, [], ◌∷◌, Option, Some, None, refl, sym, ap, ◌∙◌, arith}
-use Rattle.std.specs.Prelude.{option_map}
+use Rattle.std.proofs.Common.{◌≡◌, ℕ, ℤ, ◌≤◌, Bool, true, false, List, [], length, Option, Some, None, refl, sym, ap, subst, ◌∙◌, inl, inr, ◌⊎◌}
+use Rattle.std.specs.Prelude.{option_map, All}
+use Rattle.std.proofs.lemmas.Bool.{both_ways}
+use Rattle.jh_check.specs.Clean.{IsSoundBitmap, IsSoundCpuSet}
+use Rattle.jh_script.specs.declared.image.Image.{Image}
+use Rattle.jh_history.specs.Facts.{Facts}
+use Rattle.jh_history.specs.History.{after, coming_of}
+use Rattle.jh_history.specs.Phases.{configs_of}
+use Rattle.jh_history.specs.Sound.{AreSoundCells, IsSound}
+use Rattle.jh_history.specs.PlainView.{IsFit}
+use Rattle.jh_history.proofs.FewLemmas.{few-sound}
 use Rattle.std.proofs.lemmas.Option.{none-some, same_Some}
 use Rattle.jh_cellcfg.specs.declared.config.CellConfig.{CellConfig}
 use Rattle.jh_cellcfg.specs.declared.live.Live.{Live}
@@ -68,3 +77,70 @@ other_by begun old (Finish answer) other = refl
 
 pub commit-other : (begun : Option OpenCall) (act : Act) (old : List Live) → (act ≡ Commit → ⊥) → old ≡ cells_by begun old act
 commit-other begun act old other = other_by begun old act other
+
+-- ---- how many cells live
+
+abbrev is_commit : Act → Bool
+is_commit Commit = true
+is_commit _ = false
+
+not_commit : (act : Act) → act ≡ Commit → is_commit act ≡ false → ⊥
+not_commit act e other = both_ways true (sym (ap is_commit e) ∙ other) refl
+
+abbrev Names : List CellConfig → Type 0
+Names configs = All (λ (c : CellConfig). IsSoundBitmap c.cpu_set → IsSoundCpuSet c.cpu_set) configs
+
+after-cells : (image : Image) (f : Facts) (entry : Entry) → (after image f entry).cells ≡ cells_by f.call f.cells entry.act
+unfolding after
+after-cells image f entry = refl
+
+after-call : (image : Image) (f : Facts) (entry : Entry) → (after image f entry).call ≡ call_by f.cells (coming_of image f) f.call entry entry.act
+unfolding after
+after-call image f entry = refl
+
+-- after a Commit the call is still open
+still_open : (lives : List Live) (coming : Option CellConfig) (o : OpenCall) (entry : Entry) (act : Act) → act ≡ Commit → (p : OpenCall) × (call_by lives coming (Some o) entry act ≡ Some p)
+still_open lives coming o entry act is = (_, ap (call_by lives coming (Some o) entry) is)
+
+few_by : (image : Image) (f : Facts) (entry : Entry) (call : Option OpenCall) → f.call ≡ call → IsSound image (after image f entry) → length f.cells ≤ 15 → Names (configs_of (cells_by f.call f.cells entry.act))
+    → entry.act ≡ Commit → length (cells_by f.call f.cells entry.act) ≤ 15
+few_by image f entry None e sound few names is =
+    let same : cells_by f.call f.cells entry.act ≡ f.cells = ap (λ (c : Option OpenCall). cells_by c f.cells entry.act) e ∙ ap (cells_by None f.cells) is in
+    subst (λ (lives : List Live). length lives ≤ 15) (sym same) few
+few_by image f entry (Some o) e sound few names is =
+    let p = still_open f.cells (coming_of image f) o entry entry.act is in
+    let open_call = after-call image f entry ∙ ap (λ (c : Option OpenCall). call_by f.cells (coming_of image f) c entry entry.act) e ∙ p.1 in
+    subst (λ (lives : List Live). length lives ≤ 15) (after-cells image f entry)
+    (few-sound image (after image f entry) p.0 sound open_call (subst (λ (lives : List Live). Names (configs_of lives)) (sym (after-cells image f entry)) names))
+
+commit-or : (act : Act) → (act ≡ Commit) ⊎ (act ≡ Commit → ⊥)
+commit-or (Read width at got) = inr (λ e. not_commit (Read width at got) e refl)
+commit-or (Write width at value ok) = inr (λ e. not_commit (Write width at value ok) e refl)
+commit-or (Fetch at got) = inr (λ e. not_commit (Fetch at got) e refl)
+commit-or (Await width at value ok) = inr (λ e. not_commit (Await width at value ok) e refl)
+commit-or (Irq device vector) = inr (λ e. not_commit (Irq device vector) e refl)
+commit-or (Hvc code a b answer) = inr (λ e. not_commit (Hvc code a b answer) e refl)
+commit-or (Begin code a b) = inr (λ e. not_commit (Begin code a b) e refl)
+commit-or Stop = inr (λ e. not_commit Stop e refl)
+commit-or (Decide refused) = inr (λ e. not_commit (Decide refused) e refl)
+commit-or (Settle how) = inr (λ e. not_commit (Settle how) e refl)
+commit-or Commit = inl refl
+commit-or (Note id) = inr (λ e. not_commit (Note id) e refl)
+commit-or (Noted id how) = inr (λ e. not_commit (Noted id how) e refl)
+commit-or (Finish answer) = inr (λ e. not_commit (Finish answer) e refl)
+
+few_at : (image : Image) (f : Facts) (entry : Entry) (act : Act) → entry.act ≡ act → IsSound image (after image f entry) → length f.cells ≤ 15 → Names (configs_of (cells_by f.call f.cells entry.act)) → length (cells_by f.call f.cells entry.act) ≤ 15
+few_at image f entry act is sound few names = elim (commit-or act) [
+  | inl commit ↦ few_by image f entry f.call refl sound few names (is ∙ commit)
+  | inr other ↦ subst (λ (lives : List Live). length lives ≤ 15) (commit-other f.call entry.act f.cells (λ e. other (sym is ∙ e))) few
+]
+
+-- the cells that live after an entry that is due are fit
+pub fit-after : (image : Image) (f : Facts) (entry : Entry) (cells new : List Live) → IsFit image cells → f.cells ≡ cells → IsSound image (after image f entry) → new ≡ cells_by f.call f.cells entry.act → Names (configs_of new) → IsFit image new
+fit-after image f entry cells new fit e sound is names =
+    let few : length f.cells ≤ 15 = subst (λ (lives : List Live). length lives ≤ 15) (sym e) fit.few in
+    record {
+      admitted = fit.admitted;
+      sound = subst (λ (lives : List Live). AreSoundCells image.system (configs_of lives)) (after-cells image f entry ∙ sym is) sound.cells;
+      few = subst (λ (lives : List Live). length lives ≤ 15) (sym is) (few_at image f entry entry.act refl sound few (subst (λ (lives : List Live). Names (configs_of lives)) is names));
+    }

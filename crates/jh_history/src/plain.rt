@@ -220,7 +220,8 @@ impl<'a> Plain<'a> {
     {
         let coming = self.coming(entry)?;
         self.change(entry)?;
-        self.move_on(coming, entry)
+        self.move_on(coming, entry)?;
+        Ok(())
     }
 
     /// What holds after the entries.
