@@ -4,23 +4,23 @@ use Rattle.std.specs.Prelude.{slice_get}
 use Rattle.std.proofs.lemmas.List.Sums.{fold-append}
 use Rattle.jh_script.specs.declared.image.Image.{Image}
 use Rattle.jh_history.specs.declared.place.Place.{Place}
-use Rattle.jh_history.specs.declared.plain.WrittenByte.{WrittenByte}
+use Rattle.jh_history.specs.declared.written.WrittenByte.{WrittenByte}
 use Rattle.jh_history.specs.declared.entry.Entry.{Entry}
 use Rattle.jh_history.specs.declared.access.Reach.{Reach}
 use Rattle.jh_history.specs.declared.access.Reach.TheVariants.{Memory}
 use Rattle.jh_history.specs.declared.access.Wanted.{Wanted}
 use Rattle.jh_history.specs.Places.{further, places_in_row, over}
-use Rattle.jh_history.specs.Access.{write_of}
+use Rattle.jh_cellcfg.specs.declared.live.Live.{Live}
+use Rattle.jh_history.specs.Access.{write_of, reach_by}
+use Rattle.jh_history.specs.Grants.{granted_in}
 use Rattle.jh_history.specs.Facts.{Facts}
-use Rattle.jh_history.specs.Bytes.{opening_byte, byte_written}
-use Rattle.jh_history.specs.Alone.{IsByRoot}
+use Rattle.jh_history.specs.Bytes.{opening_byte, byte_after}
 use Rattle.jh_history.specs.Cpus.{cpu_after}
-use Rattle.jh_history.specs.History.{after}
+use Rattle.jh_history.specs.History.{after, cells_after, call_after}
 use Rattle.jh_history.specs.Wants.{reach_of}
 use Rattle.jh_history.specs.PlainView.{PlainView, overwritten, last_byte, Stands}
 use Rattle.std.proofs.lemmas.List.{append-nil}
 use Rattle.jh_history.proofs.PlaceLemmas.{row-next, written-over}
-use Rattle.jh_history.proofs.AloneLemmas.{alone-after, byte_after-roots}
 
 -- one byte more
 pub last_byte-push : (image : Image) (bytes : List WrittenByte) (one : WrittenByte) (q : Place) → last_byte image (bytes ++ one ∷ []) q ≡ overwritten q (last_byte image bytes q) one
@@ -46,15 +46,25 @@ pub kept-write : (i : Image) (f : Facts) (cell : ℕ) (wanted : Wanted) (found :
 kept-write i f cell wanted found places value q old stands is_found is =
     ap (over places value q) (sym (stands.bytes q)) ∙ sym (written-over f.byte places value q) ∙ ap (λ (r : Reach). write_of f.byte r value q) (sym is ∙ is_found)
 
+-- what an access reaches, by the image and the cells that are kept
+pub reach-kept : (i image : Image) (f : Facts) (cells : List Live) (cell : ℕ) (wanted : Wanted) (found : Reach) → image ≡ i → cells ≡ f.cells
+    → found ≡ reach_by (granted_in image cells cell wanted.access) wanted.at wanted.width → found ≡ reach_of i f cell wanted
+reach-kept i image f cells cell wanted found same lives is =
+    is
+    ∙ ap (λ (x : Image). reach_by (granted_in x cells cell wanted.access) wanted.at wanted.width) same
+    ∙ ap (λ (l : List Live). reach_by (granted_in i l cell wanted.access) wanted.at wanted.width) lives
+
 -- one entry more
-pub Stands-after : (i : Image) (f : Facts) (entry : Entry) (old new : PlainView) → Stands old i f → IsByRoot i entry → new.image ≡ old.image
+pub Stands-after : (i : Image) (f : Facts) (entry : Entry) (old new : PlainView) → Stands old i f → new.image ≡ old.image
+    → new.cells ≡ cells_after f entry → new.call ≡ call_after i f entry
     → ((k : ℕ) → k < 16 → slice_get new.cpus k ≡ Some (cpu_after i f entry k))
-    → ((q : Place) → last_byte i new.bytes q ≡ byte_written i f entry.cell entry.act q)
+    → ((q : Place) → last_byte i new.bytes q ≡ byte_after i f entry q)
     → Stands new i (after i f entry)
 unfolding after
-Stands-after i f entry old new stands own same cpus bytes = record {
+Stands-after i f entry old new stands same cells call cpus bytes = record {
   same = stands.same ∙ sym same;
-  alone = alone-after i f entry stands.alone own;
+  cells = sym cells;
+  call = sym call;
   cpus = cpus;
-  bytes = λ q. byte_after-roots i f entry q own ∙ sym (bytes q);
+  bytes = λ q. sym (bytes q);
 }

@@ -26,3 +26,9 @@ pub mod DueComesLemmas
 pub mod DuePageLemmas
 pub mod DueReachLemmas
 pub mod DueFewLemmas
+pub mod GrantedLemmas
+pub mod CountLemmas
+pub mod LoopLemmas
+pub mod PageWriteLemmas
+pub mod PlainStepLemmas
+pub mod FewLemmas

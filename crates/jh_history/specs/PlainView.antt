@@ -1,17 +1,28 @@
--- What the slow plain program keeps of a journal: CPUs, and the bytes that were written.
-use Rattle.std.specs.Prelude.{◌≡◌, ℕ, ◌<◌, List, fold, slice_get, if◌then◌else◌, Some}
+-- What the slow plain program keeps of a journal: CPUs, the live cells, the open call, and the bytes that were
+-- written.
+use Rattle.std.specs.Prelude.{◌≡◌, ℕ, ◌<◌, ◌≤◌, ◌==◌, List, length, fold, slice_get, if◌then◌else◌, Option, Some}
+use Rattle.jh_num.specs.Memory.{stored}
+use Rattle.jh_cellcfg.specs.declared.live.Live.{Live}
 use Rattle.jh_cpu.specs.declared.cpu.Cpu.{Cpu}
 use Rattle.jh_script.specs.declared.image.Image.{Image}
+use Rattle.jh_history.specs.declared.call.OpenCall.{OpenCall}
+use Rattle.jh_history.specs.declared.entry.Entry.{Entry}
 use Rattle.jh_history.specs.declared.place.Place.{Place}
-use Rattle.jh_history.specs.declared.plain.WrittenByte.{WrittenByte}
+use Rattle.jh_history.specs.declared.place.Place.TheVariants.{Physical, Page}
+use Rattle.jh_history.specs.declared.written.WrittenByte.{WrittenByte}
 use Rattle.jh_history.specs.Places.{is_same}
 use Rattle.jh_history.specs.Facts.{Facts}
-use Rattle.jh_history.specs.Alone.{IsAlone}
 use Rattle.jh_history.specs.Bytes.{opening_byte}
+use Rattle.jh_history.specs.Admitted.{IsAdmitted}
+use Rattle.jh_history.specs.Phases.{configs_of}
+use Rattle.jh_history.specs.Due.{due_at}
+use Rattle.jh_history.specs.Sound.{AreSoundCells, IsSound}
 
 pub record PlainView : Type 0 where
   pub image : Image
   pub cpus : List Cpu
+  pub cells : List Live
+  pub call : Option OpenCall
   pub bytes : List WrittenByte
 
 -- the byte of the place, where it was b before this one was written
@@ -22,9 +33,37 @@ overwritten q b one = if is_same q one.place then one.byte else b
 abbrev pub last_byte : Image → List WrittenByte → Place → ℕ
 last_byte image bytes q = fold (overwritten q) (opening_byte image q) bytes
 
+-- the bytes, with the list's from the offset on in the page of the cell
+abbrev pub put_in_page : ℕ → ℕ → List ℕ → (Place → ℕ) → Place → ℕ
+put_in_page cell at bytes byte (Physical p) = byte (Physical p)
+put_in_page cell at bytes byte (Page other offset) =
+    if other == cell then stored (λ k. byte (Page other k)) at bytes offset else byte (Page other offset)
+
+-- at every moment the image is admitted, its root and the cells are sound, and these are few
+pub record IsFit (image : Image) (cells : List Live) : Type 0 where
+  pub admitted : IsAdmitted image
+  pub sound : AreSoundCells image.system (configs_of cells)
+  pub few : length cells ≤ 15
+
 -- what is kept stands for these facts of the image
 pub record Stands (plain : PlainView) (image : Image) (facts : Facts) : Type 0 where
   pub same : image ≡ plain.image
-  pub alone : IsAlone image facts
+  pub cells : facts.cells ≡ plain.cells
+  pub call : facts.call ≡ plain.call
   pub cpus : (i : ℕ) → i < 16 → slice_get plain.cpus i ≡ Some (facts.cpu i)
   pub bytes : (q : Place) → facts.byte q ≡ last_byte image plain.bytes q
+
+-- all but the bytes stay
+pub record IsSameBut (old new : PlainView) : Type 0 where
+  pub image : new.image ≡ old.image
+  pub cpus : new.cpus ≡ old.cpus
+  pub cells : new.cells ≡ old.cells
+  pub call : new.call ≡ old.call
+
+-- the entry is due in a sound state of the image with these cells and this call
+pub record IsDueBeside (image : Image) (lives : List Live) (open_call : Option OpenCall) (entry : Entry) : Type 0 where
+  pub facts : Facts
+  pub sound : IsSound image facts
+  pub due : due_at image facts entry.cpu ≡ Some entry
+  pub cells : facts.cells ≡ lives
+  pub call : facts.call ≡ open_call

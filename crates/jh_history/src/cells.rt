@@ -1,15 +1,24 @@
 //! The live cells: their regions, and what their CPUs run.
-ghost use Rattle.std.specs.Prelude.{◌≡◌, ◌<◌, [], All, IfSome, IsTrue};
-ghost use Rattle.jh_cellcfg.specs.Regions.{IsInRange, has_address};
+ghost use Rattle.std.specs.Prelude.{◌≡◌, ◌<◌, ◌≤◌, List, All, IfSome, option_copied};
+ghost use Rattle.std.specs.List.{list_any};
+ghost use Rattle.jh_cellcfg.specs.declared.live.Live.{Live as TheLive};
+ghost use Rattle.jh_check.specs.Clean.{IsClean};
+ghost use Rattle.jh_cellcfg.specs.Regions.{IsInRange};
 ghost use Rattle.jh_script.specs.Operations.{IsPlain};
-ghost use Rattle.jh_history.specs.Access.{right_of, gives as gives_lem, region_of as region_of_lem};
+ghost use Rattle.jh_history.specs.Access.{right_of, gives as gives_lem, region_of as region_of_lem, reach_by};
+ghost use Rattle.jh_history.specs.Grants.{granted_in, is_kept as is_kept_lem};
+ghost use Rattle.jh_history.specs.Phases.{configs_of};
+ghost use Rattle.jh_history.specs.Places.{places_of_run, IsRun};
 ghost use Rattle.jh_history.specs.Admitted.{IsAdmitted};
 ghost use Rattle.jh_history.specs.Facts.{Facts};
-ghost use Rattle.jh_history.specs.Lives.{is_on_board as is_on_board_lem, is_program_of as is_program_of_lem, program_of as program_of_lem, regions_in as regions_in_lem, ops_in as ops_in_lem, op_at as op_at_lem};
+ghost use Rattle.jh_history.specs.Lives.{is_on_board as is_on_board_lem, is_program_of as is_program_of_lem, program_of as program_of_lem, cell_in, regions_in as regions_in_lem, ops_in as ops_in_lem, op_at as op_at_lem};
 
-use crate::access::Access;
-use crate::grants::Grants;
-use jh_cellcfg::{Region, RegionFlags};
+use crate::access::{Access, Reach, Wanted};
+use crate::grants::{Grants, reach};
+use crate::live_cells::LiveCells;
+use crate::pages::live_in;
+use crate::place::{Place, Places, Run};
+use jh_cellcfg::{CellConfig, Region, RegionFlags};
 use jh_cpu::Cpu;
 use jh_script::{Image, Op, Program};
 use std::marker::Model;
@@ -73,77 +82,138 @@ fn region_of(regions: &[Region], access: Access, at: u64) -> Option<Region>
     None
 }
 
-/// The regions of the cell with the id, where root lives alone.
-#[tactic(auto, using(crate::proofs::AdmittedLemmas::within))]
-fn regions_in(image: &Image, id: u32) -> &[Region]
-    requires { IsAdmitted image.now }
-    ensures regions { result.now ≡ regions_in_lem image.now [] id }
+/// The configuration of the live cell with the id, where cells of these configurations live besides root.
+pub(crate) fn config_in<'a>(
+    image: &'a Image,
+    cells: &'a [CellConfig],
+    id: u64,
+) -> Option<&'a CellConfig>
+    ensures { (lives : List TheLive) → configs_of lives ≡ cells.now → option_copied result ≡ cell_in image.now lives id }
+{
+    if id == u64::from(image.system.root.id) {
+        Some(&image.system.root)
+    } else {
+        live_in(cells, id)
+    }
+}
+
+/// Its regions.
+fn regions_in<'a>(image: &'a Image, cells: &'a [CellConfig], id: u32) -> &'a [Region]
+    requires { IsClean image.now.system cells.now }
+    ensures regions { (lives : List TheLive) → configs_of lives ≡ cells.now → result.now ≡ regions_in_lem image.now lives id }
     ensures within { All (λ (r : Region). 0 < r.size → IsInRange r) result.now }
 {
-    if id == image.system.root.id {
-        image.system.root.memory_regions.as_slice()
-    } else {
-        &[]
+    match config_in(image, cells, u64::from(id)) {
+        Some(cell) => cell.memory_regions.as_slice(),
+        None => &[],
     }
 }
 
-/// The operations of the CPU's program in the cell with the id, where root lives alone.
-fn ops_in(image: &Image, id: u32, cpu: u8) -> &[Op]
+/// The operations of its program of the CPU.
+fn ops_in<'a>(image: &'a Image, cells: &[CellConfig], id: u32, cpu: u8) -> &'a [Op]
     requires { IsAdmitted image.now }
-    ensures ops { result.now ≡ ops_in_lem image.now [] id cpu }
+    ensures ops { (lives : List TheLive) → configs_of lives ≡ cells.now → result.now ≡ ops_in_lem image.now lives id cpu }
     ensures plain { All IsPlain result.now }
 {
-    if id == image.system.root.id {
-        program_of(image, image.system.root.name(), cpu)
-    } else {
-        &[]
+    match config_in(image, cells, u64::from(id)) {
+        Some(cell) => program_of(image, cell.name(), cpu),
+        None => &[],
     }
 }
 
-/// The operation that the CPU is at, in that state, where root lives alone.
-pub(crate) fn op_at(image: &Image, state: Cpu, cpu: u8) -> Option<Op>
+/// The operation that the CPU is at, in that state.
+pub(crate) fn op_at(image: &Image, cells: &[CellConfig], state: Cpu, cpu: u8) -> Option<Op>
     requires { IsAdmitted image.now }
-    ensures op { (f : Facts) → f.cells ≡ [] → result ≡ op_at_lem image.now f state cpu }
+    ensures op { (f : Facts) → configs_of f.cells ≡ cells.now → result ≡ op_at_lem image.now f state cpu }
     ensures plain { IfSome result IsPlain }
 {
-    ops_in(image, state.owner, cpu)
+    ops_in(image, cells, state.owner, cpu)
         .get(state.position as usize)
         .copied()
 }
 
-/// An image as what tells the region that gives an address, by the regions of its configurations in turn.
+/// An image and the cells that live besides its root, as what tells the region that gives an address, by the
+/// regions of the configurations in turn.
 #[derive(Drop)]
-pub(crate) struct ImageGrants<'a> {
+struct ImageGrants<'a> {
     image: &'a Image,
+    cells: &'a LiveCells,
 }
 
 impl<'a> Model for ImageGrants<'a> {
-    ghost use Rattle.jh_script.specs.declared.image.Image.{Image as TheImage};
-    ghost use Rattle.jh_history.specs.Admitted.{IsAdmitted};
+    ghost use Rattle.jh_check.specs.Clean.{IsClean};
+    ghost use Rattle.jh_history.specs.Phases.{configs_of};
+    ghost use Rattle.jh_history.specs.LiveView.{GrantsView};
 
-    ghost Value = { TheImage };
+    ghost Value = { GrantsView };
 
-    ghost view = { λ g. g.image.now };
+    ghost view = { λ g. record { image = g.image.now; cells = g.cells.now } };
 
-    ghost invariant = { λ g. IsAdmitted g.image.now };
-}
-
-impl<'a> ImageGrants<'a> {
-    pub(crate) fn new(image: &'a Image) -> Self
-        requires { IsAdmitted image.now }
-        ensures { result ≡ image.now }
-    {
-        ImageGrants { image }
-    }
+    ghost invariant = { λ g. IsClean g.image.now.system (configs_of g.cells.now) };
 }
 
 impl<'a> Grants for ImageGrants<'a> {
-    ghost use Rattle.std.specs.Prelude.{[]};
     ghost use Rattle.jh_history.specs.Lives.{regions_in};
 
-    ghost regions = { λ image. regions_in image [] };
+    ghost regions = { λ g. regions_in g.image g.cells };
 
     fn region(&self, cell: u32, access: Access, at: u64) -> Option<Region> {
-        region_of(regions_in(self.image, cell), access, at)
+        region_of(
+            regions_in(self.image, self.cells.configs(), cell),
+            access,
+            at,
+        )
+    }
+}
+
+/// Whether the cell is kept from the place.
+fn is_kept(image: &Image, cells: &LiveCells, cell: u32, place: Place) -> bool
+    ensures { result ≡ is_kept_lem image.now cells.now cell place }
+{
+    match place {
+        Place::Physical(p) => cell == image.system.root.id && cells.closes(p),
+        Place::Page { .. } => false,
+    }
+}
+
+/// Whether it is kept from one of the run.
+fn is_run_kept(image: &Image, cells: &LiveCells, cell: u32, run: Run) -> bool
+    requires { IsRun run }
+    ensures { result ≡ list_any (is_kept_lem image.now cells.now cell) (places_of_run run) }
+{
+    for k in 0..run.count {
+        if is_kept(image, cells, cell, run.first.further(k)) {
+            return true;
+        }
+    }
+    false
+}
+
+/// Whether it is kept from one of these.
+fn are_kept(image: &Image, cells: &LiveCells, cell: u32, places: &Places) -> bool
+    ensures { result ≡ list_any (is_kept_lem image.now cells.now cell) places.now }
+{
+    let (low, high) = places.runs();
+    if is_run_kept(image, cells, cell, low) {
+        return true;
+    }
+    is_run_kept(image, cells, cell, high)
+}
+
+/// What the cell's access reaches.
+pub(crate) fn reach_in(image: &Image, cells: &LiveCells, cell: u32, wanted: &Wanted) -> Reach
+    requires clean { IsClean image.now.system (configs_of cells.now) }
+    requires few { wanted.now.width ≤ 8 }
+    ensures { result ≡ reach_by (granted_in image.now cells.now cell wanted.now.access) wanted.now.at wanted.now.width }
+{
+    match reach(&ImageGrants { image, cells }, cell, wanted) {
+        Reach::Memory(places) => {
+            if are_kept(image, cells, cell, &places) {
+                Reach::Nothing
+            } else {
+                Reach::Memory(places)
+            }
+        }
+        Reach::Nothing => Reach::Nothing,
     }
 }

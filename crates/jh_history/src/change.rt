@@ -111,7 +111,6 @@ fn settle(agreed: bool, call: &Call, cpu: &mut Cpu)
 }
 
 /// How many operations root's program of the CPU has.
-#[tactic(auto, using(crate::proofs::AdmittedLemmas::few_operations))]
 fn end_in_root(image: &Image, i: u8) -> u32
     requires { IsAdmitted image.now }
     ensures { result ≡ end_in_root_lem image.now i }

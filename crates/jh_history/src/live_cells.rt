@@ -3,7 +3,7 @@ ghost use Rattle.std.specs.Prelude.{◌≡◌, ℕ, ◌+◌, ◌<◌, [], ◌++�
 ghost use Rattle.std.specs.List.{list_any};
 ghost use Rattle.jh_cellcfg.specs.declared.live.Live.{Live as TheLive};
 ghost use Rattle.jh_history.specs.declared.call.Phase.{Phase as ThePhase};
-ghost use Rattle.jh_shape.specs.Shapes.{is_closed as is_closed_lem, holder_of_live, takes as takes_lem};
+ghost use Rattle.jh_shape.specs.Shapes.{is_closed, holder_of_live, takes as takes_lem};
 ghost use Rattle.jh_history.specs.Phases.{configs_of};
 ghost use Rattle.jh_history.specs.Commits.{marked, is_other, committed_cells, created as created_lem};
 ghost use Rattle.jh_history.specs.LiveView.{joined};
@@ -59,6 +59,33 @@ fn leave(cells: &mut Vec<CellConfig>, marks: &mut Vec<bool>, id: u64)
     }
 }
 
+/// Whether the region takes the place from root, where its cell is loadable or not.
+fn takes(region: &Region, loadable: bool, place: u64) -> bool
+    ensures { result ≡ takes_lem loadable region.now place }
+{
+    region.is_unshared() && !(loadable && region.is_loadable()) && region.has_place(place)
+}
+
+/// Whether one of the regions does.
+fn any_takes(regions: &[Region], loadable: bool, place: u64) -> bool
+    ensures { result ≡ list_any (λ region. takes_lem loadable region place) regions.now }
+{
+    regions.iter().any(|region| takes(region, loadable, place))
+}
+
+/// Whether one of the cells does.
+fn any_closes(cells: &[CellConfig], marks: &[bool], place: u64) -> bool
+    requires { length marks.now ≡ length cells.now }
+    ensures { result ≡ is_closed (map holder_of_live (joined cells.now marks.now)) place }
+{
+    for (i, cell) in cells.iter().enumerate() {
+        if any_takes(cell.memory_regions.as_slice(), marks[i], place) {
+            return true;
+        }
+    }
+    false
+}
+
 impl LiveCells {
     /// No cell lives besides root.
     pub(crate) fn new(alloc: Global) -> Self
@@ -75,6 +102,13 @@ impl LiveCells {
         ensures { result.now ≡ configs_of self.now }
     {
         self.configs.as_slice()
+    }
+
+    /// Whether the place is closed to root.
+    pub(crate) fn closes(&self, place: u64) -> bool
+        ensures { result ≡ is_closed (map holder_of_live self.now) place }
+    {
+        any_closes(&self.configs, &self.marks, place)
     }
 
     /// One more lives, last in order and not loadable.

@@ -302,7 +302,12 @@ fn is_caller_due<K: Known>(known: &K, state: Cpu, begun: &OpenCall) -> bool
 }
 
 /// What a CPU in this state does next; `reach` is what the access reaches that it is about to make.
-fn next_act<K: Known>(known: &K, cpu: u8, state: Cpu, reach: &Reach) -> Result<Option<Act>, NoMemory>
+fn next_act<K: Known>(
+    known: &K,
+    cpu: u8,
+    state: Cpu,
+    reach: &Reach,
+) -> Result<Option<Act>, NoMemory>
     requires { cpu < 16 }
     ensures act { (i : TheImage) (f : Facts) → K.Knows known.now i f → IsReachIn i f state cpu reach.now → IfOk result (λ act. act ≡ next_act_lem i f state cpu) }
     ensures reached { (i : TheImage) (f : Facts) → K.Knows known.now i f → IsReachIn i f state cpu reach.now → IfOk result (λ act. IfSome act (λ act. IsReachOfAct i f state.owner act reach.now)) }

@@ -14,16 +14,14 @@ ghost use Rattle.jh_history.specs.declared.entry.Act.TheVariants.{Settle, Noted}
 ghost use Rattle.jh_history.specs.Alone.{is_phase};
 ghost use Rattle.jh_history.specs.Calls.{is_named as is_named_lem};
 
-use crate::change::is_running;
 use crate::call::{Creation, OpenCall, Phase};
+use crate::change::is_running;
 use crate::entry::{Act, Heard, Settled};
 use crate::known::Known;
 use crate::place::{Place, Places, Run};
 use jh_call::Call;
 use jh_cellcfg::CellConfig;
-use jh_comm::{
-    REPLY_RECEIVED, REPLY_REQUEST_APPROVED, STATE_FAILED, STATE_SHUT_DOWN,
-};
+use jh_comm::{REPLY_RECEIVED, REPLY_REQUEST_APPROVED, STATE_FAILED, STATE_SHUT_DOWN};
 use jh_num::NoMemory;
 use jh_num::error::{EINVAL, ENOENT, EPERM};
 
@@ -303,9 +301,7 @@ pub(crate) fn phase_act<K: Known>(
             }
         }
         Phase::ToNote { id, .. } => Ok(Some(Act::Note { id: *id })),
-        Phase::ToNoted { id, waited, .. } => {
-            Ok(noted(*id, heard_of(known, idle, *id, *waited)))
-        }
+        Phase::ToNoted { id, waited, .. } => { Ok(noted(*id, heard_of(known, idle, *id, *waited))) }
         Phase::ToFinish { answer } => Ok(Some(Act::Finish { answer: *answer })),
     }
 }

@@ -1,126 +1,106 @@
 //! The facts of a journal, folded from its entries: slow and plain.
-ghost use Rattle.std.specs.Prelude.{◌≡◌, ℕ, ◌+◌, ◌<◌, ◌≤◌, ◌^◌, ◌↔◌, ◌++◌, List, length, fold, All, IsTrue, IfOk, OnOk};
+ghost use Rattle.std.specs.Prelude.{◌≡◌, ◌↔◌, ℕ, ◌<◌, ◌≤◌, List, All, Option, Some, option_map, option_copied, IsTrue, IfOk, OnOk, OnErr, slice_get};
+ghost use Rattle.jh_cellcfg.specs.declared.config.CellConfig.{CellConfig as TheConfig};
+ghost use Rattle.jh_cellcfg.specs.declared.live.Live.{Live as TheLive};
+ghost use Rattle.jh_check.specs.Clean.{IsSoundBitmap, IsSoundCpuSet};
+ghost use Rattle.jh_history.specs.declared.call.OpenCall.{OpenCall as TheOpenCall};
+ghost use Rattle.jh_history.specs.Calls.{call_by};
+ghost use Rattle.jh_history.specs.Commits.{cells_by, created_by};
+ghost use Rattle.jh_history.specs.Cpus.{cpu_after};
 ghost use Rattle.jh_script.specs.declared.image.Image.{Image as TheImage};
 ghost use Rattle.jh_history.specs.declared.place.Place.{Place as ThePlace};
-ghost use Rattle.jh_history.specs.Places.{over, places_of_run, IsRun};
 ghost use Rattle.jh_history.specs.Access.{write_of};
 ghost use Rattle.jh_history.specs.Wants.{reach_of as reach_of_lem};
 ghost use Rattle.jh_history.specs.Lives.{is_on_board as is_on_board_lem};
 ghost use Rattle.jh_history.specs.Facts.{Facts};
-ghost use Rattle.jh_history.specs.Bytes.{preloaded, opening_byte as opening_byte_lem, byte_written};
-ghost use Rattle.jh_history.specs.History.{facts, after, start};
+ghost use Rattle.jh_history.specs.Bytes.{byte_written, byte_after};
+ghost use Rattle.jh_history.specs.History.{facts, after, start, coming_of};
 ghost use Rattle.jh_history.specs.Due.{due as due_lem, IsLegal, IsQuiet};
 ghost use Rattle.jh_history.specs.Admitted.{IsAdmitted, IsBuilt, IsPlainAct, IsPlainEntry};
-ghost use Rattle.jh_history.specs.Alone.{IsByRoot};
-ghost use Rattle.jh_history.specs.PlainView.{overwritten, last_byte, Stands};
+ghost use Rattle.jh_history.specs.PlainView.{last_byte, Stands, IsSameBut, IsDueBeside};
 
 use crate::access::{Access, Reach, Wanted};
-use crate::admission::{pool_pages, root_pages};
-use crate::bytes::{Bytes, value_of};
-use crate::call::{Creation, OpenCall};
-use crate::cells::{ImageGrants, is_on_board, op_at};
+use crate::call::OpenCall;
+use crate::calling::call_after;
+use crate::cells::reach_in;
 use crate::change::cpus_after;
 use crate::entry::{Act, Entry};
-use crate::grants::reach;
 use crate::journal::Journal;
-use crate::known::Known;
 use crate::laws::admitted_roots_are_sound;
+use crate::live_cells::LiveCells;
 use crate::next::{next_of, none_due, reach_of};
-use crate::place::{Place, Places, Run};
+use crate::pages::page_write;
+use crate::sound::legal_journals_are_sound;
+use crate::written::{WrittenByte, write_page_if, write_places};
+use jh_call::Call;
 use jh_cellcfg::CellConfig;
+use jh_check::sound_bitmaps_name_few_cpus;
 use jh_cpu::Cpu;
 use jh_num::NoMemory;
-use jh_script::{Image, Op, Preload};
+use jh_script::Image;
 use std::alloc::Global;
 use std::marker::Model;
+use std::mem;
 
-/// A byte that an entry wrote.
-#[derive(Clone, Copy)]
-pub struct WrittenByte {
-    pub place: Place,
-    pub byte: u8,
-}
-
-/// What holds after a journal of an image: the states of its CPUs, and the bytes that were written, the
-/// newest last.
+/// What holds after a journal of an image: the states of its CPUs, the cells that live besides root, the call
+/// that is open, and the bytes that were written, the newest last.
 #[derive(Drop)]
-struct Plain<'a> {
-    image: &'a Image,
-    cpus: [Cpu; 16],
-    bytes: Vec<WrittenByte>,
+pub(crate) struct Plain<'a> {
+    pub(crate) image: &'a Image,
+    pub(crate) cpus: [Cpu; 16],
+    pub(crate) cells: LiveCells,
+    pub(crate) call: Option<OpenCall>,
+    pub(crate) bytes: Vec<WrittenByte>,
 }
 
 impl<'a> Model for Plain<'a> {
-    ghost use Rattle.jh_history.specs.PlainView.{PlainView};
-    ghost use Rattle.jh_history.specs.Admitted.{IsAdmitted};
+    ghost use Rattle.jh_history.specs.PlainView.{PlainView, IsFit};
 
     ghost Value = { PlainView };
 
-    ghost view = { λ p. record { image = p.image.now; cpus = p.cpus; bytes = p.bytes.items } };
+    ghost view = { λ p. record { image = p.image.now; cpus = p.cpus; cells = p.cells; call = p.call; bytes = p.bytes.items } };
 
-    ghost invariant = { λ p. IsAdmitted p.image.now };
+    ghost invariant = { λ p. IsFit p.image.now p.cells };
 }
 
-/// The byte at the place after the preload, where it was `before`.
-fn preloaded_byte(preload: &Preload, place: u64, before: u8) -> u8
-    requires { preload.now.at + length preload.now.bytes < 2 ^ 64 }
-    ensures { (f : ℕ → ℕ) → f place ≡ before → result ≡ preloaded f preload.now place }
+/// What call is open.
+fn call_in(call: Option<&OpenCall>) -> Option<Call>
+    ensures { result ≡ option_map (λ (o : TheOpenCall). o.call) (option_copied call.entry) }
 {
-    let bytes = preload.bytes.as_slice();
-    if preload.at <= place && place < preload.at + bytes.len() as u64 {
-        bytes[(place - preload.at) as usize]
-    } else {
-        before
+    match call {
+        Some(begun) => Some(begun.call),
+        None => None,
     }
 }
 
-/// The byte of physical memory at opening.
-fn preloads_byte(image: &Image, place: u64) -> u8
-    requires { IsAdmitted image.now }
-    ensures { result ≡ fold preloaded (λ _. 0) image.now.preloads place }
+/// Changes which cells live as the act does, which creates a cell of that configuration.
+fn cells_after(
+    cells: &mut LiveCells,
+    call: Option<Call>,
+    created: Option<CellConfig>,
+    act: &Act,
+) -> Result<(), NoMemory>
+    ensures ok { OnOk result ((begun : Option TheOpenCall) → call ≡ option_map (λ (o : TheOpenCall). o.call) begun → created ≡ created_by begun act.now → cells.new ≡ cells_by begun cells.old act.now) }
+    ensures err { OnErr result (cells.new ≡ cells.old) }
 {
-    let mut byte = 0u8;
-    for preload in image.preloads.as_slice() {
-        byte = preloaded_byte(preload, place, byte);
-    }
-    byte
-}
-
-/// The byte at opening.
-fn opening_byte(image: &Image, place: Place) -> u8
-    requires { IsAdmitted image.now }
-    ensures { result ≡ opening_byte_lem image.now place }
-{
-    match place {
-        Place::Physical(p) => preloads_byte(image, p),
-        Place::Page { .. } => 0,
+    match *act {
+        Act::Commit => {
+            if let Some(call) = call {
+                cells.commit(&call, created)?;
+            }
+            Ok(())
+        }
+        _ => Ok(()),
     }
 }
 
-/// Writes the value over the places of the run, the lowest byte first, and tells what is left of it.
-fn write_run(bytes: &mut Vec<WrittenByte>, run: Run, value: u64) -> Result<u64, NoMemory>
-    requires { IsRun run }
-    ensures { IfOk result (λ rest. (image : TheImage) (places : List ThePlace) (q : ThePlace) → over places rest q (last_byte image bytes.new.items q) ≡ over (places_of_run run ++ places) value q (last_byte image bytes.old.items q)) }
+/// Each cell's set names a CPU and none above 15, where the check finds nothing in it. It does nothing else.
+fn sets_name_cpus(cells: &[CellConfig])
+    ensures { All (λ (c : TheConfig). IsSoundBitmap c.cpu_set → IsSoundCpuSet c.cpu_set) cells.now }
 {
-    let mut rest = value;
-    for k in 0..run.count {
-        bytes.push(WrittenByte {
-            place: run.first.further(k),
-            byte: (rest % 256) as u8,
-        })?;
-        rest /= 256;
+    for cell in cells {
+        sound_bitmaps_name_few_cpus(cell.cpu_set.as_slice());
     }
-    Ok(rest)
-}
-
-/// Writes the value over the places, the lowest byte first.
-fn write_places(bytes: &mut Vec<WrittenByte>, places: &Places, value: u64) -> Result<(), NoMemory>
-    ensures { OnOk result ((image : TheImage) (q : ThePlace) → last_byte image bytes.new.items q ≡ over places.now value q (last_byte image bytes.old.items q)) }
-{
-    let (low, high) = places.runs();
-    let rest = write_run(bytes, low, value)?;
-    write_run(bytes, high, rest)?;
-    Ok(())
 }
 
 impl<'a> Plain<'a> {
@@ -129,9 +109,12 @@ impl<'a> Plain<'a> {
         requires { IsAdmitted image.now }
         ensures { Stands result image.now (start image.now) }
     {
+        legal_journals_are_sound();
         Plain {
             image,
             cpus: [Cpu::new(image.system.root.id); 16],
+            cells: LiveCells::new(alloc),
+            call: None,
             bytes: Vec::new(alloc),
         }
     }
@@ -140,10 +123,9 @@ impl<'a> Plain<'a> {
     fn write_at(&mut self, cell: u32, wanted: &Wanted, value: u64) -> Result<(), NoMemory>
         requires { wanted.now.width ≤ 8 }
         ensures bytes { OnOk result ((i : TheImage) (f : Facts) → Stands self.old i f → (q : ThePlace) → last_byte i self.new.bytes q ≡ write_of f.byte (reach_of_lem i f cell wanted.now) value q) }
-        ensures image { self.new.image ≡ self.old.image }
-        ensures cpus { self.new.cpus ≡ self.old.cpus }
+        ensures others { IsSameBut self.old self.new }
     {
-        match reach(&ImageGrants::new(self.image), cell, wanted) {
+        match reach_in(self.image, &self.cells, cell, wanted) {
             Reach::Memory(places) => {
                 write_places(&mut self.bytes, &places, value)?;
                 Ok(())
@@ -156,8 +138,7 @@ impl<'a> Plain<'a> {
     fn write(&mut self, cell: u32, act: &Act) -> Result<(), NoMemory>
         requires { IsPlainAct act.now }
         ensures bytes { OnOk result ((i : TheImage) (f : Facts) → Stands self.old i f → (q : ThePlace) → last_byte i self.new.bytes q ≡ byte_written i f cell act.now q) }
-        ensures image { self.new.image ≡ self.old.image }
-        ensures cpus { self.new.cpus ≡ self.old.cpus }
+        ensures others { IsSameBut self.old self.new }
     {
         match *act {
             Act::Write {
@@ -180,115 +161,81 @@ impl<'a> Plain<'a> {
         }
     }
 
-    /// Goes on by an entry of root.
-    fn follow(&mut self, entry: &Entry) -> Result<(), NoMemory>
-        requires plain { IsPlainEntry entry.now }
-        requires own { IsByRoot self.old.image entry.now }
-        ensures { OnOk result ((i : TheImage) (f : Facts) → Stands self.old i f → Stands self.new i (after i f entry.now)) }
+    /// Changes CPUs and bytes as the entry does.
+    fn change(&mut self, entry: &Entry) -> Result<(), NoMemory>
+        requires { IsPlainEntry entry.now }
+        ensures cpus { OnOk result ((i : TheImage) (f : Facts) → Stands self.old i f → (k : ℕ) → k < 16 → slice_get self.new.cpus k ≡ Some (cpu_after i f entry.now k)) }
+        ensures bytes { OnOk result ((i : TheImage) (f : Facts) → Stands self.old i f → (q : ThePlace) → last_byte i self.new.bytes q ≡ byte_after i f entry.now q) }
+        ensures image { self.new.image ≡ self.old.image }
+        ensures cells { self.new.cells ≡ self.old.cells }
+        ensures call { self.new.call ≡ self.old.call }
     {
         self.write(entry.cell, &entry.act)?;
-        cpus_after(&mut self.cpus, self.image, None, entry);
+        cpus_after(&mut self.cpus, self.image, self.call.as_ref(), entry);
+        let write = page_write(
+            self.image,
+            self.cells.configs(),
+            self.call.as_ref(),
+            &self.cpus,
+            entry,
+        );
+        write_page_if(&mut self.bytes, write)?;
+        Ok(())
+    }
+
+    /// The configuration that the open call reads at the entry, where that is a Decide.
+    fn coming(&self, entry: &Entry) -> Result<Option<CellConfig>, NoMemory>
+        ensures { IfOk result (λ coming. (i : TheImage) (f : Facts) → Stands self.now i f → (lives : List TheLive) → call_by lives coming f.call entry.now entry.now.act ≡ call_by lives (coming_of i f) f.call entry.now entry.now.act) }
+    {
+        match entry.act {
+            Act::Decide { .. } => Err(NoMemory),
+            _ => Ok(None),
+        }
+    }
+
+    /// Moves the open call on by the entry, and with it which cells live.
+    fn move_on(&mut self, coming: Option<CellConfig>, entry: &Entry) -> Result<(), NoMemory>
+        requires { IsDueBeside self.old.image self.old.cells self.old.call entry.now }
+        ensures cells { OnOk result (self.new.cells ≡ cells_by self.old.call self.old.cells entry.now.act) }
+        ensures call { OnOk result (self.new.call ≡ call_by self.old.cells coming self.old.call entry.now entry.now.act) }
+        ensures image { self.new.image ≡ self.old.image }
+        ensures cpus { self.new.cpus ≡ self.old.cpus }
+        ensures bytes { self.new.bytes ≡ self.old.bytes }
+    {
+        legal_journals_are_sound();
+        let call = mem::replace(&mut self.call, None);
+        let begun = call_in(call.as_ref());
+        let called = call_after(self.cells.configs(), coming, call, entry);
+        self.call = called.call;
+        cells_after(&mut self.cells, begun, called.created, &entry.act)?;
+        sets_name_cpus(self.cells.configs());
+        Ok(())
+    }
+
+    /// Goes on by an entry that is due.
+    fn follow(&mut self, entry: &Entry) -> Result<(), NoMemory>
+        requires plain { IsPlainEntry entry.now }
+        requires due { IsDueBeside self.old.image self.old.cells self.old.call entry.now }
+        ensures { OnOk result ((i : TheImage) (f : Facts) → Stands self.old i f → Stands self.new i (after i f entry.now)) }
+    {
+        let coming = self.coming(entry)?;
+        self.change(entry)?;
+        self.move_on(coming, entry)?;
         Ok(())
     }
 
     /// What holds after the entries.
     fn after(alloc: Global, image: &'a Image, entries: &[Entry]) -> Result<Self, NoMemory>
         requires admitted { IsAdmitted image.now }
-        requires built { IsBuilt image.now }
         requires legal { IsLegal image.now entries.now }
         ensures { IfOk result (λ plain. Stands plain image.now (facts image.now entries.now)) }
     {
+        legal_journals_are_sound();
         let mut plain = Plain::open(alloc, image);
         for entry in entries {
             plain.follow(entry)?;
         }
         Ok(plain)
-    }
-}
-
-impl<'a> Bytes for Plain<'a> {
-    ghost use Rattle.jh_history.specs.PlainView.{last_byte};
-
-    ghost byte_of = { λ p. last_byte p.image p.bytes };
-
-    fn byte(&self, place: Place) -> u8 {
-        let mut byte = opening_byte(self.image, place);
-        for one in &self.bytes {
-            if place.is_same(one.place) {
-                byte = one.byte;
-            }
-        }
-        byte
-    }
-}
-
-impl<'a> Known for Plain<'a> {
-    ghost use Rattle.jh_history.specs.PlainView.{Stands};
-
-    ghost Knows = { Stands };
-
-    fn root(&self) -> u32 {
-        self.image.system.root.id
-    }
-
-    fn cell(&self, id: u64) -> Option<&CellConfig> {
-        if id == u64::from(self.image.system.root.id) {
-            Some(&self.image.system.root)
-        } else {
-            None
-        }
-    }
-
-    fn live(&self, _id: u64) -> Option<&CellConfig> {
-        None
-    }
-
-    fn count(&self) -> u32 {
-        1
-    }
-
-    fn size(&self) -> u32 {
-        pool_pages(&self.image.system) as u32
-    }
-
-    fn used(&self) -> u32 {
-        root_pages(&self.image.system) as u32
-    }
-
-    fn is_other_locked(&self, _id: u64) -> bool {
-        false
-    }
-
-    fn creation(&self, _caller: u8, _at: u64) -> Result<Creation, NoMemory> {
-        Err(NoMemory)
-    }
-
-    fn call(&self) -> Option<&OpenCall> {
-        None
-    }
-
-    fn has_few_cpus(&self) {
-        admitted_roots_are_sound(self.image);
-    }
-
-    fn has_cpu(&self, cpu: u8) -> bool {
-        is_on_board(self.image, cpu)
-    }
-
-    fn cpu(&self, cpu: u8) -> Cpu {
-        self.cpus[usize::from(cpu)]
-    }
-
-    fn operation(&self, cpu: u8, state: Cpu) -> Option<Op> {
-        op_at(self.image, state, cpu)
-    }
-
-    fn reach(&self, cell: u32, wanted: &Wanted) -> Reach {
-        reach(&ImageGrants::new(self.image), cell, wanted)
-    }
-
-    fn value(&self, places: &Places) -> u64 {
-        value_of(self, places)
     }
 }
 
@@ -306,6 +253,7 @@ pub fn due(
     ensures { IfOk result (λ entry. entry ≡ due_lem image.now journal.now.entries cpu) }
 {
     admitted_roots_are_sound(image);
+    legal_journals_are_sound();
     let plain = Plain::after(alloc, image, journal.as_slice())?;
     let reach = reach_of(&plain, cpu);
     next_of(&plain, cpu, &reach)
@@ -319,6 +267,7 @@ pub fn quiet(alloc: Global, image: &Image, journal: &Journal) -> Result<bool, No
     ensures { IfOk result (λ q. IsTrue q ↔ IsQuiet image.now journal.now.entries) }
 {
     admitted_roots_are_sound(image);
+    legal_journals_are_sound();
     let plain = Plain::after(alloc, image, journal.as_slice())?;
     Ok(none_due(&plain, 0))
 }

@@ -2,5 +2,5 @@
 use Rattle.jh_history.proofs.AdmittedLemmas.{program_of-plain}
 use Rattle.jh_history.proofs.cells.ops_in.Goals as goal
 
-pub returns-then-id-image-clause-plain : goal.returns-then-id-image-clause-plain
-returns-then-id-image-clause-plain c = rw c.program_of.ensures (program_of-plain c.args.image.now c.name.result.now c.args.cpu c.requires)
+pub returns-in-Some-clause-plain : goal.returns-in-Some-clause-plain
+returns-in-Some-clause-plain c = rw c.program_of.ensures (program_of-plain c.args.image.now c.name.result.now c.args.cpu c.requires)

@@ -1,0 +1,104 @@
+//! The slow plain program as what tells the facts.
+ghost use Rattle.std.specs.Prelude.{◌≡◌, ◌≤◌, ℕ, length, IsTrue, IfOk};
+
+use crate::access::{Reach, Wanted};
+use crate::admission::pool_pages;
+use crate::bytes::{Bytes, value_of};
+use crate::call::{Creation, OpenCall};
+use crate::cells::{config_in, is_on_board, op_at, reach_in};
+use crate::counting::pages_of;
+use crate::known::Known;
+use crate::laws::admitted_roots_are_sound;
+use crate::locked::is_any_other_locked;
+use crate::pages::live_in;
+use crate::place::{Place, Places};
+use crate::plain::Plain;
+use crate::written::opening_byte;
+use jh_cellcfg::CellConfig;
+use jh_cpu::Cpu;
+use jh_num::NoMemory;
+use jh_script::Op;
+
+impl<'a> Bytes for Plain<'a> {
+    ghost use Rattle.jh_history.specs.PlainView.{last_byte};
+
+    ghost byte_of = { λ p. last_byte p.image p.bytes };
+
+    fn byte(&self, place: Place) -> u8 {
+        let mut byte = opening_byte(self.image, place);
+        for one in &self.bytes {
+            if place.is_same(one.place) {
+                byte = one.byte;
+            }
+        }
+        byte
+    }
+}
+
+impl<'a> Known for Plain<'a> {
+    ghost use Rattle.jh_history.specs.PlainView.{Stands};
+    ghost use Rattle.jh_history.specs.Sound.{IsSound};
+
+    ghost Knows = { λ p i f. Stands p i f × IsSound i f };
+
+    fn root(&self) -> u32 {
+        self.image.system.root.id
+    }
+
+    fn cell(&self, id: u64) -> Option<&CellConfig> {
+        config_in(self.image, self.cells.configs(), id)
+    }
+
+    fn live(&self, id: u64) -> Option<&CellConfig> {
+        live_in(self.cells.configs(), id)
+    }
+
+    fn count(&self) -> u32 {
+        self.cells.configs().len() as u32 + 1
+    }
+
+    fn size(&self) -> u32 {
+        pool_pages(&self.image.system) as u32
+    }
+
+    fn used(&self) -> u32 {
+        let root = self.image.system.root.memory_regions.as_slice();
+        pages_of(root, self.cells.configs(), None) as u32
+    }
+
+    fn is_other_locked(&self, id: u64) -> bool {
+        is_any_other_locked(self, self.cells.configs(), id)
+    }
+
+    fn creation(&self, _caller: u8, _at: u64) -> Result<Creation, NoMemory> {
+        Err(NoMemory)
+    }
+
+    fn call(&self) -> Option<&OpenCall> {
+        self.call.as_ref()
+    }
+
+    fn has_few_cpus(&self) {
+        admitted_roots_are_sound(self.image);
+    }
+
+    fn has_cpu(&self, cpu: u8) -> bool {
+        is_on_board(self.image, cpu)
+    }
+
+    fn cpu(&self, cpu: u8) -> Cpu {
+        self.cpus[usize::from(cpu)]
+    }
+
+    fn operation(&self, cpu: u8, state: Cpu) -> Option<Op> {
+        op_at(self.image, self.cells.configs(), state, cpu)
+    }
+
+    fn reach(&self, cell: u32, wanted: &Wanted) -> Reach {
+        reach_in(self.image, &self.cells, cell, wanted)
+    }
+
+    fn value(&self, places: &Places) -> u64 {
+        value_of(self, places)
+    }
+}
