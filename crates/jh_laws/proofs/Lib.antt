@@ -16,3 +16,5 @@ pub mod SoundCommitLemmas
 pub mod SoundLemmas
 pub mod CallLemmas
 pub mod HeldLemmas
+pub mod HvcLemmas
+pub mod QuietLemmas

@@ -9,3 +9,4 @@ pub mod Sound
 pub mod Moments
 pub mod Ways
 pub mod Held
+pub mod Hypercalls

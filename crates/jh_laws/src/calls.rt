@@ -3,7 +3,7 @@ ghost use Rattle.std.specs.Prelude.{◌≡◌, ◌≢◌, ℕ, List, [], ◌∷�
 ghost use Rattle.jh_script.specs.declared.image.Image.{Image as TheImage};
 ghost use Rattle.jh_history.specs.declared.entry.Entry.{Entry as TheEntry};
 ghost use Rattle.jh_history.specs.declared.entry.Act.TheVariants.{Begin, Stop};
-ghost use Rattle.jh_history.specs.Due.{IsLegal};
+ghost use Rattle.jh_history.specs.Due.{IsLegal, IsQuiet};
 ghost use Rattle.jh_history.specs.Admitted.{IsAdmitted};
 ghost use Rattle.jh_history.specs.Calls.{is_named};
 ghost use Rattle.jh_laws.specs.Moments.{AdmittedJournal, AdmittedMoment, call_of};
@@ -37,4 +37,10 @@ pub fn suspended_cpus_make_no_entry()
         IsLegal image (before ++ settle ∷ (middle ++ entry ∷ rest)) → is_agreement settle.act ≡ true →
         All (λ (e : TheEntry). is_commit e.act ≡ false) middle →
         begun before ≡ Some first → is_named (call_begun first.act) entry.cell ≡ true → entry.act ≡ Stop }
+{}
+
+/// While a call is open something is due: to its caller, or to a CPU that it waits for. So a quiet journal has no
+/// open call.
+pub fn quiet_journals_have_no_open_call()
+    ensures { (j : AdmittedJournal) → IsQuiet j.image j.entries → call_of j ≡ None }
 {}

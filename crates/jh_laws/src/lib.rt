@@ -11,6 +11,7 @@ mod cells;
 mod cpus;
 mod due;
 mod held;
+mod hypercalls;
 mod items;
 mod order;
 mod sound;
@@ -19,7 +20,10 @@ pub use access::{accesses_go_by_grants, root_is_granted_its_addresses};
 pub use bytes::{
     bytes_are_the_last_written, entries_write_their_bytes, memory_opens_with_the_preloads,
 };
-pub use calls::{calls_go_phase_by_phase, one_call_is_open, suspended_cpus_make_no_entry};
+pub use calls::{
+    calls_go_phase_by_phase, one_call_is_open, quiet_journals_have_no_open_call,
+    suspended_cpus_make_no_entry,
+};
 pub use cells::{cpus_belong_to_live_cells, the_check_holds_of_live_cells};
 pub use cpus::{
     cpus_open_at_their_beginning, entries_follow_the_program, entries_move_their_cpu,
@@ -30,6 +34,7 @@ pub use due::{
     ready_cpus_have_an_entry_due,
 };
 pub use held::{accesses_end_as_granted, cells_are_granted_their_places, root_is_granted_the_rest};
+pub use hypercalls::hypercalls_are_answered_by_their_cause;
 pub use items::{
     items_run_until_one_is_cut_short, played_journals_are_legal, played_journals_are_quiet_or_full,
     rounds_are_of_the_boards_cpus,
