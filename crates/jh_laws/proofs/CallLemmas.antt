@@ -491,7 +491,7 @@ past-other image f o entry sound is past due other root =
     (entry-of_call image f o entry sound is due)
 
 -- two acts that a test tells apart
-not_same : (test : Act → Bool) (one other : Act) → test one ≡ true → test other ≡ false → one ≡ other → ⊥
+pub not_same : (test : Act → Bool) (one other : Act) → test one ≡ true → test other ≡ false → one ≡ other → ⊥
 not_same test one other passes fails same = both_ways (test other) fails (sym (ap test same) ∙ passes)
 
 never_behind_go : (call : Call) → IsBehindGo call (Decide None) → ⊥
@@ -548,7 +548,7 @@ never_decide call (Hvc code a b answer) phase h = h
 never_decide call Stop phase h = h
 
 -- so behind each phase the call is past it
-past_from : (call : Call) (act : Act) (phase : Phase) → is_phase act ≡ true → ((next : Act) → Expects phase next → MayFollow call act next) → IsPast phase
+pub past_from : (call : Call) (act : Act) (phase : Phase) → is_phase act ≡ true → ((next : Act) → Expects phase next → MayFollow call act next) → IsPast phase
 past_from call act ToDecide is h = never_decide call act is (h (Decide None) (None, refl))
 past_from call act (ToSettle waited) is h = tt
 past_from call act (ToCreate config) is h = tt

@@ -18,3 +18,4 @@ pub mod CallLemmas
 pub mod HeldLemmas
 pub mod HvcLemmas
 pub mod QuietLemmas
+pub mod CommitLemmas

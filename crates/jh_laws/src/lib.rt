@@ -8,6 +8,7 @@ mod access;
 mod bytes;
 mod calls;
 mod cells;
+mod commits;
 mod cpus;
 mod due;
 mod held;
@@ -25,6 +26,7 @@ pub use calls::{
     suspended_cpus_make_no_entry,
 };
 pub use cells::{cpus_belong_to_live_cells, the_check_holds_of_live_cells};
+pub use commits::{cells_live_from_commit_to_commit, configurations_are_read_at_the_decide};
 pub use cpus::{
     cpus_open_at_their_beginning, entries_follow_the_program, entries_move_their_cpu,
     violations_end_their_cpu,
