@@ -172,6 +172,11 @@ decided_call image f entry at sound due act o opens caller call =
     ∙ ap (λ (k : ℕ). Some (record { caller = k; call = Create at; phase = decided (Create at) (config_read (read_at image f at)) None })) caller in
     decided_by entry.cpu at (after image f entry).call goes.0 (config_read (read_at image f at)) made goes.1 (past_from goes.0.call entry.act goes.0.phase phase goes.3)
 
+made_cells : (behind made there up_to : Facts) (config : CellConfig) → behind ≡ made → made.cells ≡ there.cells ++ (record { config = config; loadable = false }) ∷ [] → up_to ≡ there
+    → behind.cells ≡ up_to.cells ++ (record { config = config; loadable = false }) ∷ []
+made_cells behind made there up_to config same cells before =
+    ap (λ (g : Facts). g.cells) same ∙ cells ∙ ap (λ (g : Facts). g.cells ++ (record { config = config; loadable = false }) ∷ []) (sym before)
+
 -- what the Decide read is what the Commit makes
 pub created-as_read : (image : Image) (before middle rest : List Entry) (decide commit first : Entry) (at : ℕ) → IsAdmitted image → IsLegal image (before ++ decide ∷ (middle ++ commit ∷ rest))
     → begun before ≡ Some first → call_begun first.act ≡ Create at → decide.act ≡ Decide None → All (λ (e : Entry). e.cpu ≢ decide.cpu) middle → commit.cpu ≡ decide.cpu
@@ -195,5 +200,5 @@ created-as_read image before middle rest decide commit first at admitted legal i
     facts-append image before (decide ∷ (middle ++ commit ∷ [])) ∙ fold-append (after image) f middle (commit ∷ []) in (
       config,
       made.1,
-      ap (λ (g : Facts). g.cells) behind ∙ commits ∙ ap (λ (g : Facts). g.cells ++ (record { config = config; loadable = false }) ∷ []) (sym up_to),
+      made_cells (facts image (before ++ decide ∷ (middle ++ commit ∷ []))) (after image there commit) there (facts image (before ++ decide ∷ middle)) config behind commits up_to,
     )

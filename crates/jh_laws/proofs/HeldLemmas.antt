@@ -62,8 +62,8 @@ use Rattle.jh_laws.proofs.CallLemmas.{IsMadeBy, Stopping, Running, Calling, made
 -- ---- live cells by their ids
 
 -- two cells at different places of the list differ
-two_ids : (earlier later : CellConfig) → AreTwo earlier later → earlier.id ≢ later.id
-two_ids earlier later two is =
+pub two-ids : (earlier later : CellConfig) → AreTwo earlier later → earlier.id ≢ later.id
+two-ids earlier later two is =
     both_ways (eqb earlier.id later.id) (or_parts (eqb earlier.id later.id) (pointwise nat_eq (name_of earlier) (name_of later)) two).0 (eq-eqb earlier.id later.id is)
 
 at_same : (xs : List CellConfig) (i : ℕ) (a b : CellConfig) → i < length xs → get_or xs i a ≡ a → get_or xs i b ≡ b → a ≡ b
@@ -75,7 +75,7 @@ apart_at system configs j k a b sound lt within is_a is_b =
     let there : get_or configs k a ≡ b = get_or_from_slice_get configs k (get_or configs k b) a (slice_get-get_or configs k b within) ∙ is_b in
     let P : CellConfig → Type 0 = λ c. AreTwo c (get_or configs k a) in
     let Q : CellConfig → Type 0 = λ c. AreTwo a c in
-    two_ids a b (subst Q there (subst P is_a two))
+    two-ids a b (subst Q there (subst P is_a two))
 
 pub same-id : (system : SystemConfig) (configs : List CellConfig) (a b : CellConfig) → AreSoundCells system configs → Contains configs a → Contains configs b → a.id ≡ b.id → a ≡ b
 same-id system configs a b sound (j, j_lt, is_a) (k, k_lt, is_b) same =

@@ -19,3 +19,5 @@ pub mod HeldLemmas
 pub mod HvcLemmas
 pub mod QuietLemmas
 pub mod CommitLemmas
+pub mod FewBoards
+pub mod FewLemmas
