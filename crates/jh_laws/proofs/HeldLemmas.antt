@@ -66,8 +66,8 @@ pub two-ids : (earlier later : CellConfig) → AreTwo earlier later → earlier.
 two-ids earlier later two is =
     both_ways (eqb earlier.id later.id) (or_parts (eqb earlier.id later.id) (pointwise nat_eq (name_of earlier) (name_of later)) two).0 (eq-eqb earlier.id later.id is)
 
-at_same : (xs : List CellConfig) (i : ℕ) (a b : CellConfig) → i < length xs → get_or xs i a ≡ a → get_or xs i b ≡ b → a ≡ b
-at_same xs i a b lt is_a is_b = sym is_a ∙ get_or_from_slice_get xs i (get_or xs i b) a (slice_get-get_or xs i b lt) ∙ is_b
+pub at-same : (xs : List CellConfig) (i : ℕ) (a b : CellConfig) → i < length xs → get_or xs i a ≡ a → get_or xs i b ≡ b → a ≡ b
+at-same xs i a b lt is_a is_b = sym is_a ∙ get_or_from_slice_get xs i (get_or xs i b) a (slice_get-get_or xs i b lt) ∙ is_b
 
 apart_at : (system : SystemConfig) (configs : List CellConfig) (j k : ℕ) (a b : CellConfig) → AreSoundCells system configs → j < k → k < length configs → get_or configs j a ≡ a → get_or configs k b ≡ b → a.id ≢ b.id
 apart_at system configs j k a b sound lt within is_a is_b =
@@ -87,7 +87,7 @@ same-id system configs a b sound (j, j_lt, is_a) (k, k_lt, is_b) same =
     (λ (ge : j ≤ k).
     let e : k ≡ j = omega arith in
     let P : ℕ → Type 0 = λ n. get_or configs n b ≡ b in
-    at_same configs j a b j_lt is_a (subst P e is_b))
+    at-same configs j a b j_lt is_a (subst P e is_b))
     (cases_lt k j))
     (cases_lt j k)
 

@@ -19,5 +19,6 @@ pub mod HeldLemmas
 pub mod HvcLemmas
 pub mod QuietLemmas
 pub mod CommitLemmas
-pub mod FewBoards
+pub mod FewCellsLemmas
 pub mod FewLemmas
+pub mod PlacesHeldLemmas

@@ -35,7 +35,10 @@ pub use due::{
     due_entries_are_their_cpus_own, programs_are_found_by_cell_and_cpu,
     ready_cpus_have_an_entry_due,
 };
-pub use held::{accesses_end_as_granted, cells_are_granted_their_places, root_is_granted_the_rest};
+pub use held::{
+    accesses_end_as_granted, cells_are_granted_their_places, root_is_granted_the_rest,
+    what_a_cell_holds_is_its_own,
+};
 pub use hypercalls::hypercalls_are_answered_by_their_cause;
 pub use items::{
     items_run_until_one_is_cut_short, played_journals_are_legal, played_journals_are_quiet_or_full,

@@ -1,7 +1,7 @@
 -- The cells are sound.
 use Rattle.jh_check.proofs.JoinLemmas.{nothing-from_clean}
 use Rattle.jh_laws.specs.Moments.{cells_of}
-use Rattle.jh_laws.proofs.FewBoards.{few-cells}
+use Rattle.jh_laws.proofs.FewCellsLemmas.{few-cells}
 use Rattle.jh_laws.proofs.SoundLemmas.{legal-sound}
 use Rattle.jh_laws.proofs.cells.the_check_holds_of_live_cells.Goals as goal
 
