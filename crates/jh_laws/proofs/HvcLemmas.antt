@@ -61,9 +61,9 @@ told_live image f id config sound held is =
     let found : live_in f.cells id ≡ Some config = subst P is (λ o h. let e : cond (eqb config.id image.system.root.id) (Some image.system.root) (live_in f.cells config.id) ≡ live_in f.cells config.id = rw (ne_eqb config.id image.system.root.id o) refl in sym e ∙ h) other (rw (← is) (live-cell image f.cells config sound (inr held))) in
     apart ∙ ap (option_map (λ (c : CellConfig). state_word f c.id)) found ∙ ap (λ (k : ℕ). Some (state_word f k)) is
 
-none_live : (cells : List Live) (id : ℕ) (o : Option Live) → find (has_id id) cells ≡ o → ((config : CellConfig) → Contains (configs_of cells) config → config.id ≢ id) → o ≡ None
-none_live cells id None e none = refl
-none_live cells id (Some live) e none = let found = found-live cells id live e in absurd (none live.config found.0 found.1)
+pub none-live : (cells : List Live) (id : ℕ) (o : Option Live) → find (has_id id) cells ≡ o → ((config : CellConfig) → Contains (configs_of cells) config → config.id ≢ id) → o ≡ None
+none-live cells id None e none = refl
+none-live cells id (Some live) e none = let found = found-live cells id live e in absurd (none live.config found.0 found.1)
 
 state_by : (image : Image) (f : Facts) (cell id : ℕ) → AreSoundCells image.system (configs_of f.cells) → IsStateTold image f cell id (answer_of (State id) (seen_of image f cell (State id)))
 state_by image f cell id sound = record {
@@ -74,7 +74,7 @@ state_by image f cell id sound = record {
       let fails : nat_le (state_word f id) 4 ≡ false = false_from_ne_true (nat_le (state_word f id) 4) (λ yes. let le : state_word f id ≤ 4 = leb-true (state_word f id) 4 yes in omega arith) in
       rw (eq-eqb cell image.system.root.id own, told_live image f id config sound held is, fails) refl;
   none = λ own other none.
-      let nothing : find (has_id id) f.cells ≡ None = none_live f.cells id (find (has_id id) f.cells) refl none in
+      let nothing : find (has_id id) f.cells ≡ None = none-live f.cells id (find (has_id id) f.cells) refl none in
       rw (eq-eqb cell image.system.root.id own, ne_eqb id image.system.root.id other, nothing) refl;
 }
 

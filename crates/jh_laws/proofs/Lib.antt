@@ -22,3 +22,4 @@ pub mod CommitLemmas
 pub mod FewCellsLemmas
 pub mod FewLemmas
 pub mod PlacesHeldLemmas
+pub mod DecisionLemmas

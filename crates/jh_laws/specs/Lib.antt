@@ -10,3 +10,4 @@ pub mod Moments
 pub mod Ways
 pub mod Held
 pub mod Hypercalls
+pub mod Decisions
