@@ -130,8 +130,8 @@ cell-live image cells id cell h = cell_by image cells id cell (eqb id image.syst
 -- ---- regions of a live cell
 
 -- the number of a live cell
-number_of : (image : Image) (cells : List Live) (cell : CellConfig) → IsLive image cells cell → (a : ℕ) × IsNumbered image.system (configs_of cells) a cell
-number_of image cells cell live =
+pub number-of : (image : Image) (cells : List Live) (cell : CellConfig) → IsLive image cells cell → (a : ℕ) × IsNumbered image.system (configs_of cells) a cell
+number-of image cells cell live =
     ⊎_elim
     (λ (is : cell ≡ image.system.root). (0, ap Some (sym is)))
     (λ (held : Contains (configs_of cells) cell). (suc held.0, slice_get-get_or (configs_of cells) held.0 cell held.1 ∙ ap Some held.2))
@@ -140,7 +140,7 @@ number_of image cells cell live =
 -- at most one of its regions gives an address
 only_region : (image : Image) (cells : List Live) (cell : CellConfig) (access : Access) (at : ℕ) → AreSoundCells image.system (configs_of cells) → IsLive image cells cell → IsOnly (gives access at) cell.memory_regions
 only_region image cells cell access at sound live j k d lt within at_j at_k =
-    let number = number_of image cells cell live in
+    let number = number-of image cells cell live in
     let regions : List Region = cell.memory_regions in
     let same : j ≡ k = sound.clean.addresses number.0 cell number.1 j k (get_or regions j d) (get_or regions k d)
     (slice_get-get_or regions j d (omega arith)) (slice_get-get_or regions k d within) at
@@ -150,7 +150,7 @@ only_region image cells cell access at sound live j k d lt within at_j at_k =
 -- a region that has an address ends within the addresses
 region_within : (image : Image) (cells : List Live) (cell : CellConfig) (r : Region) (at : ℕ) → AreSoundCells image.system (configs_of cells) → IsLive image cells cell → Contains cell.memory_regions r → has_address r at ≡ true → virt_end r ≤ ADDRESS_END
 region_within image cells cell r at sound live held has =
-    let number = number_of image cells cell live in
+    let number = number-of image cells cell live in
     let first : r.virt_start ≤ at = has_address-first r at has in
     let last : at < virt_end r = has_address-last r at has in
     let some : 0 < r.size = omega arith in
@@ -291,9 +291,9 @@ reach_granted image f id access at width sound some each =
     (found.0, reach_by-within g at width within ∙ ap memory_or_nothing found.1)
 
 -- and it reaches the places that are granted
-reach_listed : (image : Image) (f : Facts) (id : ℕ) (access : Access) (at width : ℕ) (place : ℕ → Place) → AreSoundCells image.system (configs_of f.cells) → 0 < width → ((k : ℕ) → k < width → IsGrantedTo image f.cells id access (at + k) (place k))
+pub reach-listed : (image : Image) (f : Facts) (id : ℕ) (access : Access) (at width : ℕ) (place : ℕ → Place) → AreSoundCells image.system (configs_of f.cells) → 0 < width → ((k : ℕ) → k < width → IsGrantedTo image f.cells id access (at + k) (place k))
     → reach image f id access at width ≡ Memory (listed place width)
-reach_listed image f id access at width place sound some each =
+reach-listed image f id access at width place sound some each =
     let g : ℕ → Option Place = granted image f id access in
     let below : at + (width - 1) < ADDRESS_END = (each (width - 1) (omega arith)).given.below in
     let within : at + width ≤ ADDRESS_END = omega arith in
@@ -317,7 +317,7 @@ got_by : (image : Image) (f : Facts) (id : ℕ) (access : Access) (at width : �
 got_by image f id access at width (Memory ps) sound some is = record {
   granted = (λ _. granted_reach image f id access at width ps sound is, λ _. refl);
   reads = λ value e place each.
-      let places : reach image f id access at width ≡ Memory (listed place width) = reach_listed image f id access at width place sound some each in
+      let places : reach image f id access at width ≡ Memory (listed place width) = reach-listed image f id access at width place sound some each in
       let read : read_of f.byte (Memory ps) ≡ read_of f.byte (Memory (listed place width)) = ap (read_of f.byte) (sym is ∙ places) in
       let spelt : Some value ≡ Some (spelled (map f.byte (listed place width))) = sym e ∙ read in
       same_Some value (spelled (map f.byte (listed place width))) spelt ∙ spelled-listed f.byte place width;

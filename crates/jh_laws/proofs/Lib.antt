@@ -23,3 +23,4 @@ pub mod FewCellsLemmas
 pub mod FewLemmas
 pub mod PlacesHeldLemmas
 pub mod DecisionLemmas
+pub mod WrittenLemmas

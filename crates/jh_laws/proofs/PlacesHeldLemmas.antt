@@ -46,11 +46,11 @@ use Rattle.jh_laws.proofs.SoundLemmas.{legal-sound}
 
 -- ---- places
 
-abbrev is_memory : Place → Bool
+abbrev pub is_memory : Place → Bool
 is_memory (Physical p) = true
 is_memory (Page cell offset) = false
 
-abbrev number_in : Place → ℕ
+abbrev pub number_in : Place → ℕ
 number_in (Physical p) = p
 number_in (Page cell offset) = offset
 
@@ -61,11 +61,11 @@ cell_in_place (Page cell offset) = cell
 -- ---- what a write changes
 
 -- a place that isn't written keeps its byte
-written_other : (byte : Place → ℕ) (places : List Place) (value : ℕ) (q : Place) → list_any (is_same q) places ≡ false → written byte places value q ≡ byte q
-written_other byte [] value q none = refl
-written_other byte (place ∷ places) value q none =
+pub written-other : (byte : Place → ℕ) (places : List Place) (value : ℕ) (q : Place) → list_any (is_same q) places ≡ false → written byte places value q ≡ byte q
+written-other byte [] value q none = refl
+written-other byte (place ∷ places) value q none =
     let parts = or_parts (is_same q place) (list_any (is_same q) places) none in
-    written_other (with_byte byte place (value % 256)) places (value / 256) q parts.1 ∙ ap (λ (b : Bool). cond b (value % 256) (byte q)) parts.0
+    written-other (with_byte byte place (value % 256)) places (value / 256) q parts.1 ∙ ap (λ (b : Bool). cond b (value % 256) (byte q)) parts.0
 
 -- the places that addresses have, each at its address
 at_one : (f : ℕ → Option Place) (at count : ℕ) (ps : List Place) (q : Place) (o : Option Place) (os : Option (List Place)) → f at ≡ o → places_from f (at + 1) count ≡ os
@@ -96,8 +96,8 @@ memory_of None ps e = absurd (false≢true (ap is_reached e))
 memory_of (Some qs) ps e = ap reached_places e
 
 -- a place that an access reaches is granted at one of its addresses
-reached_at : (image : Image) (f : Facts) (id : ℕ) (access : Access) (at width : ℕ) (ps : List Place) (q : Place) → reach image f id access at width ≡ Memory ps → Contains ps q → (k : ℕ) × (k < width) × (granted image f id access (at + k) ≡ Some q)
-reached_at image f id access at width ps q e held = elim (cases_lt ADDRESS_END (at + width)) [
+pub reached-at : (image : Image) (f : Facts) (id : ℕ) (access : Access) (at width : ℕ) (ps : List Place) (q : Place) → reach image f id access at width ≡ Memory ps → Contains ps q → (k : ℕ) × (k < width) × (granted image f id access (at + k) ≡ Some q)
+reached-at image f id access at width ps q e held = elim (cases_lt ADDRESS_END (at + width)) [
   | inl beyond ↦ absurd (false≢true (ap is_reached (sym (reach_by-beyond (granted image f id access) at width beyond) ∙ e)))
   | inr within ↦ place_at (granted image f id access) at width ps q
       (memory_of (places_from (granted image f id access) at width) ps (sym (reach_by-within (granted image f id access) at width within) ∙ e)) held
@@ -115,9 +115,9 @@ write_of_reach image f id at width value q (Memory ps) sound is changed =
     let found = IsFound-from_list_any (is_same q) ps some in
     let P : Place → Type 0 = λ p. Contains ps p in
     let held : Contains ps q = subst P (sym (same-place q found.0 found.1.passes)) found.1.held in
-    let k = reached_at image f id ToWrite at width ps q is held in
+    let k = reached-at image f id ToWrite at width ps q is held in
     (at + k.0, to-granted image f id ToWrite (at + k.0) q sound k.2))
-    (λ (none : list_any (is_same q) ps ≡ false). absurd (changed (written_other f.byte ps value q none)))
+    (λ (none : list_any (is_same q) ps ≡ false). absurd (changed (written-other f.byte ps value q none)))
     (cases_Bool (list_any (is_same q) ps))
 
 -- what the act of the cell writes itself it writes by a grant
@@ -265,18 +265,18 @@ page-changes image f entry cell offset sound changed = page_by image f entry cel
 
 -- ---- over an entry of a journal
 
-byte_behind : (image : Image) (before : List Entry) (entry : Entry) (q : Place) → (facts image (before ++ entry ∷ [])).byte q ≡ byte_after image (facts image before) entry q
-byte_behind image before entry q = ap (λ (f : Facts). f.byte q) (facts-push image before entry) ∙ ap (λ (b : Place → ℕ). b q) (byte-after image (facts image before) entry)
+pub byte-behind : (image : Image) (before : List Entry) (entry : Entry) (q : Place) → (facts image (before ++ entry ∷ [])).byte q ≡ byte_after image (facts image before) entry q
+byte-behind image before entry q = ap (λ (f : Facts). f.byte q) (facts-push image before entry) ∙ ap (λ (b : Place → ℕ). b q) (byte-after image (facts image before) entry)
 
 pub held-at : (image : Image) (before rest : List Entry) (entry : Entry) (live : Live) (number : ℕ) (region : Region) (place : ℕ) → IsAdmitted image → IsLegal image (before ++ entry ∷ rest) → IsHeld (facts image before).cells live number region place
     → (facts image (before ++ entry ∷ [])).byte (Physical place) ≢ (facts image before).byte (Physical place) → IsOwnOrLinked (facts image before).cells live.config number entry.cell
 held-at image before rest entry live number region place admitted legal held changed =
     held-changes image (facts image before) entry live number region place (legal-sound image before admitted (IsLegal-begin image before (entry ∷ rest) legal)).cells held
-    (λ e. changed (byte_behind image before entry (Physical place) ∙ e))
+    (λ e. changed (byte-behind image before entry (Physical place) ∙ e))
 
 pub page-at : (image : Image) (before rest : List Entry) (entry : Entry) (cell offset : ℕ) → IsAdmitted image → IsLegal image (before ++ entry ∷ rest)
     → (facts image (before ++ entry ∷ [])).byte (Page cell offset) ≢ (facts image before).byte (Page cell offset)
     → (entry.cell ≡ cell) ⊎ ((w : PageWrite) × (page_write_by image (facts image before) entry entry.act ≡ Some w) × (w.cell ≡ cell))
 page-at image before rest entry cell offset admitted legal changed =
     page-changes image (facts image before) entry cell offset (legal-sound image before admitted (IsLegal-begin image before (entry ∷ rest) legal)).cells
-    (λ e. changed (byte_behind image before entry (Page cell offset) ∙ e))
+    (λ e. changed (byte-behind image before entry (Page cell offset) ∙ e))

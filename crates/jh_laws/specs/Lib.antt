@@ -11,3 +11,4 @@ pub mod Ways
 pub mod Held
 pub mod Hypercalls
 pub mod Decisions
+pub mod Written

@@ -16,6 +16,7 @@ mod hypercalls;
 mod items;
 mod order;
 mod sound;
+mod writes;
 
 pub use access::{accesses_go_by_grants, root_is_granted_its_addresses};
 pub use bytes::{
@@ -49,3 +50,4 @@ pub use order::{
     nothing_extends_a_quiet_journal,
 };
 pub use sound::legal_journals_are_sound;
+pub use writes::entries_write_what_they_say;
