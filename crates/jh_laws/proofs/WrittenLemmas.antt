@@ -1,5 +1,5 @@
 -- What an entry writes.
-use Rattle.std.proofs.Common.{◌≡◌, ℕ, zero, suc, ◌+◌, ◌-◌, ◌/◌, ◌%◌, ◌^◌, ◌<◌, ◌≤◌, List, [], ◌∷◌, ◌++◌, Bool, true, false, cond, ◌&&◌, eqb, Option, Some, None, refl, sym, ap, subst, ◌∙◌, inl, inr, ⊎_elim, arith}
+use Rattle.std.proofs.Common.{◌≡◌, ℕ, zero, suc, ◌+◌, ◌-◌, ◌/◌, ◌%◌, ◌^◌, ◌<◌, ◌≤◌, List, [], ◌∷◌, ◌++◌, Bool, true, false, cond, ◌&&◌, eqb, Option, Some, None, refl, sym, ap, subst, ◌∙◌, inl, inr, ⊎_elim, append_assoc, append-nil, arith}
 use Rattle.std.specs.Prelude.{Contains, slice_get, nat_lt, nat_le}
 use Rattle.std.proofs.lemmas.Bool.{both_ways, and_parts, and_from, eqb-true, false≢true, true≢false, lt-ltb, ltb-true, le-leb, cases_Bool, false_from_ne_true}
 use Rattle.std.proofs.lemmas.Option.{none-some, same_Some, slice_get-get_or}
@@ -39,7 +39,7 @@ use Rattle.jh_history.proofs.LegalLemmas.{IsLegal-begin}
 use Rattle.jh_laws.specs.Sound.{AreSoundCells}
 use Rattle.jh_laws.specs.Grants.{IsGranted}
 use Rattle.jh_laws.specs.Held.{IsLive, IsGrantedTo, AreGrantedTo, EndsAsGranted}
-use Rattle.jh_laws.specs.Written.{IsByteBy, Puts, IsByteOfPage, WritesByte}
+use Rattle.jh_laws.specs.Written.{IsByteBy, Puts, IsByteOfPage, WritesByte, NoneWrites}
 use Rattle.jh_laws.proofs.ListedLemmas.{over-at, same-place}
 use Rattle.jh_laws.proofs.HeldLemmas.{live-cell, number-of, reach-listed, to-granted, granted-to, ends-at}
 use Rattle.jh_laws.proofs.PlacesHeldLemmas.{is_memory, byte-behind, reached-at, written-other}
@@ -266,3 +266,13 @@ entry-keeps image before rest entry place admitted legal none =
     ∙ page_keeps (byte_written image f entry.cell entry.act) (page_write_by image f entry entry.act) place
     (λ w offset is within at. none (page_after w.change (λ k. f.byte (Page w.cell k)) offset) (inr (w, is, record { offset = offset; within = within; place_is = at; is = refl })))
     ∙ kept_act image f entry.cell entry.act place sound.cells (λ byte puts. none byte (inl puts))
+
+-- over a stretch that doesn't write it
+pub rest-keeps : (image : Image) (before rest : List Entry) (place : Place) → IsAdmitted image → IsLegal image (before ++ rest) → NoneWrites image before rest place → (facts image (before ++ rest)).byte place ≡ (facts image before).byte place
+rest-keeps image before [] place admitted legal none = ap (λ (es : List Entry). (facts image es).byte place) (append-nil before)
+rest-keeps image before (entry ∷ rest) place admitted legal none =
+    let same : (before ++ entry ∷ []) ++ rest ≡ before ++ entry ∷ rest = append_assoc before (entry ∷ []) rest in
+    let P : List Entry → Type 0 = IsLegal image in
+    ap (λ (es : List Entry). (facts image es).byte place) (sym same)
+    ∙ rest-keeps image (before ++ entry ∷ []) rest place admitted (subst P (sym same) legal) none.1
+    ∙ entry-keeps image before rest entry place admitted legal none.0

@@ -1,5 +1,5 @@
 -- Which bytes an entry writes, whichever cell makes it.
-use Rattle.std.specs.Prelude.{◌≡◌, ◌<◌, ◌+◌, ◌/◌, ◌%◌, ◌^◌, ◌⊎◌, ℕ, Some, IsTrue}
+use Rattle.std.specs.Prelude.{◌≡◌, ◌<◌, ◌+◌, ◌/◌, ◌%◌, ◌^◌, ◌⊎◌, ℕ, List, [], ◌∷◌, ◌++◌, Some, IsTrue}
 use Rattle.jh_script.specs.declared.image.Image.{Image}
 use Rattle.jh_history.specs.declared.place.Place.{Place}
 use Rattle.jh_history.specs.declared.place.Place.TheVariants.{Page}
@@ -9,6 +9,7 @@ use Rattle.jh_history.specs.declared.entry.Entry.{Entry}
 use Rattle.jh_history.specs.declared.entry.Act.{Act}
 use Rattle.jh_history.specs.declared.entry.Act.TheVariants.{Write}
 use Rattle.jh_history.specs.Facts.{Facts}
+use Rattle.jh_history.specs.History.{facts}
 use Rattle.jh_history.specs.Pages.{page_after, page_write_by}
 use Rattle.jh_laws.specs.Held.{IsGrantedTo}
 
@@ -37,3 +38,9 @@ abbrev pub WritesByte : Image → Facts → Entry → Place → ℕ → Type 0
 WritesByte image f entry place byte =
     Puts image f entry.cell entry.act place byte
     ⊎ ((write : PageWrite) × (page_write_by image f entry entry.act ≡ Some write) × IsByteOfPage f write place byte)
+
+-- no entry of the rest writes the place, each taken where those before it have led
+abbrev pub NoneWrites : Image → List Entry → List Entry → Place → Type 0
+NoneWrites image before [] place = Unit {0}
+NoneWrites image before (entry ∷ rest) place =
+    ((byte : ℕ) → WritesByte image (facts image before) entry place byte → ⊥) × NoneWrites image (before ++ entry ∷ []) rest place

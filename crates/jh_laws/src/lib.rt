@@ -50,4 +50,4 @@ pub use order::{
     nothing_extends_a_quiet_journal,
 };
 pub use sound::legal_journals_are_sound;
-pub use writes::entries_write_what_they_say;
+pub use writes::{bytes_are_as_last_written, entries_write_what_they_say};
