@@ -314,7 +314,7 @@ pub record IsPhaseOf (image : Image) (f : Facts) (entry : Entry) : Type 0 where
   pub caller : o.caller ≡ entry.cpu
   pub act : phase_act image f (is_idle_but image f o.caller) o.caller o.call o.phase ≡ Some entry.act
 
-phase_call : (act : Act) → is_phase act ≡ true → is_call act ≡ true
+pub phase_call : (act : Act) → is_phase act ≡ true → is_call act ≡ true
 phase_call (Decide refused) h = refl
 phase_call (Settle how) h = refl
 phase_call Commit h = refl
@@ -566,7 +566,7 @@ past_counted cell call (ToNote id about answer) past = tt
 past_counted cell call (ToNoted id about answer waited) past = cond_both (eqb cell id) (ToNoted id about answer (one_more waited)) (ToNoted id about answer waited) IsPast (λ _. tt) (λ _. tt)
 past_counted cell call (ToFinish answer) past = tt
 
-phase_expected : (phase : Phase) (act : Act) → Expects phase act → is_phase act ≡ true
+pub phase_expected : (phase : Phase) (act : Act) → Expects phase act → is_phase act ≡ true
 phase_expected ToDecide act h = ap is_phase h.1
 phase_expected (ToSettle waited) act h = ap is_phase h.1
 phase_expected (ToCreate config) act h = ap is_phase h

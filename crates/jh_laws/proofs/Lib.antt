@@ -24,3 +24,4 @@ pub mod FewLemmas
 pub mod PlacesHeldLemmas
 pub mod DecisionLemmas
 pub mod WrittenLemmas
+pub mod StatesLemmas

@@ -12,3 +12,4 @@ pub mod Held
 pub mod Hypercalls
 pub mod Decisions
 pub mod Written
+pub mod States

@@ -16,6 +16,7 @@ mod hypercalls;
 mod items;
 mod order;
 mod sound;
+mod states;
 mod writes;
 
 pub use access::{accesses_go_by_grants, root_is_granted_its_addresses};
@@ -50,4 +51,5 @@ pub use order::{
     nothing_extends_a_quiet_journal,
 };
 pub use sound::legal_journals_are_sound;
+pub use states::{calls_change_cpus, entries_change_their_cpu};
 pub use writes::{bytes_are_as_last_written, entries_write_what_they_say};
