@@ -314,7 +314,7 @@ pub record IsPhaseOf (image : Image) (f : Facts) (entry : Entry) : Type 0 where
   pub caller : o.caller ≡ entry.cpu
   pub act : phase_act image f (is_idle_but image f o.caller) o.caller o.call o.phase ≡ Some entry.act
 
-phase_call : (act : Act) → is_phase act ≡ true → is_call act ≡ true
+pub phase_call : (act : Act) → is_phase act ≡ true → is_call act ≡ true
 phase_call (Decide refused) h = refl
 phase_call (Settle how) h = refl
 phase_call Commit h = refl
@@ -491,7 +491,7 @@ past-other image f o entry sound is past due other root =
     (entry-of_call image f o entry sound is due)
 
 -- two acts that a test tells apart
-not_same : (test : Act → Bool) (one other : Act) → test one ≡ true → test other ≡ false → one ≡ other → ⊥
+pub not_same : (test : Act → Bool) (one other : Act) → test one ≡ true → test other ≡ false → one ≡ other → ⊥
 not_same test one other passes fails same = both_ways (test other) fails (sym (ap test same) ∙ passes)
 
 never_behind_go : (call : Call) → IsBehindGo call (Decide None) → ⊥
@@ -548,7 +548,7 @@ never_decide call (Hvc code a b answer) phase h = h
 never_decide call Stop phase h = h
 
 -- so behind each phase the call is past it
-past_from : (call : Call) (act : Act) (phase : Phase) → is_phase act ≡ true → ((next : Act) → Expects phase next → MayFollow call act next) → IsPast phase
+pub past_from : (call : Call) (act : Act) (phase : Phase) → is_phase act ≡ true → ((next : Act) → Expects phase next → MayFollow call act next) → IsPast phase
 past_from call act ToDecide is h = never_decide call act is (h (Decide None) (None, refl))
 past_from call act (ToSettle waited) is h = tt
 past_from call act (ToCreate config) is h = tt
@@ -566,7 +566,7 @@ past_counted cell call (ToNote id about answer) past = tt
 past_counted cell call (ToNoted id about answer waited) past = cond_both (eqb cell id) (ToNoted id about answer (one_more waited)) (ToNoted id about answer waited) IsPast (λ _. tt) (λ _. tt)
 past_counted cell call (ToFinish answer) past = tt
 
-phase_expected : (phase : Phase) (act : Act) → Expects phase act → is_phase act ≡ true
+pub phase_expected : (phase : Phase) (act : Act) → Expects phase act → is_phase act ≡ true
 phase_expected ToDecide act h = ap is_phase h.1
 phase_expected (ToSettle waited) act h = ap is_phase h.1
 phase_expected (ToCreate config) act h = ap is_phase h

@@ -62,12 +62,12 @@ use Rattle.jh_laws.proofs.CallLemmas.{IsMadeBy, Stopping, Running, Calling, made
 -- ---- live cells by their ids
 
 -- two cells at different places of the list differ
-two_ids : (earlier later : CellConfig) → AreTwo earlier later → earlier.id ≢ later.id
-two_ids earlier later two is =
+pub two-ids : (earlier later : CellConfig) → AreTwo earlier later → earlier.id ≢ later.id
+two-ids earlier later two is =
     both_ways (eqb earlier.id later.id) (or_parts (eqb earlier.id later.id) (pointwise nat_eq (name_of earlier) (name_of later)) two).0 (eq-eqb earlier.id later.id is)
 
-at_same : (xs : List CellConfig) (i : ℕ) (a b : CellConfig) → i < length xs → get_or xs i a ≡ a → get_or xs i b ≡ b → a ≡ b
-at_same xs i a b lt is_a is_b = sym is_a ∙ get_or_from_slice_get xs i (get_or xs i b) a (slice_get-get_or xs i b lt) ∙ is_b
+pub at-same : (xs : List CellConfig) (i : ℕ) (a b : CellConfig) → i < length xs → get_or xs i a ≡ a → get_or xs i b ≡ b → a ≡ b
+at-same xs i a b lt is_a is_b = sym is_a ∙ get_or_from_slice_get xs i (get_or xs i b) a (slice_get-get_or xs i b lt) ∙ is_b
 
 apart_at : (system : SystemConfig) (configs : List CellConfig) (j k : ℕ) (a b : CellConfig) → AreSoundCells system configs → j < k → k < length configs → get_or configs j a ≡ a → get_or configs k b ≡ b → a.id ≢ b.id
 apart_at system configs j k a b sound lt within is_a is_b =
@@ -75,7 +75,7 @@ apart_at system configs j k a b sound lt within is_a is_b =
     let there : get_or configs k a ≡ b = get_or_from_slice_get configs k (get_or configs k b) a (slice_get-get_or configs k b within) ∙ is_b in
     let P : CellConfig → Type 0 = λ c. AreTwo c (get_or configs k a) in
     let Q : CellConfig → Type 0 = λ c. AreTwo a c in
-    two_ids a b (subst Q there (subst P is_a two))
+    two-ids a b (subst Q there (subst P is_a two))
 
 pub same-id : (system : SystemConfig) (configs : List CellConfig) (a b : CellConfig) → AreSoundCells system configs → Contains configs a → Contains configs b → a.id ≡ b.id → a ≡ b
 same-id system configs a b sound (j, j_lt, is_a) (k, k_lt, is_b) same =
@@ -87,7 +87,7 @@ same-id system configs a b sound (j, j_lt, is_a) (k, k_lt, is_b) same =
     (λ (ge : j ≤ k).
     let e : k ≡ j = omega arith in
     let P : ℕ → Type 0 = λ n. get_or configs n b ≡ b in
-    at_same configs j a b j_lt is_a (subst P e is_b))
+    at-same configs j a b j_lt is_a (subst P e is_b))
     (cases_lt k j))
     (cases_lt j k)
 
@@ -130,8 +130,8 @@ cell-live image cells id cell h = cell_by image cells id cell (eqb id image.syst
 -- ---- regions of a live cell
 
 -- the number of a live cell
-number_of : (image : Image) (cells : List Live) (cell : CellConfig) → IsLive image cells cell → (a : ℕ) × IsNumbered image.system (configs_of cells) a cell
-number_of image cells cell live =
+pub number-of : (image : Image) (cells : List Live) (cell : CellConfig) → IsLive image cells cell → (a : ℕ) × IsNumbered image.system (configs_of cells) a cell
+number-of image cells cell live =
     ⊎_elim
     (λ (is : cell ≡ image.system.root). (0, ap Some (sym is)))
     (λ (held : Contains (configs_of cells) cell). (suc held.0, slice_get-get_or (configs_of cells) held.0 cell held.1 ∙ ap Some held.2))
@@ -140,7 +140,7 @@ number_of image cells cell live =
 -- at most one of its regions gives an address
 only_region : (image : Image) (cells : List Live) (cell : CellConfig) (access : Access) (at : ℕ) → AreSoundCells image.system (configs_of cells) → IsLive image cells cell → IsOnly (gives access at) cell.memory_regions
 only_region image cells cell access at sound live j k d lt within at_j at_k =
-    let number = number_of image cells cell live in
+    let number = number-of image cells cell live in
     let regions : List Region = cell.memory_regions in
     let same : j ≡ k = sound.clean.addresses number.0 cell number.1 j k (get_or regions j d) (get_or regions k d)
     (slice_get-get_or regions j d (omega arith)) (slice_get-get_or regions k d within) at
@@ -150,7 +150,7 @@ only_region image cells cell access at sound live j k d lt within at_j at_k =
 -- a region that has an address ends within the addresses
 region_within : (image : Image) (cells : List Live) (cell : CellConfig) (r : Region) (at : ℕ) → AreSoundCells image.system (configs_of cells) → IsLive image cells cell → Contains cell.memory_regions r → has_address r at ≡ true → virt_end r ≤ ADDRESS_END
 region_within image cells cell r at sound live held has =
-    let number = number_of image cells cell live in
+    let number = number-of image cells cell live in
     let first : r.virt_start ≤ at = has_address-first r at has in
     let last : at < virt_end r = has_address-last r at has in
     let some : 0 < r.size = omega arith in
@@ -291,9 +291,9 @@ reach_granted image f id access at width sound some each =
     (found.0, reach_by-within g at width within ∙ ap memory_or_nothing found.1)
 
 -- and it reaches the places that are granted
-reach_listed : (image : Image) (f : Facts) (id : ℕ) (access : Access) (at width : ℕ) (place : ℕ → Place) → AreSoundCells image.system (configs_of f.cells) → 0 < width → ((k : ℕ) → k < width → IsGrantedTo image f.cells id access (at + k) (place k))
+pub reach-listed : (image : Image) (f : Facts) (id : ℕ) (access : Access) (at width : ℕ) (place : ℕ → Place) → AreSoundCells image.system (configs_of f.cells) → 0 < width → ((k : ℕ) → k < width → IsGrantedTo image f.cells id access (at + k) (place k))
     → reach image f id access at width ≡ Memory (listed place width)
-reach_listed image f id access at width place sound some each =
+reach-listed image f id access at width place sound some each =
     let g : ℕ → Option Place = granted image f id access in
     let below : at + (width - 1) < ADDRESS_END = (each (width - 1) (omega arith)).given.below in
     let within : at + width ≤ ADDRESS_END = omega arith in
@@ -317,7 +317,7 @@ got_by : (image : Image) (f : Facts) (id : ℕ) (access : Access) (at width : �
 got_by image f id access at width (Memory ps) sound some is = record {
   granted = (λ _. granted_reach image f id access at width ps sound is, λ _. refl);
   reads = λ value e place each.
-      let places : reach image f id access at width ≡ Memory (listed place width) = reach_listed image f id access at width place sound some each in
+      let places : reach image f id access at width ≡ Memory (listed place width) = reach-listed image f id access at width place sound some each in
       let read : read_of f.byte (Memory ps) ≡ read_of f.byte (Memory (listed place width)) = ap (read_of f.byte) (sym is ∙ places) in
       let spelt : Some value ≡ Some (spelled (map f.byte (listed place width))) = sym e ∙ read in
       same_Some value (spelled (map f.byte (listed place width))) spelt ∙ spelled-listed f.byte place width;

@@ -9,3 +9,12 @@ pub mod ReadyLemmas
 pub mod RunLemmas
 pub mod CallLemmas
 pub mod HeldLemmas
+pub mod HvcLemmas
+pub mod QuietLemmas
+pub mod CommitLemmas
+pub mod FewCellsLemmas
+pub mod FewLemmas
+pub mod PlacesHeldLemmas
+pub mod DecisionLemmas
+pub mod WrittenLemmas
+pub mod StatesLemmas

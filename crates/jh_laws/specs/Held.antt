@@ -1,8 +1,11 @@
 -- What a live cell is granted, and how its accesses end.
-use Rattle.std.specs.Prelude.{◌≡◌, ◌<◌, ◌+◌, ◌⊎◌, ◌↔◌, ℕ, Bool, List, Contains, Option, Some, IsSome, IsTrue}
+use Rattle.std.specs.Prelude.{◌≡◌, ◌<◌, ◌+◌, ◌⊎◌, ◌↔◌, ℕ, Bool, true, List, Contains, Option, Some, slice_get, IsSome, IsTrue}
 use Rattle.jh_num.specs.Memory.{little_endian}
 use Rattle.jh_cellcfg.specs.declared.config.CellConfig.{CellConfig}
 use Rattle.jh_cellcfg.specs.declared.live.Live.{Live}
+use Rattle.jh_cellcfg.specs.declared.region.Region.{Region}
+use Rattle.jh_cellcfg.specs.Regions.{has_place, is_unshared, is_loadable}
+use Rattle.jh_check.specs.Clean.{IsSameSection}
 use Rattle.jh_shape.specs.Laws.{IsTaken}
 use Rattle.jh_script.specs.declared.image.Image.{Image}
 use Rattle.jh_history.specs.declared.place.Place.{Place}
@@ -59,3 +62,24 @@ EndsAsGranted image f id (Fetch at got) = IsGotBy image f id ToFetch at 4 got
 EndsAsGranted image f id (Write width at value ok) = IsTrue ok ↔ AreGrantedTo image f.cells id ToWrite at width
 EndsAsGranted image f id (Await width at value ok) = IsAwaitedBy image f id at width value ok
 EndsAsGranted image f id _ = Unit {0}
+
+-- ---- what a cell holds for itself
+
+-- the cell holds the place for itself: by a region of it that isn't shared with root, nor left to root while the cell is
+-- loadable
+pub record IsHeld (cells : List Live) (live : Live) (number : ℕ) (region : Region) (place : ℕ) : Type 0 where
+  pub lives : Contains cells live
+  pub item : slice_get live.config.memory_regions number ≡ Some region
+  pub alone : is_unshared region ≡ true
+  pub has : has_place region place ≡ true
+  pub kept : live.loadable ≡ true → is_loadable region ≡ true → ⊥
+
+-- the region of the cell, and that of the other one, are the same section of two linked devices
+abbrev pub AreLinkedSections : CellConfig → ℕ → CellConfig → ℕ → Type 0
+AreLinkedSections cell number other other_number = IsSameSection cell number other other_number ⊎ IsSameSection other other_number cell number
+
+-- the id is the cell's own, or that of a live cell with a device linked to one of its devices, of which the region is a
+-- section
+abbrev pub IsOwnOrLinked : List Live → CellConfig → ℕ → ℕ → Type 0
+IsOwnOrLinked cells cell number id =
+    (id ≡ cell.id) ⊎ ((other : CellConfig) × Contains (configs_of cells) other × (other.id ≡ id) × (n : ℕ) × AreLinkedSections cell number other n)
