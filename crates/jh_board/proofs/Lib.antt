@@ -3,4 +3,3 @@ pub mod BytesLemmas
 pub mod PieceLemmas
 pub mod MeansLemmas
 pub mod IndexLemmas
-pub mod ClosedLemmas

@@ -1,10 +1,6 @@
 pub mod Pages
-pub mod Closed
-pub mod LiveView
-pub mod IsLive
-pub mod StateView
+pub mod Held
 pub mod Means
-pub mod Steps
 pub mod BoardView
 pub mod Turns
 pub mod Stands
