@@ -3,7 +3,7 @@ ghost use Rattle.std.specs.Prelude.{◌≡◌, ℕ, ◌+◌, ◌<◌, ◌≤◌,
 ghost use Rattle.jh_history.specs.Lives.{is_on_board};
 ghost use Rattle.jh_history.specs.Due.{due, IsLegal, IsQuiet};
 ghost use Rattle.jh_history.specs.History.{facts, start};
-ghost use Rattle.jh_history.specs.Admitted.{IsAdmitted, IsBuilt};
+ghost use Rattle.jh_history.specs.Admitted.{HasNoCall, IsAdmitted, IsBuilt};
 ghost use Rattle.jh_history.specs.declared.place.Place.{Place as ThePlace};
 ghost use Rattle.jh_board.specs.Pages.{byte_of};
 ghost use Rattle.jh_board.specs.Means.{Means};
@@ -57,6 +57,7 @@ fn advance(
     requires cpu { cpu < 16 }
     requires within { length journal.old.entries ≤ limit }
     requires means { Means (record { pages = memory.old; states = cpus.old }) (facts image.now journal.old.entries) }
+    requires silent { HasNoCall image.now }
     requires legal { IsLegal image.now journal.old.entries }
     ensures ok { IfOk result (λ made. Advances image.now limit journal.old.entries cpu made journal.new.entries) }
     ensures full { result ≡ Err TurnFault.Full → IsSome (due image.now journal.old.entries cpu) × (length journal.old.entries ≡ limit) }
@@ -66,14 +67,14 @@ fn advance(
 {
     image.has_few_cpus();
     root_lives_alone();
-    let Some(step) = next_step(image, memory, cpus, cpu) else {
+    let Some(step) = next_step(image, memory, cpus, cpu)? else {
         return Ok(None);
     };
     if journal.len() >= limit as usize {
         return Err(TurnFault::Full);
     }
     journal.reserve(1)?;
-    make(memory, cpus, &step.entry, &step.reach)?;
+    make(image, memory, cpus, &step.entry, &step.reach)?;
     match journal.push(step.entry) {
         Ok(()) => Ok(Some(step.entry)),
         Err(_) => unreachable!(),

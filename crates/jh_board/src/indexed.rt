@@ -5,7 +5,7 @@ ghost use Rattle.jh_cellcfg.specs.Regions.{IsInRange};
 ghost use Rattle.jh_mmio.specs.Index.{IsRegionAt};
 ghost use Rattle.jh_script.specs.Operations.{IsPlain};
 ghost use Rattle.jh_history.specs.Access.{region_of, place_of, reach_by};
-ghost use Rattle.jh_history.specs.Admitted.{IsAdmitted};
+ghost use Rattle.jh_history.specs.Admitted.{IsAdmitted, pool_pages as pool_pages_lem, root_pages as root_pages_lem};
 ghost use Rattle.jh_history.specs.Facts.{Facts};
 ghost use Rattle.jh_history.specs.Lives.{is_on_board as is_on_board_lem, program_of, is_program_of as is_program_of_lem, regions_in, op_at};
 ghost use Rattle.jh_board.specs.Indexed.{AreRootPrograms};
@@ -14,7 +14,7 @@ use jh_cellcfg::Region;
 use jh_cpu::Cpu;
 use jh_history::{
     Access, Grants, Reach, Wanted, admitted_roots_are_sound, gives, is_on_board, is_program_of,
-    reach,
+    pool_pages, reach, root_pages,
 };
 use jh_mmio::RegionIndex;
 use jh_script::{Image, Op, Program};
@@ -108,6 +108,30 @@ impl IndexedImage {
         ensures admitted { IsAdmitted self.now }
     {
         admitted_roots_are_sound(&self.image);
+    }
+
+    /// The image itself.
+    pub fn image(&self) -> &Image
+        ensures image { result.now ≡ self.now }
+        ensures admitted { IsAdmitted self.now }
+    {
+        &self.image
+    }
+
+    /// How many pages the pool has.
+    pub fn pool_pages(&self) -> u32
+        ensures { result ≡ pool_pages_lem self.now.system }
+    {
+        admitted_roots_are_sound(&self.image);
+        pool_pages(&self.image.system) as u32
+    }
+
+    /// How many pages root uses.
+    pub fn root_pages(&self) -> u32
+        ensures { result ≡ root_pages_lem self.now.system }
+    {
+        admitted_roots_are_sound(&self.image);
+        root_pages(&self.image.system) as u32
     }
 
     /// Whether the board has the CPU.

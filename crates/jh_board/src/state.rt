@@ -1,5 +1,5 @@
 //! A board's memory and CPUs, as what tells the facts of its journal.
-ghost use Rattle.std.specs.Prelude.{◌≡◌, ℕ, ◌<◌, ◌↔◌, None, IfSome, IsTrue, length, option_map};
+ghost use Rattle.std.specs.Prelude.{◌≡◌, ℕ, ◌<◌, ◌↔◌, None, IfSome, IfOk, IsTrue, length, option_map};
 ghost use Rattle.jh_history.specs.Due.{due_at};
 ghost use Rattle.jh_history.specs.Alone.{IsAlone};
 ghost use Rattle.jh_history.specs.Facts.{Facts};
@@ -9,8 +9,12 @@ ghost use Rattle.jh_board.specs.declared.state.NextStep.{NextStep as TheStep};
 
 use crate::indexed::IndexedImage;
 use crate::memory::Memory;
+use jh_cellcfg::CellConfig;
 use jh_cpu::Cpu;
-use jh_history::{Entry, Known, Places, Reach, Wanted, next_of, none_due, reach_of};
+use jh_history::{
+    Creation, Entry, Known, OpenCall, Places, Reach, Wanted, next_of, none_due, reach_of,
+};
+use jh_num::NoMemory;
 use jh_script::Op;
 use std::marker::Model;
 
@@ -39,6 +43,51 @@ impl<'a> Known for State<'a> {
     ghost use Rattle.jh_board.specs.Means.{Means};
 
     ghost Knows = { λ s i f. (i ≡ s.image) × Means s.held f × IsAlone i f };
+
+    fn root(&self) -> u32 {
+        self.image.image().system.root.id
+    }
+
+    fn cell(&self, id: u64) -> Option<&CellConfig> {
+        let root = &self.image.image().system.root;
+        if id == u64::from(root.id) {
+            Some(root)
+        } else {
+            None
+        }
+    }
+
+    fn live(&self, _id: u64) -> Option<&CellConfig> {
+        None
+    }
+
+    fn count(&self) -> u32 {
+        1
+    }
+
+    fn size(&self) -> u32 {
+        self.image.pool_pages()
+    }
+
+    fn used(&self) -> u32 {
+        self.image.root_pages()
+    }
+
+    fn is_other_locked(&self, _id: u64) -> bool {
+        false
+    }
+
+    fn creation(&self, _caller: u8, _at: u64) -> Result<Creation, NoMemory> {
+        Err(NoMemory)
+    }
+
+    fn call(&self) -> Option<&OpenCall> {
+        None
+    }
+
+    fn has_few_cpus(&self) {
+        self.image.has_few_cpus();
+    }
 
     fn has_cpu(&self, cpu: u8) -> bool {
         self.image.has_cpu(cpu)
@@ -69,12 +118,17 @@ pub struct NextStep {
 }
 
 /// What the CPU does next.
-pub fn next_step(image: &IndexedImage, memory: &Memory, cpus: &[Cpu], cpu: u8) -> Option<NextStep>
+pub fn next_step(
+    image: &IndexedImage,
+    memory: &Memory,
+    cpus: &[Cpu],
+    cpu: u8,
+) -> Result<Option<NextStep>, NoMemory>
     requires cpus { length cpus.now ≡ 16 }
     requires cpu { cpu < 16 }
-    ensures due { (f : Facts) → Means (record { pages = memory.now; states = cpus.now }) f → IsAlone image.now f → option_map (λ (s : TheStep). s.entry) result ≡ due_at image.now f cpu }
-    ensures reached { (f : Facts) → Means (record { pages = memory.now; states = cpus.now }) f → IsAlone image.now f → IfSome result (λ s. IsReachOfEntry image.now f s.entry s.reach) }
-    ensures cpu { IfSome result (λ s. s.entry.cpu ≡ cpu) }
+    ensures due { (f : Facts) → Means (record { pages = memory.now; states = cpus.now }) f → IsAlone image.now f → IfOk result (λ step. option_map (λ (s : TheStep). s.entry) step ≡ due_at image.now f cpu) }
+    ensures reached { (f : Facts) → Means (record { pages = memory.now; states = cpus.now }) f → IsAlone image.now f → IfOk result (λ step. IfSome step (λ s. IsReachOfEntry image.now f s.entry s.reach)) }
+    ensures cpu { IfOk result (λ step. IfSome step (λ s. s.entry.cpu ≡ cpu)) }
 {
     let state = State {
         image,
@@ -82,9 +136,9 @@ pub fn next_step(image: &IndexedImage, memory: &Memory, cpus: &[Cpu], cpu: u8) -
         cpus,
     };
     let reach = reach_of(&state, cpu);
-    match next_of(&state, cpu, &reach) {
-        Some(entry) => Some(NextStep { entry, reach }),
-        None => None,
+    match next_of(&state, cpu, &reach)? {
+        Some(entry) => Ok(Some(NextStep { entry, reach })),
+        None => Ok(None),
     }
 }
 

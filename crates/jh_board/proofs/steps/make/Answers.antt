@@ -4,7 +4,7 @@ use Rattle.jh_board.proofs.MeansLemmas.{Means-made}
 use Rattle.jh_board.proofs.steps.make.Goals as goal
 
 pub returns-clause-ok : goal.returns-clause-ok
-returns-clause-ok c = λ i f h own reached.
+returns-clause-ok c = λ f h closed own reached.
     let old : Held = record { pages = c.args.memory.now; states = c.args.cpus.now } in
     let new : Held = record { pages = c.make_bytes.new.memory; states = c.cpus_after.new.cpus } in
-    Means-made i f c.args.entry.now old new h own (c.in_ok-make_bytes.ensures.ok i f c.args.entry.now.cell h.bytes reached) (c.cpus_after.ensures i f h.cpus)
+    Means-made c.args.image.now f c.args.entry.now old new h own (c.in_ok-make_bytes.ensures.ok c.args.image.now f c.args.entry.now.cell h.bytes reached) (c.cpus_after.ensures f closed h.cpus)

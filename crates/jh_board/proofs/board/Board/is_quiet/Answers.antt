@@ -2,4 +2,4 @@
 use Rattle.jh_board.proofs.board.Board.is_quiet.Goals as goal
 
 pub returns : goal.returns
-returns c = rw (← c.self.view_is) (c.is_quiet.ensures _ c.self.invariant.means (c.root_lives_alone.ensures.alone _ _ c.self.invariant.legal))
+returns c = rw (← c.self.view_is) (c.is_quiet.ensures _ c.self.invariant.means (c.root_lives_alone.ensures.alone _ _ c.self.invariant.built.calls c.self.invariant.legal))
