@@ -95,7 +95,7 @@ few-call : (image : Image) (configs : List CellConfig) (cpu : ℕ → Cpu) (call
     → All (λ (c : CellConfig). IsSoundBitmap c.cpu_set → IsSoundCpuSet c.cpu_set) configs → length configs ≤ 15
 few-call image configs cpu call o sound owned e is names = few-open image configs cpu o sound owned (subst (λ (k : Option OpenCall). IsSoundCall image configs cpu k) e is) names
 
-configs-length : (lives : List Live) → length (configs_of lives) ≡ length lives
+pub configs-length : (lives : List Live) → length (configs_of lives) ≡ length lives
 configs-length [] = refl
 configs-length (live ∷ lives) = ap (λ n. suc n) (configs-length lives)
 

@@ -1,11 +1,12 @@
 -- The live cells as the slow plain program keeps them: their configurations, and their marks.
 use Rattle.std.specs.Prelude.{ℕ, Bool, ◌==◌, ◌&&◌, not, List, [], ◌∷◌}
+use Rattle.jh_comm.specs.Page.{state_in}
 use Rattle.jh_comm.specs.declared.words.TheConstants.{STATE_RUNNING_LOCKED}
 use Rattle.jh_cellcfg.specs.declared.config.CellConfig.{CellConfig}
 use Rattle.jh_cellcfg.specs.declared.live.Live.{Live}
 use Rattle.jh_script.specs.declared.image.Image.{Image}
-use Rattle.jh_history.specs.Facts.{Facts}
-use Rattle.jh_history.specs.Phases.{state_word}
+use Rattle.jh_history.specs.declared.place.Place.{Place}
+use Rattle.jh_history.specs.declared.place.Place.TheVariants.{Page}
 
 -- the configurations, each with its mark
 abbrev pub joined : List CellConfig → List Bool → List Live
@@ -18,9 +19,13 @@ pub record GrantsView : Type 0 where
   pub image : Image
   pub cells : List Live
 
--- a cell of this configuration may not be reconfigured; the same of another than the one with the id
-abbrev pub is_locked_by : Facts → CellConfig → Bool
-is_locked_by facts config = state_word facts config.id == STATE_RUNNING_LOCKED
+-- the state in the cell's page, by these bytes
+abbrev pub word_by : (Place → ℕ) → ℕ → ℕ
+word_by byte id = state_in (λ k. byte (Page id k))
 
-abbrev pub is_other_locked_by : Facts → ℕ → CellConfig → Bool
-is_other_locked_by facts id config = not (config.id == id) && is_locked_by facts config
+-- a cell of this configuration may not be reconfigured; the same of another than the one with the id
+abbrev pub is_locked_by : (Place → ℕ) → CellConfig → Bool
+is_locked_by byte config = word_by byte config.id == STATE_RUNNING_LOCKED
+
+abbrev pub is_other_locked_by : (Place → ℕ) → ℕ → CellConfig → Bool
+is_other_locked_by byte id config = not (config.id == id) && is_locked_by byte config

@@ -1,29 +1,47 @@
 //! Which cells may not be reconfigured.
-ghost use Rattle.std.specs.Prelude.{◌≡◌, List, map};
+ghost use Rattle.std.specs.Prelude.{◌≡◌, List};
 ghost use Rattle.std.specs.List.{list_any};
-ghost use Rattle.jh_script.specs.declared.image.Image.{Image as TheImage};
-ghost use Rattle.jh_history.specs.Facts.{Facts};
-ghost use Rattle.jh_history.specs.Phases.{configs_of, is_locked, is_other_locked};
-ghost use Rattle.jh_history.specs.LiveView.{is_locked_by, is_other_locked_by};
+ghost use Rattle.jh_cellcfg.specs.declared.live.Live.{Live as TheLive};
+ghost use Rattle.jh_history.specs.LiveView.{word_by, is_locked_by, is_other_locked_by};
+ghost use Rattle.jh_history.specs.Phases.{configs_of};
+ghost use Rattle.jh_history.specs.Places.{places_of_run};
 
-use crate::known::Known;
-use crate::phases::state_word;
+use crate::bytes::{Bytes, value_of};
+use crate::place::{Place, Places, Run};
 use jh_cellcfg::CellConfig;
 use jh_comm::STATE_RUNNING_LOCKED;
 
-/// Whether the cell is locked.
-fn is_locked<K: Known>(known: &K, cell: &CellConfig) -> bool
-    ensures { (i : TheImage) (f : Facts) → K.Knows known.now i f → result ≡ is_locked_by f cell.now }
+/// Where the state stands in a communication page.
+const STATE_AT: u64 = 8;
+
+/// The state of the cell.
+fn state_word<B: Bytes>(bytes: &B, cell: u32) -> u32
+    ensures { result ≡ word_by (B.byte_of bytes.now) cell }
 {
-    state_word(known, cell.id) == STATE_RUNNING_LOCKED
+    let run = Run {
+        first: Place::Page {
+            cell,
+            offset: STATE_AT,
+        },
+        count: 4,
+    };
+    let none = Run { count: 0, ..run };
+    value_of(bytes, &Places::new(run, none)) as u32
 }
 
-/// Whether one of the cells is locked.
-pub(crate) fn is_any_locked<K: Known>(known: &K, cells: &[CellConfig]) -> bool
-    ensures { (i : TheImage) (f : Facts) → K.Knows known.now i f → configs_of f.cells ≡ cells.now → result ≡ list_any (is_locked f) f.cells }
+/// Whether the cell is locked.
+fn is_locked<B: Bytes>(bytes: &B, cell: &CellConfig) -> bool
+    ensures { result ≡ is_locked_by (B.byte_of bytes.now) cell.now }
+{
+    state_word(bytes, cell.id) == STATE_RUNNING_LOCKED
+}
+
+/// Whether one of the cells is locked, by these bytes.
+pub(crate) fn is_any_locked<B: Bytes>(bytes: &B, cells: &[CellConfig]) -> bool
+    ensures { (lives : List TheLive) → configs_of lives ≡ cells.now → result ≡ list_any (λ (live : TheLive). is_locked_by (B.byte_of bytes.now) live.config) lives }
 {
     for cell in cells {
-        if is_locked(known, cell) {
+        if is_locked(bytes, cell) {
             return true;
         }
     }
@@ -31,18 +49,18 @@ pub(crate) fn is_any_locked<K: Known>(known: &K, cells: &[CellConfig]) -> bool
 }
 
 /// Whether the cell is another than the one with the id, and locked.
-fn is_other_locked<K: Known>(known: &K, cell: &CellConfig, id: u64) -> bool
-    ensures { (i : TheImage) (f : Facts) → K.Knows known.now i f → result ≡ is_other_locked_by f id cell.now }
+fn is_other_locked<B: Bytes>(bytes: &B, cell: &CellConfig, id: u64) -> bool
+    ensures { result ≡ is_other_locked_by (B.byte_of bytes.now) id cell.now }
 {
-    u64::from(cell.id) != id && is_locked(known, cell)
+    u64::from(cell.id) != id && is_locked(bytes, cell)
 }
 
-/// Whether one of the cells but the one with the id is locked.
-pub(crate) fn is_any_other_locked<K: Known>(known: &K, cells: &[CellConfig], id: u64) -> bool
-    ensures { (i : TheImage) (f : Facts) → K.Knows known.now i f → configs_of f.cells ≡ cells.now → result ≡ list_any (is_other_locked f id) f.cells }
+/// Whether one of the cells but the one with the id is locked, by these bytes.
+pub(crate) fn is_any_other_locked<B: Bytes>(bytes: &B, cells: &[CellConfig], id: u64) -> bool
+    ensures { (lives : List TheLive) → configs_of lives ≡ cells.now → result ≡ list_any (λ (live : TheLive). is_other_locked_by (B.byte_of bytes.now) id live.config) lives }
 {
     for cell in cells {
-        if is_other_locked(known, cell, id) {
+        if is_other_locked(bytes, cell, id) {
             return true;
         }
     }

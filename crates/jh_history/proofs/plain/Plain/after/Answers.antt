@@ -1,29 +1,52 @@
 -- One entry more.
-use Rattle.std.proofs.Common.{◌<◌, sym, subst, length, take, arith}
+use Rattle.std.proofs.Common.{◌≡◌, ◌<◌, List, Some, None, get_or, sym, ap, subst, ◌∙◌, length, take, arith}
+use Rattle.std.proofs.lemmas.List.{take_all}
+use Rattle.jh_script.specs.declared.image.Image.{Image}
+use Rattle.jh_history.specs.declared.entry.Entry.{Entry}
+use Rattle.jh_history.specs.declared.entry.Act.TheVariants.{Read}
 use Rattle.jh_history.specs.Facts.{Facts}
-use Rattle.jh_history.specs.History.{facts}
+use Rattle.jh_history.specs.Due.{due_at}
+use Rattle.jh_history.specs.History.{facts, after}
+use Rattle.jh_history.specs.Sound.{IsSound}
 use Rattle.jh_history.specs.PlainView.{Stands}
 use Rattle.jh_history.proofs.FactsLemmas.{facts-nil, facts-next}
 use Rattle.jh_history.proofs.LegalLemmas.{due-index}
 use Rattle.jh_history.proofs.PlainLemmas.{due_at-plain}
-use Rattle.jh_history.proofs.AloneLemmas.{due_at-roots}
 use Rattle.jh_history.proofs.plain.Plain.after.Goals as goal
 
+abbrev any_entry : Entry
+any_entry = record { cpu = 0; cell = 0; act = Read 0 0 None }
+
 pub loop-entry-init : goal.loop-entry-init
-loop-entry-init c = rw facts-nil c.open-plain.ensures
+loop-entry-init c = rw facts-nil (record { stands = c.open-plain.ensures; sound = c.legal_journals_are_sound.ensures.start c.args.image.now c.requires.admitted })
 
 pub follow-requires-clause-plain : goal.follow-requires-clause-plain
 follow-requires-clause-plain c =
     let lt : c.loop-entry.entry-index < length c.args.entries.now = omega arith in
     due_at-plain c.args.image.now (facts c.args.image.now (take c.loop-entry.entry-index c.args.entries.now)) _ _ c.requires.admitted (due-index c.args.image.now c.args.entries.now c.loop-entry.entry-index _ c.requires.legal lt)
 
-pub follow-requires-clause-own : goal.follow-requires-clause-own
-follow-requires-clause-own c =
+pub follow-requires-clause-due : goal.follow-requires-clause-due
+follow-requires-clause-due c =
     let lt : c.loop-entry.entry-index < length c.args.entries.now = omega arith in
-    rw (← c.loop-entry.invariant.same) (due_at-roots c.args.image.now (facts c.args.image.now (take c.loop-entry.entry-index c.args.entries.now)) _ _ c.requires.built c.loop-entry.invariant.alone (due-index c.args.image.now c.args.entries.now c.loop-entry.entry-index _ c.requires.legal lt))
+    let f = facts c.args.image.now (take c.loop-entry.entry-index c.args.entries.now) in
+    let stands = c.loop-entry.invariant.stands in
+    record {
+      facts = f;
+      sound = subst (λ (x : Image). IsSound x f) stands.same c.loop-entry.invariant.sound;
+      due = subst (λ (x : Image). due_at x f (get_or c.args.entries.now c.loop-entry.entry-index any_entry).cpu ≡ Some (get_or c.args.entries.now c.loop-entry.entry-index any_entry)) stands.same (due-index c.args.image.now c.args.entries.now c.loop-entry.entry-index any_entry c.requires.legal lt);
+      cells = stands.cells;
+      call = stands.call;
+    }
 
 pub loop-entry-preserved : goal.loop-entry-preserved
 loop-entry-preserved c =
     let lt : c.loop-entry.entry-index < length c.args.entries.now = omega arith in
-    let P : Facts → Type 0 = λ f. Stands c.follow.new.self c.args.image.now f in
-    subst P (sym (facts-next c.args.image.now c.args.entries.now c.loop-entry.entry-index _ lt)) (c.in_ok-follow.ensures c.args.image.now (facts c.args.image.now (take c.loop-entry.entry-index c.args.entries.now)) c.loop-entry.invariant)
+    let f = facts c.args.image.now (take c.loop-entry.entry-index c.args.entries.now) in
+    let next = sym (facts-next c.args.image.now c.args.entries.now c.loop-entry.entry-index _ lt) in
+    record {
+      stands = subst (λ (g : Facts). Stands c.follow.new.self c.args.image.now g) next (c.in_ok-follow.ensures c.args.image.now f c.loop-entry.invariant.stands);
+      sound = subst (λ (g : Facts). IsSound c.args.image.now g) next (c.legal_journals_are_sound.ensures.after c.args.image.now f _ c.loop-entry.invariant.sound (due-index c.args.image.now c.args.entries.now c.loop-entry.entry-index _ c.requires.legal lt));
+    }
+
+pub returns : goal.returns
+returns c = subst (λ (entries : List Entry). Stands c.loop-entry.plain c.args.image.now (facts c.args.image.now entries)) (take_all c.loop-entry.entry-index c.args.entries.now c.loop-entry-test.false) c.loop-entry.invariant.stands
