@@ -67,7 +67,8 @@ fn advance(
 {
     image.has_few_cpus();
     root_lives_alone();
-    let Some(step) = next_step(image, memory, cpus, cpu)? else {
+    let next = next_step(image, memory, cpus, cpu)?;
+    let Some(step) = next else {
         return Ok(None);
     };
     if journal.len() >= limit as usize {

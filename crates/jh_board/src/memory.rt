@@ -78,7 +78,8 @@ impl Memory {
     fn value_in_page(&self, piece: Piece) -> u64
         requires page { piece.at % 4096 + piece.count ≤ 4096 }
         requires few { piece.count ≤ 8 }
-        ensures { result ≡ spelled (map (byte_of self.now) (places_in_row (Place.Physical piece.at) piece.count)) }
+        ensures value { result ≡ spelled (map (byte_of self.now) (places_in_row (Place.Physical piece.at) piece.count)) }
+        ensures fits { result < 256 ^ piece.count }
     {
         match self.pages.get(&(piece.at / 4096)) {
             Some(page) => page.value((piece.at % 4096) as usize, piece.count),
@@ -88,7 +89,8 @@ impl Memory {
 
     /// The number that the bytes at the places spell, the lowest first.
     pub fn value(&self, places: &Places) -> u64
-        ensures { result ≡ spelled (map (byte_of self.now) places.now) }
+        ensures value { result ≡ spelled (map (byte_of self.now) places.now) }
+        ensures fits { result < 256 ^ length places.now }
     {
         match piece_of(places) {
             Some(piece) => self.value_in_page(piece),

@@ -136,7 +136,8 @@ pub fn next_step(
         cpus,
     };
     let reach = reach_of(&state, cpu);
-    match next_of(&state, cpu, &reach)? {
+    let next = next_of(&state, cpu, &reach)?;
+    match next {
         Some(entry) => Ok(Some(NextStep { entry, reach })),
         None => Ok(None),
     }
