@@ -14,36 +14,35 @@ use Rattle.jh_history.specs.declared.entry.Entry.{Entry}
 use Rattle.jh_history.specs.Facts.{Facts}
 use Rattle.jh_history.specs.History.{start, after, facts}
 use Rattle.jh_history.specs.Due.{due_at, due, IsLegal, IsLegalFrom}
-use Rattle.jh_history.specs.Admitted.{IsAdmitted}
 use Rattle.jh_history.proofs.FactsLemmas.{facts-push}
 use Rattle.jh_history.proofs.LegalLemmas.{IsLegal-begin, IsLegal-rest, facts-append}
 use Rattle.jh_laws.specs.Outcomes.{is_violation}
 use Rattle.jh_laws.specs.Operations.{op_of, op_by, operations_by, program_in}
-use Rattle.jh_laws.proofs.MadeLemmas.{IsNext, AllRoots, moved_by, own_after, other_after, roots_after, roots-at, roots-start, next-made, made-at, made-access, due_at-failed, done_by-moved}
+use Rattle.jh_laws.proofs.MadeLemmas.{IsSilent, IsNext, AllRoots, moved_by, own_after, other_after, roots_after, roots-at, roots-start, next-made, made-at, made-access, due_at-failed, done_by-moved}
 
 -- the entry's CPU after it, and the others
-own_moved : (image : Image) (f : Facts) (entry : Entry) → IsAdmitted image → IsNext image f entry → (after image f entry).cpu entry.cpu ≡ moved_by (is_violation entry.act) (f.cpu entry.cpu)
+own_moved : (image : Image) (f : Facts) (entry : Entry) → IsSilent image → IsNext image f entry → (after image f entry).cpu entry.cpu ≡ moved_by (is_violation entry.act) (f.cpu entry.cpu)
 own_moved image f entry admitted made = own_after image f entry admitted made ∙ done_by-moved image (is_violation entry.act) (f.cpu entry.cpu) entry.cpu made.op admitted made.at
 
-pub cpu-by : (image : Image) (before rest : List Entry) (entry : Entry) (b : Bool) → IsAdmitted image → IsLegal image (before ++ entry ∷ rest) → is_violation entry.act ≡ b
+pub cpu-by : (image : Image) (before rest : List Entry) (entry : Entry) (b : Bool) → IsSilent image → IsLegal image (before ++ entry ∷ rest) → is_violation entry.act ≡ b
     → (facts image (before ++ entry ∷ [])).cpu entry.cpu ≡ moved_by b ((facts image before).cpu entry.cpu)
 cpu-by image before rest entry b admitted legal h =
     ap (λ (g : Facts). g.cpu entry.cpu) (facts-push image before entry)
     ∙ own_moved image (facts image before) entry admitted (made-at image before rest entry admitted legal)
     ∙ ap (λ (v : Bool). moved_by v ((facts image before).cpu entry.cpu)) h
 
-pub cpu-other : (image : Image) (before rest : List Entry) (entry : Entry) (cpu : ℕ) → IsAdmitted image → IsLegal image (before ++ entry ∷ rest) → cpu ≢ entry.cpu → (facts image (before ++ entry ∷ [])).cpu cpu ≡ (facts image before).cpu cpu
+pub cpu-other : (image : Image) (before rest : List Entry) (entry : Entry) (cpu : ℕ) → IsSilent image → IsLegal image (before ++ entry ∷ rest) → cpu ≢ entry.cpu → (facts image (before ++ entry ∷ [])).cpu cpu ≡ (facts image before).cpu cpu
 cpu-other image before rest entry cpu admitted legal ne = ap (λ (g : Facts). g.cpu cpu) (facts-push image before entry) ∙ other_after image (facts image before) entry cpu admitted (made-at image before rest entry admitted legal) ne
 
 moved_one : (b : Bool) (state : Cpu) → (moved_by b state).position ≡ state.position + 1
 moved_one true state = refl
 moved_one false state = refl
 
-position_after : (image : Image) (f : Facts) (entry : Entry) → IsAdmitted image → IsNext image f entry → ((after image f entry).cpu entry.cpu).position ≡ (f.cpu entry.cpu).position + 1
+position_after : (image : Image) (f : Facts) (entry : Entry) → IsSilent image → IsNext image f entry → ((after image f entry).cpu entry.cpu).position ≡ (f.cpu entry.cpu).position + 1
 position_after image f entry admitted made = ap (λ (c : Cpu). c.position) (own_moved image f entry admitted made) ∙ moved_one (is_violation entry.act) (f.cpu entry.cpu)
 
 -- each entry moves its CPU by one
-pub cpu-position : (image : Image) (before rest : List Entry) (entry : Entry) → IsAdmitted image → IsLegal image (before ++ entry ∷ rest)
+pub cpu-position : (image : Image) (before rest : List Entry) (entry : Entry) → IsSilent image → IsLegal image (before ++ entry ∷ rest)
     → ((facts image (before ++ entry ∷ [])).cpu entry.cpu).position ≡ ((facts image before).cpu entry.cpu).position + 1
 cpu-position image before rest entry admitted legal =
     ap (λ (g : Facts). (g.cpu entry.cpu).position) (facts-push image before entry) ∙ position_after image (facts image before) entry admitted (made-at image before rest entry admitted legal)
@@ -52,25 +51,25 @@ cpu-position image before rest entry admitted legal =
 other_than : (image : Image) (f : Facts) (cpu : ℕ) (entry : Entry) → due_at image f cpu ≡ None → due_at image f entry.cpu ≡ Some entry → entry.cpu ≢ cpu
 other_than image f cpu entry none due same = none-some entry (sym none ∙ ap (due_at image f) (sym same) ∙ due)
 
-failed_from : (image : Image) (f : Facts) (entries : List Entry) (cpu : ℕ) → IsAdmitted image → AllRoots image f → (f.cpu cpu).mode ≡ Failed → IsLegalFrom image f entries
+failed_from : (image : Image) (f : Facts) (entries : List Entry) (cpu : ℕ) → IsSilent image → AllRoots image f → (f.cpu cpu).mode ≡ Failed → IsLegalFrom image f entries
     → AllByRecursion (λ (e : Entry). e.cpu ≢ cpu) entries × (due_at image (fold (after image) f entries) cpu ≡ None)
-failed_from image f [] cpu admitted roots failed legal = (tt, due_at-failed image f cpu (roots.cpus cpu) failed)
+failed_from image f [] cpu admitted roots failed legal = (tt, due_at-failed image f cpu roots.alone.call (roots.cpus cpu) failed)
 failed_from image f (entry ∷ entries) cpu admitted roots failed legal =
-    let ne : entry.cpu ≢ cpu = other_than image f cpu entry (due_at-failed image f cpu (roots.cpus cpu) failed) legal.0 in
+    let ne : entry.cpu ≢ cpu = other_than image f cpu entry (due_at-failed image f cpu roots.alone.call (roots.cpus cpu) failed) legal.0 in
     let made : IsNext image f entry = next-made image f entry entries roots legal in
     let still : ((after image f entry).cpu cpu).mode ≡ Failed = ap (λ (c : Cpu). c.mode) (other_after image f entry cpu admitted made (λ e. ne (sym e))) ∙ failed in
     let rest = failed_from image (after image f entry) entries cpu admitted (roots_after image f entry admitted made roots) still legal.1 in
     ((ne, rest.0), rest.1)
 
 -- a CPU that has failed makes no entry any more
-failed-rest : (image : Image) (before rest : List Entry) (cpu : ℕ) → IsAdmitted image → IsLegal image (before ++ rest) → ((facts image before).cpu cpu).mode ≡ Failed
+failed-rest : (image : Image) (before rest : List Entry) (cpu : ℕ) → IsSilent image → IsLegal image (before ++ rest) → ((facts image before).cpu cpu).mode ≡ Failed
     → AllByRecursion (λ (e : Entry). e.cpu ≢ cpu) rest × (due image (before ++ rest) cpu ≡ None)
 failed-rest image before rest cpu admitted legal failed =
     let found = failed_from image (facts image before) rest cpu admitted (roots-at image before admitted (IsLegal-begin image before rest legal)) failed (IsLegal-rest image before rest legal) in
     (found.0, ap (λ (f : Facts). due_at image f cpu) (facts-append image before rest) ∙ found.1)
 
 -- after a violation nothing is due to its CPU, and no entry is its own
-pub violation-rest : (image : Image) (before rest : List Entry) (entry : Entry) → IsAdmitted image → IsLegal image (before ++ entry ∷ rest) → is_violation entry.act ≡ true
+pub violation-rest : (image : Image) (before rest : List Entry) (entry : Entry) → IsSilent image → IsLegal image (before ++ entry ∷ rest) → is_violation entry.act ≡ true
     → AllByRecursion (λ (e : Entry). e.cpu ≢ entry.cpu) rest × (due image (before ++ entry ∷ rest) entry.cpu ≡ None)
 violation-rest image before rest entry admitted legal h =
     let split : (before ++ entry ∷ []) ++ rest ≡ before ++ entry ∷ rest = append_assoc before (entry ∷ []) rest in
@@ -87,7 +86,7 @@ IsMadeFrom image cpu f g entries = take (f.cpu cpu).position (program_in image i
 took : (ops : List Op) (i : ℕ) (op : Op) → slice_get ops i ≡ Some op → take (i + 1) ops ≡ take i ops ++ op ∷ []
 took ops i op e = take_more ops i op (slice_get_within ops i op e) ∙ ap (λ (o : Op). take i ops ++ o ∷ []) (get_or_from_slice_get ops i op op e)
 
-made_own : (image : Image) (f g : Facts) (entry : Entry) (entries : List Entry) → IsAdmitted image → IsNext image f entry → IsMadeFrom image entry.cpu (after image f entry) g entries → IsMadeFrom image entry.cpu f g (entry ∷ entries)
+made_own : (image : Image) (f g : Facts) (entry : Entry) (entries : List Entry) → IsSilent image → IsNext image f entry → IsMadeFrom image entry.cpu (after image f entry) g entries → IsMadeFrom image entry.cpu f g (entry ∷ entries)
 made_own image f g entry entries admitted made rest =
     let program = program_in image image.system.root entry.cpu in
     let i = (f.cpu entry.cpu).position in
@@ -99,7 +98,7 @@ made_own image f g entry entries admitted made rest =
     ∙ ap (λ (n : ℕ). take n program ++ operations_by entry.cpu entries) (sym (position_after image f entry admitted made))
     ∙ rest
 
-made_other : (image : Image) (cpu : ℕ) (f g : Facts) (entry : Entry) (entries : List Entry) → IsAdmitted image → IsNext image f entry → entry.cpu ≢ cpu → IsMadeFrom image cpu (after image f entry) g entries → IsMadeFrom image cpu f g (entry ∷ entries)
+made_other : (image : Image) (cpu : ℕ) (f g : Facts) (entry : Entry) (entries : List Entry) → IsSilent image → IsNext image f entry → entry.cpu ≢ cpu → IsMadeFrom image cpu (after image f entry) g entries → IsMadeFrom image cpu f g (entry ∷ entries)
 made_other image cpu f g entry entries admitted made ne rest =
     let program = program_in image image.system.root cpu in
     let op : op_by cpu entry ≡ None = ap (λ (b : Bool). cond b (op_of entry.act) None) (ne_eqb entry.cpu cpu ne) in
@@ -107,7 +106,7 @@ made_other image cpu f g entry entries admitted made ne rest =
     ∙ ap (λ (c : Cpu). take c.position program ++ operations_by cpu entries) (sym (other_after image f entry cpu admitted made (λ e. ne (sym e))))
     ∙ rest
 
-made_one : (image : Image) (cpu : ℕ) (f g : Facts) (entry : Entry) (entries : List Entry) → IsAdmitted image → IsNext image f entry → IsMadeFrom image cpu (after image f entry) g entries → IsMadeFrom image cpu f g (entry ∷ entries)
+made_one : (image : Image) (cpu : ℕ) (f g : Facts) (entry : Entry) (entries : List Entry) → IsSilent image → IsNext image f entry → IsMadeFrom image cpu (after image f entry) g entries → IsMadeFrom image cpu f g (entry ∷ entries)
 made_one image cpu f g entry entries admitted made rest = elim (cases_eq entry.cpu cpu) [
   | inl same ↦ (
       let P : ℕ → Type 0 = λ c. IsMadeFrom image c (after image f entry) g entries → IsMadeFrom image c f g (entry ∷ entries) in
@@ -115,7 +114,7 @@ made_one image cpu f g entry entries admitted made rest = elim (cases_eq entry.c
   | inr other ↦ made_other image cpu f g entry entries admitted made other rest
 ]
 
-made_from : (image : Image) (cpu : ℕ) (f : Facts) (entries : List Entry) → IsAdmitted image → AllRoots image f → IsLegalFrom image f entries → IsMadeFrom image cpu f (fold (after image) f entries) entries
+made_from : (image : Image) (cpu : ℕ) (f : Facts) (entries : List Entry) → IsSilent image → AllRoots image f → IsLegalFrom image f entries → IsMadeFrom image cpu f (fold (after image) f entries) entries
 made_from image cpu f [] admitted roots legal = append-nil (take (f.cpu cpu).position (program_in image image.system.root cpu))
 made_from image cpu f (entry ∷ entries) admitted roots legal =
     let made : IsNext image f entry = next-made image f entry entries roots legal in
@@ -123,7 +122,7 @@ made_from image cpu f (entry ∷ entries) admitted roots legal =
     (made_from image cpu (after image f entry) entries admitted (roots_after image f entry admitted made roots) legal.1)
 
 -- the entries of a CPU are a beginning of its program
-pub operations-taken : (image : Image) (entries : List Entry) (cpu : ℕ) → IsAdmitted image → IsLegal image entries
+pub operations-taken : (image : Image) (entries : List Entry) (cpu : ℕ) → IsSilent image → IsLegal image entries
     → operations_by cpu entries ≡ take ((facts image entries).cpu cpu).position (program_in image image.system.root cpu)
 unfolding facts IsLegal
 operations-taken image entries cpu admitted legal = made_from image cpu (start image) entries admitted (roots-start image) legal
@@ -132,7 +131,7 @@ operations-taken image entries cpu admitted legal = made_from image cpu (start i
 abbrev IsCounted : ℕ → Facts → Facts → List Entry → Type 0
 IsCounted cpu f g entries = (g.cpu cpu).position ≡ (f.cpu cpu).position + length (operations_by cpu entries)
 
-counted_own : (image : Image) (f g : Facts) (entry : Entry) (entries : List Entry) → IsAdmitted image → IsNext image f entry → IsCounted entry.cpu (after image f entry) g entries → IsCounted entry.cpu f g (entry ∷ entries)
+counted_own : (image : Image) (f g : Facts) (entry : Entry) (entries : List Entry) → IsSilent image → IsNext image f entry → IsCounted entry.cpu (after image f entry) g entries → IsCounted entry.cpu f g (entry ∷ entries)
 counted_own image f g entry entries admitted made rest =
     let op : op_by entry.cpu entry ≡ Some made.op = ap (λ (b : Bool). cond b (op_of entry.act) None) (same_number entry.cpu) ∙ (made-access image f entry.cpu entry made admitted).operation in
     let more : length (operations_by entry.cpu (entry ∷ entries)) ≡ suc (length (operations_by entry.cpu entries)) = ap (λ (o : Option Op). length (cons_option o (operations_by entry.cpu entries))) op in
@@ -140,14 +139,14 @@ counted_own image f g entry entries admitted made rest =
     let last : (g.cpu entry.cpu).position ≡ ((after image f entry).cpu entry.cpu).position + length (operations_by entry.cpu entries) = rest in
     omega arith
 
-counted_other : (image : Image) (cpu : ℕ) (f g : Facts) (entry : Entry) (entries : List Entry) → IsAdmitted image → IsNext image f entry → entry.cpu ≢ cpu → IsCounted cpu (after image f entry) g entries → IsCounted cpu f g (entry ∷ entries)
+counted_other : (image : Image) (cpu : ℕ) (f g : Facts) (entry : Entry) (entries : List Entry) → IsSilent image → IsNext image f entry → entry.cpu ≢ cpu → IsCounted cpu (after image f entry) g entries → IsCounted cpu f g (entry ∷ entries)
 counted_other image cpu f g entry entries admitted made ne rest =
     let op : op_by cpu entry ≡ None = ap (λ (b : Bool). cond b (op_of entry.act) None) (ne_eqb entry.cpu cpu ne) in
     rest
     ∙ ap (λ (c : Cpu). c.position + length (operations_by cpu entries)) (other_after image f entry cpu admitted made (λ e. ne (sym e)))
     ∙ ap (λ (o : Option Op). (f.cpu cpu).position + length (cons_option o (operations_by cpu entries))) (sym op)
 
-counted_one : (image : Image) (cpu : ℕ) (f g : Facts) (entry : Entry) (entries : List Entry) → IsAdmitted image → IsNext image f entry → IsCounted cpu (after image f entry) g entries → IsCounted cpu f g (entry ∷ entries)
+counted_one : (image : Image) (cpu : ℕ) (f g : Facts) (entry : Entry) (entries : List Entry) → IsSilent image → IsNext image f entry → IsCounted cpu (after image f entry) g entries → IsCounted cpu f g (entry ∷ entries)
 counted_one image cpu f g entry entries admitted made rest = elim (cases_eq entry.cpu cpu) [
   | inl same ↦ (
       let P : ℕ → Type 0 = λ c. IsCounted c (after image f entry) g entries → IsCounted c f g (entry ∷ entries) in
@@ -155,14 +154,14 @@ counted_one image cpu f g entry entries admitted made rest = elim (cases_eq entr
   | inr other ↦ counted_other image cpu f g entry entries admitted made other rest
 ]
 
-counted_from : (image : Image) (cpu : ℕ) (f : Facts) (entries : List Entry) → IsAdmitted image → AllRoots image f → IsLegalFrom image f entries → IsCounted cpu f (fold (after image) f entries) entries
+counted_from : (image : Image) (cpu : ℕ) (f : Facts) (entries : List Entry) → IsSilent image → AllRoots image f → IsLegalFrom image f entries → IsCounted cpu f (fold (after image) f entries) entries
 counted_from image cpu f [] admitted roots legal = omega arith
 counted_from image cpu f (entry ∷ entries) admitted roots legal =
     let made : IsNext image f entry = next-made image f entry entries roots legal in
     counted_one image cpu f (fold (after image) f (entry ∷ entries)) entry entries admitted made
     (counted_from image cpu (after image f entry) entries admitted (roots_after image f entry admitted made roots) legal.1)
 
-pub operations-counted : (image : Image) (entries : List Entry) (cpu : ℕ) → IsAdmitted image → IsLegal image entries → ((facts image entries).cpu cpu).position ≡ length (operations_by cpu entries)
+pub operations-counted : (image : Image) (entries : List Entry) (cpu : ℕ) → IsSilent image → IsLegal image entries → ((facts image entries).cpu cpu).position ≡ length (operations_by cpu entries)
 unfolding facts IsLegal
 operations-counted image entries cpu admitted legal =
     let counted : IsCounted cpu (start image) (fold (after image) (start image) entries) entries = counted_from image cpu (start image) entries admitted (roots-start image) legal in

@@ -1,6 +1,6 @@
 -- What is due to a CPU of root's, and what the entries of a legal journal are: accesses by root, each the
 -- operation that its CPU is at.
-use Rattle.std.proofs.Common.{◌≡◌, ◌≢◌, ℕ, ◌+◌, ◌-◌, ◌<◌, ◌≤◌, ◌^◌, List, [], ◌∷◌, ◌++◌, length, Bool, true, false, cond, eqb, Option, Some, None, refl, sym, ap, subst, ◌∙◌, arith}
+use Rattle.std.proofs.Common.{◌≡◌, ◌≢◌, ℕ, zero, suc, ◌+◌, ◌-◌, ◌<◌, ◌≤◌, ◌^◌, List, [], ◌∷◌, ◌++◌, length, Bool, true, false, cond, eqb, Option, Some, None, refl, sym, ap, subst, ◌∙◌, arith}
 use Rattle.std.specs.Prelude.{IsTrue, option_map, option_and_then, slice_get, min}
 use Rattle.std.specs.List.{fold}
 use Rattle.std.proofs.lemmas.Bool.{cond_both, eq-eqb, ne_eqb, eqb-true}
@@ -21,21 +21,38 @@ use Rattle.jh_history.specs.declared.entry.Act.{Act}
 use Rattle.jh_history.specs.declared.entry.Act.TheVariants.{Read, Write, Fetch, Await, Irq, Hvc, Begin, Stop, Decide, Settle, Commit, Note, Noted, Finish}
 use Rattle.jh_history.specs.Access.{read_of, is_reached}
 use Rattle.jh_history.specs.Facts.{Facts}
-use Rattle.jh_history.specs.Lives.{is_on_board, op_at}
+use Rattle.jh_history.specs.Lives.{is_on_board, op_at, program_of}
 use Rattle.jh_history.specs.Grants.{reach}
 use Rattle.jh_history.specs.Cpus.{change_of, changed, is_running}
 use Rattle.jh_history.specs.Alone.{IsAlone, IsByRoot, is_phase}
 use Rattle.jh_history.specs.History.{start, after, facts}
 use Rattle.jh_history.specs.Due.{due_at, act_of, await_of, entry_by, IsLegal, IsLegalFrom}
-use Rattle.jh_history.specs.Admitted.{IsAdmitted}
+use Rattle.jh_history.specs.Admitted.{IsAdmitted, IsNoCall, HasNoCall}
 use Rattle.jh_history.proofs.DueLemmas.{due_at-absent, due_at-present}
 use Rattle.jh_history.proofs.FactsLemmas.{cpu-after}
 use Rattle.jh_history.proofs.AloneLemmas.{acted-own, alone-start, alone-after}
 use Rattle.jh_history.proofs.LegalLemmas.{due-split, IsLegal-begin}
+use Rattle.std.specs.List.{AllByRecursion}
+use Rattle.std.proofs.lemmas.List.Elements.{recursion_from_All}
+use Rattle.jh_history.proofs.AdmittedLemmas.{program_of-all}
 use Rattle.jh_laws.specs.Moves.{stepped, ended}
 use Rattle.jh_laws.specs.Outcomes.{is_violation}
 use Rattle.jh_laws.specs.Operations.{op_of, program_in}
 use Rattle.jh_laws.proofs.RootLemmas.{program_of-few, op-plain}
+
+-- the image may be opened, and no program of it has a hypercall
+pub record IsSilent (image : Image) : Type 0 where
+  pub admitted : IsAdmitted image
+  pub silent : HasNoCall image
+
+-- so no operation is one
+no_call_at : (ops : List Op) (i : ℕ) (op : Op) → AllByRecursion IsNoCall ops → slice_get ops i ≡ Some op → IsNoCall op
+no_call_at [] i op all e = absurd (none-some op e)
+no_call_at (first ∷ ops) zero op all e = let P : Op → Type 0 = IsNoCall in subst P (same_Some first op e) all.0
+no_call_at (first ∷ ops) (suc i) op all e = no_call_at ops i op all.1 e
+
+pub op-silent : (image : Image) (name : List ℕ) (cpu i : ℕ) (op : Op) → IsSilent image → slice_get (program_of image name cpu) i ≡ Some op → IsNoCall op
+op-silent image name cpu i op admitted e = no_call_at (program_of image name cpu) i op (recursion_from_All IsNoCall (program_of image name cpu) (program_of-all IsNoCall image name cpu admitted.silent)) e
 
 -- the CPU is root's, and is neither asked to stop nor stopped
 pub record IsRoots (image : Image) (state : Cpu) : Type 0 where
@@ -51,9 +68,9 @@ op_at-root image f state cpu roots = let e : eqb state.owner image.system.root.i
 abbrev act_in : Image → Facts → Cpu → ℕ → Mode → Option Op → Option Entry
 act_in image f state cpu mode op = option_map (entry_by cpu state.owner) (option_and_then (act_of image f state.owner) (cond (is_running mode) op None))
 
-pub due_at-root : (image : Image) (f : Facts) (cpu : ℕ) → is_on_board image cpu ≡ true → IsRoots image (f.cpu cpu)
+pub due_at-root : (image : Image) (f : Facts) (cpu : ℕ) → f.call ≡ None → is_on_board image cpu ≡ true → IsRoots image (f.cpu cpu)
     → due_at image f cpu ≡ option_map (entry_by cpu (f.cpu cpu).owner) (option_and_then (act_of image f (f.cpu cpu).owner) (cond (is_running (f.cpu cpu).mode) (op_at image f (f.cpu cpu) cpu) None))
-due_at-root image f cpu e roots = due_at-present image f cpu e ∙ rw (roots.asked, roots.stopped) refl
+due_at-root image f cpu closed e roots = due_at-present image f cpu e ∙ rw (closed, roots.asked, roots.stopped) refl
 
 -- the entry is that of a running CPU of the board: its act is what the operation at its position comes to
 pub record IsMade (image : Image) (f : Facts) (cpu : ℕ) (entry : Entry) : Type 0 where
@@ -87,30 +104,30 @@ made_op image f cpu entry Running (Some op) board roots is at h = made_act image
 made_op image f cpu entry Parked o board roots is at h = absurd (none-some entry h)
 made_op image f cpu entry Failed o board roots is at h = absurd (none-some entry h)
 
-made_board : (image : Image) (f : Facts) (cpu : ℕ) (entry : Entry) (b : Bool) → is_on_board image cpu ≡ b → IsRoots image (f.cpu cpu) → due_at image f cpu ≡ Some entry → IsMade image f cpu entry
-made_board image f cpu entry true e roots h = made_op image f cpu entry (f.cpu cpu).mode (op_at image f (f.cpu cpu) cpu) e roots refl refl (sym (due_at-root image f cpu e roots) ∙ h)
-made_board image f cpu entry false e roots h = absurd (none-some entry (sym (due_at-absent image f cpu e) ∙ h))
+made_board : (image : Image) (f : Facts) (cpu : ℕ) (entry : Entry) (b : Bool) → f.call ≡ None → is_on_board image cpu ≡ b → IsRoots image (f.cpu cpu) → due_at image f cpu ≡ Some entry → IsMade image f cpu entry
+made_board image f cpu entry true closed e roots h = made_op image f cpu entry (f.cpu cpu).mode (op_at image f (f.cpu cpu) cpu) e roots refl refl (sym (due_at-root image f cpu closed e roots) ∙ h)
+made_board image f cpu entry false closed e roots h = absurd (none-some entry (sym (due_at-absent image f cpu e) ∙ h))
 
 -- what is due to a CPU of root's
-pub due_at-made : (image : Image) (f : Facts) (cpu : ℕ) (entry : Entry) → IsRoots image (f.cpu cpu) → due_at image f cpu ≡ Some entry → IsMade image f cpu entry
-due_at-made image f cpu entry roots h = made_board image f cpu entry (is_on_board image cpu) refl roots h
+pub due_at-made : (image : Image) (f : Facts) (cpu : ℕ) (entry : Entry) → f.call ≡ None → IsRoots image (f.cpu cpu) → due_at image f cpu ≡ Some entry → IsMade image f cpu entry
+due_at-made image f cpu entry closed roots h = made_board image f cpu entry (is_on_board image cpu) closed refl roots h
 
 -- and what is, where it runs and is at an operation
-pub due_at-running : (image : Image) (f : Facts) (cpu : ℕ) (op : Op) → is_on_board image cpu ≡ true → IsRoots image (f.cpu cpu) → (f.cpu cpu).mode ≡ Running
+pub due_at-running : (image : Image) (f : Facts) (cpu : ℕ) (op : Op) → f.call ≡ None → is_on_board image cpu ≡ true → IsRoots image (f.cpu cpu) → (f.cpu cpu).mode ≡ Running
     → slice_get (program_in image image.system.root cpu) (f.cpu cpu).position ≡ Some op → due_at image f cpu ≡ option_map (entry_by cpu (f.cpu cpu).owner) (act_of image f image.system.root.id op)
-due_at-running image f cpu op board roots running at =
-    due_at-root image f cpu board roots
+due_at-running image f cpu op closed board roots running at =
+    due_at-root image f cpu closed board roots
     ∙ ap (λ (m : Mode). act_in image f (f.cpu cpu) cpu m (op_at image f (f.cpu cpu) cpu)) running
     ∙ ap (λ (o : Option Op). act_in image f (f.cpu cpu) cpu Running o) (op_at-root image f (f.cpu cpu) cpu roots ∙ at)
     ∙ ap (λ (c : ℕ). option_map (entry_by cpu (f.cpu cpu).owner) (act_of image f c op)) roots.owner
 
 -- nothing is due to a failed CPU of root's
-failed_on : (image : Image) (f : Facts) (cpu : ℕ) (b : Bool) → is_on_board image cpu ≡ b → IsRoots image (f.cpu cpu) → (f.cpu cpu).mode ≡ Failed → due_at image f cpu ≡ None
-failed_on image f cpu false e roots failed = due_at-absent image f cpu e
-failed_on image f cpu true e roots failed = due_at-root image f cpu e roots ∙ ap (λ (m : Mode). act_in image f (f.cpu cpu) cpu m (op_at image f (f.cpu cpu) cpu)) failed
+failed_on : (image : Image) (f : Facts) (cpu : ℕ) (b : Bool) → f.call ≡ None → is_on_board image cpu ≡ b → IsRoots image (f.cpu cpu) → (f.cpu cpu).mode ≡ Failed → due_at image f cpu ≡ None
+failed_on image f cpu false closed e roots failed = due_at-absent image f cpu e
+failed_on image f cpu true closed e roots failed = due_at-root image f cpu closed e roots ∙ ap (λ (m : Mode). act_in image f (f.cpu cpu) cpu m (op_at image f (f.cpu cpu) cpu)) failed
 
-pub due_at-failed : (image : Image) (f : Facts) (cpu : ℕ) → IsRoots image (f.cpu cpu) → (f.cpu cpu).mode ≡ Failed → due_at image f cpu ≡ None
-due_at-failed image f cpu roots failed = failed_on image f cpu (is_on_board image cpu) refl roots failed
+pub due_at-failed : (image : Image) (f : Facts) (cpu : ℕ) → f.call ≡ None → IsRoots image (f.cpu cpu) → (f.cpu cpu).mode ≡ Failed → due_at image f cpu ≡ None
+due_at-failed image f cpu closed roots failed = failed_on image f cpu (is_on_board image cpu) closed refl roots failed
 
 -- how an await that read this ends
 abbrev pub AwaitOf : Option ℕ → ℕ → Bool → Type 0
@@ -145,24 +162,25 @@ await_access image f cell width at value act None plain e h =
     subst P (same_Some (Await width at value false) act h) (record { access = (plain, e); operation = refl })
 await_access image f cell width at value act (Some got) plain e h = await_equal image f cell width at value got act (eqb got value) plain e refl h
 
-pub act_access : (image : Image) (f : Facts) (cell : ℕ) (op : Op) (act : Act) → IsPlain op → act_of image f cell op ≡ Some act → IsAccessOf image f cell op act
-act_access image f cell (ReadOp width at) act plain h =
+pub act_access : (image : Image) (f : Facts) (cell : ℕ) (op : Op) (act : Act) → IsPlain op → IsNoCall op → act_of image f cell op ≡ Some act → IsAccessOf image f cell op act
+act_access image f cell (ReadOp width at) act plain silent h =
     let P : Act → Type 0 = IsAccessOf image f cell (ReadOp width at) in
     subst P (same_Some (Read width at (read_of f.byte (reach image f cell ToRead at width))) act h) (record { access = (plain, refl); operation = refl })
-act_access image f cell (WriteOp width at value) act plain h =
+act_access image f cell (WriteOp width at value) act plain silent h =
     let P : Act → Type 0 = IsAccessOf image f cell (WriteOp width at value) in
     subst P (same_Some (Write width at value (is_reached (reach image f cell ToWrite at width))) act h) (record { access = (plain.0, refl); operation = refl })
-act_access image f cell (FetchOp at) act plain h =
+act_access image f cell (FetchOp at) act plain silent h =
     let P : Act → Type 0 = IsAccessOf image f cell (FetchOp at) in
     subst P (same_Some (Fetch at (read_of f.byte (reach image f cell ToFetch at 4))) act h) (record { access = refl; operation = refl })
-act_access image f cell (AwaitOp width at value) act plain h = await_access image f cell width at value act (read_of f.byte (reach image f cell ToRead at width)) plain.0 refl h
-act_access image f cell IrqOp act plain h = absurd (none-some act h)
-act_access image f cell (HvcOp code a b) act plain h = absurd (none-some act h)
+act_access image f cell (AwaitOp width at value) act plain silent h = await_access image f cell width at value act (read_of f.byte (reach image f cell ToRead at width)) plain.0 refl h
+act_access image f cell IrqOp act plain silent h = absurd (none-some act h)
+act_access image f cell (HvcOp code a b) act plain silent h = absurd silent
 
 -- the act of an entry is such an access
-pub made-access : (image : Image) (f : Facts) (cpu : ℕ) (entry : Entry) (made : IsMade image f cpu entry) → IsAdmitted image → IsAccessOf image f image.system.root.id made.op entry.act
+pub made-access : (image : Image) (f : Facts) (cpu : ℕ) (entry : Entry) (made : IsMade image f cpu entry) → IsSilent image → IsAccessOf image f image.system.root.id made.op entry.act
 made-access image f cpu entry made admitted =
-    act_access image f image.system.root.id made.op entry.act (op-plain image (name_of image.system.root) cpu (f.cpu cpu).position made.op admitted made.at) made.act
+    act_access image f image.system.root.id made.op entry.act (op-plain image (name_of image.system.root) cpu (f.cpu cpu).position made.op admitted.admitted made.at)
+    (op-silent image (name_of image.system.root) cpu (f.cpu cpu).position made.op admitted made.at) made.act
 
 -- an access moves its CPU on, and fails it where it is a violation
 abbrev pub done_by : Bool → Cpu → Cpu
@@ -220,31 +238,31 @@ abbrev pub IsNext : Image → Facts → Entry → Type 0
 IsNext image f entry = IsMade image f entry.cpu entry
 
 -- it is root's, and no phase of a call
-pub by_root : (image : Image) (f : Facts) (entry : Entry) → IsAdmitted image → AllRoots image f → IsNext image f entry → IsByRoot image entry
+pub by_root : (image : Image) (f : Facts) (entry : Entry) → IsSilent image → AllRoots image f → IsNext image f entry → IsByRoot image entry
 by_root image f entry admitted roots made = record {
   cell = made.cell_is ∙ roots.alone.owners entry.cpu;
   act = access-own image f image.system.root.id entry.act (made-access image f entry.cpu entry made admitted).access;
 }
 
 -- what it leaves of each CPU
-cpu_is : (image : Image) (f : Facts) (entry : Entry) (cpu : ℕ) → IsAdmitted image → IsNext image f entry → (after image f entry).cpu cpu ≡ cond (eqb cpu entry.cpu) (changed (change_of entry.act) (f.cpu cpu)) (f.cpu cpu)
+cpu_is : (image : Image) (f : Facts) (entry : Entry) (cpu : ℕ) → IsSilent image → IsNext image f entry → (after image f entry).cpu cpu ≡ cond (eqb cpu entry.cpu) (changed (change_of entry.act) (f.cpu cpu)) (f.cpu cpu)
 cpu_is image f entry cpu admitted made =
     ap (λ (g : ℕ → Cpu). g cpu) (cpu-after image f entry)
     ∙ acted-own image f.call entry.act entry.cpu cpu (f.cpu cpu) (access-own image f image.system.root.id entry.act (made-access image f entry.cpu entry made admitted).access)
 
 -- its CPU after it, and the others
-pub own_after : (image : Image) (f : Facts) (entry : Entry) → IsAdmitted image → IsNext image f entry → (after image f entry).cpu entry.cpu ≡ done_by (is_violation entry.act) (f.cpu entry.cpu)
+pub own_after : (image : Image) (f : Facts) (entry : Entry) → IsSilent image → IsNext image f entry → (after image f entry).cpu entry.cpu ≡ done_by (is_violation entry.act) (f.cpu entry.cpu)
 own_after image f entry admitted made =
     cpu_is image f entry entry.cpu admitted made
     ∙ ap (λ (b : Bool). cond b (changed (change_of entry.act) (f.cpu entry.cpu)) (f.cpu entry.cpu)) (same_number entry.cpu)
     ∙ changed-access image f image.system.root.id entry.act (f.cpu entry.cpu) (made-access image f entry.cpu entry made admitted).access
 
-pub other_after : (image : Image) (f : Facts) (entry : Entry) (cpu : ℕ) → IsAdmitted image → IsNext image f entry → cpu ≢ entry.cpu → (after image f entry).cpu cpu ≡ f.cpu cpu
+pub other_after : (image : Image) (f : Facts) (entry : Entry) (cpu : ℕ) → IsSilent image → IsNext image f entry → cpu ≢ entry.cpu → (after image f entry).cpu cpu ≡ f.cpu cpu
 other_after image f entry cpu admitted made ne =
     cpu_is image f entry cpu admitted made
     ∙ ap (λ (b : Bool). cond b (changed (change_of entry.act) (f.cpu cpu)) (f.cpu cpu)) (ne_eqb cpu entry.cpu ne)
 
-cpus_after : (image : Image) (f : Facts) (entry : Entry) → IsAdmitted image → IsNext image f entry → AllRoots image f → (cpu : ℕ) → IsRoots image ((after image f entry).cpu cpu)
+cpus_after : (image : Image) (f : Facts) (entry : Entry) → IsSilent image → IsNext image f entry → AllRoots image f → (cpu : ℕ) → IsRoots image ((after image f entry).cpu cpu)
 cpus_after image f entry admitted made roots cpu =
     let own : changed (change_of entry.act) (f.cpu cpu) ≡ done_by (is_violation entry.act) (f.cpu cpu)
     = changed-access image f image.system.root.id entry.act (f.cpu cpu) (made-access image f entry.cpu entry made admitted).access in
@@ -253,7 +271,7 @@ cpus_after image f entry admitted made roots cpu =
     (cond_both (eqb cpu entry.cpu) (changed (change_of entry.act) (f.cpu cpu)) (f.cpu cpu) P
     (λ _. subst P (sym own) (roots_done image (is_violation entry.act) (f.cpu cpu) (roots.cpus cpu))) (λ _. roots.cpus cpu))
 
-pub roots_after : (image : Image) (f : Facts) (entry : Entry) → IsAdmitted image → IsNext image f entry → AllRoots image f → AllRoots image (after image f entry)
+pub roots_after : (image : Image) (f : Facts) (entry : Entry) → IsSilent image → IsNext image f entry → AllRoots image f → AllRoots image (after image f entry)
 roots_after image f entry admitted made roots = record {
   cpus = cpus_after image f entry admitted made roots;
   alone = alone-after image f entry roots.alone (by_root image f entry admitted roots made);
@@ -261,9 +279,9 @@ roots_after image f entry admitted made roots = record {
 
 -- the first of legal entries is made, where each CPU is root's
 pub next-made : (image : Image) (f : Facts) (entry : Entry) (entries : List Entry) → AllRoots image f → IsLegalFrom image f (entry ∷ entries) → IsNext image f entry
-next-made image f entry entries roots legal = due_at-made image f entry.cpu entry (roots.cpus entry.cpu) legal.0
+next-made image f entry entries roots legal = due_at-made image f entry.cpu entry roots.alone.call (roots.cpus entry.cpu) legal.0
 
-roots_from : (image : Image) (f : Facts) (entries : List Entry) → IsAdmitted image → AllRoots image f → IsLegalFrom image f entries → AllRoots image (fold (after image) f entries)
+roots_from : (image : Image) (f : Facts) (entries : List Entry) → IsSilent image → AllRoots image f → IsLegalFrom image f entries → AllRoots image (fold (after image) f entries)
 roots_from image f [] admitted roots legal = roots
 roots_from image f (entry ∷ entries) admitted roots legal =
     roots_from image (after image f entry) entries admitted (roots_after image f entry admitted (next-made image f entry entries roots legal) roots) legal.1
@@ -272,14 +290,15 @@ pub roots-start : (image : Image) → AllRoots image (start image)
 roots-start image = record { cpus = λ cpu. record { owner = refl; asked = refl; stopped = refl }; alone = alone-start image }
 
 -- after a legal journal each CPU is root's
-pub roots-at : (image : Image) (entries : List Entry) → IsAdmitted image → IsLegal image entries → AllRoots image (facts image entries)
+pub roots-at : (image : Image) (entries : List Entry) → IsSilent image → IsLegal image entries → AllRoots image (facts image entries)
 unfolding facts IsLegal
 roots-at image entries admitted legal = roots_from image (start image) entries admitted (roots-start image) legal
 
 -- each entry of a legal journal is made by its CPU
-pub made-at : (image : Image) (before rest : List Entry) (entry : Entry) → IsAdmitted image → IsLegal image (before ++ entry ∷ rest) → IsNext image (facts image before) entry
+pub made-at : (image : Image) (before rest : List Entry) (entry : Entry) → IsSilent image → IsLegal image (before ++ entry ∷ rest) → IsNext image (facts image before) entry
 made-at image before rest entry admitted legal =
-    due_at-made image (facts image before) entry.cpu entry ((roots-at image before admitted (IsLegal-begin image before (entry ∷ rest) legal)).cpus entry.cpu) (due-split image before rest entry legal)
+    let roots = roots-at image before admitted (IsLegal-begin image before (entry ∷ rest) legal) in
+    due_at-made image (facts image before) entry.cpu entry roots.alone.call (roots.cpus entry.cpu) (due-split image before rest entry legal)
 
 -- what an access does to its CPU, where the position isn't at the end of its numbers
 abbrev pub moved_by : Bool → Cpu → Cpu
@@ -291,9 +310,9 @@ by_violation true state e = ap (λ (n : ℕ). record state { position = n; mode 
 by_violation false state e = ap (λ (n : ℕ). record state { position = n }) e
 
 -- as it isn't in a program
-pub done_by-moved : (image : Image) (b : Bool) (state : Cpu) (cpu : ℕ) (op : Op) → IsAdmitted image → slice_get (program_in image image.system.root cpu) state.position ≡ Some op → done_by b state ≡ moved_by b state
+pub done_by-moved : (image : Image) (b : Bool) (state : Cpu) (cpu : ℕ) (op : Op) → IsSilent image → slice_get (program_in image image.system.root cpu) state.position ≡ Some op → done_by b state ≡ moved_by b state
 done_by-moved image b state cpu op admitted at =
     let within : state.position < length (program_in image image.system.root cpu) = slice_get_within (program_in image image.system.root cpu) state.position op at in
-    let few : length (program_in image image.system.root cpu) ≤ 4096 = program_of-few image (name_of image.system.root) cpu admitted in
+    let few : length (program_in image image.system.root cpu) ≤ 4096 = program_of-few image (name_of image.system.root) cpu admitted.admitted in
     let one : min (state.position + 1) (2 ^ 32 - 1) ≡ state.position + 1 = omega arith in
     by_violation b state one

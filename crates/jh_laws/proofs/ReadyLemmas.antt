@@ -19,14 +19,13 @@ use Rattle.jh_history.specs.Access.{read_of, is_reached}
 use Rattle.jh_history.specs.History.{facts}
 use Rattle.jh_history.specs.Grants.{reach}
 use Rattle.jh_history.specs.Due.{due, act_of, await_of, entry_by, IsLegal, IsQuiet}
-use Rattle.jh_history.specs.Admitted.{IsAdmitted}
+use Rattle.jh_history.specs.Admitted.{IsNoCall}
 use Rattle.jh_laws.specs.Grants.{AreGranted}
 use Rattle.jh_laws.specs.Outcomes.{IsRead, IsGot, IsAwaited, HasItsOutcome}
 use Rattle.jh_laws.specs.Operations.{op_of, IsDueOp, IsReady, IsOwn}
-use Rattle.jh_history.proofs.AloneLemmas.{legal-alone}
 use Rattle.jh_laws.proofs.RootLemmas.{op-plain}
 use Rattle.jh_laws.proofs.GrantLemmas.{granted_at, got-of, reached-of}
-use Rattle.jh_laws.proofs.MadeLemmas.{IsMade, due_at-made, due_at-running, made-access, roots-at}
+use Rattle.jh_laws.proofs.MadeLemmas.{IsSilent, op-silent, IsMade, due_at-made, due_at-running, made-access, roots-at}
 use Rattle.jh_laws.proofs.OutcomeLemmas.{some_width, outcome}
 
 -- what root's read of so many bytes gets after the entries
@@ -44,63 +43,65 @@ await_due : (image : Image) (entries : List Entry) (width at value : ℕ) (act :
 await_due image entries width at value act None outcome h = λ granted. absurd (false≢true (outcome.granted.1 granted))
 await_due image entries width at value act (Some got) outcome h = equal_due image entries width at value got act (eqb got value) outcome refl h
 
-op_due : (image : Image) (entries : List Entry) (op : Op) (act : Act) → IsAdmitted image → (facts image entries).cells ≡ [] → IsPlain op → act_of image (facts image entries) image.system.root.id op ≡ Some act → IsDueOp image entries image.system.root op
-op_due image entries (ReadOp width at) act admitted none plain h = tt
-op_due image entries (WriteOp width at value) act admitted none plain h = tt
-op_due image entries (FetchOp at) act admitted none plain h = tt
-op_due image entries (AwaitOp width at value) act admitted none plain h =
-    await_due image entries width at value act (got_after image entries at width) (got-of image entries ToRead at width admitted none (some_width width plain.0)) h
-op_due image entries IrqOp act admitted none plain h = none-some act h
-op_due image entries (HvcOp code a b) act admitted none plain h = none-some act h
+op_due : (image : Image) (entries : List Entry) (op : Op) (act : Act) → IsSilent image → (facts image entries).cells ≡ [] → IsPlain op → IsNoCall op → act_of image (facts image entries) image.system.root.id op ≡ Some act → IsDueOp image entries image.system.root op
+op_due image entries (ReadOp width at) act admitted none plain silent h = tt
+op_due image entries (WriteOp width at value) act admitted none plain silent h = tt
+op_due image entries (FetchOp at) act admitted none plain silent h = tt
+op_due image entries (AwaitOp width at value) act admitted none plain silent h =
+    await_due image entries width at value act (got_after image entries at width) (got-of image entries ToRead at width admitted.admitted none (some_width width plain.0)) h
+op_due image entries IrqOp act admitted none plain silent h = none-some act h
+op_due image entries (HvcOp code a b) act admitted none plain silent h = silent
 
 -- and one that is due comes to an act
-await_act : (image : Image) (entries : List Entry) (width at value : ℕ) (o : Option ℕ) → IsAdmitted image → IsGot image entries image.system.root ToRead at width o
+await_act : (image : Image) (entries : List Entry) (width at value : ℕ) (o : Option ℕ) → IsSilent image → IsGot image entries image.system.root ToRead at width o
     → (AreGranted image.system.root ToRead at width → IsRead image entries image.system.root ToRead at width value) → (act : Act) × (await_of width at value o ≡ Some act)
 await_act image entries width at value None admitted outcome due = (Await width at value false, refl)
 await_act image entries width at value (Some got) admitted outcome due =
     let granted : AreGranted image.system.root ToRead at width = outcome.granted.0 refl in
     let place = λ (k : ℕ). Physical (at + k) in
-    let each = granted_at image ToRead at width admitted granted in
+    let each = granted_at image ToRead at width admitted.admitted granted in
     let same : got ≡ value = outcome.reads got refl place each ∙ sym (due granted place each) in
     (Await width at value true, ap (λ (b : Bool). cond b (Some (Await width at value true)) None) (eq-eqb got value same))
 
-due_act : (image : Image) (entries : List Entry) (op : Op) → IsAdmitted image → (facts image entries).cells ≡ [] → IsPlain op → IsDueOp image entries image.system.root op → (act : Act) × (act_of image (facts image entries) image.system.root.id op ≡ Some act)
+due_act : (image : Image) (entries : List Entry) (op : Op) → IsSilent image → (facts image entries).cells ≡ [] → IsPlain op → IsDueOp image entries image.system.root op → (act : Act) × (act_of image (facts image entries) image.system.root.id op ≡ Some act)
 due_act image entries (ReadOp width at) admitted none plain due = (Read width at (got_after image entries at width), refl)
 due_act image entries (WriteOp width at value) admitted none plain due = (Write width at value (is_reached (reach image (facts image entries) image.system.root.id ToWrite at width)), refl)
 due_act image entries (FetchOp at) admitted none plain due = (Fetch at (read_of (facts image entries).byte (reach image (facts image entries) image.system.root.id ToFetch at 4)), refl)
 due_act image entries (AwaitOp width at value) admitted none plain due =
-    await_act image entries width at value (got_after image entries at width) admitted (got-of image entries ToRead at width admitted none (some_width width plain.0)) due
+    await_act image entries width at value (got_after image entries at width) admitted (got-of image entries ToRead at width admitted.admitted none (some_width width plain.0)) due
 due_act image entries IrqOp admitted none plain due = absurd due
 due_act image entries (HvcOp code a b) admitted none plain due = absurd due
 
-ready_by : (image : Image) (entries : List Entry) (cpu : ℕ) (o : Option Entry) → IsAdmitted image → IsLegal image entries → due image entries cpu ≡ o → IsSome o → IsReady image entries image.system.root cpu
+ready_by : (image : Image) (entries : List Entry) (cpu : ℕ) (o : Option Entry) → IsSilent image → IsLegal image entries → due image entries cpu ≡ o → IsSome o → IsReady image entries image.system.root cpu
 ready_by image entries cpu None admitted legal h some = absurd (false≢true some)
 ready_by image entries cpu (Some entry) admitted legal h some =
-    let roots = (roots-at image entries admitted legal).cpus cpu in
-    let made : IsMade image (facts image entries) cpu entry = due_at-made image (facts image entries) cpu entry roots h in
-    let plain = op-plain image (name_of image.system.root) cpu ((facts image entries).cpu cpu).position made.op admitted made.at in
-    record { board = made.board; running = made.running; asked = roots.asked; stopped = roots.stopped; op = made.op; at = made.at; due = op_due image entries made.op entry.act admitted (legal-alone image entries legal).cells plain made.act }
+    let all = roots-at image entries admitted legal in
+    let roots = all.cpus cpu in
+    let made : IsMade image (facts image entries) cpu entry = due_at-made image (facts image entries) cpu entry all.alone.call roots h in
+    let silent = op-silent image (name_of image.system.root) cpu ((facts image entries).cpu cpu).position made.op admitted made.at in
+    let plain = op-plain image (name_of image.system.root) cpu ((facts image entries).cpu cpu).position made.op admitted.admitted made.at in
+    record { board = made.board; running = made.running; asked = roots.asked; stopped = roots.stopped; op = made.op; at = made.at; due = op_due image entries made.op entry.act admitted all.alone.cells plain silent made.act }
 
 -- a CPU with an entry due is ready
-pub ready-from_due : (image : Image) (entries : List Entry) (cpu : ℕ) → IsAdmitted image → IsLegal image entries → IsSome (due image entries cpu) → IsReady image entries image.system.root cpu
+pub ready-from_due : (image : Image) (entries : List Entry) (cpu : ℕ) → IsSilent image → IsLegal image entries → IsSome (due image entries cpu) → IsReady image entries image.system.root cpu
 ready-from_due image entries cpu admitted legal some = ready_by image entries cpu (due image entries cpu) admitted legal refl some
 
 -- and a ready CPU has one
-pub due-from_ready : (image : Image) (entries : List Entry) (cpu : ℕ) → IsAdmitted image → IsLegal image entries → IsReady image entries image.system.root cpu → IsSome (due image entries cpu)
+pub due-from_ready : (image : Image) (entries : List Entry) (cpu : ℕ) → IsSilent image → IsLegal image entries → IsReady image entries image.system.root cpu → IsSome (due image entries cpu)
 due-from_ready image entries cpu admitted legal ready =
     let f = facts image entries in
-    let plain = op-plain image (name_of image.system.root) cpu (f.cpu cpu).position ready.op admitted ready.at in
-    let act = due_act image entries ready.op admitted (legal-alone image entries legal).cells plain ready.due in
+    let plain = op-plain image (name_of image.system.root) cpu (f.cpu cpu).position ready.op admitted.admitted ready.at in
+    let act = due_act image entries ready.op admitted (roots-at image entries admitted legal).alone.cells plain ready.due in
     let made : due image entries cpu ≡ Some (entry_by cpu (f.cpu cpu).owner act.0)
-    = due_at-running image f cpu ready.op ready.board ((roots-at image entries admitted legal).cpus cpu) ready.running ready.at ∙ ap (option_map (entry_by cpu (f.cpu cpu).owner)) act.1 in
+    = due_at-running image f cpu ready.op (roots-at image entries admitted legal).alone.call ready.board ((roots-at image entries admitted legal).cpus cpu) ready.running ready.at ∙ ap (option_map (entry_by cpu (f.cpu cpu).owner)) act.1 in
     ap (λ (o : Option Entry). is_some o) made
 
 -- the entry due is the CPU's own
-pub own-from_due : (image : Image) (entries : List Entry) (cpu : ℕ) (entry : Entry) → IsAdmitted image → IsLegal image entries → due image entries cpu ≡ Some entry → IsOwn image entries image.system.root cpu entry
+pub own-from_due : (image : Image) (entries : List Entry) (cpu : ℕ) (entry : Entry) → IsSilent image → IsLegal image entries → due image entries cpu ≡ Some entry → IsOwn image entries image.system.root cpu entry
 own-from_due image entries cpu entry admitted legal h =
-    let made : IsMade image (facts image entries) cpu entry = due_at-made image (facts image entries) cpu entry ((roots-at image entries admitted legal).cpus cpu) h in
+    let made : IsMade image (facts image entries) cpu entry = due_at-made image (facts image entries) cpu entry (roots-at image entries admitted legal).alone.call ((roots-at image entries admitted legal).cpus cpu) h in
     let of = made-access image (facts image entries) cpu entry made admitted in
-    record { cpu_is = made.cpu_is; cell_is = made.cell_is; operation = of.operation ∙ sym made.at; outcome = outcome image entries entry.act admitted (legal-alone image entries legal).cells of.access }
+    record { cpu_is = made.cpu_is; cell_is = made.cell_is; operation = of.operation ∙ sym made.at; outcome = outcome image entries entry.act admitted (roots-at image entries admitted legal).alone.cells of.access }
 
 -- nothing is due to a CPU where it isn't ready
 none_by : (image : Image) (entries : List Entry) (cpu : ℕ) (o : Option Entry) → due image entries cpu ≡ o → (IsSome o → ⊥) → due image entries cpu ≡ None
@@ -110,69 +111,69 @@ none_by image entries cpu (Some entry) is none = absurd (none refl)
 some-none : (o : Option Entry) → o ≡ None → IsSome o → ⊥
 some-none o e some = false≢true (ap (λ (p : Option Entry). is_some p) (sym e) ∙ some)
 
-pub quiet-not_ready : (image : Image) (entries : List Entry) → IsAdmitted image → IsLegal image entries → IsQuiet image entries → (cpu : ℕ) → IsReady image entries image.system.root cpu → ⊥
+pub quiet-not_ready : (image : Image) (entries : List Entry) → IsSilent image → IsLegal image entries → IsQuiet image entries → (cpu : ℕ) → IsReady image entries image.system.root cpu → ⊥
 quiet-not_ready image entries admitted legal quiet cpu ready = some-none (due image entries cpu) (quiet cpu) (due-from_ready image entries cpu admitted legal ready)
 
-pub quiet-from_none : (image : Image) (entries : List Entry) → IsAdmitted image → IsLegal image entries → ((cpu : ℕ) → IsReady image entries image.system.root cpu → ⊥) → IsQuiet image entries
+pub quiet-from_none : (image : Image) (entries : List Entry) → IsSilent image → IsLegal image entries → ((cpu : ℕ) → IsReady image entries image.system.root cpu → ⊥) → IsQuiet image entries
 quiet-from_none image entries admitted legal none cpu =
     none_by image entries cpu (due image entries cpu) refl (λ some. none cpu (ready-from_due image entries cpu admitted legal some))
 
 -- two readings of the same bytes
-got_same : (image : Image) (entries : List Entry) (access : Access) (at width : ℕ) (one other : Option ℕ) → IsAdmitted image → IsGot image entries image.system.root access at width one → IsGot image entries image.system.root access at width other → one ≡ other
+got_same : (image : Image) (entries : List Entry) (access : Access) (at width : ℕ) (one other : Option ℕ) → IsSilent image → IsGot image entries image.system.root access at width one → IsGot image entries image.system.root access at width other → one ≡ other
 got_same image entries access at width None None admitted a b = refl
 got_same image entries access at width None (Some w) admitted a b = absurd (false≢true (a.granted.1 (b.granted.0 refl)))
 got_same image entries access at width (Some v) None admitted a b = absurd (false≢true (b.granted.1 (a.granted.0 refl)))
 got_same image entries access at width (Some v) (Some w) admitted a b =
     let place = λ (k : ℕ). Physical (at + k) in
-    let each = granted_at image access at width admitted (a.granted.0 refl) in
+    let each = granted_at image access at width admitted.admitted (a.granted.0 refl) in
     ap Some (a.reads v refl place each ∙ sym (b.reads w refl place each))
 
 -- an await with its outcome is what the operation comes to
-await_from : (image : Image) (entries : List Entry) (width at value : ℕ) (o : Option ℕ) (ok : Bool) → IsAdmitted image → IsGot image entries image.system.root ToRead at width o → IsAwaited image entries image.system.root at width value ok
+await_from : (image : Image) (entries : List Entry) (width at value : ℕ) (o : Option ℕ) (ok : Bool) → IsSilent image → IsGot image entries image.system.root ToRead at width o → IsAwaited image entries image.system.root at width value ok
     → await_of width at value o ≡ Some (Await width at value ok)
 await_from image entries width at value None true admitted got awaited = absurd (false≢true (got.granted.1 (awaited.granted.0 refl)))
 await_from image entries width at value None false admitted got awaited = refl
 await_from image entries width at value (Some v) true admitted got awaited =
     let place = λ (k : ℕ). Physical (at + k) in
-    let each = granted_at image ToRead at width admitted (got.granted.0 refl) in
+    let each = granted_at image ToRead at width admitted.admitted (got.granted.0 refl) in
     let same : v ≡ value = got.reads v refl place each ∙ sym (awaited.reads refl place each) in
     ap (λ (b : Bool). cond b (Some (Await width at value true)) None) (eq-eqb v value same)
 await_from image entries width at value (Some v) false admitted got awaited = absurd (false≢true (awaited.granted.1 (got.granted.0 refl)))
 
 -- and so is each access
-act_from : (image : Image) (entries : List Entry) (op : Op) (act : Act) → IsAdmitted image → (facts image entries).cells ≡ [] → IsPlain op → op_of act ≡ Some op → HasItsOutcome image entries image.system.root act → act_of image (facts image entries) image.system.root.id op ≡ Some act
+act_from : (image : Image) (entries : List Entry) (op : Op) (act : Act) → IsSilent image → (facts image entries).cells ≡ [] → IsPlain op → op_of act ≡ Some op → HasItsOutcome image entries image.system.root act → act_of image (facts image entries) image.system.root.id op ≡ Some act
 act_from image entries op (Read width at got) admitted none plain is h =
     let P : Op → Type 0 = λ o. IsPlain o → act_of image (facts image entries) image.system.root.id o ≡ Some (Read width at got) in
     subst P (same_Some (ReadOp width at) op is)
-    (λ own. ap (λ (g : Option ℕ). Some (Read width at g)) (got_same image entries ToRead at width (got_after image entries at width) got admitted (got-of image entries ToRead at width admitted none (some_width width own)) h))
+    (λ own. ap (λ (g : Option ℕ). Some (Read width at g)) (got_same image entries ToRead at width (got_after image entries at width) got admitted (got-of image entries ToRead at width admitted.admitted none (some_width width own)) h))
     plain
 act_from image entries op (Write width at value ok) admitted none plain is h =
     let P : Op → Type 0 = λ o. IsPlain o → act_of image (facts image entries) image.system.root.id o ≡ Some (Write width at value ok) in
     let r = is_reached (reach image (facts image entries) image.system.root.id ToWrite at width) in
     subst P (same_Some (WriteOp width at value) op is)
-    (λ own. let reached = reached-of image (facts image entries) ToWrite at width admitted none (some_width width own.0) in
+    (λ own. let reached = reached-of image (facts image entries) ToWrite at width admitted.admitted none (some_width width own.0) in
     ap (λ (b : Bool). Some (Write width at value b)) (same_test r ok (λ passes. h.1 (reached.0 passes)) (λ passes. reached.1 (h.0 passes))))
     plain
 act_from image entries op (Fetch at got) admitted none plain is h =
     let P : Op → Type 0 = λ o. act_of image (facts image entries) image.system.root.id o ≡ Some (Fetch at got) in
     let r = read_of (facts image entries).byte (reach image (facts image entries) image.system.root.id ToFetch at 4) in
     subst P (same_Some (FetchOp at) op is)
-    (ap (λ (g : Option ℕ). Some (Fetch at g)) (got_same image entries ToFetch at 4 r got admitted (got-of image entries ToFetch at 4 admitted none (omega arith)) h))
+    (ap (λ (g : Option ℕ). Some (Fetch at g)) (got_same image entries ToFetch at 4 r got admitted (got-of image entries ToFetch at 4 admitted.admitted none (omega arith)) h))
 act_from image entries op (Await width at value ok) admitted none plain is h =
     let P : Op → Type 0 = λ o. IsPlain o → act_of image (facts image entries) image.system.root.id o ≡ Some (Await width at value ok) in
     subst P (same_Some (AwaitOp width at value) op is)
-    (λ own. await_from image entries width at value (got_after image entries at width) ok admitted (got-of image entries ToRead at width admitted none (some_width width own.0)) h)
+    (λ own. await_from image entries width at value (got_after image entries at width) ok admitted (got-of image entries ToRead at width admitted.admitted none (some_width width own.0)) h)
     plain
 act_from image entries op _ admitted none plain is h = absurd h
 
 -- so an entry that is a ready CPU's own is the one due
-pub due-from_own : (image : Image) (entries : List Entry) (cpu : ℕ) (entry : Entry) → IsAdmitted image → IsLegal image entries → IsReady image entries image.system.root cpu → IsOwn image entries image.system.root cpu entry → due image entries cpu ≡ Some entry
+pub due-from_own : (image : Image) (entries : List Entry) (cpu : ℕ) (entry : Entry) → IsSilent image → IsLegal image entries → IsReady image entries image.system.root cpu → IsOwn image entries image.system.root cpu entry → due image entries cpu ≡ Some entry
 due-from_own image entries cpu entry admitted legal ready own =
     let f = facts image entries in
-    let plain = op-plain image (name_of image.system.root) cpu (f.cpu cpu).position ready.op admitted ready.at in
-    let act : act_of image f image.system.root.id ready.op ≡ Some entry.act = act_from image entries ready.op entry.act admitted (legal-alone image entries legal).cells plain (own.operation ∙ ready.at) own.outcome in
+    let plain = op-plain image (name_of image.system.root) cpu (f.cpu cpu).position ready.op admitted.admitted ready.at in
+    let act : act_of image f image.system.root.id ready.op ≡ Some entry.act = act_from image entries ready.op entry.act admitted (roots-at image entries admitted legal).alone.cells plain (own.operation ∙ ready.at) own.outcome in
     let same : entry_by cpu (f.cpu cpu).owner entry.act ≡ entry =
     ap (λ (c : ℕ). entry_by c (f.cpu cpu).owner entry.act) (sym own.cpu_is) ∙ ap (λ (c : ℕ). entry_by entry.cpu c entry.act) (sym own.cell_is) in
-    due_at-running image f cpu ready.op ready.board ((roots-at image entries admitted legal).cpus cpu) ready.running ready.at
+    due_at-running image f cpu ready.op (roots-at image entries admitted legal).alone.call ready.board ((roots-at image entries admitted legal).cpus cpu) ready.running ready.at
     ∙ ap (option_map (entry_by cpu (f.cpu cpu).owner)) act
     ∙ ap Some same
