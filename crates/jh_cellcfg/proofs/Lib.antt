@@ -5,3 +5,4 @@ pub mod Faultless
 pub mod Fields
 pub mod Found
 pub mod Told
+pub mod Writing

@@ -50,7 +50,7 @@ fn name_len(name: &[u8]) -> usize
 }
 
 impl CellConfig {
-    ghost use Rattle.jh_cellcfg.specs.Cells.{name_of, is_cpu_set, is_passive};
+    ghost use Rattle.jh_cellcfg.specs.Cells.{name_of, is_cpu_set, has_cell_flags, is_passive, may_have_console, has_console};
 
     /// The characters of its name, without the zero bytes behind them.
     pub fn name(&self) -> &[u8]
@@ -68,11 +68,32 @@ impl CellConfig {
         byte & (1u8 << (cpu % 8)) != 0
     }
 
+    /// Whether all these flags are set.
+    pub fn has(&self, flags: CellFlags) -> bool
+        ensures { result ≡ has_cell_flags flags.0 self.now }
+    {
+        CellFlags(self.flags).contains(flags)
+    }
+
     /// Whether the cell answers no messages, so that it is neither asked nor told.
     pub fn is_passive(&self) -> bool
         ensures { result ≡ is_passive self.now }
     {
-        CellFlags(self.flags).contains(CellFlags::PASSIVE_COMMREG)
+        self.has(CellFlags::PASSIVE_COMMREG)
+    }
+
+    /// Whether the cell may use the hypervisor's console. Kept and unused.
+    pub fn may_have_console(&self) -> bool
+        ensures { result ≡ may_have_console self.now }
+    {
+        self.has(CellFlags::VIRTUAL_CONSOLE_PERMITTED)
+    }
+
+    /// Whether the cell uses the hypervisor's console. Kept and unused.
+    pub fn has_console(&self) -> bool
+        ensures { result ≡ has_console self.now }
+    {
+        self.has(CellFlags::VIRTUAL_CONSOLE_ACTIVE)
     }
 }
 

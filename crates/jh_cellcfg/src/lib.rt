@@ -29,10 +29,10 @@ pub use limits::{fits, is_name};
 pub use live::Live;
 pub use read::{cell_size, read_body, read_cell};
 pub use reader::Reader;
-pub use record::{Record, read_list, write_list};
+pub use record::Record;
 pub use region::Region;
 pub use write::{write_body, write_cell};
-pub use writer::{put_bytes, put_u8, put_u16, put_u32, put_u64};
+pub use writer::Writer;
 
 #[cfg(test)]
 mod tests;

@@ -8,7 +8,7 @@ use crate::config::{Console, Irqchip, PciDevice};
 use crate::header::{Counts, Header};
 use crate::reader::Reader;
 use crate::region::Region;
-use crate::writer::{put_bytes, put_u8, put_u16, put_u32, put_u64};
+use crate::writer::Writer;
 use jh_num::{NoMemory, Seq};
 use std::alloc::Global;
 
@@ -32,8 +32,8 @@ pub trait Record: Copy {
         ensures left { length reader.old.rest.now ≡ SIZE + length reader.new.rest.now };
 
     /// Puts the record at the end.
-    fn write(&self, out: &mut Vec<u8>) -> Result<(), NoMemory>
-        ensures { OnOk result (out.new.items ≡ out.old.items ++ bytes_of self.now) };
+    fn write(&self, out: Writer) -> Result<Writer, NoMemory>
+        ensures { IfOk result (λ more. more.written.items ≡ out.written.items ++ bytes_of self.now) };
 }
 
 impl Record for u32 {
@@ -49,62 +49,27 @@ impl Record for u32 {
         reader.u32()
     }
 
-    fn write(&self, out: &mut Vec<u8>) -> Result<(), NoMemory> {
-        put_u32(out, *self)
+    fn write(&self, out: Writer) -> Result<Writer, NoMemory> {
+        out.u32(*self)
     }
 }
 
-impl Record for [u8; 4] {
-    ghost SIZE = { 4 };
+/// Bytes that are kept as they are.
+impl<const N: usize> Record for [u8; N] {
+    ghost SIZE = { N };
 
     ghost bytes_of = { λ bytes. bytes };
 
-    ghost Fits = { λ bytes. length bytes ≡ 4 };
+    ghost Fits = { λ bytes. length bytes ≡ N };
 
-    const SIZE: usize = 4;
+    const SIZE: usize = N;
 
-    fn read(reader: &mut Reader) -> [u8; 4] {
-        reader.array::<4>()
+    fn read(reader: &mut Reader) -> [u8; N] {
+        reader.array::<N>()
     }
 
-    fn write(&self, out: &mut Vec<u8>) -> Result<(), NoMemory> {
-        put_bytes(out, self)
-    }
-}
-
-impl Record for [u8; 8] {
-    ghost SIZE = { 8 };
-
-    ghost bytes_of = { λ bytes. bytes };
-
-    ghost Fits = { λ bytes. length bytes ≡ 8 };
-
-    const SIZE: usize = 8;
-
-    fn read(reader: &mut Reader) -> [u8; 8] {
-        reader.array::<8>()
-    }
-
-    fn write(&self, out: &mut Vec<u8>) -> Result<(), NoMemory> {
-        put_bytes(out, self)
-    }
-}
-
-impl Record for [u8; 12] {
-    ghost SIZE = { 12 };
-
-    ghost bytes_of = { λ bytes. bytes };
-
-    ghost Fits = { λ bytes. length bytes ≡ 12 };
-
-    const SIZE: usize = 12;
-
-    fn read(reader: &mut Reader) -> [u8; 12] {
-        reader.array::<12>()
-    }
-
-    fn write(&self, out: &mut Vec<u8>) -> Result<(), NoMemory> {
-        put_bytes(out, self)
+    fn write(&self, out: Writer) -> Result<Writer, NoMemory> {
+        out.bytes(self)
     }
 }
 
@@ -126,11 +91,11 @@ impl Record for Region {
         }
     }
 
-    fn write(&self, out: &mut Vec<u8>) -> Result<(), NoMemory> {
-        put_u64(out, self.phys_start)?;
-        put_u64(out, self.virt_start)?;
-        put_u64(out, self.size)?;
-        put_u64(out, self.flags)
+    fn write(&self, out: Writer) -> Result<Writer, NoMemory> {
+        out.u64(self.phys_start)?
+            .u64(self.virt_start)?
+            .u64(self.size)?
+            .u64(self.flags)
     }
 }
 
@@ -152,11 +117,11 @@ impl Record for Irqchip {
         }
     }
 
-    fn write(&self, out: &mut Vec<u8>) -> Result<(), NoMemory> {
-        put_u64(out, self.address)?;
-        put_u32(out, self.id)?;
-        put_u32(out, self.pin_base)?;
-        put_words(out, &self.pin_bitmap)
+    fn write(&self, out: Writer) -> Result<Writer, NoMemory> {
+        out.u64(self.address)?
+            .u32(self.id)?
+            .u32(self.pin_base)?
+            .words(&self.pin_bitmap)
     }
 }
 
@@ -197,23 +162,23 @@ impl Record for PciDevice {
         }
     }
 
-    fn write(&self, out: &mut Vec<u8>) -> Result<(), NoMemory> {
-        put_u8(out, self.kind)?;
-        put_u8(out, self.iommu)?;
-        put_u16(out, self.domain)?;
-        put_u16(out, self.bdf)?;
-        put_words(out, &self.bar_mask)?;
-        put_u16(out, self.caps_start)?;
-        put_u16(out, self.num_caps)?;
-        put_u8(out, self.num_msi_vectors)?;
-        put_u8(out, self.msi_bits)?;
-        put_u16(out, self.num_msix_vectors)?;
-        put_u16(out, self.msix_region_size)?;
-        put_u64(out, self.msix_address)?;
-        put_u32(out, self.shmem_regions_start)?;
-        put_u8(out, self.shmem_dev_id)?;
-        put_u8(out, self.shmem_peers)?;
-        put_u16(out, self.shmem_protocol)
+    fn write(&self, out: Writer) -> Result<Writer, NoMemory> {
+        out.u8(self.kind)?
+            .u8(self.iommu)?
+            .u16(self.domain)?
+            .u16(self.bdf)?
+            .words(&self.bar_mask)?
+            .u16(self.caps_start)?
+            .u16(self.num_caps)?
+            .u8(self.num_msi_vectors)?
+            .u8(self.msi_bits)?
+            .u16(self.num_msix_vectors)?
+            .u16(self.msix_region_size)?
+            .u64(self.msix_address)?
+            .u32(self.shmem_regions_start)?
+            .u8(self.shmem_dev_id)?
+            .u8(self.shmem_peers)?
+            .u16(self.shmem_protocol)
     }
 }
 
@@ -238,14 +203,14 @@ impl Record for Console {
         }
     }
 
-    fn write(&self, out: &mut Vec<u8>) -> Result<(), NoMemory> {
-        put_u64(out, self.address)?;
-        put_u32(out, self.size)?;
-        put_u16(out, self.kind)?;
-        put_u16(out, self.flags)?;
-        put_u32(out, self.divider)?;
-        put_u32(out, self.gate_nr)?;
-        put_u64(out, self.clock_reg)
+    fn write(&self, out: Writer) -> Result<Writer, NoMemory> {
+        out.u64(self.address)?
+            .u32(self.size)?
+            .u16(self.kind)?
+            .u16(self.flags)?
+            .u32(self.divider)?
+            .u32(self.gate_nr)?
+            .u64(self.clock_reg)
     }
 }
 
@@ -271,15 +236,15 @@ impl Record for Counts {
         }
     }
 
-    fn write(&self, out: &mut Vec<u8>) -> Result<(), NoMemory> {
-        put_u32(out, self.cpu_set)?;
-        put_u32(out, self.memory_regions)?;
-        put_u32(out, self.cache_regions)?;
-        put_u32(out, self.irqchips)?;
-        put_u32(out, self.pio_regions)?;
-        put_u32(out, self.pci_devices)?;
-        put_u32(out, self.pci_caps)?;
-        put_u32(out, self.stream_ids)
+    fn write(&self, out: Writer) -> Result<Writer, NoMemory> {
+        out.u32(self.cpu_set)?
+            .u32(self.memory_regions)?
+            .u32(self.cache_regions)?
+            .u32(self.irqchips)?
+            .u32(self.pio_regions)?
+            .u32(self.pci_devices)?
+            .u32(self.pci_caps)?
+            .u32(self.stream_ids)
     }
 }
 
@@ -305,20 +270,19 @@ impl Record for Header {
         }
     }
 
-    fn write(&self, out: &mut Vec<u8>) -> Result<(), NoMemory> {
-        put_bytes(out, &self.name)?;
-        put_u32(out, self.id)?;
-        put_u32(out, self.flags)?;
-        self.counts.write(out)?;
-        put_u32(out, self.vpci_irq_base)?;
-        put_u64(out, self.cpu_reset_address)?;
-        put_u64(out, self.msg_reply_timeout)?;
-        put_bytes(out, &self.console)
+    fn write(&self, out: Writer) -> Result<Writer, NoMemory> {
+        let out = out.bytes(&self.name)?.u32(self.id)?.u32(self.flags)?;
+        self.counts
+            .write(out)?
+            .u32(self.vpci_irq_base)?
+            .u64(self.cpu_reset_address)?
+            .u64(self.msg_reply_timeout)?
+            .bytes(&self.console)
     }
 }
 
 /// So many records at the front.
-pub fn read_list<R: Record>(
+pub(crate) fn read_list<R: Record>(
     alloc: Global,
     count: usize,
     reader: &mut Reader,
@@ -336,21 +300,13 @@ pub fn read_list<R: Record>(
     Ok(Seq::from_vec(list))
 }
 
-fn put_words(out: &mut Vec<u8>, words: &[u32]) -> Result<(), NoMemory>
-    ensures { OnOk result (out.new.items ≡ out.old.items ++ flat_map u32_bytes words.now) }
-{
-    for word in words {
-        put_u32(out, *word)?;
-    }
-    Ok(())
-}
-
 /// Puts the records at the end, one after the other.
-pub fn write_list<R: Record>(list: &Seq<R>, out: &mut Vec<u8>) -> Result<(), NoMemory>
-    ensures { OnOk result (out.new.items ≡ out.old.items ++ flat_map R.bytes_of list.now) }
+pub(crate) fn write_list<R: Record>(list: &Seq<R>, out: Writer) -> Result<Writer, NoMemory>
+    ensures { IfOk result (λ more. more.written.items ≡ out.written.items ++ flat_map R.bytes_of list.now) }
 {
+    let mut more = out;
     for record in list.as_slice() {
-        record.write(out)?;
+        more = record.write(more)?;
     }
-    Ok(())
+    Ok(more)
 }

@@ -6,7 +6,7 @@ ghost use Rattle.jh_cellcfg.specs.Limits.{AreWithinLimits, IsWithinLimits};
 use crate::config::CellConfig;
 use crate::header::{Counts, Header};
 use crate::record::{Record, write_list};
-use crate::writer::{put_bytes, put_u16};
+use crate::writer::Writer;
 use jh_num::NoMemory;
 use std::alloc::Global;
 
@@ -51,24 +51,24 @@ impl Counts {
 }
 
 /// Puts a configuration at the end, from its header's name on.
-pub fn write_body(config: &CellConfig, out: &mut Vec<u8>) -> Result<(), NoMemory>
+pub fn write_body(config: &CellConfig, out: Writer) -> Result<Writer, NoMemory>
     requires { IsWithinLimits config.now }
-    ensures { OnOk result (out.new.items ≡ out.old.items ++ body_bytes config.now) }
+    ensures { IfOk result (λ more. more.written.items ≡ out.written.items ++ body_bytes config.now) }
 {
-    Header::of(config).write(out)?;
+    let out = Header::of(config).write(out)?;
     write_parts(config, out)
 }
 
-fn write_parts(config: &CellConfig, out: &mut Vec<u8>) -> Result<(), NoMemory>
-    ensures { OnOk result (out.new.items ≡ out.old.items ++ parts_bytes config.now) }
+fn write_parts(config: &CellConfig, out: Writer) -> Result<Writer, NoMemory>
+    ensures { IfOk result (λ more. more.written.items ≡ out.written.items ++ parts_bytes config.now) }
 {
-    put_bytes(out, config.cpu_set.as_slice())?;
-    write_list(&config.memory_regions, out)?;
-    write_list(&config.cache_regions, out)?;
-    write_list(&config.irqchips, out)?;
-    write_list(&config.pio_regions, out)?;
-    write_list(&config.pci_devices, out)?;
-    write_list(&config.pci_caps, out)?;
+    let out = out.bytes(config.cpu_set.as_slice())?;
+    let out = write_list(&config.memory_regions, out)?;
+    let out = write_list(&config.cache_regions, out)?;
+    let out = write_list(&config.irqchips, out)?;
+    let out = write_list(&config.pio_regions, out)?;
+    let out = write_list(&config.pci_devices, out)?;
+    let out = write_list(&config.pci_caps, out)?;
     write_list(&config.stream_ids, out)
 }
 
@@ -77,9 +77,7 @@ pub fn write_cell(alloc: Global, config: &CellConfig) -> Result<Vec<u8>, NoMemor
     requires { IsWithinLimits config.now }
     ensures { IfOk result (λ bytes. bytes.items ≡ spelling config.now) }
 {
-    let mut out = Vec::new(alloc);
-    put_bytes(&mut out, b"JHCELL")?;
-    put_u16(&mut out, 13)?;
-    write_body(config, &mut out)?;
-    Ok(out)
+    let start = Writer::new(alloc).bytes(b"JHCELL")?.u16(13)?;
+    let whole = write_body(config, start)?;
+    Ok(whole.written)
 }

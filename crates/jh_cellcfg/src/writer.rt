@@ -1,45 +1,69 @@
-//! Numbers at the end of bytes.
-ghost use Rattle.std.specs.Prelude.{◌≡◌, ◌++◌, OnOk};
+//! Numbers and arrays at the end of bytes.
+ghost use Rattle.std.specs.Prelude.{◌≡◌, [], ◌++◌, IfOk};
+ghost use Rattle.std.specs.List.{flat_map};
 ghost use Rattle.jh_cellcfg.specs.Spelling.{u8_bytes, u16_bytes, u32_bytes, u64_bytes};
 
-use byteorder::{ByteOrder, LittleEndian};
 use jh_num::NoMemory;
+use std::alloc::Global;
 
-pub fn put_u8(out: &mut Vec<u8>, n: u8) -> Result<(), NoMemory>
-    ensures { OnOk result (out.new.items ≡ out.old.items ++ u8_bytes n) }
-{
-    out.push(n)?;
-    Ok(())
+/// Bytes behind which each call puts some. A call takes the writer and gives it back; where memory runs out
+/// it is gone, and half of a record with it.
+#[derive(Drop)]
+pub struct Writer {
+    pub written: Vec<u8>,
 }
 
-pub fn put_u16(out: &mut Vec<u8>, n: u16) -> Result<(), NoMemory>
-    ensures { OnOk result (out.new.items ≡ out.old.items ++ u16_bytes n) }
-{
-    let mut bytes = [0; 2];
-    LittleEndian::write_u16(&mut bytes, n);
-    put_bytes(out, &bytes)
-}
+impl Writer {
+    /// No bytes yet, which take no memory.
+    pub fn new(alloc: Global) -> Writer
+        ensures { result.written.items ≡ [] }
+    {
+        Writer {
+            written: Vec::new(alloc),
+        }
+    }
 
-pub fn put_u32(out: &mut Vec<u8>, n: u32) -> Result<(), NoMemory>
-    ensures { OnOk result (out.new.items ≡ out.old.items ++ u32_bytes n) }
-{
-    let mut bytes = [0; 4];
-    LittleEndian::write_u32(&mut bytes, n);
-    put_bytes(out, &bytes)
-}
+    pub fn u8(self, n: u8) -> Result<Writer, NoMemory>
+        ensures { IfOk result (λ more. more.written.items ≡ self.written.items ++ u8_bytes n) }
+    {
+        self.bytes(&[n])
+    }
 
-pub fn put_u64(out: &mut Vec<u8>, n: u64) -> Result<(), NoMemory>
-    ensures { OnOk result (out.new.items ≡ out.old.items ++ u64_bytes n) }
-{
-    let mut bytes = [0; 8];
-    LittleEndian::write_u64(&mut bytes, n);
-    put_bytes(out, &bytes)
-}
+    pub fn u16(self, n: u16) -> Result<Writer, NoMemory>
+        ensures { IfOk result (λ more. more.written.items ≡ self.written.items ++ u16_bytes n) }
+    {
+        self.bytes(&n.to_le_bytes())
+    }
 
-/// The bytes as they are.
-pub fn put_bytes(out: &mut Vec<u8>, bytes: &[u8]) -> Result<(), NoMemory>
-    ensures { OnOk result (out.new.items ≡ out.old.items ++ bytes.now) }
-{
-    out.extend_from_slice(bytes)?;
-    Ok(())
+    pub fn u32(self, n: u32) -> Result<Writer, NoMemory>
+        ensures { IfOk result (λ more. more.written.items ≡ self.written.items ++ u32_bytes n) }
+    {
+        self.bytes(&n.to_le_bytes())
+    }
+
+    pub fn u64(self, n: u64) -> Result<Writer, NoMemory>
+        ensures { IfOk result (λ more. more.written.items ≡ self.written.items ++ u64_bytes n) }
+    {
+        self.bytes(&n.to_le_bytes())
+    }
+
+    /// Numbers of 32 bits, one after the other.
+    pub fn words(self, words: &[u32]) -> Result<Writer, NoMemory>
+        ensures { IfOk result (λ more. more.written.items ≡ self.written.items ++ flat_map u32_bytes words.now) }
+    {
+        let mut more = self;
+        for word in words {
+            more = more.u32(*word)?;
+        }
+        Ok(more)
+    }
+
+    /// The bytes as they are.
+    pub fn bytes(self, bytes: &[u8]) -> Result<Writer, NoMemory>
+        ensures { IfOk result (λ more. more.written.items ≡ self.written.items ++ bytes.now) }
+    {
+        let mut written = self.written;
+        written.extend_from_slice(bytes)?;
+        Ok(Writer { written })
+    }
 }

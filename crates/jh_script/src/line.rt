@@ -1,5 +1,5 @@
 //! What a line of a program tells.
-ghost use Rattle.std.specs.Prelude.{◌≡◌, ◌^◌, ◌-◌, nat_lt, IfSome, IfNone, IsTrue, SomeIff};
+ghost use Rattle.std.specs.Prelude.{◌≡◌, nat_lt, IfSome, IfNone, IsTrue, SomeIff};
 ghost use Rattle.std.specs.List.{list_all};
 ghost use Rattle.std.specs.Option.{option_map};
 ghost use Rattle.jh_script.specs.declared.op.Op.TheVariants as ops;
@@ -7,7 +7,7 @@ ghost use Rattle.jh_script.specs.Operations.{IsPlainLine, is_width, line_of, lin
 ghost use Rattle.jh_script.specs.Words.{words, blanks};
 
 use crate::number::number;
-use crate::op::Op;
+use crate::op::{Op, max_of_width};
 use crate::words::{is, next_word};
 
 /// The bytes that part the words of a line.
@@ -196,18 +196,5 @@ fn access_width(width: u64) -> Option<u8>
         Some(width as u8)
     } else {
         None
-    }
-}
-
-/// The largest value of so many bytes.
-fn max_of_width(width: u8) -> u64
-    requires { IsTrue (is_width width) }
-    ensures { result ≡ 256 ^ width - 1 }
-{
-    match width {
-        1 => 0xff,
-        2 => 0xffff,
-        4 => 0xffff_ffff,
-        _ => u64::MAX,
     }
 }

@@ -1,4 +1,6 @@
 //! The operations of a program.
+ghost use Rattle.std.specs.Prelude.{◌≡◌, ◌^◌, ◌-◌, IsTrue};
+ghost use Rattle.jh_script.specs.Operations.{is_width};
 
 /// One operation of a CPU's program. A width is a number of bytes, 1, 2, 4 or 8; values are
 /// little-endian in memory.
@@ -14,4 +16,17 @@ pub enum Op {
     Irq,
     /// A hypercall with its code and two arguments.
     Hvc { code: u64, a: u64, b: u64 },
+}
+
+/// The largest value of so many bytes, which are 1, 2, 4 or 8.
+pub fn max_of_width(width: u8) -> u64
+    requires { IsTrue (is_width width) }
+    ensures { result ≡ 256 ^ width - 1 }
+{
+    match width {
+        1 => 0xff,
+        2 => 0xffff,
+        4 => 0xffff_ffff,
+        _ => u64::MAX,
+    }
 }

@@ -15,7 +15,7 @@ use crate::list::list_at;
 use crate::name::cell_name;
 use crate::spec::SpecFault;
 use crate::told::{Told, member};
-use jh_cellcfg::{CellConfig, Console, Irqchip, PciDevice, Record, Region};
+use jh_cellcfg::{CellConfig, Console, Irqchip, PciDevice, Record, Region, Writer};
 use jh_num::{NoMemory, Seq};
 use serde_json::Value;
 use std::alloc::Global;
@@ -41,10 +41,9 @@ pub fn all_listed(alloc: Global, object: &Value, names: &[&str]) -> Result<(), S
 fn console_bytes(alloc: Global, console: &Console) -> Result<[u8; 32], NoMemory>
     ensures { IfOk result (λ bytes. bytes ≡ bytes_of console.now) }
 {
-    let mut written = Vec::new(alloc);
-    console.write(&mut written)?;
+    let out = console.write(Writer::new(alloc))?;
     let mut bytes = [0; 32];
-    bytes.copy_from_slice(&written);
+    bytes.copy_from_slice(&out.written);
     Ok(bytes)
 }
 

@@ -2,7 +2,7 @@
 ghost use Rattle.jh_cellcfg.specs.Widths.{IsRegion, IsConsole};
 ghost use Rattle.jh_syscfg.specs.Layout.{platform_bytes, IsPlatform};
 
-use jh_cellcfg::{Console, Reader, Record, Region, put_bytes, put_u8, put_u16, put_u32, put_u64};
+use jh_cellcfg::{Console, Reader, Record, Region, Writer};
 use jh_num::NoMemory;
 
 /// The fields of a system but root, in their order: 88 bytes behind the signature and the revision.
@@ -40,14 +40,15 @@ impl Record for Platform {
         }
     }
 
-    fn write(&self, out: &mut Vec<u8>) -> Result<(), NoMemory> {
-        put_u32(out, self.flags)?;
-        self.hypervisor_memory.write(out)?;
-        self.debug_console.write(out)?;
-        put_u64(out, self.pci_mmconfig_base)?;
-        put_u8(out, self.pci_mmconfig_end_bus)?;
-        put_u8(out, self.pci_is_virtual)?;
-        put_u16(out, self.pci_domain)?;
-        put_bytes(out, &self.root_head)
+    fn write(&self, out: Writer) -> Result<Writer, NoMemory> {
+        let out = out.u32(self.flags)?;
+        let out = self.hypervisor_memory.write(out)?;
+        self.debug_console
+            .write(out)?
+            .u64(self.pci_mmconfig_base)?
+            .u8(self.pci_mmconfig_end_bus)?
+            .u8(self.pci_is_virtual)?
+            .u16(self.pci_domain)?
+            .bytes(&self.root_head)
     }
 }

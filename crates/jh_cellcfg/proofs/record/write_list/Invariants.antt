@@ -3,4 +3,4 @@ use Rattle.std.specs.List.{flat_map}
 use Rattle.jh_cellcfg.proofs.record.write_list.Given as goal
 
 abbrev pub invariant-loop-record : goal.invariant-loop-record
-invariant-loop-record g l = l.out.items ≡ l.fn.out.items ++ flat_map g.R.Record.bytes_of (take l.record-index l.record-items)
+invariant-loop-record g l = l.more.written.items ≡ l.fn.out.written.items ++ flat_map g.R.Record.bytes_of (take l.record-index l.record-items)

@@ -2,4 +2,4 @@ use Rattle.std.proofs.Common.{append_assoc}
 use Rattle.jh_cellcfg.proofs.record.CountsRecord.write.Goals as goal
 
 pub returns : goal.returns
-returns c = simp append_assoc at (rw (c.in_ok-put_u32-7.ensures, c.in_ok-put_u32-6.ensures, c.in_ok-put_u32-5.ensures, c.in_ok-put_u32-4.ensures, c.in_ok-put_u32-3.ensures, c.in_ok-put_u32-2.ensures, c.in_ok-put_u32.ensures) at c.put_u32-8.ensures)
+returns c = simp append_assoc at (rw (c.in_ok-u32-7.ensures, c.in_ok-u32-6.ensures, c.in_ok-u32-5.ensures, c.in_ok-u32-4.ensures, c.in_ok-u32-3.ensures, c.in_ok-u32-2.ensures, c.in_ok-u32.ensures) at c.u32-8.ensures)

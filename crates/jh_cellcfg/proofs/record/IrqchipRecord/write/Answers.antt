@@ -2,4 +2,4 @@ use Rattle.std.proofs.Common.{append_assoc}
 use Rattle.jh_cellcfg.proofs.record.IrqchipRecord.write.Goals as goal
 
 pub returns : goal.returns
-returns c = simp append_assoc at (rw (c.in_ok-put_u32-2.ensures, c.in_ok-put_u32.ensures, c.in_ok-put_u64.ensures) at c.put_words.ensures)
+returns c = simp append_assoc at (rw (c.in_ok-u32-2.ensures, c.in_ok-u32.ensures, c.in_ok-u64.ensures) at c.words.ensures)

@@ -2,4 +2,4 @@ use Rattle.std.proofs.Common.{append_assoc}
 use Rattle.jh_syscfg.proofs.platform.PlatformRecord.write.Goals as goal
 
 pub returns : goal.returns
-returns c = simp append_assoc at (rw (c.in_ok-put_u16.ensures, c.in_ok-put_u8-2.ensures, c.in_ok-put_u8.ensures, c.in_ok-put_u64.ensures, c.in_ok-write-2.ensures, c.in_ok-write.ensures, c.in_ok-put_u32.ensures) at c.put_bytes.ensures)
+returns c = simp append_assoc at (rw (c.in_ok-u16.ensures, c.in_ok-u8-2.ensures, c.in_ok-u8.ensures, c.in_ok-u64.ensures, c.in_ok-write.ensures, c.in_ok-out-2.ensures, c.in_ok-out.ensures) at c.bytes.ensures)
