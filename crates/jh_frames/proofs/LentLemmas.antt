@@ -3,7 +3,7 @@ use Rattle.std.proofs.Common.{◌≡◌, ℕ, ◌+◌, ◌-◌, ◌<◌, ◌≤�
 use Rattle.std.proofs.lemmas.Bool.{cases_lt, both_ways}
 use Rattle.std.proofs.lemmas.List.{length-take, length-drop, length-append, get_or-take, get_or-drop, get_or_append_left, get_or-append_right, take_all}
 use Rattle.jh_num.specs.Memory.{stored}
-use Rattle.jh_frames.specs.Memory.{OwnView, FramesView, IsOwn, is_own, own_byte, byte_at, guest_byte, holds}
+use Rattle.jh_frames.specs.Memory.{OwnView, FramesView, IsOwn, is_own, byte_at, holds}
 use Rattle.jh_frames.specs.Lending.{put_in, with_own_page, with_page}
 use Rattle.jh_frames.proofs.ByteLemmas.{stored-in, stored-before, stored-behind}
 use Rattle.jh_frames.proofs.MemoryLemmas.{own_all, own_above, own_read, byte_own, byte_guest}
