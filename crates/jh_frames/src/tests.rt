@@ -119,7 +119,11 @@ fn write_lent(memory: &mut Frames, at: u64, index: usize, byte: u8) -> [u8; 3]
     let page = memory.page_mut(at);
     page[index] = byte;
     let place = at + index as u64;
-    [memory.read(place - 1), memory.read(place), memory.read(place + 1)]
+    [
+        memory.read(place - 1),
+        memory.read(place),
+        memory.read(place + 1),
+    ]
 }
 
 #[test]
