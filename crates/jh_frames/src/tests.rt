@@ -3,6 +3,8 @@ ghost use Rattle.std.specs.Prelude.{◌≡◌, ◌+◌, ◌^◌, ◌≤◌, ◌<
 ghost use Rattle.jh_frames.specs.Memory.{IsOwn};
 
 use crate::Frames;
+use jh_num::NoMemory;
+use std::alloc::Global;
 use std::test::Fail;
 
 const BASE: u64 = 0x7fc0_0000;
@@ -126,11 +128,19 @@ fn write_lent(memory: &mut Frames, at: u64, index: usize, byte: u8) -> [u8; 3]
     ]
 }
 
+/// The bytes about that index of a page, which lies behind the byte 1 and begins with 2 and 3, once the
+/// byte was written there.
+fn lent(alloc: Global, index: usize, byte: u8) -> Result<[u8; 3], NoMemory>
+    requires { index < 4096 }
+{
+    let mut memory = Frames::open(alloc, BASE, 0x3000)?;
+    memory.write(BASE + 0xfff, &[1, 2, 3])?;
+    Ok(write_lent(&mut memory, BASE + 0x1000, index, byte))
+}
+
 #[test]
 fn a_lent_page_is_written(rt: HostRuntime) -> Result<(), Fail> {
-    let mut memory = Frames::open(rt.alloc(), BASE, 0x3000)?;
-    memory.write(BASE + 0xfff, &[1, 2, 3])?;
-    assert_eq!(rt; write_lent(&mut memory, BASE + 0x1000, 0, 7), [1, 7, 3]);
-    assert_eq!(rt; write_lent(&mut memory, BASE + 0x1000, 0xfff, 8), [0, 8, 0]);
+    assert_eq!(rt; lent(rt.alloc(), 0, 7)?, [1, 7, 3]);
+    assert_eq!(rt; lent(rt.alloc(), 0xfff, 8)?, [0, 8, 0]);
     Ok(())
 }
