@@ -3,3 +3,4 @@ pub mod RangeLemmas
 pub mod WordLemmas
 pub mod MemoryLemmas
 pub mod HeldLemmas
+mod LentLemmas

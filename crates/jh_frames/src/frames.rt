@@ -32,6 +32,9 @@ impl Model for Frames {
 }
 
 impl Frames {
+    ghost use Rattle.std.specs.Borrow.{sem};
+    ghost use Rattle.jh_frames.specs.Lending.{LendsPage};
+
     /// Memory of zeros. It takes the hypervisor's range, of `size` bytes from `base` on.
     pub fn open(alloc: Global, base: u64, size: u64) -> Result<Self, NoMemory>
         requires aligned { base % 4096 ≡ 0 }
@@ -160,6 +163,17 @@ impl Frames {
         ensures bytes { (k : ℕ) → k < 4096 → slice_index result.now k ≡ byte_at self.now (at + k) }
     {
         self.own.page(at)
+    }
+
+    /// A page of the hypervisor's memory, to be written. What is last written there is the page from then on,
+    /// and no other byte changes.
+    pub fn page_mut(&mut self, at: u64) -> &mut [u8]
+        requires { IsOwn self.old.own at 4096 }
+        ensures len { length result.now ≡ 4096 }
+        ensures bytes { (k : ℕ) → k < 4096 → slice_index result.now k ≡ byte_at self.old (at + k) }
+        ensures* writes_back { sem 𝓛 (LendsPage self.entry at result) }
+    {
+        self.own.page_mut(at)
     }
 
     /// Puts the bytes there if they lie in one page that is held, and tells whether they do.

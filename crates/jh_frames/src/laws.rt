@@ -1,8 +1,9 @@
 //! What holds of memory and of words.
-ghost use Rattle.std.specs.Prelude.{◌≡◌, ℕ, ◌+◌, ◌/◌, ◌%◌, ◌<◌, map, is_some};
+ghost use Rattle.std.specs.Prelude.{◌≡◌, ℕ, ◌+◌, ◌/◌, ◌%◌, ◌<◌, List, length, map, is_some};
 ghost use Rattle.std.specs.List.{range_with_len};
-ghost use Rattle.jh_num.specs.Memory.{spelled};
-ghost use Rattle.jh_frames.specs.Memory.{byte_at, byte_in, holds, page_of, word_in};
+ghost use Rattle.jh_num.specs.Memory.{spelled, stored};
+ghost use Rattle.jh_frames.specs.Memory.{byte_at, byte_in, holds, page_of, word_in, FramesView, IsOwn};
+ghost use Rattle.jh_frames.specs.Lending.{with_page};
 
 use crate::frames::Frames;
 
@@ -22,4 +23,12 @@ pub fn a_word_is_spelled()
 /// A word depends on its eight bytes alone.
 pub fn equal_bytes_make_equal_words()
     ensures { (byte other : ℕ → ℕ) (at : ℕ) → ((k : ℕ) → k < 8 → other (at + k) ≡ byte (at + k)) → word_in other at ≡ word_in byte at }
+{}
+
+/// Once a page of the hypervisor's memory that was lent is given back, memory has its bytes there, and
+/// all else is as before.
+pub fn a_page_is_written_back()
+    ensures bytes { (memory : FramesView) (at : ℕ) (page : List ℕ) → IsOwn memory.own at 4096 → length page ≡ 4096 → (q : ℕ) → byte_at (with_page memory at page) q ≡ stored (byte_at memory) at page q }
+    ensures size { (memory : FramesView) (at : ℕ) (page : List ℕ) → IsOwn memory.own at 4096 → length page ≡ 4096 → length (with_page memory at page).own.bytes ≡ length memory.own.bytes }
+    ensures held { (memory : FramesView) (at : ℕ) (page : List ℕ) → IsOwn memory.own at 4096 → length page ≡ 4096 → (q : ℕ) → holds (with_page memory at page) q ≡ holds memory q }
 {}

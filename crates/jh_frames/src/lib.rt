@@ -10,7 +10,10 @@ mod own;
 mod page;
 
 pub use frames::Frames;
-pub use laws::{a_word_is_spelled, bytes_are_those_of_pages, equal_bytes_make_equal_words};
+pub use laws::{
+    a_page_is_written_back, a_word_is_spelled, bytes_are_those_of_pages,
+    equal_bytes_make_equal_words,
+};
 
 #[cfg(test)]
 mod tests;

@@ -28,6 +28,9 @@ impl Model for Own {
 }
 
 impl Own {
+    ghost use Rattle.std.specs.Borrow.{sem};
+    ghost use Rattle.jh_frames.specs.Lending.{LendsOwnPage};
+
     pub fn open(alloc: Global, base: u64, size: u64) -> Result<Self, NoMemory>
         requires aligned { base % 4096 ≡ 0 }
         requires whole { size % 4096 ≡ 0 }
@@ -144,5 +147,15 @@ impl Own {
     {
         let k = (at - self.base) as usize;
         &self.bytes[k..k + 4096]
+    }
+
+    /// The page at the place, to be written.
+    pub fn page_mut(&mut self, at: u64) -> &mut [u8]
+        requires { IsOwn self.old at 4096 }
+        ensures value { result.now ≡ slice_range self.old.bytes (at - self.old.base) (at - self.old.base + 4096) }
+        ensures* writes_back { sem 𝓛 (LendsOwnPage self.entry at result) }
+    {
+        let k = (at - self.base) as usize;
+        self.bytes.slice_mut(k..k + 4096)
     }
 }

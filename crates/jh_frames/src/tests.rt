@@ -1,8 +1,10 @@
 //! Borders of pages and of the hypervisor's range, the last place, words, and pages that are spare.
-ghost use Rattle.std.specs.Prelude.{◌≡◌, ◌+◌, ◌^◌, ◌≤◌, length};
+ghost use Rattle.std.specs.Prelude.{◌≡◌, ◌+◌, ◌^◌, ◌≤◌, ◌<◌, length};
 ghost use Rattle.jh_frames.specs.Memory.{IsOwn};
 
 use crate::Frames;
+use jh_num::NoMemory;
+use std::alloc::Global;
 use std::test::Fail;
 
 const BASE: u64 = 0x7fc0_0000;
@@ -106,5 +108,39 @@ fn a_page_is_lent(rt: HostRuntime) -> Result<(), Fail> {
     let page = memory.page(BASE + 0x1000);
     assert_eq!(rt; page.len(), 4096);
     assert_eq!(rt; page[1], 7);
+    Ok(())
+}
+
+/// Writes the byte at the index of the page, and tells the bytes of memory there and on both sides.
+fn write_lent(memory: &mut Frames, at: u64, index: usize, byte: u8) -> [u8; 3]
+    requires own { IsOwn memory.old.own at 4096 }
+    requires place { at + 4096 ≤ 2 ^ 39 }
+    requires above { 0 < at }
+    requires index { index < 4096 }
+{
+    let page = memory.page_mut(at);
+    page[index] = byte;
+    let place = at + index as u64;
+    [
+        memory.read(place - 1),
+        memory.read(place),
+        memory.read(place + 1),
+    ]
+}
+
+/// The bytes about that index of a page, which lies behind the byte 1 and begins with 2 and 3, once the
+/// byte was written there.
+fn lent(alloc: Global, index: usize, byte: u8) -> Result<[u8; 3], NoMemory>
+    requires { index < 4096 }
+{
+    let mut memory = Frames::open(alloc, BASE, 0x3000)?;
+    memory.write(BASE + 0xfff, &[1, 2, 3])?;
+    Ok(write_lent(&mut memory, BASE + 0x1000, index, byte))
+}
+
+#[test]
+fn a_lent_page_is_written(rt: HostRuntime) -> Result<(), Fail> {
+    assert_eq!(rt; lent(rt.alloc(), 0, 7)?, [1, 7, 3]);
+    assert_eq!(rt; lent(rt.alloc(), 0xfff, 8)?, [0, 8, 0]);
     Ok(())
 }

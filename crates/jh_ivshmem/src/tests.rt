@@ -1,11 +1,12 @@
 //! Links as their guests see them.
 
-ghost use Rattle.std.specs.Prelude.{◌≡◌, ◌%◌, ◌<◌, ◌≤◌};
+ghost use Rattle.std.specs.Prelude.{◌≡◌, ◌%◌, ◌<◌, ◌≤◌, ◌⊎◌};
 ghost use Rattle.jh_ivshmem.specs.Specs.{IsWithin};
 
 use crate::{EndpointSpec, Endpoints, Slot};
 use jh_num::NoMemory;
 use jh_vpci::FunctionSpec;
+use std::alloc::Global;
 use std::process::Abort;
 use std::test::Fail;
 
@@ -79,6 +80,32 @@ fn configure(rt: &impl Abort, links: &mut Endpoints, cell: u32, at: u16, value: 
     links.config_mut(cell, 0).write(at, 2, value);
 }
 
+/// Writes configuration space of cell 0's device by so many bytes.
+fn configure_by(rt: &impl Abort, links: &mut Endpoints, at: u16, width: u8, value: u32)
+    requires width { (width ≡ 1) ⊎ (width ≡ 2) ⊎ (width ≡ 4) }
+    requires aligned { at % width ≡ 0 }
+    requires within { at < 4096 }
+{
+    assert!(rt; links.has(0, 0));
+    links.config_mut(0, 0).write(at, width, value);
+}
+
+/// A word of the configuration space of cell 0's device.
+fn configured(rt: &impl Abort, links: &Endpoints, at: u16) -> u32
+    requires aligned { at % 4 ≡ 0 }
+    requires within { at < 4096 }
+{
+    assert!(rt; links.has(0, 0));
+    links.config(0, 0).read(at, 4)
+}
+
+/// Where the windows of cell 0's device begin.
+fn windows(rt: &impl Abort, links: &Endpoints) -> [Option<u64>; 2] {
+    assert!(rt; links.has(0, 0));
+    let space = links.config(0, 0);
+    [0, 1].map(|bar| space.window(bar).map(|window| window.start))
+}
+
 /// Masks or unmasks a vector.
 fn mask(rt: &impl Abort, links: &mut Endpoints, cell: u32, vector: u8, value: u32)
     requires { vector < 16 }
@@ -116,6 +143,115 @@ fn slot(id: u8, value: u32) -> Slot
         place: TABLE + 4 * u64::from(id),
         value,
     }
+}
+
+/// Cell 0's device is configured as a driver does it: its windows at two places, bus master, MSI-X on.
+fn set_up(rt: &impl Abort, links: &mut Endpoints) {
+    configure_by(rt, links, 0x10, 4, 0x1000_0000);
+    configure_by(rt, links, 0x14, 4, 0x1000_1000);
+    configure_by(rt, links, 0x04, 2, 0x6);
+    configure_by(rt, links, 0x62, 2, 0x8000);
+}
+
+#[test]
+fn registers_are_found_and_set_up(rt: HostRuntime) -> Result<(), Fail> {
+    let mut links = Endpoints::new(rt.alloc());
+    join(&rt, &mut links, 0, 0, 0, 2)?;
+    assert_eq!(rt; configured(&rt, &links, 0x00), 0x4106_110a);
+    assert_eq!(rt; configured(&rt, &links, 0x08), 0xff00_0100);
+    assert_eq!(rt; configured(&rt, &links, 0x40), 0x0020_6009);
+    configure_by(&rt, &mut links, 0x10, 4, 0xffff_ffff);
+    assert_eq!(rt; configured(&rt, &links, 0x10), 0xffff_f000);
+    set_up(&rt, &mut links);
+    assert_eq!(rt; configured(&rt, &links, 0x60), 0x8001_0011);
+    assert_eq!(rt;
+        windows(&rt, &links),
+        [Some(0x1000_0000), Some(0x1000_1000)]
+    );
+    Ok(())
+}
+
+/// What cell 0 takes after its device has rung the doorbell with the value.
+fn ring(rt: &impl Abort, links: &mut Endpoints, value: u32) -> Option<(u32, u8)> {
+    write(rt, links, 0, 0x0c, value);
+    links.take(0)
+}
+
+#[test]
+fn a_doorbell_raises_by_masks_count_and_one_shot(rt: HostRuntime) -> Result<(), Fail> {
+    let mut links = Endpoints::new(rt.alloc());
+    join(&rt, &mut links, 0, 0, 0, 2)?;
+    set_up(&rt, &mut links);
+    mask(&rt, &mut links, 0, 0, 0);
+    write(&rt, &mut links, 0, 0x08, 1);
+    assert_eq!(rt; ring(&rt, &mut links, 0), Some((0, 0)));
+    assert_eq!(rt; ring(&rt, &mut links, 1), None, "masked");
+    assert_eq!(rt; ring(&rt, &mut links, 2), None, "no such vector");
+    assert_eq!(rt; ring(&rt, &mut links, 0x1_0000), None, "no such peer");
+    configure_by(&rt, &mut links, 0x43, 1, 0x1);
+    assert_eq!(rt; ring(&rt, &mut links, 0), Some((0, 0)), "one-shot");
+    assert_eq!(rt; read(&rt, &links, 0, 0x08), 0);
+    assert_eq!(rt; ring(&rt, &mut links, 0), None, "interrupt control is off");
+    Ok(())
+}
+
+/// What is taken after the doorbell of an endpoint with so many vectors, all of them open, rang for the one.
+fn rung(rt: &impl Abort, alloc: Global, vectors: u8, v: u8) -> Result<Option<(u32, u8)>, NoMemory>
+    requires vectors { vectors ≤ 16 }
+    requires v { v ≤ 16 }
+{
+    let mut links = Endpoints::new(alloc);
+    join(rt, &mut links, 0, 0, 0, vectors)?;
+    open(rt, &mut links, 0);
+    if v < 16 {
+        mask(rt, &mut links, 0, v, 0);
+    }
+    Ok(ring(rt, &mut links, u32::from(v)))
+}
+
+#[test]
+fn the_last_vector_is_raised_and_none_past_it(rt: HostRuntime) -> Result<(), Fail> {
+    assert_eq!(rt; rung(&rt, rt.alloc(), 0, 0)?, Some((0, 0)));
+    assert_eq!(rt; rung(&rt, rt.alloc(), 0, 1)?, None);
+    assert_eq!(rt; rung(&rt, rt.alloc(), 1, 0)?, Some((0, 0)));
+    assert_eq!(rt; rung(&rt, rt.alloc(), 1, 1)?, None);
+    assert_eq!(rt; rung(&rt, rt.alloc(), 16, 15)?, Some((0, 15)));
+    assert_eq!(rt; rung(&rt, rt.alloc(), 16, 16)?, None);
+    Ok(())
+}
+
+/// What the cells 0, 1 and 2 take.
+fn taken(links: &mut Endpoints) -> [bool; 3] {
+    let zero = links.take(0).is_some();
+    let one = links.take(1).is_some();
+    let two = links.take(2).is_some();
+    [zero, one, two]
+}
+
+/// The cells 0, 1 and 2 join one link by those numbers, with interrupt control on.
+fn join_three(rt: &impl Abort, links: &mut Endpoints) -> Result<(), NoMemory> {
+    join(rt, links, 0, 0, 0, 0)?;
+    join(rt, links, 1, 0, 1, 0)?;
+    join(rt, links, 2, 0, 2, 0)?;
+    write(rt, links, 0, 0x08, 1);
+    write(rt, links, 1, 0x08, 1);
+    write(rt, links, 2, 0x08, 1);
+    Ok(())
+}
+
+#[test]
+fn of_three_peers_one_is_rung_and_two_are_told(rt: HostRuntime) -> Result<(), Fail> {
+    let mut links = Endpoints::new(rt.alloc());
+    join_three(&rt, &mut links)?;
+    write(&rt, &mut links, 0, 0x0c, 0x2_0000);
+    assert_eq!(rt; taken(&mut links), [false, false, true], "rung by another");
+    write(&rt, &mut links, 1, 0x0c, 0x1_0000);
+    assert_eq!(rt; taken(&mut links), [false, true, false], "rung by itself");
+    assert_eq!(rt; write(&rt, &mut links, 1, 0x10, 4), Some(slot(1, 4)));
+    assert_eq!(rt; taken(&mut links), [true, false, true], "told of a state");
+    assert_eq!(rt; leave(&rt, &mut links, 1), slot(1, 0));
+    assert_eq!(rt; taken(&mut links), [true, false, true], "told of a leaving");
+    Ok(())
 }
 
 #[test]

@@ -13,7 +13,7 @@ use Rattle.jh_cellcfg.specs.Regions.{has_address, has_size, is_page_mapped, is_c
 use Rattle.jh_mmio.specs.declared.hitting.Window.{Window}
 use Rattle.jh_mmio.specs.declared.hitting.Hitting.TheVariants.{Subpage, Ecam, Bar, Nothing}
 use Rattle.jh_mmio.specs.Index.{SharesNoAddress}
-use Rattle.jh_mmio.specs.Dispatch.{number_told, lies_between, is_at_closed, takes_all, lets_through, by_subpage, by_ecam, by_window, window_has, behind_regions, hitting}
+use Rattle.jh_mmio.specs.Dispatch.{number_told, IsLetThrough, lies_between, is_at_closed, takes_all, lets_through, by_subpage, by_ecam, by_window, window_has, behind_regions, hitting}
 use Rattle.jh_mmio.proofs.AccessLemmas.{byte_of}
 use Rattle.jh_mmio.proofs.IndexLemmas.{one_number}
 use Rattle.jh_mmio.proofs.HittingLemmas.{position_here, takes_all-has}
@@ -100,16 +100,43 @@ refusal_ends regions closed ecam windows at n write k r apart some is takes refu
     ∙ ap (λ (o : Option Region). cond (option_map_or (lets_through at n write) o false) (Subpage (number_told k)) Nothing) is
     ∙ ap (λ b. cond b (Subpage (number_told k)) Nothing) refuses
 
+-- a region of which a byte of the access is at a closed place doesn't have the access
+closed_lacks : (closed : ℕ → Bool) (at n : ℕ) (r : Region) (a : ℕ) → is_comm r ≡ false → at ≤ a → a < at + n → closed (place_in r a) ≡ true → takes_all closed at n r ≡ true → ⊥
+closed_lacks closed at n r a comm low high shut takes =
+    let whole = and_parts (has_size r && not (is_page_mapped r)) (lies_between r.virt_start (virt_end r) at n && not (is_at_closed closed at n r)) takes in
+    let parts = and_parts (lies_between r.virt_start (virt_end r) at n) (not (is_at_closed closed at n r)) whole.1 in
+    let hit : list_any (λ x. closed (place_in r x)) (range_with_len at n) ≡ true = list_any-from_Contains (λ x. closed (place_in r x)) (range_with_len at n) a (byte_of at n a low high) shut in
+    let shut_there : is_at_closed closed at n r ≡ true = ap (λ b. not b && list_any (λ x. closed (place_in r x)) (range_with_len at n)) comm ∙ hit in
+    both_ways true (sym parts.1 ∙ ap not shut_there) refl
+
+-- so does none of the number's
+closed_lacks_at : (regions : List Region) (closed : ℕ → Bool) (at n k : ℕ) (r : Region) (a : ℕ) → slice_get regions k ≡ Some r → is_comm r ≡ false → at ≤ a → a < at + n → closed (place_in r a) ≡ true
+    → (j : ℕ) (s : Region) → slice_get regions j ≡ Some s → takes_all closed at n s ≡ true → j ≡ k → ⊥
+closed_lacks_at regions closed at n k r a is comm low high shut j s there takes number =
+    let same : s ≡ r = same_Some s r (sym there ∙ ap (slice_get regions) number ∙ is) in
+    closed_lacks closed at n r a comm low high shut (sym (ap (takes_all closed at n) same) ∙ takes)
+
+pub closed_another : (regions : List Region) (closed : ℕ → Bool) (ecam : Range) (windows : List Window) (at n : ℕ) (write : Bool) (k : ℕ) (r : Region) (a : ℕ) → slice_get regions k ≡ Some r → is_comm r ≡ false
+    → at ≤ a → a < at + n → closed (place_in r a) ≡ true → (told : ℕ) → hitting regions closed ecam windows at n write ≡ Subpage told
+    → (j : ℕ) × (j ≡ k → ⊥) × (told ≡ number_told j) × IsLetThrough regions closed at n write j
+closed_another regions closed ecam windows at n write k r a is comm low high shut told h =
+    let answer = it_answers regions closed ecam windows at n write told h in
+    (answer.0, closed_lacks_at regions closed at n k r a is comm low high shut answer.0 answer.1 answer.3 answer.4, answer.2, (answer.1, answer.3, answer.4, answer.5))
+
+-- a number before the last one is told of one region alone
+told_once : (j k : ℕ) → k < 0xffffffff → k ≡ number_told j → j ≡ k
+told_once j k below h = omega arith
+
+pub closed_own : (regions : List Region) (closed : ℕ → Bool) (ecam : Range) (windows : List Window) (at n : ℕ) (write : Bool) (k : ℕ) (r : Region) (a : ℕ) → slice_get regions k ≡ Some r → is_comm r ≡ false
+    → at ≤ a → a < at + n → closed (place_in r a) ≡ true → k < 0xffffffff → hitting regions closed ecam windows at n write ≡ Subpage k → ⊥
+closed_own regions closed ecam windows at n write k r a is comm low high shut below h =
+    let other = closed_another regions closed ecam windows at n write k r a is comm low high shut k h in
+    other.1 (told_once other.0 k below other.2)
+
 pub closed_none : (regions : List Region) (closed : ℕ → Bool) (ecam : Range) (windows : List Window) (at n : ℕ) (write : Bool) (k : ℕ) (r : Region) (a : ℕ) → AllPairs SharesNoAddress regions → slice_get regions k ≡ Some r → IsTrue (has_address r at) → is_comm r ≡ false
     → at ≤ a → a < at + n → closed (place_in r a) ≡ true → (told : ℕ) → hitting regions closed ecam windows at n write ≡ Subpage told → ⊥
 closed_none regions closed ecam windows at n write k r a apart is has comm low high shut told h =
     let answer = it_answers regions closed ecam windows at n write told h in
     let some : 0 < n = omega arith in
     let number : k ≡ answer.0 = one_number regions answer.0 k answer.1 r at apart answer.3 is (takes_all-has closed at n answer.1 some answer.4) has in
-    let same : answer.1 ≡ r = same_Some answer.1 r (sym answer.3 ∙ sym (ap (slice_get regions) number) ∙ is) in
-    let takes : takes_all closed at n r ≡ true = sym (ap (takes_all closed at n) same) ∙ answer.4 in
-    let whole = and_parts (has_size r && not (is_page_mapped r)) (lies_between r.virt_start (virt_end r) at n && not (is_at_closed closed at n r)) takes in
-    let parts = and_parts (lies_between r.virt_start (virt_end r) at n) (not (is_at_closed closed at n r)) whole.1 in
-    let hit : list_any (λ x. closed (place_in r x)) (range_with_len at n) ≡ true = list_any-from_Contains (λ x. closed (place_in r x)) (range_with_len at n) a (byte_of at n a low high) shut in
-    let shut_there : is_at_closed closed at n r ≡ true = ap (λ b. not b && list_any (λ x. closed (place_in r x)) (range_with_len at n)) comm ∙ hit in
-    both_ways true (sym parts.1 ∙ ap not shut_there) refl
+    closed_lacks_at regions closed at n k r a is comm low high shut answer.0 answer.1 answer.3 answer.4 (sym number)

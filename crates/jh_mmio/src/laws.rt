@@ -7,7 +7,7 @@ ghost use Rattle.jh_cellcfg.specs.Regions.{has_address, is_comm, place_in};
 ghost use Rattle.jh_mmio.specs.declared.hitting.Window.{Window as TheWindow};
 ghost use Rattle.jh_mmio.specs.declared.hitting.Hitting.TheVariants.{Subpage as TheSubpage, Nothing as NoAnswer};
 ghost use Rattle.jh_mmio.specs.Index.{SharesNoAddress};
-ghost use Rattle.jh_mmio.specs.Dispatch.{number_told, takes_all, lets_through, hitting};
+ghost use Rattle.jh_mmio.specs.Dispatch.{number_told, takes_all, lets_through, IsLetThrough, hitting};
 
 /// The region that answers has the whole access and lets it through, and where no two regions share an
 /// address no other has the first byte.
@@ -22,8 +22,11 @@ pub fn a_region_that_refuses_ends_the_search()
     ensures { (regions : List TheRegion) (closed : ℕ → Bool) (ecam : TheRange) (windows : List TheWindow) (at width : ℕ) (write : Bool) (k : ℕ) (r : TheRegion) → AllPairs SharesNoAddress regions → 0 < width → slice_get regions k ≡ Some r → takes_all closed at width r ≡ true → lets_through at width write r ≡ false → hitting regions closed ecam windows at width write ≡ NoAnswer }
 {}
 
-/// Where a byte of the access is at a closed place of the region that has the first one, no subpage
-/// region answers.
+/// A region of which a byte of the access is at a closed place doesn't answer it, whatever the other
+/// regions are; where the answer tells the last number, which many share, it is another region's. Where
+/// no two regions share an address and this one has the first byte, no subpage region answers at all.
 pub fn a_closed_byte_is_no_subpage_access()
-    ensures { (regions : List TheRegion) (closed : ℕ → Bool) (ecam : TheRange) (windows : List TheWindow) (at width : ℕ) (write : Bool) (k : ℕ) (r : TheRegion) (a : ℕ) → AllPairs SharesNoAddress regions → slice_get regions k ≡ Some r → IsTrue (has_address r at) → is_comm r ≡ false → at ≤ a → a < at + width → closed (place_in r a) ≡ true → (told : ℕ) → hitting regions closed ecam windows at width write ≡ TheSubpage told → ⊥ }
+    ensures own { (regions : List TheRegion) (closed : ℕ → Bool) (ecam : TheRange) (windows : List TheWindow) (at width : ℕ) (write : Bool) (k : ℕ) (r : TheRegion) (a : ℕ) → slice_get regions k ≡ Some r → is_comm r ≡ false → at ≤ a → a < at + width → closed (place_in r a) ≡ true → k < 0xffffffff → hitting regions closed ecam windows at width write ≡ TheSubpage k → ⊥ }
+    ensures another { (regions : List TheRegion) (closed : ℕ → Bool) (ecam : TheRange) (windows : List TheWindow) (at width : ℕ) (write : Bool) (k : ℕ) (r : TheRegion) (a : ℕ) → slice_get regions k ≡ Some r → is_comm r ≡ false → at ≤ a → a < at + width → closed (place_in r a) ≡ true → (told : ℕ) → hitting regions closed ecam windows at width write ≡ TheSubpage told → (j : ℕ) × (j ≡ k → ⊥) × (told ≡ number_told j) × IsLetThrough regions closed at width write j }
+    ensures none { (regions : List TheRegion) (closed : ℕ → Bool) (ecam : TheRange) (windows : List TheWindow) (at width : ℕ) (write : Bool) (k : ℕ) (r : TheRegion) (a : ℕ) → AllPairs SharesNoAddress regions → slice_get regions k ≡ Some r → IsTrue (has_address r at) → is_comm r ≡ false → at ≤ a → a < at + width → closed (place_in r a) ≡ true → (told : ℕ) → hitting regions closed ecam windows at width write ≡ TheSubpage told → ⊥ }
 {}

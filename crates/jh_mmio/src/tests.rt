@@ -149,6 +149,25 @@ fn registers_answer_by_width_right_and_alignment(rt: HostRuntime) -> Result<(), 
 }
 
 #[test]
+fn each_side_of_a_border_is_anothers(rt: HostRuntime) -> Result<(), Fail> {
+    let index = RegionIndex::new(rt.alloc(), &REGIONS)?;
+    let open = ByteSet::new(rt.alloc());
+    let registers = [ON_UART, NOTHING, ON_UART, NOTHING];
+    reads(&rt, &index, &open, 0x900_0000, registers);
+    reads(&rt, &index, &open, 0x900_0044, registers);
+    let last = [ON_UART, NOTHING, NOTHING, NOTHING];
+    reads(&rt, &index, &open, 0x900_0045, last);
+    let behind = [NOTHING, NOTHING, OVER, NOTHING];
+    reads(&rt, &index, &open, 0x900_005f, [NOTHING; 4]);
+    reads(&rt, &index, &open, 0x900_0060, behind);
+    reads(&rt, &index, &open, 0x900_0070, [NOTHING; 4]);
+    reads(&rt, &index, &open, 0x5000_1080, [NOTHING; 4]);
+    let byte = [CONFIG, NOTHING, NOTHING, NOTHING];
+    reads(&rt, &index, &open, 0x7010_0001, byte);
+    Ok(())
+}
+
+#[test]
 fn configuration_space_counts_from_its_windows_start(rt: HostRuntime) -> Result<(), Fail> {
     let index = RegionIndex::new(rt.alloc(), &REGIONS)?;
     let open = ByteSet::new(rt.alloc());
