@@ -20,6 +20,12 @@ pub mod SoundStepLemmas
 pub mod SoundDecideLemmas
 pub mod SoundCommitLemmas
 pub mod SoundLemmas
+pub mod DuePhaseLemmas
+pub mod DueDecideLemmas
+pub mod DueComesLemmas
+pub mod DuePageLemmas
+pub mod DueReachLemmas
+pub mod DueFewLemmas
 pub mod GrantedLemmas
 pub mod CountLemmas
 pub mod LoopLemmas

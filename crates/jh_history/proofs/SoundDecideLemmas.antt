@@ -240,13 +240,13 @@ absent-unnamed image configs cpu call i owned about off =
     let has = owned.cells about.0 about.1 in
     both_ways (is_on_board image i) off (has.board i (has.named i (named-same call (cpu i).owner about.0.id yes about.2))))
 
-settled_owner : (agreed : Bool) (call : Call) (cpu : Cpu) → (settled agreed call cpu).owner ≡ cpu.owner
-settled_owner agreed call cpu =
+pub settled-owner : (agreed : Bool) (call : Call) (cpu : Cpu) → (settled agreed call cpu).owner ≡ cpu.owner
+settled-owner agreed call cpu =
     let same : Cpu → Type 0 = λ c. c.owner ≡ cpu.owner in
     cond_both (agreed && is_named call cpu.owner && is_running cpu.mode) (asked_of cpu) cpu same (λ _. refl) (λ _. refl)
 
 pub owned-settled : (image : Image) (configs : List CellConfig) (cpu : ℕ → Cpu) (agreed : Bool) (call : Call) → AreOwned image configs cpu → AreOwned image configs (λ i. settled agreed call (cpu i))
-owned-settled image configs cpu agreed call owned = owned-kept image configs cpu (λ i. settled agreed call (cpu i)) (λ i. settled_owner agreed call (cpu i)) owned
+owned-settled image configs cpu agreed call owned = owned-kept image configs cpu (λ i. settled agreed call (cpu i)) (λ i. settled-owner agreed call (cpu i)) owned
 
 -- only CPUs of the cell that the call is about are asked
 settled_other : (call : Call) (cpu : Cpu) → is_named call cpu.owner ≡ false → settled true call cpu ≡ cpu
@@ -269,7 +269,7 @@ open_agreed image configs cpu caller waited call sound owned opens =
     let about : IsAboutLive configs call = opens.phase in
     let unnamed : is_named call root ≡ false = root-unnamed image.system configs call sound about in
     let roots_same : (i : ℕ) → (cpu i).owner ≡ root → settled true call (cpu i) ≡ cpu i = λ i is. settled_other call (cpu i) (ap (is_named call) is ∙ unnamed) in
-    let owner : (i : ℕ) → (settled true call (cpu i)).owner ≡ (cpu i).owner = λ i. settled_owner true call (cpu i) in
+    let owner : (i : ℕ) → (settled true call (cpu i)).owner ≡ (cpu i).owner = λ i. settled-owner true call (cpu i) in
     record {
       caller = subst (IsCaller image caller call) (sym (roots_same caller opens.caller.owner)) opens.caller;
       roots = λ i on other is. let was : (cpu i).owner ≡ root = sym (owner i) ∙ is in subst IsHalted (sym (roots_same i was)) (opens.roots i on other was);

@@ -88,13 +88,13 @@ open-mild image configs cpu o change own cell mild opens on other goes =
 
 -- ---- the beginning of a call
 
-begun_owner : (image : Image) (own i : ℕ) (cpu : Cpu) → (begun image own i cpu).owner ≡ cpu.owner
-begun_owner image own i cpu =
+pub begun-owner : (image : Image) (own i : ℕ) (cpu : Cpu) → (begun image own i cpu).owner ≡ cpu.owner
+begun-owner image own i cpu =
     let same : Cpu → Type 0 = λ c. c.owner ≡ cpu.owner in
     cond_both (is_on_board image i && not (eqb i own) && eqb cpu.owner image.system.root.id && is_running cpu.mode) (asked_of cpu) cpu same (λ _. refl) (λ _. refl)
 
 pub owned-begun : (image : Image) (configs : List CellConfig) (cpu : ℕ → Cpu) (own : ℕ) → AreOwned image configs cpu → AreOwned image configs (λ i. begun image own i (cpu i))
-owned-begun image configs cpu own owned = owned-kept image configs cpu (λ i. begun image own i (cpu i)) (λ i. begun_owner image own i (cpu i)) owned
+owned-begun image configs cpu own owned = owned-kept image configs cpu (λ i. begun image own i (cpu i)) (λ i. begun-owner image own i (cpu i)) owned
 
 begun_not : (image : Image) (own i : ℕ) (cpu : Cpu) → (is_on_board image i && not (eqb i own) && eqb cpu.owner image.system.root.id && is_running cpu.mode) ≡ false → begun image own i cpu ≡ cpu
 begun_not image own i cpu fails = rw fails refl
@@ -137,8 +137,8 @@ open-begun image configs cpu own code a b calm on root goes at management =
     record { board = on; owner = root; running = running-mode (cpu own) (goes-running (cpu own) goes); calm = calm own; code = code; a = a; b = b; at = at; asks = refl; management = management } in
     record {
       caller = subst (IsCaller image own (decoded code a b)) (sym (begun_own image own (cpu own))) caller;
-      roots = λ i here other is. begun_root image own i (cpu i) (is_running (cpu i).mode) refl here other (sym (begun_owner image own i (cpu i)) ∙ is) (calm i);
-      cells = λ i is. subst IsCalm (sym (begun_cells image own i (cpu i) (λ e. is (begun_owner image own i (cpu i) ∙ e)))) (calm i);
+      roots = λ i here other is. begun_root image own i (cpu i) (is_running (cpu i).mode) refl here other (sym (begun-owner image own i (cpu i)) ∙ is) (calm i);
+      cells = λ i is. subst IsCalm (sym (begun_cells image own i (cpu i) (λ e. is (begun-owner image own i (cpu i) ∙ e)))) (calm i);
       absent = λ i off. subst IsCalm (sym (begun_absent image own i (cpu i) off)) (calm i);
       phase = tt;
     }
@@ -150,14 +150,14 @@ resumed_owner root cpu =
     let same : Cpu → Type 0 = λ c. c.owner ≡ cpu.owner in
     cond_both (eqb cpu.owner root) (resumed cpu) cpu same (λ _. refl) (λ _. refl)
 
-finished_owner : (image : Image) (own i : ℕ) (cpu : Cpu) → (finished image own i cpu).owner ≡ cpu.owner
-finished_owner image own i cpu =
+pub finished-owner : (image : Image) (own i : ℕ) (cpu : Cpu) → (finished image own i cpu).owner ≡ cpu.owner
+finished-owner image own i cpu =
     let same : Cpu → Type 0 = λ c. c.owner ≡ cpu.owner in
     let there : Cpu = resumed_in image.system.root.id cpu in
     cond_both (eqb i own) (moved there) there same (λ _. resumed_owner image.system.root.id cpu) (λ _. resumed_owner image.system.root.id cpu)
 
 pub owned-finished : (image : Image) (configs : List CellConfig) (cpu : ℕ → Cpu) (own : ℕ) → AreOwned image configs cpu → AreOwned image configs (λ i. finished image own i (cpu i))
-owned-finished image configs cpu own owned = owned-kept image configs cpu (λ i. finished image own i (cpu i)) (λ i. finished_owner image own i (cpu i)) owned
+owned-finished image configs cpu own owned = owned-kept image configs cpu (λ i. finished image own i (cpu i)) (λ i. finished-owner image own i (cpu i)) owned
 
 -- whether the CPU comes back is asked of root's alone
 resumed_calm : (root : ℕ) (cpu : Cpu) → cpu.asked ≡ false → (cpu.owner ≢ root → IsCalm cpu) → IsCalm (resumed_in root cpu)

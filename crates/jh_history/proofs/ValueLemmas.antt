@@ -46,7 +46,7 @@ pub fits-alone : (v n : ℕ) → v < 256 ^ (0 + n) → v < 256 ^ n
 fits-alone v n h = let e : 0 + n ≡ n = omega arith in let P : ℕ → Type 0 = λ m. v < 256 ^ m in subst P e h
 
 -- a run has so many places
-row-length : (p : Place) (n : ℕ) → length (places_in_row p n) ≡ n
+pub row-length : (p : Place) (n : ℕ) → length (places_in_row p n) ≡ n
 row-length p zero = refl
 row-length p (suc n) = ap suc (row-length (further p 1) n)
 

@@ -1,6 +1,6 @@
 -- What holds after every legal journal of an admitted image: of the cells that live, of whose the CPUs are, and
 -- of the management call that is open.
-use Rattle.std.specs.Prelude.{◌≡◌, ◌≢◌, ◌⊎◌, ◌≤◌, ℕ, ℤ, pos, true, false, List, [], ◌∷◌, ◌++◌, Contains, AllPairs, Option, Some, None, slice_get}
+use Rattle.std.specs.Prelude.{◌≡◌, ◌≢◌, ◌⊎◌, ◌≤◌, ◌<◌, ℕ, ℤ, pos, true, false, List, [], ◌∷◌, ◌++◌, All, Contains, AllPairs, Option, Some, None, slice_get}
 use Rattle.jh_cellcfg.specs.declared.config.CellConfig.{CellConfig}
 use Rattle.jh_cellcfg.specs.declared.config.SystemConfig.{SystemConfig}
 use Rattle.jh_cellcfg.specs.Cells.{name_of, is_cpu_set, is_passive}
@@ -13,6 +13,7 @@ use Rattle.jh_call.specs.declared.call.Call.{Call}
 use Rattle.jh_call.specs.declared.call.Call.TheVariants.{Create, Destroy}
 use Rattle.jh_call.specs.Calls.{decoded, is_management}
 use Rattle.jh_script.specs.declared.image.Image.{Image}
+use Rattle.jh_script.specs.declared.image.Preload.{Preload}
 use Rattle.jh_script.specs.declared.op.Op.TheVariants.{Hvc as HvcOp}
 use Rattle.jh_history.specs.declared.call.OpenCall.{OpenCall}
 use Rattle.jh_history.specs.declared.call.Phase.{Phase}
@@ -165,3 +166,14 @@ pub record IsSound (image : Image) (facts : Facts) : Type 0 where
   pub cells : AreSoundCells image.system (configs_of facts.cells)
   pub cpus : AreOwned image (configs_of facts.cells) facts.cpu
   pub call : IsSoundCall image (configs_of facts.cells) facts.cpu facts.call
+
+-- ---- bytes
+
+-- the numbers are bytes
+abbrev pub AreBytes : List ℕ → Type 0
+AreBytes numbers = All (λ (b : ℕ). b < 256) numbers
+
+-- what an image holds as bytes are bytes: so it is of each image that a program can have
+pub record HasBytes (image : Image) : Type 0 where
+  pub set : AreBytes image.system.root.cpu_set
+  pub preloads : All (λ (p : Preload). AreBytes p.bytes) image.preloads

@@ -30,7 +30,6 @@ use Rattle.jh_history.specs.Calls.{is_named, counted, one_more, telling, first_t
 use Rattle.jh_history.specs.Configs.{ReadCell, config_read}
 use Rattle.jh_history.specs.History.{start, after, facts, coming_of, coming_by}
 use Rattle.jh_history.specs.Phases.{phase_act, configs_of, settled_of, heard_of, decision, keeps_decide, keeps_commit}
-use Rattle.jh_history.specs.Wants.{goes_on}
 use Rattle.jh_history.specs.Due.{due_at, due, is_idle_but, IsLegal, IsLegalFrom}
 use Rattle.jh_history.proofs.FactsLemmas.{facts-push}
 use Rattle.jh_history.proofs.LegalLemmas.{due-split, IsLegal-begin, IsLegal-rest}
@@ -48,7 +47,7 @@ use Rattle.jh_history.proofs.SoundLemmas.{sound-after, legal-sound}
 pub record IsBeside (image : Image) (f : Facts) (o : OpenCall) (entry : Entry) : Type 0 where
   pub other : entry.cpu ≢ o.caller
   pub act : is_call entry.act ≡ false
-  pub who : (((f.cpu entry.cpu).asked ≡ true) × (Stop ≡ entry.act)) ⊎ ((goes_on (f.cpu entry.cpu) ≡ true) × ((f.cpu entry.cpu).owner ≢ image.system.root.id))
+  pub who : (((f.cpu entry.cpu).asked ≡ true) × (Stop ≡ entry.act)) ⊎ (IsOfProgram image f (f.cpu entry.cpu) entry.cpu entry.act × ((f.cpu entry.cpu).owner ≢ image.system.root.id))
 
 abbrev pub IsEntryOf : Image → Facts → OpenCall → Entry → Type 0
 IsEntryOf image f o entry =
@@ -81,7 +80,7 @@ entry_of_parts image f o entry opens next h =
     (λ stops. inr (record { other = other.0; act = ap is_call (sym stops.1); who = inl stops }))
     (λ (program : IsOfProgram image f (f.cpu entry.cpu) entry.cpu entry.act).
     let apart : (f.cpu entry.cpu).owner ≢ image.system.root.id = λ is. come-rests o.phase (f.cpu entry.cpu) (opens.roots entry.cpu next.board other.0 is) program.goes in
-    inr (record { other = other.0; act = no_call image (f.cpu entry.cpu).owner program.op entry.act apart program.comes; who = inr (program.goes, apart) }))
+    inr (record { other = other.0; act = no_call image (f.cpu entry.cpu).owner program.op entry.act apart program.comes; who = inr (program, apart) }))
     other.1)
     h
 
@@ -315,7 +314,7 @@ pub record IsPhaseOf (image : Image) (f : Facts) (entry : Entry) : Type 0 where
   pub caller : o.caller ≡ entry.cpu
   pub act : phase_act image f (is_idle_but image f o.caller) o.caller o.call o.phase ≡ Some entry.act
 
-phase_call : (act : Act) → is_phase act ≡ true → is_call act ≡ true
+pub phase_call : (act : Act) → is_phase act ≡ true → is_call act ≡ true
 phase_call (Decide refused) h = refl
 phase_call (Settle how) h = refl
 phase_call Commit h = refl
@@ -492,7 +491,7 @@ past-other image f o entry sound is past due other root =
     (entry-of_call image f o entry sound is due)
 
 -- two acts that a test tells apart
-not_same : (test : Act → Bool) (one other : Act) → test one ≡ true → test other ≡ false → one ≡ other → ⊥
+pub not_same : (test : Act → Bool) (one other : Act) → test one ≡ true → test other ≡ false → one ≡ other → ⊥
 not_same test one other passes fails same = both_ways (test other) fails (sym (ap test same) ∙ passes)
 
 never_behind_go : (call : Call) → IsBehindGo call (Decide None) → ⊥
@@ -549,7 +548,7 @@ never_decide call (Hvc code a b answer) phase h = h
 never_decide call Stop phase h = h
 
 -- so behind each phase the call is past it
-past_from : (call : Call) (act : Act) (phase : Phase) → is_phase act ≡ true → ((next : Act) → Expects phase next → MayFollow call act next) → IsPast phase
+pub past_from : (call : Call) (act : Act) (phase : Phase) → is_phase act ≡ true → ((next : Act) → Expects phase next → MayFollow call act next) → IsPast phase
 past_from call act ToDecide is h = never_decide call act is (h (Decide None) (None, refl))
 past_from call act (ToSettle waited) is h = tt
 past_from call act (ToCreate config) is h = tt
@@ -567,7 +566,7 @@ past_counted cell call (ToNote id about answer) past = tt
 past_counted cell call (ToNoted id about answer waited) past = cond_both (eqb cell id) (ToNoted id about answer (one_more waited)) (ToNoted id about answer waited) IsPast (λ _. tt) (λ _. tt)
 past_counted cell call (ToFinish answer) past = tt
 
-phase_expected : (phase : Phase) (act : Act) → Expects phase act → is_phase act ≡ true
+pub phase_expected : (phase : Phase) (act : Act) → Expects phase act → is_phase act ≡ true
 phase_expected ToDecide act h = ap is_phase h.1
 phase_expected (ToSettle waited) act h = ap is_phase h.1
 phase_expected (ToCreate config) act h = ap is_phase h
@@ -651,7 +650,7 @@ committing_stops image call f entry sound committing due named =
     (λ (beside : IsBeside image f o entry).
     ⊎_elim
     (λ stops. sym stops.1)
-    (λ goes. absurd (halting-rests (f.cpu entry.cpu) ((opens.cells entry.cpu apart).0 (ap (is_named call) (sym next.cell) ∙ named)) goes.0))
+    (λ goes. absurd (halting-rests (f.cpu entry.cpu) ((opens.cells entry.cpu apart).0 (ap (is_named call) (sym next.cell) ∙ named)) goes.0.goes))
     beside.who)
     (entry-of_call image f o entry sound committing.1 due)
 
@@ -783,3 +782,35 @@ suspended-cells image before middle rest first settle last admitted legal agreed
     let end = along image (IsCommitting o.call) (λ (e : Entry). is_commit e.act ≡ false) (committing_kept image o.call) f middle
     (sound-after image f0 settle s.sound s.first_due) (o.caller, settled_call image f0 o settle how.0 of.opens how.1 how.2) s.between others in
     committing_stops image o.call (fold (after image) f middle) last end.0 end.1 s.last_due (ap (λ (k : Call). is_named k last.cell) (sym call) ∙ named)
+
+-- ---- what an entry is
+
+-- an entry that is due is a stop, an operation of its CPU's program, or a phase of a call
+pub data IsMadeBy (image : Image) (f : Facts) (entry : Entry) : Type 0 where
+  Stopping : Stop ≡ entry.act → IsMadeBy image f entry
+  Running : IsOfProgram image f (f.cpu entry.cpu) entry.cpu entry.act → IsMadeBy image f entry
+  Calling : is_phase entry.act ≡ true → IsMadeBy image f entry
+
+made_none : (image : Image) (f : Facts) (entry : Entry) → due_at image (with_call f None) entry.cpu ≡ Some entry → IsMadeBy image (with_call f None) entry
+made_none image f entry due =
+    let next = next-from_due image (with_call f None) entry due in
+    ⊎_elim
+    (λ stops. Stopping stops.1)
+    (λ (program : IsOfProgram image (with_call f None) (f.cpu entry.cpu) entry.cpu entry.act). Running program)
+    (state-parts image (with_call f None) (f.cpu entry.cpu) entry.cpu entry.act next.act)
+
+made_some : (image : Image) (f : Facts) (o : OpenCall) (entry : Entry) → IsSound image f → f.call ≡ Some o → due_at image f entry.cpu ≡ Some entry → IsMadeBy image f entry
+made_some image f o entry sound is due =
+    ⊎_elim
+    (λ made. Calling (phase_expected o.phase entry.act (phase-expects image f (is_idle_but image f o.caller) o.caller o.call o.phase entry.act made.1)))
+    (λ (beside : IsBeside image f o entry). ⊎_elim (λ stops. Stopping stops.1) (λ goes. Running goes.0) beside.who)
+    (entry-of_call image f o entry sound is due)
+
+made_by_call : (image : Image) (f : Facts) (entry : Entry) (call : Option OpenCall) → IsSound image f → f.call ≡ call → due_at image f entry.cpu ≡ Some entry → IsMadeBy image f entry
+made_by_call image f entry None sound is due =
+    let P : Option OpenCall → Type 0 = λ c. due_at image (with_call f c) entry.cpu ≡ Some entry → IsMadeBy image (with_call f c) entry in
+    subst P (sym is) (made_none image f entry) due
+made_by_call image f entry (Some o) sound is due = made_some image f o entry sound is due
+
+pub made-by : (image : Image) (f : Facts) (entry : Entry) → IsSound image f → due_at image f entry.cpu ≡ Some entry → IsMadeBy image f entry
+made-by image f entry sound due = made_by_call image f entry f.call sound refl due

@@ -8,3 +8,13 @@ pub mod CpuLemmas
 pub mod ReadyLemmas
 pub mod RunLemmas
 pub mod CallLemmas
+pub mod HeldLemmas
+pub mod HvcLemmas
+pub mod QuietLemmas
+pub mod CommitLemmas
+pub mod FewCellsLemmas
+pub mod FewLemmas
+pub mod PlacesHeldLemmas
+pub mod DecisionLemmas
+pub mod WrittenLemmas
+pub mod StatesLemmas

@@ -46,11 +46,11 @@ places_from-some f at (suc count) each =
     (first.0 ∷ rest.0, rw (here, others) refl)
 
 -- a test for one place
-same_place : (p q : Place) → is_same p q ≡ true → p ≡ q
-same_place (Physical p) (Physical q) h = ap Physical (eqb-true p q h)
-same_place (Physical p) (Page cell offset) h = absurd (false≢true h)
-same_place (Page cell offset) (Physical q) h = absurd (false≢true h)
-same_place (Page cell offset) (Page other at) h =
+pub same-place : (p q : Place) → is_same p q ≡ true → p ≡ q
+same-place (Physical p) (Physical q) h = ap Physical (eqb-true p q h)
+same-place (Physical p) (Page cell offset) h = absurd (false≢true h)
+same-place (Page cell offset) (Physical q) h = absurd (false≢true h)
+same-place (Page cell offset) (Page other at) h =
     let parts = and_parts (eqb cell other) (eqb offset at) h in
     ap (λ (c : ℕ). Page c offset) (eqb-true cell other parts.0) ∙ ap (Page other) (eqb-true offset at parts.1)
 
@@ -63,7 +63,7 @@ is_same-eq p q e = ap (is_same p) (sym e) ∙ is_same_self p
 
 is_same-ne : (p q : Place) → p ≢ q → is_same p q ≡ false
 is_same-ne p q ne = elim (cases_Bool (is_same p q)) [
-  | inl alike ↦ absurd (ne (same_place p q alike))
+  | inl alike ↦ absurd (ne (same-place p q alike))
   | inr unlike ↦ unlike
 ]
 

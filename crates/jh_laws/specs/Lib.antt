@@ -7,3 +7,8 @@ pub mod Operations
 pub mod Runs
 pub mod Moments
 pub mod Ways
+pub mod Held
+pub mod Hypercalls
+pub mod Decisions
+pub mod Written
+pub mod States

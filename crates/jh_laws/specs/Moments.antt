@@ -2,6 +2,7 @@
 -- open after entries of one.
 use Rattle.std.specs.Prelude.{ℕ, List, [], ◌∷◌, ◌++◌, Option}
 use Rattle.jh_cellcfg.specs.declared.config.CellConfig.{CellConfig}
+use Rattle.jh_cpu.specs.declared.cpu.Cpu.{Cpu}
 use Rattle.jh_script.specs.declared.image.Image.{Image}
 use Rattle.jh_history.specs.declared.call.OpenCall.{OpenCall}
 use Rattle.jh_history.specs.declared.entry.Entry.{Entry}
@@ -60,3 +61,10 @@ call_before m = (facts_before m).call
 
 abbrev pub call_behind : AdmittedMoment → Option OpenCall
 call_behind m = (facts_behind m).call
+
+-- the state of the CPU
+abbrev pub state_before : AdmittedMoment → ℕ → Cpu
+state_before m cpu = (facts_before m).cpu cpu
+
+abbrev pub state_behind : AdmittedMoment → ℕ → Cpu
+state_behind m cpu = (facts_behind m).cpu cpu

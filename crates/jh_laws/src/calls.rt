@@ -1,12 +1,13 @@
 //! Management calls: which is open, who is suspended by it, and what may follow what in it.
-ghost use Rattle.std.specs.Prelude.{◌≡◌, ◌≢◌, ℕ, List, [], ◌∷◌, ◌++◌, Some, None, true, false, All};
+ghost use Rattle.std.specs.Prelude.{◌≡◌, ◌≢◌, ℕ, ℤ, Option, List, [], ◌∷◌, ◌++◌, Some, None, true, false, All};
 ghost use Rattle.jh_script.specs.declared.image.Image.{Image as TheImage};
 ghost use Rattle.jh_history.specs.declared.entry.Entry.{Entry as TheEntry};
-ghost use Rattle.jh_history.specs.declared.entry.Act.TheVariants.{Begin, Stop};
-ghost use Rattle.jh_history.specs.Due.{IsLegal};
+ghost use Rattle.jh_history.specs.declared.entry.Act.TheVariants.{Begin, Stop, Decide};
+ghost use Rattle.jh_history.specs.Due.{IsLegal, IsQuiet};
 ghost use Rattle.jh_history.specs.Admitted.{IsAdmitted};
 ghost use Rattle.jh_history.specs.Calls.{is_named};
-ghost use Rattle.jh_laws.specs.Moments.{AdmittedJournal, AdmittedMoment, call_of};
+ghost use Rattle.jh_laws.specs.Moments.{AdmittedJournal, AdmittedMoment, call_of, facts_before};
+ghost use Rattle.jh_laws.specs.Decisions.{IsDecision};
 ghost use Rattle.jh_laws.specs.Ways.{is_call, is_phase, is_decide, is_agreement, is_commit, is_finish, begun, call_begun, IsBegun, MayFollow};
 
 /// The call that is open is the last that was begun and not ended, and its CPU is the caller. None begins while
@@ -37,4 +38,17 @@ pub fn suspended_cpus_make_no_entry()
         IsLegal image (before ++ settle ∷ (middle ++ entry ∷ rest)) → is_agreement settle.act ≡ true →
         All (λ (e : TheEntry). is_commit e.act ≡ false) middle →
         begun before ≡ Some first → is_named (call_begun first.act) entry.cell ≡ true → entry.act ≡ Stop }
+{}
+
+/// While a call is open something is due: to its caller, or to a CPU that it waits for. So a quiet journal has no
+/// open call.
+pub fn quiet_journals_have_no_open_call()
+    ensures { (j : AdmittedJournal) → IsQuiet j.image j.entries → call_of j ≡ None }
+{}
+
+/// What a call is refused for at its Decide, by its cause, or that it goes on.
+pub fn calls_are_decided_by_their_cause()
+    ensures { (m : AdmittedMoment) (first : TheEntry) (refused : Option ℤ) → m.entry.act ≡ Decide refused →
+        begun m.before ≡ Some first →
+        IsDecision m.image (facts_before m) m.entry.cpu (call_begun first.act) refused }
 {}

@@ -1,20 +1,21 @@
 //! Which cells live, and whose the CPUs are.
-ghost use Rattle.std.specs.Prelude.{◌≡◌, ◌↔◌, ◌≤◌, ℕ, [], ◌∷◌, true, false, Contains, AllPairs};
+ghost use Rattle.std.specs.Prelude.{◌≡◌, ◌↔◌, ◌≤◌, ℕ, [], ◌∷◌, true, false, length, Contains, AllPairs};
 ghost use Rattle.jh_cellcfg.specs.declared.config.CellConfig.{CellConfig as TheConfig};
 ghost use Rattle.jh_cellcfg.specs.Cells.{is_cpu_set};
 ghost use Rattle.jh_check.specs.Findings.{findings};
 ghost use Rattle.jh_shape.specs.Pages.{pages_of};
 ghost use Rattle.jh_history.specs.Admitted.{pool_pages};
 ghost use Rattle.jh_history.specs.Lives.{is_on_board};
-ghost use Rattle.jh_history.specs.Sound.{AreTwo};
+ghost use Rattle.jh_history.specs.Sound.{AreTwo, HasBytes};
 ghost use Rattle.jh_laws.specs.Moments.{AdmittedJournal, cells_of, owner_of};
 
 /// The check finds nothing in the system with the cells that live, their pages are there, and of root and them no
-/// two have one name or one id.
+/// two have one name or one id. At most 15 live besides root, where what an image has as bytes are bytes.
 pub fn the_check_holds_of_live_cells()
     ensures findings { (j : AdmittedJournal) → findings j.image.system (cells_of j) ≡ [] }
     ensures pages { (j : AdmittedJournal) → pages_of j.image.system.root.memory_regions (cells_of j) ≤ pool_pages j.image.system }
     ensures differ { (j : AdmittedJournal) → AllPairs AreTwo (j.image.system.root ∷ cells_of j) }
+    ensures few { (j : AdmittedJournal) → HasBytes j.image → length (cells_of j) ≤ 15 }
 {}
 
 /// A CPU belongs to a live cell besides root exactly where that cell's set names it, and to root exactly where no

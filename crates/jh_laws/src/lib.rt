@@ -8,17 +8,26 @@ mod access;
 mod bytes;
 mod calls;
 mod cells;
+mod commits;
 mod cpus;
 mod due;
+mod held;
+mod hypercalls;
 mod items;
 mod order;
+mod states;
+mod writes;
 
 pub use access::{accesses_go_by_grants, root_is_granted_its_addresses};
 pub use bytes::{
     bytes_are_the_last_written, entries_write_their_bytes, memory_opens_with_the_preloads,
 };
-pub use calls::{calls_go_phase_by_phase, one_call_is_open, suspended_cpus_make_no_entry};
+pub use calls::{
+    calls_are_decided_by_their_cause, calls_go_phase_by_phase, one_call_is_open,
+    quiet_journals_have_no_open_call, suspended_cpus_make_no_entry,
+};
 pub use cells::{cpus_belong_to_live_cells, the_check_holds_of_live_cells};
+pub use commits::{cells_live_from_commit_to_commit, configurations_are_read_at_the_decide};
 pub use cpus::{
     cpus_open_at_their_beginning, entries_follow_the_program, entries_move_their_cpu,
     violations_end_their_cpu,
@@ -27,6 +36,11 @@ pub use due::{
     due_entries_are_their_cpus_own, programs_are_found_by_cell_and_cpu,
     ready_cpus_have_an_entry_due,
 };
+pub use held::{
+    accesses_end_as_granted, cells_are_granted_their_places, root_is_granted_the_rest,
+    what_a_cell_holds_is_its_own,
+};
+pub use hypercalls::hypercalls_are_answered_by_their_cause;
 pub use items::{
     items_run_until_one_is_cut_short, played_journals_are_legal, played_journals_are_quiet_or_full,
     rounds_are_of_the_boards_cpus,
@@ -35,3 +49,5 @@ pub use order::{
     beginnings_are_legal, cpus_determine_the_journal, legal_entries_are_due,
     nothing_extends_a_quiet_journal,
 };
+pub use states::{calls_change_cpus, entries_change_their_cpu};
+pub use writes::{bytes_are_as_last_written, entries_write_what_they_say};

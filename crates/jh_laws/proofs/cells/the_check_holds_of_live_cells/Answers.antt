@@ -1,6 +1,7 @@
 -- The cells are sound.
 use Rattle.jh_check.proofs.JoinLemmas.{nothing-from_clean}
 use Rattle.jh_laws.specs.Moments.{cells_of}
+use Rattle.jh_laws.proofs.FewCellsLemmas.{few-cells}
 use Rattle.jh_history.proofs.SoundLemmas.{legal-sound}
 use Rattle.jh_laws.proofs.cells.the_check_holds_of_live_cells.Goals as goal
 
@@ -12,3 +13,6 @@ returns-clause-pages c = λ j. (legal-sound j.image j.entries j.admitted j.legal
 
 pub returns-clause-differ : goal.returns-clause-differ
 returns-clause-differ c = λ j. (legal-sound j.image j.entries j.admitted j.legal).cells.differ
+
+pub returns-clause-few : goal.returns-clause-few
+returns-clause-few c = λ j bytes. few-cells j.image j.entries j.admitted bytes j.legal

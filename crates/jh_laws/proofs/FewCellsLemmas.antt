@@ -1,0 +1,507 @@
+-- Over a legal journal bytes stay bytes, and root keeps a CPU: so at most 15 cells live besides it.
+use Rattle.std.proofs.Common.{◌≡◌, ◌≢◌, ℕ, ℤ, pos, suc, ◌<◌, ◌≤◌, List, [], ◌∷◌, ◌++◌, Bool, true, false, cond, ◌&&◌, ◌||◌, eqb, length, get_or, map, Option, Some, None, is_some, refl, sym, ap, subst, ◌∙◌, ⊎_elim, arith}
+use Rattle.std.specs.Prelude.{Contains, filter, find, option_map, option_and_then}
+use Rattle.std.specs.List.{fold}
+use Rattle.std.specs.Option.{option_map_or}
+use Rattle.std.proofs.lemmas.Bool.{both_ways, cond_both}
+use Rattle.std.proofs.lemmas.List.Elements.{Contains-push_cases}
+use Rattle.std.proofs.lemmas.Option.{none-some, same_Some, slice_get-get_or, get_or_from_slice_get}
+use Rattle.jh_num.proofs.Lists.{Contains-cases, IsFound-from_filter}
+use Rattle.jh_cellcfg.specs.declared.config.CellConfig.{CellConfig}
+use Rattle.jh_cellcfg.specs.declared.live.Live.{Live}
+use Rattle.jh_cellcfg.specs.declared.fault.ConfigFault.{ConfigFault}
+use Rattle.jh_cellcfg.specs.Cells.{is_passive}
+use Rattle.jh_cellcfg.specs.Lives.{has_id}
+use Rattle.jh_cellcfg.specs.Faults.{header_fault, header_size}
+use Rattle.jh_cellcfg.specs.Reading.{config_of}
+use Rattle.jh_check.specs.Refusals.{any_below}
+use Rattle.jh_check.proofs.GivenLemmas.{sound-set}
+use Rattle.jh_comm.specs.declared.words.TheConstants.{STATE_RUNNING, STATE_SHUT_DOWN, STATE_FAILED, MESSAGE_SHUTDOWN_REQUEST}
+use Rattle.jh_cpu.specs.declared.cpu.Cpu.{Cpu}
+use Rattle.jh_call.specs.declared.call.Call.{Call}
+use Rattle.jh_call.specs.declared.call.Call.TheVariants.{Create, Start, Loadable, Destroy, Info, State, CpuInfo, Unknown}
+use Rattle.jh_script.specs.declared.image.Image.{Image}
+use Rattle.jh_history.specs.declared.place.Place.{Place}
+use Rattle.jh_history.specs.declared.access.Access.TheVariants.{Read as ToRead, Write as ToWrite}
+use Rattle.jh_history.specs.declared.call.OpenCall.{OpenCall}
+use Rattle.jh_history.specs.declared.call.Phase.{Phase}
+use Rattle.jh_history.specs.declared.call.Phase.TheVariants.{ToDecide, ToSettle, ToCreate, ToCommit, ToNote, ToNoted, ToFinish}
+use Rattle.jh_history.specs.declared.comm.PageChange.TheVariants.{State as NewState, Message, Fresh}
+use Rattle.jh_history.specs.declared.entry.Entry.{Entry}
+use Rattle.jh_history.specs.declared.entry.Settled.{Settled}
+use Rattle.jh_history.specs.declared.entry.Settled.TheVariants.{Agreed, Denied, Timeout}
+use Rattle.jh_history.specs.declared.entry.Heard.TheVariants.{Received, Down, Other, Timeout as Silent}
+use Rattle.jh_history.specs.declared.entry.Act.{Act}
+use Rattle.jh_history.specs.declared.entry.Act.TheVariants.{Read, Write, Fetch, Await, Irq, Hvc, Begin, Stop, Decide, Settle, Commit, Note, Noted, Finish}
+use Rattle.jh_history.specs.Access.{places_from}
+use Rattle.jh_history.specs.Facts.{Facts}
+use Rattle.jh_history.specs.Lives.{is_on_board, live_in}
+use Rattle.jh_history.specs.Grants.{granted, reach}
+use Rattle.jh_history.specs.Bytes.{byte_written, byte_after}
+use Rattle.jh_history.specs.Calls.{is_named, counted, one_more, telling, first_told, behind, decided, after_settle, after_commit, after_note, after_noted, phase_after, call_by}
+use Rattle.jh_history.specs.Commits.{cells_by, committed_cells, marked, is_other}
+use Rattle.jh_history.specs.Configs.{bytes_at, read_whole, read_behind, read_from, read_at, config_read}
+use Rattle.jh_history.specs.Cpus.{acted, changed, change_of, settled, is_agreed, cpu_after}
+use Rattle.jh_history.specs.History.{start, after, facts, coming_by, coming_of}
+use Rattle.jh_history.specs.Pages.{is_left, failing, unless_good, asking, committing, named_cell, page_write_by, on_page}
+use Rattle.jh_history.specs.Phases.{configs_of}
+use Rattle.jh_history.specs.Due.{due_at, IsLegal, IsLegalFrom}
+use Rattle.jh_history.specs.Admitted.{IsAdmitted}
+use Rattle.jh_history.specs.Sound.{AreTwo, AreSoundCells, HasBytes, IsSound}
+use Rattle.jh_laws.specs.Ways.{is_commit}
+use Rattle.jh_history.proofs.SoundCommitLemmas.{configs-joined, configs-marked, configs-others, is_other_config}
+use Rattle.jh_history.proofs.SoundCpusLemmas.{changed-owner}
+use Rattle.jh_history.proofs.SoundDecideLemmas.{board-few, found-live, settled-owner}
+use Rattle.jh_laws.proofs.HeldLemmas.{two-ids}
+use Rattle.jh_history.proofs.SoundStepLemmas.{begun-owner, finished-owner}
+use Rattle.jh_history.proofs.SoundLemmas.{sound-start, sound-after, legal-sound}
+use Rattle.jh_laws.proofs.CallLemmas.{call-after, sound-open}
+use Rattle.jh_laws.proofs.FewLemmas.{IsTyped, MayWriteBytes, page-write-small, write-small, opening-small, config-typed, read-bytes, picked, picked-few, index-small, length-map, get-map}
+
+abbrev AreTyped : List CellConfig → Type 0
+AreTyped configs = (config : CellConfig) → Contains configs config → IsTyped config
+
+abbrev IsTypedPhase : Phase → Type 0
+IsTypedPhase (ToCreate config) = IsTyped config
+IsTypedPhase _ = Unit {0}
+
+abbrev IsTypedCall : Option OpenCall → Type 0
+IsTypedCall None = Unit {0}
+IsTypedCall (Some o) = IsTypedPhase o.phase
+
+-- bytes are bytes, and a CPU of the board is root's
+record IsFew (image : Image) (f : Facts) : Type 0 where
+  bytes : (q : Place) → f.byte q < 256
+  cells : AreTyped (configs_of f.cells)
+  call : IsTypedCall f.call
+  root : (i : ℕ) × (is_on_board image i ≡ true) × ((f.cpu i).owner ≡ image.system.root.id)
+
+-- ---- the call
+
+whole_typed : (image : Image) (f : Facts) (o : Option (List Place)) (config : CellConfig) → ((q : Place) → f.byte q < 256) → config_read (read_whole (option_map (map f.byte) o)) ≡ Some config → IsTyped config
+whole_typed image f None config small h = absurd (none-some config h)
+whole_typed image f (Some places) config small h =
+    let P : CellConfig → Type 0 = IsTyped in
+    subst P (same_Some (config_of (map f.byte places)) config h) (config-typed (map f.byte places) (read-bytes f.byte places small))
+
+behind_typed : (image : Image) (f : Facts) (at : ℕ) (header : List ℕ) (fault : Option ConfigFault) (config : CellConfig) → ((q : Place) → f.byte q < 256) → config_read (read_behind image f at header fault) ≡ Some config → IsTyped config
+behind_typed image f at header None config small h = whole_typed image f (places_from (granted image f image.system.root.id ToRead) at (header_size header)) config small h
+behind_typed image f at header (Some fault) config small h = absurd (none-some config h)
+
+from_typed : (image : Image) (f : Facts) (at : ℕ) (o : Option (List ℕ)) (config : CellConfig) → ((q : Place) → f.byte q < 256) → config_read (read_from image f at o) ≡ Some config → IsTyped config
+from_typed image f at None config small h = absurd (none-some config h)
+from_typed image f at (Some header) config small h = behind_typed image f at header (header_fault header) config small h
+
+read_typed : (image : Image) (f : Facts) (at : ℕ) (config : CellConfig) → ((q : Place) → f.byte q < 256) → config_read (read_at image f at) ≡ Some config → IsTyped config
+unfolding read_at
+read_typed image f at config small h = from_typed image f at (bytes_at image f at 132) config small h
+
+coming_typed : (image : Image) (f : Facts) (call : Call) (config : CellConfig) → ((q : Place) → f.byte q < 256) → coming_by image f call ≡ Some config → IsTyped config
+coming_typed image f (Create at) config small h = read_typed image f at config small h
+coming_typed image f (Start id) config small h = absurd (none-some config h)
+coming_typed image f (Loadable id) config small h = absurd (none-some config h)
+coming_typed image f (Destroy id) config small h = absurd (none-some config h)
+coming_typed image f (Info kind) config small h = absurd (none-some config h)
+coming_typed image f (State id) config small h = absurd (none-some config h)
+coming_typed image f (CpuInfo cpu kind) config small h = absurd (none-some config h)
+coming_typed image f Unknown config small h = absurd (none-some config h)
+
+coming_of_typed : (image : Image) (f : Facts) (call : Option OpenCall) (config : CellConfig) → ((q : Place) → f.byte q < 256) → option_and_then (λ (o : OpenCall). coming_by image f o.call) call ≡ Some config → IsTyped config
+coming_of_typed image f None config small h = absurd (none-some config h)
+coming_of_typed image f (Some o) config small h = coming_typed image f o.call config small h
+
+decided_typed : (call : Call) (coming : Option CellConfig) (refused : Option ℤ) → ((config : CellConfig) → coming ≡ Some config → IsTyped config) → IsTypedPhase (decided call coming refused)
+decided_typed call coming (Some number) h = tt
+decided_typed (Create at) (Some config) None h = h config refl
+decided_typed (Create at) None None h = tt
+decided_typed (Start id) coming None h = tt
+decided_typed (Loadable id) coming None h = tt
+decided_typed (Destroy id) coming None h = tt
+decided_typed (Info kind) coming None h = tt
+decided_typed (State id) coming None h = tt
+decided_typed (CpuInfo cpu kind) coming None h = tt
+decided_typed Unknown coming None h = tt
+
+settled_typed : (how : Settled) → IsTypedPhase (after_settle how)
+settled_typed Agreed = tt
+settled_typed Denied = tt
+settled_typed Timeout = tt
+
+telling_typed : (about : ℕ) (answer : ℤ) (o : Option ℕ) → IsTypedPhase (telling about answer o)
+telling_typed about answer None = tt
+telling_typed about answer (Some id) = tt
+
+created_typed : (at : ℕ) (phase : Phase) (cells : List Live) → IsTypedPhase (after_commit (Create at) phase cells)
+created_typed at ToDecide cells = tt
+created_typed at (ToSettle waited) cells = tt
+created_typed at (ToCreate config) cells = telling_typed config.id (pos config.id) (first_told config.id cells)
+created_typed at ToCommit cells = tt
+created_typed at (ToNote id about answer) cells = tt
+created_typed at (ToNoted id about answer waited) cells = tt
+created_typed at (ToFinish answer) cells = tt
+
+commit_typed : (call : Call) (phase : Phase) (cells : List Live) → IsTypedPhase (after_commit call phase cells)
+commit_typed (Create at) phase cells = created_typed at phase cells
+commit_typed (Start id) phase cells = tt
+commit_typed (Loadable id) phase cells = tt
+commit_typed (Destroy id) phase cells = telling_typed id (pos 0) (first_told id cells)
+commit_typed (Info kind) phase cells = tt
+commit_typed (State id) phase cells = tt
+commit_typed (CpuInfo cpu kind) phase cells = tt
+commit_typed Unknown phase cells = tt
+
+note_typed : (phase : Phase) → IsTypedPhase phase → IsTypedPhase (after_note phase)
+note_typed ToDecide h = h
+note_typed (ToSettle waited) h = h
+note_typed (ToCreate config) h = h
+note_typed ToCommit h = h
+note_typed (ToNote id about answer) h = tt
+note_typed (ToNoted id about answer waited) h = h
+note_typed (ToFinish answer) h = h
+
+noted_typed : (phase : Phase) (cells : List Live) → IsTypedPhase phase → IsTypedPhase (after_noted phase cells)
+noted_typed ToDecide cells h = h
+noted_typed (ToSettle waited) cells h = h
+noted_typed (ToCreate config) cells h = h
+noted_typed ToCommit cells h = h
+noted_typed (ToNote id about answer) cells h = h
+noted_typed (ToNoted id about answer waited) cells h = telling_typed about answer (first_told about (behind id cells))
+noted_typed (ToFinish answer) cells h = h
+
+counted_typed : (cell : ℕ) (call : Call) (phase : Phase) → IsTypedPhase phase → IsTypedPhase (counted cell call phase)
+counted_typed cell call ToDecide h = h
+counted_typed cell call (ToSettle waited) h = cond_both (is_named call cell) (ToSettle (one_more waited)) (ToSettle waited) IsTypedPhase (λ _. tt) (λ _. tt)
+counted_typed cell call (ToCreate config) h = h
+counted_typed cell call ToCommit h = h
+counted_typed cell call (ToNote id about answer) h = h
+counted_typed cell call (ToNoted id about answer waited) h = cond_both (eqb cell id) (ToNoted id about answer (one_more waited)) (ToNoted id about answer waited) IsTypedPhase (λ _. tt) (λ _. tt)
+counted_typed cell call (ToFinish answer) h = h
+
+phase_typed : (cells : List Live) (coming : Option CellConfig) (cell : ℕ) (call : Call) (phase : Phase) (act : Act) → ((config : CellConfig) → coming ≡ Some config → IsTyped config) → IsTypedPhase phase → IsTypedPhase (phase_after cells coming cell call phase act)
+phase_typed cells coming cell call phase (Decide refused) some h = decided_typed call coming refused some
+phase_typed cells coming cell call phase (Settle how) some h = settled_typed how
+phase_typed cells coming cell call phase Commit some h = commit_typed call phase cells
+phase_typed cells coming cell call phase (Note id) some h = note_typed phase h
+phase_typed cells coming cell call phase (Noted id how) some h = noted_typed phase cells h
+phase_typed cells coming cell call phase (Read width at got) some h = counted_typed cell call phase h
+phase_typed cells coming cell call phase (Write width at value ok) some h = counted_typed cell call phase h
+phase_typed cells coming cell call phase (Fetch at got) some h = counted_typed cell call phase h
+phase_typed cells coming cell call phase (Await width at value ok) some h = counted_typed cell call phase h
+phase_typed cells coming cell call phase (Irq device vector) some h = counted_typed cell call phase h
+phase_typed cells coming cell call phase (Hvc code a b answer) some h = counted_typed cell call phase h
+phase_typed cells coming cell call phase (Begin code a b) some h = counted_typed cell call phase h
+phase_typed cells coming cell call phase Stop some h = counted_typed cell call phase h
+phase_typed cells coming cell call phase (Finish answer) some h = counted_typed cell call phase h
+
+map_typed : (call : Option OpenCall) (g : OpenCall → Phase) → ((o : OpenCall) → call ≡ Some o → IsTypedPhase (g o)) → IsTypedCall (option_map (λ (o : OpenCall). record { caller = o.caller; call = o.call; phase = g o }) call)
+map_typed None g h = tt
+map_typed (Some o) g h = h o refl
+
+typed_phase : (call : Option OpenCall) (o : OpenCall) → call ≡ Some o → IsTypedCall call → IsTypedPhase o.phase
+typed_phase call o is h = let P : Option OpenCall → Type 0 = IsTypedCall in subst P is h
+
+call_typed : (cells : List Live) (coming : Option CellConfig) (call : Option OpenCall) (entry : Entry) (act : Act) → ((config : CellConfig) → coming ≡ Some config → IsTyped config) → IsTypedCall call → IsTypedCall (call_by cells coming call entry act)
+call_typed cells coming call entry (Begin code a b) some h = tt
+call_typed cells coming call entry (Finish answer) some h = tt
+call_typed cells coming call entry (Decide refused) some h = map_typed call (λ o. phase_after cells coming entry.cell o.call o.phase (Decide refused)) (λ o is. phase_typed cells coming entry.cell o.call o.phase (Decide refused) some (typed_phase call o is h))
+call_typed cells coming call entry (Settle how) some h = map_typed call (λ o. phase_after cells coming entry.cell o.call o.phase (Settle how)) (λ o is. phase_typed cells coming entry.cell o.call o.phase (Settle how) some (typed_phase call o is h))
+call_typed cells coming call entry Commit some h = map_typed call (λ o. phase_after cells coming entry.cell o.call o.phase Commit) (λ o is. phase_typed cells coming entry.cell o.call o.phase Commit some (typed_phase call o is h))
+call_typed cells coming call entry (Note id) some h = map_typed call (λ o. phase_after cells coming entry.cell o.call o.phase (Note id)) (λ o is. phase_typed cells coming entry.cell o.call o.phase (Note id) some (typed_phase call o is h))
+call_typed cells coming call entry (Noted id how) some h = map_typed call (λ o. phase_after cells coming entry.cell o.call o.phase (Noted id how)) (λ o is. phase_typed cells coming entry.cell o.call o.phase (Noted id how) some (typed_phase call o is h))
+call_typed cells coming call entry (Read width at got) some h = map_typed call (λ o. phase_after cells coming entry.cell o.call o.phase (Read width at got)) (λ o is. phase_typed cells coming entry.cell o.call o.phase (Read width at got) some (typed_phase call o is h))
+call_typed cells coming call entry (Write width at value ok) some h = map_typed call (λ o. phase_after cells coming entry.cell o.call o.phase (Write width at value ok)) (λ o is. phase_typed cells coming entry.cell o.call o.phase (Write width at value ok) some (typed_phase call o is h))
+call_typed cells coming call entry (Fetch at got) some h = map_typed call (λ o. phase_after cells coming entry.cell o.call o.phase (Fetch at got)) (λ o is. phase_typed cells coming entry.cell o.call o.phase (Fetch at got) some (typed_phase call o is h))
+call_typed cells coming call entry (Await width at value ok) some h = map_typed call (λ o. phase_after cells coming entry.cell o.call o.phase (Await width at value ok)) (λ o is. phase_typed cells coming entry.cell o.call o.phase (Await width at value ok) some (typed_phase call o is h))
+call_typed cells coming call entry (Irq device vector) some h = map_typed call (λ o. phase_after cells coming entry.cell o.call o.phase (Irq device vector)) (λ o is. phase_typed cells coming entry.cell o.call o.phase (Irq device vector) some (typed_phase call o is h))
+call_typed cells coming call entry (Hvc code a b answer) some h = map_typed call (λ o. phase_after cells coming entry.cell o.call o.phase (Hvc code a b answer)) (λ o is. phase_typed cells coming entry.cell o.call o.phase (Hvc code a b answer) some (typed_phase call o is h))
+call_typed cells coming call entry Stop some h = map_typed call (λ o. phase_after cells coming entry.cell o.call o.phase Stop) (λ o is. phase_typed cells coming entry.cell o.call o.phase Stop some (typed_phase call o is h))
+
+-- ---- the cells
+
+same_typed : (one other : List CellConfig) → one ≡ other → AreTyped other → AreTyped one
+same_typed one other is h = let P : List CellConfig → Type 0 = AreTyped in subst P (sym is) h
+
+joined_typed : (configs : List CellConfig) (new : CellConfig) → AreTyped configs → IsTyped new → AreTyped (configs ++ new ∷ [])
+joined_typed configs new h typed config held =
+    let P : CellConfig → Type 0 = IsTyped in
+    ⊎_elim (λ old. h config old) (λ (is : new ≡ config). subst P is typed) (Contains-push_cases configs new config held)
+
+added_typed : (at : ℕ) (phase : Phase) (cells : List Live) → IsTypedPhase phase → AreTyped (configs_of cells) → AreTyped (configs_of (committed_cells (Create at) phase cells))
+added_typed at ToDecide cells typed h = h
+added_typed at (ToSettle waited) cells typed h = h
+added_typed at (ToCreate config) cells typed h = same_typed (configs_of (cells ++ (record { config = config; loadable = false }) ∷ [])) (configs_of cells ++ config ∷ []) (configs-joined cells config) (joined_typed (configs_of cells) config h typed)
+added_typed at ToCommit cells typed h = h
+added_typed at (ToNote id about answer) cells typed h = h
+added_typed at (ToNoted id about answer waited) cells typed h = h
+added_typed at (ToFinish answer) cells typed h = h
+
+committed_typed : (call : Call) (phase : Phase) (cells : List Live) → IsTypedPhase phase → AreTyped (configs_of cells) → AreTyped (configs_of (committed_cells call phase cells))
+committed_typed (Create at) phase cells typed h = added_typed at phase cells typed h
+committed_typed (Start id) phase cells typed h = same_typed (configs_of (map (marked id false) cells)) (configs_of cells) (configs-marked id false cells) h
+committed_typed (Loadable id) phase cells typed h = same_typed (configs_of (map (marked id true) cells)) (configs_of cells) (configs-marked id true cells) h
+committed_typed (Destroy id) phase cells typed h =
+    same_typed (configs_of (filter (is_other id) cells)) (filter (is_other_config id) (configs_of cells)) (configs-others id cells)
+    (λ config held. h config (IsFound-from_filter (is_other_config id) (configs_of cells) config held).held)
+committed_typed (Info kind) phase cells typed h = h
+committed_typed (State id) phase cells typed h = h
+committed_typed (CpuInfo cpu kind) phase cells typed h = h
+committed_typed Unknown phase cells typed h = h
+
+commits_typed : (call : Option OpenCall) (cells : List Live) → IsTypedCall call → AreTyped (configs_of cells) → AreTyped (configs_of (cells_by call cells Commit))
+commits_typed None cells typed h = h
+commits_typed (Some o) cells typed h = committed_typed o.call o.phase cells typed h
+
+cells_typed : (call : Option OpenCall) (cells : List Live) (act : Act) → IsTypedCall call → AreTyped (configs_of cells) → AreTyped (configs_of (cells_by call cells act))
+cells_typed call cells Commit typed h = commits_typed call cells typed h
+cells_typed call cells (Read width at got) typed h = h
+cells_typed call cells (Write width at value ok) typed h = h
+cells_typed call cells (Fetch at got) typed h = h
+cells_typed call cells (Await width at value ok) typed h = h
+cells_typed call cells (Irq device vector) typed h = h
+cells_typed call cells (Hvc code a b answer) typed h = h
+cells_typed call cells (Begin code a b) typed h = h
+cells_typed call cells Stop typed h = h
+cells_typed call cells (Decide refused) typed h = h
+cells_typed call cells (Settle how) typed h = h
+cells_typed call cells (Note id) typed h = h
+cells_typed call cells (Noted id how) typed h = h
+cells_typed call cells (Finish answer) typed h = h
+
+-- ---- bytes
+
+written_small : (image : Image) (f : Facts) (cell : ℕ) (act : Act) (q : Place) → ((p : Place) → f.byte p < 256) → byte_written image f cell act q < 256
+written_small image f cell (Write width at value true) q small = write-small f.byte (reach image f cell ToWrite at width) value q small
+written_small image f cell (Write width at value false) q small = small q
+written_small image f cell (Read width at got) q small = small q
+written_small image f cell (Fetch at got) q small = small q
+written_small image f cell (Await width at value ok) q small = small q
+written_small image f cell (Irq device vector) q small = small q
+written_small image f cell (Hvc code a b answer) q small = small q
+written_small image f cell (Begin code a b) q small = small q
+written_small image f cell Stop q small = small q
+written_small image f cell (Decide refused) q small = small q
+written_small image f cell (Settle how) q small = small q
+written_small image f cell Commit q small = small q
+written_small image f cell (Note id) q small = small q
+written_small image f cell (Noted id how) q small = small q
+written_small image f cell (Finish answer) q small = small q
+
+failing_small : (image : Image) (f : Facts) (entry : Entry) (good : Bool) → MayWriteBytes (unless_good good (failing image f entry))
+failing_small image f entry true = tt
+failing_small image f entry false =
+    let left : Bool = eqb entry.cell image.system.root.id || any_below (λ i. is_on_board image i && is_left entry.cell (cpu_after image f entry i)) 16 in
+    cond_both left None (Some (record { cell = entry.cell; change = NewState STATE_FAILED })) MayWriteBytes (λ _. tt) (λ _. tt)
+
+asking_one : (o : Option CellConfig) → MayWriteBytes (option_and_then (λ (c : CellConfig). cond (is_passive c) None (Some (on_page (Message MESSAGE_SHUTDOWN_REQUEST) c))) o)
+asking_one None = tt
+asking_one (Some c) = cond_both (is_passive c) None (Some (on_page (Message MESSAGE_SHUTDOWN_REQUEST) c)) MayWriteBytes (λ _. tt) (λ _. tt)
+
+asking_small : (cells : List Live) (call : Option OpenCall) → MayWriteBytes (option_and_then (λ (o : OpenCall). asking cells o.call) call)
+asking_small cells None = tt
+asking_small cells (Some o) = asking_one (named_cell cells o.call)
+
+timeout_one : (o : Option CellConfig) → MayWriteBytes (option_map (on_page (NewState STATE_FAILED)) o)
+timeout_one None = tt
+timeout_one (Some c) = tt
+
+timeout_small : (cells : List Live) (call : Option OpenCall) → MayWriteBytes (option_and_then (λ (o : OpenCall). option_map (on_page (NewState STATE_FAILED)) (named_cell cells o.call)) call)
+timeout_small cells None = tt
+timeout_small cells (Some o) = timeout_one (named_cell cells o.call)
+
+fresh_one : (window : ℕ) (cells : List Live) (id : ℕ) (o : Option Live) → find (has_id id) cells ≡ o → AreTyped (configs_of cells)
+    → MayWriteBytes (option_map (λ (c : CellConfig). on_page (Fresh STATE_RUNNING c.console window) c) (option_map (λ (l : Live). l.config) o))
+fresh_one window cells id None is h = tt
+fresh_one window cells id (Some live) is h = (h live.config (found-live cells id live is).0).console
+
+down_one : (o : Option CellConfig) → MayWriteBytes (option_map (on_page (NewState STATE_SHUT_DOWN)) o)
+down_one None = tt
+down_one (Some c) = tt
+
+create_page : (window : ℕ) (cells : List Live) (at : ℕ) (phase : Phase) → IsTypedPhase phase → MayWriteBytes (committing window cells (Create at) phase)
+create_page window cells at ToDecide typed = tt
+create_page window cells at (ToSettle waited) typed = tt
+create_page window cells at (ToCreate config) typed = typed.console
+create_page window cells at ToCommit typed = tt
+create_page window cells at (ToNote id about answer) typed = tt
+create_page window cells at (ToNoted id about answer waited) typed = tt
+create_page window cells at (ToFinish answer) typed = tt
+
+commit_page : (window : ℕ) (cells : List Live) (call : Call) (phase : Phase) → IsTypedPhase phase → AreTyped (configs_of cells) → MayWriteBytes (committing window cells call phase)
+commit_page window cells (Create at) phase typed h = create_page window cells at phase typed
+commit_page window cells (Start id) phase typed h = fresh_one window cells id (find (has_id id) cells) refl h
+commit_page window cells (Loadable id) phase typed h = down_one (live_in cells id)
+commit_page window cells (Destroy id) phase typed h = tt
+commit_page window cells (Info kind) phase typed h = tt
+commit_page window cells (State id) phase typed h = tt
+commit_page window cells (CpuInfo cpu kind) phase typed h = tt
+commit_page window cells Unknown phase typed h = tt
+
+commit_small : (window : ℕ) (cells : List Live) (call : Option OpenCall) → IsTypedCall call → AreTyped (configs_of cells) → MayWriteBytes (option_and_then (λ (o : OpenCall). committing window cells o.call o.phase) call)
+commit_small window cells None typed h = tt
+commit_small window cells (Some o) typed h = commit_page window cells o.call o.phase typed h
+
+page_write_small : (image : Image) (f : Facts) (entry : Entry) (act : Act) → IsTypedCall f.call → AreTyped (configs_of f.cells) → MayWriteBytes (page_write_by image f entry act)
+page_write_small image f entry (Read width at got) typed h = failing_small image f entry (is_some got)
+page_write_small image f entry (Write width at value ok) typed h = failing_small image f entry ok
+page_write_small image f entry (Fetch at got) typed h = failing_small image f entry (is_some got)
+page_write_small image f entry (Await width at value ok) typed h = failing_small image f entry ok
+page_write_small image f entry (Decide None) typed h = asking_small f.cells f.call
+page_write_small image f entry (Decide (Some number)) typed h = tt
+page_write_small image f entry (Settle Timeout) typed h = timeout_small f.cells f.call
+page_write_small image f entry (Settle Agreed) typed h = tt
+page_write_small image f entry (Settle Denied) typed h = tt
+page_write_small image f entry Commit typed h = commit_small image.system.pci_mmconfig_base f.cells f.call typed h
+page_write_small image f entry (Note id) typed h = tt
+page_write_small image f entry (Noted id Silent) typed h = tt
+page_write_small image f entry (Noted id Received) typed h = tt
+page_write_small image f entry (Noted id Down) typed h = tt
+page_write_small image f entry (Noted id Other) typed h = tt
+page_write_small image f entry (Irq device vector) typed h = tt
+page_write_small image f entry (Hvc code a b answer) typed h = tt
+page_write_small image f entry (Begin code a b) typed h = tt
+page_write_small image f entry Stop typed h = tt
+page_write_small image f entry (Finish answer) typed h = tt
+
+byte_small : (image : Image) (f : Facts) (entry : Entry) (q : Place) → IsFew image f → byte_after image f entry q < 256
+byte_small image f entry q few =
+    page-write-small (page_write_by image f entry entry.act) (byte_written image f entry.cell entry.act) q
+    (page_write_small image f entry entry.act few.call few.cells)
+    (λ p. written_small image f entry.cell entry.act p few.bytes)
+
+-- ---- root's CPU
+
+one_owner : (change : Act) (own i : ℕ) (cpu : Cpu) → (cond (eqb i own) (changed (change_of change) cpu) cpu).owner ≡ cpu.owner
+one_owner change own i cpu =
+    let same : Cpu → Type 0 = λ c. c.owner ≡ cpu.owner in
+    cond_both (eqb i own) (changed (change_of change) cpu) cpu same (λ _. changed-owner (change_of change) cpu) (λ _. refl)
+
+settle_owner : (call : Option OpenCall) (how : Settled) (cpu : Cpu) → (option_map_or (λ (o : OpenCall). settled (is_agreed how) o.call cpu) call cpu).owner ≡ cpu.owner
+settle_owner None how cpu = refl
+settle_owner (Some o) how cpu = settled-owner (is_agreed how) o.call cpu
+
+acted_owner : (image : Image) (call : Option OpenCall) (act : Act) (own i : ℕ) (cpu : Cpu) → is_commit act ≡ false → (acted image call act own i cpu).owner ≡ cpu.owner
+acted_owner image call (Begin code a b) own i cpu other = begun-owner image own i cpu
+acted_owner image call (Settle how) own i cpu other = settle_owner call how cpu
+acted_owner image call Commit own i cpu other = absurd (both_ways true other refl)
+acted_owner image call (Finish answer) own i cpu other = finished-owner image own i cpu
+acted_owner image call (Read width at got) own i cpu other = one_owner (Read width at got) own i cpu
+acted_owner image call (Write width at value ok) own i cpu other = one_owner (Write width at value ok) own i cpu
+acted_owner image call (Fetch at got) own i cpu other = one_owner (Fetch at got) own i cpu
+acted_owner image call (Await width at value ok) own i cpu other = one_owner (Await width at value ok) own i cpu
+acted_owner image call (Irq device vector) own i cpu other = one_owner (Irq device vector) own i cpu
+acted_owner image call (Hvc code a b answer) own i cpu other = one_owner (Hvc code a b answer) own i cpu
+acted_owner image call Stop own i cpu other = one_owner Stop own i cpu
+acted_owner image call (Decide refused) own i cpu other = one_owner (Decide refused) own i cpu
+acted_owner image call (Note id) own i cpu other = one_owner (Note id) own i cpu
+acted_owner image call (Noted id how) own i cpu other = one_owner (Noted id how) own i cpu
+
+abbrev HasCpu : Image → (ℕ → Cpu) → Type 0
+HasCpu image cpu = (i : ℕ) × (is_on_board image i ≡ true) × ((cpu i).owner ≡ image.system.root.id)
+
+cpus_after : (image : Image) (f : Facts) (entry : Entry) (i : ℕ) → (after image f entry).cpu i ≡ acted image f.call entry.act entry.cpu i (f.cpu i)
+unfolding after
+cpus_after image f entry i = refl
+
+-- behind a Commit the call is still open, and its caller is root's
+root_commit : (image : Image) (f : Facts) (entry : Entry) (call : Option OpenCall) → f.call ≡ call → entry.act ≡ Commit → IsSound image (after image f entry) → HasCpu image f.cpu → HasCpu image (after image f entry).cpu
+root_commit image f entry None is act sound has =
+    let same : (after image f entry).cpu has.0 ≡ f.cpu has.0 =
+    cpus_after image f entry has.0
+    ∙ ap (λ (c : Option OpenCall). acted image c entry.act entry.cpu has.0 (f.cpu has.0)) is
+    ∙ ap (λ (x : Act). acted image None x entry.cpu has.0 (f.cpu has.0)) act in
+    (has.0, has.1, ap (λ (c : Cpu). c.owner) same ∙ has.2)
+root_commit image f entry (Some o) is act sound has =
+    let next : OpenCall = record { caller = o.caller; call = o.call; phase = after_commit o.call o.phase f.cells } in
+    let opens : (after image f entry).call ≡ Some next =
+    call-after image f entry
+    ∙ ap (λ (c : Option OpenCall). call_by f.cells (coming_of image f) c entry entry.act) is
+    ∙ ap (call_by f.cells (coming_of image f) (Some o) entry) act in
+    let caller = (sound-open image (after image f entry) next sound opens).caller in
+    (o.caller, caller.board, caller.owner)
+
+root_kept : (image : Image) (f : Facts) (entry : Entry) → is_commit entry.act ≡ false → HasCpu image f.cpu → HasCpu image (after image f entry).cpu
+root_kept image f entry other has = (has.0, has.1, ap (λ (c : Cpu). c.owner) (cpus_after image f entry has.0) ∙ acted_owner image f.call entry.act entry.cpu has.0 (f.cpu has.0) other ∙ has.2)
+
+root_by : (image : Image) (f : Facts) (entry : Entry) (act : Act) → entry.act ≡ act → IsSound image (after image f entry) → HasCpu image f.cpu → HasCpu image (after image f entry).cpu
+root_by image f entry Commit is sound has = root_commit image f entry f.call refl is sound has
+root_by image f entry (Read width at got) is sound has = root_kept image f entry (ap is_commit is) has
+root_by image f entry (Write width at value ok) is sound has = root_kept image f entry (ap is_commit is) has
+root_by image f entry (Fetch at got) is sound has = root_kept image f entry (ap is_commit is) has
+root_by image f entry (Await width at value ok) is sound has = root_kept image f entry (ap is_commit is) has
+root_by image f entry (Irq device vector) is sound has = root_kept image f entry (ap is_commit is) has
+root_by image f entry (Hvc code a b answer) is sound has = root_kept image f entry (ap is_commit is) has
+root_by image f entry (Begin code a b) is sound has = root_kept image f entry (ap is_commit is) has
+root_by image f entry Stop is sound has = root_kept image f entry (ap is_commit is) has
+root_by image f entry (Decide refused) is sound has = root_kept image f entry (ap is_commit is) has
+root_by image f entry (Settle how) is sound has = root_kept image f entry (ap is_commit is) has
+root_by image f entry (Note id) is sound has = root_kept image f entry (ap is_commit is) has
+root_by image f entry (Noted id how) is sound has = root_kept image f entry (ap is_commit is) has
+root_by image f entry (Finish answer) is sound has = root_kept image f entry (ap is_commit is) has
+
+-- ---- entry by entry
+
+few_after : (image : Image) (f : Facts) (entry : Entry) → IsSound image f → due_at image f entry.cpu ≡ Some entry → IsFew image f → IsFew image (after image f entry)
+unfolding after
+few_after image f entry sound due few = record {
+  bytes = λ q. byte_small image f entry q few;
+  cells = cells_typed f.call f.cells entry.act few.call few.cells;
+  call = call_typed f.cells (coming_of image f) f.call entry entry.act (λ config is. coming_of_typed image f f.call config few.bytes is) few.call;
+  root = root_by image f entry entry.act refl (sound-after image f entry sound due) few.root;
+}
+
+few_start : (image : Image) → IsAdmitted image → HasBytes image → IsFew image (start image)
+few_start image admitted bytes =
+    let sound = sound-start image admitted in
+    let set = sound-set image.system.root.cpu_set (λ i. index-small image.system.root.cpu_set i bytes.set) (sound.cells.clean.cpus 0 image.system.root refl) in
+    record {
+      bytes = λ q. opening-small image q bytes;
+      cells = λ config held. let below : held.0 < 0 = held.1 in absurd (omega arith);
+      call = tt;
+      root = (set.some.0, set.some.1, refl);
+    }
+
+few_from : (image : Image) (f : Facts) (entries : List Entry) → IsSound image f → IsFew image f → IsLegalFrom image f entries → IsFew image (fold (after image) f entries)
+few_from image f [] sound few legal = few
+few_from image f (entry ∷ entries) sound few legal = few_from image (after image f entry) entries (sound-after image f entry sound legal.0) (few_after image f entry sound legal.0 few) legal.1
+
+legal_few : (image : Image) (entries : List Entry) → IsAdmitted image → HasBytes image → IsLegal image entries → IsFew image (facts image entries)
+unfolding IsLegal facts
+legal_few image entries admitted bytes legal = few_from image (start image) entries (sound-start image admitted) (few_start image admitted bytes) legal
+
+-- ---- counting
+
+-- root and the other cells each have a CPU
+each_cpu : (image : Image) (f : Facts) (config : CellConfig) → IsSound image f → IsFew image f → Contains (image.system.root ∷ configs_of f.cells) config → (cpu : ℕ) × ((f.cpu cpu).owner ≡ config.id) × (cpu < 16)
+each_cpu image f config sound few held =
+    let configs : List CellConfig = configs_of f.cells in
+    let P : CellConfig → Type 0 = λ c. (cpu : ℕ) × ((f.cpu cpu).owner ≡ c.id) × (cpu < 16) in
+    ⊎_elim
+    (λ (is : image.system.root ≡ config). subst P is (few.root.0, few.root.2, board-few image configs sound.cells.clean few.root.0 few.root.1))
+    (λ (there : Contains configs config).
+    let numbered = slice_get-get_or configs there.0 config there.1 ∙ ap Some there.2 in
+    let set = sound-set config.cpu_set (λ i. index-small config.cpu_set i (few.cells config there).set) (sound.cells.clean.cpus (suc there.0) config numbered) in
+    (set.some.0, (sound.cpus.cells config there).owned set.some.0 set.some.1, set.few set.some.0 set.some.1))
+    (Contains-cases image.system.root configs config held)
+
+-- two of them have different ids
+each_apart : (image : Image) (configs : List CellConfig) → AreSoundCells image.system configs
+    → (i j d : ℕ) → i < j → j < length (map (λ (c : CellConfig). c.id) (image.system.root ∷ configs)) → get_or (map (λ (c : CellConfig). c.id) (image.system.root ∷ configs)) i d ≢ get_or (map (λ (c : CellConfig). c.id) (image.system.root ∷ configs)) j d
+each_apart image configs sound i j d lt within same =
+    let all : List CellConfig = image.system.root ∷ configs in
+    let root : CellConfig = image.system.root in
+    let long : length (map (λ (c : CellConfig). c.id) all) ≡ length all = length-map (λ (c : CellConfig). c.id) all in
+    let below : j < length all = omega (arith, long) in
+    let two : AreTwo (get_or all i root) (get_or all j root) = sound.differ i j root lt below in
+    let at : (k : ℕ) → k < length all → get_or (map (λ (c : CellConfig). c.id) all) k d ≡ (get_or all k root).id =
+    λ k l. get_or_from_slice_get (map (λ (c : CellConfig). c.id) all) k (get_or (map (λ (c : CellConfig). c.id) all) k root.id) d (slice_get-get_or (map (λ (c : CellConfig). c.id) all) k root.id (omega (arith, l, long)))
+    ∙ get-map (λ (c : CellConfig). c.id) all k root in
+    two-ids (get_or all i root) (get_or all j root) two (sym (at i (omega arith)) ∙ same ∙ at j below)
+
+pub few-cells : (image : Image) (entries : List Entry) → IsAdmitted image → HasBytes image → IsLegal image entries → length (configs_of (facts image entries).cells) ≤ 15
+few-cells image entries admitted bytes legal =
+    let f : Facts = facts image entries in
+    let sound = legal-sound image entries admitted legal in
+    let few = legal_few image entries admitted bytes legal in
+    let all : List CellConfig = image.system.root ∷ configs_of f.cells in
+    let at_most : length all ≤ 16 = picked-few (λ i. (f.cpu i).owner) all (picked (λ i. (f.cpu i).owner) all (λ config held. each_cpu image f config sound few held)) (each_apart image (configs_of f.cells) sound.cells) in
+    omega (arith, at_most)

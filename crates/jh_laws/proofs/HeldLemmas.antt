@@ -1,0 +1,480 @@
+-- What live cells are granted on a sound board, and what their accesses reach.
+use Rattle.std.proofs.Common.{◌≡◌, ◌≢◌, ℕ, suc, ◌+◌, ◌-◌, ◌<◌, ◌≤◌, List, [], ◌∷◌, ◌++◌, Bool, true, false, cond, ◌&&◌, eqb, length, get_or, map, Option, Some, None, refl, sym, ap, subst, ◌∙◌, inl, inr, ⊎_elim, arith}
+use Rattle.std.specs.Prelude.{Contains, find, option_map, option_and_then, slice_get, nat_eq, IsTrue, IfSome}
+use Rattle.std.specs.Option.{option_map_or}
+use Rattle.std.specs.Cmp.Lexicographic.{pointwise}
+use Rattle.std.proofs.lemmas.Bool.{both_ways, or_parts, and_parts, and_from, cond_both, eqb-true, eq-eqb, ne_eqb, cases_lt, false≢true, false_from_ne_true}
+use Rattle.std.proofs.lemmas.Option.{none-some, same_Some, slice_get-get_or, get_or_from_slice_get}
+use Rattle.jh_num.specs.declared.address.TheConstants.{ADDRESS_END}
+use Rattle.jh_num.specs.Memory.{spelled}
+use Rattle.jh_num.proofs.Lists.{IsOnly, IsFound-from_find, find-only, find-some, Contains-from_map}
+use Rattle.jh_num.proofs.MemoryLemmas.{listed, spelled-listed}
+use Rattle.jh_cellcfg.specs.declared.config.CellConfig.{CellConfig}
+use Rattle.jh_cellcfg.specs.declared.config.SystemConfig.{SystemConfig}
+use Rattle.jh_cellcfg.specs.declared.live.Live.{Live}
+use Rattle.jh_cellcfg.specs.declared.region.Region.{Region}
+use Rattle.jh_cellcfg.specs.Lives.{has_id}
+use Rattle.jh_cellcfg.specs.Cells.{name_of}
+use Rattle.jh_cellcfg.specs.Regions.{has_flags, has_address, virt_end, is_comm}
+use Rattle.jh_check.specs.Laws.{IsNumbered}
+use Rattle.jh_shape.specs.Laws.{IsTaken}
+use Rattle.jh_shape.specs.Shapes.{is_closed, holder_of_live}
+use Rattle.jh_shape.proofs.LawLemmas.{taken_there, taken_back}
+use Rattle.jh_script.specs.declared.image.Image.{Image}
+use Rattle.jh_script.specs.declared.op.Op.{Op}
+use Rattle.jh_script.specs.declared.op.Op.TheVariants.{Read as ReadOp, Write as WriteOp, Fetch as FetchOp, Await as AwaitOp, Irq as IrqOp, Hvc as HvcOp}
+use Rattle.jh_script.specs.Operations.{IsPlain, is_width}
+use Rattle.jh_cpu.specs.declared.cpu.Cpu.{Cpu}
+use Rattle.jh_call.specs.Calls.{decoded, is_management}
+use Rattle.jh_call.specs.Answers.{answer_of}
+use Rattle.jh_history.specs.declared.place.Place.{Place}
+use Rattle.jh_history.specs.declared.place.Place.TheVariants.{Physical, Page}
+use Rattle.jh_history.specs.declared.access.Access.{Access}
+use Rattle.jh_history.specs.declared.access.Access.TheVariants.{Read as ToRead, Write as ToWrite, Fetch as ToFetch}
+use Rattle.jh_history.specs.declared.access.Reach.{Reach}
+use Rattle.jh_history.specs.declared.access.Reach.TheVariants.{Memory, Nothing}
+use Rattle.jh_history.specs.declared.entry.Entry.{Entry}
+use Rattle.jh_history.specs.declared.entry.Act.{Act}
+use Rattle.jh_history.specs.declared.entry.Act.TheVariants.{Read, Write, Fetch, Await, Irq, Hvc, Begin, Stop, Decide, Settle, Commit, Note, Noted, Finish}
+use Rattle.jh_history.specs.Access.{gives, right_of, region_of, place_in_cell, place_of, places_from, memory_or_nothing, read_of, is_reached}
+use Rattle.jh_history.specs.Facts.{Facts}
+use Rattle.jh_history.specs.Lives.{cell_in, live_in, regions_in, ops_in, program_of}
+use Rattle.jh_history.specs.Grants.{is_kept, unless, granted_by, granted_in, granted, reach}
+use Rattle.jh_history.specs.Hypercalls.{seen_of}
+use Rattle.jh_history.specs.Phases.{configs_of}
+use Rattle.jh_history.specs.History.{facts}
+use Rattle.jh_history.specs.Due.{due_at, act_of, await_of, IsLegal}
+use Rattle.jh_history.specs.Admitted.{IsAdmitted}
+use Rattle.jh_history.proofs.LegalLemmas.{due-split, IsLegal-begin}
+use Rattle.jh_history.proofs.AccessLemmas.{reach_by-within, reach_by-beyond}
+use Rattle.jh_history.specs.Sound.{AreTwo, AreSoundCells, IsSound}
+use Rattle.jh_laws.specs.Grants.{may, IsGranted}
+use Rattle.jh_laws.specs.Ways.{is_phase}
+use Rattle.jh_laws.specs.Held.{IsLive, IsLeft, IsGrantedTo, AreGrantedTo, IsGotBy, IsAwaitedBy, EndsAsGranted}
+use Rattle.jh_laws.proofs.RootLemmas.{has_address-first, has_address-last, has_address-from, gives-address, gives-pages, gives-right, gives-from, op-plain}
+use Rattle.jh_laws.proofs.ListedLemmas.{places_from-listed, places_from-each, places_from-some}
+use Rattle.jh_history.proofs.SoundCpusLemmas.{other-root}
+use Rattle.jh_history.proofs.SoundDecideLemmas.{found-live}
+use Rattle.jh_history.proofs.SoundDueLemmas.{next-from_due}
+use Rattle.jh_history.proofs.SoundLemmas.{legal-sound}
+use Rattle.jh_laws.proofs.CallLemmas.{IsMadeBy, Stopping, Running, Calling, made-by}
+
+-- ---- live cells by their ids
+
+-- two cells at different places of the list differ
+pub two-ids : (earlier later : CellConfig) → AreTwo earlier later → earlier.id ≢ later.id
+two-ids earlier later two is =
+    both_ways (eqb earlier.id later.id) (or_parts (eqb earlier.id later.id) (pointwise nat_eq (name_of earlier) (name_of later)) two).0 (eq-eqb earlier.id later.id is)
+
+pub at-same : (xs : List CellConfig) (i : ℕ) (a b : CellConfig) → i < length xs → get_or xs i a ≡ a → get_or xs i b ≡ b → a ≡ b
+at-same xs i a b lt is_a is_b = sym is_a ∙ get_or_from_slice_get xs i (get_or xs i b) a (slice_get-get_or xs i b lt) ∙ is_b
+
+apart_at : (system : SystemConfig) (configs : List CellConfig) (j k : ℕ) (a b : CellConfig) → AreSoundCells system configs → j < k → k < length configs → get_or configs j a ≡ a → get_or configs k b ≡ b → a.id ≢ b.id
+apart_at system configs j k a b sound lt within is_a is_b =
+    let two : AreTwo (get_or configs j a) (get_or configs k a) = sound.differ (suc j) (suc k) a (omega arith) (omega arith) in
+    let there : get_or configs k a ≡ b = get_or_from_slice_get configs k (get_or configs k b) a (slice_get-get_or configs k b within) ∙ is_b in
+    let P : CellConfig → Type 0 = λ c. AreTwo c (get_or configs k a) in
+    let Q : CellConfig → Type 0 = λ c. AreTwo a c in
+    two-ids a b (subst Q there (subst P is_a two))
+
+pub same-id : (system : SystemConfig) (configs : List CellConfig) (a b : CellConfig) → AreSoundCells system configs → Contains configs a → Contains configs b → a.id ≡ b.id → a ≡ b
+same-id system configs a b sound (j, j_lt, is_a) (k, k_lt, is_b) same =
+    ⊎_elim
+    (λ (lt : j < k). absurd (apart_at system configs j k a b sound lt k_lt is_a is_b same))
+    (λ (le : k ≤ j).
+    ⊎_elim
+    (λ (lt : k < j). absurd (apart_at system configs k j b a sound lt j_lt is_b is_a (sym same)))
+    (λ (ge : j ≤ k).
+    let e : k ≡ j = omega arith in
+    let P : ℕ → Type 0 = λ n. get_or configs n b ≡ b in
+    at-same configs j a b j_lt is_a (subst P e is_b))
+    (cases_lt k j))
+    (cases_lt j k)
+
+-- a cell that lives is found by its id
+found_by_id : (image : Image) (cells : List Live) (cell : CellConfig) → AreSoundCells image.system (configs_of cells) → Contains (configs_of cells) cell → live_in cells cell.id ≡ Some cell
+found_by_id image cells cell sound held =
+    let live = Contains-from_map (λ (l : Live). l.config) cells cell held in
+    let some = find-some (has_id cell.id) cells live.0 live.1 (eq-eqb live.0.config.id cell.id (ap (λ (c : CellConfig). c.id) live.2)) in
+    let found = found-live cells cell.id some.0 some.1 in
+    ap (option_map (λ (l : Live). l.config)) some.1 ∙ ap Some (same-id image.system (configs_of cells) some.0.config cell sound found.0 held found.1)
+
+pub live-cell : (image : Image) (cells : List Live) (cell : CellConfig) → AreSoundCells image.system (configs_of cells) → IsLive image cells cell → cell_in image cells cell.id ≡ Some cell
+live-cell image cells cell sound live =
+    ⊎_elim
+    (λ (is : cell ≡ image.system.root).
+    let root : eqb cell.id image.system.root.id ≡ true = eq-eqb cell.id image.system.root.id (ap (λ (c : CellConfig). c.id) is) in
+    let e : cell_in image cells cell.id ≡ Some image.system.root = rw root refl in
+    e ∙ ap Some (sym is))
+    (λ (held : Contains (configs_of cells) cell).
+    let other : eqb cell.id image.system.root.id ≡ false = ne_eqb cell.id image.system.root.id (other-root image.system (configs_of cells) cell sound held) in
+    let e : cell_in image cells cell.id ≡ live_in cells cell.id = rw other refl in
+    e ∙ found_by_id image cells cell sound held)
+    live
+
+live_found : (cells : List Live) (id : ℕ) (o : Option Live) (cell : CellConfig) → find (has_id id) cells ≡ o → option_map (λ (l : Live). l.config) o ≡ Some cell → Contains (configs_of cells) cell × (cell.id ≡ id)
+live_found cells id None cell is h = absurd (none-some cell h)
+live_found cells id (Some live) cell is h =
+    let P : CellConfig → Type 0 = λ c. Contains (configs_of cells) c × (c.id ≡ id) in
+    subst P (same_Some live.config cell h) (found-live cells id live is)
+
+cell_by : (image : Image) (cells : List Live) (id : ℕ) (cell : CellConfig) (b : Bool) → eqb id image.system.root.id ≡ b → cond b (Some image.system.root) (live_in cells id) ≡ Some cell → IsLive image cells cell × (cell.id ≡ id)
+cell_by image cells id cell true is h =
+    let e : image.system.root ≡ cell = same_Some image.system.root cell h in
+    (inl (sym e), sym (ap (λ (c : CellConfig). c.id) e) ∙ sym (eqb-true id image.system.root.id is))
+cell_by image cells id cell false is h = let found = live_found cells id (find (has_id id) cells) cell refl h in (inr found.0, found.1)
+
+pub cell-live : (image : Image) (cells : List Live) (id : ℕ) (cell : CellConfig) → cell_in image cells id ≡ Some cell → IsLive image cells cell × (cell.id ≡ id)
+cell-live image cells id cell h = cell_by image cells id cell (eqb id image.system.root.id) refl h
+
+-- ---- regions of a live cell
+
+-- the number of a live cell
+pub number-of : (image : Image) (cells : List Live) (cell : CellConfig) → IsLive image cells cell → (a : ℕ) × IsNumbered image.system (configs_of cells) a cell
+number-of image cells cell live =
+    ⊎_elim
+    (λ (is : cell ≡ image.system.root). (0, ap Some (sym is)))
+    (λ (held : Contains (configs_of cells) cell). (suc held.0, slice_get-get_or (configs_of cells) held.0 cell held.1 ∙ ap Some held.2))
+    live
+
+-- at most one of its regions gives an address
+only_region : (image : Image) (cells : List Live) (cell : CellConfig) (access : Access) (at : ℕ) → AreSoundCells image.system (configs_of cells) → IsLive image cells cell → IsOnly (gives access at) cell.memory_regions
+only_region image cells cell access at sound live j k d lt within at_j at_k =
+    let number = number-of image cells cell live in
+    let regions : List Region = cell.memory_regions in
+    let same : j ≡ k = sound.clean.addresses number.0 cell number.1 j k (get_or regions j d) (get_or regions k d)
+    (slice_get-get_or regions j d (omega arith)) (slice_get-get_or regions k d within) at
+    (gives-address access at (get_or regions j d) at_j) (gives-address access at (get_or regions k d) at_k) in
+    omega arith
+
+-- a region that has an address ends within the addresses
+region_within : (image : Image) (cells : List Live) (cell : CellConfig) (r : Region) (at : ℕ) → AreSoundCells image.system (configs_of cells) → IsLive image cells cell → Contains cell.memory_regions r → has_address r at ≡ true → virt_end r ≤ ADDRESS_END
+region_within image cells cell r at sound live held has =
+    let number = number-of image cells cell live in
+    let first : r.virt_start ≤ at = has_address-first r at has in
+    let last : at < virt_end r = has_address-last r at has in
+    let some : 0 < r.size = omega arith in
+    let item : slice_get cell.memory_regions held.0 ≡ Some r = slice_get-get_or cell.memory_regions held.0 r held.1 ∙ ap Some held.2 in
+    (sound.clean.within number.0 cell number.1 held.0 r item some).virt
+
+may_right : (access : Access) (r : Region) → may access r ≡ has_flags (right_of access) r
+may_right ToRead r = refl
+may_right ToWrite r = refl
+may_right ToFetch r = refl
+
+-- what the cell's regions give an address
+pub given-place : (image : Image) (cells : List Live) (cell : CellConfig) (access : Access) (at : ℕ) (place : Place) → AreSoundCells image.system (configs_of cells) → IsLive image cells cell → IsGranted cell access at place
+    → place_of cell.id cell.memory_regions access at ≡ Some place
+unfolding place_of
+given-place image cells cell access at place sound live given =
+    let r = given.region in
+    let i = given.held.0 in
+    let regions : List Region = cell.memory_regions in
+    let same : get_or regions i r ≡ r = given.held.2 in
+    let has : has_address r at ≡ true = has_address-from r at given.first given.last in
+    let there : gives access at (get_or regions i r) ≡ true = ap (gives access at) same ∙ gives-from access at r has given.pages (sym (may_right access r) ∙ given.right) in
+    let found : find (gives access at) regions ≡ Some r = find-only (gives access at) regions i r given.held.1 there (only_region image cells cell access at sound live) ∙ ap Some same in
+    ap (option_map (λ (s : Region). place_in_cell cell.id s at)) found ∙ ap Some (sym given.given)
+
+place_by : (image : Image) (cells : List Live) (cell : CellConfig) (access : Access) (at : ℕ) (place : Place) (o : Option Region) → AreSoundCells image.system (configs_of cells) → IsLive image cells cell → region_of cell.memory_regions access at ≡ o
+    → option_map (λ (s : Region). place_in_cell cell.id s at) o ≡ Some place → IsGranted cell access at place
+place_by image cells cell access at place None sound live is e = absurd (none-some place e)
+place_by image cells cell access at place (Some r) sound live is e =
+    let found = IsFound-from_find (gives access at) cell.memory_regions r is in
+    let has : has_address r at ≡ true = gives-address access at r found.passes in
+    let within : virt_end r ≤ ADDRESS_END = region_within image cells cell r at sound live found.held has in
+    let last : at < virt_end r = has_address-last r at has in
+    record {
+      below = omega arith;
+      region = r;
+      held = found.held;
+      pages = gives-pages access at r found.passes;
+      right = may_right access r ∙ gives-right access at r found.passes;
+      first = has_address-first r at has;
+      last = last;
+      given = sym (same_Some (place_in_cell cell.id r at) place e);
+    }
+
+pub place-given : (image : Image) (cells : List Live) (cell : CellConfig) (access : Access) (at : ℕ) (place : Place) → AreSoundCells image.system (configs_of cells) → IsLive image cells cell → place_of cell.id cell.memory_regions access at ≡ Some place
+    → IsGranted cell access at place
+unfolding place_of
+place-given image cells cell access at place sound live e = place_by image cells cell access at place (region_of cell.memory_regions access at) sound live refl e
+
+-- ---- what is left to it
+
+left_free : (image : Image) (cells : List Live) (cell : CellConfig) (place : Place) → IsLeft image cells cell place → is_kept image cells cell.id place ≡ false
+left_free image cells cell (Page id offset) left = refl
+left_free image cells cell (Physical p) left =
+    false_from_ne_true (is_kept image cells cell.id (Physical p))
+    (λ kept.
+    let parts = and_parts (eqb cell.id image.system.root.id) (is_closed (map holder_of_live cells) p) kept in
+    left (eqb-true cell.id image.system.root.id parts.0) (taken_there cells p parts.1))
+
+free_left : (image : Image) (cells : List Live) (cell : CellConfig) (place : Place) → is_kept image cells cell.id place ≡ false → IsLeft image cells cell place
+free_left image cells cell (Page id offset) free = tt
+free_left image cells cell (Physical p) free = λ root taken.
+    both_ways (is_kept image cells cell.id (Physical p)) free
+    (and_from (eqb cell.id image.system.root.id) (is_closed (map holder_of_live cells) p) (eq-eqb cell.id image.system.root.id root) (taken_back cells p taken))
+
+-- ---- what is granted
+
+regions_of_live : (image : Image) (cells : List Live) (cell : CellConfig) → AreSoundCells image.system (configs_of cells) → IsLive image cells cell → regions_in image cells cell.id ≡ cell.memory_regions
+regions_of_live image cells cell sound live = ap (λ (o : Option CellConfig). option_map_or (λ (c : CellConfig). c.memory_regions) o []) (live-cell image cells cell sound live)
+
+granted_live : (image : Image) (cells : List Live) (cell : CellConfig) (access : Access) (at : ℕ) (place : Place) → AreSoundCells image.system (configs_of cells) → IsLive image cells cell → IsGranted cell access at place → IsLeft image cells cell place
+    → granted_in image cells cell.id access at ≡ Some place
+granted_live image cells cell access at place sound live given left =
+    let free : is_kept image cells cell.id place ≡ false = left_free image cells cell place left in
+    ap (λ (rs : List Region). granted_by cell.id rs (is_kept image cells cell.id) access at) (regions_of_live image cells cell sound live)
+    ∙ ap (option_and_then (unless (is_kept image cells cell.id))) (given-place image cells cell access at place sound live given)
+    ∙ ap (λ (b : Bool). cond b None (Some place)) free
+
+-- what the cell is granted is granted to it by the definition
+pub granted-to : (image : Image) (f : Facts) (id : ℕ) (access : Access) (at : ℕ) (place : Place) → AreSoundCells image.system (configs_of f.cells) → IsGrantedTo image f.cells id access at place → granted image f id access at ≡ Some place
+granted-to image f id access at place sound h =
+    let P : ℕ → Type 0 = λ k. granted_in image f.cells k access at ≡ Some place in
+    subst P h.named (granted_live image f.cells h.cell access at place sound h.live h.given h.left)
+
+unless_some : (kept : Place → Bool) (p place : Place) → unless kept p ≡ Some place → (p ≡ place) × (kept place ≡ false)
+unless_some kept p place h =
+    let e = unless_by (kept p) refl h in
+    let P : Place → Type 0 = λ q. kept q ≡ false in
+    (e.0, subst P e.0 e.1)
+  where
+    unless_by : (b : Bool) → kept p ≡ b → cond b None (Some p) ≡ Some place → (p ≡ place) × (kept p ≡ false)
+    unless_by true is e = absurd (none-some place e)
+    unless_by false is e = (same_Some p place e, is)
+
+granted_at : (image : Image) (cells : List Live) (cell : CellConfig) (access : Access) (at : ℕ) (place : Place) (o : Option Place) → AreSoundCells image.system (configs_of cells) → IsLive image cells cell → place_of cell.id cell.memory_regions access at ≡ o
+    → option_and_then (unless (is_kept image cells cell.id)) o ≡ Some place → IsGrantedTo image cells cell.id access at place
+granted_at image cells cell access at place None sound live is h = absurd (none-some place h)
+granted_at image cells cell access at place (Some p) sound live is h =
+    let same = unless_some (is_kept image cells cell.id) p place h in
+    record {
+      cell = cell;
+      live = live;
+      named = refl;
+      given = place-given image cells cell access at place sound live (is ∙ ap Some same.0);
+      left = free_left image cells cell place same.1;
+    }
+
+no_regions : (id : ℕ) (access : Access) (at : ℕ) → place_of id [] access at ≡ None
+unfolding place_of
+no_regions id access at = refl
+
+to_granted : (image : Image) (cells : List Live) (id : ℕ) (access : Access) (at : ℕ) (place : Place) (o : Option CellConfig) → AreSoundCells image.system (configs_of cells) → cell_in image cells id ≡ o
+    → granted_by id (option_map_or (λ (c : CellConfig). c.memory_regions) o []) (is_kept image cells id) access at ≡ Some place → IsGrantedTo image cells id access at place
+to_granted image cells id access at place None sound is h =
+    absurd (none-some place (sym (ap (option_and_then (unless (is_kept image cells id))) (no_regions id access at)) ∙ h))
+to_granted image cells id access at place (Some cell) sound is h =
+    let live = cell-live image cells id cell is in
+    let P : ℕ → Type 0 = λ k. granted_by k cell.memory_regions (is_kept image cells k) access at ≡ Some place → IsGrantedTo image cells k access at place in
+    subst P live.1 (granted_at image cells cell access at place (place_of cell.id cell.memory_regions access at) sound live.0 refl) h
+
+pub to-granted : (image : Image) (f : Facts) (id : ℕ) (access : Access) (at : ℕ) (place : Place) → AreSoundCells image.system (configs_of f.cells) → granted image f id access at ≡ Some place → IsGrantedTo image f.cells id access at place
+to-granted image f id access at place sound h = to_granted image f.cells id access at place (cell_in image f.cells id) sound refl h
+
+-- ---- what an access reaches
+
+nothing_memory : (ps : List Place) → Nothing ≡ Memory ps → ⊥
+nothing_memory ps e = false≢true (ap is_reached e)
+
+-- where each byte is granted it reaches memory
+reach_granted : (image : Image) (f : Facts) (id : ℕ) (access : Access) (at width : ℕ) → AreSoundCells image.system (configs_of f.cells) → 0 < width → AreGrantedTo image f.cells id access at width
+    → (ps : List Place) × (reach image f id access at width ≡ Memory ps)
+reach_granted image f id access at width sound some each =
+    let g : ℕ → Option Place = granted image f id access in
+    let end = (each (width - 1) (omega arith)).1.given in
+    let below : at + (width - 1) < ADDRESS_END = end.below in
+    let within : at + width ≤ ADDRESS_END = omega arith in
+    let found = places_from-some g at width (λ k lt. ((each k lt).0, granted-to image f id access (at + k) (each k lt).0 sound (each k lt).1)) in
+    (found.0, reach_by-within g at width within ∙ ap memory_or_nothing found.1)
+
+-- and it reaches the places that are granted
+pub reach-listed : (image : Image) (f : Facts) (id : ℕ) (access : Access) (at width : ℕ) (place : ℕ → Place) → AreSoundCells image.system (configs_of f.cells) → 0 < width → ((k : ℕ) → k < width → IsGrantedTo image f.cells id access (at + k) (place k))
+    → reach image f id access at width ≡ Memory (listed place width)
+reach-listed image f id access at width place sound some each =
+    let g : ℕ → Option Place = granted image f id access in
+    let below : at + (width - 1) < ADDRESS_END = (each (width - 1) (omega arith)).given.below in
+    let within : at + width ≤ ADDRESS_END = omega arith in
+    reach_by-within g at width within ∙ ap memory_or_nothing (places_from-listed g place at width (λ k lt. granted-to image f id access (at + k) (place k) sound (each k lt)))
+
+granted_of : (image : Image) (f : Facts) (id : ℕ) (access : Access) (at width : ℕ) (o : Option (List Place)) (ps : List Place) → AreSoundCells image.system (configs_of f.cells) → places_from (granted image f id access) at width ≡ o → memory_or_nothing o ≡ Memory ps
+    → AreGrantedTo image f.cells id access at width
+granted_of image f id access at width None ps sound is e = absurd (nothing_memory ps e)
+granted_of image f id access at width (Some qs) ps sound is e = λ k lt.
+    let found = places_from-each (granted image f id access) at width qs is k lt in
+    (found.0, to-granted image f id access (at + k) found.0 sound found.1)
+
+-- where an access reaches memory, each byte is granted
+granted_reach : (image : Image) (f : Facts) (id : ℕ) (access : Access) (at width : ℕ) (ps : List Place) → AreSoundCells image.system (configs_of f.cells) → reach image f id access at width ≡ Memory ps → AreGrantedTo image f.cells id access at width
+granted_reach image f id access at width ps sound e = elim (cases_lt ADDRESS_END (at + width)) [
+  | inl beyond ↦ absurd (nothing_memory ps (sym (reach_by-beyond (granted image f id access) at width beyond) ∙ e))
+  | inr within ↦ granted_of image f id access at width (places_from (granted image f id access) at width) ps sound refl (sym (reach_by-within (granted image f id access) at width within) ∙ e)
+]
+
+got_by : (image : Image) (f : Facts) (id : ℕ) (access : Access) (at width : ℕ) (r : Reach) → AreSoundCells image.system (configs_of f.cells) → 0 < width → reach image f id access at width ≡ r → IsGotBy image f id access at width (read_of f.byte r)
+got_by image f id access at width (Memory ps) sound some is = record {
+  granted = (λ _. granted_reach image f id access at width ps sound is, λ _. refl);
+  reads = λ value e place each.
+      let places : reach image f id access at width ≡ Memory (listed place width) = reach-listed image f id access at width place sound some each in
+      let read : read_of f.byte (Memory ps) ≡ read_of f.byte (Memory (listed place width)) = ap (read_of f.byte) (sym is ∙ places) in
+      let spelt : Some value ≡ Some (spelled (map f.byte (listed place width))) = sym e ∙ read in
+      same_Some value (spelled (map f.byte (listed place width))) spelt ∙ spelled-listed f.byte place width;
+}
+got_by image f id access at width Nothing sound some is = record {
+  granted = (
+    λ e. absurd (false≢true e),
+    λ each. let found = reach_granted image f id access at width sound some each in absurd (nothing_memory found.0 (sym is ∙ found.1)),
+  );
+  reads = λ value e place each. absurd (none-some value e);
+}
+
+pub got-of_cell : (image : Image) (f : Facts) (id : ℕ) (access : Access) (at width : ℕ) → AreSoundCells image.system (configs_of f.cells) → 0 < width → IsGotBy image f id access at width (read_of f.byte (reach image f id access at width))
+got-of_cell image f id access at width sound some = got_by image f id access at width (reach image f id access at width) sound some refl
+
+reached_by : (image : Image) (f : Facts) (id : ℕ) (access : Access) (at width : ℕ) (r : Reach) → AreSoundCells image.system (configs_of f.cells) → 0 < width → reach image f id access at width ≡ r
+    → (is_reached r ≡ true → AreGrantedTo image f.cells id access at width) × (AreGrantedTo image f.cells id access at width → is_reached r ≡ true)
+reached_by image f id access at width (Memory ps) sound some is = (λ _. granted_reach image f id access at width ps sound is, λ _. refl)
+reached_by image f id access at width Nothing sound some is = (
+  λ e. absurd (false≢true e),
+  λ each. let found = reach_granted image f id access at width sound some each in absurd (nothing_memory found.0 (sym is ∙ found.1)),
+)
+
+pub reached-of_cell : (image : Image) (f : Facts) (id : ℕ) (access : Access) (at width : ℕ) → AreSoundCells image.system (configs_of f.cells) → 0 < width
+    → (is_reached (reach image f id access at width) ≡ true → AreGrantedTo image f.cells id access at width) × (AreGrantedTo image f.cells id access at width → is_reached (reach image f id access at width) ≡ true)
+reached-of_cell image f id access at width sound some = reached_by image f id access at width (reach image f id access at width) sound some refl
+
+-- ---- how an operation ends
+
+width_some : (w : ℕ) → IsTrue (is_width w) → 0 < w
+width_some w h = grind arith
+
+abbrev Ends : Image → Facts → ℕ → Option Act → Type 0
+Ends image f id o = IfSome o (EndsAsGranted image f id)
+
+await_failed : (image : Image) (f : Facts) (id at width value : ℕ) (got : Option ℕ) → IsGotBy image f id ToRead at width got → got ≡ None → IsAwaitedBy image f id at width value false
+await_failed image f id at width value got outcome none = record {
+  granted = (λ h. absurd (false≢true h), λ each. absurd (false≢true (let some = outcome.granted.1 each in rw none at some)));
+  reads = λ h. absurd (false≢true h);
+}
+
+await_done : (image : Image) (f : Facts) (id at width value got : ℕ) → IsGotBy image f id ToRead at width (Some got) → eqb got value ≡ true → IsAwaitedBy image f id at width value true
+await_done image f id at width value got outcome same = record {
+  granted = (λ _. outcome.granted.0 refl, λ _. refl);
+  reads = λ _ place each. sym (eqb-true got value same) ∙ outcome.reads got refl place each;
+}
+
+await_ends : (image : Image) (f : Facts) (id at width value : ℕ) (o : Option ℕ) → IsGotBy image f id ToRead at width o → Ends image f id (await_of width at value o)
+await_ends image f id at width value None outcome = await_failed image f id at width value None outcome refl
+await_ends image f id at width value (Some got) outcome =
+    cond_both (eqb got value) (Some (Await width at value true)) None (Ends image f id) (λ same. await_done image f id at width value got outcome same) (λ _. tt)
+
+op_ends : (image : Image) (f : Facts) (id : ℕ) (op : Op) → AreSoundCells image.system (configs_of f.cells) → IsPlain op → Ends image f id (act_of image f id op)
+op_ends image f id (ReadOp width at) sound plain = got-of_cell image f id ToRead at width sound (width_some width plain)
+op_ends image f id (WriteOp width at value) sound plain = reached-of_cell image f id ToWrite at width sound (width_some width plain.0)
+op_ends image f id (FetchOp at) sound plain = got-of_cell image f id ToFetch at 4 sound (omega arith)
+op_ends image f id (AwaitOp width at value) sound plain = await_ends image f id at width value (read_of f.byte (reach image f id ToRead at width)) (got-of_cell image f id ToRead at width sound (width_some width plain.0))
+op_ends image f id IrqOp sound plain = tt
+op_ends image f id (HvcOp code a b) sound plain =
+    cond_both (eqb id image.system.root.id && is_management (decoded code a b)) (Begin code a b) (Hvc code a b (answer_of (decoded code a b) (seen_of image f id (decoded code a b))))
+    (EndsAsGranted image f id) (λ _. tt) (λ _. tt)
+
+ends_by : (image : Image) (f : Facts) (id : ℕ) (act : Act) (o : Option Act) → Ends image f id o → o ≡ Some act → EndsAsGranted image f id act
+ends_by image f id act None h is = absurd (none-some act is)
+ends_by image f id act (Some other) h is = let P : Act → Type 0 = EndsAsGranted image f id in subst P (same_Some other act is) h
+
+-- the operations of a cell are plain
+ops_plain : (image : Image) (cpu : ℕ) (o : Option CellConfig) (i : ℕ) (op : Op) → IsAdmitted image → slice_get (option_map_or (λ (c : CellConfig). program_of image (name_of c) cpu) o []) i ≡ Some op → IsPlain op
+ops_plain image cpu None i op admitted h = absurd (none-some op h)
+ops_plain image cpu (Some c) i op admitted h = op-plain image (name_of c) cpu i op admitted h
+
+pub ends-as_granted : (image : Image) (f : Facts) (state : Cpu) (cpu : ℕ) (op : Op) (act : Act) → IsAdmitted image → AreSoundCells image.system (configs_of f.cells) → slice_get (ops_in image f.cells state.owner cpu) state.position ≡ Some op
+    → act_of image f state.owner op ≡ Some act → EndsAsGranted image f state.owner act
+ends-as_granted image f state cpu op act admitted sound at is =
+    ends_by image f state.owner act (act_of image f state.owner op) (op_ends image f state.owner op sound (ops_plain image cpu (cell_in image f.cells state.owner) state.position op admitted at)) is
+
+-- no other act is an access
+stop_ends : (image : Image) (f : Facts) (id : ℕ) (act : Act) → Stop ≡ act → EndsAsGranted image f id act
+stop_ends image f id act is = let P : Act → Type 0 = EndsAsGranted image f id in subst P is tt
+
+phase_ends : (image : Image) (f : Facts) (id : ℕ) (act : Act) → is_phase act ≡ true → EndsAsGranted image f id act
+phase_ends image f id (Read width at got) h = absurd (false≢true h)
+phase_ends image f id (Write width at value ok) h = absurd (false≢true h)
+phase_ends image f id (Fetch at got) h = absurd (false≢true h)
+phase_ends image f id (Await width at value ok) h = absurd (false≢true h)
+phase_ends image f id (Irq device vector) h = tt
+phase_ends image f id (Hvc code a b answer) h = tt
+phase_ends image f id (Begin code a b) h = tt
+phase_ends image f id Stop h = tt
+phase_ends image f id (Decide refused) h = tt
+phase_ends image f id (Settle how) h = tt
+phase_ends image f id Commit h = tt
+phase_ends image f id (Note who) h = tt
+phase_ends image f id (Noted who how) h = tt
+phase_ends image f id (Finish answer) h = tt
+
+ends_made : (image : Image) (f : Facts) (entry : Entry) → IsAdmitted image → IsSound image f → IsMadeBy image f entry → EndsAsGranted image f (f.cpu entry.cpu).owner entry.act
+ends_made image f entry admitted sound (Stopping is) = stop_ends image f (f.cpu entry.cpu).owner entry.act is
+ends_made image f entry admitted sound (Calling phase) = phase_ends image f (f.cpu entry.cpu).owner entry.act phase
+ends_made image f entry admitted sound (Running program) = ends-as_granted image f (f.cpu entry.cpu) entry.cpu program.op entry.act admitted sound.cells program.at program.is
+
+-- each access of a legal journal ends as its cell is granted
+pub ends-at : (image : Image) (before rest : List Entry) (entry : Entry) → IsAdmitted image → IsLegal image (before ++ entry ∷ rest) → EndsAsGranted image (facts image before) entry.cell entry.act
+ends-at image before rest entry admitted legal =
+    let f : Facts = facts image before in
+    let sound = legal-sound image before admitted (IsLegal-begin image before (entry ∷ rest) legal) in
+    let due : due_at image f entry.cpu ≡ Some entry = due-split image before rest entry legal in
+    let P : ℕ → Type 0 = λ id. EndsAsGranted image f id entry.act in
+    subst P (sym (next-from_due image f entry due).cell) (ends_made image f entry admitted sound (made-by image f entry sound due))
+
+-- ---- root
+
+-- what root is granted is the place of its address
+pub root-address : (image : Image) (cells : List Live) (access : Access) (at : ℕ) (place : Place) → AreSoundCells image.system (configs_of cells) → IsGranted image.system.root access at place → place ≡ Physical at
+root-address image cells access at place sound given =
+    let r = given.region in
+    let held : Contains image.system.root.memory_regions r = given.held in
+    let item : slice_get image.system.root.memory_regions held.0 ≡ Some r = slice_get-get_or image.system.root.memory_regions held.0 r held.1 ∙ ap Some held.2 in
+    let first : r.virt_start ≤ at = given.first in
+    let last : at < r.virt_start + r.size = given.last in
+    let some : 0 < r.size = omega arith in
+    let identity : r.phys_start ≡ r.virt_start = sound.clean.identity held.0 r item some in
+    let memory : is_comm r ≡ false = sound.clean.no_comm held.0 r item some in
+    let same : r.phys_start + (at - r.virt_start) ≡ at = omega arith in
+    given.given ∙ ap (λ (b : Bool). cond b (Page image.system.root.id (at - r.virt_start)) (Physical (r.phys_start + (at - r.virt_start)))) memory ∙ ap Physical same
+
+-- it is granted what its regions give, but for what another cell holds
+pub root-rest : (image : Image) (cells : List Live) (access : Access) (at : ℕ) (place : Place) → AreSoundCells image.system (configs_of cells) → IsGrantedTo image cells image.system.root.id access at place
+    → IsGranted image.system.root access at place × (IsTaken cells at → ⊥) × (place ≡ Physical at)
+root-rest image cells access at place sound h =
+    let same : h.cell ≡ image.system.root = ⊎_elim (λ (is : h.cell ≡ image.system.root). is) (λ (held : Contains (configs_of cells) h.cell). absurd (other-root image.system (configs_of cells) h.cell sound held h.named)) h.live in
+    let P : CellConfig → Type 0 = λ c. IsGranted c access at place in
+    let given : IsGranted image.system.root access at place = subst P same h.given in
+    let address : place ≡ Physical at = root-address image cells access at place sound given in
+    let Q : Place → Type 0 = IsLeft image cells h.cell in
+    let left : IsLeft image cells h.cell (Physical at) = subst Q address h.left in
+    (given, left h.named, address)
+
+pub rest-root : (image : Image) (cells : List Live) (access : Access) (at : ℕ) → AreSoundCells image.system (configs_of cells) → IsGranted image.system.root access at (Physical at) → (IsTaken cells at → ⊥) → IsGrantedTo image cells image.system.root.id access at (Physical at)
+rest-root image cells access at sound given free = record { cell = image.system.root; live = inl refl; named = refl; given = given; left = λ _. free }
+
+-- another cell is granted what its regions give
+pub other-granted : (image : Image) (cells : List Live) (cell : CellConfig) (access : Access) (at : ℕ) (place : Place) → AreSoundCells image.system (configs_of cells) → Contains (configs_of cells) cell → IsGranted cell access at place
+    → IsGrantedTo image cells cell.id access at place
+other-granted image cells cell access at place sound held given = record { cell = cell; live = inr held; named = refl; given = given; left = left_by place }
+  where
+    left_by : (p : Place) → IsLeft image cells cell p
+    left_by (Physical p) = λ is _. other-root image.system (configs_of cells) cell sound held is
+    left_by (Page id offset) = tt
+
+pub granted-other : (image : Image) (cells : List Live) (cell : CellConfig) (access : Access) (at : ℕ) (place : Place) → AreSoundCells image.system (configs_of cells) → Contains (configs_of cells) cell → IsGrantedTo image cells cell.id access at place
+    → IsGranted cell access at place
+granted-other image cells cell access at place sound held h =
+    let P : CellConfig → Type 0 = λ c. IsGranted c access at place in
+    let same : h.cell ≡ cell =
+    ⊎_elim
+    (λ (is : h.cell ≡ image.system.root). absurd (other-root image.system (configs_of cells) cell sound held (sym h.named ∙ ap (λ (c : CellConfig). c.id) is)))
+    (λ (there : Contains (configs_of cells) h.cell). same-id image.system (configs_of cells) h.cell cell sound there held h.named)
+    h.live in
+    subst P same h.given

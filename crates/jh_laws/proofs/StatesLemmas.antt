@@ -1,0 +1,386 @@
+-- What entries do to CPUs.
+use Rattle.std.proofs.Common.{◌≡◌, ◌≢◌, ℕ, ◌+◌, ◌-◌, ◌^◌, ◌<◌, ◌≤◌, min, List, [], ◌∷◌, ◌++◌, ℤ, Bool, true, false, cond, not, ◌&&◌, eqb, length, Option, Some, None, is_some, refl, sym, ap, subst, ◌∙◌, arith}
+use Rattle.std.specs.Prelude.{slice_get}
+use Rattle.std.specs.Option.{option_map_or}
+use Rattle.std.proofs.lemmas.Bool.{both_ways, and_left, and_right, eq-eqb, ne_eqb, false≢true}
+use Rattle.std.proofs.lemmas.Option.{none-some, same_Some, slice_get_within}
+use Rattle.jh_cellcfg.specs.declared.config.CellConfig.{CellConfig}
+use Rattle.jh_cellcfg.specs.declared.live.Live.{Live}
+use Rattle.jh_cellcfg.specs.Cells.{name_of}
+use Rattle.jh_cpu.specs.declared.cpu.Cpu.{Cpu}
+use Rattle.jh_cpu.specs.declared.cpu.Mode.{Mode}
+use Rattle.jh_cpu.specs.declared.cpu.Mode.TheVariants.{Running, Parked, Failed}
+use Rattle.jh_cpu.specs.Changes.{asked_of, stopped_of, resumed, moved, failed, lent, parked, restarted, returned}
+use Rattle.jh_call.specs.declared.call.Call.{Call}
+use Rattle.jh_call.specs.declared.call.Call.TheVariants.{Create, Start, Loadable, Destroy, Info, State, CpuInfo, Unknown}
+use Rattle.jh_call.specs.Calls.{is_management}
+use Rattle.jh_script.specs.declared.image.Image.{Image}
+use Rattle.jh_script.specs.declared.op.Op.{Op}
+use Rattle.jh_script.specs.declared.op.Op.TheVariants.{Hvc as HvcOp}
+use Rattle.jh_history.specs.declared.call.OpenCall.{OpenCall}
+use Rattle.jh_history.specs.declared.call.Phase.{Phase}
+use Rattle.jh_history.specs.declared.call.Phase.TheVariants.{ToDecide, ToSettle, ToCreate, ToCommit, ToNote, ToNoted, ToFinish}
+use Rattle.jh_history.specs.declared.change.Change.{Change}
+use Rattle.jh_history.specs.declared.change.Change.TheVariants.{Stay, Step, Fail, Stop as Halt}
+use Rattle.jh_history.specs.declared.entry.Entry.{Entry}
+use Rattle.jh_history.specs.declared.entry.Settled.TheVariants.{Agreed, Denied, Timeout}
+use Rattle.jh_history.specs.declared.entry.Act.{Act}
+use Rattle.jh_history.specs.declared.entry.Act.TheVariants.{Read, Write, Fetch, Await, Irq, Hvc, Begin, Stop, Decide, Settle, Commit, Note, Noted, Finish}
+use Rattle.jh_history.specs.Facts.{Facts}
+use Rattle.jh_history.specs.Lives.{is_on_board, program_of, cell_in}
+use Rattle.jh_history.specs.Admitted.{IsAdmitted}
+use Rattle.jh_history.specs.Calls.{is_named}
+use Rattle.jh_history.specs.Commits.{cells_by, committed_cells}
+use Rattle.jh_history.specs.Cpus.{acted, changed, change_if, begun as begun_cpu, settled, committed, finished, resumed_in, is_running}
+use Rattle.jh_history.specs.History.{facts}
+use Rattle.jh_history.specs.Phases.{configs_of}
+use Rattle.jh_history.specs.Due.{is_idle_but, IsLegal}
+use Rattle.jh_history.proofs.FactsLemmas.{facts-push, cpu-after}
+use Rattle.jh_history.proofs.LegalLemmas.{due-split, IsLegal-begin}
+use Rattle.jh_history.specs.Sound.{IsCaller, IsInPhase}
+use Rattle.jh_laws.specs.Ways.{is_phase, is_call, is_commit, is_agreement, call_begun, begun}
+use Rattle.jh_laws.specs.Moves.{stepped, ended}
+use Rattle.jh_laws.specs.Outcomes.{is_violation}
+use Rattle.jh_laws.specs.States.{changes_others, is_stop, HasBegun, HasAgreed, HasCommitted, HasFinished}
+use Rattle.jh_laws.proofs.RootLemmas.{program_of-few}
+use Rattle.jh_history.proofs.SoundCommitLemmas.{configs-joined}
+use Rattle.jh_history.proofs.SoundLemmas.{legal-sound}
+use Rattle.jh_laws.proofs.CommitLemmas.{cells-after}
+use Rattle.jh_laws.proofs.CallLemmas.{Expects, phase-expects, phase-of_due, sound-open, begun-of, not_same, IsMadeBy, Stopping, Running as Runs, Calling, made-by, phase_call}
+
+-- CPU i behind an entry
+behind-cpu : (image : Image) (before : List Entry) (entry : Entry) (i : ℕ) → (facts image (before ++ entry ∷ [])).cpu i ≡ acted image (facts image before).call entry.act entry.cpu i ((facts image before).cpu i)
+behind-cpu image before entry i = ap (λ (f : Facts). f.cpu i) (facts-push image before entry) ∙ ap (λ (c : ℕ → Cpu). c i) (cpu-after image (facts image before) entry)
+
+-- ---- a CPU's own entry
+
+-- a position in a program is below the end of its type
+within_ops : (image : Image) (cpu : ℕ) (o : Option CellConfig) (i : ℕ) (op : Op) → IsAdmitted image → slice_get (option_map_or (λ (c : CellConfig). program_of image (name_of c) cpu) o []) i ≡ Some op → i < 4096
+within_ops image cpu None i op admitted h = absurd (none-some op h)
+within_ops image cpu (Some c) i op admitted h =
+    let few : length (program_of image (name_of c) cpu) ≤ 4096 = program_of-few image (name_of c) cpu admitted in
+    let within : i < length (program_of image (name_of c) cpu) = slice_get_within (program_of image (name_of c) cpu) i op h in
+    omega (arith, few, within)
+
+moved_stepped : (cpu : Cpu) → cpu.position < 4096 → moved cpu ≡ stepped cpu
+moved_stepped cpu few =
+    let e : min (cpu.position + 1) (2 ^ 32 - 1) ≡ cpu.position + 1 = omega arith in
+    ap (λ (p : ℕ). record cpu { position = p }) e
+
+own_cpu : (change : Change) (own : ℕ) (cpu : Cpu) → cond (eqb own own) (changed change cpu) cpu ≡ changed change cpu
+own_cpu change own cpu = ap (λ (b : Bool). cond b (changed change cpu) cpu) (eq-eqb own own refl)
+
+-- an access or a hypercall that is answered moves its CPU, and a violation fails it
+own_by : (image : Image) (call : Option OpenCall) (act : Act) (own : ℕ) (cpu : Cpu) → cpu.position < 4096 → is_call act ≡ false → is_stop act ≡ false → is_violation act ≡ false → acted image call act own own cpu ≡ stepped cpu
+own_by image call (Read width at None) own cpu few a b c = absurd (false≢true (sym c))
+own_by image call (Read width at (Some got)) own cpu few a b c = own_cpu Step own cpu ∙ moved_stepped cpu few
+own_by image call (Fetch at None) own cpu few a b c = absurd (false≢true (sym c))
+own_by image call (Fetch at (Some got)) own cpu few a b c = own_cpu Step own cpu ∙ moved_stepped cpu few
+own_by image call (Write width at value true) own cpu few a b c = own_cpu Step own cpu ∙ moved_stepped cpu few
+own_by image call (Write width at value false) own cpu few a b c = absurd (false≢true (sym c))
+own_by image call (Await width at value true) own cpu few a b c = own_cpu Step own cpu ∙ moved_stepped cpu few
+own_by image call (Await width at value false) own cpu few a b c = absurd (false≢true (sym c))
+own_by image call (Irq device vector) own cpu few a b c = own_cpu Step own cpu ∙ moved_stepped cpu few
+own_by image call (Hvc code x y answer) own cpu few a b c = own_cpu Step own cpu ∙ moved_stepped cpu few
+own_by image call Stop own cpu few a b c = absurd (false≢true (sym b))
+own_by image call (Begin code x y) own cpu few a b c = absurd (false≢true (sym a))
+own_by image call (Decide refused) own cpu few a b c = absurd (false≢true (sym a))
+own_by image call (Settle how) own cpu few a b c = absurd (false≢true (sym a))
+own_by image call Commit own cpu few a b c = absurd (false≢true (sym a))
+own_by image call (Note id) own cpu few a b c = absurd (false≢true (sym a))
+own_by image call (Noted id how) own cpu few a b c = absurd (false≢true (sym a))
+own_by image call (Finish answer) own cpu few a b c = absurd (false≢true (sym a))
+
+moved_ended : (cpu : Cpu) → cpu.position < 4096 → failed (moved cpu) ≡ ended cpu
+moved_ended cpu few = ap failed (moved_stepped cpu few)
+
+fails_by : (image : Image) (call : Option OpenCall) (act : Act) (own : ℕ) (cpu : Cpu) → cpu.position < 4096 → is_violation act ≡ true → acted image call act own own cpu ≡ ended cpu
+fails_by image call (Read width at None) own cpu few c = own_cpu Fail own cpu ∙ moved_ended cpu few
+fails_by image call (Read width at (Some got)) own cpu few c = absurd (false≢true c)
+fails_by image call (Fetch at None) own cpu few c = own_cpu Fail own cpu ∙ moved_ended cpu few
+fails_by image call (Fetch at (Some got)) own cpu few c = absurd (false≢true c)
+fails_by image call (Write width at value true) own cpu few c = absurd (false≢true c)
+fails_by image call (Write width at value false) own cpu few c = own_cpu Fail own cpu ∙ moved_ended cpu few
+fails_by image call (Await width at value true) own cpu few c = absurd (false≢true c)
+fails_by image call (Await width at value false) own cpu few c = own_cpu Fail own cpu ∙ moved_ended cpu few
+fails_by image call (Irq device vector) own cpu few c = absurd (false≢true c)
+fails_by image call (Hvc code x y answer) own cpu few c = absurd (false≢true c)
+fails_by image call Stop own cpu few c = absurd (false≢true c)
+fails_by image call (Begin code x y) own cpu few c = absurd (false≢true c)
+fails_by image call (Decide refused) own cpu few c = absurd (false≢true c)
+fails_by image call (Settle how) own cpu few c = absurd (false≢true c)
+fails_by image call Commit own cpu few c = absurd (false≢true c)
+fails_by image call (Note id) own cpu few c = absurd (false≢true c)
+fails_by image call (Noted id how) own cpu few c = absurd (false≢true c)
+fails_by image call (Finish answer) own cpu few c = absurd (false≢true c)
+
+violation_own : (act : Act) → is_violation act ≡ true → (is_call act ≡ false) × (is_stop act ≡ false)
+violation_own (Read width at got) c = (refl, refl)
+violation_own (Fetch at got) c = (refl, refl)
+violation_own (Write width at value ok) c = (refl, refl)
+violation_own (Await width at value ok) c = (refl, refl)
+violation_own (Irq device vector) c = absurd (false≢true c)
+violation_own (Hvc code x y answer) c = absurd (false≢true c)
+violation_own Stop c = absurd (false≢true c)
+violation_own (Begin code x y) c = absurd (false≢true c)
+violation_own (Decide refused) c = absurd (false≢true c)
+violation_own (Settle how) c = absurd (false≢true c)
+violation_own Commit c = absurd (false≢true c)
+violation_own (Note id) c = absurd (false≢true c)
+violation_own (Noted id how) c = absurd (false≢true c)
+violation_own (Finish answer) c = absurd (false≢true c)
+
+-- the operation that the CPU was at
+position_by : (image : Image) (f : Facts) (entry : Entry) → IsAdmitted image → is_call entry.act ≡ false → is_stop entry.act ≡ false → IsMadeBy image f entry → (f.cpu entry.cpu).position < 4096
+position_by image f entry admitted a b (Stopping is) = absurd (both_ways (is_stop entry.act) b (ap is_stop (sym is)))
+position_by image f entry admitted a b (Calling phase) = absurd (both_ways (is_call entry.act) a (phase_call entry.act phase))
+position_by image f entry admitted a b (Runs program) = within_ops image entry.cpu (cell_in image f.cells (f.cpu entry.cpu).owner) (f.cpu entry.cpu).position program.op admitted program.at
+
+position-few : (image : Image) (before rest : List Entry) (entry : Entry) → IsAdmitted image → IsLegal image (before ++ entry ∷ rest) → is_call entry.act ≡ false → is_stop entry.act ≡ false → ((facts image before).cpu entry.cpu).position < 4096
+position-few image before rest entry admitted legal a b =
+    let f : Facts = facts image before in
+    let sound = legal-sound image before admitted (IsLegal-begin image before (entry ∷ rest) legal) in
+    position_by image f entry admitted a b (made-by image f entry sound (due-split image before rest entry legal))
+
+pub own-steps : (image : Image) (before rest : List Entry) (entry : Entry) → IsAdmitted image → IsLegal image (before ++ entry ∷ rest) → is_call entry.act ≡ false → is_stop entry.act ≡ false → is_violation entry.act ≡ false
+    → (facts image (before ++ entry ∷ [])).cpu entry.cpu ≡ stepped ((facts image before).cpu entry.cpu)
+own-steps image before rest entry admitted legal a b c =
+    let f : Facts = facts image before in
+    behind-cpu image before entry entry.cpu ∙ own_by image f.call entry.act entry.cpu (f.cpu entry.cpu) (position-few image before rest entry admitted legal a b) a b c
+
+pub own-ends : (image : Image) (before rest : List Entry) (entry : Entry) → IsAdmitted image → IsLegal image (before ++ entry ∷ rest) → is_violation entry.act ≡ true → (facts image (before ++ entry ∷ [])).cpu entry.cpu ≡ ended ((facts image before).cpu entry.cpu)
+own-ends image before rest entry admitted legal c =
+    let f : Facts = facts image before in
+    let kind = violation_own entry.act c in
+    behind-cpu image before entry entry.cpu ∙ fails_by image f.call entry.act entry.cpu (f.cpu entry.cpu) (position-few image before rest entry admitted legal kind.0 kind.1) c
+
+pub own-stops : (image : Image) (before : List Entry) (entry : Entry) → entry.act ≡ Stop → (facts image (before ++ entry ∷ [])).cpu entry.cpu ≡ stopped_of ((facts image before).cpu entry.cpu)
+own-stops image before entry act =
+    let f : Facts = facts image before in
+    behind-cpu image before entry entry.cpu ∙ ap (λ (x : Act). acted image f.call x entry.cpu entry.cpu (f.cpu entry.cpu)) act ∙ own_cpu Halt entry.cpu (f.cpu entry.cpu)
+
+-- ---- other CPUs
+
+other_cpu : (change : Change) (own i : ℕ) (cpu : Cpu) → i ≢ own → cond (eqb i own) (changed change cpu) cpu ≡ cpu
+other_cpu change own i cpu other = ap (λ (b : Bool). cond b (changed change cpu) cpu) (ne_eqb i own other)
+
+others_by : (image : Image) (call : Option OpenCall) (act : Act) (own i : ℕ) (cpu : Cpu) → changes_others act ≡ false → i ≢ own → acted image call act own i cpu ≡ cpu
+others_by image call (Read width at got) own i cpu a other = other_cpu (change_if (is_some got)) own i cpu other
+others_by image call (Fetch at got) own i cpu a other = other_cpu (change_if (is_some got)) own i cpu other
+others_by image call (Write width at value ok) own i cpu a other = other_cpu (change_if ok) own i cpu other
+others_by image call (Await width at value ok) own i cpu a other = other_cpu (change_if ok) own i cpu other
+others_by image call (Irq device vector) own i cpu a other = other_cpu Step own i cpu other
+others_by image call (Hvc code x y answer) own i cpu a other = other_cpu Step own i cpu other
+others_by image call Stop own i cpu a other = other_cpu Halt own i cpu other
+others_by image call (Decide refused) own i cpu a other = other_cpu Stay own i cpu other
+others_by image call (Note id) own i cpu a other = other_cpu Stay own i cpu other
+others_by image call (Noted id how) own i cpu a other = other_cpu Stay own i cpu other
+others_by image call (Begin code x y) own i cpu a other = absurd (false≢true (sym a))
+others_by image call (Settle how) own i cpu a other = absurd (false≢true (sym a))
+others_by image call Commit own i cpu a other = absurd (false≢true (sym a))
+others_by image call (Finish answer) own i cpu a other = absurd (false≢true (sym a))
+
+pub others-kept : (image : Image) (before : List Entry) (entry : Entry) (i : ℕ) → changes_others entry.act ≡ false → i ≢ entry.cpu → (facts image (before ++ entry ∷ [])).cpu i ≡ (facts image before).cpu i
+others-kept image before entry i a other = behind-cpu image before entry i ∙ others_by image (facts image before).call entry.act entry.cpu i ((facts image before).cpu i) a other
+
+-- ---- the beginning and the end of a call
+
+not_running : (mode : Mode) → mode ≢ Running → is_running mode ≡ false
+not_running Running other = absurd (other refl)
+not_running Parked other = refl
+not_running Failed other = refl
+
+asked_if : (b : Bool) (cpu : Cpu) → b ≡ false → cond b (asked_of cpu) cpu ≡ cpu
+asked_if b cpu fails = ap (λ (x : Bool). cond x (asked_of cpu) cpu) fails
+
+begins : (image : Image) (own i : ℕ) (cpu : Cpu) → HasBegun image own i cpu (begun_cpu image own i cpu)
+begins image own i cpu =
+    let a : Bool = is_on_board image i in
+    let b : Bool = not (eqb i own) in
+    let c : Bool = eqb cpu.owner image.system.root.id in
+    let d : Bool = is_running cpu.mode in
+    record {
+      asked = λ on other root runs. rw (on, ne_eqb i own other, eq-eqb cpu.owner image.system.root.id root, runs) refl;
+      absent = λ off. asked_if (a && b && c && d) cpu (and_left (a && b && c) d (and_left (a && b) c (and_left a b off)));
+      caller = λ own_is. asked_if (a && b && c && d) cpu (and_left (a && b && c) d (and_left (a && b) c (and_right a b (ap not (eq-eqb i own own_is)))));
+      foreign = λ other. asked_if (a && b && c && d) cpu (and_left (a && b && c) d (and_right (a && b) c (ne_eqb cpu.owner image.system.root.id other)));
+      rests = λ other. asked_if (a && b && c && d) cpu (and_right (a && b && c) d (not_running cpu.mode other));
+    }
+
+pub begin-cpus : (image : Image) (before : List Entry) (entry : Entry) (code x y i : ℕ) → entry.act ≡ Begin code x y → HasBegun image entry.cpu i ((facts image before).cpu i) ((facts image (before ++ entry ∷ [])).cpu i)
+begin-cpus image before entry code x y i act =
+    let f : Facts = facts image before in
+    let P : Cpu → Type 0 = HasBegun image entry.cpu i (f.cpu i) in
+    let same = behind-cpu image before entry i ∙ ap (λ (a : Act). acted image f.call a entry.cpu i (f.cpu i)) act in
+    subst P (sym same) (begins image entry.cpu i (f.cpu i))
+
+finishes : (image : Image) (own i : ℕ) (cpu : Cpu) → (i ≡ own → (cpu.position < 4096) × (cpu.stopped ≡ false) × (cpu.owner ≡ image.system.root.id)) → HasFinished image own i cpu (finished image own i cpu)
+finishes image own i cpu caller =
+    let root : ℕ = image.system.root.id in
+    record {
+      caller = λ is.
+          let c = caller is in
+          let yes : eqb i own ≡ true = eq-eqb i own is in
+          let there : resumed_in root cpu ≡ resumed cpu = ap (λ (b : Bool). cond b (resumed cpu) cpu) (eq-eqb cpu.owner root c.2) in
+          let same : resumed cpu ≡ cpu = ap (λ (b : Bool). record cpu { stopped = b }) (sym c.1) in
+          let e : finished image own i cpu ≡ moved (resumed_in root cpu) = rw yes refl in
+          e ∙ ap moved (there ∙ same) ∙ moved_stepped cpu c.0;
+      roots = λ other is.
+          let fails : eqb i own ≡ false = ne_eqb i own other in
+          let e : finished image own i cpu ≡ resumed_in root cpu = rw fails refl in
+          e ∙ ap (λ (b : Bool). cond b (resumed cpu) cpu) (eq-eqb cpu.owner root is);
+      foreign = λ other.
+          let fails : eqb i own ≡ false = ne_eqb i own (λ is. other (caller is).2) in
+          let e : finished image own i cpu ≡ resumed_in root cpu = rw fails refl in
+          e ∙ ap (λ (b : Bool). cond b (resumed cpu) cpu) (ne_eqb cpu.owner root other);
+    }
+
+pub finish-cpus : (image : Image) (before rest : List Entry) (entry : Entry) (answer : ℤ) (i : ℕ) → IsAdmitted image → IsLegal image (before ++ entry ∷ rest) → entry.act ≡ Finish answer → HasFinished image entry.cpu i ((facts image before).cpu i) ((facts image (before ++ entry ∷ [])).cpu i)
+finish-cpus image before rest entry answer i admitted legal act =
+    let f : Facts = facts image before in
+    let sound = legal-sound image before admitted (IsLegal-begin image before (entry ∷ rest) legal) in
+    let of = phase-of_due image f entry sound (due-split image before rest entry legal) (ap is_phase act) in
+    let Q : ℕ → Type 0 = λ k. IsCaller image k of.o.call (f.cpu k) in
+    let made : IsCaller image entry.cpu of.o.call (f.cpu entry.cpu) = subst Q of.caller (sound-open image f of.o sound of.opens).caller in
+    let few : length (program_of image (name_of image.system.root) entry.cpu) ≤ 4096 = program_of-few image (name_of image.system.root) entry.cpu admitted in
+    let within = slice_get_within (program_of image (name_of image.system.root) entry.cpu) (f.cpu entry.cpu).position (HvcOp made.code made.a made.b) made.at in
+    let R : ℕ → Type 0 = λ k. ((f.cpu k).position < 4096) × ((f.cpu k).stopped ≡ false) × ((f.cpu k).owner ≡ image.system.root.id) in
+    let own : R entry.cpu = (omega (arith, few, within), made.calm.stopped, made.owner) in
+    let P : Cpu → Type 0 = HasFinished image entry.cpu i (f.cpu i) in
+    let same = behind-cpu image before entry i ∙ ap (λ (a : Act). acted image f.call a entry.cpu i (f.cpu i)) act in
+    subst P (sym same) (finishes image entry.cpu i (f.cpu i) (λ is. subst R (sym is) own))
+
+-- ---- the Settle and the Commit
+
+agrees : (call : Call) (cpu : Cpu) → HasAgreed call cpu (settled true call cpu)
+agrees call cpu = record {
+  asked = λ named runs. rw (named, runs) refl;
+  foreign = λ other. asked_if (is_named call cpu.owner && is_running cpu.mode) cpu (and_left (is_named call cpu.owner) (is_running cpu.mode) other);
+  rests = λ other. asked_if (is_named call cpu.owner && is_running cpu.mode) cpu (and_right (is_named call cpu.owner) (is_running cpu.mode) (not_running cpu.mode other));
+}
+
+-- the call of a phase that is made
+pub record IsPhaseBegun (image : Image) (before : List Entry) (entry : Entry) (call : Call) : Type 0 where
+  pub phase : Phase
+  pub opens : (facts image before).call ≡ Some (record { caller = entry.cpu; call = call; phase = phase })
+  pub expects : Expects phase entry.act
+  pub holds : IsInPhase image (configs_of (facts image before).cells) (facts image before).cpu entry.cpu call phase
+  pub manages : is_management call ≡ true
+
+phase-begun : (image : Image) (before rest : List Entry) (entry first : Entry) → IsAdmitted image → IsLegal image (before ++ entry ∷ rest) → is_phase entry.act ≡ true → begun before ≡ Some first → IsPhaseBegun image before entry (call_begun first.act)
+phase-begun image before rest entry first admitted legal phase is =
+    let f : Facts = facts image before in
+    let sound = legal-sound image before admitted (IsLegal-begin image before (entry ∷ rest) legal) in
+    let of = phase-of_due image f entry sound (due-split image before rest entry legal) phase in
+    let o : OpenCall = of.o in
+    let opens = sound-open image f o sound of.opens in
+    let begins_at = begun-of image before o of.opens in
+    let call : o.call ≡ call_begun first.act = begins_at.3 ∙ ap (λ (e : Entry). call_begun e.act) (same_Some begins_at.0 first (sym begins_at.1 ∙ is)) in
+    let whole : record { caller = o.caller; call = o.call; phase = o.phase } ≡ record { caller = entry.cpu; call = call_begun first.act; phase = o.phase } =
+    ap (λ (k : ℕ). record { caller = k; call = o.call; phase = o.phase }) of.caller ∙ ap (λ (c : Call). record { caller = entry.cpu; call = c; phase = o.phase }) call in
+    let P : Call → Type 0 = λ k. IsInPhase image (configs_of f.cells) f.cpu entry.cpu k o.phase in
+    let Q : ℕ → Type 0 = λ k. IsInPhase image (configs_of f.cells) f.cpu k o.call o.phase in
+    let M : Call → Type 0 = λ k. is_management k ≡ true in
+    record {
+      phase = o.phase;
+      opens = of.opens ∙ ap Some whole;
+      expects = phase-expects image f (is_idle_but image f o.caller) o.caller o.call o.phase entry.act of.act;
+      holds = subst P call (subst Q of.caller opens.phase);
+      manages = subst M call opens.caller.management;
+    }
+
+settle_by : (image : Image) (call : Option OpenCall) (o : OpenCall) (act : Act) (own i : ℕ) (cpu : Cpu) → call ≡ Some o → is_agreement act ≡ true → HasAgreed o.call cpu (acted image call act own i cpu)
+settle_by image call o (Settle Agreed) own i cpu is agreed = let P : Option OpenCall → Type 0 = λ c. HasAgreed o.call cpu (acted image c (Settle Agreed) own i cpu) in subst P (sym is) (agrees o.call cpu)
+settle_by image call o (Settle Timeout) own i cpu is agreed = let P : Option OpenCall → Type 0 = λ c. HasAgreed o.call cpu (acted image c (Settle Timeout) own i cpu) in subst P (sym is) (agrees o.call cpu)
+settle_by image call o (Settle Denied) own i cpu is agreed = absurd (false≢true agreed)
+settle_by image call o (Decide refused) own i cpu is agreed = absurd (false≢true agreed)
+settle_by image call o Commit own i cpu is agreed = absurd (false≢true agreed)
+settle_by image call o (Note id) own i cpu is agreed = absurd (false≢true agreed)
+settle_by image call o (Noted id how) own i cpu is agreed = absurd (false≢true agreed)
+settle_by image call o (Finish answer) own i cpu is agreed = absurd (false≢true agreed)
+settle_by image call o (Begin code x y) own i cpu is agreed = absurd (false≢true agreed)
+settle_by image call o (Read width at got) own i cpu is agreed = absurd (false≢true agreed)
+settle_by image call o (Write width at value ok) own i cpu is agreed = absurd (false≢true agreed)
+settle_by image call o (Fetch at got) own i cpu is agreed = absurd (false≢true agreed)
+settle_by image call o (Await width at value ok) own i cpu is agreed = absurd (false≢true agreed)
+settle_by image call o (Irq device vector) own i cpu is agreed = absurd (false≢true agreed)
+settle_by image call o (Hvc code x y answer) own i cpu is agreed = absurd (false≢true agreed)
+settle_by image call o Stop own i cpu is agreed = absurd (false≢true agreed)
+
+agreement_phase : (act : Act) → is_agreement act ≡ true → is_phase act ≡ true
+agreement_phase (Settle how) h = refl
+agreement_phase (Decide refused) h = refl
+agreement_phase Commit h = refl
+agreement_phase (Note id) h = refl
+agreement_phase (Noted id how) h = refl
+agreement_phase (Finish answer) h = refl
+agreement_phase (Begin code x y) h = h
+agreement_phase (Read width at got) h = h
+agreement_phase (Write width at value ok) h = h
+agreement_phase (Fetch at got) h = h
+agreement_phase (Await width at value ok) h = h
+agreement_phase (Irq device vector) h = h
+agreement_phase (Hvc code x y answer) h = h
+agreement_phase Stop h = h
+
+pub settle-cpus : (image : Image) (before rest : List Entry) (entry first : Entry) (i : ℕ) → IsAdmitted image → IsLegal image (before ++ entry ∷ rest) → is_agreement entry.act ≡ true → begun before ≡ Some first
+    → HasAgreed (call_begun first.act) ((facts image before).cpu i) ((facts image (before ++ entry ∷ [])).cpu i)
+settle-cpus image before rest entry first i admitted legal agreed is =
+    let f : Facts = facts image before in
+    let of = phase-begun image before rest entry first admitted legal (agreement_phase entry.act agreed) is in
+    let P : Cpu → Type 0 = HasAgreed (call_begun first.act) (f.cpu i) in
+    subst P (sym (behind-cpu image before entry i)) (settle_by image f.call (record { caller = entry.cpu; call = call_begun first.act; phase = of.phase }) entry.act entry.cpu i (f.cpu i) of.opens agreed)
+
+created_cpus : (image : Image) (cells made : List Live) (cpu : ℕ → Cpu) (caller at i : ℕ) (phase : Phase) → Expects phase Commit → IsInPhase image (configs_of cells) cpu caller (Create at) phase → made ≡ committed_cells (Create at) phase cells
+    → HasCommitted image (configs_of cells) (configs_of made) (Create at) i (cpu i) (committed image (Create at) phase i (cpu i))
+created_cpus image cells made cpu caller at i ToDecide e h is = absurd (not_same is_commit Commit (Decide e.0) refl refl e.1)
+created_cpus image cells made cpu caller at i (ToSettle waited) e h is = absurd (not_same is_commit Commit (Settle e.0) refl refl e.1)
+created_cpus image cells made cpu caller at i (ToCreate config) e h is = (
+  config,
+  ap configs_of is ∙ configs-joined cells config,
+  λ set. ap (λ (b : Bool). cond b (lent config.id (cpu i)) (cpu i)) set,
+  λ none. ap (λ (b : Bool). cond b (lent config.id (cpu i)) (cpu i)) none,
+)
+created_cpus image cells made cpu caller at i ToCommit e h is = absurd (both_ways false refl h.2)
+created_cpus image cells made cpu caller at i (ToNote id about answer) e h is = absurd (not_same is_commit Commit (Note id) refl refl e)
+created_cpus image cells made cpu caller at i (ToNoted id about answer waited) e h is = absurd (not_same is_commit Commit (Noted id e.0) refl refl e.1)
+created_cpus image cells made cpu caller at i (ToFinish answer) e h is = absurd (not_same is_commit Commit (Finish answer) refl refl e)
+
+-- a change of the CPUs of one owner
+owner_changed : (change : Cpu → Cpu) (id : ℕ) (cpu : Cpu) → (cpu.owner ≡ id → cond (eqb cpu.owner id) (change cpu) cpu ≡ change cpu) × (cpu.owner ≢ id → cond (eqb cpu.owner id) (change cpu) cpu ≡ cpu)
+owner_changed change id cpu = (
+  λ is. ap (λ (b : Bool). cond b (change cpu) cpu) (eq-eqb cpu.owner id is),
+  λ other. ap (λ (b : Bool). cond b (change cpu) cpu) (ne_eqb cpu.owner id other),
+)
+
+commit_by : (image : Image) (cells made : List Live) (cpu : ℕ → Cpu) (caller i : ℕ) (call : Call) (phase : Phase) → is_management call ≡ true → Expects phase Commit → IsInPhase image (configs_of cells) cpu caller call phase → made ≡ committed_cells call phase cells
+    → HasCommitted image (configs_of cells) (configs_of made) call i (cpu i) (committed image call phase i (cpu i))
+commit_by image cells made cpu caller i (Create at) phase manages e h is = created_cpus image cells made cpu caller at i phase e h is
+commit_by image cells made cpu caller i (Start id) phase manages e h is = owner_changed restarted id (cpu i)
+commit_by image cells made cpu caller i (Loadable id) phase manages e h is = owner_changed parked id (cpu i)
+commit_by image cells made cpu caller i (Destroy id) phase manages e h is = owner_changed (returned image.system.root.id (length (program_of image (name_of image.system.root) i))) id (cpu i)
+commit_by image cells made cpu caller i (Info kind) phase manages e h is = both_ways false refl manages
+commit_by image cells made cpu caller i (State id) phase manages e h is = both_ways false refl manages
+commit_by image cells made cpu caller i (CpuInfo n kind) phase manages e h is = both_ways false refl manages
+commit_by image cells made cpu caller i Unknown phase manages e h is = both_ways false refl manages
+
+pub commit-cpus : (image : Image) (before rest : List Entry) (entry first : Entry) (i : ℕ) → IsAdmitted image → IsLegal image (before ++ entry ∷ rest) → entry.act ≡ Commit → begun before ≡ Some first
+    → HasCommitted image (configs_of (facts image before).cells) (configs_of (facts image (before ++ entry ∷ [])).cells) (call_begun first.act) i ((facts image before).cpu i) ((facts image (before ++ entry ∷ [])).cpu i)
+commit-cpus image before rest entry first i admitted legal act is =
+    let f : Facts = facts image before in
+    let of = phase-begun image before rest entry first admitted legal (ap is_phase act) is in
+    let call : Call = call_begun first.act in
+    let o : OpenCall = record { caller = entry.cpu; call = call; phase = of.phase } in
+    let made : List Live = (facts image (before ++ entry ∷ [])).cells in
+    let E : Act → Type 0 = Expects of.phase in
+    let cells : made ≡ committed_cells call of.phase f.cells =
+    ap (λ (g : Facts). g.cells) (facts-push image before entry)
+    ∙ cells-after image f entry
+    ∙ ap (λ (c : Option OpenCall). cells_by c f.cells entry.act) of.opens
+    ∙ ap (cells_by (Some o) f.cells) act in
+    let same : (facts image (before ++ entry ∷ [])).cpu i ≡ committed image call of.phase i (f.cpu i) =
+    behind-cpu image before entry i
+    ∙ ap (λ (c : Option OpenCall). acted image c entry.act entry.cpu i (f.cpu i)) of.opens
+    ∙ ap (λ (a : Act). acted image (Some o) a entry.cpu i (f.cpu i)) act in
+    let P : Cpu → Type 0 = HasCommitted image (configs_of f.cells) (configs_of made) call i (f.cpu i) in
+    subst P (sym same) (commit_by image f.cells made f.cpu entry.cpu i call of.phase of.manages (subst E act of.expects) of.holds cells)

@@ -1,0 +1,278 @@
+-- What an entry writes.
+use Rattle.std.proofs.Common.{◌≡◌, ℕ, zero, suc, ◌+◌, ◌-◌, ◌/◌, ◌%◌, ◌^◌, ◌<◌, ◌≤◌, List, [], ◌∷◌, ◌++◌, Bool, true, false, cond, ◌&&◌, eqb, Option, Some, None, refl, sym, ap, subst, ◌∙◌, inl, inr, ⊎_elim, append_assoc, append-nil, arith}
+use Rattle.std.specs.Prelude.{Contains, slice_get, nat_lt, nat_le}
+use Rattle.std.proofs.lemmas.Bool.{both_ways, and_parts, and_from, eqb-true, false≢true, true≢false, lt-ltb, ltb-true, le-leb, cases_Bool, false_from_ne_true}
+use Rattle.std.proofs.lemmas.Option.{none-some, same_Some, slice_get-get_or}
+use Rattle.jh_num.proofs.Booleans.{same_number}
+use Rattle.std.specs.List.{list_any}
+use Rattle.jh_num.proofs.Lists.{IsFound-from_list_any}
+use Rattle.jh_num.proofs.MemoryLemmas.{listed}
+use Rattle.jh_cellcfg.specs.declared.config.CellConfig.{CellConfig}
+use Rattle.jh_cellcfg.specs.declared.live.Live.{Live}
+use Rattle.jh_cellcfg.specs.declared.region.Region.{Region}
+use Rattle.jh_cellcfg.specs.Regions.{has_place, phys_end, is_comm}
+use Rattle.jh_check.specs.Laws.{IsNumbered, IsItem}
+use Rattle.jh_script.specs.declared.image.Image.{Image}
+use Rattle.jh_history.specs.declared.place.Place.{Place}
+use Rattle.jh_history.specs.declared.place.Place.TheVariants.{Physical, Page}
+use Rattle.jh_history.specs.declared.access.Access.{Access}
+use Rattle.jh_history.specs.declared.access.Access.TheVariants.{Write as ToWrite}
+use Rattle.jh_history.specs.declared.access.Reach.{Reach}
+use Rattle.jh_history.specs.declared.access.Reach.TheVariants.{Memory, Nothing}
+use Rattle.jh_history.specs.declared.comm.PageWrite.{PageWrite}
+use Rattle.jh_history.specs.declared.entry.Entry.{Entry}
+use Rattle.jh_history.specs.declared.entry.Act.{Act}
+use Rattle.jh_history.specs.declared.entry.Act.TheVariants.{Read, Write, Fetch, Await, Irq, Hvc, Begin, Stop, Decide, Settle, Commit, Note, Noted, Finish}
+use Rattle.jh_history.specs.Access.{write_of}
+use Rattle.jh_history.specs.Facts.{Facts}
+use Rattle.jh_history.specs.Grants.{granted, reach}
+use Rattle.jh_history.specs.Places.{is_same}
+use Rattle.jh_history.specs.Lives.{cell_in}
+use Rattle.jh_history.specs.Pages.{page_after, with_page_write, page_write_by}
+use Rattle.jh_history.specs.Bytes.{byte_written, byte_after}
+use Rattle.jh_history.specs.History.{facts}
+use Rattle.jh_history.specs.Phases.{configs_of}
+use Rattle.jh_history.specs.Due.{IsLegal}
+use Rattle.jh_history.specs.Admitted.{IsAdmitted}
+use Rattle.jh_history.proofs.PlaceLemmas.{written-over}
+use Rattle.jh_history.proofs.LegalLemmas.{IsLegal-begin}
+use Rattle.jh_history.specs.Sound.{AreSoundCells}
+use Rattle.jh_laws.specs.Grants.{IsGranted}
+use Rattle.jh_laws.specs.Held.{IsLive, IsGrantedTo, AreGrantedTo, EndsAsGranted}
+use Rattle.jh_laws.specs.Written.{IsByteBy, Puts, IsByteOfPage, WritesByte, NoneWrites}
+use Rattle.jh_laws.proofs.ListedLemmas.{over-at, same-place}
+use Rattle.jh_laws.proofs.HeldLemmas.{live-cell, number-of, reach-listed, to-granted, granted-to, ends-at}
+use Rattle.jh_laws.proofs.PlacesHeldLemmas.{is_memory, byte-behind, reached-at, written-other}
+use Rattle.jh_history.proofs.SoundLemmas.{legal-sound}
+
+-- ---- no two addresses of a cell have one place
+
+-- regions of one number are one
+same_item : (cell : CellConfig) (r s : ℕ) (x y : Region) → r ≡ s → IsItem cell r x → IsItem cell s y → x ≡ y
+same_item cell r s x y same item_x item_y =
+    let P : ℕ → Type 0 = λ n. slice_get cell.memory_regions n ≡ Some y in
+    same_Some x y (sym item_x ∙ subst P (sym same) item_y)
+
+item_of : (cell : CellConfig) (x : Region) (held : Contains cell.memory_regions x) → IsItem cell held.0 x
+item_of cell x held = slice_get-get_or cell.memory_regions held.0 x held.1 ∙ ap Some held.2
+
+-- the two addresses in one region
+same_offset : (x y : Region) (a b : ℕ) → x ≡ y → x.virt_start ≤ a → y.virt_start ≤ b → a - x.virt_start ≡ b - y.virt_start → a ≡ b
+same_offset x y a b same first other offset =
+    let P : Region → Type 0 = λ r. r.virt_start ≤ b × (a - x.virt_start ≡ b - r.virt_start) in
+    let h = subst P (sym same) (other, offset) in
+    let le : x.virt_start ≤ b = h.0 in
+    let e : a - x.virt_start ≡ b - x.virt_start = h.1 in
+    omega arith
+
+in_place : (x : Region) (a p : ℕ) → x.virt_start ≤ a → a < x.virt_start + x.size → p ≡ x.phys_start + (a - x.virt_start) → has_place x p ≡ true
+in_place x a p first last is = and_from (nat_le x.phys_start p) (nat_lt p (phys_end x)) (le-leb x.phys_start p (omega arith)) (lt-ltb p (phys_end x) (omega arith))
+
+-- the only communication region of a cell
+comm_only : (image : Image) (configs : List CellConfig) (a : ℕ) (cell : CellConfig) (r s : ℕ) (x y : Region) → AreSoundCells image.system configs → IsNumbered image.system configs a cell → IsItem cell r x → IsItem cell s y → 0 < x.size → 0 < y.size → is_comm x ≡ true → is_comm y ≡ true → r ≡ s
+comm_only image configs zero cell r s x y sound is item_x item_y some_x some_y comm_x comm_y =
+    let P : CellConfig → Type 0 = λ c. IsItem c r x in
+    absurd (both_ways (is_comm x) (sound.clean.no_comm r x (subst P (sym (same_Some image.system.root cell is)) item_x) some_x) comm_x)
+comm_only image configs (suc a) cell r s x y sound is item_x item_y some_x some_y comm_x comm_y =
+    sym ((sound.clean.comms (suc a) cell (omega arith) is r x item_x some_x comm_x).only s y item_y some_y comm_y)
+
+abbrev offset_in : Place → ℕ
+offset_in (Physical p) = p
+offset_in (Page cell offset) = offset
+
+single_by : (image : Image) (cells : List Live) (cell : CellConfig) (access : Access) (a b : ℕ) (q : Place) (g : IsGranted cell access a q) (h : IsGranted cell access b q) (one other : Bool) → AreSoundCells image.system (configs_of cells) → IsLive image cells cell
+    → is_comm g.region ≡ one → is_comm h.region ≡ other
+    → q ≡ cond one (Page cell.id (a - g.region.virt_start)) (Physical (g.region.phys_start + (a - g.region.virt_start)))
+    → q ≡ cond other (Page cell.id (b - h.region.virt_start)) (Physical (h.region.phys_start + (b - h.region.virt_start))) → a ≡ b
+single_by image cells cell access a b q g h true true sound live comm_x comm_y at_a at_b =
+    let number = number-of image cells cell live in
+    let x : Region = g.region in
+    let y : Region = h.region in
+    let first_a : x.virt_start ≤ a = g.first in
+    let last_a : a < x.virt_start + x.size = g.last in
+    let first_b : y.virt_start ≤ b = h.first in
+    let last_b : b < y.virt_start + y.size = h.last in
+    let same = comm_only image (configs_of cells) number.0 cell g.held.0 h.held.0 x y sound number.1 (item_of cell x g.held) (item_of cell y h.held) (omega arith) (omega arith) comm_x comm_y in
+    same_offset x y a b (same_item cell g.held.0 h.held.0 x y same (item_of cell x g.held) (item_of cell y h.held)) first_a first_b (ap offset_in (sym at_a ∙ at_b))
+single_by image cells cell access a b q g h false false sound live comm_x comm_y at_a at_b =
+    let number = number-of image cells cell live in
+    let x : Region = g.region in
+    let y : Region = h.region in
+    let p : ℕ = x.phys_start + (a - x.virt_start) in
+    let same_place : p ≡ y.phys_start + (b - y.virt_start) = ap offset_in (sym at_a ∙ at_b) in
+    let same : g.held.0 ≡ h.held.0 = sound.clean.places number.0 cell number.1 g.held.0 h.held.0 x y (item_of cell x g.held) (item_of cell y h.held) comm_x comm_y p (in_place x a p g.first g.last refl) (in_place y b p h.first h.last same_place) in
+    let one : x ≡ y = same_item cell g.held.0 h.held.0 x y same (item_of cell x g.held) (item_of cell y h.held) in
+    let P : Region → Type 0 = λ r. p ≡ r.phys_start + (b - r.virt_start) in
+    let Q : Region → Type 0 = λ r. r.virt_start ≤ b in
+    let there : x.phys_start + (a - x.virt_start) ≡ x.phys_start + (b - x.virt_start) = subst P (sym one) same_place in
+    let first_a : x.virt_start ≤ a = g.first in
+    let first_b : x.virt_start ≤ b = subst Q (sym one) h.first in
+    omega arith
+single_by image cells cell access a b q g h true false sound live comm_x comm_y at_a at_b = absurd (false≢true (ap is_memory (sym at_a ∙ at_b)))
+single_by image cells cell access a b q g h false true sound live comm_x comm_y at_a at_b = absurd (true≢false (ap is_memory (sym at_a ∙ at_b)))
+
+pub single-address : (image : Image) (cells : List Live) (id : ℕ) (access : Access) (a b : ℕ) (q : Place) → AreSoundCells image.system (configs_of cells) → IsGrantedTo image cells id access a q → IsGrantedTo image cells id access b q → a ≡ b
+single-address image cells id access a b q sound g h =
+    let P : ℕ → CellConfig → Type 0 = λ k c. cell_in image cells k ≡ Some c in
+    let one : cell_in image cells id ≡ Some g.cell = (let Q : ℕ → Type 0 = λ k. cell_in image cells k ≡ Some g.cell in subst Q g.named (live-cell image cells g.cell sound g.live)) in
+    let other : cell_in image cells id ≡ Some h.cell = (let Q : ℕ → Type 0 = λ k. cell_in image cells k ≡ Some h.cell in subst Q h.named (live-cell image cells h.cell sound h.live)) in
+    let same : h.cell ≡ g.cell = same_Some h.cell g.cell (sym other ∙ one) in
+    let R : CellConfig → Type 0 = λ c. IsGranted c access b q in
+    let there : IsGranted g.cell access b q = subst R same h.given in
+    single_by image cells g.cell access a b q g.given there (is_comm g.given.region) (is_comm there.region) sound g.live refl refl g.given.given there.given
+
+-- ---- a write that succeeds
+
+abbrev picked_place : Option Place → Place
+picked_place None = Physical 0
+picked_place (Some place) = place
+
+abbrev place_for : Image → Facts → ℕ → ℕ → ℕ → Place
+place_for image f id at k = picked_place (granted image f id ToWrite (at + k))
+
+each_granted : (image : Image) (f : Facts) (id at width : ℕ) → AreSoundCells image.system (configs_of f.cells) → AreGrantedTo image f.cells id ToWrite at width → (k : ℕ) → k < width → IsGrantedTo image f.cells id ToWrite (at + k) (place_for image f id at k)
+each_granted image f id at width sound each k lt =
+    let P : Place → Type 0 = IsGrantedTo image f.cells id ToWrite (at + k) in
+    subst P (ap picked_place (sym (granted-to image f id ToWrite (at + k) (each k lt).0 sound (each k lt).1))) (each k lt).1
+
+pub write-puts : (image : Image) (f : Facts) (id at width value : ℕ) (place : Place) (byte : ℕ) → AreSoundCells image.system (configs_of f.cells) → AreGrantedTo image f.cells id ToWrite at width → IsByteBy image f id at width value place byte
+    → write_of f.byte (reach image f id ToWrite at width) value place ≡ byte
+write-puts image f id at width value place byte sound each h =
+    let pl : ℕ → Place = place_for image f id at in
+    let all = each_granted image f id at width sound each in
+    let k : ℕ = h.index in
+    let below : k < width = h.within in
+    let some : 0 < width = omega arith in
+    let here : place ≡ pl k = ap picked_place (sym (granted-to image f id ToWrite (at + k) place sound h.granted)) in
+    let P : Place → Type 0 = λ q. IsGrantedTo image f.cells id ToWrite (at + k) q in
+    let only : (j : ℕ) → j < width → place ≡ pl j → j ≡ k =
+    λ j lt is. (let Q : Place → Type 0 = IsGrantedTo image f.cells id ToWrite (at + j) in let e : at + j ≡ at + k = single-address image f.cells id ToWrite (at + j) (at + k) place sound (subst Q (sym is) (all j lt)) h.granted in omega arith) in
+    ap (λ (r : Reach). write_of f.byte r value place) (reach-listed image f id ToWrite at width pl sound some all)
+    ∙ written-over f.byte (listed pl width) value place
+    ∙ over-at pl width value place (f.byte place) k below here only
+    ∙ sym h.is
+
+-- ---- the entry
+
+put_by : (image : Image) (f : Facts) (entry : Entry) (act : Act) (place : Place) (byte : ℕ) → AreSoundCells image.system (configs_of f.cells) → EndsAsGranted image f entry.cell act → Puts image f entry.cell act place byte
+    → with_page_write (page_write_by image f entry act) (byte_written image f entry.cell act) place ≡ byte
+put_by image f entry (Write width at value true) place byte sound ends puts = write-puts image f entry.cell at width value place byte sound (ends.0 refl) puts.1
+put_by image f entry (Write width at value false) place byte sound ends puts = absurd (false≢true puts.0)
+put_by image f entry (Read width at got) place byte sound ends puts = absurd puts
+put_by image f entry (Fetch at got) place byte sound ends puts = absurd puts
+put_by image f entry (Await width at value ok) place byte sound ends puts = absurd puts
+put_by image f entry (Irq device vector) place byte sound ends puts = absurd puts
+put_by image f entry (Hvc code a b answer) place byte sound ends puts = absurd puts
+put_by image f entry (Begin code a b) place byte sound ends puts = absurd puts
+put_by image f entry Stop place byte sound ends puts = absurd puts
+put_by image f entry (Decide refused) place byte sound ends puts = absurd puts
+put_by image f entry (Settle how) place byte sound ends puts = absurd puts
+put_by image f entry Commit place byte sound ends puts = absurd puts
+put_by image f entry (Note id) place byte sound ends puts = absurd puts
+put_by image f entry (Noted id how) place byte sound ends puts = absurd puts
+put_by image f entry (Finish answer) place byte sound ends puts = absurd puts
+
+-- an entry that changes a page writes nothing itself
+quiet_act : (image : Image) (f : Facts) (entry : Entry) (act : Act) (write : PageWrite) → page_write_by image f entry act ≡ Some write → byte_written image f entry.cell act ≡ f.byte
+quiet_act image f entry (Write width at value true) write is = absurd (none-some write is)
+quiet_act image f entry (Write width at value false) write is = refl
+quiet_act image f entry (Read width at got) write is = refl
+quiet_act image f entry (Fetch at got) write is = refl
+quiet_act image f entry (Await width at value ok) write is = refl
+quiet_act image f entry (Irq device vector) write is = refl
+quiet_act image f entry (Hvc code a b answer) write is = refl
+quiet_act image f entry (Begin code a b) write is = refl
+quiet_act image f entry Stop write is = refl
+quiet_act image f entry (Decide refused) write is = refl
+quiet_act image f entry (Settle how) write is = refl
+quiet_act image f entry Commit write is = refl
+quiet_act image f entry (Note id) write is = refl
+quiet_act image f entry (Noted id how) write is = refl
+quiet_act image f entry (Finish answer) write is = refl
+
+page_puts : (byte : Place → ℕ) (write : PageWrite) (offset : ℕ) → offset < 4096 → with_page_write (Some write) byte (Page write.cell offset) ≡ page_after write.change (λ k. byte (Page write.cell k)) offset
+page_puts byte write offset within =
+    ap (λ (b : Bool). cond b (page_after write.change (λ k. byte (Page write.cell k)) offset) (byte (Page write.cell offset)))
+    (and_from (eqb write.cell write.cell) (nat_lt offset 4096) (same_number write.cell) (lt-ltb offset 4096 within))
+
+paged_by : (image : Image) (f : Facts) (entry : Entry) (place : Place) (byte : ℕ) (write : PageWrite) → page_write_by image f entry entry.act ≡ Some write → IsByteOfPage f write place byte → byte_after image f entry place ≡ byte
+paged_by image f entry place byte write is h =
+    ap (λ (w : Option PageWrite). with_page_write w (byte_written image f entry.cell entry.act) place) is
+    ∙ ap (λ (b : Place → ℕ). with_page_write (Some write) b place) (quiet_act image f entry entry.act write is)
+    ∙ ap (with_page_write (Some write) f.byte) h.place_is
+    ∙ page_puts f.byte write h.offset h.within
+    ∙ sym h.is
+
+pub entry-writes : (image : Image) (before rest : List Entry) (entry : Entry) (place : Place) (byte : ℕ) → IsAdmitted image → IsLegal image (before ++ entry ∷ rest) → WritesByte image (facts image before) entry place byte
+    → (facts image (before ++ entry ∷ [])).byte place ≡ byte
+entry-writes image before rest entry place byte admitted legal h =
+    let f : Facts = facts image before in
+    let sound = legal-sound image before admitted (IsLegal-begin image before (entry ∷ rest) legal) in
+    byte-behind image before entry place
+    ∙ ⊎_elim
+    (λ (puts : Puts image f entry.cell entry.act place byte). put_by image f entry entry.act place byte sound.cells (ends-at image before rest entry admitted legal) puts)
+    (λ paged. paged_by image f entry place byte paged.0 paged.1 paged.2)
+    h
+
+-- ---- a place that it doesn't write
+
+-- what a granted address of a write that succeeded gets
+kept_write : (image : Image) (f : Facts) (id at width value : ℕ) (place : Place) (r : Reach) → AreSoundCells image.system (configs_of f.cells) → reach image f id ToWrite at width ≡ r
+    → ((byte : ℕ) → IsByteBy image f id at width value place byte → ⊥) → write_of f.byte r value place ≡ f.byte place
+kept_write image f id at width value place Nothing sound is none = refl
+kept_write image f id at width value place (Memory ps) sound is none =
+    ⊎_elim
+    (λ (some : list_any (is_same place) ps ≡ true).
+    let found = IsFound-from_list_any (is_same place) ps some in
+    let P : Place → Type 0 = λ p. Contains ps p in
+    let held : Contains ps place = subst P (sym (same-place place found.0 found.1.passes)) found.1.held in
+    let k = reached-at image f id ToWrite at width ps place is held in
+    absurd (none (value / 256 ^ k.0 % 256) (record { index = k.0; within = k.1; granted = to-granted image f id ToWrite (at + k.0) place sound k.2; is = refl })))
+    (λ (other : list_any (is_same place) ps ≡ false). written-other f.byte ps value place other)
+    (cases_Bool (list_any (is_same place) ps))
+
+kept_act : (image : Image) (f : Facts) (id : ℕ) (act : Act) (place : Place) → AreSoundCells image.system (configs_of f.cells) → ((byte : ℕ) → Puts image f id act place byte → ⊥) → byte_written image f id act place ≡ f.byte place
+kept_act image f id (Write width at value true) place sound none = kept_write image f id at width value place (reach image f id ToWrite at width) sound refl (λ byte h. none byte (refl, h))
+kept_act image f id (Write width at value false) place sound none = refl
+kept_act image f id (Read width at got) place sound none = refl
+kept_act image f id (Fetch at got) place sound none = refl
+kept_act image f id (Await width at value ok) place sound none = refl
+kept_act image f id (Irq device vector) place sound none = refl
+kept_act image f id (Hvc code a b answer) place sound none = refl
+kept_act image f id (Begin code a b) place sound none = refl
+kept_act image f id Stop place sound none = refl
+kept_act image f id (Decide refused) place sound none = refl
+kept_act image f id (Settle how) place sound none = refl
+kept_act image f id Commit place sound none = refl
+kept_act image f id (Note who) place sound none = refl
+kept_act image f id (Noted who how) place sound none = refl
+kept_act image f id (Finish answer) place sound none = refl
+
+page_keeps : (byte : Place → ℕ) (write : Option PageWrite) (place : Place) → ((w : PageWrite) (offset : ℕ) → write ≡ Some w → offset < 4096 → place ≡ Page w.cell offset → ⊥) → with_page_write write byte place ≡ byte place
+page_keeps byte None place none = refl
+page_keeps byte (Some write) (Physical p) none = refl
+page_keeps byte (Some write) (Page cell offset) none =
+    let fails : (eqb cell write.cell && nat_lt offset 4096) ≡ false =
+    false_from_ne_true (eqb cell write.cell && nat_lt offset 4096)
+    (λ both. let parts = and_parts (eqb cell write.cell) (nat_lt offset 4096) both in none write offset refl (ltb-true offset 4096 parts.1) (ap (λ (c : ℕ). Page c offset) (eqb-true cell write.cell parts.0))) in
+    ap (λ (b : Bool). cond b (page_after write.change (λ k. byte (Page cell k)) offset) (byte (Page cell offset))) fails
+
+pub entry-keeps : (image : Image) (before rest : List Entry) (entry : Entry) (place : Place) → IsAdmitted image → IsLegal image (before ++ entry ∷ rest) → ((byte : ℕ) → WritesByte image (facts image before) entry place byte → ⊥)
+    → (facts image (before ++ entry ∷ [])).byte place ≡ (facts image before).byte place
+entry-keeps image before rest entry place admitted legal none =
+    let f : Facts = facts image before in
+    let sound = legal-sound image before admitted (IsLegal-begin image before (entry ∷ rest) legal) in
+    byte-behind image before entry place
+    ∙ page_keeps (byte_written image f entry.cell entry.act) (page_write_by image f entry entry.act) place
+    (λ w offset is within at. none (page_after w.change (λ k. f.byte (Page w.cell k)) offset) (inr (w, is, record { offset = offset; within = within; place_is = at; is = refl })))
+    ∙ kept_act image f entry.cell entry.act place sound.cells (λ byte puts. none byte (inl puts))
+
+-- over a stretch that doesn't write it
+pub rest-keeps : (image : Image) (before rest : List Entry) (place : Place) → IsAdmitted image → IsLegal image (before ++ rest) → NoneWrites image before rest place → (facts image (before ++ rest)).byte place ≡ (facts image before).byte place
+rest-keeps image before [] place admitted legal none = ap (λ (es : List Entry). (facts image es).byte place) (append-nil before)
+rest-keeps image before (entry ∷ rest) place admitted legal none =
+    let same : (before ++ entry ∷ []) ++ rest ≡ before ++ entry ∷ rest = append_assoc before (entry ∷ []) rest in
+    let P : List Entry → Type 0 = IsLegal image in
+    ap (λ (es : List Entry). (facts image es).byte place) (sym same)
+    ∙ rest-keeps image (before ++ entry ∷ []) rest place admitted (subst P (sym same) legal) none.1
+    ∙ entry-keeps image before rest entry place admitted legal none.0

@@ -1,0 +1,85 @@
+-- What a live cell is granted, and how its accesses end.
+use Rattle.std.specs.Prelude.{◌≡◌, ◌<◌, ◌+◌, ◌⊎◌, ◌↔◌, ℕ, Bool, true, List, Contains, Option, Some, slice_get, IsSome, IsTrue}
+use Rattle.jh_num.specs.Memory.{little_endian}
+use Rattle.jh_cellcfg.specs.declared.config.CellConfig.{CellConfig}
+use Rattle.jh_cellcfg.specs.declared.live.Live.{Live}
+use Rattle.jh_cellcfg.specs.declared.region.Region.{Region}
+use Rattle.jh_cellcfg.specs.Regions.{has_place, is_unshared, is_loadable}
+use Rattle.jh_check.specs.Clean.{IsSameSection}
+use Rattle.jh_shape.specs.Laws.{IsTaken}
+use Rattle.jh_script.specs.declared.image.Image.{Image}
+use Rattle.jh_history.specs.declared.place.Place.{Place}
+use Rattle.jh_history.specs.declared.place.Place.TheVariants.{Physical, Page}
+use Rattle.jh_history.specs.declared.access.Access.{Access}
+use Rattle.jh_history.specs.declared.access.Access.TheVariants.{Read as ToRead, Write as ToWrite, Fetch as ToFetch}
+use Rattle.jh_history.specs.declared.entry.Act.{Act}
+use Rattle.jh_history.specs.declared.entry.Act.TheVariants.{Read, Write, Fetch, Await}
+use Rattle.jh_history.specs.Facts.{Facts}
+use Rattle.jh_history.specs.Phases.{configs_of}
+use Rattle.jh_laws.specs.Grants.{IsGranted}
+
+-- the cell is root, or one of those that live besides it
+abbrev pub IsLive : Image → List Live → CellConfig → Type 0
+IsLive image cells cell = (cell ≡ image.system.root) ⊎ Contains (configs_of cells) cell
+
+-- the place is left to the cell: another cell, which holds it for itself, keeps root from it, and no other cell from
+-- what its own regions give
+abbrev pub IsLeft : Image → List Live → CellConfig → Place → Type 0
+IsLeft image cells cell (Physical p) = cell.id ≡ image.system.root.id → IsTaken cells p → ⊥
+IsLeft image cells cell (Page id offset) = Unit {0}
+
+-- the live cell with the id is granted the place at the address: by one of its own regions, and it is left to it
+pub record IsGrantedTo (image : Image) (cells : List Live) (id : ℕ) (access : Access) (at : ℕ) (place : Place) : Type 0 where
+  pub cell : CellConfig
+  pub live : IsLive image cells cell
+  pub named : cell.id ≡ id
+  pub given : IsGranted cell access at place
+  pub left : IsLeft image cells cell place
+
+-- each of so many bytes from the address on is granted some place
+abbrev pub AreGrantedTo : Image → List Live → ℕ → Access → ℕ → ℕ → Type 0
+AreGrantedTo image cells id access at width = (k : ℕ) → k < width → (place : Place) × IsGrantedTo image cells id access (at + k) place
+
+-- the value is the number of the bytes at the places that the cell is granted from the address on, the lowest first
+abbrev pub IsReadBy : Image → Facts → ℕ → Access → ℕ → ℕ → ℕ → Type 0
+IsReadBy image f id access at width value =
+    (place : ℕ → Place) → ((k : ℕ) → k < width → IsGrantedTo image f.cells id access (at + k) (place k)) → value ≡ little_endian width (λ k. f.byte (place k))
+
+-- what a reading access got: a value exactly where each byte is granted, and then that of these bytes
+pub record IsGotBy (image : Image) (f : Facts) (id : ℕ) (access : Access) (at width : ℕ) (got : Option ℕ) : Type 0 where
+  pub granted : IsSome got ↔ AreGrantedTo image f.cells id access at width
+  pub reads : (value : ℕ) → got ≡ Some value → IsReadBy image f id access at width value
+
+-- an await is made at the value that it waits for, and succeeds exactly where each byte is granted
+pub record IsAwaitedBy (image : Image) (f : Facts) (id at width value : ℕ) (ok : Bool) : Type 0 where
+  pub granted : IsTrue ok ↔ AreGrantedTo image f.cells id ToRead at width
+  pub reads : IsTrue ok → IsReadBy image f id ToRead at width value
+
+-- an access of the cell has the outcome that it has where these facts hold
+abbrev pub EndsAsGranted : Image → Facts → ℕ → Act → Type 0
+EndsAsGranted image f id (Read width at got) = IsGotBy image f id ToRead at width got
+EndsAsGranted image f id (Fetch at got) = IsGotBy image f id ToFetch at 4 got
+EndsAsGranted image f id (Write width at value ok) = IsTrue ok ↔ AreGrantedTo image f.cells id ToWrite at width
+EndsAsGranted image f id (Await width at value ok) = IsAwaitedBy image f id at width value ok
+EndsAsGranted image f id _ = Unit {0}
+
+-- ---- what a cell holds for itself
+
+-- the cell holds the place for itself: by a region of it that isn't shared with root, nor left to root while the cell is
+-- loadable
+pub record IsHeld (cells : List Live) (live : Live) (number : ℕ) (region : Region) (place : ℕ) : Type 0 where
+  pub lives : Contains cells live
+  pub item : slice_get live.config.memory_regions number ≡ Some region
+  pub alone : is_unshared region ≡ true
+  pub has : has_place region place ≡ true
+  pub kept : live.loadable ≡ true → is_loadable region ≡ true → ⊥
+
+-- the region of the cell, and that of the other one, are the same section of two linked devices
+abbrev pub AreLinkedSections : CellConfig → ℕ → CellConfig → ℕ → Type 0
+AreLinkedSections cell number other other_number = IsSameSection cell number other other_number ⊎ IsSameSection other other_number cell number
+
+-- the id is the cell's own, or that of a live cell with a device linked to one of its devices, of which the region is a
+-- section
+abbrev pub IsOwnOrLinked : List Live → CellConfig → ℕ → ℕ → Type 0
+IsOwnOrLinked cells cell number id =
+    (id ≡ cell.id) ⊎ ((other : CellConfig) × Contains (configs_of cells) other × (other.id ≡ id) × (n : ℕ) × AreLinkedSections cell number other n)

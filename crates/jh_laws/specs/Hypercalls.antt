@@ -1,0 +1,49 @@
+-- What a hypercall is answered at once, by its cause.
+use Rattle.std.specs.Prelude.{◌≡◌, ◌≢◌, ◌≤◌, ◌<◌, ◌+◌, ◌⊎◌, ℕ, ℤ, pos, true, false, Contains, length}
+use Rattle.jh_num.specs.declared.error.TheConstants.{EPERM, ENOENT, EINVAL, ENOSYS}
+use Rattle.jh_cellcfg.specs.declared.config.CellConfig.{CellConfig}
+use Rattle.jh_shape.specs.Pages.{pages_of}
+use Rattle.jh_cpu.specs.declared.cpu.Mode.TheVariants.{Failed}
+use Rattle.jh_call.specs.declared.call.Call.{Call}
+use Rattle.jh_call.specs.declared.call.Call.TheVariants.{Create, Start, Loadable, Destroy, Info, State, CpuInfo, Unknown}
+use Rattle.jh_script.specs.declared.image.Image.{Image}
+use Rattle.jh_history.specs.Facts.{Facts}
+use Rattle.jh_history.specs.Lives.{is_on_board}
+use Rattle.jh_history.specs.Admitted.{pool_pages}
+use Rattle.jh_history.specs.Phases.{state_word, configs_of}
+
+-- information about the hypervisor: the pool's pages, those used, the live cells with root
+pub record IsInfo (image : Image) (f : Facts) (kind : ℕ) (answer : ℤ) : Type 0 where
+  pub size : kind ≡ 0 → answer ≡ pos (pool_pages image.system)
+  pub used : kind ≡ 1 → answer ≡ pos (pages_of image.system.root.memory_regions (configs_of f.cells))
+  pub cells : kind ≡ 4 → answer ≡ pos (length f.cells + 1)
+  pub other : kind ≢ 0 → kind ≢ 1 → kind ≢ 4 → answer ≡ EINVAL
+
+-- the state of a cell, which root alone is told: 0 for root, and the state word of another live cell where that is one
+-- of the five states
+pub record IsStateTold (image : Image) (f : Facts) (cell id : ℕ) (answer : ℤ) : Type 0 where
+  pub others : cell ≢ image.system.root.id → answer ≡ EPERM
+  pub root : cell ≡ image.system.root.id → id ≡ image.system.root.id → answer ≡ pos 0
+  pub state : (config : CellConfig) → cell ≡ image.system.root.id → Contains (configs_of f.cells) config → config.id ≡ id → state_word f id ≤ 4 → answer ≡ pos (state_word f id)
+  pub wrong : (config : CellConfig) → cell ≡ image.system.root.id → Contains (configs_of f.cells) config → config.id ≡ id → 4 < state_word f id → answer ≡ EINVAL
+  pub none : cell ≡ image.system.root.id → id ≢ image.system.root.id → ((config : CellConfig) → Contains (configs_of f.cells) config → config.id ≢ id) → answer ≡ ENOENT
+
+-- the state of a CPU, by the first of these: the board lacks it, it is another cell's and root doesn't ask, the kind
+-- isn't 0, it has failed
+pub record IsCpuTold (image : Image) (f : Facts) (cell cpu kind : ℕ) (answer : ℤ) : Type 0 where
+  pub absent : is_on_board image cpu ≡ false → answer ≡ EINVAL
+  pub foreign : is_on_board image cpu ≡ true → cell ≢ image.system.root.id → (f.cpu cpu).owner ≢ cell → answer ≡ EPERM
+  pub wrong : is_on_board image cpu ≡ true → (cell ≡ image.system.root.id) ⊎ ((f.cpu cpu).owner ≡ cell) → kind ≢ 0 → answer ≡ EINVAL
+  pub failed : is_on_board image cpu ≡ true → (cell ≡ image.system.root.id) ⊎ ((f.cpu cpu).owner ≡ cell) → kind ≡ 0 → (f.cpu cpu).mode ≡ Failed → answer ≡ pos 2
+  pub good : is_on_board image cpu ≡ true → (cell ≡ image.system.root.id) ⊎ ((f.cpu cpu).owner ≡ cell) → kind ≡ 0 → (f.cpu cpu).mode ≢ Failed → answer ≡ pos 0
+
+-- what the cell's call is answered: calls that manage cells are root's
+abbrev pub IsAnswer : Image → Facts → ℕ → Call → ℤ → Type 0
+IsAnswer image f cell (Create at) answer = (cell ≢ image.system.root.id) × (answer ≡ EPERM)
+IsAnswer image f cell (Start id) answer = (cell ≢ image.system.root.id) × (answer ≡ EPERM)
+IsAnswer image f cell (Loadable id) answer = (cell ≢ image.system.root.id) × (answer ≡ EPERM)
+IsAnswer image f cell (Destroy id) answer = (cell ≢ image.system.root.id) × (answer ≡ EPERM)
+IsAnswer image f cell (Info kind) answer = IsInfo image f kind answer
+IsAnswer image f cell (State id) answer = IsStateTold image f cell id answer
+IsAnswer image f cell (CpuInfo cpu kind) answer = IsCpuTold image f cell cpu kind answer
+IsAnswer image f cell Unknown answer = answer ≡ ENOSYS

@@ -1,0 +1,54 @@
+//! What live cells are granted, and how their accesses end.
+ghost use Rattle.std.specs.Prelude.{◌≡◌, ◌≢◌, ◌↔◌, ◌⊎◌, ℕ, Some, Contains};
+ghost use Rattle.jh_cellcfg.specs.declared.config.CellConfig.{CellConfig as TheConfig};
+ghost use Rattle.jh_cellcfg.specs.declared.live.Live.{Live as TheLive};
+ghost use Rattle.jh_cellcfg.specs.declared.region.Region.{Region as TheRegion};
+ghost use Rattle.jh_shape.specs.Laws.{IsTaken};
+ghost use Rattle.jh_history.specs.declared.access.Access.{Access as TheAccess};
+ghost use Rattle.jh_history.specs.declared.place.Place.{Place as ThePlace};
+ghost use Rattle.jh_history.specs.declared.place.Place.TheVariants.{Physical, Page};
+ghost use Rattle.jh_history.specs.declared.comm.PageWrite.{PageWrite as ThePageWrite};
+ghost use Rattle.jh_history.specs.Pages.{page_write_by};
+ghost use Rattle.jh_history.specs.Grants.{granted};
+ghost use Rattle.jh_laws.specs.Moments.{AdmittedJournal, AdmittedMoment, facts_of, facts_before, facts_behind, cells_of};
+ghost use Rattle.jh_laws.specs.Grants.{IsGranted};
+ghost use Rattle.jh_laws.specs.Held.{IsGrantedTo, EndsAsGranted, IsHeld, IsOwnOrLinked};
+
+/// The place that a live cell is granted at an address.
+pub fn cells_are_granted_their_places()
+    ensures { (j : AdmittedJournal) (id : ℕ) (access : TheAccess) (at : ℕ) (place : ThePlace) →
+        (granted j.image (facts_of j) id access at ≡ Some place) ↔ IsGrantedTo j.image (facts_of j).cells id access at place }
+{}
+
+/// Root is granted exactly what its regions give, each address as its own place, but for places that a live cell
+/// holds for itself, its loadable regions aside while it is loadable. Another live cell is granted exactly what
+/// its regions give.
+pub fn root_is_granted_the_rest()
+    ensures root { (j : AdmittedJournal) (access : TheAccess) (at : ℕ) →
+        IsGrantedTo j.image (facts_of j).cells j.image.system.root.id access at (Physical at) ↔
+        (IsGranted j.image.system.root access at (Physical at) × (IsTaken (facts_of j).cells at → ⊥)) }
+    ensures address { (j : AdmittedJournal) (access : TheAccess) (at : ℕ) (place : ThePlace) →
+        IsGrantedTo j.image (facts_of j).cells j.image.system.root.id access at place → place ≡ Physical at }
+    ensures cells { (j : AdmittedJournal) (cell : TheConfig) (access : TheAccess) (at : ℕ) (place : ThePlace) →
+        Contains (cells_of j) cell →
+        (IsGrantedTo j.image (facts_of j).cells cell.id access at place ↔ IsGranted cell access at place) }
+{}
+
+/// An access succeeds exactly where its cell is granted each of its bytes, and a value that it reads is the number
+/// of the bytes at the places granted, the lowest first.
+pub fn accesses_end_as_granted()
+    ensures { (m : AdmittedMoment) → EndsAsGranted m.image (facts_before m) m.entry.cell m.entry.act }
+{}
+
+/// A byte of physical memory that a live cell holds for itself changes only by an entry of that cell, or of a live
+/// cell with a device linked to one of its devices, of which the byte's region is a section. A byte of a
+/// communication page changes only by an entry of its cell, or where the hypervisor writes into that page.
+pub fn what_a_cell_holds_is_its_own()
+    ensures memory { (m : AdmittedMoment) (live : TheLive) (number : ℕ) (region : TheRegion) (place : ℕ) →
+        IsHeld (facts_before m).cells live number region place →
+        (facts_behind m).byte (Physical place) ≢ (facts_before m).byte (Physical place) →
+        IsOwnOrLinked (facts_before m).cells live.config number m.entry.cell }
+    ensures pages { (m : AdmittedMoment) (cell offset : ℕ) →
+        (facts_behind m).byte (Page cell offset) ≢ (facts_before m).byte (Page cell offset) →
+        (m.entry.cell ≡ cell) ⊎ ((write : ThePageWrite) × (page_write_by m.image (facts_before m) m.entry m.entry.act ≡ Some write) × (write.cell ≡ cell)) }
+{}
