@@ -32,3 +32,5 @@ pub mod LoopLemmas
 pub mod PageWriteLemmas
 pub mod PlainStepLemmas
 pub mod FewLemmas
+pub mod ReadLemmas
+pub mod PlainReadLemmas

@@ -22,5 +22,6 @@ pub mod Items
 pub mod Admitted
 pub mod PastView
 pub mod LiveView
+pub mod ReadView
 pub mod PlainView
 pub mod Apart

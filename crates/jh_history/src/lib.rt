@@ -26,6 +26,7 @@ mod phases;
 mod place;
 mod plain;
 mod plain_known;
+mod reading;
 mod sound;
 mod written;
 
@@ -47,10 +48,12 @@ pub use jh_cpu::{Cpu, Mode};
 pub use journal::Journal;
 pub use known::Known;
 pub use laws::{admitted_roots_are_sound, root_lives_alone};
+pub use locked::{is_any_locked, is_any_other_locked, is_locked};
 pub use next::{access_of, is_due, next_of, none_due, reach_of};
 pub use pages::page_write;
 pub use place::{Place, Places, Run};
 pub use plain::{due, quiet};
+pub use reading::{RootBytes, read_config};
 pub use sound::legal_journals_are_sound;
 
 #[cfg(test)]

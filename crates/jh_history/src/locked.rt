@@ -29,15 +29,15 @@ fn state_word<B: Bytes>(bytes: &B, cell: u32) -> u32
     value_of(bytes, &Places::new(run, none)) as u32
 }
 
-/// Whether the cell is locked.
-fn is_locked<B: Bytes>(bytes: &B, cell: &CellConfig) -> bool
+/// Whether the cell is locked, by these bytes: its state is that of one that runs and may not be reconfigured.
+pub fn is_locked<B: Bytes>(bytes: &B, cell: &CellConfig) -> bool
     ensures { result ≡ is_locked_by (B.byte_of bytes.now) cell.now }
 {
     state_word(bytes, cell.id) == STATE_RUNNING_LOCKED
 }
 
 /// Whether one of the cells is locked, by these bytes.
-pub(crate) fn is_any_locked<B: Bytes>(bytes: &B, cells: &[CellConfig]) -> bool
+pub fn is_any_locked<B: Bytes>(bytes: &B, cells: &[CellConfig]) -> bool
     ensures { (lives : List TheLive) → configs_of lives ≡ cells.now → result ≡ list_any (λ (live : TheLive). is_locked_by (B.byte_of bytes.now) live.config) lives }
 {
     for cell in cells {
@@ -56,7 +56,7 @@ fn is_other_locked<B: Bytes>(bytes: &B, cell: &CellConfig, id: u64) -> bool
 }
 
 /// Whether one of the cells but the one with the id is locked, by these bytes.
-pub(crate) fn is_any_other_locked<B: Bytes>(bytes: &B, cells: &[CellConfig], id: u64) -> bool
+pub fn is_any_other_locked<B: Bytes>(bytes: &B, cells: &[CellConfig], id: u64) -> bool
     ensures { (lives : List TheLive) → configs_of lives ≡ cells.now → result ≡ list_any (λ (live : TheLive). is_other_locked_by (B.byte_of bytes.now) id live.config) lives }
 {
     for cell in cells {

@@ -5,6 +5,8 @@ ghost use Rattle.jh_cellcfg.specs.declared.live.Live.{Live as TheLive};
 ghost use Rattle.jh_check.specs.Clean.{IsSoundBitmap, IsSoundCpuSet};
 ghost use Rattle.jh_history.specs.declared.call.OpenCall.{OpenCall as TheOpenCall};
 ghost use Rattle.jh_history.specs.Calls.{call_by};
+ghost use Rattle.jh_history.specs.Configs.{config_read};
+ghost use Rattle.jh_history.specs.ReadView.{as_read};
 ghost use Rattle.jh_history.specs.Commits.{cells_by, created_by};
 ghost use Rattle.jh_history.specs.Cpus.{cpu_after};
 ghost use Rattle.jh_script.specs.declared.image.Image.{Image as TheImage};
@@ -14,13 +16,13 @@ ghost use Rattle.jh_history.specs.Wants.{reach_of as reach_of_lem};
 ghost use Rattle.jh_history.specs.Lives.{is_on_board as is_on_board_lem};
 ghost use Rattle.jh_history.specs.Facts.{Facts};
 ghost use Rattle.jh_history.specs.Bytes.{byte_written, byte_after};
-ghost use Rattle.jh_history.specs.History.{facts, after, start, coming_of};
+ghost use Rattle.jh_history.specs.History.{facts, after, start, coming_by, coming_of};
 ghost use Rattle.jh_history.specs.Due.{due as due_lem, IsLegal, IsQuiet};
 ghost use Rattle.jh_history.specs.Admitted.{IsAdmitted, IsBuilt, IsPlainAct, IsPlainEntry};
 ghost use Rattle.jh_history.specs.PlainView.{last_byte, Stands, IsSameBut, IsDueBeside};
 
 use crate::access::{Access, Reach, Wanted};
-use crate::call::OpenCall;
+use crate::call::{Creation, OpenCall};
 use crate::calling::call_after;
 use crate::cells::reach_in;
 use crate::change::cpus_after;
@@ -30,6 +32,7 @@ use crate::laws::admitted_roots_are_sound;
 use crate::live_cells::LiveCells;
 use crate::next::{next_of, none_due, reach_of};
 use crate::pages::page_write;
+use crate::reading::read_config;
 use crate::sound::legal_journals_are_sound;
 use crate::written::{WrittenByte, write_page_if, write_places};
 use jh_call::Call;
@@ -46,6 +49,7 @@ use std::mem;
 /// that is open, and the bytes that were written, the newest last.
 #[derive(Drop)]
 pub(crate) struct Plain<'a> {
+    pub(crate) alloc: Global,
     pub(crate) image: &'a Image,
     pub(crate) cpus: [Cpu; 16],
     pub(crate) cells: LiveCells,
@@ -70,6 +74,16 @@ fn call_in(call: Option<&OpenCall>) -> Option<Call>
     match call {
         Some(begun) => Some(begun.call),
         None => None,
+    }
+}
+
+/// The configuration that comes.
+fn comes(creation: Creation) -> Option<CellConfig>
+    ensures { result ≡ config_read (as_read creation) }
+{
+    match creation {
+        Creation::Comes { config } => Some(config),
+        Creation::Refused { .. } => None,
     }
 }
 
@@ -111,6 +125,7 @@ impl<'a> Plain<'a> {
     {
         legal_journals_are_sound();
         Plain {
+            alloc,
             image,
             cpus: [Cpu::new(image.system.root.id); 16],
             cells: LiveCells::new(alloc),
@@ -183,12 +198,35 @@ impl<'a> Plain<'a> {
         Ok(())
     }
 
+    /// The configuration that the call reads, where it is a create.
+    fn read_for(&self, call: &Call) -> Result<Option<CellConfig>, NoMemory>
+        ensures { IfOk result (λ coming. (i : TheImage) (f : Facts) → Stands self.now i f → coming ≡ coming_by i f call.now) }
+    {
+        match *call {
+            Call::Create { at } => {
+                let read = read_config(self.alloc, self, at)?;
+                Ok(comes(read))
+            }
+            _ => Ok(None),
+        }
+    }
+
+    /// That of the open call.
+    fn read_coming(&self) -> Result<Option<CellConfig>, NoMemory>
+        ensures { IfOk result (λ coming. (i : TheImage) (f : Facts) → Stands self.now i f → coming ≡ coming_of i f) }
+    {
+        match self.call.as_ref() {
+            Some(begun) => self.read_for(&begun.call),
+            None => Ok(None),
+        }
+    }
+
     /// The configuration that the open call reads at the entry, where that is a Decide.
     fn coming(&self, entry: &Entry) -> Result<Option<CellConfig>, NoMemory>
         ensures { IfOk result (λ coming. (i : TheImage) (f : Facts) → Stands self.now i f → (lives : List TheLive) → call_by lives coming f.call entry.now entry.now.act ≡ call_by lives (coming_of i f) f.call entry.now entry.now.act) }
     {
         match entry.act {
-            Act::Decide { .. } => Err(NoMemory),
+            Act::Decide { .. } => self.read_coming(),
             _ => Ok(None),
         }
     }

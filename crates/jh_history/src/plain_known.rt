@@ -1,7 +1,7 @@
 //! The slow plain program as what tells the facts.
 ghost use Rattle.std.specs.Prelude.{◌≡◌, ◌≤◌, ℕ, length, IsTrue, IfOk};
 
-use crate::access::{Reach, Wanted};
+use crate::access::{Access, Reach, Wanted};
 use crate::admission::pool_pages;
 use crate::bytes::{Bytes, value_of};
 use crate::call::{Creation, OpenCall};
@@ -13,6 +13,7 @@ use crate::locked::is_any_other_locked;
 use crate::pages::live_in;
 use crate::place::{Place, Places};
 use crate::plain::Plain;
+use crate::reading::RootBytes;
 use crate::written::opening_byte;
 use jh_cellcfg::CellConfig;
 use jh_cpu::Cpu;
@@ -33,6 +34,30 @@ impl<'a> Bytes for Plain<'a> {
         }
         byte
     }
+}
+
+impl<'a> RootBytes for Plain<'a> {
+    ghost use Rattle.jh_history.specs.declared.access.Access.TheVariants.{Read};
+    ghost use Rattle.jh_history.specs.Access.{reach_by, read_of};
+    ghost use Rattle.jh_history.specs.Grants.{granted_in};
+    ghost use Rattle.jh_history.specs.PlainView.{last_byte};
+
+    ghost readable = { λ p at. read_of (last_byte p.image p.bytes) (reach_by (granted_in p.image p.cells p.image.system.root.id Read) at 1) };
+
+    fn read(&self, at: u64) -> Option<u8> {
+        let wanted = Wanted {
+            access: Access::Read,
+            at,
+            width: 1,
+        };
+        let root = self.image.system.root.id;
+        match reach_in(self.image, &self.cells, root, &wanted) {
+            Reach::Memory(places) => Some(value_of(self, &places) as u8),
+            Reach::Nothing => None,
+        }
+    }
+
+    fn ends(&self) {}
 }
 
 impl<'a> Known for Plain<'a> {
