@@ -77,6 +77,7 @@ impl<'a> Known for State<'a> {
         false
     }
 
+    /// It is never asked: no call is open where root lives alone.
     fn creation(&self, _caller: u8, _at: u64) -> Result<Creation, NoMemory> {
         Err(NoMemory)
     }

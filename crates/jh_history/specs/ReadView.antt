@@ -1,8 +1,16 @@
 -- How a configuration is read from bytes, where these may be read.
-use Rattle.std.specs.Prelude.{ℕ, zero, suc, ◌+◌, List, [], ◌∷◌, Option, Some, None, option_map, option_and_then}
+use Rattle.std.specs.Prelude.{ℕ, ℤ, zero, suc, ◌+◌, Bool, ◌==◌, ◌&&◌, not, if◌then◌else◌, List, [], ◌∷◌, ◌++◌, Option, Some, None, option_map, option_and_then}
 use Rattle.jh_num.specs.declared.error.TheConstants.{EINVAL}
+use Rattle.jh_cellcfg.specs.declared.config.CellConfig.{CellConfig}
 use Rattle.jh_cellcfg.specs.declared.fault.ConfigFault.{ConfigFault}
 use Rattle.jh_cellcfg.specs.Faults.{header_fault, header_size}
+use Rattle.jh_check.specs.Refusals.{refusal_of}
+use Rattle.jh_shape.specs.Pages.{pages_of}
+use Rattle.jh_cpu.specs.declared.cpu.Cpu.{Cpu}
+use Rattle.jh_script.specs.declared.image.Image.{Image}
+use Rattle.jh_history.specs.Admitted.{pool_pages}
+use Rattle.jh_history.specs.Lives.{is_on_board}
+use Rattle.jh_history.specs.Phases.{is_built_cell, or_unbuilt}
 use Rattle.jh_history.specs.declared.call.Creation.{Creation}
 use Rattle.jh_history.specs.declared.call.Creation.TheVariants.{Refused, Comes}
 use Rattle.jh_history.specs.Configs.{ReadCell, Reads, Refuses, refused_for, read_whole}
@@ -28,3 +36,14 @@ read_by byte at = read_from byte at (bytes_by byte at 132)
 abbrev pub as_read : Creation → ReadCell
 as_read (Refused number) = Refuses number
 as_read (Comes config) = Reads config
+
+-- the caller may give the CPU away, which is in this state
+abbrev pub gives_by : Image → ℕ → ℕ → Cpu → Bool
+gives_by image caller cpu state = is_on_board image cpu && not (cpu == caller) && (state.owner == image.system.root.id)
+
+-- what a configuration is refused for beside these, where such CPUs may be given away
+abbrev pub refusal_by : Image → List CellConfig → (ℕ → Bool) → CellConfig → Option ℤ
+refusal_by image configs may config =
+    if is_built_cell config
+    then refusal_of image.system configs config may (pages_of image.system.root.memory_regions (configs ++ config ∷ [])) (pool_pages image.system)
+    else or_unbuilt (refusal_of image.system configs config may 0 (pool_pages image.system))

@@ -11,6 +11,7 @@ mod cells;
 mod change;
 mod comm;
 mod counting;
+mod creation;
 mod due_facts;
 mod entry;
 mod grants;

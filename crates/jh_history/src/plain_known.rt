@@ -7,17 +7,19 @@ use crate::bytes::{Bytes, value_of};
 use crate::call::{Creation, OpenCall};
 use crate::cells::{config_in, is_on_board, op_at, reach_in};
 use crate::counting::pages_of;
+use crate::creation::judged;
 use crate::known::Known;
 use crate::laws::admitted_roots_are_sound;
-use crate::locked::is_any_other_locked;
+use crate::locked::{is_any_locked, is_any_other_locked};
 use crate::pages::live_in;
 use crate::place::{Place, Places};
 use crate::plain::Plain;
-use crate::reading::RootBytes;
+use crate::reading::{RootBytes, read_config};
 use crate::written::opening_byte;
 use jh_cellcfg::CellConfig;
 use jh_cpu::Cpu;
 use jh_num::NoMemory;
+use jh_num::error::EPERM;
 use jh_script::Op;
 
 impl<'a> Bytes for Plain<'a> {
@@ -95,8 +97,16 @@ impl<'a> Known for Plain<'a> {
         is_any_other_locked(self, self.cells.configs(), id)
     }
 
-    fn creation(&self, _caller: u8, _at: u64) -> Result<Creation, NoMemory> {
-        Err(NoMemory)
+    fn creation(&self, caller: u8, at: u64) -> Result<Creation, NoMemory> {
+        if is_any_locked(self, self.cells.configs()) {
+            return Ok(Creation::Refused { number: EPERM });
+        }
+        let read = read_config(self.alloc, self, at)?;
+        // Beside 15 cells no verdict is known here yet.
+        if self.cells.configs().len() > 14 {
+            return Err(NoMemory);
+        }
+        Ok(judged(self.image, self.cells.configs(), &self.cpus, caller, read))
     }
 
     fn call(&self) -> Option<&OpenCall> {
