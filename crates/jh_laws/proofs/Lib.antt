@@ -25,3 +25,4 @@ pub mod PlacesHeldLemmas
 pub mod DecisionLemmas
 pub mod WrittenLemmas
 pub mod StatesLemmas
+pub mod EntryLemmas

@@ -1,11 +1,18 @@
 //! What entries do to CPUs.
-ghost use Rattle.std.specs.Prelude.{◌≡◌, ◌≢◌, ℕ, ℤ, true, false, Some};
-ghost use Rattle.jh_cpu.specs.declared.cpu.Cpu.{Cpu as TheCpu};
+ghost use Rattle.std.specs.Prelude.{◌≡◌, ◌≢◌, ℕ, ℤ, true, false, Some, slice_get};
+ghost use Rattle.jh_cellcfg.specs.declared.config.CellConfig.{CellConfig as TheConfig};
+ghost use Rattle.jh_cellcfg.specs.Cells.{name_of};
+ghost use Rattle.jh_cpu.specs.declared.cpu.Mode.TheVariants.{Running as Runs};
 ghost use Rattle.jh_cpu.specs.Changes.{stopped_of};
+ghost use Rattle.jh_script.specs.declared.op.Op.{Op as TheOp};
+ghost use Rattle.jh_history.specs.Lives.{is_on_board, program_of};
 ghost use Rattle.jh_history.specs.declared.entry.Entry.{Entry as TheEntry};
 ghost use Rattle.jh_history.specs.declared.entry.Act.TheVariants.{Begin, Stop, Commit, Finish};
-ghost use Rattle.jh_laws.specs.Moments.{AdmittedMoment, state_before, state_behind, cells_before, cells_behind};
+ghost use Rattle.jh_laws.specs.Moments.{AdmittedMoment, facts_before, state_before, state_behind, cells_before, cells_behind};
 ghost use Rattle.jh_laws.specs.Ways.{is_call, is_agreement, begun, call_begun};
+ghost use Rattle.jh_laws.specs.Sound.{IsCalm};
+ghost use Rattle.jh_laws.specs.Held.{IsLive};
+ghost use Rattle.jh_laws.specs.Operations.{op_of};
 ghost use Rattle.jh_laws.specs.Moves.{stepped, ended};
 ghost use Rattle.jh_laws.specs.Outcomes.{is_violation};
 ghost use Rattle.jh_laws.specs.States.{changes_others, is_stop, HasBegun, HasAgreed, HasCommitted, HasFinished};
@@ -36,4 +43,16 @@ pub fn calls_change_cpus()
         HasCommitted m.image (cells_before m) (cells_behind m) (call_begun first.act) cpu (state_before m cpu) (state_behind m cpu) }
     ensures finish { (m : AdmittedMoment) (answer : ℤ) (cpu : ℕ) → m.entry.act ≡ Finish answer →
         HasFinished m.image m.entry.cpu cpu (state_before m cpu) (state_behind m cpu) }
+{}
+
+/// An entry is made by a CPU of the board in the name of its cell. But for a stop, the CPU runs, and is neither
+/// asked to stop nor stopped. An operation is the one of its cell's program that the CPU was at.
+pub fn entries_are_their_cpus_own()
+    ensures board { (m : AdmittedMoment) → is_on_board m.image m.entry.cpu ≡ true }
+    ensures cell { (m : AdmittedMoment) → m.entry.cell ≡ (state_before m m.entry.cpu).owner }
+    ensures runs { (m : AdmittedMoment) → is_stop m.entry.act ≡ false →
+        IsCalm (state_before m m.entry.cpu) × ((state_before m m.entry.cpu).mode ≡ Runs) }
+    ensures operation { (m : AdmittedMoment) (op : TheOp) → op_of m.entry.act ≡ Some op →
+        (cell : TheConfig) × IsLive m.image (facts_before m).cells cell × (cell.id ≡ m.entry.cell) ×
+        (slice_get (program_of m.image (name_of cell) m.entry.cpu) (state_before m m.entry.cpu).position ≡ Some op) }
 {}
