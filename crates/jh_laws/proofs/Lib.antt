@@ -26,3 +26,4 @@ pub mod DecisionLemmas
 pub mod WrittenLemmas
 pub mod StatesLemmas
 pub mod EntryLemmas
+pub mod DueCpusLemmas

@@ -13,3 +13,4 @@ pub mod Hypercalls
 pub mod Decisions
 pub mod Written
 pub mod States
+pub mod Ready

@@ -51,5 +51,8 @@ pub use order::{
     nothing_extends_a_quiet_journal,
 };
 pub use sound::legal_journals_are_sound;
-pub use states::{calls_change_cpus, entries_are_their_cpus_own, entries_change_their_cpu};
+pub use states::{
+    calls_change_cpus, cpus_that_are_ready_have_an_entry_due, entries_are_their_cpus_own,
+    entries_change_their_cpu,
+};
 pub use writes::{bytes_are_as_last_written, entries_write_what_they_say};

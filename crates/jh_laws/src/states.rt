@@ -1,5 +1,5 @@
 //! What entries do to CPUs.
-ghost use Rattle.std.specs.Prelude.{◌≡◌, ◌≢◌, ℕ, ℤ, true, false, Some, slice_get};
+ghost use Rattle.std.specs.Prelude.{◌≡◌, ◌≢◌, ◌↔◌, ℕ, ℤ, true, false, Some, IsSome, slice_get};
 ghost use Rattle.jh_cellcfg.specs.declared.config.CellConfig.{CellConfig as TheConfig};
 ghost use Rattle.jh_cellcfg.specs.Cells.{name_of};
 ghost use Rattle.jh_cpu.specs.declared.cpu.Mode.TheVariants.{Running as Runs};
@@ -8,8 +8,10 @@ ghost use Rattle.jh_script.specs.declared.op.Op.{Op as TheOp};
 ghost use Rattle.jh_history.specs.Lives.{is_on_board, program_of};
 ghost use Rattle.jh_history.specs.declared.entry.Entry.{Entry as TheEntry};
 ghost use Rattle.jh_history.specs.declared.entry.Act.TheVariants.{Begin, Stop, Commit, Finish};
-ghost use Rattle.jh_laws.specs.Moments.{AdmittedMoment, facts_before, state_before, state_behind, cells_before, cells_behind};
+ghost use Rattle.jh_laws.specs.Moments.{AdmittedJournal, AdmittedMoment, facts_of, facts_before, state_before, state_behind, cells_before, cells_behind};
 ghost use Rattle.jh_laws.specs.Ways.{is_call, is_agreement, begun, call_begun};
+ghost use Rattle.jh_history.specs.Due.{due};
+ghost use Rattle.jh_laws.specs.Ready.{IsReadyAt};
 ghost use Rattle.jh_laws.specs.Sound.{IsCalm};
 ghost use Rattle.jh_laws.specs.Held.{IsLive};
 ghost use Rattle.jh_laws.specs.Operations.{op_of};
@@ -55,4 +57,11 @@ pub fn entries_are_their_cpus_own()
     ensures operation { (m : AdmittedMoment) (op : TheOp) → op_of m.entry.act ≡ Some op →
         (cell : TheConfig) × IsLive m.image (facts_before m).cells cell × (cell.id ≡ m.entry.cell) ×
         (slice_get (program_of m.image (name_of cell) m.entry.cpu) (state_before m m.entry.cpu).position ≡ Some op) }
+{}
+
+/// An entry is due to a CPU of the board exactly where it is asked to stop, or the next phase of its call is due, or
+/// it has no call open, goes on with its program and its operation is due.
+pub fn cpus_that_are_ready_have_an_entry_due()
+    ensures { (j : AdmittedJournal) (cpu : ℕ) →
+        IsSome (due j.image j.entries cpu) ↔ IsReadyAt j.image (facts_of j) cpu }
 {}
