@@ -173,8 +173,8 @@ none_of (Some x) h = absurd (false≢true (sym h))
 abbrev waits_for : Image → Facts → ℕ → ℕ → Bool
 waits_for image f caller i = is_on_board image i && not (eqb i caller) && is_some (state_act image f (f.cpu i) i)
 
-idle_nothing : (image : Image) (f : Facts) (o : OpenCall) → AreSoundCells image.system (configs_of f.cells) → f.call ≡ Some o → is_idle_but image f o.caller ≡ true → NothingElse image f o.caller
-idle_nothing image f o sound is idle cpu other =
+pub idle-nothing : (image : Image) (f : Facts) (o : OpenCall) → AreSoundCells image.system (configs_of f.cells) → f.call ≡ Some o → is_idle_but image f o.caller ≡ true → NothingElse image f o.caller
+idle-nothing image f o sound is idle cpu other =
     ⊎_elim
     (λ (on : is_on_board image cpu ≡ true).
     none_of (due_at image f cpu)
@@ -285,8 +285,8 @@ replied reply approved over some h =
     (λ rest. ⊎_elim (λ (other : not (eqb reply 0) ≡ true). inl (λ e. both_ways (eqb reply 0) (not-true (eqb reply 0) other) (eq-eqb reply 0 e))) (λ (is : over ≡ true). inr is) rest)
     h
 
-over_parts : (timeout waited : ℕ) (idle : Bool) → is_over timeout waited idle ≡ true → ((timeout ≢ 0) × (timeout ≤ waited)) ⊎ (idle ≡ true)
-over_parts timeout waited idle h =
+pub over-parts : (timeout waited : ℕ) (idle : Bool) → is_over timeout waited idle ≡ true → ((timeout ≢ 0) × (timeout ≤ waited)) ⊎ (idle ≡ true)
+over-parts timeout waited idle h =
     ⊎_elim
     (λ (first : (not (eqb timeout 0) && nat_le timeout waited) ≡ true).
     let parts = and_parts (not (eqb timeout 0)) (nat_le timeout waited) first in
@@ -313,8 +313,8 @@ heard_from image f o config waited sound is h =
     (λ over.
     ⊎_elim
     (λ time. inr (inr (inl time)))
-    (λ idle. inr (inr (inr (idle_nothing image f o sound is idle))))
-    (over_parts config.msg_reply_timeout waited (is_idle_but image f o.caller) over))
+    (λ idle. inr (inr (inr (idle-nothing image f o sound is idle))))
+    (over-parts config.msg_reply_timeout waited (is_idle_but image f o.caller) over))
     rest)
     h
 
@@ -404,21 +404,21 @@ tells_heard state reply over h =
     h
 
 -- the cell that is waited for
-live_of : (cells : List Live) (id : ℕ) (o : Option Live) (config : CellConfig) → find (has_id id) cells ≡ o → option_map (λ (l : Live). l.config) o ≡ Some config → Contains (configs_of cells) config × (config.id ≡ id)
-live_of cells id None config is h = absurd (none-some config h)
-live_of cells id (Some live) config is h =
+pub live-of : (cells : List Live) (id : ℕ) (o : Option Live) (config : CellConfig) → find (has_id id) cells ≡ o → option_map (λ (l : Live). l.config) o ≡ Some config → Contains (configs_of cells) config × (config.id ≡ id)
+live-of cells id None config is h = absurd (none-some config h)
+live-of cells id (Some live) config is h =
     let P : CellConfig → Type 0 = λ c. Contains (configs_of cells) c × (c.id ≡ id) in
     subst P (same_Some live.config config h) (found-live cells id live is)
 
-named_of : (cells : List Live) (call : Call) (config : CellConfig) → named_cell cells call ≡ Some config → Contains (configs_of cells) config × (is_named call config.id ≡ true)
-named_of cells (Create at) config h = absurd (none-some config h)
-named_of cells (Start id) config h = let live = live_of cells id (find (has_id id) cells) config refl h in (live.0, eq-eqb id config.id (sym live.1))
-named_of cells (Loadable id) config h = let live = live_of cells id (find (has_id id) cells) config refl h in (live.0, eq-eqb id config.id (sym live.1))
-named_of cells (Destroy id) config h = let live = live_of cells id (find (has_id id) cells) config refl h in (live.0, eq-eqb id config.id (sym live.1))
-named_of cells (Info kind) config h = absurd (none-some config h)
-named_of cells (State id) config h = absurd (none-some config h)
-named_of cells (CpuInfo cpu kind) config h = absurd (none-some config h)
-named_of cells Unknown config h = absurd (none-some config h)
+pub named-of : (cells : List Live) (call : Call) (config : CellConfig) → named_cell cells call ≡ Some config → Contains (configs_of cells) config × (is_named call config.id ≡ true)
+named-of cells (Create at) config h = absurd (none-some config h)
+named-of cells (Start id) config h = let live = live-of cells id (find (has_id id) cells) config refl h in (live.0, eq-eqb id config.id (sym live.1))
+named-of cells (Loadable id) config h = let live = live-of cells id (find (has_id id) cells) config refl h in (live.0, eq-eqb id config.id (sym live.1))
+named-of cells (Destroy id) config h = let live = live-of cells id (find (has_id id) cells) config refl h in (live.0, eq-eqb id config.id (sym live.1))
+named-of cells (Info kind) config h = absurd (none-some config h)
+named-of cells (State id) config h = absurd (none-some config h)
+named-of cells (CpuInfo cpu kind) config h = absurd (none-some config h)
+named-of cells Unknown config h = absurd (none-some config h)
 
 live_by_id : (image : Image) (cells : List Live) (config : CellConfig) (id : ℕ) → AreSoundCells image.system (configs_of cells) → Contains (configs_of cells) config → config.id ≡ id → live_in cells id ≡ Some config
 live_by_id image cells config id sound held is = let P : ℕ → Type 0 = λ k. live_in cells k ≡ Some config in subst P is (found-by_id image cells config sound held)
@@ -437,21 +437,21 @@ some_map : {X Y : Type 0} (g : X → Y) (o : Option X) → is_some (option_map g
 some_map g None = refl
 some_map g (Some x) = refl
 
-some_then : {X Y : Type 0} (g : X → Option Y) (o : Option X) → is_some (option_and_then g o) ≡ true → (x : X) × (o ≡ Some x) × (is_some (g x) ≡ true)
-some_then g None h = absurd (false≢true h)
-some_then g (Some x) h = (x, refl, h)
+pub some-then : {X Y : Type 0} (g : X → Option Y) (o : Option X) → is_some (option_and_then g o) ≡ true → (x : X) × (o ≡ Some x) × (is_some (g x) ≡ true)
+some-then g None h = absurd (false≢true h)
+some-then g (Some x) h = (x, refl, h)
 
-abbrev settled_with : Facts → Bool → ℕ → CellConfig → Option Settled
+abbrev pub settled_with : Facts → Bool → ℕ → CellConfig → Option Settled
 settled_with f idle waited c = settled_by (is_passive c) (state_word f c.id) (reply_word f c.id) (is_over c.msg_reply_timeout waited idle)
 
-abbrev heard_with : Facts → Bool → ℕ → ℕ → CellConfig → Option Heard
+abbrev pub heard_with : Facts → Bool → ℕ → ℕ → CellConfig → Option Heard
 heard_with f idle id waited c = heard_by (state_word f id) (reply_word f id) (is_over c.msg_reply_timeout waited idle)
 
 settle_due : (image : Image) (f : Facts) (o : OpenCall) (waited : ℕ) → AreSoundCells image.system (configs_of f.cells) → f.call ≡ Some o → is_some (settled_of f (is_idle_but image f o.caller) o.call waited) ≡ true → IsPhaseDue image f o (ToSettle waited)
 settle_due image f o waited sound is h =
-    let found = some_then (settled_with f (is_idle_but image f o.caller) waited) (named_cell f.cells o.call) h in
+    let found = some-then (settled_with f (is_idle_but image f o.caller) waited) (named_cell f.cells o.call) h in
     let c : CellConfig = found.0 in
-    let live = named_of f.cells o.call c found.1 in (
+    let live = named-of f.cells o.call c found.1 in (
       c,
       live.0,
       live.1,
@@ -470,9 +470,9 @@ due_settle image f o waited sound is h =
 note_due : (image : Image) (f : Facts) (o : OpenCall) (id about waited : ℕ) (answer : ℤ) → AreSoundCells image.system (configs_of f.cells) → f.call ≡ Some o → is_some (heard_of f (is_idle_but image f o.caller) id waited) ≡ true → IsPhaseDue image f o (ToNoted id about answer waited)
 note_due image f o id about waited answer sound is h =
     let idle : Bool = is_idle_but image f o.caller in
-    let found = some_then (heard_with f idle id waited) (live_in f.cells id) h in
+    let found = some-then (heard_with f idle id waited) (live_in f.cells id) h in
     let c : CellConfig = found.0 in
-    let live = live_of f.cells id (find (has_id id) f.cells) c refl found.1 in
+    let live = live-of f.cells id (find (has_id id) f.cells) c refl found.1 in
     let P : ℕ → Type 0 = λ k. (is_down (state_word f k) ≡ true) ⊎ ((reply_word f k ≢ 0) ⊎ (is_over c.msg_reply_timeout waited idle ≡ true)) in
     (c, live.0, live.1, heard_from image f o c waited sound is (subst P (sym live.1) (heard_tells (state_word f id) (reply_word f id) (is_over c.msg_reply_timeout waited idle) found.2)))
 

@@ -27,3 +27,5 @@ pub mod WrittenLemmas
 pub mod StatesLemmas
 pub mod EntryLemmas
 pub mod DueCpusLemmas
+pub mod AnswerLemmas
+pub mod ExchangeLemmas

@@ -14,3 +14,4 @@ pub mod Decisions
 pub mod Written
 pub mod States
 pub mod Ready
+pub mod Exchanges
