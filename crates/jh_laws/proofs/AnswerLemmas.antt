@@ -129,6 +129,25 @@ own_act image f o entry act sound is due own act_is =
     (λ (beside : IsBeside image f o entry). absurd (beside.other own))
     (entry-of_call image f o entry sound is due)
 
+-- the call behind a Decide that goes on, and behind a note
+decided_call : (image : Image) (f : Facts) (entry : Entry) (o : OpenCall) (call : Call) → f.call ≡ Some o → o.caller ≡ entry.cpu → o.call ≡ call → entry.act ≡ Decide None
+    → (after image f entry).call ≡ Some (record { caller = entry.cpu; call = call; phase = decided call (coming_by image f call) None })
+decided_call image f entry o call opens caller same act =
+    call-after image f entry
+    ∙ ap (λ (c : Option OpenCall). call_by f.cells (option_and_then (λ (x : OpenCall). coming_by image f x.call) c) c entry entry.act) opens
+    ∙ ap (call_by f.cells (coming_by image f o.call) (Some o) entry) act
+    ∙ ap (λ (k : Call). Some (record { caller = o.caller; call = k; phase = decided k (coming_by image f k) None })) same
+    ∙ ap (λ (k : ℕ). Some (record { caller = k; call = call; phase = decided call (coming_by image f call) None })) caller
+
+noted_call : (image : Image) (f : Facts) (entry : Entry) (o : OpenCall) (id about : ℕ) (answer : ℤ) → f.call ≡ Some o → o.caller ≡ entry.cpu → o.phase ≡ ToNote id about answer → entry.act ≡ Note id
+    → (after image f entry).call ≡ Some (record { caller = entry.cpu; call = o.call; phase = ToNoted id about answer 0 })
+noted_call image f entry o id about answer opens caller phase act =
+    call-after image f entry
+    ∙ ap (λ (c : Option OpenCall). call_by f.cells (coming_of image f) c entry entry.act) opens
+    ∙ ap (call_by f.cells (coming_of image f) (Some o) entry) act
+    ∙ ap (λ (p : Phase). Some (record { caller = o.caller; call = o.call; phase = after_note p })) phase
+    ∙ ap (λ (k : ℕ). Some (record { caller = k; call = o.call; phase = ToNoted id about answer 0 })) caller
+
 pub settles-at : (image : Image) (before middle rest : List Entry) (decide settle first : Entry) (how : Settled) → IsAdmitted image → IsLegal image (before ++ decide ∷ (middle ++ settle ∷ rest)) → begun before ≡ Some first
     → decide.act ≡ Decide None → All (λ (e : Entry). e.cpu ≢ decide.cpu) middle → settle.cpu ≡ decide.cpu → settle.act ≡ Settle how
     → (config : CellConfig) × Contains (configs_of (facts image (before ++ decide ∷ middle)).cells) config × (is_named (call_begun first.act) config.id ≡ true)
@@ -145,12 +164,7 @@ settles-at image before middle rest decide settle first how admitted legal is ac
     let same : o.call ≡ call = begins.3 ∙ ap (λ (e : Entry). call_begun e.act) (same_Some begins.0 first (sym begins.1 ∙ is)) in
     let caller : ℕ = decide.cpu in
     let coming : Option CellConfig = coming_by image f0 call in
-    let made : f1.call ≡ Some (record { caller = caller; call = call; phase = decided call coming None }) =
-    call-after image f0 decide
-    ∙ ap (λ (c : Option OpenCall). call_by f0.cells (option_and_then (λ (x : OpenCall). coming_by image f0 x.call) c) c decide decide.act) of.opens
-    ∙ ap (call_by f0.cells (coming_by image f0 o.call) (Some o) decide) act
-    ∙ ap (λ (k : Call). Some (record { caller = o.caller; call = k; phase = decided k (coming_by image f0 k) None })) same
-    ∙ ap (λ (k : ℕ). Some (record { caller = k; call = call; phase = decided call coming None })) of.caller in
+    let made = decided_call image f0 decide o call of.opens of.caller same act in
     let waits = waits-over image caller call (decided call coming None) f1 middle (sound-after image f0 decide s.sound s.first_due) made s.between others in
     let open_there : OpenCall = record { caller = caller; call = call; phase = counted_over call (decided call coming None) middle } in
     let acts = own_act image f open_there settle (Settle how) waits.0 waits.1 s.last_due own settles in
@@ -187,12 +201,7 @@ hears-at image before middle rest note noted id other how admitted legal act oth
     let told = note_phase o.phase id (subst E act (phase-expects image f0 (is_idle_but image f0 o.caller) o.caller o.call o.phase note.act of.act)) in
     let about : ℕ = told.0 in
     let answer : ℤ = told.1 in
-    let made : f1.call ≡ Some (record { caller = caller; call = o.call; phase = ToNoted id about answer 0 }) =
-    call-after image f0 note
-    ∙ ap (λ (c : Option OpenCall). call_by f0.cells (coming_of image f0) c note note.act) of.opens
-    ∙ ap (call_by f0.cells (coming_of image f0) (Some o) note) act
-    ∙ ap (λ (p : Phase). Some (record { caller = o.caller; call = o.call; phase = after_note p })) told.2
-    ∙ ap (λ (k : ℕ). Some (record { caller = k; call = o.call; phase = ToNoted id about answer 0 })) of.caller in
+    let made = noted_call image f0 note o id about answer of.opens of.caller told.2 act in
     let waits = waits-over image caller o.call (ToNoted id about answer 0) f1 middle (sound-after image f0 note s.sound s.first_due) made s.between others in
     let n : ℕ = how_many (λ (e : Entry). eqb e.cell id) middle in
     let e : min (0 + n) (2 ^ 64 - 1) ≡ min n (2 ^ 64 - 1) = omega arith in

@@ -29,3 +29,4 @@ pub mod EntryLemmas
 pub mod DueCpusLemmas
 pub mod AnswerLemmas
 pub mod ExchangeLemmas
+pub mod FailedLemmas

@@ -54,6 +54,6 @@ pub use order::{
 pub use sound::legal_journals_are_sound;
 pub use states::{
     calls_change_cpus, cpus_that_are_ready_have_an_entry_due, entries_are_their_cpus_own,
-    entries_change_their_cpu,
+    entries_change_their_cpu, violations_end_their_cpus,
 };
 pub use writes::{bytes_are_as_last_written, entries_write_what_they_say};
