@@ -38,8 +38,8 @@ halted-to_commit image call i cpu few none on named h =
     h
 
 -- a CPU of the cell is one of the board's
-named_board : (image : Image) (configs : List CellConfig) (cpu : ℕ → Cpu) (call : Call) (i : ℕ) → AreOwned image configs cpu → IsAboutLive configs call → is_named call (cpu i).owner ≡ true → is_on_board image i ≡ true
-named_board image configs cpu call i owned about named =
+pub named-board : (image : Image) (configs : List CellConfig) (cpu : ℕ → Cpu) (call : Call) (i : ℕ) → AreOwned image configs cpu → IsAboutLive configs call → is_named call (cpu i).owner ≡ true → is_on_board image i ≡ true
+named-board image configs cpu call i owned about named =
     let has = owned.cells about.0 about.1 in
     has.board i (has.named i (named-same call (cpu i).owner about.0.id named about.2))
 
@@ -47,7 +47,7 @@ named_halted : (image : Image) (configs : List CellConfig) (cpu : ℕ → Cpu) (
     → any_below (λ k. keeps_commit image call k (cpu k)) 16 ≡ false → is_named call (cpu i).owner ≡ true → IsHalted (cpu i)
 named_halted image configs cpu caller call i sound owned opens none named =
     let about : IsAboutLive configs call = opens.phase in
-    let on = named_board image configs cpu call i owned about named in
+    let on = named-board image configs cpu call i owned about named in
     let unnamed = root-unnamed image.system configs call sound about in
     let apart : (cpu i).owner ≢ image.system.root.id = λ e. both_ways (is_named call (cpu i).owner) (ap (is_named call) e ∙ unnamed) named in
     halted-to_commit image call i cpu (board-few image configs sound.clean i on) none on named ((opens.cells i apart).0 named)

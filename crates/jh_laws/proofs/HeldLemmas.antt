@@ -92,8 +92,8 @@ same-id system configs a b sound (j, j_lt, is_a) (k, k_lt, is_b) same =
     (cases_lt j k)
 
 -- a cell that lives is found by its id
-found_by_id : (image : Image) (cells : List Live) (cell : CellConfig) → AreSoundCells image.system (configs_of cells) → Contains (configs_of cells) cell → live_in cells cell.id ≡ Some cell
-found_by_id image cells cell sound held =
+pub found-by_id : (image : Image) (cells : List Live) (cell : CellConfig) → AreSoundCells image.system (configs_of cells) → Contains (configs_of cells) cell → live_in cells cell.id ≡ Some cell
+found-by_id image cells cell sound held =
     let live = Contains-from_map (λ (l : Live). l.config) cells cell held in
     let some = find-some (has_id cell.id) cells live.0 live.1 (eq-eqb live.0.config.id cell.id (ap (λ (c : CellConfig). c.id) live.2)) in
     let found = found-live cells cell.id some.0 some.1 in
@@ -109,7 +109,7 @@ live-cell image cells cell sound live =
     (λ (held : Contains (configs_of cells) cell).
     let other : eqb cell.id image.system.root.id ≡ false = ne_eqb cell.id image.system.root.id (other-root image.system (configs_of cells) cell sound held) in
     let e : cell_in image cells cell.id ≡ live_in cells cell.id = rw other refl in
-    e ∙ found_by_id image cells cell sound held)
+    e ∙ found-by_id image cells cell sound held)
     live
 
 live_found : (cells : List Live) (id : ℕ) (o : Option Live) (cell : CellConfig) → find (has_id id) cells ≡ o → option_map (λ (l : Live). l.config) o ≡ Some cell → Contains (configs_of cells) cell × (cell.id ≡ id)
@@ -347,8 +347,8 @@ reached-of_cell image f id access at width sound some = reached_by image f id ac
 
 -- ---- how an operation ends
 
-width_some : (w : ℕ) → IsTrue (is_width w) → 0 < w
-width_some w h = grind arith
+pub width-some : (w : ℕ) → IsTrue (is_width w) → 0 < w
+width-some w h = grind arith
 
 abbrev Ends : Image → Facts → ℕ → Option Act → Type 0
 Ends image f id o = IfSome o (EndsAsGranted image f id)
@@ -371,10 +371,10 @@ await_ends image f id at width value (Some got) outcome =
     cond_both (eqb got value) (Some (Await width at value true)) None (Ends image f id) (λ same. await_done image f id at width value got outcome same) (λ _. tt)
 
 op_ends : (image : Image) (f : Facts) (id : ℕ) (op : Op) → AreSoundCells image.system (configs_of f.cells) → IsPlain op → Ends image f id (act_of image f id op)
-op_ends image f id (ReadOp width at) sound plain = got-of_cell image f id ToRead at width sound (width_some width plain)
-op_ends image f id (WriteOp width at value) sound plain = reached-of_cell image f id ToWrite at width sound (width_some width plain.0)
+op_ends image f id (ReadOp width at) sound plain = got-of_cell image f id ToRead at width sound (width-some width plain)
+op_ends image f id (WriteOp width at value) sound plain = reached-of_cell image f id ToWrite at width sound (width-some width plain.0)
 op_ends image f id (FetchOp at) sound plain = got-of_cell image f id ToFetch at 4 sound (omega arith)
-op_ends image f id (AwaitOp width at value) sound plain = await_ends image f id at width value (read_of f.byte (reach image f id ToRead at width)) (got-of_cell image f id ToRead at width sound (width_some width plain.0))
+op_ends image f id (AwaitOp width at value) sound plain = await_ends image f id at width value (read_of f.byte (reach image f id ToRead at width)) (got-of_cell image f id ToRead at width sound (width-some width plain.0))
 op_ends image f id IrqOp sound plain = tt
 op_ends image f id (HvcOp code a b) sound plain =
     cond_both (eqb id image.system.root.id && is_management (decoded code a b)) (Begin code a b) (Hvc code a b (answer_of (decoded code a b) (seen_of image f id (decoded code a b))))
@@ -385,14 +385,14 @@ ends_by image f id act None h is = absurd (none-some act is)
 ends_by image f id act (Some other) h is = let P : Act → Type 0 = EndsAsGranted image f id in subst P (same_Some other act is) h
 
 -- the operations of a cell are plain
-ops_plain : (image : Image) (cpu : ℕ) (o : Option CellConfig) (i : ℕ) (op : Op) → IsAdmitted image → slice_get (option_map_or (λ (c : CellConfig). program_of image (name_of c) cpu) o []) i ≡ Some op → IsPlain op
-ops_plain image cpu None i op admitted h = absurd (none-some op h)
-ops_plain image cpu (Some c) i op admitted h = op-plain image (name_of c) cpu i op admitted h
+pub ops-plain : (image : Image) (cpu : ℕ) (o : Option CellConfig) (i : ℕ) (op : Op) → IsAdmitted image → slice_get (option_map_or (λ (c : CellConfig). program_of image (name_of c) cpu) o []) i ≡ Some op → IsPlain op
+ops-plain image cpu None i op admitted h = absurd (none-some op h)
+ops-plain image cpu (Some c) i op admitted h = op-plain image (name_of c) cpu i op admitted h
 
 pub ends-as_granted : (image : Image) (f : Facts) (state : Cpu) (cpu : ℕ) (op : Op) (act : Act) → IsAdmitted image → AreSoundCells image.system (configs_of f.cells) → slice_get (ops_in image f.cells state.owner cpu) state.position ≡ Some op
     → act_of image f state.owner op ≡ Some act → EndsAsGranted image f state.owner act
 ends-as_granted image f state cpu op act admitted sound at is =
-    ends_by image f state.owner act (act_of image f state.owner op) (op_ends image f state.owner op sound (ops_plain image cpu (cell_in image f.cells state.owner) state.position op admitted at)) is
+    ends_by image f state.owner act (act_of image f state.owner op) (op_ends image f state.owner op sound (ops-plain image cpu (cell_in image f.cells state.owner) state.position op admitted at)) is
 
 -- no other act is an access
 stop_ends : (image : Image) (f : Facts) (id : ℕ) (act : Act) → Stop ≡ act → EndsAsGranted image f id act

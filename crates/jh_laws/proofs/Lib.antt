@@ -18,3 +18,8 @@ pub mod PlacesHeldLemmas
 pub mod DecisionLemmas
 pub mod WrittenLemmas
 pub mod StatesLemmas
+pub mod EntryLemmas
+pub mod DueCpusLemmas
+pub mod AnswerLemmas
+pub mod ExchangeLemmas
+pub mod FailedLemmas

@@ -139,9 +139,9 @@ written_by image f id (Noted who how) q sound changed = absurd (changed refl)
 written_by image f id (Finish answer) q sound changed = absurd (changed refl)
 
 -- the hypervisor writes into pages alone
-physical_kept : (write : Option PageWrite) (byte : Place → ℕ) (p : ℕ) → with_page_write write byte (Physical p) ≡ byte (Physical p)
-physical_kept None byte p = refl
-physical_kept (Some write) byte p = refl
+pub physical-kept : (write : Option PageWrite) (byte : Place → ℕ) (p : ℕ) → with_page_write write byte (Physical p) ≡ byte (Physical p)
+physical-kept None byte p = refl
+physical-kept (Some write) byte p = refl
 
 -- and into that of the cell whose page it is
 page_kept : (write : Option PageWrite) (byte : Place → ℕ) (cell offset : ℕ) → ((w : PageWrite) → write ≡ Some w → w.cell ≢ cell) → with_page_write write byte (Page cell offset) ≡ byte (Page cell offset)
@@ -233,7 +233,7 @@ held-writes image f live number region place id at sound held h =
 pub held-changes : (image : Image) (f : Facts) (entry : Entry) (live : Live) (number : ℕ) (region : Region) (place : ℕ) → AreSoundCells image.system (configs_of f.cells) → IsHeld f.cells live number region place
     → byte_after image f entry (Physical place) ≢ f.byte (Physical place) → IsOwnOrLinked f.cells live.config number entry.cell
 held-changes image f entry live number region place sound held changed =
-    let kept = physical_kept (page_write_by image f entry entry.act) (byte_written image f entry.cell entry.act) place in
+    let kept = physical-kept (page_write_by image f entry entry.act) (byte_written image f entry.cell entry.act) place in
     let write = written_by image f entry.cell entry.act (Physical place) sound (λ e. changed (kept ∙ e)) in
     held-writes image f live number region place entry.cell write.0 sound held write.1
 

@@ -49,7 +49,7 @@ use Rattle.jh_laws.proofs.CommitLemmas.{cells-after}
 use Rattle.jh_laws.proofs.CallLemmas.{Expects, phase-expects, phase-of_due, sound-open, begun-of, not_same, IsMadeBy, Stopping, Running as Runs, Calling, made-by, phase_call}
 
 -- CPU i behind an entry
-behind-cpu : (image : Image) (before : List Entry) (entry : Entry) (i : ℕ) → (facts image (before ++ entry ∷ [])).cpu i ≡ acted image (facts image before).call entry.act entry.cpu i ((facts image before).cpu i)
+pub behind-cpu : (image : Image) (before : List Entry) (entry : Entry) (i : ℕ) → (facts image (before ++ entry ∷ [])).cpu i ≡ acted image (facts image before).call entry.act entry.cpu i ((facts image before).cpu i)
 behind-cpu image before entry i = ap (λ (f : Facts). f.cpu i) (facts-push image before entry) ∙ ap (λ (c : ℕ → Cpu). c i) (cpu-after image (facts image before) entry)
 
 -- ---- a CPU's own entry
@@ -114,21 +114,21 @@ fails_by image call (Note id) own cpu few c = absurd (false≢true c)
 fails_by image call (Noted id how) own cpu few c = absurd (false≢true c)
 fails_by image call (Finish answer) own cpu few c = absurd (false≢true c)
 
-violation_own : (act : Act) → is_violation act ≡ true → (is_call act ≡ false) × (is_stop act ≡ false)
-violation_own (Read width at got) c = (refl, refl)
-violation_own (Fetch at got) c = (refl, refl)
-violation_own (Write width at value ok) c = (refl, refl)
-violation_own (Await width at value ok) c = (refl, refl)
-violation_own (Irq device vector) c = absurd (false≢true c)
-violation_own (Hvc code x y answer) c = absurd (false≢true c)
-violation_own Stop c = absurd (false≢true c)
-violation_own (Begin code x y) c = absurd (false≢true c)
-violation_own (Decide refused) c = absurd (false≢true c)
-violation_own (Settle how) c = absurd (false≢true c)
-violation_own Commit c = absurd (false≢true c)
-violation_own (Note id) c = absurd (false≢true c)
-violation_own (Noted id how) c = absurd (false≢true c)
-violation_own (Finish answer) c = absurd (false≢true c)
+pub violation-own : (act : Act) → is_violation act ≡ true → (is_call act ≡ false) × (is_stop act ≡ false)
+violation-own (Read width at got) c = (refl, refl)
+violation-own (Fetch at got) c = (refl, refl)
+violation-own (Write width at value ok) c = (refl, refl)
+violation-own (Await width at value ok) c = (refl, refl)
+violation-own (Irq device vector) c = absurd (false≢true c)
+violation-own (Hvc code x y answer) c = absurd (false≢true c)
+violation-own Stop c = absurd (false≢true c)
+violation-own (Begin code x y) c = absurd (false≢true c)
+violation-own (Decide refused) c = absurd (false≢true c)
+violation-own (Settle how) c = absurd (false≢true c)
+violation-own Commit c = absurd (false≢true c)
+violation-own (Note id) c = absurd (false≢true c)
+violation-own (Noted id how) c = absurd (false≢true c)
+violation-own (Finish answer) c = absurd (false≢true c)
 
 -- the operation that the CPU was at
 position_by : (image : Image) (f : Facts) (entry : Entry) → IsAdmitted image → is_call entry.act ≡ false → is_stop entry.act ≡ false → IsMadeBy image f entry → (f.cpu entry.cpu).position < 4096
@@ -151,7 +151,7 @@ own-steps image before rest entry admitted legal a b c =
 pub own-ends : (image : Image) (before rest : List Entry) (entry : Entry) → IsAdmitted image → IsLegal image (before ++ entry ∷ rest) → is_violation entry.act ≡ true → (facts image (before ++ entry ∷ [])).cpu entry.cpu ≡ ended ((facts image before).cpu entry.cpu)
 own-ends image before rest entry admitted legal c =
     let f : Facts = facts image before in
-    let kind = violation_own entry.act c in
+    let kind = violation-own entry.act c in
     behind-cpu image before entry entry.cpu ∙ fails_by image f.call entry.act entry.cpu (f.cpu entry.cpu) (position-few image before rest entry admitted legal kind.0 kind.1) c
 
 pub own-stops : (image : Image) (before : List Entry) (entry : Entry) → entry.act ≡ Stop → (facts image (before ++ entry ∷ [])).cpu entry.cpu ≡ stopped_of ((facts image before).cpu entry.cpu)
@@ -164,24 +164,24 @@ own-stops image before entry act =
 other_cpu : (change : Change) (own i : ℕ) (cpu : Cpu) → i ≢ own → cond (eqb i own) (changed change cpu) cpu ≡ cpu
 other_cpu change own i cpu other = ap (λ (b : Bool). cond b (changed change cpu) cpu) (ne_eqb i own other)
 
-others_by : (image : Image) (call : Option OpenCall) (act : Act) (own i : ℕ) (cpu : Cpu) → changes_others act ≡ false → i ≢ own → acted image call act own i cpu ≡ cpu
-others_by image call (Read width at got) own i cpu a other = other_cpu (change_if (is_some got)) own i cpu other
-others_by image call (Fetch at got) own i cpu a other = other_cpu (change_if (is_some got)) own i cpu other
-others_by image call (Write width at value ok) own i cpu a other = other_cpu (change_if ok) own i cpu other
-others_by image call (Await width at value ok) own i cpu a other = other_cpu (change_if ok) own i cpu other
-others_by image call (Irq device vector) own i cpu a other = other_cpu Step own i cpu other
-others_by image call (Hvc code x y answer) own i cpu a other = other_cpu Step own i cpu other
-others_by image call Stop own i cpu a other = other_cpu Halt own i cpu other
-others_by image call (Decide refused) own i cpu a other = other_cpu Stay own i cpu other
-others_by image call (Note id) own i cpu a other = other_cpu Stay own i cpu other
-others_by image call (Noted id how) own i cpu a other = other_cpu Stay own i cpu other
-others_by image call (Begin code x y) own i cpu a other = absurd (false≢true (sym a))
-others_by image call (Settle how) own i cpu a other = absurd (false≢true (sym a))
-others_by image call Commit own i cpu a other = absurd (false≢true (sym a))
-others_by image call (Finish answer) own i cpu a other = absurd (false≢true (sym a))
+pub others-by : (image : Image) (call : Option OpenCall) (act : Act) (own i : ℕ) (cpu : Cpu) → changes_others act ≡ false → i ≢ own → acted image call act own i cpu ≡ cpu
+others-by image call (Read width at got) own i cpu a other = other_cpu (change_if (is_some got)) own i cpu other
+others-by image call (Fetch at got) own i cpu a other = other_cpu (change_if (is_some got)) own i cpu other
+others-by image call (Write width at value ok) own i cpu a other = other_cpu (change_if ok) own i cpu other
+others-by image call (Await width at value ok) own i cpu a other = other_cpu (change_if ok) own i cpu other
+others-by image call (Irq device vector) own i cpu a other = other_cpu Step own i cpu other
+others-by image call (Hvc code x y answer) own i cpu a other = other_cpu Step own i cpu other
+others-by image call Stop own i cpu a other = other_cpu Halt own i cpu other
+others-by image call (Decide refused) own i cpu a other = other_cpu Stay own i cpu other
+others-by image call (Note id) own i cpu a other = other_cpu Stay own i cpu other
+others-by image call (Noted id how) own i cpu a other = other_cpu Stay own i cpu other
+others-by image call (Begin code x y) own i cpu a other = absurd (false≢true (sym a))
+others-by image call (Settle how) own i cpu a other = absurd (false≢true (sym a))
+others-by image call Commit own i cpu a other = absurd (false≢true (sym a))
+others-by image call (Finish answer) own i cpu a other = absurd (false≢true (sym a))
 
 pub others-kept : (image : Image) (before : List Entry) (entry : Entry) (i : ℕ) → changes_others entry.act ≡ false → i ≢ entry.cpu → (facts image (before ++ entry ∷ [])).cpu i ≡ (facts image before).cpu i
-others-kept image before entry i a other = behind-cpu image before entry i ∙ others_by image (facts image before).call entry.act entry.cpu i ((facts image before).cpu i) a other
+others-kept image before entry i a other = behind-cpu image before entry i ∙ others-by image (facts image before).call entry.act entry.cpu i ((facts image before).cpu i) a other
 
 -- ---- the beginning and the end of a call
 
@@ -193,7 +193,7 @@ not_running Failed other = refl
 asked_if : (b : Bool) (cpu : Cpu) → b ≡ false → cond b (asked_of cpu) cpu ≡ cpu
 asked_if b cpu fails = ap (λ (x : Bool). cond x (asked_of cpu) cpu) fails
 
-begins : (image : Image) (own i : ℕ) (cpu : Cpu) → HasBegun image own i cpu (begun_cpu image own i cpu)
+pub begins : (image : Image) (own i : ℕ) (cpu : Cpu) → HasBegun image own i cpu (begun_cpu image own i cpu)
 begins image own i cpu =
     let a : Bool = is_on_board image i in
     let b : Bool = not (eqb i own) in

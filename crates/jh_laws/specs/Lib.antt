@@ -12,3 +12,5 @@ pub mod Hypercalls
 pub mod Decisions
 pub mod Written
 pub mod States
+pub mod Ready
+pub mod Exchanges

@@ -1,8 +1,14 @@
 //! Management calls: which is open, who is suspended by it, and what may follow what in it.
-ghost use Rattle.std.specs.Prelude.{◌≡◌, ◌≢◌, ℕ, ℤ, Option, List, [], ◌∷◌, ◌++◌, Some, None, true, false, All};
+ghost use Rattle.std.specs.Prelude.{◌≡◌, ◌≢◌, ℕ, ℤ, Option, List, [], ◌∷◌, ◌++◌, Some, None, true, false, All, Contains};
 ghost use Rattle.jh_script.specs.declared.image.Image.{Image as TheImage};
+ghost use Rattle.jh_cellcfg.specs.declared.config.CellConfig.{CellConfig as TheConfig};
+ghost use Rattle.jh_history.specs.declared.entry.Settled.{Settled as TheSettled};
+ghost use Rattle.jh_history.specs.declared.entry.Heard.{Heard as TheHeard};
+ghost use Rattle.jh_history.specs.History.{facts};
+ghost use Rattle.jh_history.specs.Phases.{configs_of};
+ghost use Rattle.jh_laws.specs.Exchanges.{made_by_named, made_by_cell, IsSettledBy, IsHeardBy};
 ghost use Rattle.jh_history.specs.declared.entry.Entry.{Entry as TheEntry};
-ghost use Rattle.jh_history.specs.declared.entry.Act.TheVariants.{Begin, Stop, Decide};
+ghost use Rattle.jh_history.specs.declared.entry.Act.TheVariants.{Begin, Stop, Decide, Settle, Note, Noted};
 ghost use Rattle.jh_history.specs.Due.{IsLegal, IsQuiet};
 ghost use Rattle.jh_history.specs.Admitted.{IsAdmitted};
 ghost use Rattle.jh_history.specs.Calls.{is_named};
@@ -51,4 +57,20 @@ pub fn calls_are_decided_by_their_cause()
     ensures { (m : AdmittedMoment) (first : TheEntry) (refused : Option ℤ) → m.entry.act ≡ Decide refused →
         begun m.before ≡ Some first →
         IsDecision m.image (facts_before m) m.entry.cpu (call_begun first.act) refused }
+{}
+
+/// How a cell met the request to shut down, and the note of a change: by its state word and its reply at that time,
+/// or by its time-out, which counts the entries of its CPUs since it was asked or told.
+pub fn cells_are_heard_by_their_words()
+    ensures settle { (image : TheImage) (before middle rest : List TheEntry) (decide settle first : TheEntry) (how : TheSettled) → IsAdmitted image →
+        IsLegal image (before ++ decide ∷ (middle ++ settle ∷ rest)) → begun before ≡ Some first → decide.act ≡ Decide None →
+        All (λ (e : TheEntry). e.cpu ≢ decide.cpu) middle → settle.cpu ≡ decide.cpu → settle.act ≡ Settle how →
+        (config : TheConfig) × Contains (configs_of (facts image (before ++ decide ∷ middle)).cells) config ×
+        (is_named (call_begun first.act) config.id ≡ true) ×
+        IsSettledBy image (facts image (before ++ decide ∷ middle)) decide.cpu config (made_by_named (call_begun first.act) middle) how }
+    ensures note { (image : TheImage) (before middle rest : List TheEntry) (note noted : TheEntry) (id other : ℕ) (how : TheHeard) → IsAdmitted image →
+        IsLegal image (before ++ note ∷ (middle ++ noted ∷ rest)) → note.act ≡ Note id →
+        All (λ (e : TheEntry). e.cpu ≢ note.cpu) middle → noted.cpu ≡ note.cpu → noted.act ≡ Noted other how →
+        (other ≡ id) × ((config : TheConfig) × Contains (configs_of (facts image (before ++ note ∷ middle)).cells) config ×
+        (config.id ≡ id) × IsHeardBy image (facts image (before ++ note ∷ middle)) note.cpu config (made_by_cell id middle) how) }
 {}

@@ -1,7 +1,8 @@
 //! The laws that every journal obeys, in the words of the subject: what a reader may believe without the
-//! fold over the entries. Each function does nothing; its contract is the law. A law that speaks of
-//! accesses, CPUs or bytes is one over the journals of images that are built, so that what is built
-//! later adds cases to it.
+//! fold over the entries. Each function does nothing; its contract is the law. Those of `access`, `bytes`,
+//! `cpus` and `due` are over the journals of images that are built, so that what is built later adds cases
+//! to them; all others are over all admitted images. What a proof entry by entry stands on is that a legal
+//! journal is sound (`legal_journals_are_sound`).
 #![tactic(auto)]
 
 mod access;
@@ -23,8 +24,8 @@ pub use bytes::{
     bytes_are_the_last_written, entries_write_their_bytes, memory_opens_with_the_preloads,
 };
 pub use calls::{
-    calls_are_decided_by_their_cause, calls_go_phase_by_phase, one_call_is_open,
-    quiet_journals_have_no_open_call, suspended_cpus_make_no_entry,
+    calls_are_decided_by_their_cause, calls_go_phase_by_phase, cells_are_heard_by_their_words,
+    one_call_is_open, quiet_journals_have_no_open_call, suspended_cpus_make_no_entry,
 };
 pub use cells::{cpus_belong_to_live_cells, the_check_holds_of_live_cells};
 pub use commits::{cells_live_from_commit_to_commit, configurations_are_read_at_the_decide};
@@ -49,5 +50,8 @@ pub use order::{
     beginnings_are_legal, cpus_determine_the_journal, legal_entries_are_due,
     nothing_extends_a_quiet_journal,
 };
-pub use states::{calls_change_cpus, entries_change_their_cpu};
+pub use states::{
+    calls_change_cpus, cpus_that_are_ready_have_an_entry_due, entries_are_their_cpus_own,
+    entries_change_their_cpu, violations_end_their_cpus,
+};
 pub use writes::{bytes_are_as_last_written, entries_write_what_they_say};

@@ -1,11 +1,24 @@
 //! What entries do to CPUs.
-ghost use Rattle.std.specs.Prelude.{◌≡◌, ◌≢◌, ℕ, ℤ, true, false, Some};
-ghost use Rattle.jh_cpu.specs.declared.cpu.Cpu.{Cpu as TheCpu};
+ghost use Rattle.std.specs.Prelude.{◌≡◌, ◌≢◌, ◌↔◌, ℕ, ℤ, true, false, Some, IsSome, slice_get, List, ◌∷◌, ◌++◌, All};
+ghost use Rattle.jh_cellcfg.specs.declared.config.CellConfig.{CellConfig as TheConfig};
+ghost use Rattle.jh_cellcfg.specs.Cells.{name_of};
+ghost use Rattle.jh_cpu.specs.declared.cpu.Mode.TheVariants.{Running as Runs};
 ghost use Rattle.jh_cpu.specs.Changes.{stopped_of};
+ghost use Rattle.jh_script.specs.declared.op.Op.{Op as TheOp};
+ghost use Rattle.jh_history.specs.Lives.{is_on_board, program_of};
 ghost use Rattle.jh_history.specs.declared.entry.Entry.{Entry as TheEntry};
 ghost use Rattle.jh_history.specs.declared.entry.Act.TheVariants.{Begin, Stop, Commit, Finish};
-ghost use Rattle.jh_laws.specs.Moments.{AdmittedMoment, state_before, state_behind, cells_before, cells_behind};
-ghost use Rattle.jh_laws.specs.Ways.{is_call, is_agreement, begun, call_begun};
+ghost use Rattle.jh_laws.specs.Moments.{AdmittedJournal, AdmittedMoment, facts_of, facts_before, facts_behind, state_before, state_behind, cells_before, cells_behind};
+ghost use Rattle.jh_laws.specs.Ways.{is_call, is_commit, is_agreement, begun, call_begun};
+ghost use Rattle.jh_history.specs.Due.{due, IsLegal};
+ghost use Rattle.jh_history.specs.Admitted.{IsAdmitted};
+ghost use Rattle.jh_history.specs.Pages.{page_write_by, failing};
+ghost use Rattle.jh_history.specs.declared.place.Place.TheVariants.{Physical};
+ghost use Rattle.jh_script.specs.declared.image.Image.{Image as TheImage};
+ghost use Rattle.jh_laws.specs.Ready.{IsReadyAt};
+ghost use Rattle.jh_history.specs.Sound.{IsCalm};
+ghost use Rattle.jh_laws.specs.Held.{IsLive};
+ghost use Rattle.jh_laws.specs.Operations.{op_of};
 ghost use Rattle.jh_laws.specs.Moves.{stepped, ended};
 ghost use Rattle.jh_laws.specs.Outcomes.{is_violation};
 ghost use Rattle.jh_laws.specs.States.{changes_others, is_stop, HasBegun, HasAgreed, HasCommitted, HasFinished};
@@ -36,4 +49,36 @@ pub fn calls_change_cpus()
         HasCommitted m.image (cells_before m) (cells_behind m) (call_begun first.act) cpu (state_before m cpu) (state_behind m cpu) }
     ensures finish { (m : AdmittedMoment) (answer : ℤ) (cpu : ℕ) → m.entry.act ≡ Finish answer →
         HasFinished m.image m.entry.cpu cpu (state_before m cpu) (state_behind m cpu) }
+{}
+
+/// An entry is made by a CPU of the board in the name of its cell. But for a stop, the CPU runs, and is neither
+/// asked to stop nor stopped. An operation is the one of its cell's program that the CPU was at.
+pub fn entries_are_their_cpus_own()
+    ensures board { (m : AdmittedMoment) → is_on_board m.image m.entry.cpu ≡ true }
+    ensures cell { (m : AdmittedMoment) → m.entry.cell ≡ (state_before m m.entry.cpu).owner }
+    ensures runs { (m : AdmittedMoment) → is_stop m.entry.act ≡ false →
+        IsCalm (state_before m m.entry.cpu) × ((state_before m m.entry.cpu).mode ≡ Runs) }
+    ensures operation { (m : AdmittedMoment) (op : TheOp) → op_of m.entry.act ≡ Some op →
+        (cell : TheConfig) × IsLive m.image (facts_before m).cells cell × (cell.id ≡ m.entry.cell) ×
+        (slice_get (program_of m.image (name_of cell) m.entry.cpu) (state_before m m.entry.cpu).position ≡ Some op) }
+{}
+
+/// An entry is due to a CPU of the board exactly where it is asked to stop, or the next phase of its call is due, or
+/// it has no call open, goes on with its program and its operation is due.
+pub fn cpus_that_are_ready_have_an_entry_due()
+    ensures { (j : AdmittedJournal) (cpu : ℕ) →
+        IsSome (due j.image j.entries cpu) ↔ IsReadyAt j.image (facts_of j) cpu }
+{}
+
+/// A violation ends its CPU: it makes no entry before a Commit, which may start its cell or give the CPU back to
+/// root. All that a violation writes is the state of its cell, where all CPUs of a cell besides root have failed
+/// then.
+pub fn violations_end_their_cpus()
+    ensures rests { (image : TheImage) (before middle rest : List TheEntry) (one other : TheEntry) → IsAdmitted image →
+        IsLegal image (before ++ one ∷ (middle ++ other ∷ rest)) → is_violation one.act ≡ true →
+        All (λ (e : TheEntry). is_commit e.act ≡ false) middle → other.cpu ≢ one.cpu }
+    ensures state { (m : AdmittedMoment) → is_violation m.entry.act ≡ true →
+        page_write_by m.image (facts_before m) m.entry m.entry.act ≡ failing m.image (facts_before m) m.entry }
+    ensures memory { (m : AdmittedMoment) (place : ℕ) → is_violation m.entry.act ≡ true →
+        (facts_behind m).byte (Physical place) ≡ (facts_before m).byte (Physical place) }
 {}

@@ -1,0 +1,121 @@
+-- What an entry says of its CPU: its cell, and the operation that it was at.
+use Rattle.std.proofs.Common.{◌≡◌, ℕ, List, [], ◌∷◌, ◌++◌, true, false, ◌&&◌, eqb, Option, Some, None, refl, sym, ap, subst, ◌∙◌}
+use Rattle.std.specs.Prelude.{IfSome, slice_get}
+use Rattle.std.specs.Option.{option_map_or}
+use Rattle.std.proofs.lemmas.Bool.{both_ways, cond_both, false≢true}
+use Rattle.std.proofs.lemmas.Option.{none-some, same_Some}
+use Rattle.jh_cellcfg.specs.declared.config.CellConfig.{CellConfig}
+use Rattle.jh_cellcfg.specs.Cells.{name_of}
+use Rattle.jh_cpu.specs.declared.cpu.Mode.TheVariants.{Running}
+use Rattle.jh_call.specs.Calls.{decoded, is_management}
+use Rattle.jh_call.specs.Answers.{answer_of}
+use Rattle.jh_script.specs.declared.image.Image.{Image}
+use Rattle.jh_script.specs.declared.op.Op.{Op}
+use Rattle.jh_script.specs.declared.op.Op.TheVariants.{Read as ReadOp, Write as WriteOp, Fetch as FetchOp, Await as AwaitOp, Irq as IrqOp, Hvc as HvcOp}
+use Rattle.jh_history.specs.declared.access.Access.TheVariants.{Read as ToRead}
+use Rattle.jh_history.specs.declared.entry.Entry.{Entry}
+use Rattle.jh_history.specs.declared.entry.Act.{Act}
+use Rattle.jh_history.specs.declared.entry.Act.TheVariants.{Read, Write, Fetch, Await, Irq, Hvc, Begin, Stop, Decide, Settle, Commit, Note, Noted, Finish}
+use Rattle.jh_history.specs.Access.{read_of}
+use Rattle.jh_history.specs.Facts.{Facts}
+use Rattle.jh_history.specs.Lives.{is_on_board, program_of, cell_in}
+use Rattle.jh_history.specs.Grants.{reach}
+use Rattle.jh_history.specs.Hypercalls.{seen_of}
+use Rattle.jh_history.specs.History.{facts}
+use Rattle.jh_history.specs.Due.{due_at, act_of, await_of, IsLegal}
+use Rattle.jh_history.specs.Admitted.{IsAdmitted}
+use Rattle.jh_history.proofs.LegalLemmas.{due-split, IsLegal-begin}
+use Rattle.jh_history.specs.Sound.{IsCalm, IsSound}
+use Rattle.jh_laws.specs.Ways.{is_phase}
+use Rattle.jh_laws.specs.Held.{IsLive}
+use Rattle.jh_laws.specs.Operations.{op_of}
+use Rattle.jh_laws.specs.States.{is_stop}
+use Rattle.jh_history.proofs.SoundCpusLemmas.{goes-calm, goes-running, running-mode}
+use Rattle.jh_history.proofs.SoundDueLemmas.{next-from_due}
+use Rattle.jh_history.proofs.SoundLemmas.{legal-sound}
+use Rattle.jh_laws.proofs.CallLemmas.{IsMadeBy, Stopping, Running as Runs, Calling, made-by, phase-of_due, sound-open}
+use Rattle.jh_laws.proofs.HeldLemmas.{cell-live}
+
+-- ---- the operation
+
+abbrev IsOfOp : Op → Act → Type 0
+IsOfOp op act = op_of act ≡ Some op
+
+await_of_op : (op : Op) (width at value : ℕ) (o : Option ℕ) → op ≡ AwaitOp width at value → IfSome (await_of width at value o) (IsOfOp op)
+await_of_op op width at value None is = ap Some (sym is)
+await_of_op op width at value (Some got) is = cond_both (eqb got value) (Some (Await width at value true)) None (λ (o : Option Act). IfSome o (IsOfOp op)) (λ _. ap Some (sym is)) (λ _. tt)
+
+act_of_op : (image : Image) (f : Facts) (cell : ℕ) (op : Op) → IfSome (act_of image f cell op) (IsOfOp op)
+act_of_op image f cell (ReadOp width at) = refl
+act_of_op image f cell (WriteOp width at value) = refl
+act_of_op image f cell (FetchOp at) = refl
+act_of_op image f cell (AwaitOp width at value) = await_of_op (AwaitOp width at value) width at value (read_of f.byte (reach image f cell ToRead at width)) refl
+act_of_op image f cell IrqOp = tt
+act_of_op image f cell (HvcOp code a b) =
+    cond_both (eqb cell image.system.root.id && is_management (decoded code a b)) (Begin code a b) (Hvc code a b (answer_of (decoded code a b) (seen_of image f cell (decoded code a b)))) (IsOfOp (HvcOp code a b)) (λ _. refl) (λ _. refl)
+
+op_by : (op : Op) (act : Act) (o : Option Act) → IfSome o (IsOfOp op) → o ≡ Some act → op_of act ≡ Some op
+op_by op act None h is = absurd (none-some act is)
+op_by op act (Some other) h is = let P : Act → Type 0 = IsOfOp op in subst P (same_Some other act is) h
+
+phase_none : (act : Act) → is_phase act ≡ true → op_of act ≡ None
+phase_none (Decide refused) h = refl
+phase_none (Settle how) h = refl
+phase_none Commit h = refl
+phase_none (Note id) h = refl
+phase_none (Noted id how) h = refl
+phase_none (Finish answer) h = refl
+phase_none (Begin code a b) h = absurd (false≢true h)
+phase_none (Read width at got) h = absurd (false≢true h)
+phase_none (Write width at value ok) h = absurd (false≢true h)
+phase_none (Fetch at got) h = absurd (false≢true h)
+phase_none (Await width at value ok) h = absurd (false≢true h)
+phase_none (Irq device vector) h = absurd (false≢true h)
+phase_none (Hvc code a b answer) h = absurd (false≢true h)
+phase_none Stop h = absurd (false≢true h)
+
+-- the operation of a live cell's program
+abbrev pub IsOperationOf : Image → Facts → ℕ → ℕ → Op → Type 0
+IsOperationOf image f id cpu op =
+    (cell : CellConfig) × IsLive image f.cells cell × (cell.id ≡ id) × (slice_get (program_of image (name_of cell) cpu) (f.cpu cpu).position ≡ Some op)
+
+cell_of_op : (image : Image) (f : Facts) (id cpu : ℕ) (op : Op) (o : Option CellConfig) → cell_in image f.cells id ≡ o → slice_get (option_map_or (λ (c : CellConfig). program_of image (name_of c) cpu) o []) (f.cpu cpu).position ≡ Some op → IsOperationOf image f id cpu op
+cell_of_op image f id cpu op None is h = absurd (none-some op h)
+cell_of_op image f id cpu op (Some cell) is h = let live = cell-live image f.cells id cell is in (cell, live.0, live.1, h)
+
+operation_by : (image : Image) (f : Facts) (entry : Entry) (op : Op) → op_of entry.act ≡ Some op → IsMadeBy image f entry → IsOperationOf image f (f.cpu entry.cpu).owner entry.cpu op
+operation_by image f entry op is (Stopping stops) = absurd (none-some op (ap op_of stops ∙ is))
+operation_by image f entry op is (Calling phase) = absurd (none-some op (sym (phase_none entry.act phase) ∙ is))
+operation_by image f entry op is (Runs program) =
+    let owner : ℕ = (f.cpu entry.cpu).owner in
+    let same : program.op ≡ op = same_Some program.op op (sym (op_by program.op entry.act (act_of image f owner program.op) (act_of_op image f owner program.op) program.is) ∙ is) in
+    cell_of_op image f owner entry.cpu op (cell_in image f.cells owner) refl (program.at ∙ ap Some same)
+
+pub operation-at : (image : Image) (before rest : List Entry) (entry : Entry) (op : Op) → IsAdmitted image → IsLegal image (before ++ entry ∷ rest) → op_of entry.act ≡ Some op → IsOperationOf image (facts image before) entry.cell entry.cpu op
+operation-at image before rest entry op admitted legal is =
+    let f : Facts = facts image before in
+    let sound = legal-sound image before admitted (IsLegal-begin image before (entry ∷ rest) legal) in
+    let due : due_at image f entry.cpu ≡ Some entry = due-split image before rest entry legal in
+    let P : ℕ → Type 0 = λ id. IsOperationOf image f id entry.cpu op in
+    subst P (sym (next-from_due image f entry due).cell) (operation_by image f entry op is (made-by image f entry sound due))
+
+pub cell-at : (image : Image) (before rest : List Entry) (entry : Entry) → IsLegal image (before ++ entry ∷ rest) → (is_on_board image entry.cpu ≡ true) × (entry.cell ≡ ((facts image before).cpu entry.cpu).owner)
+cell-at image before rest entry legal = let next = next-from_due image (facts image before) entry (due-split image before rest entry legal) in (next.board, next.cell)
+
+-- ---- whether it runs
+
+runs_by : (image : Image) (f : Facts) (entry : Entry) → IsSound image f → due_at image f entry.cpu ≡ Some entry → is_stop entry.act ≡ false → IsMadeBy image f entry → IsCalm (f.cpu entry.cpu) × ((f.cpu entry.cpu).mode ≡ Running)
+runs_by image f entry sound due other (Stopping stops) = absurd (both_ways (is_stop entry.act) other (ap is_stop (sym stops)))
+runs_by image f entry sound due other (Runs program) = (goes-calm (f.cpu entry.cpu) program.goes, running-mode (f.cpu entry.cpu) (goes-running (f.cpu entry.cpu) program.goes))
+runs_by image f entry sound due other (Calling phase) =
+    let of = phase-of_due image f entry sound due phase in
+    let caller = (sound-open image f of.o sound of.opens).caller in
+    let P : ℕ → Type 0 = λ k. IsCalm (f.cpu k) × ((f.cpu k).mode ≡ Running) in
+    subst P of.caller (caller.calm, caller.running)
+
+pub runs-at : (image : Image) (before rest : List Entry) (entry : Entry) → IsAdmitted image → IsLegal image (before ++ entry ∷ rest) → is_stop entry.act ≡ false → IsCalm ((facts image before).cpu entry.cpu) × (((facts image before).cpu entry.cpu).mode ≡ Running)
+runs-at image before rest entry admitted legal other =
+    let f : Facts = facts image before in
+    let sound = legal-sound image before admitted (IsLegal-begin image before (entry ∷ rest) legal) in
+    let due : due_at image f entry.cpu ≡ Some entry = due-split image before rest entry legal in
+    runs_by image f entry sound due other (made-by image f entry sound due)

@@ -1,0 +1,49 @@
+-- How a cell met the request to shut down, and the note of a change.
+use Rattle.std.specs.Prelude.{◌≡◌, ◌≢◌, ◌≤◌, ◌^◌, ◌-◌, ◌⊎◌, ℕ, true, false, Bool, ◌==◌, ◌+◌, min, if◌then◌else◌, List, [], ◌∷◌}
+use Rattle.jh_cellcfg.specs.declared.config.CellConfig.{CellConfig}
+use Rattle.jh_cellcfg.specs.Cells.{is_passive}
+use Rattle.jh_comm.specs.declared.words.TheConstants.{REPLY_REQUEST_APPROVED, REPLY_RECEIVED}
+use Rattle.jh_call.specs.declared.call.Call.{Call}
+use Rattle.jh_script.specs.declared.image.Image.{Image}
+use Rattle.jh_history.specs.declared.entry.Entry.{Entry}
+use Rattle.jh_history.specs.declared.entry.Settled.{Settled}
+use Rattle.jh_history.specs.declared.entry.Settled.TheVariants.{Agreed, Denied, Timeout}
+use Rattle.jh_history.specs.declared.entry.Heard.{Heard}
+use Rattle.jh_history.specs.declared.entry.Heard.TheVariants.{Received, Down, Other, Timeout as Silent}
+use Rattle.jh_history.specs.Facts.{Facts}
+use Rattle.jh_history.specs.Calls.{is_named}
+use Rattle.jh_history.specs.Phases.{state_word, reply_word, is_down}
+use Rattle.jh_laws.specs.Ready.{NothingElse}
+
+-- how many of the entries pass the test
+abbrev pub how_many : (Entry → Bool) → List Entry → ℕ
+how_many test [] = 0
+how_many test (entry ∷ entries) = (if test entry then 1 else 0) + how_many test entries
+
+-- how many of the entries were made by CPUs of the cell that the call is about, or still the last number of 64 bits
+abbrev pub made_by_named : Call → List Entry → ℕ
+made_by_named call entries = min (how_many (λ (e : Entry). is_named call e.cell) entries) (2 ^ 64 - 1)
+
+-- the same of the cell with the id
+abbrev pub made_by_cell : ℕ → List Entry → ℕ
+made_by_cell id entries = min (how_many (λ (e : Entry). e.cell == id) entries) (2 ^ 64 - 1)
+
+-- the cell's time is over: its CPUs have made so many entries, or nothing is due to any CPU but the caller
+abbrev pub IsTimeOver : Image → Facts → ℕ → CellConfig → ℕ → Type 0
+IsTimeOver image f caller config waited = ((config.msg_reply_timeout ≢ 0) × (config.msg_reply_timeout ≤ waited)) ⊎ NothingElse image f caller
+
+-- the request to shut down: a cell that is passive, down or says so agrees; any other reply denies; without a reply its
+-- time was over
+pub record IsSettledBy (image : Image) (f : Facts) (caller : ℕ) (config : CellConfig) (waited : ℕ) (how : Settled) : Type 0 where
+  pub passive : is_passive config ≡ true → how ≡ Agreed
+  pub down : is_down (state_word f config.id) ≡ true → how ≡ Agreed
+  pub approved : reply_word f config.id ≡ REPLY_REQUEST_APPROVED → how ≡ Agreed
+  pub denied : is_passive config ≡ false → is_down (state_word f config.id) ≡ false → reply_word f config.id ≢ REPLY_REQUEST_APPROVED → reply_word f config.id ≢ 0 → how ≡ Denied
+  pub silent : is_passive config ≡ false → is_down (state_word f config.id) ≡ false → reply_word f config.id ≡ 0 → (how ≡ Timeout) × IsTimeOver image f caller config waited
+
+-- the note: a cell that is down is; else it received it, or replied something else; without a reply its time was over
+pub record IsHeardBy (image : Image) (f : Facts) (caller : ℕ) (config : CellConfig) (waited : ℕ) (how : Heard) : Type 0 where
+  pub down : is_down (state_word f config.id) ≡ true → how ≡ Down
+  pub received : is_down (state_word f config.id) ≡ false → reply_word f config.id ≡ REPLY_RECEIVED → how ≡ Received
+  pub other : is_down (state_word f config.id) ≡ false → reply_word f config.id ≢ REPLY_RECEIVED → reply_word f config.id ≢ 0 → how ≡ Other
+  pub silent : is_down (state_word f config.id) ≡ false → reply_word f config.id ≡ 0 → (how ≡ Silent) × IsTimeOver image f caller config waited
