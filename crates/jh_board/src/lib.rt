@@ -2,16 +2,23 @@
 #![tactic(auto)]
 
 mod board;
+mod cells;
+mod closed;
+mod comm_pages;
 mod crossing;
+mod granted;
+mod held;
 mod indexed;
 mod memory;
 mod page;
+mod physical;
 mod state;
 mod steps;
 mod turn;
 
 pub use board::Board;
 pub use turn::{Turn, TurnFault};
+
 
 #[cfg(test)]
 mod plain;
