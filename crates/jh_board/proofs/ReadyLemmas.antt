@@ -1,5 +1,5 @@
 -- What a call goes on to do, and what it needs for that.
-use Rattle.std.proofs.Common.{◌≡◌, ◌≢◌, ℕ, List, Bool, true, false, cond, eqb, Option, Some, None, refl, sym, ◌∙◌, ap, subst, ℤ}
+use Rattle.std.proofs.Common.{◌≡◌, ℕ, List, Bool, true, false, cond, eqb, Option, Some, None, refl, sym, ◌∙◌, ap, subst, ℤ}
 use Rattle.std.specs.Prelude.{pos, option_map, option_and_then}
 use Rattle.std.proofs.lemmas.Bool.{both_ways}
 use Rattle.std.proofs.lemmas.Option.{none-some, same_Some}
@@ -206,9 +206,9 @@ pub ready-create : (held : Held) (image : Image) (f : Facts) (entry : Entry) (o 
     → IsReadyFor held config → IsReady held (call_after image f entry)
 ready-create held image f entry o at config is create coming act ready =
     let e : call_after image f entry ≡ call_by f.cells (Some config) (Some o) entry (Decide None) =
-        ap (λ (c : Option CellConfig). call_by f.cells c f.call entry entry.act) coming
-        ∙ ap (λ (k : Option OpenCall). call_by f.cells (Some config) k entry entry.act) is
-        ∙ ap (λ (a : Act). call_by f.cells (Some config) (Some o) entry a) act in
+    ap (λ (c : Option CellConfig). call_by f.cells c f.call entry entry.act) coming
+    ∙ ap (λ (k : Option OpenCall). call_by f.cells (Some config) k entry entry.act) is
+    ∙ ap (λ (a : Act). call_by f.cells (Some config) (Some o) entry a) act in
     let P : Option OpenCall → Type 0 = IsReady held in
     let Q : Call → Type 0 = λ call. IsReadyIn held (decided call (Some config) None) in
     subst P (sym e) (subst Q (sym create) ready)

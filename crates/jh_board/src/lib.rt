@@ -19,7 +19,6 @@ mod turn;
 pub use board::Board;
 pub use turn::{Turn, TurnFault};
 
-
 #[cfg(test)]
 mod plain;
 #[cfg(test)]
