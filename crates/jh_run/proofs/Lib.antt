@@ -1,3 +1,4 @@
 pub mod RunLemmas
 pub mod RanLemmas
 pub mod EndLemmas
+pub mod LegalTexts

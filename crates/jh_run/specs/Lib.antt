@@ -1,3 +1,4 @@
 pub mod Ends
 pub mod Plays
 pub mod Ran
+pub mod Typed

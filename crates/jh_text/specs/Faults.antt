@@ -2,16 +2,19 @@
 use Rattle.std.specs.Prelude.{◌≡◌, ◌≢◌, ◌⊎◌, ℕ, ◌+◌, ◌≤◌, List, [], ◌++◌, length}
 use Rattle.std.specs.List.{AllByRecursion}
 use Rattle.jh_history.specs.declared.entry.Entry.{Entry}
-use Rattle.jh_text.specs.declared.fault.TheConstants.{MAX_ENTRIES}
 use Rattle.jh_text.specs.declared.fault.JournalFault.{JournalFault}
 use Rattle.jh_text.specs.declared.fault.JournalFault.TheVariants.{Line, TooLong, NoMemory}
 use Rattle.jh_text.specs.Ranges.{IsReadable}
 use Rattle.jh_text.specs.Text.{line, journal_text}
 
+-- the most entries of a journal
+abbrev pub max_entries : ℕ
+max_entries = 262144
+
 -- the text is that of a journal with these entries
 pub record IsJournalText (text : List ℕ) (entries : List Entry) : Type 0 where
   pub readable : AllByRecursion IsReadable entries
-  pub within : length entries ≤ MAX_ENTRIES
+  pub within : length entries ≤ max_entries
   pub whole : text ≡ journal_text entries
 
 -- the text begins with the line of no entry
@@ -24,7 +27,7 @@ pub record IsFirstBadLine (text : List ℕ) (number : ℕ) : Type 0 where
   pub before : List Entry
   pub rest : List ℕ
   pub readable : AllByRecursion IsReadable before
-  pub within : length before ≤ MAX_ENTRIES
+  pub within : length before ≤ max_entries
   pub number_is : number ≡ length before + 1
   pub whole : text ≡ journal_text before ++ rest
   pub more : rest ≢ []
@@ -35,7 +38,7 @@ pub record IsTooLong (text : List ℕ) : Type 0 where
   pub first : List Entry
   pub rest : List ℕ
   pub readable : AllByRecursion IsReadable first
-  pub long : length first ≡ MAX_ENTRIES + 1
+  pub long : length first ≡ max_entries + 1
   pub whole : text ≡ journal_text first ++ rest
 
 -- the text is a journal's, or it has a first bad line, or it is too long
