@@ -3,3 +3,4 @@ pub mod BytesLemmas
 pub mod PieceLemmas
 pub mod MeansLemmas
 pub mod IndexLemmas
+pub mod ClosedLemmas

@@ -1,5 +1,5 @@
 -- What a board holds, by the facts.
-use Rattle.std.proofs.Common.{◌≡◌, ◌≢◌, ℕ, ◌<◌, List, [], Some, refl, sym, ◌∙◌, ap, length, set}
+use Rattle.std.proofs.Common.{◌≡◌, ◌≢◌, ℕ, ◌<◌, List, [], Some, true, refl, sym, ◌∙◌, ap, length, set}
 use Rattle.std.specs.Prelude.{slice_get, replicate, fold}
 use Rattle.std.proofs.lemmas.Option.{get_or_from_slice_get, slice_get-get_or, slice_get_within}
 use Rattle.std.proofs.lemmas.List.{get_or-set_same, get_or-set_other, length-set, length-replicate, get_or-replicate}
@@ -15,7 +15,9 @@ use Rattle.jh_history.proofs.AloneLemmas.{byte_after-roots}
 use Rattle.jh_history.proofs.FactsLemmas.{facts-nil}
 use Rattle.jh_history.specs.declared.place.Place.{Place}
 use Rattle.jh_history.specs.declared.place.Place.TheVariants.{Physical, Page}
-use Rattle.jh_board.specs.Pages.{byte_at, byte_of}
+use Rattle.std.proofs.lemmas.Bool.{both_ways}
+use Rattle.jh_history.specs.Places.{is_physical}
+use Rattle.jh_board.specs.Pages.{byte_at, byte_of, comm_byte, MayHold, MemoryView}
 use Rattle.jh_board.specs.Held.{Held}
 use Rattle.jh_board.specs.Means.{Means}
 
@@ -47,7 +49,7 @@ pub slice_get-replicate : {X : Type 0} (n i : ℕ) (x : X) → i < n → slice_g
 slice_get-replicate n i x lt = slice_get-get_or (replicate n x) i x (rw (length-replicate n x) lt) ∙ ap Some (get_or-replicate n i x x lt)
 
 -- what is held at opening
-pub Means-opened : (image : Image) (pages : List (ℕ × List ℕ)) (cpu : Cpu) → ((q : Place) → byte_of pages q ≡ (start image).byte q) → ((i : ℕ) → cpu ≡ (start image).cpu i)
+pub Means-opened : (image : Image) (pages : MemoryView) (cpu : Cpu) → ((q : Place) → byte_of pages q ≡ (start image).byte q) → ((i : ℕ) → cpu ≡ (start image).cpu i)
     → Means (record { pages = pages; states = replicate 16 cpu }) (facts image [])
 Means-opened image pages cpu bytes same = rw (facts-nil image) (record {
   bytes = bytes;
@@ -55,6 +57,12 @@ Means-opened image pages cpu bytes same = rw (facts-nil image) (record {
 })
 
 -- memory at opening
-pub opened-bytes : (image : Image) (pages : List (ℕ × List ℕ)) → ((a : ℕ) → byte_at pages a ≡ fold preloaded (λ _. 0) image.preloads a) → (q : Place) → byte_of pages q ≡ (start image).byte q
-opened-bytes image pages same (Physical a) = same a
-opened-bytes image pages same (Page cell offset) = refl
+pub opened-bytes : (image : Image) (memory : MemoryView) → ((a : ℕ) → byte_at memory.physical a ≡ fold preloaded (λ _. 0) image.preloads a) → ((cell k : ℕ) → comm_byte memory.comms cell k ≡ 0)
+    → (q : Place) → byte_of memory q ≡ (start image).byte q
+opened-bytes image memory same none (Physical a) = same a
+opened-bytes image memory same none (Page cell offset) = none cell offset
+
+-- places of physical memory can be written
+pub MayHold-physical : (memory : MemoryView) (q : Place) → is_physical q ≡ true → MayHold memory q
+MayHold-physical memory (Physical a) h = tt
+MayHold-physical memory (Page cell offset) h = absurd (both_ways true h refl)

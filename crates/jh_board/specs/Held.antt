@@ -1,10 +1,11 @@
--- What a board holds: pages by number, and the states of CPUs.
-use Rattle.std.specs.Prelude.{ℕ, List}
+-- What a board holds: memory, and the states of CPUs.
+use Rattle.std.specs.Prelude.{List}
 use Rattle.jh_cpu.specs.declared.cpu.Cpu.{Cpu}
+use Rattle.jh_board.specs.Pages.{MemoryView}
 use Rattle.jh_script.specs.declared.image.Image.{Image}
 
 pub record Held : Type 0 where
-  pub pages : List (ℕ × List ℕ)
+  pub pages : MemoryView
   pub states : List Cpu
 
 -- the same, beside the image that it is held for

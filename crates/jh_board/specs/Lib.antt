@@ -6,3 +6,6 @@ pub mod Turns
 pub mod Stands
 pub mod Indexed
 pub mod IsIndexed
+pub mod Closed
+pub mod LiveView
+pub mod IsLive

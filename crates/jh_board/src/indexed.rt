@@ -68,7 +68,7 @@ fn root_programs(image: &Image) -> [usize; 16]
 }
 
 /// The region, where it gives the address with the right.
-fn giving(region: Option<Region>, access: Access, at: u64) -> Option<Region>
+pub(crate) fn giving(region: Option<Region>, access: Access, at: u64) -> Option<Region>
     ensures { (regions : List Region) → IsRegionAt regions at region → result ≡ region_of regions access at }
 {
     match region {
@@ -108,6 +108,13 @@ impl IndexedImage {
         ensures admitted { IsAdmitted self.now }
     {
         admitted_roots_are_sound(&self.image);
+    }
+
+    /// The id of root.
+    pub fn root(&self) -> u32
+        ensures { result ≡ self.now.system.root.id }
+    {
+        self.image.system.root.id
     }
 
     /// Whether the board has the CPU.

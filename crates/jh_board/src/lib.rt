@@ -2,10 +2,15 @@
 #![tactic(auto)]
 
 mod board;
+mod cells;
+mod closed;
+mod comm_pages;
 mod crossing;
+mod granted;
 mod indexed;
 mod memory;
 mod page;
+mod physical;
 mod state;
 mod steps;
 mod turn;

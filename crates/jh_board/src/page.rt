@@ -1,8 +1,11 @@
 //! A page of 4,096 bytes.
 ghost use Rattle.std.specs.Prelude.{◌≡◌, ◌≢◌, ℕ, ◌+◌, ◌<◌, ◌≤◌, length, slice_index, IfOk};
 ghost use Rattle.jh_num.specs.Memory.{spelled, stored};
+ghost use Rattle.jh_history.specs.Pages.{page_after};
 ghost use Rattle.jh_board.specs.Pages.{bytes_from};
 
+use jh_comm::{fresh, send, set_state};
+use jh_history::PageChange;
 use jh_num::NoMemory;
 use std::alloc::Global;
 use std::marker::Model;
@@ -66,5 +69,21 @@ impl Page {
         ensures { (k : ℕ) → slice_index self.new k ≡ stored (slice_index self.old) offset bytes.now k }
     {
         self.bytes[offset..offset + bytes.len()].copy_from_slice(bytes);
+    }
+
+    /// Changes words of a communication page.
+    pub fn change(&mut self, change: &PageChange)
+        ensures { (k : ℕ) → k < 4096 → slice_index self.new k ≡ page_after change.now (λ j. slice_index self.old j) k }
+    {
+        let page = self.bytes.as_mut_slice();
+        match *change {
+            PageChange::State(state) => set_state(page, state),
+            PageChange::Message(message) => send(page, message),
+            PageChange::Fresh {
+                state,
+                console,
+                window,
+            } => fresh(page, state, &console, window),
+        }
     }
 }

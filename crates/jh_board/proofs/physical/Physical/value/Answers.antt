@@ -3,7 +3,7 @@ use Rattle.std.proofs.Common.{◌≡◌, ◌/◌, ◌%◌, Some, None, ◌∙◌
 use Rattle.jh_num.specs.Memory.{spelled}
 use Rattle.jh_board.specs.Pages.{page_at, byte_in, bytes_from}
 use Rattle.jh_board.proofs.PieceLemmas.{spelled-of_page, zeros-spell_nothing}
-use Rattle.jh_board.proofs.memory.Memory.value_in_page.Goals as goal
+use Rattle.jh_board.proofs.physical.Physical.value.Goals as goal
 
 pub returns-in-Some : goal.returns-in-Some
 returns-in-Some c =
