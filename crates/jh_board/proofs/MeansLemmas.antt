@@ -1,5 +1,5 @@
 -- What a board holds, by the facts.
-use Rattle.std.proofs.Common.{◌≡◌, ◌≢◌, ℕ, ◌<◌, List, [], Some, true, refl, sym, ◌∙◌, ap, length, set}
+use Rattle.std.proofs.Common.{◌≡◌, ◌≢◌, ℕ, ◌<◌, List, [], Some, true, false, refl, sym, ◌∙◌, ap, length, set}
 use Rattle.std.specs.Prelude.{slice_get, replicate, fold}
 use Rattle.std.proofs.lemmas.Option.{get_or_from_slice_get, slice_get-get_or, slice_get_within}
 use Rattle.std.proofs.lemmas.List.{get_or-set_same, get_or-set_other, length-set, length-replicate, get_or-replicate}
@@ -65,4 +65,4 @@ opened-bytes image memory same none (Page cell offset) = none cell offset
 -- places of physical memory can be written
 pub MayHold-physical : (memory : MemoryView) (q : Place) → is_physical q ≡ true → MayHold memory q
 MayHold-physical memory (Physical a) h = tt
-MayHold-physical memory (Page cell offset) h = absurd (both_ways true h refl)
+MayHold-physical memory (Page cell offset) h = absurd (both_ways false refl h)
