@@ -111,6 +111,13 @@ impl IndexedImage {
         admitted_roots_are_sound(&self.image);
     }
 
+    /// The image.
+    pub fn image(&self) -> &Image
+        ensures { result.now ≡ self.now }
+    {
+        &self.image
+    }
+
     /// The id of root.
     pub fn root(&self) -> u32
         ensures { result ≡ self.now.system.root.id }
