@@ -196,6 +196,41 @@ fn the_first_cause_of_a_refusal_is_told(rt: HostRuntime) -> Result<(), Fail> {
     Ok(())
 }
 
+/// The verdict beside `a` on a cell with the name, the id and the CPUs.
+fn named(alloc: Global, name: u8, id: u32, cpus: u8) -> Result<Option<i64>, NoMemory> {
+    let cells = with_one(alloc)?;
+    let block = region(ROOT + 2 * BLOCK, BLOCK, READ_WRITE);
+    let new = cell(alloc, name, id, cpus, &[block])?;
+    Ok(verdict_on(&cells, &new, false, 8))
+}
+
+#[test]
+fn names_ids_and_cpus_are_taken_once(rt: HostRuntime) -> Result<(), Fail> {
+    assert_eq!(rt; named(rt.alloc(), b'b', 2, 0x4)?, None);
+    assert_eq!(rt; named(rt.alloc(), b'b', 0, 0x4)?, Some(EEXIST), "root's id");
+    assert_eq!(rt; named(rt.alloc(), b'a', 2, 0x4)?, Some(EEXIST), "a live cell's name");
+    assert_eq!(rt; named(rt.alloc(), b'r', 2, 0x4)?, Some(EEXIST), "root's name");
+    assert_eq!(rt; named(rt.alloc(), b'b', 2, 0x5)?, Some(EBUSY), "the caller's CPU");
+    assert_eq!(rt; named(rt.alloc(), b'b', 2, 0x14)?, Some(EBUSY), "a CPU that root lacks");
+    assert_eq!(rt; named(rt.alloc(), b'b', 2, 0)?, Some(EINVAL), "no CPU");
+    Ok(())
+}
+
+/// The verdict on another cell with CPU 2 and those from 16 on whose bits are set.
+fn with_high_cpus(alloc: Global, bits: u8) -> Result<Option<i64>, NoMemory> {
+    let cells = with_one(alloc)?;
+    let mut new = another(alloc, 0)?;
+    new.cpu_set = Seq::from_vec(Vec::from_slice(alloc, &[0x4, 0, bits])?);
+    Ok(verdict_on(&cells, &new, false, 8))
+}
+
+#[test]
+fn no_cpu_from_16_on_is_given_away(rt: HostRuntime) -> Result<(), Fail> {
+    assert_eq!(rt; with_high_cpus(rt.alloc(), 0)?, None);
+    assert_eq!(rt; with_high_cpus(rt.alloc(), 0x1)?, Some(EBUSY));
+    Ok(())
+}
+
 #[test]
 fn a_cell_that_leaves_takes_its_mark_along(rt: HostRuntime) -> Result<(), Fail> {
     let two = told(rt.alloc(), false)?;
