@@ -63,13 +63,13 @@ abbrev pub joined_cells : List Live → CellConfig → List Live
 joined_cells cells config = cells ++ (record { config = config; loadable = false }) ∷ []
 
 -- the cell with the configuration may join those that live, whose index and room are there
-pub record MayJoin (cells : LiveView) (index : Option (List Region)) (config : CellConfig) : Type 0 where
-  pub few : length cells.lives < 15
-  pub unknown : is_known (cells.system.root ∷ configs_of cells.lives) config ≡ false
+pub record MayJoin (live : LiveView) (found : Option (List Region)) (config : CellConfig) : Type 0 where
+  pub few : length live.lives < 15
+  pub unknown : is_known (live.system.root ∷ configs_of live.lives) config ≡ false
   pub within : AreInRange config.memory_regions
-  pub index : index ≡ Some config.memory_regions
-  pub cells : 0 < cells.cells
-  pub regions : length config.memory_regions ≤ cells.regions
+  pub index : found ≡ Some config.memory_regions
+  pub cells : 0 < live.cells
+  pub regions : length config.memory_regions ≤ live.regions
 
 -- the entry is due where what is held stands for sound facts of an admitted image
 pub record IsNext (image : Image) (held : Held) (entry : Entry) : Type 0 where

@@ -19,7 +19,3 @@ mod turn;
 pub use board::Board;
 pub use turn::{Turn, TurnFault};
 
-#[cfg(test)]
-mod plain;
-#[cfg(test)]
-mod tests;

@@ -25,7 +25,7 @@ impl Model for Memory {
 
     ghost Value = { MemoryView };
 
-    ghost view = { λ m. record { physical = m.physical.now; comms = m.comms.now } };
+    ghost view = { λ m. record { physical = m.physical; comms = m.comms } };
 }
 
 /// The piece of physical memory that the places are, if they are one.

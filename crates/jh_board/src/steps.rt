@@ -1,5 +1,5 @@
 //! What an entry does to what a board holds.
-ghost use Rattle.std.specs.Prelude.{◌≡◌, ℕ, ◌<◌, ◌≤◌, AllPairs, OnOk, OnErr, IfOk, IfSome, Some, None};
+ghost use Rattle.std.specs.Prelude.{◌≡◌, ℕ, ◌<◌, ◌≤◌, AllPairs, OnOk, OnErr, IfOk, IfSome, Some, None, option_copied};
 ghost use Rattle.std.specs.Option.{option_map_or};
 ghost use Rattle.jh_cellcfg.specs.declared.config.CellConfig.{CellConfig as TheConfig};
 ghost use Rattle.jh_mmio.specs.Index.{SharesNoAddress};

@@ -7,12 +7,10 @@ pub mod AdmittedLemmas
 pub mod PlainLemmas
 pub mod PhysicalLemmas
 pub mod ValueLemmas
-pub mod KeptLemmas
 pub mod ItemsLemmas
 pub mod ApartLemmas
 pub mod LegalLemmas
 pub mod AloneLemmas
-pub mod LiveLemmas
 pub mod SoundCellsLemmas
 pub mod SoundCpusLemmas
 pub mod SoundDueLemmas
@@ -20,3 +18,4 @@ pub mod SoundStepLemmas
 pub mod SoundDecideLemmas
 pub mod SoundCommitLemmas
 pub mod SoundLemmas
+pub mod LiveLemmas

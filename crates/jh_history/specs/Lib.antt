@@ -20,6 +20,5 @@ pub mod Sound
 pub mod Items
 pub mod Admitted
 pub mod PastView
-pub mod LiveView
-pub mod PlainView
 pub mod Apart
+pub mod LiveView

@@ -16,12 +16,10 @@ mod hypercalls;
 mod journal;
 mod known;
 mod laws;
-mod live_cells;
 mod next;
 mod pages;
 mod phases;
 mod place;
-mod plain;
 mod sound;
 
 pub use access::{Access, Reach, Wanted};
@@ -41,8 +39,5 @@ pub use laws::{admitted_roots_are_sound, root_lives_alone};
 pub use pages::page_write;
 pub use next::{access_of, is_due, next_of, none_due, reach_of};
 pub use place::{Place, Places, Run};
-pub use plain::{due, quiet};
 pub use sound::legal_journals_are_sound;
 
-#[cfg(test)]
-mod tests;

@@ -1,8 +1,0 @@
--- What holds after the entries so far.
-use Rattle.std.proofs.Common.{take}
-use Rattle.jh_history.specs.History.{facts}
-use Rattle.jh_history.specs.PlainView.{Stands}
-use Rattle.jh_history.proofs.plain.Plain.after.Given as goal
-
-abbrev pub invariant-loop-entry : goal.invariant-loop-entry
-invariant-loop-entry l = Stands l.plain l.image (facts l.image (take l.entry-index l.entries))

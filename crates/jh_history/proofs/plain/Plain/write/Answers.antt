@@ -1,5 +1,0 @@
--- A write that succeeds.
-use Rattle.jh_history.proofs.plain.Plain.write.Goals as goal
-
-pub returns-in_ok-write_at-in-Write-clause-bytes : goal.returns-in_ok-write_at-in-Write-clause-bytes
-returns-in_ok-write_at-in-Write-clause-bytes c = λ i f h q. rw (c.in-Write.is, c.if-ok.true) (c.in_ok-write_at-in-Write.ensures.bytes i f h q)
