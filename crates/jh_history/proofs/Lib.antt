@@ -19,3 +19,9 @@ pub mod SoundDecideLemmas
 pub mod SoundCommitLemmas
 pub mod SoundLemmas
 pub mod LiveLemmas
+pub mod DuePhaseLemmas
+pub mod DueDecideLemmas
+pub mod DueComesLemmas
+pub mod DuePageLemmas
+pub mod DueReachLemmas
+pub mod DueFewLemmas

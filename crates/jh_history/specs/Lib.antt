@@ -17,6 +17,7 @@ pub mod Hypercalls
 pub mod Wants
 pub mod Due
 pub mod Sound
+pub mod DueFacts
 pub mod Items
 pub mod Admitted
 pub mod PastView

@@ -10,6 +10,7 @@ mod calling;
 mod cells;
 mod change;
 mod comm;
+mod due_facts;
 mod entry;
 mod grants;
 mod hypercalls;
@@ -30,6 +31,10 @@ pub use calling::{Called, call_after};
 pub use cells::{gives, is_on_board, is_program_of, program_of};
 pub use change::{Change, cpus_after};
 pub use comm::{PageChange, PageWrite};
+pub use due_facts::{
+    a_cell_that_comes_may_live, decides_are_of_the_open_call, few_cells_live,
+    pages_written_are_of_cells, places_reached_are_of_cells, sound_cells_name_a_cpu,
+};
 pub use entry::{Act, Entry, Heard, Settled};
 pub use grants::{Grants, reach};
 pub use jh_cpu::{Cpu, Mode};

@@ -1,0 +1,87 @@
+-- What a cell that comes is, and what it is beside those that live.
+use Rattle.std.proofs.Common.{◌≡◌, ℕ, ◌<◌, List, [], ◌∷◌, ◌++◌, length, get_or, suc, false, Option, Some, sym, ap, subst, ◌∙◌, arith}
+use Rattle.std.specs.Prelude.{Contains, slice_get}
+use Rattle.std.proofs.lemmas.Option.{same_Some, slice_get-get_or}
+use Rattle.std.proofs.lemmas.List.Elements.{Contains-push}
+use Rattle.jh_cellcfg.specs.declared.config.CellConfig.{CellConfig}
+use Rattle.jh_cellcfg.specs.declared.config.SystemConfig.{SystemConfig}
+use Rattle.jh_cellcfg.specs.declared.region.Region.{Region}
+use Rattle.jh_check.specs.Clean.{IsClean}
+use Rattle.jh_check.specs.Laws.{IsNumbered}
+use Rattle.jh_check.specs.Refusals.{is_known, IsAccepted}
+use Rattle.jh_check.proofs.JoinLemmas.{joins-clean}
+use Rattle.jh_check.proofs.RefusalLemmas.{accepted-from}
+use Rattle.jh_shape.specs.Pages.{pages_of}
+use Rattle.jh_script.specs.declared.image.Image.{Image}
+use Rattle.jh_history.specs.declared.call.OpenCall.{OpenCall}
+use Rattle.jh_history.specs.declared.call.Phase.{Phase}
+use Rattle.jh_history.specs.declared.call.Phase.TheVariants.{ToCreate}
+use Rattle.jh_history.specs.declared.call.Creation.TheVariants.{Comes}
+use Rattle.jh_history.specs.Facts.{Facts}
+use Rattle.jh_history.specs.Admitted.{pool_pages}
+use Rattle.jh_history.specs.Configs.{Reads, config_read}
+use Rattle.jh_history.specs.Phases.{configs_of, may_give, creation_of, refused_by}
+use Rattle.jh_history.specs.Sound.{MayCome, IsSoundCall, IsInPhase, IsOpen, IsSound}
+use Rattle.jh_history.specs.DueFacts.{MayLive}
+use Rattle.jh_history.proofs.SoundDecideLemmas.{coming-from_decision}
+use Rattle.jh_history.proofs.DueDecideLemmas.{read-from_comes}
+
+-- ---- a cell in which nothing is found
+
+-- a cell besides root by its number
+pub numbered : (system : SystemConfig) (configs : List CellConfig) (config : CellConfig) → Contains configs config → (a : ℕ) × (0 < a) × IsNumbered system configs a config
+numbered system configs config held = (suc held.0, omega arith, slice_get-get_or configs held.0 config held.1 ∙ ap Some held.2)
+
+item : (regions : List Region) (k : ℕ) (d : Region) → k < length regions → slice_get regions k ≡ Some (get_or regions k d)
+item regions k d lt = slice_get-get_or regions k d lt
+
+pub clean-lives : (image : Image) (f : Facts) (config : CellConfig) → is_known (image.system.root ∷ configs_of f.cells) config ≡ false → IsClean image.system (configs_of f.cells ++ config ∷ []) → MayLive image f.cells config
+clean-lives image f config unknown clean =
+    let regions : List Region = config.memory_regions in
+    let n = numbered image.system (configs_of f.cells ++ config ∷ []) config (Contains-push (configs_of f.cells) config) in
+    record {
+      unknown = unknown;
+      apart = λ i j d lt within at hx hy.
+          let same : i ≡ j = clean.addresses n.0 config n.2 i j (get_or regions i d) (get_or regions j d) (item regions i d (omega arith)) (item regions j d within) at hx hy in
+          absurd (omega arith);
+      within = λ k d lt some. clean.within n.0 config n.2 k (get_or regions k d) (item regions k d lt) some;
+      cpus = clean.cpus n.0 config n.2;
+    }
+
+-- ---- at the Decide
+
+same_read : (c config : CellConfig) → Reads c ≡ Reads config → c ≡ config
+same_read c config e = same_Some c config (ap config_read e)
+
+accepted : (image : Image) (f : Facts) (caller at : ℕ) (config : CellConfig) → creation_of image f caller at ≡ Comes config
+    → IsAccepted image.system (configs_of f.cells) config (may_give image f caller) (pages_of image.system.root.memory_regions (configs_of f.cells ++ config ∷ [])) (pool_pages image.system)
+accepted image f caller at config comes =
+    let coming = coming-from_decision image f caller at (ap refused_by comes) in
+    let reads : Reads coming.config ≡ Reads config = sym coming.reads ∙ read-from_comes image f caller at config comes in
+    let P : CellConfig → Type 0 = λ c. IsAccepted image.system (configs_of f.cells) c (may_give image f caller) (pages_of image.system.root.memory_regions (configs_of f.cells ++ c ∷ [])) (pool_pages image.system) in
+    subst P (same_read coming.config config reads)
+    (accepted-from image.system (configs_of f.cells) coming.config (may_give image f caller)
+    (pages_of image.system.root.memory_regions (configs_of f.cells ++ coming.config ∷ [])) (pool_pages image.system) coming.good)
+
+pub decided-lives : (image : Image) (f : Facts) (caller at : ℕ) (config : CellConfig) → IsSound image f → creation_of image f caller at ≡ Comes config → MayLive image f.cells config
+decided-lives image f caller at config sound comes =
+    let h = accepted image f caller at config comes in
+    clean-lives image f config h.unknown (joins-clean image.system (configs_of f.cells) config sound.cells.clean h.clean)
+
+-- ---- until it comes
+
+pub call-open : (image : Image) (f : Facts) (o : OpenCall) → IsSound image f → f.call ≡ Some o → IsOpen image (configs_of f.cells) f.cpu o
+call-open image f o sound call =
+    let P : Option OpenCall → Type 0 = IsSoundCall image (configs_of f.cells) f.cpu in
+    subst P call sound.call
+
+-- the cell that the open call creates
+pub to-come : (image : Image) (f : Facts) (o : OpenCall) (config : CellConfig) → IsSound image f → f.call ≡ Some o → o.phase ≡ ToCreate config → MayCome image (configs_of f.cells) f.cpu o.caller config
+to-come image f o config sound call phase =
+    let P : Phase → Type 0 = IsInPhase image (configs_of f.cells) f.cpu o.caller o.call in
+    (subst P phase (call-open image f o sound call).phase).1
+
+pub comes-lives : (image : Image) (f : Facts) (o : OpenCall) (config : CellConfig) → IsSound image f → f.call ≡ Some o → o.phase ≡ ToCreate config → MayLive image f.cells config
+comes-lives image f o config sound call phase =
+    let may = to-come image f o config sound call phase in
+    clean-lives image f config may.unknown may.clean

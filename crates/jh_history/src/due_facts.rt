@@ -1,0 +1,78 @@
+//! What the facts of a sound board say where an entry is due, or where a cell is about to come. Each function
+//! does nothing; its contract is the law.
+ghost use Rattle.std.specs.Prelude.{◌≡◌, ◌≢◌, ◌<◌, ℕ, ℤ, length, All, Option, Some, None};
+ghost use Rattle.jh_cellcfg.specs.declared.config.CellConfig.{CellConfig as TheConfig};
+ghost use Rattle.jh_cellcfg.specs.declared.live.Live.{Live as TheLive};
+ghost use Rattle.jh_check.specs.Clean.{IsSoundBitmap};
+ghost use Rattle.jh_call.specs.declared.call.Call.TheVariants.{Create};
+ghost use Rattle.jh_script.specs.declared.image.Image.{Image as TheImage};
+ghost use Rattle.jh_history.specs.declared.access.Access.{Access as TheAccess};
+ghost use Rattle.jh_history.specs.declared.access.Reach.{Reach as TheReach};
+ghost use Rattle.jh_history.specs.declared.call.OpenCall.{OpenCall as TheCall};
+ghost use Rattle.jh_history.specs.declared.call.Creation.TheVariants.{Comes};
+ghost use Rattle.jh_history.specs.declared.call.Phase.TheVariants.{ToDecide, ToCreate};
+ghost use Rattle.jh_history.specs.declared.comm.PageWrite.{PageWrite as ThePageWrite};
+ghost use Rattle.jh_history.specs.declared.entry.Entry.{Entry as TheEntry};
+ghost use Rattle.jh_history.specs.declared.entry.Act.TheVariants.{Decide};
+ghost use Rattle.jh_history.specs.Facts.{Facts};
+ghost use Rattle.jh_history.specs.Configs.{Reads, read_at};
+ghost use Rattle.jh_history.specs.Phases.{creation_of};
+ghost use Rattle.jh_history.specs.Pages.{page_write_by};
+ghost use Rattle.jh_history.specs.Grants.{reach};
+ghost use Rattle.jh_history.specs.Wants.{IsReachOfEntry};
+ghost use Rattle.jh_history.specs.Due.{due_at};
+ghost use Rattle.jh_history.specs.Sound.{IsSound};
+ghost use Rattle.jh_history.specs.DueFacts.{HasRead, MayLive, NamesCpu, HasPage, ReachesCells, WritesCells};
+
+use jh_cellcfg::CellConfig;
+use jh_check::sound_bitmaps_name_few_cpus;
+
+/// A Decide that is due is an entry of the caller of the open call, which waits for it. A create that goes on
+/// by it has read the configuration of the cell that comes, and what comes of a create is always what it read.
+pub fn decides_are_of_the_open_call()
+    ensures call { (image : TheImage) (f : Facts) (entry : TheEntry) (refused : Option ℤ) → IsSound image f → due_at image f entry.cpu ≡ Some entry →
+        entry.act ≡ Decide refused → f.call ≢ None }
+    ensures caller { (image : TheImage) (f : Facts) (entry : TheEntry) (refused : Option ℤ) (o : TheCall) → IsSound image f → due_at image f entry.cpu ≡ Some entry →
+        entry.act ≡ Decide refused → f.call ≡ Some o → o.caller ≡ entry.cpu }
+    ensures phase { (image : TheImage) (f : Facts) (entry : TheEntry) (refused : Option ℤ) (o : TheCall) → IsSound image f → due_at image f entry.cpu ≡ Some entry →
+        entry.act ≡ Decide refused → f.call ≡ Some o → o.phase ≡ ToDecide }
+    ensures goes_on { (image : TheImage) (f : Facts) (entry : TheEntry) (o : TheCall) (at : ℕ) → IsSound image f → due_at image f entry.cpu ≡ Some entry →
+        entry.act ≡ Decide None → f.call ≡ Some o → o.call ≡ Create at → HasRead image f o.caller at }
+    ensures read { (image : TheImage) (f : Facts) (caller at : ℕ) (config : TheConfig) → creation_of image f caller at ≡ Comes config → read_at image f at ≡ Reads config }
+{}
+
+/// A cell whose create isn't refused may live beside those that do, at the Decide and until it comes.
+pub fn a_cell_that_comes_may_live()
+    ensures decided { (image : TheImage) (f : Facts) (caller at : ℕ) (config : TheConfig) → IsSound image f → creation_of image f caller at ≡ Comes config → MayLive image f.cells config }
+    ensures comes { (image : TheImage) (f : Facts) (o : TheCall) (config : TheConfig) → IsSound image f → f.call ≡ Some o → o.phase ≡ ToCreate config → MayLive image f.cells config }
+{}
+
+/// What the hypervisor writes by an entry that is due, it writes into the page of a cell that lives, or of the one
+/// that comes by this entry.
+pub fn pages_written_are_of_cells()
+    ensures { (image : TheImage) (f : Facts) (entry : TheEntry) (write : ThePageWrite) → IsSound image f → due_at image f entry.cpu ≡ Some entry →
+        page_write_by image f entry entry.act ≡ Some write → HasPage f entry.act write.cell }
+{}
+
+/// An access reaches places of physical memory and of the pages of cells that live, whoever makes it; so does what
+/// an entry writes.
+pub fn places_reached_are_of_cells()
+    ensures reach { (image : TheImage) (f : Facts) (cell at width : ℕ) (access : TheAccess) (found : TheReach) → IsSound image f →
+        found ≡ reach image f cell access at width → ReachesCells f.cells found }
+    ensures write { (image : TheImage) (f : Facts) (entry : TheEntry) (found : TheReach) → IsSound image f →
+        IsReachOfEntry image f entry found → WritesCells f.cells entry.act found }
+{}
+
+/// A cell in whose set nothing is found names a CPU.
+pub fn sound_cells_name_a_cpu(config: &CellConfig)
+    ensures { IsSoundBitmap config.now.cpu_set → NamesCpu config.now }
+{
+    sound_bitmaps_name_few_cpus(config.cpu_set.as_slice());
+}
+
+/// Where each cell that lives besides root names a CPU, and one that comes does, fewer than 15 live besides root
+/// until it has come: each has a CPU of the board's 16 for itself, and root keeps the caller.
+pub fn few_cells_live()
+    ensures { (image : TheImage) (f : Facts) (o : TheCall) (config : TheConfig) → IsSound image f → All (λ (live : TheLive). NamesCpu live.config) f.cells →
+        NamesCpu config → f.call ≡ Some o → o.phase ≡ ToCreate config → length f.cells < 15 }
+{}
