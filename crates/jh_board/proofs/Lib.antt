@@ -4,3 +4,5 @@ pub mod PieceLemmas
 pub mod MeansLemmas
 pub mod IndexLemmas
 pub mod ClosedLemmas
+pub mod CellsLemmas
+pub mod GrantedLemmas

@@ -1,10 +1,11 @@
 -- What live cells close to root.
-use Rattle.std.specs.Prelude.{ℕ, ◌<◌, Bool, List, [], length, map, All, sum_by}
+use Rattle.std.specs.Prelude.{◌≡◌, ℕ, ◌<◌, Bool, List, [], Option, Some, None, length, map, find, slice_get, All, sum_by}
 use Rattle.std.specs.List.{list_any}
 use Rattle.std.specs.Option.{option_map_or}
 use Rattle.jh_cellcfg.specs.declared.config.CellConfig.{CellConfig}
 use Rattle.jh_cellcfg.specs.declared.region.Region.{Region}
 use Rattle.jh_cellcfg.specs.declared.live.Live.{Live}
+use Rattle.jh_cellcfg.specs.Lives.{has_id}
 use Rattle.jh_cellcfg.specs.Regions.{IsInRange}
 use Rattle.jh_shape.specs.Shapes.{takes, is_closed, holder_of_live}
 use Rattle.jh_history.specs.Lives.{live_in}
@@ -28,3 +29,12 @@ AreInRange regions = All (λ (r : Region). 0 < r.size → IsInRange r) regions
 -- the regions of the cell with the id, none where it doesn't live
 abbrev pub live_regions : List Live → ℕ → List Region
 live_regions lives id = option_map_or (λ (c : CellConfig). c.memory_regions) (live_in lives id) []
+
+-- the cell with the id is the one at the index, or none is
+pub record IsAt (lives : List Live) (id k : ℕ) : Type 0 where
+  pub within : k < length lives
+  pub found : find (has_id id) lives ≡ slice_get lives k
+
+abbrev pub IsIndexOf : List Live → ℕ → Option ℕ → Type 0
+IsIndexOf lives id None = find (has_id id) lives ≡ None
+IsIndexOf lives id (Some k) = IsAt lives id k

@@ -7,6 +7,7 @@ use Rattle.jh_history.specs.declared.call.OpenCall.{OpenCall}
 use Rattle.jh_history.specs.declared.call.Phase.{Phase}
 use Rattle.jh_history.specs.declared.call.Phase.TheVariants.{ToCreate}
 use Rattle.jh_history.specs.declared.place.Place.{Place}
+use Rattle.jh_history.specs.DueFacts.{NamesCpu}
 use Rattle.jh_history.specs.Facts.{Facts}
 use Rattle.jh_board.specs.Pages.{byte_of, HoldsComm}
 use Rattle.jh_board.specs.declared.held.Held.{Held}
@@ -39,4 +40,5 @@ pub record Means (image : Image) (held : Held) (facts : Facts) : Type 0 where
   pub cells : held.cells.lives ≡ facts.cells
   pub call : held.call ≡ facts.call
   pub pages : All (HoldsPageOf held) facts.cells
+  pub named : All (λ (live : Live). NamesCpu live.config) facts.cells
   pub ready : IsReady held facts.call

@@ -7,14 +7,14 @@ use Rattle.jh_cellcfg.specs.declared.region.Region.{Region}
 use Rattle.jh_check.specs.Refusals.{is_known}
 use Rattle.jh_mmio.specs.Index.{SharesNoAddress}
 use Rattle.jh_call.specs.declared.call.Call.{Call}
-use Rattle.jh_call.specs.declared.call.Call.TheVariants.{Start, Loadable, Destroy}
+use Rattle.jh_call.specs.declared.call.Call.TheVariants.{Create, Start, Loadable, Destroy}
 use Rattle.jh_script.specs.declared.image.Image.{Image}
 use Rattle.jh_history.specs.declared.access.Reach.{Reach}
 use Rattle.jh_history.specs.declared.access.Reach.TheVariants.{Memory, Nothing}
 use Rattle.jh_history.specs.declared.call.OpenCall.{OpenCall}
 use Rattle.jh_history.specs.declared.entry.Entry.{Entry}
 use Rattle.jh_history.specs.declared.entry.Act.{Act}
-use Rattle.jh_history.specs.declared.entry.Act.TheVariants.{Write, Commit}
+use Rattle.jh_history.specs.declared.entry.Act.TheVariants.{Write, Decide, Commit}
 use Rattle.jh_history.specs.Admitted.{IsAdmitted}
 use Rattle.jh_history.specs.Phases.{configs_of}
 use Rattle.jh_history.specs.Calls.{call_by}
@@ -30,6 +30,16 @@ use Rattle.jh_board.specs.Closed.{AreInRange}
 use Rattle.jh_board.specs.LiveView.{LiveView}
 use Rattle.jh_board.specs.Means.{Means, IsReady, IsReadyFor}
 use Rattle.jh_board.specs.Pages.{MemoryView, MayHold}
+
+-- a Decide that goes on
+abbrev pub goes_on : Act → Bool
+goes_on (Decide None) = true
+goes_on act = false
+
+-- where a create reads its configuration
+abbrev pub create_of : Call → Option ℕ
+create_of (Create at) = Some at
+create_of call = None
 
 -- what the Commit of the call does to the cells that live already
 abbrev pub change_of_call : Call → CellsChange
@@ -82,6 +92,10 @@ pub record IsNext (image : Image) (held : Held) (entry : Entry) : Type 0 where
 -- with this configuration as the one that a create reads, the open call goes on by the entry as it has to
 abbrev pub IsRead : Image → Facts → Entry → Option CellConfig → Type 0
 IsRead image facts entry coming = call_by facts.cells coming facts.call entry entry.act ≡ call_after image facts entry
+
+-- no cell is about to come, where a create reads the configuration of one
+abbrev pub IsFree : Facts → Option CellConfig → Type 0
+IsFree facts coming = IfSome coming (λ config. (held : Held) → IsReady held facts.call)
 
 -- what is held is ready for what the call goes on to do, where it is ready for the cell that comes
 abbrev pub WillBeReady : Image → Facts → Entry → Option CellConfig → Type 0

@@ -9,7 +9,7 @@ ghost use Rattle.jh_mmio.specs.Index.{IsRegionAt, SharesNoAddress};
 ghost use Rattle.jh_life.specs.Lives.{configs_of, has_config_id, new_live};
 ghost use Rattle.jh_history.specs.Commits.{is_other, marked};
 ghost use Rattle.jh_history.specs.Lives.{live_in};
-ghost use Rattle.jh_board.specs.Closed.{is_closed_by, live_regions, AreInRange};
+ghost use Rattle.jh_board.specs.Closed.{is_closed_by, live_regions, AreInRange, IsIndexOf};
 
 use crate::closed::{close_again, close_regions};
 use jh_cellcfg::{CellConfig, Region, SystemConfig};
@@ -50,11 +50,19 @@ impl Model for LiveCells {
     ghost invariant = { IsLive };
 }
 
-/// The index of the cell with the id.
-fn index_of(cells: &[CellConfig], id: u64) -> Option<usize>
+/// The index of the first configuration with the id.
+fn position_of(cells: &[CellConfig], id: u64) -> Option<usize>
     ensures { result ≡ position (has_config_id id) cells.now }
 {
     cells.iter().position(|cell| u64::from(cell.id) == id)
+}
+
+/// The index of the cell with the id.
+fn index_of(cells: &Cells, id: u64) -> Option<usize>
+    ensures found { IsIndexOf cells.now.lives id result }
+    ensures few { IfSome result (λ index. index < 15) }
+{
+    position_of(cells.list(), id)
 }
 
 /// The pages that root and the cells use.
@@ -117,8 +125,10 @@ impl LiveCells {
     pub fn live(&self, id: u64) -> Option<&CellConfig>
         ensures { option_copied result ≡ live_in self.now.lives id }
     {
-        let cells = self.cells.list();
-        cells.get(index_of(cells, id)?)
+        match index_of(&self.cells, id) {
+            Some(index) => self.cells.list().get(index),
+            None => None,
+        }
     }
 
     /// The region of the cell with the id that has the address, or some other or none where none has it.
@@ -126,8 +136,10 @@ impl LiveCells {
         ensures found { IsRegionAt (live_regions self.now.lives id) at result }
         ensures within { IfSome result (λ region. 0 < region.size → IsInRange region) }
     {
-        let index = index_of(self.cells.list(), id)?;
-        self.indexes[index].at(at)
+        match index_of(&self.cells, id) {
+            Some(index) => self.indexes[index].at(at),
+            None => None,
+        }
     }
 
     /// Whether a place of the range is closed to root.
@@ -180,8 +192,9 @@ impl LiveCells {
         let regions = new.memory_regions.as_slice();
         close_regions(&mut self.closed, regions, false);
         self.regions += regions.len();
-        if self.cells.add(new).is_err() {
-            unreachable!()
+        match self.cells.add(new) {
+            Ok(()) => (),
+            Err(_) => unreachable!(),
         }
         self.indexes.push_reserved(index);
         self.used = count_pages(&self.cells);
@@ -192,7 +205,7 @@ impl LiveCells {
         ensures system { self.new.system ≡ self.old.system }
         ensures lives { self.new.lives ≡ filter (is_other id) self.old.lives }
     {
-        let Some(index) = index_of(self.cells.list(), id) else {
+        let Some(index) = index_of(&self.cells, id) else {
             return;
         };
         a_place_is_dropped_by_its_id(&self.cells);
@@ -209,7 +222,7 @@ impl LiveCells {
         ensures system { self.new.system ≡ self.old.system }
         ensures lives { self.new.lives ≡ map (marked id on) self.old.lives }
     {
-        let Some(index) = index_of(self.cells.list(), id) else {
+        let Some(index) = index_of(&self.cells, id) else {
             return;
         };
         a_place_is_marked_by_its_id(&self.cells);

@@ -14,7 +14,7 @@ ghost use Rattle.jh_history.specs.Due.{due_at};
 ghost use Rattle.jh_history.specs.Wants.{IsReachOfAct, IsReachOfEntry};
 ghost use Rattle.jh_board.specs.Pages.{byte_of, HoldsComm};
 ghost use Rattle.jh_board.specs.Means.{Means, IsReadyFor};
-ghost use Rattle.jh_board.specs.Steps.{change_of_call as change_of_call_lem, change_of_cells as change_of_cells_lem, changed_cells, IsNext, IsRead, WillBeReady, IsPrepared, MayWrite, MayWriteOf, MayJoin, joined_cells};
+ghost use Rattle.jh_board.specs.Steps.{goes_on as goes_on_lem, create_of as create_of_lem, change_of_call as change_of_call_lem, change_of_cells as change_of_cells_lem, changed_cells, IsNext, IsRead, IsFree, WillBeReady, IsPrepared, MayWrite, MayWriteOf, MayJoin, joined_cells};
 
 use crate::cells::LiveCells;
 use crate::held::Held;
@@ -24,7 +24,8 @@ use crate::state::State;
 use jh_call::Call;
 use jh_cellcfg::CellConfig;
 use jh_history::{
-    Act, Called, Creation, Entry, Known, OpenCall, Reach, call_after, cpus_after, page_write,
+    Act, Called, Creation, Entry, Known, OpenCall, Reach, a_cell_that_comes_may_live, call_after,
+    cpus_after, decides_are_of_the_open_call, page_write,
 };
 use jh_mmio::RegionIndex;
 use jh_num::NoMemory;
@@ -76,6 +77,23 @@ fn change_cells(cells: &mut LiveCells, change: CellsChange)
     }
 }
 
+/// Whether the act is a Decide that goes on.
+fn goes_on(act: &Act) -> bool
+    ensures { result ≡ goes_on_lem act.now }
+{
+    matches!(act, Act::Decide { refused: None })
+}
+
+/// Where a create reads its configuration.
+fn create_of(call: &Call) -> Option<u64>
+    ensures { result ≡ create_of_lem call.now }
+{
+    match *call {
+        Call::Create { at } => Some(at),
+        _ => None,
+    }
+}
+
 /// The configuration that a create reads at its Decide, where it goes on.
 fn coming_of(
     image: &IndexedImage,
@@ -85,21 +103,24 @@ fn coming_of(
     requires { IsNext image.now held.now entry.now }
     ensures read { (f : Facts) → Means image.now held.now f → due_at image.now f entry.now.cpu ≡ Some entry.now → IfOk result (IsRead image.now f entry.now) }
     ensures ready { (f : Facts) → Means image.now held.now f → due_at image.now f entry.now.cpu ≡ Some entry.now → IfOk result (WillBeReady image.now f entry.now) }
+    ensures free { (f : Facts) → Means image.now held.now f → due_at image.now f entry.now.cpu ≡ Some entry.now → IfOk result (IsFree f) }
     ensures apart { IfOk result (λ coming. IfSome coming (λ config. AllPairs SharesNoAddress config.memory_regions)) }
 {
-    let Act::Decide { refused: None } = entry.act else {
+    if !goes_on(&entry.act) {
         return Ok(None);
-    };
+    }
     let Some(begun) = &held.call else {
         return Ok(None);
     };
-    let Call::Create { at } = begun.call else {
+    let Some(at) = create_of(&begun.call) else {
         return Ok(None);
     };
+    decides_are_of_the_open_call();
+    a_cell_that_comes_may_live();
     let state = State::new(image, held);
     match state.creation(begun.caller, at)? {
         Creation::Comes { config } => Ok(Some(config)),
-        Creation::Refused { .. } => Ok(None),
+        Creation::Refused { .. } => unreachable!(),
     }
 }
 
