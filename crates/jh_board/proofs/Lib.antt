@@ -6,3 +6,4 @@ pub mod IndexLemmas
 pub mod ClosedLemmas
 pub mod CellsLemmas
 pub mod GrantedLemmas
+pub mod ReadyLemmas
