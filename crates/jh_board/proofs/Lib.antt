@@ -7,3 +7,4 @@ pub mod ClosedLemmas
 pub mod CellsLemmas
 pub mod GrantedLemmas
 pub mod ReadyLemmas
+pub mod KeptLemmas

@@ -4,6 +4,7 @@ use Rattle.std.specs.Option.{option_map_or}
 use Rattle.jh_cellcfg.specs.declared.config.CellConfig.{CellConfig}
 use Rattle.jh_cellcfg.specs.declared.live.Live.{Live}
 use Rattle.jh_cellcfg.specs.declared.region.Region.{Region}
+use Rattle.jh_check.specs.Clean.{IsSoundBitmap}
 use Rattle.jh_check.specs.Refusals.{is_known}
 use Rattle.jh_mmio.specs.Index.{SharesNoAddress}
 use Rattle.jh_call.specs.declared.call.Call.{Call}
@@ -19,6 +20,7 @@ use Rattle.jh_history.specs.Admitted.{IsAdmitted}
 use Rattle.jh_history.specs.Phases.{configs_of}
 use Rattle.jh_history.specs.Calls.{call_by}
 use Rattle.jh_history.specs.Commits.{marked, is_other}
+use Rattle.jh_history.specs.DueFacts.{NamesCpu}
 use Rattle.jh_history.specs.Facts.{Facts}
 use Rattle.jh_history.specs.History.{call_after}
 use Rattle.jh_history.specs.Due.{due_at}
@@ -72,9 +74,10 @@ MayWriteOf memory act found = Unit {0}
 abbrev pub joined_cells : List Live → CellConfig → List Live
 joined_cells cells config = cells ++ (record { config = config; loadable = false }) ∷ []
 
--- the cell with the configuration may join those that live, whose index and room are there
+-- the cell with the configuration may join those that live, whose index and room are there; as it names a CPU, few live
 pub record MayJoin (live : LiveView) (found : Option (List Region)) (config : CellConfig) : Type 0 where
-  pub few : length live.lives < 15
+  pub cpus : IsSoundBitmap config.cpu_set
+  pub few : NamesCpu config → length live.lives < 15
   pub unknown : is_known (live.system.root ∷ configs_of live.lives) config ≡ false
   pub within : AreInRange config.memory_regions
   pub index : found ≡ Some config.memory_regions

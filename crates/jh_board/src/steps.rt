@@ -7,13 +7,16 @@ ghost use Rattle.jh_script.specs.declared.image.Image.{Image};
 ghost use Rattle.jh_history.specs.declared.place.Place.{Place as ThePlace};
 ghost use Rattle.jh_history.specs.Access.{write_of};
 ghost use Rattle.jh_history.specs.Bytes.{byte_written};
+ghost use Rattle.jh_history.specs.Calls.{call_by};
 ghost use Rattle.jh_history.specs.Commits.{cells_by, created_by};
+ghost use Rattle.jh_history.specs.DueFacts.{NamesCpu};
 ghost use Rattle.jh_history.specs.Facts.{Facts};
 ghost use Rattle.jh_history.specs.History.{after};
+ghost use Rattle.jh_history.specs.Pages.{with_page_write};
 ghost use Rattle.jh_history.specs.Due.{due_at};
 ghost use Rattle.jh_history.specs.Wants.{IsReachOfAct, IsReachOfEntry};
 ghost use Rattle.jh_board.specs.Pages.{byte_of, HoldsComm};
-ghost use Rattle.jh_board.specs.Means.{Means, IsReadyFor};
+ghost use Rattle.jh_board.specs.Means.{Means, IsReady, IsReadyFor};
 ghost use Rattle.jh_board.specs.Steps.{goes_on as goes_on_lem, create_of as create_of_lem, change_of_call as change_of_call_lem, change_of_cells as change_of_cells_lem, changed_cells, IsNext, IsRead, IsFree, WillBeReady, IsPrepared, MayWrite, MayWriteOf, MayJoin, joined_cells};
 
 use crate::cells::LiveCells;
@@ -24,8 +27,9 @@ use crate::state::State;
 use jh_call::Call;
 use jh_cellcfg::CellConfig;
 use jh_history::{
-    Act, Called, Creation, Entry, Known, OpenCall, Reach, a_cell_that_comes_may_live, call_after,
-    cpus_after, decides_are_of_the_open_call, page_write,
+    Act, Called, Creation, Entry, Known, OpenCall, PageWrite, Reach, a_cell_that_comes_may_live,
+    call_after, cpus_after, decides_are_of_the_open_call, few_cells_live, page_write,
+    pages_written_are_of_cells, places_reached_are_of_cells, sound_cells_name_a_cpu,
 };
 use jh_mmio::RegionIndex;
 use jh_num::NoMemory;
@@ -69,6 +73,7 @@ fn change_of_cells(call: Option<&OpenCall>, act: &Act) -> CellsChange
 fn change_cells(cells: &mut LiveCells, change: CellsChange)
     ensures system { cells.new.system ≡ cells.old.system }
     ensures lives { cells.new.lives ≡ changed_cells change cells.old.lives }
+    ensures kept { change ≡ CellsChange.Keep → cells.new ≡ cells.old }
 {
     match change {
         CellsChange::Keep => {}
@@ -128,7 +133,7 @@ fn coming_of(
 fn make_ready(held: &mut Held, config: &CellConfig) -> Result<(), NoMemory>
     requires { AllPairs SharesNoAddress config.now.memory_regions }
     ensures ready { OnOk result (IsReadyFor held.new config.now) }
-    ensures means { (i : Image) (f : Facts) → Means i held.old f → Means i held.new f }
+    ensures means { (i : Image) (f : Facts) → IsFree f (Some config.now) → Means i held.old f → Means i held.new f }
 {
     let index = held.cells.prepare(held.alloc, config)?;
     held.memory.hold_page(config.id)?;
@@ -194,33 +199,43 @@ fn make_cells(
     requires { IfSome created (MayJoin cells.old index.old) }
     ensures system { cells.new.system ≡ cells.old.system }
     ensures lives { cells.new.lives ≡ option_map_or (joined_cells cells.old.lives) created (changed_cells change cells.old.lives) }
+    ensures named { IfSome created NamesCpu }
     ensures kept { created ≡ None → change ≡ CellsChange.Keep → (cells.new ≡ cells.old) × (index.new ≡ index.old) }
 {
     match created {
         Some(config) => match index.take() {
-            Some(index) => cells.add(config, index),
+            Some(index) => {
+                sound_cells_name_a_cpu(&config);
+                cells.add(config, index);
+            }
             None => unreachable!(),
         },
         None => change_cells(cells, change),
     }
 }
 
-/// Writes into a communication page what the entry of the hypervisor's writes; the CPUs are those after it.
-fn make_page(image: &IndexedImage, held: &mut Held, entry: &Entry) {
-    let write = page_write(
-        image.image(),
-        held.cells.list(),
-        held.call.as_ref(),
-        &held.cpus,
-        entry,
-    );
+/// Writes into a communication page what the entry of the hypervisor's writes.
+fn make_page(memory: &mut Memory, write: Option<PageWrite>)
+    requires { IfSome write (λ write. HoldsComm memory.old.comms write.cell) }
+    ensures bytes { (q : ThePlace) → byte_of memory.new q ≡ with_page_write write (byte_of memory.old) q }
+    ensures held { (cell : ℕ) → HoldsComm memory.old.comms cell → HoldsComm memory.new.comms cell }
+{
     if let Some(write) = &write {
-        held.memory.change_page(write);
+        memory.change_page(write);
     }
 }
 
 /// The open call after the entry, and the live cells.
-fn make_call(held: &mut Held, entry: &Entry, coming: Option<CellConfig>) {
+fn make_call(held: &mut Held, entry: &Entry, coming: Option<CellConfig>)
+    requires { IfSome (created_by held.old.call entry.now.act) (MayJoin held.old.cells held.old.index) }
+    ensures memory { held.new.memory ≡ held.old.memory }
+    ensures cpus { held.new.cpus ≡ held.old.cpus }
+    ensures system { held.new.cells.system ≡ held.old.cells.system }
+    ensures lives { held.new.cells.lives ≡ cells_by held.old.call held.old.cells.lives entry.now.act }
+    ensures named { IfSome (created_by held.old.call entry.now.act) NamesCpu }
+    ensures call { held.new.call ≡ call_by held.old.cells.lives coming held.old.call entry.now entry.now.act }
+    ensures ready { IsReady held.old held.new.call → IsReady held.new held.new.call }
+{
     let change = change_of_cells(held.call.as_ref(), &entry.act);
     let begun = held.call.take();
     let Called { call, created } = call_after(held.cells.list(), coming, begun, entry);
@@ -240,6 +255,10 @@ pub fn make(
     ensures ok { OnOk result ((f : Facts) → Means image.now held.old f → due_at image.now f entry.now.cpu ≡ Some entry.now → Means image.now held.new (after image.now f entry.now)) }
     ensures err { OnErr result ((f : Facts) → Means image.now held.old f → Means image.now held.new f) }
 {
+    places_reached_are_of_cells();
+    pages_written_are_of_cells();
+    a_cell_that_comes_may_live();
+    few_cells_live();
     let coming = prepare(image, held, entry)?;
     make_bytes(&mut held.memory, &entry.act, reach)?;
     cpus_after(
@@ -248,7 +267,14 @@ pub fn make(
         held.call.as_ref(),
         entry,
     );
-    make_page(image, held, entry);
+    let write = page_write(
+        image.image(),
+        held.cells.list(),
+        held.call.as_ref(),
+        &held.cpus,
+        entry,
+    );
+    make_page(&mut held.memory, write);
     make_call(held, entry, coming);
     Ok(())
 }

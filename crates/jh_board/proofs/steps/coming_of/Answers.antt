@@ -1,10 +1,12 @@
 -- What a create reads is what comes of it.
-use Rattle.std.proofs.Common.{◌≡◌, ◌∙◌, Some, None, refl, sym}
+use Rattle.std.proofs.Common.{◌≡◌, ◌∙◌, Option, Some, None, refl, sym, ap}
+use Rattle.jh_cellcfg.specs.declared.config.CellConfig.{CellConfig}
 use Rattle.jh_call.specs.declared.call.Call.TheVariants.{Create}
 use Rattle.jh_history.specs.declared.call.OpenCall.{OpenCall}
 use Rattle.jh_history.specs.declared.entry.Act.TheVariants.{Decide}
 use Rattle.jh_history.specs.declared.call.Creation.TheVariants.{Comes, Refused}
 use Rattle.jh_history.specs.Facts.{Facts}
+use Rattle.jh_history.specs.Calls.{call_by}
 use Rattle.jh_history.specs.Phases.{creation_of}
 use Rattle.jh_board.specs.Means.{Means}
 use Rattle.jh_board.proofs.ReadyLemmas.{going-decides, create-at, coming-is, ready-create, ready-early, not-refused}
@@ -32,7 +34,7 @@ returns-clause-read c = λ f means due.
     let create : o.call ≡ Create at = create-at o.call at (sym c.create_of.ensures ∙ c.in-Some-create_of.is) in
     let comes : creation_of image f o.caller at ≡ Comes c.in-Comes.config = sym (c.in_ok-config.ensures image f (rw c.new-state.ensures (refl, means))) ∙ c.in-Comes.is in
     let reads = c.decides_are_of_the_open_call.ensures.read image f o.caller at c.in-Comes.config comes in
-    rw (coming-is image f o at c.in-Comes.config is create reads) refl
+    ap (λ (d : Option CellConfig). call_by f.cells d f.call c.args.entry.now c.args.entry.now.act) (sym (coming-is image f o at c.in-Comes.config is create reads))
 
 pub returns-clause-ready : goal.returns-clause-ready
 returns-clause-ready c = λ f means due held before ready.
