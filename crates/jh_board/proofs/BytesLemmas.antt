@@ -11,7 +11,7 @@ use Rattle.jh_history.specs.Places.{further, places_in_row, with_byte, over, wri
 use Rattle.jh_history.proofs.PlaceLemmas.{further-none, further-next, row-next, written-over}
 use Rattle.jh_history.specs.declared.comm.PageWrite.{PageWrite}
 use Rattle.jh_history.specs.Pages.{page_after, with_page}
-use Rattle.jh_board.specs.Pages.{byte_at, byte_of, comm_byte, page_at, Holds, HoldsComm, HoldsPlace, MemoryView}
+use Rattle.jh_board.specs.Pages.{byte_at, byte_of, comm_byte, page_at, Holds, HoldsComm, HoldsPlace, MayHold, MemoryView}
 
 abbrev Pages : Type 0
 Pages = List (ℕ × List ℕ)
@@ -24,6 +24,10 @@ byte_of-same old new same comms (Page cell offset) = comms cell offset
 pub HoldsPlace-same : (old new : MemoryView) → ((a : ℕ) → Holds old.physical a → Holds new.physical a) → ((cell : ℕ) → HoldsComm old.comms cell → HoldsComm new.comms cell) → (q : Place) → HoldsPlace old q → HoldsPlace new q
 HoldsPlace-same old new same comms (Physical a) h = same a h
 HoldsPlace-same old new same comms (Page cell offset) h = (comms cell h.0, h.1)
+
+pub MayHold-same : (old new : MemoryView) → ((q : Place) → HoldsPlace old q → HoldsPlace new q) → (q : Place) → MayHold old q → MayHold new q
+MayHold-same old new same (Physical a) h = tt
+MayHold-same old new same (Page cell offset) h = same (Page cell offset) h
 
 -- one byte that was written
 pub with_byte-written : (old new : MemoryView) (address byte : ℕ) → byte_at new.physical address ≡ byte → ((a : ℕ) → a ≢ address → byte_at new.physical a ≡ byte_at old.physical a) → new.comms ≡ old.comms

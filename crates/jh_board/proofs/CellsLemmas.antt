@@ -1,14 +1,14 @@
 -- The cells that live, by their ids and their indexes.
-use Rattle.std.proofs.Common.{◌≡◌, ℕ, zero, suc, ◌+◌, ◌*◌, ◌/◌, ◌^◌, ◌<◌, ◌≤◌, Bool, true, false, cond, not, List, [], ◌∷◌, ◌++◌, length, get_or, map, remove, position, sum_by, Option, Some, None, refl, sym, ap, subst, ◌∙◌, inl, inr, arith}
-use Rattle.std.specs.Prelude.{All, IfSome, filter, slice_get, slice_set, option_map, nat_lt}
-use Rattle.std.specs.Option.{option_map_or, option_copied}
+use Rattle.std.proofs.Common.{◌≡◌, ℕ, zero, suc, ◌+◌, ◌*◌, ◌/◌, ◌^◌, ◌<◌, ◌≤◌, Bool, true, false, cond, not, List, [], ◌∷◌, ◌++◌, length, get_or, map, remove, position, sum_by, Option, Some, None, refl, sym, ap, subst, ◌∙◌, arith}
+use Rattle.std.specs.Prelude.{All, IfSome, filter, slice_get, option_map, nat_lt}
+use Rattle.std.specs.Option.{option_map_or}
 use Rattle.std.specs.List.{find, position_or_len, Contains, AllByRecursion}
-use Rattle.std.proofs.lemmas.Bool.{cases_Bool, cases_lt, lt-ltb, le-ltb, eqb-true}
-use Rattle.std.proofs.lemmas.Option.{none-some, same_Some, slice_get-map, slice_get-get_or, slice_get_past, slice_get_within}
+use Rattle.std.proofs.lemmas.Bool.{eqb-true}
+use Rattle.std.proofs.lemmas.Option.{none-some, same_Some, slice_get-map, slice_get-get_or, slice_get_past}
 use Rattle.std.proofs.lemmas.List.{length-map, map-append}
 use Rattle.std.proofs.lemmas.List.Folds.{find_at}
 use Rattle.std.proofs.lemmas.List.Sums.{sum_by-append, sum_by-remove}
-use Rattle.std.proofs.lemmas.List.Elements.{All-contains, All-map, All-push, All-from_recursion, recursion_from_All}
+use Rattle.std.proofs.lemmas.List.Elements.{All-contains, All-map, All-from_recursion, recursion_from_All}
 use Rattle.jh_num.specs.declared.address.TheConstants.{ADDRESS_END}
 use Rattle.jh_num.proofs.Lists.{IsFound-from_find, find-None, Contains-head, Contains-tail}
 use Rattle.jh_cellcfg.specs.declared.config.CellConfig.{CellConfig}
@@ -19,8 +19,8 @@ use Rattle.jh_cellcfg.specs.Regions.{IsInRange}
 use Rattle.jh_shape.specs.Claims.{Claims}
 use Rattle.jh_shape.specs.Pages.{count_below, tables_at, tables_of, pages_of, root_claims, cell_claims}
 use Rattle.jh_shape.specs.Shapes.{slot_size, is_table}
-use Rattle.jh_life.specs.Lives.{configs_of, marks_of, has_config_id, new_live}
-use Rattle.jh_life.specs.Changes.{without, marked as marked_of}
+use Rattle.jh_life.specs.Lives.{configs_of, has_config_id, new_live}
+use Rattle.jh_life.specs.Changes.{marked as marked_of}
 use Rattle.jh_history.specs.Commits.{is_other, marked}
 use Rattle.jh_history.specs.Lives.{live_in}
 use Rattle.jh_board.specs.Closed.{IsIndexOf, live_regions, count_regions, AreInRange}
@@ -45,7 +45,7 @@ index-found lives id r is =
     let e = position-map id lives in
     let len : length (configs_of lives) ≡ length lives = length-map lives (λ (l : Live). l.config) in
     let same : position (has_config_id id) (configs_of lives) ≡ cond (nat_lt n (length lives)) (Some n) None
-        = ap (λ m. cond (nat_lt m (length (configs_of lives))) (Some m) None) e ∙ ap (λ l. cond (nat_lt n l) (Some n) None) len in
+    = ap (λ m. cond (nat_lt m (length (configs_of lives))) (Some m) None) e ∙ ap (λ l. cond (nat_lt n l) (Some n) None) len in
     subst (IsIndexOf lives id) (sym (is ∙ same)) (index_by id n lives (nat_lt n (length lives)) refl (find_at (has_id id) lives))
 
 pub index-few : (lives : List Live) (id : ℕ) (r : Option ℕ) → IsIndexOf lives id r → length lives ≤ 15 → IfSome r (λ k. k < 15)

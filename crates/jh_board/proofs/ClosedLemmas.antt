@@ -1,5 +1,5 @@
 -- Ranges that close places: how many there are, and what they close.
-use Rattle.std.proofs.Common.{◌≡◌, ℕ, zero, suc, ◌+◌, ◌-◌, ◌<◌, ◌≤◌, ◌^◌, Bool, true, false, ◌||◌, ◌&&◌, not, List, [], ◌∷◌, ◌++◌, length, get_or, take, map, eqb, sum_by, refl, sym, ap, subst, ◌∙◌, ⊎_elim, ◌⊎◌, inl, inr, arith}
+use Rattle.std.proofs.Common.{◌≡◌, ℕ, zero, suc, ◌+◌, ◌<◌, ◌≤◌, ◌^◌, Bool, true, false, ◌||◌, ◌&&◌, not, List, [], ◌∷◌, ◌++◌, length, get_or, take, map, eqb, refl, sym, ap, subst, ◌∙◌, ⊎_elim, arith}
 use Rattle.std.specs.Prelude.{Some, nat_le, nat_lt, slice_get}
 use Rattle.std.proofs.lemmas.Option.{none-some, same_Some}
 use Rattle.jh_cellcfg.specs.Regions.{IsInRange, is_comm, phys_end}
@@ -22,7 +22,7 @@ use Rattle.jh_shape.specs.Claims.{Holder}
 use Rattle.jh_shape.specs.Shapes.{takes, holder_of_live}
 use Rattle.jh_life.specs.Lives.{configs_of, is_loadable_at}
 use Rattle.jh_board.specs.Closed.{is_taken, is_closed_by, count_regions}
-use Rattle.jh_num.proofs.BytesLemmas.{below_range, above_range, within_range, absent_below}
+use Rattle.jh_num.proofs.BytesLemmas.{above_range, within_range, absent_below}
 
 abbrev end_of : Range → ℕ
 end_of range = range.end
@@ -62,6 +62,7 @@ ends-in low (x ∷ xs) ys r apart same q h =
   where
     rest : (b : ℕ) → x.end ≤ b → has_byte xs b ≡ has_byte (x ∷ xs) b
     rest b le = rw (above_range x b le) refl
+
     first_end : (e : ℕ) → x.end ≡ e → q ≡ x.end → list_any (eqb q) (map end_of (r ∷ ys)) ≡ true
     first_end zero e is = absurd (omega (arith, apart.1))
     first_end (suc b) e is =
@@ -158,7 +159,6 @@ closed-all lives cells i place same le =
 -- the regions of the cells up to one are no more than all
 pub few-regions : (cells : List CellConfig) (i : ℕ) (d : CellConfig) → i < length cells → (count_regions (take (i + 1) cells) ≡ count_regions (take i cells) + length (get_or cells i d).memory_regions) × (count_regions (take (i + 1) cells) ≤ count_regions cells)
 few-regions cells i d lt = (sum_by_more (λ (c : CellConfig). length c.memory_regions) cells i d lt, sum_by-take-le (λ (c : CellConfig). length c.memory_regions) cells (i + 1))
-
 
 -- nothing is in what all bytes were taken from
 pub none-left : (xs old : List Range) (end : ℕ) (x : Range) → AreApart xs → slice_get xs 0 ≡ Some x → ((b : ℕ) → has_byte xs b ≡ (has_byte old b && not (nat_le 0 b && nat_lt b end))) → x.end ≤ end → ⊥

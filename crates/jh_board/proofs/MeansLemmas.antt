@@ -46,4 +46,4 @@ opened-bytes image memory same none (Page cell offset) = none cell offset
 -- places of physical memory can be written
 pub MayHold-physical : (memory : MemoryView) (q : Place) → is_physical q ≡ true → MayHold memory q
 MayHold-physical memory (Physical a) h = tt
-MayHold-physical memory (Page cell offset) h = absurd (both_ways true h refl)
+MayHold-physical memory (Page cell offset) h = absurd (both_ways false refl h)

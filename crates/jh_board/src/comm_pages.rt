@@ -42,13 +42,7 @@ impl CommPages {
         ensures { result ≡ comm_byte self.now cell offset }
     {
         match self.pages.get(&cell) {
-            Some(page) => {
-                if offset < 4096 {
-                    page.get(offset as usize)
-                } else {
-                    0
-                }
-            }
+            Some(page) => page.byte(offset),
             None => 0,
         }
     }

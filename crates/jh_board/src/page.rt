@@ -26,6 +26,22 @@ impl Model for Page {
     ghost invariant = { λ p. length p.bytes.items ≡ 4096 };
 }
 
+/// Changes words of a communication page.
+fn change_words(page: &mut [u8], change: &PageChange)
+    requires { length page.old ≡ 4096 }
+    ensures { (k : ℕ) → k < 4096 → slice_index page.new k ≡ page_after change.now (λ j. slice_index page.old j) k }
+{
+    match *change {
+        PageChange::State(state) => set_state(page, state),
+        PageChange::Message(message) => send(page, message),
+        PageChange::Fresh {
+            state,
+            console,
+            window,
+        } => fresh(page, state, &console, window),
+    }
+}
+
 impl Page {
     /// A page of zeros.
     pub fn zero(alloc: Global) -> Result<Self, NoMemory>
@@ -71,19 +87,22 @@ impl Page {
         self.bytes[offset..offset + bytes.len()].copy_from_slice(bytes);
     }
 
+    /// The byte at the offset, 0 past the page's end.
+    pub fn byte(&self, offset: u64) -> u8
+        ensures { result ≡ slice_index self.now offset }
+    {
+        if offset < self.bytes.len() as u64 {
+            self.bytes[offset as usize]
+        } else {
+            0
+        }
+    }
+
     /// Changes words of a communication page.
     pub fn change(&mut self, change: &PageChange)
-        ensures { (k : ℕ) → k < 4096 → slice_index self.new k ≡ page_after change.now (λ j. slice_index self.old j) k }
+        ensures page { (k : ℕ) → k < 4096 → slice_index self.new k ≡ page_after change.now (λ j. slice_index self.old j) k }
+        ensures behind { (k : ℕ) → 4096 ≤ k → slice_index self.new k ≡ slice_index self.old k }
     {
-        let page = self.bytes.as_mut_slice();
-        match *change {
-            PageChange::State(state) => set_state(page, state),
-            PageChange::Message(message) => send(page, message),
-            PageChange::Fresh {
-                state,
-                console,
-                window,
-            } => fresh(page, state, &console, window),
-        }
+        change_words(&mut self.bytes, change);
     }
 }

@@ -1,9 +1,9 @@
 -- One cell more.
-use Rattle.std.proofs.Common.{◌≡◌, ◌≤◌, ◌+◌, ◌||◌, List, length, get_or, sym, ap, ◌∙◌, subst, arith}
+use Rattle.std.proofs.Common.{◌≡◌, ◌||◌, List, length, get_or, sym, ap, ◌∙◌, arith}
 use Rattle.jh_cellcfg.specs.declared.region.Region.{Region}
 use Rattle.jh_num.specs.Bytes.{has_byte}
 use Rattle.jh_cellcfg.specs.declared.config.CellConfig.{CellConfig}
-use Rattle.jh_board.specs.Closed.{is_taken, is_closed_by, count_regions}
+use Rattle.jh_board.specs.Closed.{is_taken}
 use Rattle.jh_board.proofs.ClosedLemmas.{closed-step, closed-all, few-regions}
 use Rattle.jh_board.proofs.closed.close_again.Goals as goal
 

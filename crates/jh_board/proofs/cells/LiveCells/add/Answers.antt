@@ -1,5 +1,5 @@
 -- One cell more.
-use Rattle.std.proofs.Common.{◌≡◌, ◌+◌, ◌-◌, ◌<◌, ◌≤◌, false, ◌||◌, List, [], ◌∷◌, ◌++◌, length, map, sym, ap, subst, ◌∙◌, arith}
+use Rattle.std.proofs.Common.{◌≡◌, ◌+◌, ◌-◌, false, ◌||◌, List, [], ◌∷◌, ◌++◌, map, sym, ap, subst, ◌∙◌, arith}
 use Rattle.std.specs.Prelude.{All, min}
 use Rattle.std.proofs.lemmas.List.{map-append}
 use Rattle.std.proofs.lemmas.List.Elements.{All-push}
@@ -37,7 +37,7 @@ invariant_of-self c =
           ∙ sym (map-append (λ (x : CellConfig). x.memory_regions) (configs_of lives) (new ∷ []))
           ∙ ap (λ (cs : List CellConfig). map (λ (x : CellConfig). x.memory_regions) cs) (sym configs);
       within = subst (λ (cs : List CellConfig). All (λ (x : CellConfig). AreInRange x.memory_regions) cs) (sym configs)
-      (All-push (λ (x : CellConfig). AreInRange x.memory_regions) (configs_of lives) new old.within c.requires.within);
+          (All-push (λ (x : CellConfig). AreInRange x.memory_regions) (configs_of lives) new old.within c.requires.within);
       closed = λ place.
           c.close_regions.ensures.bytes place
           ∙ ap (λ b. b || is_taken false c.as_slice-regions.result.now place) (old.closed place)

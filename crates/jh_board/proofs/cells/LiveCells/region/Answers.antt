@@ -2,8 +2,8 @@
 use Rattle.std.proofs.Common.{◌≡◌, Some, get_or, List, ap, sym, subst, ◌∙◌}
 use Rattle.jh_cellcfg.specs.declared.region.Region.{Region}
 use Rattle.jh_mmio.specs.Index.{IsRegionAt}
-use Rattle.jh_board.specs.Closed.{IsIndexOf, live_regions}
-use Rattle.jh_board.proofs.CellsLemmas.{regions-none, regions-some, regions-within, all_regions}
+use Rattle.jh_board.specs.Closed.{IsIndexOf}
+use Rattle.jh_board.proofs.CellsLemmas.{regions-some, regions-within, all_regions}
 use Rattle.jh_board.proofs.cells.LiveCells.region.Goals as goal
 use Rattle.jh_board.proofs.cells.LiveCells.region.Goals.{After-at}
 

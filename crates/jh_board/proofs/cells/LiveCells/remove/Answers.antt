@@ -50,7 +50,7 @@ invariant_of-self c =
     let within = c.in-Some.ensures.found.within in
     let len : length (configs_of lives) ≡ length lives = length-map lives (λ (x : Live). x.config) in
     let sum : count_regions (configs_of new) + c.len.result ≡ count_regions (configs_of lives)
-        = regions-left (configs_of lives) (configs_of new) c.list.result.now c.in-Some.index c.len.result c.index-list-index.result configs c.list.ensures.value (omega arith) c.len.ensures in
+    = regions-left (configs_of lives) (configs_of new) c.list.result.now c.in-Some.index c.len.result c.index-list-index.result configs c.list.ensures.value (omega arith) c.len.ensures in
     let count = old.regions in
     let few = c.close_again.ensures.few in
     let room = c.close_again.ensures.room in
@@ -61,7 +61,7 @@ invariant_of-self c =
           ∙ sym (map-remove (λ (x : CellConfig). x.memory_regions) (configs_of lives) c.in-Some.index)
           ∙ ap (λ (cs : List CellConfig). map (λ (x : CellConfig). x.memory_regions) cs) (sym configs);
       within = subst (λ (cs : List CellConfig). All (λ (x : CellConfig). AreInRange x.memory_regions) cs) (sym configs)
-      (All-removed (λ (x : CellConfig). AreInRange x.memory_regions) (configs_of lives) c.in-Some.index old.within);
+          (All-removed (λ (x : CellConfig). AreInRange x.memory_regions) (configs_of lives) c.in-Some.index old.within);
       closed = λ place. c.close_again.ensures.bytes new (sym c.list-2.ensures.value) c.loadable.ensures place;
       few = omega arith;
       regions = omega arith;

@@ -1,10 +1,8 @@
 -- The cell at the index is the one with the id; the configurations stay.
-use Rattle.std.proofs.Common.{◌≡◌, ◌+◌, ◌-◌, List, length, map, set, sym, ap, subst, ◌∙◌, arith}
+use Rattle.std.proofs.Common.{◌≡◌, ◌+◌, ◌-◌, List, map, set, sym, ap, subst, ◌∙◌, arith}
 use Rattle.std.specs.Prelude.{All}
 use Rattle.jh_cellcfg.specs.declared.config.CellConfig.{CellConfig}
 use Rattle.jh_cellcfg.specs.declared.config.SystemConfig.{SystemConfig}
-use Rattle.jh_cellcfg.specs.declared.live.Live.{Live}
-use Rattle.jh_cellcfg.specs.declared.region.Region.{Region}
 use Rattle.jh_shape.specs.Pages.{pages_of}
 use Rattle.jh_life.specs.Lives.{configs_of, marks_of}
 use Rattle.jh_life.specs.Changes.{marked}
