@@ -8,3 +8,4 @@ pub mod CellsLemmas
 pub mod GrantedLemmas
 pub mod ReadyLemmas
 pub mod KeptLemmas
+pub mod MadeLemmas
