@@ -9,3 +9,4 @@ pub mod GrantedLemmas
 pub mod ReadyLemmas
 pub mod KeptLemmas
 pub mod MadeLemmas
+pub mod AfterLemmas

@@ -10,7 +10,7 @@ use Rattle.std.proofs.Math.Nat.{div-div-eq-div-mul, div-one, pow-suc, pow-le-pow
 use Rattle.jh_num.specs.Memory.{spelled, stored}
 use Rattle.jh_history.specs.declared.place.Place.{Place}
 use Rattle.jh_history.specs.declared.place.Place.TheVariants.{Physical, Page}
-use Rattle.jh_history.specs.Places.{places_in_row, with_byte, written}
+use Rattle.jh_history.specs.Places.{places_in_row, further, with_byte, written}
 use Rattle.jh_board.specs.Pages.{page_at, byte_in, bytes_from, byte_at, byte_of, comm_byte, MemoryView}
 
 abbrev Pages : Type 0
@@ -158,3 +158,20 @@ written-piece old new a n v bytes few is put same (Physical q) =
     put q ∙ ap (λ (bs : List ℕ). stored (byte_at old.physical) a bs q) is ∙ sym (written-low_first (byte_of old) a n 0 8 v q few)
     ∙ ap (λ (x : ℕ). written (byte_of old) (places_in_row (Physical a) n) x (Physical q)) (div-one v)
 written-piece old new a n v bytes few is put same (Page cell offset) = ap (λ (pages : Pages). comm_byte pages cell offset) same ∙ sym (written-elsewhere (byte_of old) a n v cell offset)
+
+-- a number of no bytes is one of any
+pub fits-zero : (n : ℕ) → 0 < 256 ^ n
+fits-zero n =
+    let least : 0 ≤ n = omega arith in
+    let h : 256 ^ 0 ≤ 256 ^ n = pow-le-pow_right (omega arith) least in
+    omega (arith, h)
+
+row-length : (p : Place) (n : ℕ) → length (places_in_row p n) ≡ n
+row-length p zero = refl
+row-length p (suc n) = ap suc (row-length (further p 1) n)
+
+-- a number of so many bytes as a row has places
+pub fits-in_row : (v n : ℕ) (p : Place) (places : List Place) → places ≡ places_in_row p n → v < 256 ^ n → v < 256 ^ length places
+fits-in_row v n p places is h =
+    let e : length places ≡ n = ap (λ (ps : List Place). length ps) is ∙ row-length p n in
+    rw e h

@@ -120,7 +120,10 @@ impl Board {
             Ok(held) => held,
             Err(_) => return Err(image),
         };
-        let image = IndexedImage::new(alloc, image)?;
+        let image = match IndexedImage::new(alloc, image) {
+            Ok(image) => image,
+            Err(image) => return Err(image),
+        };
         Ok(Board {
             image,
             limit,

@@ -70,7 +70,8 @@ fn root_programs(image: &Image) -> [usize; 16]
 
 /// The region, where it gives the address with the right.
 pub(crate) fn giving(region: Option<Region>, access: Access, at: u64) -> Option<Region>
-    ensures { (regions : List Region) → IsRegionAt regions at region → result ≡ region_of regions access at }
+    ensures found { (regions : List Region) → IsRegionAt regions at region → result ≡ region_of regions access at }
+    ensures within { IfSome region (λ r. 0 < r.size → IsInRange r) → IfSome result IsInRange }
 {
     match region {
         Some(region) => {

@@ -61,7 +61,8 @@ impl Memory {
 
     /// The number that the bytes at the places spell, the lowest first.
     pub fn value(&self, places: &Places) -> u64
-        ensures { result ≡ spelled (map (byte_of self.now) places.now) }
+        ensures value { result ≡ spelled (map (byte_of self.now) places.now) }
+        ensures fits { result < 256 ^ length places.now }
     {
         match piece_of(places) {
             Some(piece) => self.physical.value(piece),

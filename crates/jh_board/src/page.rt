@@ -1,5 +1,5 @@
 //! A page of 4,096 bytes.
-ghost use Rattle.std.specs.Prelude.{◌≡◌, ◌≢◌, ℕ, ◌+◌, ◌<◌, ◌≤◌, length, slice_index, IfOk};
+ghost use Rattle.std.specs.Prelude.{◌≡◌, ◌≢◌, ℕ, ◌+◌, ◌<◌, ◌≤◌, ◌^◌, length, slice_index, IfOk};
 ghost use Rattle.jh_num.specs.Memory.{spelled, stored};
 ghost use Rattle.jh_history.specs.Pages.{page_after};
 ghost use Rattle.jh_board.specs.Pages.{bytes_from};
@@ -62,7 +62,8 @@ impl Page {
     pub fn value(&self, offset: usize, count: usize) -> u64
         requires within { offset + count ≤ 4096 }
         requires few { count ≤ 8 }
-        ensures { result ≡ spelled (bytes_from (slice_index self.now) offset count) }
+        ensures spells { result ≡ spelled (bytes_from (slice_index self.now) offset count) }
+        ensures fits { result < 256 ^ count }
     {
         let mut value = 0;
         for k in (0..count).rev() {

@@ -55,7 +55,8 @@ impl Physical {
     pub fn value(&self, piece: Piece) -> u64
         requires page { piece.at % 4096 + piece.count ≤ 4096 }
         requires few { piece.count ≤ 8 }
-        ensures { result ≡ spelled (bytes_from (byte_at self.now) piece.at piece.count) }
+        ensures spells { result ≡ spelled (bytes_from (byte_at self.now) piece.at piece.count) }
+        ensures fits { result < 256 ^ piece.count }
     {
         match self.pages.get(&(piece.at / 4096)) {
             Some(page) => page.value((piece.at % 4096) as usize, piece.count),

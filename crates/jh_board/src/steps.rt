@@ -151,11 +151,13 @@ fn prepare(
     ensures means { (f : Facts) → Means image.now held.old f → Means image.now held.new f }
     ensures ok { (f : Facts) → Means image.now held.old f → due_at image.now f entry.now.cpu ≡ Some entry.now → IfOk result (IsPrepared image.now held.new f entry.now) }
 {
-    let coming = coming_of(image, held, entry)?;
-    if let Some(config) = &coming {
-        make_ready(held, config)?;
+    match coming_of(image, held, entry)? {
+        Some(config) => {
+            make_ready(held, &config)?;
+            Ok(Some(config))
+        }
+        None => Ok(None),
     }
-    Ok(coming)
 }
 
 /// Writes the value where it reaches.
