@@ -5,7 +5,7 @@ use Rattle.jh_board.proofs.board.Board.open.Goals as goal
 
 pub invariant_of-result : goal.invariant_of-result
 invariant_of-result c =
-    let same : c.in-Ok-2.image ≡ c.args.image = c.in-Ok-2.ensures.ok in record {
+    let same : c.in-Ok-new.image ≡ c.args.image = c.in-Ok-new.ensures.ok in record {
       admitted = rw same c.requires.admitted;
       built = rw same c.requires.built;
       legal = rw (c.new-2.ensures, same) (IsLegal-nil c.args.image);
