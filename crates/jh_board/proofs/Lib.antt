@@ -10,3 +10,4 @@ pub mod ReadyLemmas
 pub mod KeptLemmas
 pub mod MadeLemmas
 pub mod AfterLemmas
+pub mod RootReadLemmas

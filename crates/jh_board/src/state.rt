@@ -12,9 +12,11 @@ use crate::indexed::IndexedImage;
 use jh_cellcfg::CellConfig;
 use jh_cpu::Cpu;
 use jh_history::{
-    Creation, Entry, Known, OpenCall, Places, Reach, Wanted, next_of, none_due, reach_of,
+    Access, Creation, Entry, Known, OpenCall, Places, Reach, RootBytes, Wanted, is_any_locked,
+    is_any_other_locked, judged, next_of, none_due, reach_of, read_config,
 };
 use jh_num::NoMemory;
+use jh_num::error::EPERM;
 use jh_script::Op;
 use std::marker::Model;
 
@@ -39,6 +41,29 @@ impl<'a> State<'a> {
     {
         State { image, held }
     }
+}
+
+impl<'a> RootBytes for State<'a> {
+    ghost use Rattle.jh_history.specs.declared.access.Access.TheVariants.{Read};
+    ghost use Rattle.jh_history.specs.Access.{reach_by, read_of};
+    ghost use Rattle.jh_history.specs.Grants.{granted_in};
+    ghost use Rattle.jh_board.specs.Pages.{byte_of};
+
+    ghost readable = { λ s at. read_of (byte_of s.held.memory) (reach_by (granted_in s.image s.held.cells.lives s.image.system.root.id Read) at 1) };
+
+    fn read(&self, at: u64) -> Option<u8> {
+        let wanted = Wanted {
+            access: Access::Read,
+            at,
+            width: 1,
+        };
+        match reach(self.image, &self.held.cells, self.image.root(), &wanted) {
+            Reach::Memory(places) => Some(self.held.memory.value(&places) as u8),
+            Reach::Nothing => None,
+        }
+    }
+
+    fn ends(&self) {}
 }
 
 impl<'a> Known for State<'a> {
@@ -76,11 +101,26 @@ impl<'a> Known for State<'a> {
     }
 
     fn is_other_locked(&self, id: u64) -> bool {
-        false
+        is_any_other_locked(&self.held.memory, self.held.cells.list(), id)
     }
 
     fn creation(&self, caller: u8, at: u64) -> Result<Creation, NoMemory> {
-        Err(NoMemory)
+        let cells = self.held.cells.list();
+        if is_any_locked(&self.held.memory, cells) {
+            return Ok(Creation::Refused { number: EPERM });
+        }
+        let read = read_config(self.held.alloc, self, at)?;
+        // Beside 15 cells no verdict is known here yet.
+        if cells.len() > 14 {
+            return Err(NoMemory);
+        }
+        Ok(judged(
+            self.image.image(),
+            cells,
+            &self.held.cpus,
+            caller,
+            read,
+        ))
     }
 
     fn call(&self) -> Option<&OpenCall> {

@@ -25,3 +25,6 @@ pub mod DueComesLemmas
 pub mod DuePageLemmas
 pub mod DueReachLemmas
 pub mod DueFewLemmas
+pub mod LoopLemmas
+pub mod ReadLemmas
+pub mod CountLemmas

@@ -46,7 +46,7 @@ pub fits-alone : (v n : ℕ) → v < 256 ^ (0 + n) → v < 256 ^ n
 fits-alone v n h = let e : 0 + n ≡ n = omega arith in let P : ℕ → Type 0 = λ m. v < 256 ^ m in subst P e h
 
 -- a run has so many places
-row-length : (p : Place) (n : ℕ) → length (places_in_row p n) ≡ n
+pub row-length : (p : Place) (n : ℕ) → length (places_in_row p n) ≡ n
 row-length p zero = refl
 row-length p (suc n) = ap suc (row-length (further p 1) n)
 
@@ -54,7 +54,7 @@ row-length p (suc n) = ap suc (row-length (further p 1) n)
 pub fits-in_places : (v : ℕ) (low high : Run) (places : List Place) → places ≡ places_of_run low ++ places_of_run high → v < 256 ^ (high.count + low.count) → v < 256 ^ length places
 fits-in_places v low high places is fits =
     let both : length places ≡ low.count + high.count =
-        ap (λ (ps : List Place). length ps) is ∙ length-append (places_of_run low) (places_of_run high) ∙ ap (λ (n : ℕ). n + length (places_of_run high)) (row-length low.first low.count) ∙ ap (λ (n : ℕ). low.count + n) (row-length high.first high.count) in
+    ap (λ (ps : List Place). length ps) is ∙ length-append (places_of_run low) (places_of_run high) ∙ ap (λ (n : ℕ). n + length (places_of_run high)) (row-length low.first low.count) ∙ ap (λ (n : ℕ). low.count + n) (row-length high.first high.count) in
     let e : high.count + low.count ≡ length places = omega (arith, both) in
     let P : ℕ → Type 0 = λ n. v < 256 ^ n in
     subst P e fits

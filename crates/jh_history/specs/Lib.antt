@@ -23,3 +23,4 @@ pub mod Admitted
 pub mod PastView
 pub mod Apart
 pub mod LiveView
+pub mod ReadView

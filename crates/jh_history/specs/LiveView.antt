@@ -1,10 +1,31 @@
 -- The live cells as the slow plain program keeps them: their configurations, and their marks.
-use Rattle.std.specs.Prelude.{Bool, List, [], ◌∷◌}
+use Rattle.std.specs.Prelude.{ℕ, Bool, ◌==◌, ◌&&◌, not, List, [], ◌∷◌}
+use Rattle.jh_comm.specs.Page.{state_in}
+use Rattle.jh_comm.specs.declared.words.TheConstants.{STATE_RUNNING_LOCKED}
 use Rattle.jh_cellcfg.specs.declared.config.CellConfig.{CellConfig}
 use Rattle.jh_cellcfg.specs.declared.live.Live.{Live}
+use Rattle.jh_script.specs.declared.image.Image.{Image}
+use Rattle.jh_history.specs.declared.place.Place.{Place}
+use Rattle.jh_history.specs.declared.place.Place.TheVariants.{Page}
 
 -- the configurations, each with its mark
 abbrev pub joined : List CellConfig → List Bool → List Live
 joined [] marks = []
 joined (config ∷ configs) [] = []
 joined (config ∷ configs) (mark ∷ marks) = record { config = config; loadable = mark } ∷ joined configs marks
+
+-- an image, and the cells that live besides its root
+pub record GrantsView : Type 0 where
+  pub image : Image
+  pub cells : List Live
+
+-- the state in the cell's page, by these bytes
+abbrev pub word_by : (Place → ℕ) → ℕ → ℕ
+word_by byte id = state_in (λ k. byte (Page id k))
+
+-- a cell of this configuration may not be reconfigured; the same of another than the one with the id
+abbrev pub is_locked_by : (Place → ℕ) → CellConfig → Bool
+is_locked_by byte config = word_by byte config.id == STATE_RUNNING_LOCKED
+
+abbrev pub is_other_locked_by : (Place → ℕ) → ℕ → CellConfig → Bool
+is_other_locked_by byte id config = not (config.id == id) && is_locked_by byte config

@@ -10,6 +10,8 @@ mod calling;
 mod cells;
 mod change;
 mod comm;
+mod counting;
+mod creation;
 mod due_facts;
 mod entry;
 mod grants;
@@ -17,10 +19,12 @@ mod hypercalls;
 mod journal;
 mod known;
 mod laws;
+mod locked;
 mod next;
 mod pages;
 mod phases;
 mod place;
+mod reading;
 mod sound;
 
 pub use access::{Access, Reach, Wanted};
@@ -31,6 +35,7 @@ pub use calling::{Called, call_after};
 pub use cells::{gives, is_on_board, is_program_of, program_of};
 pub use change::{Change, cpus_after};
 pub use comm::{PageChange, PageWrite};
+pub use creation::judged;
 pub use due_facts::{
     a_cell_that_comes_may_live, decides_are_of_the_open_call, few_cells_live,
     pages_written_are_of_cells, places_reached_are_of_cells, sound_cells_name_a_cpu,
@@ -41,8 +46,10 @@ pub use jh_cpu::{Cpu, Mode};
 pub use journal::Journal;
 pub use known::Known;
 pub use laws::{admitted_roots_are_sound, root_lives_alone};
+pub use locked::{is_any_locked, is_any_other_locked, is_locked};
 pub use pages::page_write;
 pub use next::{access_of, is_due, next_of, none_due, reach_of};
 pub use place::{Place, Places, Run};
+pub use reading::{RootBytes, read_config};
 pub use sound::legal_journals_are_sound;
 

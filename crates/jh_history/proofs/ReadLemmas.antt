@@ -1,0 +1,179 @@
+-- Reading a configuration byte by byte.
+use Rattle.std.proofs.Common.{◌≡◌, ℕ, zero, suc, ◌+◌, ◌*◌, ◌<◌, ◌≤◌, List, [], ◌∷◌, ◌++◌, Bool, true, false, leb, ltb, Option, Some, None, map, length, refl, sym, ap, subst, ◌∙◌, inl, inr, arith}
+use Rattle.std.specs.Prelude.{option_map, option_and_then, All, IsTrue}
+use Rattle.jh_num.specs.declared.address.TheConstants.{ADDRESS_END}
+use Rattle.jh_num.specs.Memory.{spelled}
+use Rattle.jh_cellcfg.specs.Faults.{header_fault, header_size}
+use Rattle.jh_script.specs.declared.image.Image.{Image}
+use Rattle.jh_history.specs.declared.place.Place.{Place}
+use Rattle.jh_history.specs.declared.access.Access.TheVariants.{Read}
+use Rattle.jh_history.specs.Access.{gives, place_in_cell, region_of, place_of, places_from, memory_or_nothing, reach_by, read_of}
+use Rattle.jh_history.specs.Facts.{Facts}
+use Rattle.jh_history.specs.Grants.{unless, granted_by, granted}
+use Rattle.jh_cellcfg.specs.declared.fault.ConfigFault.{ConfigFault}
+use Rattle.jh_history.specs.Configs.{bytes_at, read_at, read_whole, read_behind, read_from}
+use Rattle.jh_history.specs.ReadView.{bytes_by, read_by, read_behind as behind_bytes, read_from as from_bytes}
+use Rattle.jh_cellcfg.specs.declared.region.Region.{Region}
+use Rattle.jh_cellcfg.specs.Regions.{IsInRange, has_address, virt_end}
+use Rattle.std.proofs.lemmas.Bool.{cases_lt, and_parts, ltb-true, both_ways}
+use Rattle.jh_history.specs.declared.access.Reach.{Reach}
+use Rattle.jh_history.specs.declared.access.Reach.TheVariants.{Memory, Nothing}
+use Rattle.std.proofs.lemmas.Option.{none-some, same_Some}
+use Rattle.jh_num.proofs.Lists.{IsFound-from_find}
+use Rattle.jh_history.proofs.AccessLemmas.{reach_by-within, reach_by-beyond}
+use Rattle.jh_history.proofs.GrantLemmas.{region_of-has, has-some}
+use Rattle.jh_history.proofs.FactsLemmas.{same_function}
+
+abbrev Bytes : Type 0
+Bytes = Option (List ℕ)
+
+abbrev pub with_last : Bytes → Option ℕ → Bytes
+with_last low last = option_and_then (λ (bs : List ℕ). option_map (λ (b : ℕ). bs ++ b ∷ []) last) low
+
+last_one : (o : Option ℕ) → option_and_then (λ (b : ℕ). option_map (λ (bs : List ℕ). b ∷ bs) (Some [])) o ≡ with_last (Some []) o
+last_one None = refl
+last_one (Some b) = refl
+
+last_more : (first : Option ℕ) (low : Bytes) (last : Option ℕ) (whole : Bytes) → whole ≡ with_last low last
+    → option_and_then (λ (b : ℕ). option_map (λ (bs : List ℕ). b ∷ bs) whole) first ≡ with_last (option_and_then (λ (b : ℕ). option_map (λ (bs : List ℕ). b ∷ bs) low) first) last
+last_more None low last whole e = refl
+last_more (Some x) None last whole e = ap (option_map (λ (bs : List ℕ). x ∷ bs)) e
+last_more (Some x) (Some bs) None whole e = ap (option_map (λ (bs : List ℕ). x ∷ bs)) e
+last_more (Some x) (Some bs) (Some b) whole e = ap (option_map (λ (bs : List ℕ). x ∷ bs)) e
+
+-- one byte more at the end
+pub bytes_by-last : (byte : ℕ → Option ℕ) (at k : ℕ) → bytes_by byte at (suc k) ≡ with_last (bytes_by byte at k) (byte (at + k))
+bytes_by-last byte at zero = last_one (byte at) ∙ (let e : at ≡ at + 0 = omega arith in ap (λ (a : ℕ). with_last (Some []) (byte a)) e)
+bytes_by-last byte at (suc k) =
+    last_more (byte at) (bytes_by byte (at + 1) k) (byte ((at + 1) + k)) (bytes_by byte (at + 1) (suc k)) (bytes_by-last byte (at + 1) k)
+    ∙ (let e : (at + 1) + k ≡ at + suc k = omega arith in ap (λ (a : ℕ). with_last (bytes_by byte at (suc k)) (byte a)) e)
+
+pub bytes_by-more : (byte : ℕ → Option ℕ) (at k b : ℕ) (bs : List ℕ) → bytes_by byte at k ≡ Some bs → byte (at + k) ≡ Some b → bytes_by byte at (k + 1) ≡ Some (bs ++ b ∷ [])
+bytes_by-more byte at k b bs low last =
+    (let e : k + 1 ≡ suc k = omega arith in ap (bytes_by byte at) e)
+    ∙ bytes_by-last byte at k
+    ∙ ap (λ (o : Bytes). with_last o (byte (at + k))) low
+    ∙ ap (with_last (Some bs)) last
+
+-- where one may not be read
+lacks : (o : Option ℕ) → option_and_then (λ (b : ℕ). option_map (λ (bs : List ℕ). b ∷ bs) None) o ≡ None
+lacks None = refl
+lacks (Some b) = refl
+
+pub bytes_by-missing : (byte : ℕ → Option ℕ) (at k n : ℕ) → k < n → byte (at + k) ≡ None → bytes_by byte at n ≡ None
+bytes_by-missing byte at k zero lt none = absurd (omega arith)
+bytes_by-missing byte at zero (suc n) lt none =
+    let here : byte at ≡ None = (let e : at ≡ at + 0 = omega arith in ap byte e) ∙ none in
+    ap (option_and_then (λ (b : ℕ). option_map (λ (bs : List ℕ). b ∷ bs) (bytes_by byte (at + 1) n))) here
+bytes_by-missing byte at (suc k) (suc n) lt none =
+    let rest : bytes_by byte (at + 1) n ≡ None = bytes_by-missing byte (at + 1) k n (omega arith) ((let e : (at + 1) + k ≡ at + suc k = omega arith in ap byte e) ∙ none) in
+    ap (λ (o : Bytes). option_and_then (λ (b : ℕ). option_map (λ (bs : List ℕ). b ∷ bs) o) (byte at)) rest ∙ lacks (byte at)
+
+-- the bytes at places
+one_place : (f : Place → ℕ) (o : Option Place) (rest : Option (List Place))
+    → option_and_then (λ (b : ℕ). option_map (λ (bs : List ℕ). b ∷ bs) (option_map (map f) rest)) (option_map f o) ≡ option_map (map f) (option_and_then (λ (p : Place). option_map (λ (ps : List Place). p ∷ ps) rest) o)
+one_place f None rest = refl
+one_place f (Some p) None = refl
+one_place f (Some p) (Some ps) = refl
+
+bytes_by-places : (f : Place → ℕ) (place : ℕ → Option Place) (at n : ℕ) → bytes_by (λ a. option_map f (place a)) at n ≡ option_map (map f) (places_from place at n)
+bytes_by-places f place at zero = refl
+bytes_by-places f place at (suc n) =
+    ap (λ (o : Bytes). option_and_then (λ (b : ℕ). option_map (λ (bs : List ℕ). b ∷ bs) o) (option_map f (place at))) (bytes_by-places f place (at + 1) n)
+    ∙ one_place f (place at) (places_from place (at + 1) n)
+
+bytes_by-is : (image : Image) (f : Facts) (byte : ℕ → Option ℕ) (at n : ℕ) → ((a : ℕ) → byte a ≡ option_map f.byte (granted image f image.system.root.id Read a)) → bytes_by byte at n ≡ bytes_at image f at n
+bytes_by-is image f byte at n each =
+    ap (λ (b : ℕ → Option ℕ). bytes_by b at n) (same_function byte (λ a. option_map f.byte (granted image f image.system.root.id Read a)) each)
+    ∙ bytes_by-places f.byte (granted image f image.system.root.id Read) at n
+
+behind_is : (image : Image) (f : Facts) (byte : ℕ → Option ℕ) (at : ℕ) (header : List ℕ) (fault : Option ConfigFault) → ((n : ℕ) → bytes_by byte at n ≡ bytes_at image f at n) → behind_bytes byte at header fault ≡ read_behind image f at header fault
+behind_is image f byte at header None same = ap read_whole (same (header_size header))
+behind_is image f byte at header (Some fault) same = refl
+
+from_is : (image : Image) (f : Facts) (byte : ℕ → Option ℕ) (at : ℕ) (o : Bytes) → ((n : ℕ) → bytes_by byte at n ≡ bytes_at image f at n) → from_bytes byte at o ≡ read_from image f at o
+from_is image f byte at None same = refl
+from_is image f byte at (Some header) same = behind_is image f byte at header (header_fault header) same
+
+-- so it is what a create reads
+pub read_by-is : (image : Image) (f : Facts) (byte : ℕ → Option ℕ) (at : ℕ) → ((a : ℕ) → byte a ≡ option_map f.byte (granted image f image.system.root.id Read a)) → read_by byte at ≡ read_at image f at
+unfolding read_at
+read_by-is image f byte at each =
+    let same : (n : ℕ) → bytes_by byte at n ≡ bytes_at image f at n = λ n. bytes_by-is image f byte at n each in
+    from_is image f byte at (bytes_by byte at 132) same ∙ ap (read_from image f at) (same 132)
+
+-- ---- a byte that is reached
+
+has-end : (r : Region) (at : ℕ) → IsTrue (has_address r at) → at < virt_end r
+has-end r at has = ltb-true at (virt_end r) (and_parts (leb r.virt_start at) (ltb at (virt_end r)) has).1
+
+-- where no region gives the address, none is granted
+abbrev InRange : Region → Type 0
+InRange r = 0 < r.size → IsInRange r
+
+beyond_by : (id : ℕ) (regions : List Region) (kept : Place → Bool) (at : ℕ) (o : Option Region) → region_of regions Read at ≡ o → All InRange regions → ADDRESS_END ≤ at → granted_by id regions kept Read at ≡ None
+unfolding place_of
+beyond_by id regions kept at None e within le = ap (λ (o : Option Region). option_and_then (unless kept) (option_map (λ (r : Region). place_in_cell id r at) o)) e
+beyond_by id regions kept at (Some r) e within le =
+    let has = region_of-has regions Read at r e in
+    let held = (IsFound-from_find (gives Read at) regions r e).held in
+    let range : IsInRange r = subst InRange held.2 (within held.0 r held.1) (has-some r at has) in
+    let above = has-end r at has in
+    let end = range.virt in
+    absurd (omega arith)
+
+pub granted-beyond : (id : ℕ) (regions : List Region) (kept : Place → Bool) (at : ℕ) → All InRange regions → ADDRESS_END ≤ at → granted_by id regions kept Read at ≡ None
+granted-beyond id regions kept at within le = beyond_by id regions kept at (region_of regions Read at) refl within le
+
+spelled-one : (b : ℕ) → b + 256 * 0 ≡ b
+spelled-one b = omega arith
+
+one_read : (f : Place → ℕ) (o : Option Place) → read_of f (memory_or_nothing (option_and_then (λ (p : Place). option_map (λ (ps : List Place). p ∷ ps) (Some [])) o)) ≡ option_map f o
+one_read f None = refl
+one_read f (Some p) = ap Some (spelled-one (f p))
+
+-- what an access of one byte reads
+pub read-one : (f : Place → ℕ) (place : ℕ → Option Place) (at : ℕ) → ((a : ℕ) → ADDRESS_END ≤ a → place a ≡ None) → read_of f (reach_by place at 1) ≡ option_map f (place at)
+read-one f place at beyond = elim (cases_lt at ADDRESS_END) [
+  | inl lt ↦ ap (read_of f) (reach_by-within place at 1 (omega arith)) ∙ one_read f (place at)
+  | inr le ↦ ap (read_of f) (reach_by-beyond place at 1 (omega arith)) ∙ sym (ap (option_map f) (beyond at le))
+]
+
+-- how many they are
+length_by : (o : Option ℕ) (rest : Bytes) (n : ℕ) → ((xs : List ℕ) → rest ≡ Some xs → length xs ≡ n) → (bs : List ℕ) → option_and_then (λ (b : ℕ). option_map (λ (xs : List ℕ). b ∷ xs) rest) o ≡ Some bs → length bs ≡ suc n
+length_by None rest n h bs e = absurd (none-some bs e)
+length_by (Some b) None n h bs e = absurd (none-some bs e)
+length_by (Some b) (Some xs) n h bs e = ap (λ (ys : List ℕ). length ys) (sym (same_Some (b ∷ xs) bs e)) ∙ ap (λ m. suc m) (h xs refl)
+
+pub bytes_by-length : (byte : ℕ → Option ℕ) (at n : ℕ) (bs : List ℕ) → bytes_by byte at n ≡ Some bs → length bs ≡ n
+bytes_by-length byte at zero bs e = ap (λ (ys : List ℕ). length ys) (sym (same_Some [] bs e))
+bytes_by-length byte at (suc n) bs e = length_by (byte at) (bytes_by byte (at + 1) n) n (λ xs h. bytes_by-length byte (at + 1) n xs h) bs e
+
+abbrev places_reached : Reach → List Place
+places_reached (Memory ps) = ps
+places_reached Nothing = []
+
+abbrev reaches : Reach → Bool
+reaches (Memory ps) = true
+reaches Nothing = false
+
+nothing-memory : (ps : List Place) → Nothing ≡ Memory ps → ⊥
+nothing-memory ps e = both_ways true (ap reaches (sym e)) refl
+
+same_memory : (ps qs : List Place) → Memory ps ≡ Memory qs → ps ≡ qs
+same_memory ps qs e = ap places_reached e
+
+-- an access of one byte reaches one place
+one_long : (o : Option Place) (ps : List Place) → memory_or_nothing (option_and_then (λ (p : Place). option_map (λ (qs : List Place). p ∷ qs) (Some [])) o) ≡ Memory ps → length ps ≡ 1
+one_long None ps e = absurd (nothing-memory ps e)
+one_long (Some p) ps e = ap (λ (qs : List Place). length qs) (sym (same_memory (p ∷ []) ps e))
+
+pub one-place : (place : ℕ → Option Place) (at : ℕ) (ps : List Place) → reach_by place at 1 ≡ Memory ps → length ps ≡ 1
+one-place place at ps e = elim (cases_lt at ADDRESS_END) [
+  | inl lt ↦ one_long (place at) ps (sym (reach_by-within place at 1 (omega arith)) ∙ e)
+  | inr le ↦ absurd (nothing-memory ps (sym (reach_by-beyond place at 1 (omega arith)) ∙ e))
+]
+
+-- nothing is read past the addresses
+pub read-beyond : (f : Place → ℕ) (place : ℕ → Option Place) (at : ℕ) → ADDRESS_END ≤ at → read_of f (reach_by place at 1) ≡ None
+read-beyond f place at le = ap (read_of f) (reach_by-beyond place at 1 (omega arith))

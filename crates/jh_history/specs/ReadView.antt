@@ -1,0 +1,49 @@
+-- How a configuration is read from bytes, where these may be read.
+use Rattle.std.specs.Prelude.{ℕ, ℤ, zero, suc, ◌+◌, Bool, ◌==◌, ◌&&◌, not, if◌then◌else◌, List, [], ◌∷◌, ◌++◌, Option, Some, None, option_map, option_and_then}
+use Rattle.jh_num.specs.declared.error.TheConstants.{EINVAL}
+use Rattle.jh_cellcfg.specs.declared.config.CellConfig.{CellConfig}
+use Rattle.jh_cellcfg.specs.declared.fault.ConfigFault.{ConfigFault}
+use Rattle.jh_cellcfg.specs.Faults.{header_fault, header_size}
+use Rattle.jh_check.specs.Refusals.{refusal_of}
+use Rattle.jh_shape.specs.Pages.{pages_of}
+use Rattle.jh_cpu.specs.declared.cpu.Cpu.{Cpu}
+use Rattle.jh_script.specs.declared.image.Image.{Image}
+use Rattle.jh_history.specs.Admitted.{pool_pages}
+use Rattle.jh_history.specs.Lives.{is_on_board}
+use Rattle.jh_history.specs.Phases.{is_built_cell, or_unbuilt}
+use Rattle.jh_history.specs.declared.call.Creation.{Creation}
+use Rattle.jh_history.specs.declared.call.Creation.TheVariants.{Refused, Comes}
+use Rattle.jh_history.specs.Configs.{ReadCell, Reads, Refuses, refused_for, read_whole}
+
+-- so many bytes from the address on, where each may be read
+abbrev pub bytes_by : (ℕ → Option ℕ) → ℕ → ℕ → Option (List ℕ)
+bytes_by byte at zero = Some []
+bytes_by byte at (suc count) = option_and_then (λ (b : ℕ). option_map (λ (bs : List ℕ). b ∷ bs) (bytes_by byte (at + 1) count)) (byte at)
+
+abbrev pub read_behind : (ℕ → Option ℕ) → ℕ → List ℕ → Option ConfigFault → ReadCell
+read_behind byte at header None = read_whole (bytes_by byte at (header_size header))
+read_behind byte at header (Some fault) = Refuses (refused_for fault)
+
+abbrev pub read_from : (ℕ → Option ℕ) → ℕ → Option (List ℕ) → ReadCell
+read_from byte at None = Refuses EINVAL
+read_from byte at (Some header) = read_behind byte at header (header_fault header)
+
+-- first the header, and then the whole
+abbrev pub read_by : (ℕ → Option ℕ) → ℕ → ReadCell
+read_by byte at = read_from byte at (bytes_by byte at 132)
+
+-- a configuration that was read, or the number for want of one
+abbrev pub as_read : Creation → ReadCell
+as_read (Refused number) = Refuses number
+as_read (Comes config) = Reads config
+
+-- the caller may give the CPU away, which is in this state
+abbrev pub gives_by : Image → ℕ → ℕ → Cpu → Bool
+gives_by image caller cpu state = is_on_board image cpu && not (cpu == caller) && (state.owner == image.system.root.id)
+
+-- what a configuration is refused for beside these, where such CPUs may be given away
+abbrev pub refusal_by : Image → List CellConfig → (ℕ → Bool) → CellConfig → Option ℤ
+refusal_by image configs may config =
+    if is_built_cell config
+    then refusal_of image.system configs config may (pages_of image.system.root.memory_regions (configs ++ config ∷ [])) (pool_pages image.system)
+    else or_unbuilt (refusal_of image.system configs config may 0 (pool_pages image.system))

@@ -1,0 +1,68 @@
+//! Which cells may not be reconfigured.
+ghost use Rattle.std.specs.Prelude.{◌≡◌, List};
+ghost use Rattle.std.specs.List.{list_any};
+ghost use Rattle.jh_cellcfg.specs.declared.live.Live.{Live as TheLive};
+ghost use Rattle.jh_history.specs.LiveView.{word_by, is_locked_by, is_other_locked_by};
+ghost use Rattle.jh_history.specs.Phases.{configs_of};
+ghost use Rattle.jh_history.specs.Places.{places_of_run};
+
+use crate::bytes::{Bytes, value_of};
+use crate::place::{Place, Places, Run};
+use jh_cellcfg::CellConfig;
+use jh_comm::STATE_RUNNING_LOCKED;
+
+/// Where the state stands in a communication page.
+const STATE_AT: u64 = 8;
+
+/// The state of the cell.
+fn state_word<B: Bytes>(bytes: &B, cell: u32) -> u32
+    ensures { result ≡ word_by (B.byte_of bytes.now) cell }
+{
+    let run = Run {
+        first: Place::Page {
+            cell,
+            offset: STATE_AT,
+        },
+        count: 4,
+    };
+    let none = Run { count: 0, ..run };
+    value_of(bytes, &Places::new(run, none)) as u32
+}
+
+/// Whether the cell is locked, by these bytes: its state is that of one that runs and may not be reconfigured.
+pub fn is_locked<B: Bytes>(bytes: &B, cell: &CellConfig) -> bool
+    ensures { result ≡ is_locked_by (B.byte_of bytes.now) cell.now }
+{
+    state_word(bytes, cell.id) == STATE_RUNNING_LOCKED
+}
+
+/// Whether one of the cells is locked, by these bytes.
+pub fn is_any_locked<B: Bytes>(bytes: &B, cells: &[CellConfig]) -> bool
+    ensures { (lives : List TheLive) → configs_of lives ≡ cells.now → result ≡ list_any (λ (live : TheLive). is_locked_by (B.byte_of bytes.now) live.config) lives }
+{
+    for cell in cells {
+        if is_locked(bytes, cell) {
+            return true;
+        }
+    }
+    false
+}
+
+/// Whether the cell is another than the one with the id, and locked.
+fn is_other_locked<B: Bytes>(bytes: &B, cell: &CellConfig, id: u64) -> bool
+    ensures { result ≡ is_other_locked_by (B.byte_of bytes.now) id cell.now }
+{
+    u64::from(cell.id) != id && is_locked(bytes, cell)
+}
+
+/// Whether one of the cells but the one with the id is locked, by these bytes.
+pub fn is_any_other_locked<B: Bytes>(bytes: &B, cells: &[CellConfig], id: u64) -> bool
+    ensures { (lives : List TheLive) → configs_of lives ≡ cells.now → result ≡ list_any (λ (live : TheLive). is_other_locked_by (B.byte_of bytes.now) id live.config) lives }
+{
+    for cell in cells {
+        if is_other_locked(bytes, cell, id) {
+            return true;
+        }
+    }
+    false
+}

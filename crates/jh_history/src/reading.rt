@@ -1,0 +1,134 @@
+//! How a create reads a configuration: the bytes that root may read at an address.
+ghost use Rattle.std.specs.Prelude.{◌≡◌, ◌≤◌, ℕ, None, IfOk, length};
+ghost use Rattle.jh_num.specs.declared.address.TheConstants.{ADDRESS_END};
+ghost use Rattle.jh_cellcfg.specs.Faults.{header_fault, header_size};
+ghost use Rattle.jh_cellcfg.specs.Reading.{config_of};
+ghost use Rattle.jh_history.specs.Configs.{Reads, refused_for as refused_for_lem, read_whole as read_whole_lem};
+ghost use Rattle.jh_history.specs.ReadView.{bytes_by, read_behind as read_behind_lem, read_by, as_read};
+
+use crate::call::Creation;
+use jh_cellcfg::{ConfigFault, Which, cell_size, read_cell};
+use jh_num::error::{E2BIG, EINVAL};
+use jh_num::{ADDRESS_END, NoMemory, Seq};
+use std::alloc::Global;
+
+/// How many bytes a configuration's header has.
+const HEADER: u32 = 132;
+
+/// Tells what root may read.
+pub trait RootBytes {
+    ghost use Rattle.std.specs.Prelude.{ℕ, ◌≤◌, Option, None};
+    ghost use Rattle.jh_num.specs.declared.address.TheConstants.{ADDRESS_END};
+
+    /// The byte that root reads at the address, where it may.
+    ghost readable: { Self → ℕ → Option ℕ };
+
+    fn read(&self, at: u64) -> Option<u8>
+        ensures { result ≡ readable self.now at };
+
+    /// Nothing is readable from the end of addresses on. It does nothing; its contract is what holds.
+    fn ends(&self)
+        ensures { (at : ℕ) → ADDRESS_END ≤ at → readable self.now at ≡ None };
+}
+
+/// So many bytes at the address, where root may read all of them.
+fn bytes_at<R: RootBytes>(
+    alloc: Global,
+    root: &R,
+    at: u64,
+    count: u32,
+) -> Result<Option<Seq<u8>>, NoMemory>
+    requires { 1 ≤ count }
+    ensures { IfOk result (λ bytes. bytes ≡ bytes_by (R.readable root.now) at count) }
+{
+    root.ends();
+    if at >= ADDRESS_END {
+        return Ok(None);
+    }
+    let mut bytes = Vec::new(alloc);
+    for k in 0..count {
+        match root.read(at + u64::from(k)) {
+            Some(byte) => bytes.push(byte)?,
+            None => return Ok(None),
+        }
+    }
+    Ok(Some(Seq::from_vec(bytes)))
+}
+
+/// What a create is refused for where the header has the fault.
+fn refused_for(fault: &ConfigFault) -> i64
+    ensures { result ≡ refused_for_lem fault.now }
+{
+    match fault {
+        ConfigFault::Count {
+            which: Which::Total,
+            ..
+        } => E2BIG,
+        _ => EINVAL,
+    }
+}
+
+/// The configuration that the bytes tell. Their header has no fault and tells their number, so that reading
+/// them wants memory at most.
+fn told(alloc: Global, bytes: &[u8]) -> Result<Creation, NoMemory>
+    ensures { IfOk result (λ read. as_read read ≡ Reads (config_of bytes.now)) }
+{
+    match read_cell(alloc, bytes) {
+        Ok(config) => Ok(Creation::Comes { config }),
+        Err(_) => Err(NoMemory),
+    }
+}
+
+/// The configuration of so many bytes at the address.
+fn read_whole<R: RootBytes>(
+    alloc: Global,
+    root: &R,
+    at: u64,
+    size: u32,
+) -> Result<Creation, NoMemory>
+    requires { 1 ≤ size }
+    ensures { IfOk result (λ read. as_read read ≡ read_whole_lem (bytes_by (R.readable root.now) at size)) }
+{
+    match bytes_at(alloc, root, at, size)? {
+        Some(bytes) => told(alloc, bytes.as_slice()),
+        None => Ok(Creation::Refused { number: EINVAL }),
+    }
+}
+
+/// The configuration at the address that begins with this header.
+fn read_behind<R: RootBytes>(
+    alloc: Global,
+    root: &R,
+    at: u64,
+    header: &[u8; 132],
+) -> Result<Creation, NoMemory>
+    ensures { IfOk result (λ read. as_read read ≡ read_behind_lem (R.readable root.now) at header.now (header_fault header.now)) }
+{
+    match cell_size(header) {
+        Ok(size) => read_whole(alloc, root, at, size),
+        Err(fault) => Ok(Creation::Refused {
+            number: refused_for(&fault),
+        }),
+    }
+}
+
+/// The 132 bytes as an array.
+fn header_of(bytes: &[u8]) -> [u8; 132]
+    requires { length bytes.now ≡ 132 }
+    ensures { result ≡ bytes.now }
+{
+    let mut header = [0u8; 132];
+    header.copy_from_slice(bytes);
+    header
+}
+
+/// The configuration at the address, or the number that a create is refused with for want of one. First the
+/// header is read, and then the whole, as long as the header says.
+pub fn read_config<R: RootBytes>(alloc: Global, root: &R, at: u64) -> Result<Creation, NoMemory>
+    ensures { IfOk result (λ read. as_read read ≡ read_by (R.readable root.now) at) }
+{
+    match bytes_at(alloc, root, at, HEADER)? {
+        Some(header) => read_behind(alloc, root, at, &header_of(header.as_slice())),
+        None => Ok(Creation::Refused { number: EINVAL }),
+    }
+}
