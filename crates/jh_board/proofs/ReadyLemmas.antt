@@ -206,9 +206,9 @@ pub ready-create : (held : Held) (image : Image) (f : Facts) (entry : Entry) (o 
     → IsReadyFor held config → IsReady held (call_after image f entry)
 ready-create held image f entry o at config is create coming act ready =
     let e : call_after image f entry ≡ call_by f.cells (Some config) (Some o) entry (Decide None) =
-        ap (λ (c : Option CellConfig). call_by f.cells c f.call entry entry.act) coming
-        ∙ ap (λ (k : Option OpenCall). call_by f.cells (Some config) k entry entry.act) is
-        ∙ ap (λ (a : Act). call_by f.cells (Some config) (Some o) entry a) act in
+    ap (λ (c : Option CellConfig). call_by f.cells c f.call entry entry.act) coming
+    ∙ ap (λ (k : Option OpenCall). call_by f.cells (Some config) k entry entry.act) is
+    ∙ ap (λ (a : Act). call_by f.cells (Some config) (Some o) entry a) act in
     let P : Option OpenCall → Type 0 = IsReady held in
     let Q : Call → Type 0 = λ call. IsReadyIn held (decided call (Some config) None) in
     subst P (sym e) (subst Q (sym create) ready)

@@ -13,7 +13,9 @@ ghost use Rattle.jh_board.specs.Closed.{is_closed_by, live_regions, AreInRange, 
 
 use crate::closed::{close_again, close_regions};
 use jh_cellcfg::{CellConfig, Region, SystemConfig};
-use jh_life::{Cells, a_place_is_dropped_by_its_id, a_place_is_marked_by_its_id, live_cells_differ};
+use jh_life::{
+    Cells, a_place_is_dropped_by_its_id, a_place_is_marked_by_its_id, live_cells_differ,
+};
 use jh_mmio::RegionIndex;
 use jh_num::{ByteSet, NoMemory, Range};
 use std::alloc::Global;

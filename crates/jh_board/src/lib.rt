@@ -18,4 +18,3 @@ mod turn;
 
 pub use board::Board;
 pub use turn::{Turn, TurnFault};
-

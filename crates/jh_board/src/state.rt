@@ -114,13 +114,7 @@ impl<'a> Known for State<'a> {
         if cells.len() > 14 {
             return Err(NoMemory);
         }
-        Ok(judged(
-            self.image.image(),
-            cells,
-            &self.held.cpus,
-            caller,
-            read,
-        ))
+        Ok(judged(self.image.image(), cells, &self.held.cpus, caller, read))
     }
 
     fn call(&self) -> Option<&OpenCall> {
@@ -160,11 +154,7 @@ pub struct NextStep {
 }
 
 /// What the CPU does next. Only what a create reads takes memory.
-pub fn next_step(
-    image: &IndexedImage,
-    held: &Held,
-    cpu: u8,
-) -> Result<Option<NextStep>, NoMemory>
+pub fn next_step(image: &IndexedImage, held: &Held, cpu: u8) -> Result<Option<NextStep>, NoMemory>
     requires { cpu < 16 }
     ensures due { (f : Facts) → Means image.now held.now f → IfOk result (λ step. option_map (λ (s : TheStep). s.entry) step ≡ due_at image.now f cpu) }
     ensures reached { (f : Facts) → Means image.now held.now f → IfOk result (λ step. IfSome step (λ s. IsReachOfEntry image.now f s.entry s.reach)) }

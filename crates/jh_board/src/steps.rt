@@ -263,12 +263,7 @@ pub fn make(
     few_cells_live();
     let coming = prepare(image, held, entry)?;
     make_bytes(&mut held.memory, &entry.act, reach)?;
-    cpus_after(
-        &mut held.cpus,
-        image.image(),
-        held.call.as_ref(),
-        entry,
-    );
+    cpus_after(&mut held.cpus, image.image(), held.call.as_ref(), entry);
     let write = page_write(
         image.image(),
         held.cells.list(),

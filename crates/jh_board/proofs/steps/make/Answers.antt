@@ -35,10 +35,10 @@ make_page-requires c =
     let held = c.prepare.new.held in
     let means = c.prepare.ensures.means f c.requires.next.means in
     let cpus : (i : ℕ) → i < 16 → slice_get c.cpus_after.new.cpus i ≡ Some (cpu_after image f entry i) =
-        λ i lt. c.cpus_after.ensures f (sym (c.as_ref.ensures.value ∙ means.call)) means.cpus i lt ∙ ap (λ (im : Image). Some (cpu_after im f entry i)) c.image.ensures.image in
+    λ i lt. c.cpus_after.ensures f (sym (c.as_ref.ensures.value ∙ means.call)) means.cpus i lt ∙ ap (λ (im : Image). Some (cpu_after im f entry i)) c.image.ensures.image in
     let write : c.page_write-write.result ≡ page_write_by image f entry entry.act =
-        c.page_write-write.ensures f (sym (c.list.ensures ∙ ap configs_of means.cells)) (sym (c.as_ref-2.ensures.value ∙ means.call)) (λ i lt. cpus i lt ∙ ap (λ (im : Image). Some (cpu_after im f entry i)) (sym c.image-2.ensures.image))
-        ∙ ap (λ (im : Image). page_write_by im f entry entry.act) c.image-2.ensures.image in
+    c.page_write-write.ensures f (sym (c.list.ensures ∙ ap configs_of means.cells)) (sym (c.as_ref-2.ensures.value ∙ means.call)) (λ i lt. cpus i lt ∙ ap (λ (im : Image). Some (cpu_after im f entry i)) (sym c.image-2.ensures.image))
+    ∙ ap (λ (im : Image). page_write_by im f entry entry.act) c.image-2.ensures.image in
     if-some c.page_write-write.result (λ (w : PageWrite). HoldsComm c.make_bytes.new.memory.comms w.cell) (λ w is.
     c.make_bytes.ensures.held w.cell (page-held image held f entry.act w.cell means
     (c.pages_written_are_of_cells.ensures image f entry w c.requires.next.sound c.requires.next.due (sym write ∙ is))))
@@ -65,12 +65,12 @@ returns-clause-ok c = λ f old due.
     let means = c.prepare.ensures.means f old in
     let mid : Held = record { memory = c.make_page.new.memory; cpus = c.cpus_after.new.cpus; cells = held.cells; call = held.call; index = held.index; alloc = held.alloc } in
     let cpus : (i : ℕ) → i < 16 → slice_get c.cpus_after.new.cpus i ≡ Some (cpu_after image f entry i) =
-        λ i lt. c.cpus_after.ensures f (sym (c.as_ref.ensures.value ∙ means.call)) means.cpus i lt ∙ ap (λ (im : Image). Some (cpu_after im f entry i)) c.image.ensures.image in
+    λ i lt. c.cpus_after.ensures f (sym (c.as_ref.ensures.value ∙ means.call)) means.cpus i lt ∙ ap (λ (im : Image). Some (cpu_after im f entry i)) c.image.ensures.image in
     let write : c.page_write-write.result ≡ page_write_by image f entry entry.act =
-        c.page_write-write.ensures f (sym (c.list.ensures ∙ ap configs_of means.cells)) (sym (c.as_ref-2.ensures.value ∙ means.call)) (λ i lt. cpus i lt ∙ ap (λ (im : Image). Some (cpu_after im f entry i)) (sym c.image-2.ensures.image))
-        ∙ ap (λ (im : Image). page_write_by im f entry entry.act) c.image-2.ensures.image in
+    c.page_write-write.ensures f (sym (c.list.ensures ∙ ap configs_of means.cells)) (sym (c.as_ref-2.ensures.value ∙ means.call)) (λ i lt. cpus i lt ∙ ap (λ (im : Image). Some (cpu_after im f entry i)) (sym c.image-2.ensures.image))
+    ∙ ap (λ (im : Image). page_write_by im f entry entry.act) c.image-2.ensures.image in
     let bytes : byte_of c.make_bytes.new.memory ≡ byte_written image f entry.cell entry.act =
-        same_function (byte_of c.make_bytes.new.memory) (byte_written image f entry.cell entry.act) (c.in_ok-make_bytes.ensures.ok image f entry.cell means.bytes (c.requires.reached f old)) in
+    same_function (byte_of c.make_bytes.new.memory) (byte_written image f entry.cell entry.act) (c.in_ok-make_bytes.ensures.ok image f entry.cell means.bytes (c.requires.reached f old)) in
     Means-made image held mid c.make_call.new.held f entry c.in_ok-coming.coming (c.in_ok-coming.ensures.ok f old due) (record {
       bytes = λ q. c.make_page.ensures.bytes q
           ∙ ap (λ (w : Option PageWrite). with_page_write w (byte_of c.make_bytes.new.memory) q) write

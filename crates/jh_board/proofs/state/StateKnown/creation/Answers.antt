@@ -27,8 +27,8 @@ returns-then-is_any_locked c = λ i f h.
     let lives : held.cells.lives ≡ f.cells = ap (λ (s : StateView). s.held.cells.lives) c.self.view_is ∙ h.1.cells in
     let byte : byte_of held.memory ≡ f.byte = ap (λ (s : StateView). byte_of s.held.memory) c.self.view_is ∙ same_function (byte_of c.args.self.now.held.memory) f.byte h.1.bytes in
     let locked : list_any (is_locked f) f.cells ≡ true =
-        ap (λ (b : Place → ℕ). list_any (λ (live : Live). is_locked_by b live.config) f.cells) (sym byte)
-        ∙ sym (c.is_any_locked.ensures f.cells (sym (c.list-cells.ensures ∙ ap configs_of lives))) ∙ c.if-is_any_locked.true in
+    ap (λ (b : Place → ℕ). list_any (λ (live : Live). is_locked_by b live.config) f.cells) (sym byte)
+    ∙ sym (c.is_any_locked.ensures f.cells (sym (c.list-cells.ensures ∙ ap configs_of lives))) ∙ c.if-is_any_locked.true in
     rw locked refl
 
 pub returns : goal.returns
@@ -40,7 +40,7 @@ returns c = λ i f h.
     let byte : byte_of held.memory ≡ f.byte = ap (λ (s : StateView). byte_of s.held.memory) c.self.view_is ∙ same_function (byte_of s.held.memory) f.byte h.1.bytes in
     let cells : configs_of f.cells ≡ c.list-cells.result.now = sym (c.list-cells.ensures ∙ ap configs_of lives) in
     let locked : list_any (is_locked f) f.cells ≡ false =
-        ap (λ (b : Place → ℕ). list_any (λ (live : Live). is_locked_by b live.config) f.cells) (sym byte) ∙ sym (c.is_any_locked.ensures f.cells cells) ∙ c.if-is_any_locked.false in
+    ap (λ (b : Place → ℕ). list_any (λ (live : Live). is_locked_by b live.config) f.cells) (sym byte) ∙ sym (c.is_any_locked.ensures f.cells cells) ∙ c.if-is_any_locked.false in
     let image : c.self.inside.image.now ≡ i = ap (λ (s : StateView). s.image) c.self.view_is ∙ sym h.0 in
     let admitted : IsAdmitted s.image = subst (λ (s : StateView). IsAdmitted s.image) c.self.view_is c.image.ensures.admitted in
     let Q : Image → Type 0 = λ x. (a : ℕ) → read_held s.image s.held a ≡ option_map f.byte (granted x f x.system.root.id Read a) in

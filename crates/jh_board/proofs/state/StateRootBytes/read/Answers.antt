@@ -14,7 +14,7 @@ returns-in-Nothing c =
     let image = c.self.inside.image.now in
     let held = c.self.inside.held.now in
     let found : Nothing ≡ reach_by (granted_in image held.cells.lives image.system.root.id Read) c.args.at 1 =
-        sym c.in-Nothing.is ∙ c.reach.ensures ∙ ap (λ (root : ℕ). reach_by (granted_in image held.cells.lives root Read) c.args.at 1) c.root.ensures in
+    sym c.in-Nothing.is ∙ c.reach.ensures ∙ ap (λ (root : ℕ). reach_by (granted_in image held.cells.lives root Read) c.args.at 1) c.root.ensures in
     rw (← c.self.view_is) (ap (read_of (byte_of held.memory)) found)
 
 pub returns-in-Memory : goal.returns-in-Memory
@@ -22,7 +22,7 @@ returns-in-Memory c =
     let image = c.self.inside.image.now in
     let held = c.self.inside.held.now in
     let found : Memory c.in-Memory.places ≡ reach_by (granted_in image held.cells.lives image.system.root.id Read) c.args.at 1 =
-        sym c.in-Memory.is ∙ c.reach.ensures ∙ ap (λ (root : ℕ). reach_by (granted_in image held.cells.lives root Read) c.args.at 1) c.root.ensures in
+    sym c.in-Memory.is ∙ c.reach.ensures ∙ ap (λ (root : ℕ). reach_by (granted_in image held.cells.lives root Read) c.args.at 1) c.root.ensures in
     rw (← c.self.view_is) (ap Some c.value.ensures.value ∙ ap (read_of (byte_of held.memory)) found)
 
 pub overflow_cast-result : goal.overflow_cast-result
