@@ -1,16 +1,12 @@
 -- What an entry writes is held, the cell that it makes may live, and what is held after it stands for the facts after it.
-use Rattle.std.proofs.Common.{◌≡◌, ℕ, ◌<◌, List, [], ◌∷◌, ◌++◌, Bool, true, false, cond, Option, Some, None, refl, sym, ◌∙◌, ap, subst, length, map, inl, inr}
-use Rattle.std.specs.Prelude.{slice_get, All, Contains, IfSome, filter, ◌⊎◌}
-use Rattle.std.specs.Option.{option_map_or}
+use Rattle.std.proofs.Common.{◌≡◌, ℕ, ◌<◌, List, [], ◌∷◌, Bool, true, false, cond, Option, Some, None, refl, sym, ◌∙◌, ap, subst, length, map, inl, inr}
+use Rattle.std.specs.Prelude.{slice_get, All, IfSome, filter}
 use Rattle.std.specs.List.{AllByRecursion}
 use Rattle.std.proofs.lemmas.Option.{none-some, same_Some}
 use Rattle.std.proofs.lemmas.List.Elements.{All-weaker, All-contains, All-map, All-push, All-from_recursion, recursion_from_All}
 use Rattle.jh_cellcfg.specs.declared.config.CellConfig.{CellConfig}
 use Rattle.jh_cellcfg.specs.declared.live.Live.{Live}
-use Rattle.jh_cellcfg.specs.declared.region.Region.{Region}
 use Rattle.jh_cellcfg.specs.Lives.{has_id}
-use Rattle.jh_check.specs.Refusals.{is_known}
-use Rattle.jh_cpu.specs.declared.cpu.Cpu.{Cpu}
 use Rattle.jh_call.specs.declared.call.Call.{Call}
 use Rattle.jh_call.specs.declared.call.Call.TheVariants.{Create, Start, Loadable, Destroy, Info, State, CpuInfo, Unknown}
 use Rattle.jh_script.specs.declared.image.Image.{Image}
@@ -28,10 +24,9 @@ use Rattle.jh_history.specs.Facts.{Facts}
 use Rattle.jh_history.specs.Bytes.{byte_after}
 use Rattle.jh_history.specs.Cpus.{cpu_after}
 use Rattle.jh_history.specs.History.{after, call_after}
-use Rattle.jh_history.specs.Phases.{configs_of}
 use Rattle.jh_history.specs.Calls.{call_by}
 use Rattle.jh_history.specs.Commits.{marked, is_other, committed_cells, cells_by, created, created_at, created_by}
-use Rattle.jh_history.specs.DueFacts.{NamesCpu, MayLive, IsLive, IsCreated, HasPage, IsOfCells, ReachesCells, WritesCells}
+use Rattle.jh_history.specs.DueFacts.{NamesCpu, MayLive, IsLive, HasPage, IsOfCells, ReachesCells, WritesCells}
 use Rattle.jh_board.specs.declared.held.Held.{Held}
 use Rattle.jh_board.specs.Pages.{byte_of, HoldsComm, MayHold, MemoryView}
 use Rattle.jh_board.specs.Means.{Means, HoldsPageOf, IsReady, IsReadyIn, IsReadyFor}

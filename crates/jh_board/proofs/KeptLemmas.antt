@@ -1,10 +1,9 @@
 -- What a board holds still stands for the facts where nothing of it changes but its memory, which keeps its pages.
-use Rattle.std.proofs.Common.{◌≡◌, ℕ, ◌<◌, List, Option, Some, None, refl, sym, ◌∙◌, ap, subst, length}
+use Rattle.std.proofs.Common.{◌≡◌, ℕ, List, Option, Some, None, ◌∙◌, ap}
 use Rattle.std.specs.Prelude.{slice_get, All}
 use Rattle.std.proofs.lemmas.List.Elements.{All-weaker}
 use Rattle.jh_cellcfg.specs.declared.config.CellConfig.{CellConfig}
 use Rattle.jh_cellcfg.specs.declared.live.Live.{Live}
-use Rattle.jh_cellcfg.specs.declared.region.Region.{Region}
 use Rattle.jh_cpu.specs.declared.cpu.Cpu.{Cpu}
 use Rattle.jh_script.specs.declared.image.Image.{Image}
 use Rattle.jh_history.specs.declared.call.OpenCall.{OpenCall}
@@ -13,7 +12,6 @@ use Rattle.jh_history.specs.declared.call.Phase.TheVariants.{ToDecide, ToSettle,
 use Rattle.jh_history.specs.declared.place.Place.{Place}
 use Rattle.jh_history.specs.Facts.{Facts}
 use Rattle.jh_board.specs.declared.held.Held.{Held}
-use Rattle.jh_board.specs.LiveView.{LiveView}
 use Rattle.jh_board.specs.Pages.{byte_of, HoldsComm, MemoryView}
 use Rattle.jh_board.specs.Means.{Means, HoldsPageOf, IsReadyFor, IsReadyIn, IsReady}
 

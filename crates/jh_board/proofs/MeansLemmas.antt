@@ -1,6 +1,6 @@
 -- What a board holds, by the facts.
-use Rattle.std.proofs.Common.{◌≡◌, ℕ, ◌<◌, List, [], Some, None, true, false, refl, sym, ◌∙◌, ap, length}
-use Rattle.std.specs.Prelude.{slice_get, replicate, fold, All}
+use Rattle.std.proofs.Common.{◌≡◌, ℕ, ◌<◌, List, [], Some, None, true, false, refl, ◌∙◌, ap}
+use Rattle.std.specs.Prelude.{slice_get, replicate, fold}
 use Rattle.std.proofs.lemmas.Bool.{both_ways}
 use Rattle.std.proofs.lemmas.Option.{slice_get-get_or}
 use Rattle.std.proofs.lemmas.List.{length-replicate, get_or-replicate}

@@ -1,5 +1,5 @@
 -- What root reads of what a board holds.
-use Rattle.std.proofs.Common.{◌≡◌, ℕ, ◌<◌, ◌≤◌, List, Option, true, eqb, refl, ap, sym, ◌∙◌}
+use Rattle.std.proofs.Common.{◌≡◌, ℕ, ◌<◌, List, Option, true, eqb, refl, ap, ◌∙◌}
 use Rattle.std.specs.Prelude.{option_map, All}
 use Rattle.std.proofs.lemmas.Bool.{eq-eqb}
 use Rattle.jh_cellcfg.specs.declared.live.Live.{Live}

@@ -1,12 +1,11 @@
 -- What an entry does to what a board holds, and what must hold before it is made.
-use Rattle.std.specs.Prelude.{◌≡◌, ℕ, ◌<◌, ◌≤◌, Bool, true, false, length, List, [], ◌∷◌, ◌++◌, map, filter, All, AllPairs, Option, Some, None, IfSome}
+use Rattle.std.specs.Prelude.{◌≡◌, ℕ, ◌<◌, ◌≤◌, Bool, true, false, length, List, [], ◌∷◌, ◌++◌, map, filter, All, Option, Some, None, IfSome}
 use Rattle.std.specs.Option.{option_map_or}
 use Rattle.jh_cellcfg.specs.declared.config.CellConfig.{CellConfig}
 use Rattle.jh_cellcfg.specs.declared.live.Live.{Live}
 use Rattle.jh_cellcfg.specs.declared.region.Region.{Region}
 use Rattle.jh_check.specs.Clean.{IsSoundBitmap}
 use Rattle.jh_check.specs.Refusals.{is_known}
-use Rattle.jh_mmio.specs.Index.{SharesNoAddress}
 use Rattle.jh_call.specs.declared.call.Call.{Call}
 use Rattle.jh_call.specs.declared.call.Call.TheVariants.{Create, Start, Loadable, Destroy}
 use Rattle.jh_script.specs.declared.image.Image.{Image}

@@ -1,6 +1,5 @@
 -- What is held at opening stands for no entry.
 use Rattle.std.proofs.Common.{refl}
-use Rattle.jh_board.specs.declared.held.Held.{Held}
 use Rattle.jh_board.proofs.MeansLemmas.{Means-opened}
 use Rattle.jh_board.proofs.board.open_held.Goals as goal
 

@@ -1,5 +1,5 @@
 -- What is lent knows the facts.
-use Rattle.std.proofs.Common.{◌∙◌, sym, refl, subst, Option, Some, None}
+use Rattle.std.proofs.Common.{◌∙◌, sym, refl, subst, Option}
 use Rattle.std.specs.Prelude.{IfSome}
 use Rattle.jh_history.specs.declared.entry.Entry.{Entry}
 use Rattle.jh_history.specs.Wants.{IsReachOfEntry}

@@ -4,11 +4,9 @@ use Rattle.jh_cellcfg.specs.declared.config.CellConfig.{CellConfig}
 use Rattle.jh_call.specs.declared.call.Call.TheVariants.{Create}
 use Rattle.jh_history.specs.declared.call.OpenCall.{OpenCall}
 use Rattle.jh_history.specs.declared.entry.Act.TheVariants.{Decide}
-use Rattle.jh_history.specs.declared.call.Creation.TheVariants.{Comes, Refused}
-use Rattle.jh_history.specs.Facts.{Facts}
+use Rattle.jh_history.specs.declared.call.Creation.TheVariants.{Comes}
 use Rattle.jh_history.specs.Calls.{call_by}
 use Rattle.jh_history.specs.Phases.{creation_of}
-use Rattle.jh_board.specs.Means.{Means}
 use Rattle.jh_board.proofs.ReadyLemmas.{going-decides, create-at, coming-is, ready-create, ready-early, not-refused}
 use Rattle.jh_board.proofs.steps.coming_of.Goals as goal
 

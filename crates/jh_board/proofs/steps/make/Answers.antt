@@ -1,7 +1,6 @@
 -- What is held after the entry.
 use Rattle.std.proofs.Common.{◌≡◌, ◌∙◌, ℕ, ◌<◌, Option, Some, sym, ap, refl}
 use Rattle.std.specs.Prelude.{slice_get}
-use Rattle.jh_cellcfg.specs.declared.live.Live.{Live}
 use Rattle.jh_script.specs.declared.image.Image.{Image}
 use Rattle.jh_history.specs.declared.comm.PageWrite.{PageWrite}
 use Rattle.jh_history.specs.declared.place.Place.{Place}

@@ -1,6 +1,5 @@
 -- The call and the cells change as the act says.
-use Rattle.std.proofs.Common.{◌≡◌, ◌∙◌, Option, None, refl, sym, ap, subst}
-use Rattle.std.specs.Prelude.{option_copied}
+use Rattle.std.proofs.Common.{◌≡◌, ◌∙◌, Option, sym, ap, subst}
 use Rattle.std.specs.Option.{option_map_or}
 use Rattle.jh_cellcfg.specs.declared.config.CellConfig.{CellConfig}
 use Rattle.jh_history.specs.declared.call.OpenCall.{OpenCall}
@@ -8,7 +7,6 @@ use Rattle.jh_history.specs.Commits.{created_by}
 use Rattle.jh_history.specs.Calls.{call_by}
 use Rattle.jh_board.specs.declared.held.Held.{Held}
 use Rattle.jh_board.specs.declared.steps.CellsChange.{CellsChange}
-use Rattle.jh_board.specs.declared.steps.CellsChange.TheVariants.{Keep}
 use Rattle.jh_board.specs.Means.{IsReady}
 use Rattle.jh_board.specs.Steps.{change_of_cells, changed_cells, joined_cells}
 use Rattle.jh_board.proofs.MadeLemmas.{cells-made, ready-made, KeepsCells}

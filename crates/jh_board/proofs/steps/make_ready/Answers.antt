@@ -1,5 +1,5 @@
 -- Room, an index and a page change nothing that the facts tell.
-use Rattle.std.proofs.Common.{Some, None, refl}
+use Rattle.std.proofs.Common.{Some, refl}
 use Rattle.jh_board.specs.declared.held.Held.{Held}
 use Rattle.jh_board.proofs.KeptLemmas.{Means-kept}
 use Rattle.jh_board.proofs.steps.make_ready.Goals as goal

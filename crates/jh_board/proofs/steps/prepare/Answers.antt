@@ -1,8 +1,6 @@
 -- No cell is about to come where one's configuration is read, and what is held is ready for it.
-use Rattle.std.proofs.Common.{◌≡◌, ◌∙◌, Option, Some, sym, subst}
+use Rattle.std.proofs.Common.{Option, subst}
 use Rattle.jh_cellcfg.specs.declared.config.CellConfig.{CellConfig}
-use Rattle.jh_history.specs.declared.call.OpenCall.{OpenCall}
-use Rattle.jh_board.specs.Means.{IsReady}
 use Rattle.jh_board.specs.Steps.{IsFree, IsRead, WillBeReady}
 use Rattle.jh_board.proofs.AfterLemmas.{free-same}
 use Rattle.jh_board.proofs.steps.prepare.Goals as goal

@@ -1,5 +1,5 @@
 -- A locked cell, and what was read.
-use Rattle.std.proofs.Common.{◌≡◌, ℕ, ◌<◌, Bool, true, false, List, Some, ap, sym, refl, subst, ◌∙◌}
+use Rattle.std.proofs.Common.{◌≡◌, ℕ, true, false, ap, sym, refl, subst, ◌∙◌}
 use Rattle.std.specs.Prelude.{slice_get, option_map}
 use Rattle.std.specs.List.{list_any}
 use Rattle.jh_cellcfg.specs.declared.live.Live.{Live}
@@ -8,7 +8,7 @@ use Rattle.jh_history.specs.declared.place.Place.{Place}
 use Rattle.jh_history.specs.Admitted.{IsAdmitted}
 use Rattle.jh_history.specs.declared.access.Access.TheVariants.{Read}
 use Rattle.jh_history.specs.Grants.{granted}
-use Rattle.jh_history.specs.Configs.{ReadCell, read_at}
+use Rattle.jh_history.specs.Configs.{ReadCell}
 use Rattle.jh_history.specs.LiveView.{is_locked_by}
 use Rattle.jh_history.specs.Phases.{configs_of, is_locked, creation_of, creation_by}
 use Rattle.jh_history.specs.ReadView.{as_read}

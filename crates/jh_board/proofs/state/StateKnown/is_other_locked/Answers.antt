@@ -1,5 +1,5 @@
 -- The bytes and the cells are those of the facts.
-use Rattle.std.proofs.Common.{◌≡◌, ℕ, List, ap, sym, ◌∙◌}
+use Rattle.std.proofs.Common.{◌≡◌, ℕ, ap, sym, ◌∙◌}
 use Rattle.std.specs.List.{list_any}
 use Rattle.jh_cellcfg.specs.declared.live.Live.{Live}
 use Rattle.jh_history.specs.declared.place.Place.{Place}

@@ -2,7 +2,6 @@
 use Rattle.std.proofs.Common.{◌≡◌, ℕ, ◌<◌, ◌^◌, Some, length, ap, sym, subst, ◌∙◌, arith}
 use Rattle.jh_history.specs.declared.access.Access.TheVariants.{Read}
 use Rattle.jh_history.specs.declared.access.Reach.TheVariants.{Memory, Nothing}
-use Rattle.jh_history.specs.declared.access.Reach.{Reach}
 use Rattle.jh_history.specs.Access.{read_of, reach_by}
 use Rattle.jh_history.specs.Grants.{granted_in}
 use Rattle.jh_history.proofs.ReadLemmas.{one-place}
