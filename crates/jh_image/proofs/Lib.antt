@@ -4,3 +4,4 @@ pub mod LoadLemmas
 pub mod OrderLemmas
 pub mod OneLemmas
 pub mod UnrefusedLemmas
+pub mod CauseLemmas

@@ -36,7 +36,7 @@ bytes-one contents name one other told h k = hands-one (contents name) (max_file
 
 -- ---- the board's listing
 
-text-one : (bytes : List ℕ) (one other : Data) → IsText bytes one → IsText bytes other → one ≡ other
+pub text-one : (bytes : List ℕ) (one other : Data) → IsText bytes one → IsText bytes other → one ≡ other
 text-one bytes one other h k = let same : Some one ≡ Some other = sym h.value ∙ k.value in cc
 
 pub listing-told : (bytes : List ℕ) (listing : Listing) → Tells bytes (Ok listing) → (d : Data) → IsText bytes d → board_told d ≡ Ok listing

@@ -46,14 +46,14 @@ get-push (z ∷ zs) x y zero e = inl e
 get-push (z ∷ zs) x y (suc i) e = elim (get-push zs x y i e) [ inl h ↦ inl h | inr h ↦ inr (ap suc h.0, h.1) ]
 
 -- the preload of the file with this number, and those before it
-record PreloadAt (contents : Contents) (hypervisor : Region) (files : List PreloadFile) (number : ℕ) (file : PreloadFile) : Type 0 where
-  before : List Preload
-  preload : Preload
-  read : Preloads contents hypervisor (take number files) before
-  is : IsPreloadOf contents file preload
-  fit : IsFit hypervisor before preload
+pub record PreloadAt (contents : Contents) (hypervisor : Region) (files : List PreloadFile) (number : ℕ) (file : PreloadFile) : Type 0 where
+  pub before : List Preload
+  pub preload : Preload
+  pub read : Preloads contents hypervisor (take number files) before
+  pub is : IsPreloadOf contents file preload
+  pub fit : IsFit hypervisor before preload
 
-preload-at : (contents : Contents) (hypervisor : Region) (files : List PreloadFile) (all : List Preload) → Preloads contents hypervisor files all
+pub preload-at : (contents : Contents) (hypervisor : Region) (files : List PreloadFile) (all : List Preload) → Preloads contents hypervisor files all
     → (number : ℕ) (file : PreloadFile) → slice_get files number ≡ Some file → PreloadAt contents hypervisor files number file
 preload-at contents hypervisor files all no_preloads number file e = absurd (none-some file e)
 preload-at contents hypervisor files all (one_more_preload fs ps f p rest is fit) number file e =
@@ -91,7 +91,7 @@ next-fits contents hypervisor files all told loaded before file preload read nex
     subst (λ p. IsFit hypervisor before p) same (subst (λ ps. IsFit hypervisor ps at.preload) earlier at.fit)
 
 -- the program of the file with this number
-program-at : (contents : Contents) (files : List ProgramFile) (all : List Program) → Programs contents files all
+pub program-at : (contents : Contents) (files : List ProgramFile) (all : List Program) → Programs contents files all
     → (number : ℕ) (file : ProgramFile) → slice_get files number ≡ Some file → (program : Program) × IsProgramOf contents file program
 program-at contents files all no_programs number file e = absurd (none-some file e)
 program-at contents files all (one_more_program fs ps f p rest is) number file e =
@@ -122,14 +122,14 @@ came contents board listing image told makes file (a_program more system preload
     (at.1.bytes, at.1.has)
 
 -- a file's bytes aren't too many
-not-oversize : (contents : Contents) (name bytes : List ℕ) → AreTold contents → HasBytes contents name bytes → IsOversize contents name → ⊥
+pub not-oversize : (contents : Contents) (name bytes : List ℕ) → AreTold contents → HasBytes contents name bytes → IsOversize contents name → ⊥
 not-oversize contents name bytes told has over =
     let same : bytes ≡ over.bytes = bytes-one contents name bytes over.bytes told has.handed over.handed in
     omega (arith, ap length same)
 
 -- ---- each cause
 
-ok-err : {X E : Type 0} (r : Result X E) (x : X) (e : E) → r ≡ Ok x → r ≡ Err e → ⊥
+pub ok-err : {X E : Type 0} (r : Result X E) (x : X) (e : E) → r ≡ Ok x → r ≡ Err e → ⊥
 ok-err r x e h k = let same : r ≡ Ok x = h in cc
 
 -- what tells a listing has no fault
@@ -138,12 +138,12 @@ told-faultless bytes listing h boards.Json k = absurd (ok-err (board_told h.0) l
 told-faultless bytes listing h (boards.Member name) k = absurd (ok-err (board_told k.0) listing (boards.Member name) (listing-told bytes listing h k.0 k.1) k.2)
 told-faultless bytes listing h boards.NoMemory k = refl
 
-board-faultless : (contents : Contents) (board file : List ℕ) (listing : Listing) (fault : BoardFault) → AreTold contents → Lists contents board listing → IsBadBoard contents board file fault → fault ≡ boards.NoMemory
+pub board-faultless : (contents : Contents) (board file : List ℕ) (listing : Listing) (fault : BoardFault) → AreTold contents → Lists contents board listing → IsBadBoard contents board file fault → fault ≡ boards.NoMemory
 board-faultless contents board file listing fault told lists bad =
     let same : lists.bytes ≡ bad.bytes = bytes-one contents board lists.bytes bad.bytes told lists.has.handed bad.has.handed in
     told-faultless bad.bytes listing (subst (λ bytes. Tells bytes (Ok listing)) same lists.told) fault bad.told
 
-system-faultless : SpellingsAreFaultless → (contents : Contents) (board file : List ℕ) (listing : Listing) (system : SystemConfig) (fault : ConfigFault) → AreTold contents → HasSystem contents board listing system → IsBadSystem contents board file fault → ⊥
+pub system-faultless : SpellingsAreFaultless → (contents : Contents) (board file : List ℕ) (listing : Listing) (system : SystemConfig) (fault : ConfigFault) → AreTold contents → HasSystem contents board listing system → IsBadSystem contents board file fault → ⊥
 system-faultless faultless contents board file listing system fault told has bad =
     let spells = has.spells in
     let files : listing ≡ bad.listing = listing-one contents board listing bad.listing told has.lists bad.lists in
@@ -152,11 +152,11 @@ system-faultless faultless contents board file listing system fault told has bad
     let none : system_fault (system_spelling system) ≡ None = faultless system spells.typed spells.limits in
     none-some fault (sym none ∙ ap system_fault (sym spells.spelled ∙ bytes) ∙ bad.first)
 
-system-clean : OneSpelling → (contents : Contents) (board : List ℕ) (listing more : Listing) (system other : SystemConfig) → AreTold contents → HasSystem contents board listing system → HasSystem contents board more other → findings system [] ≡ [] → findings other [] ≡ []
+pub system-clean : OneSpelling → (contents : Contents) (board : List ℕ) (listing more : Listing) (system other : SystemConfig) → AreTold contents → HasSystem contents board listing system → HasSystem contents board more other → findings system [] ≡ [] → findings other [] ≡ []
 system-clean spelling contents board listing more system other told has has_other clean =
     subst (λ (s : SystemConfig). findings s [] ≡ []) (system-one contents board listing more system other spelling told has has_other) clean
 
-system-roomy : OneSpelling → (contents : Contents) (board file : List ℕ) (listing : Listing) (system : SystemConfig) (need have : ℕ) → AreTold contents → HasSystem contents board listing system → root_pages system ≤ pool_pages system → IsSmall contents board file need have → ⊥
+pub system-roomy : OneSpelling → (contents : Contents) (board file : List ℕ) (listing : Listing) (system : SystemConfig) (need have : ℕ) → AreTold contents → HasSystem contents board listing system → root_pages system ≤ pool_pages system → IsSmall contents board file need have → ⊥
 system-roomy spelling contents board file listing system need have told has room small =
     let same : system ≡ small.system = system-one contents board listing small.listing system small.system spelling told has small.has in
     let enough : root_pages small.system ≤ pool_pages small.system = subst (λ (s : SystemConfig). root_pages s ≤ pool_pages s) same room in

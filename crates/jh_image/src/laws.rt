@@ -1,5 +1,5 @@
 //! Laws. Each function does nothing; its contract is the law.
-ghost use Rattle.std.specs.Prelude.{◌≡◌, ◌<◌, ℕ, List, All};
+ghost use Rattle.std.specs.Prelude.{◌≡◌, ◌≢◌, ◌<◌, ℕ, List, All};
 ghost use Rattle.jh_script.specs.declared.image.Image.{Image as TheImage};
 ghost use Rattle.jh_image.specs.declared.fault.ImageCause.{ImageCause as TheCause};
 ghost use Rattle.jh_image.specs.declared.fault.ImageCause.TheVariants.{ReadFault};
@@ -22,6 +22,17 @@ pub fn boards_make_one_image()
 /// read.
 pub fn boards_that_make_an_image_are_not_refused()
     ensures { (contents : Contents) (board file : List ℕ) (image : TheImage) (cause : TheCause) → AreTold contents → IsImage contents board image → Stops contents board file cause → cause ≡ ReadFault }
+{
+    one_system_spelling();
+    system_has_no_fault();
+}
+
+/// Where files tell what they hold, one cause at most stops the reading of a board, besides a file that can't be read,
+/// and it names one file.
+pub fn boards_have_one_cause()
+    ensures { (contents : Contents) (board file other : List ℕ) (cause more : TheCause) → AreTold contents
+        → Stops contents board file cause → cause ≢ ReadFault → Stops contents board other more → more ≢ ReadFault
+        → (cause ≡ more) × (file ≡ other) }
 {
     one_system_spelling();
     system_has_no_fault();

@@ -20,7 +20,9 @@ pub use file_name::FileName;
 pub use image::read_image;
 pub use jh_history::admit;
 pub use jh_spec::{Spec, SpecFault, read_spec};
-pub use laws::{boards_make_one_image, boards_that_make_an_image_are_not_refused};
+pub use laws::{
+    boards_have_one_cause, boards_make_one_image, boards_that_make_an_image_are_not_refused,
+};
 pub use read::MAX_FILE_SIZE;
 pub use text::cause_text;
 

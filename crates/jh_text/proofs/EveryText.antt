@@ -11,7 +11,8 @@ use Rattle.jh_history.specs.declared.entry.Entry.{Entry}
 use Rattle.jh_history.specs.declared.entry.Act.{Act}
 use Rattle.jh_history.specs.declared.entry.Act.TheVariants.{Read, Write, Fetch, Await, Irq, Hvc, Begin, Stop, Decide, Settle, Commit, Note, Noted, Finish}
 use Rattle.jh_text.specs.declared.fault.TheConstants.{MAX_ENTRIES}
-use Rattle.jh_text.specs.Ranges.{is_width, IsReadableAct, IsReadable}
+use Rattle.jh_script.specs.Operations.{is_width}
+use Rattle.jh_text.specs.Ranges.{IsReadableAct, IsReadable}
 use Rattle.jh_text.specs.Text.{entry_text, line, journal_text}
 use Rattle.jh_text.specs.Faults.{BeginsWithNoLine, HasAnswer}
 use Rattle.jh_text.specs.Reading.{split_once, entry_of}

@@ -1,5 +1,6 @@
 pub mod Acts
 pub mod EveryText
+pub mod LegalTexts
 pub mod Lines
 pub mod Numbers
 pub mod Spellings

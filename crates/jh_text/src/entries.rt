@@ -4,7 +4,8 @@
 //! with leading zeros or in upper case, anything in the place of an equals sign. Whether the line is the
 //! text of the entry that they find is then seen by printing it.
 ghost use Rattle.std.specs.Prelude.{◌≡◌, ◌^◌, ◌<◌, IfSome, IsTrue};
-ghost use Rattle.jh_text.specs.Ranges.{is_width, IsReadableAct, IsReadable};
+ghost use Rattle.jh_script.specs.Operations.{is_width};
+ghost use Rattle.jh_text.specs.Ranges.{IsReadableAct, IsReadable};
 ghost use Rattle.jh_text.specs.Reading.{read_of, attempt_of, write_of, await_of, fetch_of, irq_of, call_of, decide_of, settle_of, note_of, noted_of, finish_of, named_of, act_of, entry_of};
 
 use crate::outcomes::{read_decision, read_got, read_heard, read_ok, read_settled};

@@ -2,11 +2,21 @@
 ghost use Rattle.std.specs.Prelude.{◌≡◌, ◌≤◌, ℕ, List, length};
 ghost use Rattle.std.specs.List.{AllByRecursion};
 ghost use Rattle.jh_history.specs.declared.entry.Entry.{Entry};
+ghost use Rattle.jh_history.specs.Admitted.{IsAdmitted, IsBuilt};
+ghost use Rattle.jh_history.specs.Due.{IsLegal};
+ghost use Rattle.jh_text.specs.Typed.{HasTypedNumbers};
 ghost use Rattle.jh_text.specs.Text.{entry_text, journal_text};
 ghost use Rattle.jh_text.specs.Ranges.{IsReadable, IsTyped};
 ghost use Rattle.jh_text.specs.Faults.{HasAnswer, IsFirstBadLine, IsJournalText, IsTooLong};
 
 use crate::fault::MAX_ENTRIES;
+use jh_history::{admitted_roots_are_sound, root_lives_alone};
+use jh_laws::{
+    beginnings_are_legal, due_entries_are_their_cpus_own, entries_write_their_bytes,
+    legal_entries_are_due, memory_opens_with_the_preloads, ready_cpus_have_an_entry_due,
+    root_is_granted_its_addresses,
+};
+use jh_script::Image;
 
 /// Entries with the same text are the same, and so are journals with the same text, whatever numbers of their types
 /// they have.
@@ -37,3 +47,24 @@ pub fn one_answer()
 pub fn every_text_has_an_answer()
     ensures { (text : List ℕ) → HasAnswer text }
 {}
+
+/// Each entry of a legal journal of an image that is admitted and built is one that a text may hold. So the text of the
+/// journal, where it is no longer than a journal may be, is a journal's text, and no other journal's: what is printed of
+/// it is read again.
+pub fn legal_journals_are_readable(image: &Image)
+    ensures entries { IsAdmitted image.now → IsBuilt image.now → HasTypedNumbers image.now
+        → (entries : List Entry) → IsLegal image.now entries → AllByRecursion IsReadable entries }
+    ensures text { IsAdmitted image.now → IsBuilt image.now → HasTypedNumbers image.now
+        → (entries : List Entry) → IsLegal image.now entries → length entries ≤ MAX_ENTRIES
+        → IsJournalText (journal_text entries) entries }
+{
+    admitted_roots_are_sound(image);
+    root_lives_alone();
+    beginnings_are_legal();
+    legal_entries_are_due();
+    ready_cpus_have_an_entry_due();
+    due_entries_are_their_cpus_own();
+    root_is_granted_its_addresses();
+    memory_opens_with_the_preloads();
+    entries_write_their_bytes();
+}

@@ -1,7 +1,7 @@
 //! The words of a line, and what they tell.
 ghost use Rattle.std.specs.Prelude.{◌≡◌, ℕ, ◌-◌, ◌≤◌, ◌<◌, ◌^◌, ◌+◌, ◌==◌, length, position, IfSome, IsTrue};
 ghost use Rattle.std.specs.Str.{bytes_eq};
-ghost use Rattle.jh_text.specs.Ranges.{is_width};
+ghost use Rattle.jh_script.specs.Operations.{is_width};
 ghost use Rattle.jh_text.specs.Reading.{Finds, split_once, next_number, number_of, hexadecimal_of, answer_of, width_of};
 
 /// What stands before the first such byte, and what stands after it.

@@ -1,0 +1,264 @@
+-- The entries of a legal journal are ones that a text may hold.
+use Rattle.std.proofs.Common.{◌≡◌, ◌≢◌, ℕ, zero, suc, ◌+◌, ◌-◌, ◌*◌, ◌/◌, ◌%◌, ◌^◌, ◌<◌, ◌≤◌, Bool, true, false, is_some, List, [], ◌∷◌, ◌++◌, length, slice_get, slice_index, Option, Some, None, ◌↔◌, ◌⊎◌, inl, inr, refl, sym, ap, subst, ◌∙◌, arith, append_assoc, mod-lt, mul-le-mul_right, suc-mul}
+use native.Mathlib.Nat.{pow-succ'}
+use Rattle.std.specs.Prelude.{All, Contains, IsTrue, IsSome, IfSome, find}
+use Rattle.std.specs.List.{AllByRecursion}
+use Rattle.std.specs.Option.{option_map_or}
+use Rattle.std.proofs.lemmas.Bool.{false≢true}
+use Rattle.std.proofs.lemmas.Option.{none-some, same_Some, slice_get_within, get_or_from_slice_get}
+use Rattle.jh_num.specs.Memory.{little_endian}
+use Rattle.jh_num.proofs.Lists.{Contains-head, Contains-tail, Contains-cases, All-from_find}
+use Rattle.jh_cellcfg.specs.Cells.{name_of}
+use Rattle.jh_script.specs.declared.image.Image.{Image}
+use Rattle.jh_script.specs.declared.image.Program.{Program}
+use Rattle.jh_script.specs.declared.image.Preload.{Preload}
+use Rattle.jh_script.specs.declared.op.Op.{Op}
+use Rattle.jh_script.specs.declared.op.Op.TheVariants.{Read as ReadOp, Write as WriteOp, Fetch as FetchOp, Await as AwaitOp}
+use Rattle.jh_script.specs.Operations.{IsPlain}
+use Rattle.jh_history.specs.declared.place.Place.{Place}
+use Rattle.jh_history.specs.declared.place.Place.TheVariants.{Physical}
+use Rattle.jh_history.specs.declared.access.Access.{Access}
+use Rattle.jh_history.specs.declared.access.Access.TheVariants.{Read as ToRead, Write as ToWrite, Fetch as ToFetch}
+use Rattle.jh_history.specs.declared.entry.Entry.{Entry}
+use Rattle.jh_history.specs.declared.entry.Act.{Act}
+use Rattle.jh_history.specs.declared.entry.Act.TheVariants.{Read, Write, Fetch, Await}
+use Rattle.jh_history.specs.Admitted.{IsAdmitted, IsBuilt}
+use Rattle.jh_history.specs.Alone.{IsAlone}
+use Rattle.jh_history.specs.Due.{due, IsLegal}
+use Rattle.jh_history.specs.History.{facts}
+use Rattle.jh_history.specs.Lives.{is_on_board, is_program_of, program_of}
+use Rattle.jh_laws.specs.Grants.{IsGranted, AreGranted}
+use Rattle.jh_laws.specs.Journals.{LegalJournal, Moment, byte_at, byte_before, byte_behind, cpu_at}
+use Rattle.jh_laws.specs.Operations.{IsReady, IsOwn, op_of}
+use Rattle.jh_laws.specs.Outcomes.{HasItsOutcome, IsGot}
+use Rattle.jh_laws.specs.Writes.{Writes, WritesNot}
+use Rattle.jh_text.specs.Ranges.{IsReadable, IsReadableAct}
+use Rattle.jh_text.specs.Typed.{IsTypedOp, HasTypedNumbers}
+
+-- the laws of journals that this stands on
+pub record JournalLaws : Type 0 where
+  pub alone : (image : Image) (entries : List Entry) → IsLegal image entries → IsAlone image (facts image entries)
+  pub begins : (image : Image) (before rest : List Entry) → IsLegal image (before ++ rest) → IsLegal image before
+  pub due_each : (image : Image) (entries before rest : List Entry) (entry : Entry) → IsLegal image entries → entries ≡ before ++ entry ∷ rest → due image before entry.cpu ≡ Some entry
+  pub ready : (j : LegalJournal) (cpu : ℕ) → IsSome (due j.image j.entries cpu) ↔ IsReady j.image j.entries j.image.system.root cpu
+  pub own : (j : LegalJournal) (cpu : ℕ) (entry : Entry) → due j.image j.entries cpu ≡ Some entry → IsOwn j.image j.entries j.image.system.root cpu entry
+  pub granted : (image : Image) (access : Access) (at : ℕ) (place : Place) → IsAdmitted image → IsGranted image.system.root access at place → place ≡ Physical at
+  pub put : (image : Image) (preload : Preload) (k : ℕ) → IsAdmitted image → IsBuilt image → Contains image.preloads preload → k < length preload.bytes → byte_at image [] (Physical (preload.at + k)) ≡ slice_index preload.bytes k
+  pub nothing_put : (image : Image) (place : ℕ) → IsAdmitted image → IsBuilt image → ((preload : Preload) (k : ℕ) → Contains image.preloads preload → k < length preload.bytes → place ≢ preload.at + k) → byte_at image [] (Physical place) ≡ 0
+  pub written : (m : Moment) (place : Place) (byte : ℕ) → Writes m.image.system.root m.entry.act place byte → byte_behind m place ≡ byte
+  pub others : (m : Moment) (place : Place) → WritesNot m.image.system.root place m.entry → byte_behind m place ≡ byte_before m place
+
+-- ---- the operations of programs
+
+got-all : {X : Type 0} (P : X → Type 0) (xs : List X) (i : ℕ) (x : X) → All P xs → slice_get xs i ≡ Some x → P x
+got-all P xs i x all e = subst P (get_or_from_slice_get xs i x x e) (all i x (slice_get_within xs i x e))
+
+found-ops : (Q : Op → Type 0) (programs : List Program) (test : Program → Bool) (o : Option Program) → find test programs ≡ o → All (λ (p : Program). All Q p.ops) programs
+    → All Q (option_map_or (λ (p : Program). p.ops) o [])
+found-ops Q programs test None e all = λ k d lt. absurd (omega (arith, lt))
+found-ops Q programs test (Some p) e all = All-from_find test (λ (q : Program). All Q q.ops) programs p e all
+
+program-ops : (Q : Op → Type 0) (image : Image) (name : List ℕ) (cpu : ℕ) → All (λ (p : Program). All Q p.ops) image.programs → All Q (program_of image name cpu)
+unfolding program_of
+program-ops Q image name cpu all = found-ops Q image.programs (is_program_of name cpu) (find (is_program_of name cpu) image.programs) refl all
+
+-- ---- bytes
+
+abbrev BytesFit : Image → List Entry → Type 0
+BytesFit image entries = (p : ℕ) → byte_at image entries (Physical p) < 256
+
+one_or_not : (a b : ℕ) → (a ≡ b) ⊎ (a ≢ b)
+one_or_not zero zero = inl refl
+one_or_not zero (suc b) = inr (λ e. absurd (omega (arith, e)))
+one_or_not (suc a) zero = inr (λ e. absurd (omega (arith, e)))
+one_or_not (suc a) (suc b) = elim (one_or_not a b) [ inl e ↦ inl (ap suc e) | inr ne ↦ inr (λ e. ne (omega (arith, e))) ]
+
+below_or_last : (k n : ℕ) → k < suc n → (k < n) ⊎ (k ≡ n)
+below_or_last zero zero lt = inr refl
+below_or_last zero (suc n) lt = inl (omega arith)
+below_or_last (suc k) zero lt = absurd (omega (arith, lt))
+below_or_last (suc k) (suc n) lt = elim (below_or_last k n (omega (arith, lt))) [ inl h ↦ inl (omega (arith, h)) | inr e ↦ inr (ap suc e) ]
+
+-- the place lies among so many from `at` on, or doesn't
+at_or_not : (p at size : ℕ) → ((k : ℕ) × (k < size) × (p ≡ at + k)) ⊎ ((k : ℕ) → k < size → p ≢ at + k)
+at_or_not p at zero = inr (λ k lt e. absurd (omega (arith, lt)))
+at_or_not p at (suc size) = elim (at_or_not p at size) [
+  | inl h ↦ inl (h.0, omega (arith, h.1), h.2)
+  | inr none ↦ elim (one_or_not p (at + size)) [
+    | inl e ↦ inl (size, omega arith, e)
+    | inr ne ↦ inr (λ k lt e. elim (below_or_last k size lt) [
+      | inl below ↦ none k below e
+      | inr last ↦ ne (e ∙ ap (λ n. at + n) last)
+    ])
+  ]
+]
+
+-- a preload that puts a byte at the place
+record Covers (p : ℕ) (preloads : List Preload) : Type 0 where
+  preload : Preload
+  held : Contains preloads preload
+  offset : ℕ
+  within : offset < length preload.bytes
+  is : p ≡ preload.at + offset
+
+abbrev CoversNot : ℕ → List Preload → Type 0
+CoversNot p preloads = (preload : Preload) (k : ℕ) → Contains preloads preload → k < length preload.bytes → p ≢ preload.at + k
+
+covers_not-more : (p : ℕ) (q : Preload) (qs : List Preload) → ((k : ℕ) → k < length q.bytes → p ≢ q.at + k) → CoversNot p qs → CoversNot p (q ∷ qs)
+covers_not-more p q qs first rest preload k held lt = elim (Contains-cases q qs preload held) [
+  | inl same ↦ subst (λ (x : Preload). (j : ℕ) → j < length x.bytes → p ≢ x.at + j) same first k lt
+  | inr later ↦ rest preload k later lt
+]
+
+covered : (p : ℕ) (preloads : List Preload) → Covers p preloads ⊎ CoversNot p preloads
+covered p [] = inr (λ preload k held lt e. absurd (omega (arith, held.1)))
+covered p (q ∷ qs) = elim (at_or_not p q.at (length q.bytes)) [
+  | inl h ↦ inl (record { preload = q; held = Contains-head q qs; offset = h.0; within = h.1; is = h.2 })
+  | inr none ↦ elim (covered p qs) [
+    | inl h ↦ inl (record { preload = h.preload; held = Contains-tail q qs h.preload h.held; offset = h.offset; within = h.within; is = h.is })
+    | inr rest ↦ inr (covers_not-more p q qs none rest)
+  ]
+]
+
+contained : {X : Type 0} (P : X → Type 0) (xs : List X) (x : X) → All P xs → Contains xs x → P x
+contained P xs x all held = subst P held.2 (all held.0 x held.1)
+
+opening-fits : (laws : JournalLaws) (image : Image) → IsAdmitted image → IsBuilt image → HasTypedNumbers image → BytesFit image []
+opening-fits laws image admitted built typed p = elim (covered p image.preloads) [
+  | inl h ↦
+      let byte : byte_at image [] (Physical p) ≡ slice_index h.preload.bytes h.offset
+      = ap (λ n. byte_at image [] (Physical n)) h.is ∙ laws.put image h.preload h.offset admitted built h.held h.within in
+      let small : All (λ b. b < 256) h.preload.bytes = contained (λ (q : Preload). All (λ b. b < 256) q.bytes) image.preloads h.preload typed.bytes h.held in
+      subst (λ b. b < 256) (sym byte) (small h.offset 0 h.within)
+  | inr none ↦ subst (λ b. b < 256) (sym (laws.nothing_put image p admitted built none)) (omega arith)
+]
+
+-- the entry leaves bytes
+unwritten-fits : (laws : JournalLaws) (m : Moment) (p : ℕ) → byte_before m (Physical p) < 256 → WritesNot m.image.system.root (Physical p) m.entry → byte_behind m (Physical p) < 256
+unwritten-fits laws m p before none = subst (λ b. b < 256) (sym (laws.others m (Physical p) none)) before
+
+same-place : (p q : ℕ) → Physical p ≡ Physical q → p ≡ q
+same-place p q e = cc
+
+-- a write that succeeds puts bytes at the addresses that it is granted, and nowhere else
+write-fits : (laws : JournalLaws) (m : Moment) (width at value : ℕ) (ok : Bool) (p : ℕ) → m.entry.act ≡ Write width at value ok → (IsTrue ok ↔ AreGranted m.image.system.root ToWrite at width)
+    → byte_before m (Physical p) < 256 → byte_behind m (Physical p) < 256
+write-fits laws m width at value false p e outcome before =
+    unwritten-fits laws m p before (λ byte w. absurd (false≢true (subst (λ act. Writes m.image.system.root act (Physical p) byte) e w).0))
+write-fits laws m width at value true p e outcome before = elim (at_or_not p at width) [
+  | inl h ↦
+      let root = m.image.system.root in
+      let given = outcome.0 refl h.0 h.1 in
+      let here : given.0 ≡ Physical p = laws.granted m.image ToWrite (at + h.0) given.0 m.admitted given.1 ∙ ap Physical (sym h.2) in
+      let byte = value / 256 ^ h.0 % 256 in
+      let writes : Writes root (Write width at value true) (Physical p) byte
+      = (refl, record { index = h.0; within = h.1; granted = subst (IsGranted root ToWrite (at + h.0)) here given.1; is = refl }) in
+      subst (λ b. b < 256) (sym (laws.written m (Physical p) byte (subst (λ act. Writes root act (Physical p) byte) (sym e) writes))) (mod-lt (value / 256 ^ h.0) (omega arith))
+  | inr none ↦
+      unwritten-fits laws m p before (λ byte w.
+      let written = (subst (λ act. Writes m.image.system.root act (Physical p) byte) e w).1 in
+      none written.index written.within (same-place p (at + written.index) (laws.granted m.image ToWrite (at + written.index) (Physical p) m.admitted written.granted)))
+]
+
+fits-behind : (laws : JournalLaws) (m : Moment) (act : Act) → m.entry.act ≡ act → HasItsOutcome m.image m.before m.image.system.root act → BytesFit m.image m.before → (p : ℕ) → byte_behind m (Physical p) < 256
+fits-behind laws m (Write width at value ok) e outcome fits p = write-fits laws m width at value ok p e outcome (fits p)
+fits-behind laws m (Read width at got) e outcome fits p = unwritten-fits laws m p (fits p) (λ byte w. absurd (subst (λ act. Writes m.image.system.root act (Physical p) byte) e w))
+fits-behind laws m (Fetch at got) e outcome fits p = unwritten-fits laws m p (fits p) (λ byte w. absurd (subst (λ act. Writes m.image.system.root act (Physical p) byte) e w))
+fits-behind laws m (Await width at value ok) e outcome fits p = unwritten-fits laws m p (fits p) (λ byte w. absurd (subst (λ act. Writes m.image.system.root act (Physical p) byte) e w))
+fits-behind laws m _ e outcome fits p = absurd outcome
+
+-- ---- the value of an access
+
+one-more : (low b top : ℕ) → low < top → b < 256 → low + b * top < 256 * top
+one-more low b top h k = let more : (b + 1) * top ≤ 256 * top = mul-le-mul_right top (omega (arith, k)) in omega (arith, more, h, suc-mul b top)
+
+little_endian-fits : (width : ℕ) (byte : ℕ → ℕ) → ((k : ℕ) → byte k < 256) → little_endian width byte < 256 ^ width
+little_endian-fits zero byte small = omega arith
+little_endian-fits (suc n) byte small =
+    rw (pow-succ' 256 n) (one-more (little_endian n byte) (byte n) (256 ^ n) (little_endian-fits n byte small) (small n))
+
+got-fits : (laws : JournalLaws) (image : Image) (before : List Entry) (access : Access) (at width : ℕ) (got : Option ℕ) → IsAdmitted image → BytesFit image before
+    → IsGot image before image.system.root access at width got → IfSome got (λ value. value < 256 ^ width)
+got-fits laws image before access at width None admitted fits outcome = tt
+got-fits laws image before access at width (Some value) admitted fits outcome =
+    let root = image.system.root in
+    let given = outcome.granted.0 refl in
+    let place : ℕ → Place = λ k. Physical (at + k) in
+    let each : (k : ℕ) → k < width → IsGranted root access (at + k) (place k)
+    = λ k lt. subst (IsGranted root access (at + k)) (laws.granted image access (at + k) (given k lt).0 admitted (given k lt).1) (given k lt).1 in
+    let read : value ≡ little_endian width (λ k. byte_at image before (place k)) = outcome.reads value refl place each in
+    subst (λ v. v < 256 ^ width) (sym read) (little_endian-fits width (λ k. byte_at image before (place k)) (λ k. fits (at + k)))
+
+-- ---- entries
+
+same-op : (a b : Op) → Some a ≡ Some b → a ≡ b
+same-op a b e = same_Some a b e
+
+readable-act : (laws : JournalLaws) (image : Image) (before : List Entry) (act : Act) (op : Op) → IsAdmitted image → BytesFit image before → HasItsOutcome image before image.system.root act
+    → op_of act ≡ Some op → IsPlain op → IsTypedOp op → IsReadableAct act
+readable-act laws image before (Read width at got) op admitted fits outcome e plain typed =
+    let same : op ≡ ReadOp width at = sym (same-op (ReadOp width at) op e) in
+    (subst IsPlain same plain, subst IsTypedOp same typed, got-fits laws image before ToRead at width got admitted fits outcome)
+readable-act laws image before (Write width at value ok) op admitted fits outcome e plain typed =
+    let same : op ≡ WriteOp width at value = sym (same-op (WriteOp width at value) op e) in
+    let limits : IsPlain (WriteOp width at value) = subst IsPlain same plain in
+    (limits.0, subst IsTypedOp same typed, limits.1)
+readable-act laws image before (Fetch at got) op admitted fits outcome e plain typed =
+    let same : op ≡ FetchOp at = sym (same-op (FetchOp at) op e) in
+    (subst IsTypedOp same typed, got-fits laws image before ToFetch at 4 got admitted fits outcome)
+readable-act laws image before (Await width at value ok) op admitted fits outcome e plain typed =
+    let same : op ≡ AwaitOp width at value = sym (same-op (AwaitOp width at value) op e) in
+    let limits : IsPlain (AwaitOp width at value) = subst IsPlain same plain in
+    (limits.0, subst IsTypedOp same typed, limits.1)
+readable-act laws image before _ op admitted fits outcome e plain typed = absurd outcome
+
+-- what is known of the image
+pub record IsFitImage (image : Image) : Type 0 where
+  pub few : (cpu : ℕ) → IsTrue (is_on_board image cpu) → cpu < 16
+  pub admitted : IsAdmitted image
+  pub built : IsBuilt image
+  pub typed : HasTypedNumbers image
+
+-- the entry, with what its CPU came to it by
+record Made (image : Image) (before : List Entry) (entry : Entry) : Type 0 where
+  own : IsOwn image before image.system.root entry.cpu entry
+  ready : IsReady image before image.system.root entry.cpu
+  cell : entry.cell ≡ image.system.root.id
+
+made : (laws : JournalLaws) (image : Image) → IsFitImage image → (before rest : List Entry) (entry : Entry) → IsLegal image (before ++ entry ∷ rest) → Made image before entry
+made laws image fit before rest entry legal =
+    let early : IsLegal image before = laws.begins image before (entry ∷ rest) legal in
+    let j : LegalJournal = record { image = image; entries = before; admitted = fit.admitted; built = fit.built; legal = early } in
+    let due_here : due image before entry.cpu ≡ Some entry = laws.due_each image (before ++ entry ∷ rest) before rest entry legal refl in
+    let own = laws.own j entry.cpu entry due_here in
+    record {
+      own = own;
+      ready = (laws.ready j entry.cpu).0 (ap is_some due_here);
+      cell = own.cell_is ∙ (laws.alone image before early).owners entry.cpu;
+    }
+
+readable-entry : (laws : JournalLaws) (image : Image) → IsFitImage image → (before : List Entry) (entry : Entry) → Made image before entry → BytesFit image before → IsReadable entry
+readable-entry laws image fit before entry m fits =
+    let name = name_of image.system.root in
+    let position = (cpu_at image before entry.cpu).position in
+    let plain_all : All (λ (p : Program). All IsPlain p.ops) image.programs = λ k d lt. (fit.admitted.programs k d lt).plain in
+    let plain : IsPlain m.ready.op = got-all IsPlain (program_of image name entry.cpu) position m.ready.op (program-ops IsPlain image name entry.cpu plain_all) m.ready.at in
+    let typed : IsTypedOp m.ready.op = got-all IsTypedOp (program_of image name entry.cpu) position m.ready.op (program-ops IsTypedOp image name entry.cpu fit.typed.ops) m.ready.at in
+    record {
+      cpu = fit.few entry.cpu m.ready.board;
+      cell = subst (λ id. id < 2 ^ 32) (sym m.cell) fit.typed.root;
+      act = readable-act laws image before entry.act m.ready.op fit.admitted fits m.own.outcome (m.own.operation ∙ m.ready.at) plain typed;
+    }
+
+readable-from : (laws : JournalLaws) (image : Image) → IsFitImage image → (rest before : List Entry) → IsLegal image (before ++ rest) → BytesFit image before → AllByRecursion IsReadable rest
+readable-from laws image fit [] before legal fits = tt
+readable-from laws image fit (entry ∷ rest) before legal fits =
+    let m = made laws image fit before rest entry legal in
+    let moment : Moment = record { image = image; before = before; entry = entry; rest = rest; admitted = fit.admitted; built = fit.built; legal = legal } in
+    let behind : BytesFit image (before ++ entry ∷ []) = fits-behind laws moment entry.act refl m.own.outcome fits in (
+      readable-entry laws image fit before entry m fits,
+      readable-from laws image fit rest (before ++ entry ∷ []) (subst (IsLegal image) (sym (append_assoc before (entry ∷ []) rest)) legal) behind,
+    )
+
+pub readable : (laws : JournalLaws) (image : Image) → IsFitImage image → (entries : List Entry) → IsLegal image entries → AllByRecursion IsReadable entries
+readable laws image fit entries legal = readable-from laws image fit entries [] legal (opening-fits laws image fit.admitted fit.built fit.typed)
