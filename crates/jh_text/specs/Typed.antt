@@ -1,5 +1,5 @@
 -- That the numbers of an image are below the ends of their types, as those of any image of the program are.
-use Rattle.std.specs.Prelude.{ℕ, ◌^◌, ◌<◌, All}
+use Rattle.std.specs.Prelude.{◌^◌, ◌<◌, All}
 use Rattle.jh_script.specs.declared.op.Op.{Op}
 use Rattle.jh_script.specs.declared.op.Op.TheVariants.{Read, Write, Fetch, Await, Irq, Hvc}
 use Rattle.jh_script.specs.declared.image.Image.{Image}
