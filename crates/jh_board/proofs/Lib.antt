@@ -3,3 +3,11 @@ pub mod BytesLemmas
 pub mod PieceLemmas
 pub mod MeansLemmas
 pub mod IndexLemmas
+pub mod ClosedLemmas
+pub mod CellsLemmas
+pub mod GrantedLemmas
+pub mod ReadyLemmas
+pub mod KeptLemmas
+pub mod MadeLemmas
+pub mod AfterLemmas
+pub mod RootReadLemmas

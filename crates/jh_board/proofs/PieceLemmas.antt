@@ -1,5 +1,5 @@
 -- Bytes of one page read as a number, and lists of bytes that are stored.
-use Rattle.std.proofs.Common.{◌≡◌, ◌≢◌, ℕ, zero, suc, ◌+◌, ◌-◌, ◌*◌, ◌/◌, ◌%◌, ◌^◌, ◌<◌, ◌≤◌, List, [], ◌∷◌, ◌++◌, length, length-take, take, drop, map, get_or, cond, leb, ltb, eqb, true, false, Some, refl, sym, ◌∙◌, ap, inl, inr, arith}
+use Rattle.std.proofs.Common.{◌≡◌, ℕ, zero, suc, ◌+◌, ◌-◌, ◌*◌, ◌/◌, ◌%◌, ◌^◌, ◌<◌, ◌≤◌, List, [], ◌∷◌, ◌++◌, length, length-take, take, map, cond, leb, ltb, eqb, refl, sym, ◌∙◌, ap, inl, inr, arith}
 use Rattle.std.specs.Prelude.{min, slice_index, slice_range, ◌&&◌}
 use Rattle.std.specs.Int.{byte_at as byte_of_number, bytes_low_first}
 use Rattle.std.proofs.lemmas.Bool.{cases_eq, cases_lt, eq-eqb, ne_eqb, le-leb, lt-leb, lt-ltb, le-ltb, and_right}
@@ -10,26 +10,31 @@ use Rattle.std.proofs.Math.Nat.{div-div-eq-div-mul, div-one, pow-suc, pow-le-pow
 use Rattle.jh_num.specs.Memory.{spelled, stored}
 use Rattle.jh_history.specs.declared.place.Place.{Place}
 use Rattle.jh_history.specs.declared.place.Place.TheVariants.{Physical, Page}
-use Rattle.jh_history.specs.Places.{places_in_row, with_byte, written}
-use Rattle.jh_board.specs.Pages.{page_at, byte_in, bytes_from, byte_at, byte_of}
+use Rattle.jh_history.specs.Places.{places_in_row, further, with_byte, written}
+use Rattle.jh_board.specs.Pages.{page_at, byte_in, bytes_from, byte_at, byte_of, comm_byte, MemoryView}
 
 abbrev Pages : Type 0
 Pages = List (ℕ × List ℕ)
 
--- the bytes at places in a row of one page
-row-of_page : (pages : Pages) (number offset n a : ℕ) → a ≡ number * 4096 + offset → offset + n ≤ 4096 → map (byte_of pages) (places_in_row (Physical a) n) ≡ bytes_from (byte_in (page_at pages number)) offset n
+-- the bytes in a row of one page
+row-of_page : (pages : Pages) (number offset n a : ℕ) → a ≡ number * 4096 + offset → offset + n ≤ 4096 → bytes_from (byte_at pages) a n ≡ bytes_from (byte_in (page_at pages number)) offset n
 row-of_page pages number offset zero a is within = refl
 row-of_page pages number offset (suc n) a is within =
     let quotient : a / 4096 ≡ number = omega arith in
     let rest_is : a % 4096 ≡ offset = omega arith in
     let first : byte_at pages a ≡ byte_in (page_at pages number) offset = rw (quotient, rest_is) refl in
-    let rest : map (byte_of pages) (places_in_row (Physical (a + 1)) n) ≡ bytes_from (byte_in (page_at pages number)) (offset + 1) n = row-of_page pages number (offset + 1) n (a + 1) (omega arith) (omega arith) in
-    ap (λ (b : ℕ). b ∷ map (byte_of pages) (places_in_row (Physical (a + 1)) n)) first
+    let rest : bytes_from (byte_at pages) (a + 1) n ≡ bytes_from (byte_in (page_at pages number)) (offset + 1) n = row-of_page pages number (offset + 1) n (a + 1) (omega arith) (omega arith) in
+    ap (λ (b : ℕ). b ∷ bytes_from (byte_at pages) (a + 1) n) first
     ∙ ap (λ (bs : List ℕ). byte_in (page_at pages number) offset ∷ bs) rest
 
 -- so they spell what the page's bytes do
-pub spelled-of_page : (pages : Pages) (at n v : ℕ) → at % 4096 + n ≤ 4096 → v ≡ spelled (bytes_from (byte_in (page_at pages (at / 4096))) (at % 4096) n) → v ≡ spelled (map (byte_of pages) (places_in_row (Physical at) n))
+pub spelled-of_page : (pages : Pages) (at n v : ℕ) → at % 4096 + n ≤ 4096 → v ≡ spelled (bytes_from (byte_in (page_at pages (at / 4096))) (at % 4096) n) → v ≡ spelled (bytes_from (byte_at pages) at n)
 spelled-of_page pages at n v within is = is ∙ ap spelled (sym (row-of_page pages (at / 4096) (at % 4096) n at (omega arith) within))
+
+-- the bytes at places of physical memory in a row
+pub row-of_memory : (memory : MemoryView) (a n : ℕ) → map (byte_of memory) (places_in_row (Physical a) n) ≡ bytes_from (byte_at memory.physical) a n
+row-of_memory memory a zero = refl
+row-of_memory memory a (suc n) = ap (λ (bs : List ℕ). byte_at memory.physical a ∷ bs) (row-of_memory memory (a + 1) n)
 
 -- zeros spell nothing
 pub zeros-spell_nothing : (offset n : ℕ) → spelled (bytes_from (λ k. 0) offset n) ≡ 0
@@ -147,9 +152,26 @@ written-elsewhere byte a zero v cell offset = refl
 written-elsewhere byte a (suc n) v cell offset = written-elsewhere (with_byte byte (Physical a) (v % 256)) (a + 1) n (v / 256) cell offset
 
 -- so it is where that list was put
-pub written-piece : (old new : Pages) (a n v : ℕ) (bytes : List ℕ) → n ≤ 8 → bytes ≡ take n (bytes_low_first 0 8 v) → ((q : ℕ) → byte_at new q ≡ stored (byte_at old) a bytes q)
+pub written-piece : (old new : MemoryView) (a n v : ℕ) (bytes : List ℕ) → n ≤ 8 → bytes ≡ take n (bytes_low_first 0 8 v) → ((q : ℕ) → byte_at new.physical q ≡ stored (byte_at old.physical) a bytes q) → new.comms ≡ old.comms
     → (q : Place) → byte_of new q ≡ written (byte_of old) (places_in_row (Physical a) n) v q
-written-piece old new a n v bytes few is put (Physical q) =
-    put q ∙ ap (λ (bs : List ℕ). stored (byte_at old) a bs q) is ∙ sym (written-low_first (byte_of old) a n 0 8 v q few)
+written-piece old new a n v bytes few is put same (Physical q) =
+    put q ∙ ap (λ (bs : List ℕ). stored (byte_at old.physical) a bs q) is ∙ sym (written-low_first (byte_of old) a n 0 8 v q few)
     ∙ ap (λ (x : ℕ). written (byte_of old) (places_in_row (Physical a) n) x (Physical q)) (div-one v)
-written-piece old new a n v bytes few is put (Page cell offset) = sym (written-elsewhere (byte_of old) a n v cell offset)
+written-piece old new a n v bytes few is put same (Page cell offset) = ap (λ (pages : Pages). comm_byte pages cell offset) same ∙ sym (written-elsewhere (byte_of old) a n v cell offset)
+
+-- a number of no bytes is one of any
+pub fits-zero : (n : ℕ) → 0 < 256 ^ n
+fits-zero n =
+    let least : 0 ≤ n = omega arith in
+    let h : 256 ^ 0 ≤ 256 ^ n = pow-le-pow_right (omega arith) least in
+    omega (arith, h)
+
+row-length : (p : Place) (n : ℕ) → length (places_in_row p n) ≡ n
+row-length p zero = refl
+row-length p (suc n) = ap suc (row-length (further p 1) n)
+
+-- a number of so many bytes as a row has places
+pub fits-in_row : (v n : ℕ) (p : Place) (places : List Place) → places ≡ places_in_row p n → v < 256 ^ n → v < 256 ^ length places
+fits-in_row v n p places is h =
+    let e : length places ≡ n = ap (λ (ps : List Place). length ps) is ∙ row-length p n in
+    rw e h

@@ -1,6 +1,10 @@
 pub mod Pages
-pub mod Held
+pub mod Closed
+pub mod LiveView
+pub mod IsLive
+pub mod StateView
 pub mod Means
+pub mod Steps
 pub mod BoardView
 pub mod Turns
 pub mod Stands

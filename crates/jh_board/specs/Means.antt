@@ -1,11 +1,44 @@
--- What a board's memory and CPUs stand for.
-use Rattle.std.specs.Prelude.{◌≡◌, ℕ, ◌<◌, slice_get, Some}
+-- What a board's memory, CPUs, live cells and open call stand for.
+use Rattle.std.specs.Prelude.{◌≡◌, ℕ, ◌<◌, ◌≤◌, length, slice_get, Option, Some, None, All}
+use Rattle.jh_cellcfg.specs.declared.config.CellConfig.{CellConfig}
+use Rattle.jh_cellcfg.specs.declared.live.Live.{Live}
+use Rattle.jh_script.specs.declared.image.Image.{Image}
+use Rattle.jh_history.specs.declared.call.OpenCall.{OpenCall}
+use Rattle.jh_history.specs.declared.call.Phase.{Phase}
+use Rattle.jh_history.specs.declared.call.Phase.TheVariants.{ToCreate}
 use Rattle.jh_history.specs.declared.place.Place.{Place}
+use Rattle.jh_history.specs.DueFacts.{NamesCpu}
 use Rattle.jh_history.specs.Facts.{Facts}
-use Rattle.jh_board.specs.Pages.{byte_of}
-use Rattle.jh_board.specs.Held.{Held}
+use Rattle.jh_board.specs.Pages.{byte_of, HoldsComm}
+use Rattle.jh_board.specs.declared.held.Held.{Held}
 
--- what is held is as the facts say
-pub record Means (held : Held) (facts : Facts) : Type 0 where
-  pub bytes : (q : Place) → byte_of held.pages q ≡ facts.byte q
-  pub cpus : (i : ℕ) → i < 16 → slice_get held.states i ≡ Some (facts.cpu i)
+-- the communication page of the cell is held
+abbrev pub HoldsPageOf : Held → Live → Type 0
+HoldsPageOf held live = HoldsComm held.memory.comms live.config.id
+
+-- what is held has all that the cell takes when it comes: the index of its regions, room for it, and its page
+pub record IsReadyFor (held : Held) (config : CellConfig) : Type 0 where
+  pub index : held.index ≡ Some config.memory_regions
+  pub cells : 0 < held.cells.cells
+  pub regions : length config.memory_regions ≤ held.cells.regions
+  pub page : HoldsComm held.memory.comms config.id
+
+abbrev pub IsReadyIn : Held → Phase → Type 0
+IsReadyIn held (ToCreate config) = IsReadyFor held config
+IsReadyIn held phase = Unit {0}
+
+-- a create that is about to make its cell is ready for it
+abbrev pub IsReady : Held → Option OpenCall → Type 0
+IsReady held None = Unit {0}
+IsReady held (Some o) = IsReadyIn held o.phase
+
+-- what is held is as the facts say, and needs no memory for what the open call goes on to do
+pub record Means (image : Image) (held : Held) (facts : Facts) : Type 0 where
+  pub bytes : (q : Place) → byte_of held.memory q ≡ facts.byte q
+  pub cpus : (i : ℕ) → i < 16 → slice_get held.cpus i ≡ Some (facts.cpu i)
+  pub system : held.cells.system ≡ image.system
+  pub cells : held.cells.lives ≡ facts.cells
+  pub call : held.call ≡ facts.call
+  pub pages : All (HoldsPageOf held) facts.cells
+  pub named : All (λ (live : Live). NamesCpu live.config) facts.cells
+  pub ready : IsReady held facts.call

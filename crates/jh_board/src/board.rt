@@ -3,19 +3,21 @@ ghost use Rattle.std.specs.Prelude.{◌≡◌, ℕ, ◌+◌, ◌<◌, ◌≤◌,
 ghost use Rattle.jh_history.specs.Lives.{is_on_board};
 ghost use Rattle.jh_history.specs.Due.{due, IsLegal, IsQuiet};
 ghost use Rattle.jh_history.specs.History.{facts, start};
-ghost use Rattle.jh_history.specs.Admitted.{HasNoCall, IsAdmitted, IsBuilt};
+ghost use Rattle.jh_history.specs.Admitted.{IsAdmitted, IsBuilt};
 ghost use Rattle.jh_history.specs.declared.place.Place.{Place as ThePlace};
 ghost use Rattle.jh_board.specs.Pages.{byte_of};
 ghost use Rattle.jh_board.specs.Means.{Means};
 ghost use Rattle.jh_board.specs.Turns.{Turns, Refuses, Advances};
 
+use crate::cells::LiveCells;
+use crate::held::Held;
 use crate::indexed::IndexedImage;
 use crate::memory::Memory;
 use crate::state::{is_quiet, next_step};
 use crate::steps::make;
 use crate::turn::{Turn, TurnFault};
 use jh_cpu::Cpu;
-use jh_history::{Entry, Journal, root_lives_alone};
+use jh_history::{Entry, Journal, legal_journals_are_sound};
 use jh_num::{NoMemory, Steps};
 use jh_script::Image;
 use std::alloc::Global;
@@ -25,8 +27,7 @@ use std::marker::Model;
 pub struct Board {
     image: IndexedImage,
     limit: u32,
-    memory: Memory,
-    cpus: [Cpu; 16],
+    held: Held,
     journal: Journal,
     /// The CPU that made the last entry: it mostly has the next one due.
     last: u8,
@@ -47,35 +48,31 @@ impl Model for Board {
 /// Makes the entry that is due to the CPU, if any.
 fn advance(
     image: &IndexedImage,
-    memory: &mut Memory,
-    cpus: &mut [Cpu],
+    held: &mut Held,
     journal: &mut Journal,
     limit: u32,
     cpu: u8,
 ) -> Result<Option<Entry>, TurnFault>
-    requires cpus { length cpus.old ≡ 16 }
     requires cpu { cpu < 16 }
     requires within { length journal.old.entries ≤ limit }
-    requires means { Means (record { pages = memory.old; states = cpus.old }) (facts image.now journal.old.entries) }
-    requires silent { HasNoCall image.now }
+    requires means { Means image.now held.old (facts image.now journal.old.entries) }
     requires legal { IsLegal image.now journal.old.entries }
     ensures ok { IfOk result (λ made. Advances image.now limit journal.old.entries cpu made journal.new.entries) }
     ensures full { result ≡ Err TurnFault.Full → IsSome (due image.now journal.old.entries cpu) × (length journal.old.entries ≡ limit) }
     ensures err { OnErr result (journal.new.entries ≡ journal.old.entries) }
-    ensures means { Means (record { pages = memory.new; states = cpus.new }) (facts image.now journal.new.entries) }
+    ensures means { Means image.now held.new (facts image.now journal.new.entries) }
     ensures cpu { IfOk result (λ made. IfSome made (λ entry. entry.cpu ≡ cpu)) }
 {
     image.has_few_cpus();
-    root_lives_alone();
-    let next = next_step(image, memory, cpus, cpu)?;
-    let Some(step) = next else {
+    legal_journals_are_sound();
+    let Some(step) = next_step(image, held, cpu)? else {
         return Ok(None);
     };
     if journal.len() >= limit as usize {
         return Err(TurnFault::Full);
     }
     journal.reserve(1)?;
-    make(image, memory, cpus, &step.entry, &step.reach)?;
+    make(image, held, &step.entry, &step.reach)?;
     match journal.push(step.entry) {
         Ok(()) => Ok(Some(step.entry)),
         Err(_) => unreachable!(),
@@ -94,6 +91,23 @@ fn load(alloc: Global, image: &Image) -> Result<Memory, NoMemory>
     Ok(memory)
 }
 
+/// What is held at opening: the preloads, each CPU as root's, and no cell besides it.
+fn open_held(alloc: Global, image: &Image) -> Result<Held, NoMemory>
+    requires { IsAdmitted image.now }
+    ensures { IfOk result (λ held. Means image.now held (facts image.now [])) }
+{
+    let memory = load(alloc, image)?;
+    let cells = LiveCells::new(alloc, &image.system)?;
+    Ok(Held {
+        memory,
+        cpus: [Cpu::new(image.system.root.id); 16],
+        cells,
+        call: None,
+        index: None,
+        alloc,
+    })
+}
+
 impl Board {
     /// A board of the image, with an empty journal.
     pub fn open(alloc: Global, image: Image, limit: u32) -> Result<Self, Image>
@@ -102,17 +116,18 @@ impl Board {
         ensures ok { IfOk result (λ board. board ≡ record { image = image; limit = limit; entries = [] }) }
         ensures err { IfErr result (λ back. back ≡ image) }
     {
-        let cpus = [Cpu::new(image.system.root.id); 16];
-        let memory = match load(alloc, &image) {
-            Ok(memory) => memory,
+        let held = match open_held(alloc, &image) {
+            Ok(held) => held,
             Err(_) => return Err(image),
         };
-        let image = IndexedImage::new(alloc, image)?;
+        let image = match IndexedImage::new(alloc, image) {
+            Ok(image) => image,
+            Err(image) => return Err(image),
+        };
         Ok(Board {
             image,
             limit,
-            memory,
-            cpus,
+            held,
             journal: Journal::new(alloc),
             last: 0,
         })
@@ -142,8 +157,7 @@ impl Board {
     pub fn is_quiet(&self) -> bool
         ensures { IsTrue result ↔ IsQuiet self.now.image self.now.entries }
     {
-        root_lives_alone();
-        is_quiet(&self.image, &self.memory, &self.cpus, self.last)
+        is_quiet(&self.image, &self.held, self.last)
     }
 
     /// One turn of the CPU, which makes the entry that is due to it. `Full` is tested before the
@@ -157,8 +171,7 @@ impl Board {
         self.image.has_few_cpus();
         let made = advance(
             &self.image,
-            &mut self.memory,
-            &mut self.cpus,
+            &mut self.held,
             &mut self.journal,
             self.limit,
             cpu,

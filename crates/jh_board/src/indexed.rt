@@ -4,17 +4,18 @@ ghost use Rattle.jh_cellcfg.specs.Cells.{name_of as name_of_lem};
 ghost use Rattle.jh_cellcfg.specs.Regions.{IsInRange};
 ghost use Rattle.jh_mmio.specs.Index.{IsRegionAt};
 ghost use Rattle.jh_script.specs.Operations.{IsPlain};
-ghost use Rattle.jh_history.specs.Access.{region_of, place_of, reach_by};
-ghost use Rattle.jh_history.specs.Admitted.{IsAdmitted, pool_pages as pool_pages_lem, root_pages as root_pages_lem};
+ghost use Rattle.jh_history.specs.Access.{region_of};
+ghost use Rattle.jh_history.specs.Admitted.{IsAdmitted, pool_pages as pool_pages_lem};
 ghost use Rattle.jh_history.specs.Facts.{Facts};
-ghost use Rattle.jh_history.specs.Lives.{is_on_board as is_on_board_lem, program_of, is_program_of as is_program_of_lem, regions_in, op_at};
+ghost use Rattle.jh_history.specs.Lives.{is_on_board as is_on_board_lem, program_of as program_of_lem, is_program_of as is_program_of_lem, ops_in, op_at};
 ghost use Rattle.jh_board.specs.Indexed.{AreRootPrograms};
 
-use jh_cellcfg::Region;
+use crate::cells::LiveCells;
+use jh_cellcfg::{CellConfig, Region};
 use jh_cpu::Cpu;
 use jh_history::{
-    Access, Grants, Reach, Wanted, admitted_roots_are_sound, gives, is_on_board, is_program_of,
-    pool_pages, reach, root_pages,
+    Access, Grants, admitted_roots_are_sound, gives, is_on_board, is_program_of, pool_pages,
+    program_of,
 };
 use jh_mmio::RegionIndex;
 use jh_script::{Image, Op, Program};
@@ -68,8 +69,9 @@ fn root_programs(image: &Image) -> [usize; 16]
 }
 
 /// The region, where it gives the address with the right.
-fn giving(region: Option<Region>, access: Access, at: u64) -> Option<Region>
-    ensures { (regions : List Region) → IsRegionAt regions at region → result ≡ region_of regions access at }
+pub(crate) fn giving(region: Option<Region>, access: Access, at: u64) -> Option<Region>
+    ensures found { (regions : List Region) → IsRegionAt regions at region → result ≡ region_of regions access at }
+    ensures within { IfSome region (λ r. 0 < r.size → IsInRange r) → IfSome result IsInRange }
 {
     match region {
         Some(region) => {
@@ -110,6 +112,13 @@ impl IndexedImage {
         admitted_roots_are_sound(&self.image);
     }
 
+    /// The id of root.
+    pub fn root(&self) -> u32
+        ensures { result ≡ self.now.system.root.id }
+    {
+        self.image.system.root.id
+    }
+
     /// The image itself.
     pub fn image(&self) -> &Image
         ensures image { result.now ≡ self.now }
@@ -118,20 +127,19 @@ impl IndexedImage {
         &self.image
     }
 
+    /// The configuration of root.
+    pub fn config(&self) -> &CellConfig
+        ensures { result.now ≡ self.now.system.root }
+    {
+        &self.image.system.root
+    }
+
     /// How many pages the pool has.
     pub fn pool_pages(&self) -> u32
         ensures { result ≡ pool_pages_lem self.now.system }
     {
         admitted_roots_are_sound(&self.image);
         pool_pages(&self.image.system) as u32
-    }
-
-    /// How many pages root uses.
-    pub fn root_pages(&self) -> u32
-        ensures { result ≡ root_pages_lem self.now.system }
-    {
-        admitted_roots_are_sound(&self.image);
-        root_pages(&self.image.system) as u32
     }
 
     /// Whether the board has the CPU.
@@ -144,7 +152,7 @@ impl IndexedImage {
     /// The operations of root's program on the CPU.
     fn root_ops(&self, cpu: u8) -> &[Op]
         requires { cpu < 16 }
-        ensures ops { result.now ≡ program_of self.now (name_of_lem self.now.system.root) cpu }
+        ensures ops { result.now ≡ program_of_lem self.now (name_of_lem self.now.system.root) cpu }
         ensures plain { All IsPlain result.now }
     {
         match self.image.programs.get(self.programs[cpu as usize]) {
@@ -153,25 +161,30 @@ impl IndexedImage {
         }
     }
 
-    /// The operation that the CPU is at, in that state, where root lives alone.
-    pub fn operation(&self, cpu: u8, state: Cpu) -> Option<Op>
+    /// The operations of the CPU's program in the cell with the id, where these cells live besides root.
+    fn ops<'a>(&'a self, cells: &LiveCells, id: u32, cpu: u8) -> &'a [Op]
         requires { cpu < 16 }
-        ensures told { (f : Facts) → f.cells ≡ [] → result ≡ op_at self.now f state cpu }
-        ensures plain { IfSome result IsPlain }
+        ensures ops { result.now ≡ ops_in self.now cells.now.lives id cpu }
+        ensures plain { All IsPlain result.now }
     {
-        if state.owner == self.image.system.root.id {
-            self.root_ops(cpu).get(state.position as usize).copied()
-        } else {
-            None
+        if id == self.image.system.root.id {
+            return self.root_ops(cpu);
+        }
+        match cells.live(u64::from(id)) {
+            Some(cell) => program_of(&self.image, cell.name(), cpu),
+            None => &[],
         }
     }
 
-    /// What the cell's access reaches, where root lives alone.
-    pub fn reach(&self, cell: u32, wanted: &Wanted) -> Reach
-        requires { wanted.now.width ≤ 8 }
-        ensures reach { result ≡ reach_by (place_of cell (regions_in self.now [] cell) wanted.now.access) wanted.now.at wanted.now.width }
+    /// The operation that the CPU is at, in that state, where these cells live besides root.
+    pub fn operation(&self, cells: &LiveCells, cpu: u8, state: Cpu) -> Option<Op>
+        requires { cpu < 16 }
+        ensures told { (f : Facts) → f.cells ≡ cells.now.lives → result ≡ op_at self.now f state cpu }
+        ensures plain { IfSome result IsPlain }
     {
-        reach(self, cell, wanted)
+        self.ops(cells, state.owner, cpu)
+            .get(state.position as usize)
+            .copied()
     }
 }
 

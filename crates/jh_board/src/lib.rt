@@ -2,10 +2,16 @@
 #![tactic(auto)]
 
 mod board;
+mod cells;
+mod closed;
+mod comm_pages;
 mod crossing;
+mod granted;
+mod held;
 mod indexed;
 mod memory;
 mod page;
+mod physical;
 mod state;
 mod steps;
 mod turn;

@@ -1,40 +1,34 @@
-//! Bytes at places; a page that isn't held is zero.
-ghost use Rattle.std.specs.Prelude.{◌≡◌, ◌≢◌, ℕ, ◌+◌, ◌%◌, ◌<◌, ◌≤◌, ◌^◌, ◌++◌, OnOk, OnErr, IfSome, length, map, List, All, true};
+//! Bytes at places: those of physical memory, and those of communication pages.
+ghost use Rattle.std.specs.Prelude.{◌≡◌, ℕ, ◌+◌, ◌%◌, ◌<◌, ◌≤◌, ◌^◌, ◌++◌, OnOk, OnErr, IfSome, length, map, List, All};
 ghost use Rattle.jh_num.specs.Memory.{spelled, stored};
 ghost use Rattle.jh_history.specs.declared.place.Place.{Place as ThePlace};
-ghost use Rattle.jh_history.specs.Places.{is_physical, places_in_row, places_of_run, IsRun, with_byte, written, over};
-ghost use Rattle.jh_board.specs.Pages.{byte_at, byte_of, Holds, HoldsPlace};
+ghost use Rattle.jh_history.specs.Pages.{with_page};
+ghost use Rattle.jh_history.specs.Places.{places_in_row, places_of_run, IsRun, with_byte, written, over};
+ghost use Rattle.jh_board.specs.Pages.{byte_at, byte_of, HoldsComm, HoldsPlace, MayHold};
 
-use crate::page::Page;
-use indexmap::IndexMap;
-use jh_history::{Bytes, Place, Places, Run, value_of};
+use crate::comm_pages::CommPages;
+use crate::physical::{Physical, Piece};
+use jh_history::{Bytes, PageWrite, Place, Places, Run, value_of};
 use jh_num::NoMemory;
 use std::alloc::Global;
 use std::marker::Model;
 
-/// Physical memory: pages of 4,096 bytes by their number, in a map.
+/// The memory of a board: that of the machine, and a communication page for each cell that has lived.
 #[derive(Drop)]
 pub struct Memory {
-    pages: IndexMap<u64, Page>,
-    alloc: Global,
+    physical: Physical,
+    comms: CommPages,
 }
 
 impl Model for Memory {
-    ghost use Rattle.std.specs.Prelude.{◌≡◌, ℕ, List, length};
+    ghost use Rattle.jh_board.specs.Pages.{MemoryView};
 
-    ghost Value = { List (ℕ × List ℕ) };
+    ghost Value = { MemoryView };
 
-    ghost view = { λ m. m.pages.entries };
+    ghost view = { λ m. record { physical = m.physical; comms = m.comms } };
 }
 
-/// So many bytes from the address on, all of one page.
-#[derive(Clone, Copy)]
-struct Piece {
-    at: u64,
-    count: usize,
-}
-
-/// The piece of memory that the places are, if they are one.
+/// The piece of physical memory that the places are, if they are one.
 fn piece_of(places: &Places) -> Option<Piece>
     ensures page { IfSome result (λ piece. piece.at % 4096 + piece.count ≤ 4096) }
     ensures few { IfSome result (λ piece. piece.count ≤ 8) }
@@ -55,35 +49,13 @@ fn piece_of(places: &Places) -> Option<Piece>
 }
 
 impl Memory {
+    /// Memory of zeros, where no page is held.
     pub fn new(alloc: Global) -> Self
-        ensures { (place : ℕ) → byte_at result place ≡ 0 }
+        ensures { (q : ThePlace) → byte_of result q ≡ 0 }
     {
         Memory {
-            pages: IndexMap::new(alloc),
-            alloc,
-        }
-    }
-
-    /// The byte at the place.
-    pub fn read(&self, place: u64) -> u8
-        ensures { result ≡ byte_at self.now place }
-    {
-        match self.pages.get(&(place / 4096)) {
-            None => 0,
-            Some(page) => page.get((place % 4096) as usize),
-        }
-    }
-
-    /// The number that the bytes of the piece spell, the lowest first.
-    fn value_in_page(&self, piece: Piece) -> u64
-        requires page { piece.at % 4096 + piece.count ≤ 4096 }
-        requires few { piece.count ≤ 8 }
-        ensures value { result ≡ spelled (map (byte_of self.now) (places_in_row (Place.Physical piece.at) piece.count)) }
-        ensures fits { result < 256 ^ piece.count }
-    {
-        match self.pages.get(&(piece.at / 4096)) {
-            Some(page) => page.value((piece.at % 4096) as usize, piece.count),
-            None => 0,
+            physical: Physical::new(alloc),
+            comms: CommPages::new(alloc),
         }
     }
 
@@ -93,65 +65,21 @@ impl Memory {
         ensures fits { result < 256 ^ length places.now }
     {
         match piece_of(places) {
-            Some(piece) => self.value_in_page(piece),
+            Some(piece) => self.physical.value(piece),
             None => value_of(self, places),
-        }
-    }
-
-    /// Puts the bytes, all into the page of the first.
-    fn put(&mut self, at: u64, bytes: &[u8]) -> Result<(), NoMemory>
-        requires { at % 4096 + length bytes.now ≤ 4096 }
-        ensures ok { OnOk result ((q : ℕ) → byte_at self.new q ≡ stored (byte_at self.old) at bytes.now q) }
-        ensures err { OnErr result ((q : ℕ) → byte_at self.new q ≡ byte_at self.old q) }
-    {
-        let number = at / 4096;
-        let offset = (at % 4096) as usize;
-        if let Some(page) = self.pages.get_mut(&number) {
-            page.put(offset, bytes);
-            return Ok(());
-        }
-        let mut page = Page::zero(self.alloc)?;
-        page.put(offset, bytes);
-        self.pages.insert(number, page)?;
-        Ok(())
-    }
-
-    /// Holds the page of the place. No byte changes.
-    pub fn hold(&mut self, place: u64) -> Result<(), NoMemory>
-        ensures bytes { (q : ℕ) → byte_at self.new q ≡ byte_at self.old q }
-        ensures held { OnOk result (Holds self.new place) }
-        ensures others { (q : ℕ) → Holds self.old q → Holds self.new q }
-    {
-        let number = place / 4096;
-        if !self.pages.contains_key(&number) {
-            let page = Page::zero(self.alloc)?;
-            self.pages.insert(number, page)?;
-        }
-        Ok(())
-    }
-
-    /// Writes the byte at a place that is held.
-    pub fn write(&mut self, place: u64, byte: u8)
-        requires { Holds self.old place }
-        ensures at { byte_at self.new place ≡ byte }
-        ensures others { (q : ℕ) → q ≢ place → byte_at self.new q ≡ byte_at self.old q }
-        ensures held { (q : ℕ) → Holds self.old q → Holds self.new q }
-    {
-        if let Some(page) = self.pages.get_mut(&(place / 4096)) {
-            page.set((place % 4096) as usize, byte);
         }
     }
 
     /// Holds the page of the place.
     fn hold_place(&mut self, place: Place) -> Result<(), NoMemory>
-        requires { is_physical place ≡ true }
+        requires { MayHold self.old place }
         ensures bytes { (q : ThePlace) → byte_of self.new q ≡ byte_of self.old q }
         ensures held { OnOk result (HoldsPlace self.new place) }
         ensures others { (q : ThePlace) → HoldsPlace self.old q → HoldsPlace self.new q }
     {
         match place {
-            Place::Physical(address) => self.hold(address),
-            Place::Page { .. } => unreachable!(),
+            Place::Physical(address) => self.physical.hold(address),
+            Place::Page { .. } => Ok(()),
         }
     }
 
@@ -159,7 +87,7 @@ impl Memory {
     fn hold_run(&mut self, run: Run) -> Result<(), NoMemory>
         requires run { IsRun run }
         requires few { run.count ≤ 8 }
-        requires physical { All (λ p. is_physical p ≡ true) (places_of_run run) }
+        requires may { All (MayHold self.old) (places_of_run run) }
         ensures bytes { (q : ThePlace) → byte_of self.new q ≡ byte_of self.old q }
         ensures held { OnOk result (All (HoldsPlace self.new) (places_of_run run)) }
         ensures others { (q : ThePlace) → HoldsPlace self.old q → HoldsPlace self.new q }
@@ -174,9 +102,10 @@ impl Memory {
 
     /// Holds the pages of the places. No byte changes.
     fn hold_places(&mut self, places: &Places) -> Result<(), NoMemory>
-        requires { All (λ p. is_physical p ≡ true) places.now }
+        requires { All (MayHold self.old) places.now }
         ensures bytes { (q : ThePlace) → byte_of self.new q ≡ byte_of self.old q }
         ensures held { OnOk result (All (HoldsPlace self.new) places.now) }
+        ensures others { (q : ThePlace) → HoldsPlace self.old q → HoldsPlace self.new q }
     {
         let (low, high) = places.runs();
         self.hold_run(low)?;
@@ -191,8 +120,8 @@ impl Memory {
         ensures held { (q : ThePlace) → HoldsPlace self.old q → HoldsPlace self.new q }
     {
         match place {
-            Place::Physical(address) => self.write(address, byte),
-            Place::Page { .. } => unreachable!(),
+            Place::Physical(address) => self.physical.write(address, byte),
+            Place::Page { cell, offset } => self.comms.write(cell, offset, byte),
         }
     }
 
@@ -215,7 +144,8 @@ impl Memory {
     /// Writes the value over places that are held, the lowest byte first.
     fn write_places(&mut self, places: &Places, value: u64)
         requires { All (HoldsPlace self.old) places.now }
-        ensures { (q : ThePlace) → byte_of self.new q ≡ written (byte_of self.old) places.now value q }
+        ensures bytes { (q : ThePlace) → byte_of self.new q ≡ written (byte_of self.old) places.now value q }
+        ensures held { (q : ThePlace) → HoldsPlace self.old q → HoldsPlace self.new q }
     {
         let (low, high) = places.runs();
         let rest = self.write_run(low, value);
@@ -224,14 +154,15 @@ impl Memory {
 
     /// Writes the value over the places, the lowest byte first.
     pub fn write_value(&mut self, places: &Places, value: u64) -> Result<(), NoMemory>
-        requires { All (λ p. is_physical p ≡ true) places.now }
+        requires { All (MayHold self.old) places.now }
         ensures ok { OnOk result ((q : ThePlace) → byte_of self.new q ≡ written (byte_of self.old) places.now value q) }
         ensures err { OnErr result ((q : ThePlace) → byte_of self.new q ≡ byte_of self.old q) }
+        ensures held { (cell : ℕ) → HoldsComm self.old.comms cell → HoldsComm self.new.comms cell }
     {
         match piece_of(places) {
             Some(piece) => {
                 let bytes = value.to_le_bytes();
-                self.put(piece.at, &bytes[..piece.count])?;
+                self.physical.put(piece.at, &bytes[..piece.count])?;
                 Ok(())
             }
             None => {
@@ -242,20 +173,31 @@ impl Memory {
         }
     }
 
-    /// Puts the bytes from `at` on.
+    /// Puts the bytes into physical memory from `at` on.
     pub fn store(&mut self, at: u64, bytes: &[u8]) -> Result<(), NoMemory>
         requires { at + length bytes.now < 2 ^ 64 }
-        ensures { OnOk result ((q : ℕ) → byte_at self.new q ≡ stored (byte_at self.old) at bytes.now q) }
+        ensures bytes { OnOk result ((q : ℕ) → byte_of self.new (Place.Physical q) ≡ stored (byte_at self.old.physical) at bytes.now q) }
+        ensures comms { self.new.comms ≡ self.old.comms }
     {
-        let mut done = 0;
-        while done < bytes.len() {
-            let from = at + done as u64;
-            let room = 4096 - (from % 4096) as usize;
-            let end = bytes.len().min(done + room);
-            self.put(from, &bytes[done..end])?;
-            done = end;
-        }
-        Ok(())
+        self.physical.store(at, bytes)
+    }
+
+    /// Holds the communication page of the cell. No byte changes.
+    pub fn hold_page(&mut self, cell: u32) -> Result<(), NoMemory>
+        ensures bytes { (q : ThePlace) → byte_of self.new q ≡ byte_of self.old q }
+        ensures held { OnOk result (HoldsComm self.new.comms cell) }
+        ensures others { (other : ℕ) → HoldsComm self.old.comms other → HoldsComm self.new.comms other }
+    {
+        self.comms.hold(cell)
+    }
+
+    /// Changes words of a communication page that is held.
+    pub fn change_page(&mut self, write: &PageWrite)
+        requires { HoldsComm self.old.comms write.now.cell }
+        ensures bytes { (q : ThePlace) → byte_of self.new q ≡ with_page write.now (byte_of self.old) q }
+        ensures held { (other : ℕ) → HoldsComm self.old.comms other → HoldsComm self.new.comms other }
+    {
+        self.comms.change(write)
     }
 }
 
@@ -266,8 +208,8 @@ impl Bytes for Memory {
 
     fn byte(&self, place: Place) -> u8 {
         match place {
-            Place::Physical(address) => self.read(address),
-            Place::Page { .. } => 0,
+            Place::Physical(address) => self.physical.read(address),
+            Place::Page { cell, offset } => self.comms.read(cell, offset),
         }
     }
 }

@@ -1,8 +1,11 @@
 //! A page of 4,096 bytes.
 ghost use Rattle.std.specs.Prelude.{◌≡◌, ◌≢◌, ℕ, ◌+◌, ◌<◌, ◌≤◌, ◌^◌, length, slice_index, IfOk};
 ghost use Rattle.jh_num.specs.Memory.{spelled, stored};
+ghost use Rattle.jh_history.specs.Pages.{page_after};
 ghost use Rattle.jh_board.specs.Pages.{bytes_from};
 
+use jh_comm::{fresh, send, set_state};
+use jh_history::PageChange;
 use jh_num::NoMemory;
 use std::alloc::Global;
 use std::marker::Model;
@@ -21,6 +24,22 @@ impl Model for Page {
     ghost view = { λ p. p.bytes.items };
 
     ghost invariant = { λ p. length p.bytes.items ≡ 4096 };
+}
+
+/// Changes words of a communication page.
+fn change_words(page: &mut [u8], change: &PageChange)
+    requires { length page.old ≡ 4096 }
+    ensures { (k : ℕ) → k < 4096 → slice_index page.new k ≡ page_after change.now (λ j. slice_index page.old j) k }
+{
+    match *change {
+        PageChange::State(state) => set_state(page, state),
+        PageChange::Message(message) => send(page, message),
+        PageChange::Fresh {
+            state,
+            console,
+            window,
+        } => fresh(page, state, &console, window),
+    }
 }
 
 impl Page {
@@ -43,7 +62,7 @@ impl Page {
     pub fn value(&self, offset: usize, count: usize) -> u64
         requires within { offset + count ≤ 4096 }
         requires few { count ≤ 8 }
-        ensures value { result ≡ spelled (bytes_from (slice_index self.now) offset count) }
+        ensures spells { result ≡ spelled (bytes_from (slice_index self.now) offset count) }
         ensures fits { result < 256 ^ count }
     {
         let mut value = 0;
@@ -67,5 +86,24 @@ impl Page {
         ensures { (k : ℕ) → slice_index self.new k ≡ stored (slice_index self.old) offset bytes.now k }
     {
         self.bytes[offset..offset + bytes.len()].copy_from_slice(bytes);
+    }
+
+    /// The byte at the offset, 0 past the page's end.
+    pub fn byte(&self, offset: u64) -> u8
+        ensures { result ≡ slice_index self.now offset }
+    {
+        if offset < self.bytes.len() as u64 {
+            self.bytes[offset as usize]
+        } else {
+            0
+        }
+    }
+
+    /// Changes words of a communication page.
+    pub fn change(&mut self, change: &PageChange)
+        ensures page { (k : ℕ) → k < 4096 → slice_index self.new k ≡ page_after change.now (λ j. slice_index self.old j) k }
+        ensures behind { (k : ℕ) → 4096 ≤ k → slice_index self.new k ≡ slice_index self.old k }
+    {
+        change_words(&mut self.bytes, change);
     }
 }

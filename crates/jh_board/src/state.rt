@@ -1,68 +1,95 @@
-//! A board's memory and CPUs, as what tells the facts of its journal.
-ghost use Rattle.std.specs.Prelude.{◌≡◌, ℕ, ◌<◌, ◌↔◌, None, IfSome, IfOk, IsTrue, length, option_map};
+//! What a board holds, as what tells the facts of its journal.
+ghost use Rattle.std.specs.Prelude.{◌≡◌, ℕ, ◌<◌, ◌↔◌, None, IfSome, IfOk, IsTrue, option_map};
 ghost use Rattle.jh_history.specs.Due.{due_at};
-ghost use Rattle.jh_history.specs.Alone.{IsAlone};
 ghost use Rattle.jh_history.specs.Facts.{Facts};
 ghost use Rattle.jh_history.specs.Wants.{IsReachOfEntry};
 ghost use Rattle.jh_board.specs.Means.{Means};
 ghost use Rattle.jh_board.specs.declared.state.NextStep.{NextStep as TheStep};
 
+use crate::granted::reach;
+use crate::held::Held;
 use crate::indexed::IndexedImage;
-use crate::memory::Memory;
 use jh_cellcfg::CellConfig;
 use jh_cpu::Cpu;
 use jh_history::{
-    Creation, Entry, Known, OpenCall, Places, Reach, Wanted, next_of, none_due, reach_of,
+    Access, Creation, Entry, Known, OpenCall, Places, Reach, RootBytes, Wanted, is_any_locked,
+    is_any_other_locked, judged, next_of, none_due, reach_of, read_config,
 };
 use jh_num::NoMemory;
+use jh_num::error::EPERM;
 use jh_script::Op;
 use std::marker::Model;
 
 /// What a board holds, lent to what reads it.
 #[derive(Drop)]
-struct State<'a> {
+pub struct State<'a> {
     image: &'a IndexedImage,
-    memory: &'a Memory,
-    cpus: &'a [Cpu],
+    held: &'a Held,
 }
 
 impl<'a> Model for State<'a> {
-    ghost use Rattle.std.specs.Prelude.{◌≡◌, length};
-    ghost use Rattle.jh_board.specs.Held.{StateView};
+    ghost use Rattle.jh_board.specs.StateView.{StateView};
 
     ghost Value = { StateView };
 
-    ghost view = { λ s. record { image = s.image.now; held = record { pages = s.memory.now; states = s.cpus.now } } };
+    ghost view = { λ s. record { image = s.image.now; held = s.held.now } };
+}
 
-    ghost invariant = { λ s. length s.cpus.now ≡ 16 };
+impl<'a> State<'a> {
+    pub fn new(image: &'a IndexedImage, held: &'a Held) -> Self
+        ensures { result ≡ record { image = image.now; held = held.now } }
+    {
+        State { image, held }
+    }
+}
+
+impl<'a> RootBytes for State<'a> {
+    ghost use Rattle.jh_history.specs.declared.access.Access.TheVariants.{Read};
+    ghost use Rattle.jh_history.specs.Access.{reach_by, read_of};
+    ghost use Rattle.jh_history.specs.Grants.{granted_in};
+    ghost use Rattle.jh_board.specs.Pages.{byte_of};
+
+    ghost readable = { λ s at. read_of (byte_of s.held.memory) (reach_by (granted_in s.image s.held.cells.lives s.image.system.root.id Read) at 1) };
+
+    fn read(&self, at: u64) -> Option<u8> {
+        let wanted = Wanted {
+            access: Access::Read,
+            at,
+            width: 1,
+        };
+        match reach(self.image, &self.held.cells, self.image.root(), &wanted) {
+            Reach::Memory(places) => Some(self.held.memory.value(&places) as u8),
+            Reach::Nothing => None,
+        }
+    }
+
+    fn ends(&self) {}
 }
 
 impl<'a> Known for State<'a> {
     ghost use Rattle.std.specs.Prelude.{◌≡◌};
-    ghost use Rattle.jh_history.specs.Alone.{IsAlone};
     ghost use Rattle.jh_board.specs.Means.{Means};
 
-    ghost Knows = { λ s i f. (i ≡ s.image) × Means s.held f × IsAlone i f };
+    ghost Knows = { λ s i f. (i ≡ s.image) × Means i s.held f };
 
     fn root(&self) -> u32 {
-        self.image.image().system.root.id
+        self.image.root()
     }
 
     fn cell(&self, id: u64) -> Option<&CellConfig> {
-        let root = &self.image.image().system.root;
-        if id == u64::from(root.id) {
-            Some(root)
+        if id == u64::from(self.image.root()) {
+            Some(self.image.config())
         } else {
-            None
+            self.held.cells.live(id)
         }
     }
 
-    fn live(&self, _id: u64) -> Option<&CellConfig> {
-        None
+    fn live(&self, id: u64) -> Option<&CellConfig> {
+        self.held.cells.live(id)
     }
 
     fn count(&self) -> u32 {
-        1
+        self.held.cells.count()
     }
 
     fn size(&self) -> u32 {
@@ -70,20 +97,28 @@ impl<'a> Known for State<'a> {
     }
 
     fn used(&self) -> u32 {
-        self.image.root_pages()
+        self.held.cells.used()
     }
 
-    fn is_other_locked(&self, _id: u64) -> bool {
-        false
+    fn is_other_locked(&self, id: u64) -> bool {
+        is_any_other_locked(&self.held.memory, self.held.cells.list(), id)
     }
 
-    /// It is never asked: no call is open where root lives alone.
-    fn creation(&self, _caller: u8, _at: u64) -> Result<Creation, NoMemory> {
-        Err(NoMemory)
+    fn creation(&self, caller: u8, at: u64) -> Result<Creation, NoMemory> {
+        let cells = self.held.cells.list();
+        if is_any_locked(&self.held.memory, cells) {
+            return Ok(Creation::Refused { number: EPERM });
+        }
+        let read = read_config(self.held.alloc, self, at)?;
+        // Beside 15 cells no verdict is known here yet.
+        if cells.len() > 14 {
+            return Err(NoMemory);
+        }
+        Ok(judged(self.image.image(), cells, &self.held.cpus, caller, read))
     }
 
     fn call(&self) -> Option<&OpenCall> {
-        None
+        self.held.call.as_ref()
     }
 
     fn has_few_cpus(&self) {
@@ -95,19 +130,19 @@ impl<'a> Known for State<'a> {
     }
 
     fn cpu(&self, cpu: u8) -> Cpu {
-        self.cpus[usize::from(cpu)]
+        self.held.cpus[usize::from(cpu)]
     }
 
     fn operation(&self, cpu: u8, state: Cpu) -> Option<Op> {
-        self.image.operation(cpu, state)
+        self.image.operation(&self.held.cells, cpu, state)
     }
 
     fn reach(&self, cell: u32, wanted: &Wanted) -> Reach {
-        self.image.reach(cell, wanted)
+        reach(self.image, &self.held.cells, cell, wanted)
     }
 
     fn value(&self, places: &Places) -> u64 {
-        self.memory.value(places)
+        self.held.memory.value(places)
     }
 }
 
@@ -118,43 +153,26 @@ pub struct NextStep {
     pub reach: Reach,
 }
 
-/// What the CPU does next.
-pub fn next_step(
-    image: &IndexedImage,
-    memory: &Memory,
-    cpus: &[Cpu],
-    cpu: u8,
-) -> Result<Option<NextStep>, NoMemory>
-    requires cpus { length cpus.now ≡ 16 }
-    requires cpu { cpu < 16 }
-    ensures due { (f : Facts) → Means (record { pages = memory.now; states = cpus.now }) f → IsAlone image.now f → IfOk result (λ step. option_map (λ (s : TheStep). s.entry) step ≡ due_at image.now f cpu) }
-    ensures reached { (f : Facts) → Means (record { pages = memory.now; states = cpus.now }) f → IsAlone image.now f → IfOk result (λ step. IfSome step (λ s. IsReachOfEntry image.now f s.entry s.reach)) }
+/// What the CPU does next. Only what a create reads takes memory.
+pub fn next_step(image: &IndexedImage, held: &Held, cpu: u8) -> Result<Option<NextStep>, NoMemory>
+    requires { cpu < 16 }
+    ensures due { (f : Facts) → Means image.now held.now f → IfOk result (λ step. option_map (λ (s : TheStep). s.entry) step ≡ due_at image.now f cpu) }
+    ensures reached { (f : Facts) → Means image.now held.now f → IfOk result (λ step. IfSome step (λ s. IsReachOfEntry image.now f s.entry s.reach)) }
     ensures cpu { IfOk result (λ step. IfSome step (λ s. s.entry.cpu ≡ cpu)) }
 {
-    let state = State {
-        image,
-        memory,
-        cpus,
-    };
+    let state = State::new(image, held);
     let reach = reach_of(&state, cpu);
-    let next = next_of(&state, cpu, &reach)?;
-    match next {
+    match next_of(&state, cpu, &reach)? {
         Some(entry) => Ok(Some(NextStep { entry, reach })),
         None => Ok(None),
     }
 }
 
 /// Whether nothing is due to any CPU; they are asked from `first` on.
-pub fn is_quiet(image: &IndexedImage, memory: &Memory, cpus: &[Cpu], first: u8) -> bool
-    requires cpus { length cpus.now ≡ 16 }
-    requires first { first < 16 }
-    ensures { (f : Facts) → Means (record { pages = memory.now; states = cpus.now }) f → IsAlone image.now f → IsTrue result ↔ ((cpu : ℕ) → due_at image.now f cpu ≡ None) }
+pub fn is_quiet(image: &IndexedImage, held: &Held, first: u8) -> bool
+    requires { first < 16 }
+    ensures { (f : Facts) → Means image.now held.now f → IsTrue result ↔ ((cpu : ℕ) → due_at image.now f cpu ≡ None) }
 {
     image.has_few_cpus();
-    let state = State {
-        image,
-        memory,
-        cpus,
-    };
-    none_due(&state, first)
+    none_due(&State::new(image, held), first)
 }

@@ -1,27 +1,171 @@
-//! What an entry does to memory and to the CPUs.
-ghost use Rattle.std.specs.Prelude.{◌≡◌, ℕ, ◌<◌, ◌≤◌, None, length, OnOk, OnErr};
+//! What an entry does to what a board holds.
+ghost use Rattle.std.specs.Prelude.{◌≡◌, ℕ, ◌<◌, ◌≤◌, AllPairs, OnOk, OnErr, IfOk, IfSome, Some, None, option_copied};
+ghost use Rattle.std.specs.Option.{option_map_or};
+ghost use Rattle.jh_cellcfg.specs.declared.config.CellConfig.{CellConfig as TheConfig};
+ghost use Rattle.jh_mmio.specs.Index.{SharesNoAddress};
 ghost use Rattle.jh_script.specs.declared.image.Image.{Image};
 ghost use Rattle.jh_history.specs.declared.place.Place.{Place as ThePlace};
-ghost use Rattle.jh_history.specs.Access.{write_of, IsPhysical};
+ghost use Rattle.jh_history.specs.Access.{write_of};
 ghost use Rattle.jh_history.specs.Bytes.{byte_written};
-ghost use Rattle.jh_history.specs.Alone.{IsByRoot};
+ghost use Rattle.jh_history.specs.Calls.{call_by};
+ghost use Rattle.jh_history.specs.Commits.{cells_by, created_by};
+ghost use Rattle.jh_history.specs.DueFacts.{NamesCpu};
 ghost use Rattle.jh_history.specs.Facts.{Facts};
 ghost use Rattle.jh_history.specs.History.{after};
-ghost use Rattle.jh_history.specs.Wants.{IsReachOfAct, IsReachOfEntry, IsPhysicalOf};
-ghost use Rattle.jh_board.specs.Pages.{byte_of};
-ghost use Rattle.jh_board.specs.Means.{Means};
+ghost use Rattle.jh_history.specs.Pages.{with_page_write};
+ghost use Rattle.jh_history.specs.Due.{due_at};
+ghost use Rattle.jh_history.specs.Wants.{IsReachOfAct, IsReachOfEntry};
+ghost use Rattle.jh_board.specs.Pages.{byte_of, HoldsComm};
+ghost use Rattle.jh_board.specs.Means.{Means, IsReady, IsReadyFor};
+ghost use Rattle.jh_board.specs.Steps.{goes_on as goes_on_lem, create_of as create_of_lem, change_of_call as change_of_call_lem, change_of_cells as change_of_cells_lem, changed_cells, IsNext, IsRead, IsFree, WillBeReady, IsPrepared, MayWrite, MayWriteOf, MayJoin, joined_cells};
 
+use crate::cells::LiveCells;
+use crate::held::Held;
 use crate::indexed::IndexedImage;
 use crate::memory::Memory;
-use jh_cpu::Cpu;
-use jh_history::{Act, Entry, Reach, cpus_after};
+use crate::state::State;
+use jh_call::Call;
+use jh_cellcfg::CellConfig;
+use jh_history::{
+    Act, Called, Creation, Entry, Known, OpenCall, PageWrite, Reach, a_cell_that_comes_may_live,
+    call_after, cpus_after, decides_are_of_the_open_call, few_cells_live, page_write,
+    pages_written_are_of_cells, places_reached_are_of_cells, sound_cells_name_a_cpu,
+};
+use jh_mmio::RegionIndex;
 use jh_num::NoMemory;
+
+/// What a Commit does to the cells that live already.
+#[derive(Clone, Copy, PartialEq, Eq, Debug)]
+pub enum CellsChange {
+    Keep,
+    /// The cell becomes loadable, or is so no longer.
+    Mark { id: u64, loadable: bool },
+    /// The cell lives no longer.
+    Remove { id: u64 },
+}
+
+/// What the Commit of the call does to the cells that live already.
+fn change_of_call(call: &Call) -> CellsChange
+    ensures { result ≡ change_of_call_lem call.now }
+{
+    match *call {
+        Call::Start { id } => CellsChange::Mark {
+            id,
+            loadable: false,
+        },
+        Call::Loadable { id } => CellsChange::Mark { id, loadable: true },
+        Call::Destroy { id } => CellsChange::Remove { id },
+        _ => CellsChange::Keep,
+    }
+}
+
+/// What the act does to the cells that live already, where the call is open.
+fn change_of_cells(call: Option<&OpenCall>, act: &Act) -> CellsChange
+    ensures { result ≡ change_of_cells_lem (option_copied call.entry) act.now }
+{
+    match (act, call) {
+        (Act::Commit, Some(begun)) => change_of_call(&begun.call),
+        _ => CellsChange::Keep,
+    }
+}
+
+/// Changes the cells so.
+fn change_cells(cells: &mut LiveCells, change: CellsChange)
+    ensures system { cells.new.system ≡ cells.old.system }
+    ensures lives { cells.new.lives ≡ changed_cells change cells.old.lives }
+    ensures kept { change ≡ CellsChange.Keep → cells.new ≡ cells.old }
+{
+    match change {
+        CellsChange::Keep => {}
+        CellsChange::Mark { id, loadable } => cells.set_loadable(id, loadable),
+        CellsChange::Remove { id } => cells.remove(id),
+    }
+}
+
+/// Whether the act is a Decide that goes on.
+fn goes_on(act: &Act) -> bool
+    ensures { result ≡ goes_on_lem act.now }
+{
+    matches!(act, Act::Decide { refused: None })
+}
+
+/// Where a create reads its configuration.
+fn create_of(call: &Call) -> Option<u64>
+    ensures { result ≡ create_of_lem call.now }
+{
+    match *call {
+        Call::Create { at } => Some(at),
+        _ => None,
+    }
+}
+
+/// The configuration that a create reads at its Decide, where it goes on.
+fn coming_of(
+    image: &IndexedImage,
+    held: &Held,
+    entry: &Entry,
+) -> Result<Option<CellConfig>, NoMemory>
+    requires { IsNext image.now held.now entry.now }
+    ensures read { (f : Facts) → Means image.now held.now f → due_at image.now f entry.now.cpu ≡ Some entry.now → IfOk result (IsRead image.now f entry.now) }
+    ensures ready { (f : Facts) → Means image.now held.now f → due_at image.now f entry.now.cpu ≡ Some entry.now → IfOk result (WillBeReady image.now f entry.now) }
+    ensures free { (f : Facts) → Means image.now held.now f → due_at image.now f entry.now.cpu ≡ Some entry.now → IfOk result (IsFree f) }
+    ensures apart { IfOk result (λ coming. IfSome coming (λ config. AllPairs SharesNoAddress config.memory_regions)) }
+{
+    if !goes_on(&entry.act) {
+        return Ok(None);
+    }
+    let Some(begun) = &held.call else {
+        return Ok(None);
+    };
+    let Some(at) = create_of(&begun.call) else {
+        return Ok(None);
+    };
+    decides_are_of_the_open_call();
+    a_cell_that_comes_may_live();
+    let state = State::new(image, held);
+    match state.creation(begun.caller, at)? {
+        Creation::Comes { config } => Ok(Some(config)),
+        Creation::Refused { .. } => unreachable!(),
+    }
+}
+
+/// Takes all memory that the cell needs when it comes.
+fn make_ready(held: &mut Held, config: &CellConfig) -> Result<(), NoMemory>
+    requires { AllPairs SharesNoAddress config.now.memory_regions }
+    ensures ready { OnOk result (IsReadyFor held.new config.now) }
+    ensures means { (i : Image) (f : Facts) → IsFree f (Some config.now) → Means i held.old f → Means i held.new f }
+{
+    let index = held.cells.prepare(held.alloc, config)?;
+    held.memory.hold_page(config.id)?;
+    held.index = Some(index);
+    Ok(())
+}
+
+/// Takes all memory that the entry needs, and tells the configuration that it reads.
+fn prepare(
+    image: &IndexedImage,
+    held: &mut Held,
+    entry: &Entry,
+) -> Result<Option<CellConfig>, NoMemory>
+    requires { IsNext image.now held.old entry.now }
+    ensures means { (f : Facts) → Means image.now held.old f → Means image.now held.new f }
+    ensures ok { (f : Facts) → Means image.now held.old f → due_at image.now f entry.now.cpu ≡ Some entry.now → IfOk result (IsPrepared image.now held.new f entry.now) }
+{
+    match coming_of(image, held, entry)? {
+        Some(config) => {
+            make_ready(held, &config)?;
+            Ok(Some(config))
+        }
+        None => Ok(None),
+    }
+}
 
 /// Writes the value where it reaches.
 fn make_write(memory: &mut Memory, reach: &Reach, value: u64) -> Result<(), NoMemory>
-    requires { IsPhysical reach.now }
+    requires { MayWrite memory.old reach.now }
     ensures ok { OnOk result ((q : ThePlace) → byte_of memory.new q ≡ write_of (byte_of memory.old) reach.now value q) }
     ensures err { OnErr result ((q : ThePlace) → byte_of memory.new q ≡ byte_of memory.old q) }
+    ensures held { (cell : ℕ) → HoldsComm memory.old.comms cell → HoldsComm memory.new.comms cell }
 {
     match reach {
         Reach::Memory(places) => memory.write_value(places, value),
@@ -31,9 +175,10 @@ fn make_write(memory: &mut Memory, reach: &Reach, value: u64) -> Result<(), NoMe
 
 /// Writes what the act writes where it reaches.
 fn make_bytes(memory: &mut Memory, act: &Act, reach: &Reach) -> Result<(), NoMemory>
-    requires { IsPhysicalOf act.now reach.now }
+    requires { MayWriteOf memory.old act.now reach.now }
     ensures ok { OnOk result ((i : Image) (f : Facts) (cell : ℕ) → ((q : ThePlace) → byte_of memory.old q ≡ f.byte q) → IsReachOfAct i f cell act.now reach.now → (q : ThePlace) → byte_of memory.new q ≡ byte_written i f cell act.now q) }
     ensures err { OnErr result ((q : ThePlace) → byte_of memory.new q ≡ byte_of memory.old q) }
+    ensures held { (cell : ℕ) → HoldsComm memory.old.comms cell → HoldsComm memory.new.comms cell }
 {
     match *act {
         Act::Write { value, ok, .. } => {
@@ -46,20 +191,87 @@ fn make_bytes(memory: &mut Memory, act: &Act, reach: &Reach) -> Result<(), NoMem
     }
 }
 
-/// Makes the entry of root in what a board holds; `reach` is what its access reaches, where it makes one.
+/// The cells after the entry: the one that it creates joins them, with its index.
+fn make_cells(
+    cells: &mut LiveCells,
+    index: &mut Option<RegionIndex>,
+    created: Option<CellConfig>,
+    change: CellsChange,
+)
+    requires { IfSome created (MayJoin cells.old index.old) }
+    ensures system { cells.new.system ≡ cells.old.system }
+    ensures lives { cells.new.lives ≡ option_map_or (joined_cells cells.old.lives) created (changed_cells change cells.old.lives) }
+    ensures named { IfSome created NamesCpu }
+    ensures kept { created ≡ None → change ≡ CellsChange.Keep → (cells.new ≡ cells.old) × (index.new ≡ index.old) }
+{
+    match created {
+        Some(config) => match index.take() {
+            Some(index) => {
+                sound_cells_name_a_cpu(&config);
+                cells.add(config, index);
+            }
+            None => unreachable!(),
+        },
+        None => change_cells(cells, change),
+    }
+}
+
+/// Writes into a communication page what the entry of the hypervisor's writes.
+fn make_page(memory: &mut Memory, write: Option<PageWrite>)
+    requires { IfSome write (λ write. HoldsComm memory.old.comms write.cell) }
+    ensures bytes { (q : ThePlace) → byte_of memory.new q ≡ with_page_write write (byte_of memory.old) q }
+    ensures held { (cell : ℕ) → HoldsComm memory.old.comms cell → HoldsComm memory.new.comms cell }
+{
+    if let Some(write) = &write {
+        memory.change_page(write);
+    }
+}
+
+/// The open call after the entry, and the live cells.
+fn make_call(held: &mut Held, entry: &Entry, coming: Option<CellConfig>)
+    requires { IfSome (created_by held.old.call entry.now.act) (MayJoin held.old.cells held.old.index) }
+    ensures memory { held.new.memory ≡ held.old.memory }
+    ensures cpus { held.new.cpus ≡ held.old.cpus }
+    ensures system { held.new.cells.system ≡ held.old.cells.system }
+    ensures lives { held.new.cells.lives ≡ cells_by held.old.call held.old.cells.lives entry.now.act }
+    ensures named { IfSome (created_by held.old.call entry.now.act) NamesCpu }
+    ensures call { held.new.call ≡ call_by held.old.cells.lives coming held.old.call entry.now entry.now.act }
+    ensures ready { IsReady held.old held.new.call → IsReady held.new held.new.call }
+{
+    let change = change_of_cells(held.call.as_ref(), &entry.act);
+    let begun = held.call.take();
+    let Called { call, created } = call_after(held.cells.list(), coming, begun, entry);
+    held.call = call;
+    make_cells(&mut held.cells, &mut held.index, created, change);
+}
+
+/// Makes the entry in what a board holds; `reach` is what its access reaches, where it makes one.
 pub fn make(
     image: &IndexedImage,
-    memory: &mut Memory,
-    cpus: &mut [Cpu],
+    held: &mut Held,
     entry: &Entry,
     reach: &Reach,
 ) -> Result<(), NoMemory>
-    requires cpus { length cpus.old ≡ 16 }
-    requires physical { IsPhysicalOf entry.now.act reach.now }
-    ensures ok { OnOk result ((f : Facts) → Means (record { pages = memory.old; states = cpus.old }) f → f.call ≡ None → IsByRoot image.now entry.now → IsReachOfEntry image.now f entry.now reach.now → Means (record { pages = memory.new; states = cpus.new }) (after image.now f entry.now)) }
-    ensures err { OnErr result ((f : Facts) → Means (record { pages = memory.old; states = cpus.old }) f → Means (record { pages = memory.new; states = cpus.new }) f) }
+    requires next { IsNext image.now held.old entry.now }
+    requires reached { (f : Facts) → Means image.now held.old f → IsReachOfEntry image.now f entry.now reach.now }
+    ensures ok { OnOk result ((f : Facts) → Means image.now held.old f → due_at image.now f entry.now.cpu ≡ Some entry.now → Means image.now held.new (after image.now f entry.now)) }
+    ensures err { OnErr result ((f : Facts) → Means image.now held.old f → Means image.now held.new f) }
 {
-    make_bytes(memory, &entry.act, reach)?;
-    cpus_after(cpus, image.image(), None, entry);
+    places_reached_are_of_cells();
+    pages_written_are_of_cells();
+    a_cell_that_comes_may_live();
+    few_cells_live();
+    let coming = prepare(image, held, entry)?;
+    make_bytes(&mut held.memory, &entry.act, reach)?;
+    cpus_after(&mut held.cpus, image.image(), held.call.as_ref(), entry);
+    let write = page_write(
+        image.image(),
+        held.cells.list(),
+        held.call.as_ref(),
+        &held.cpus,
+        entry,
+    );
+    make_page(&mut held.memory, write);
+    make_call(held, entry, coming);
     Ok(())
 }

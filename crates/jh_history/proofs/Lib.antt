@@ -34,3 +34,4 @@ pub mod PlainStepLemmas
 pub mod FewLemmas
 pub mod ReadLemmas
 pub mod PlainReadLemmas
+pub mod VerdictLemmas

@@ -68,13 +68,11 @@ IsNoCall _ = Unit {0}
 abbrev pub HasNoCall : Image → Type 0
 HasNoCall image = All (λ (p : Program). All IsNoCall p.ops) image.programs
 
--- the image has nothing that isn't built yet: no subpage region, ECAM window or ivshmem device of root,
--- and no hypercall
+-- the image has nothing that isn't built yet: no subpage region, ECAM window or ivshmem device of root
 pub record IsBuilt (image : Image) : Type 0 where
   pub regions : All (λ (r : Region). IsTrue (is_page_mapped r)) image.system.root.memory_regions
   pub window : image.system.pci_mmconfig_base ≡ 0
   pub devices : All (λ (d : PciDevice). d.kind ≢ 3) image.system.root.pci_devices
-  pub calls : HasNoCall image
 
 -- the act's width is at most that of a register
 abbrev pub IsPlainAct : Act → Type 0

@@ -6,7 +6,7 @@ ghost use Rattle.jh_cellcfg.specs.Regions.{is_page_mapped as is_page_mapped_lem}
 ghost use Rattle.jh_check.specs.Findings.{findings};
 ghost use Rattle.jh_script.specs.declared.image.Program.{Program as TheProgram};
 ghost use Rattle.jh_script.specs.Operations.{is_width, IsPlain};
-ghost use Rattle.jh_history.specs.Admitted.{root_pages as root_pages_lem, pool_pages as pool_pages_lem, IsAdmittedSystem, IsSoundProgram, IsOtherProgram, IsSoundPreload, IsOtherPreload, IsAdmitted, IsNoCall, IsBuilt};
+ghost use Rattle.jh_history.specs.Admitted.{root_pages as root_pages_lem, pool_pages as pool_pages_lem, IsAdmittedSystem, IsSoundProgram, IsOtherProgram, IsSoundPreload, IsOtherPreload, IsAdmitted, IsBuilt};
 
 use crate::apart::{Apart, are_apart, has_none_of};
 use crate::cells::is_program_of;
@@ -182,27 +182,6 @@ pub fn admit(alloc: Global, image: &Image) -> Result<bool, NoMemory>
     Ok(admitted && are_fit_preloads(image) && are_fit_programs(image))
 }
 
-/// Whether the operation is no hypercall.
-fn is_no_call(op: &Op) -> bool
-    ensures { IsTrue result ↔ IsNoCall op.now }
-{
-    !matches!(op, Op::Hvc { .. })
-}
-
-/// Whether the program has no hypercall.
-fn has_no_call(program: &Program) -> bool
-    ensures { IsTrue result ↔ All IsNoCall program.now.ops }
-{
-    program.ops.as_slice().iter().all(|op| is_no_call(op))
-}
-
-/// Whether none of the programs has a hypercall.
-fn have_no_call(programs: &[Program]) -> bool
-    ensures { IsTrue result ↔ All (λ (p : TheProgram). All IsNoCall p.ops) programs.now }
-{
-    programs.iter().all(|p| has_no_call(p))
-}
-
 /// Whether each of the regions is of whole pages.
 fn are_page_mapped(regions: &[Region]) -> bool
     ensures { IsTrue result ↔ All (λ (r : TheRegion). IsTrue (is_page_mapped_lem r)) regions.now }
@@ -218,7 +197,7 @@ fn has_no_ivshmem(devices: &[PciDevice]) -> bool
 }
 
 /// Whether the image has nothing that isn't built yet: no region of less than whole pages, no ECAM
-/// window, no ivshmem device, and no hypercall.
+/// window, and no ivshmem device.
 pub fn is_built(image: &Image) -> bool
     ensures { IsTrue result ↔ IsBuilt image.now }
 {
@@ -226,5 +205,4 @@ pub fn is_built(image: &Image) -> bool
     are_page_mapped(root.memory_regions.as_slice())
         && image.system.pci_mmconfig_base == 0
         && has_no_ivshmem(root.pci_devices.as_slice())
-        && have_no_call(image.programs.as_slice())
 }

@@ -1,9 +1,10 @@
 //! What comes of a create.
-ghost use Rattle.std.specs.Prelude.{◌≡◌, ℕ, ◌<◌, ◌≤◌, ◌==◌, Some, false, length, slice_get, slice_index_or};
+ghost use Rattle.std.specs.Prelude.{◌≡◌, ℕ, ◌<◌, ◌≤◌, ◌==◌, Bool, Some, false, length, slice_get, slice_index_or, IfSome, IfNone};
 ghost use Rattle.std.specs.List.{list_all, list_any};
 ghost use Rattle.jh_cellcfg.specs.declared.config.PciDevice.{PciDevice as TheDevice};
 ghost use Rattle.jh_cellcfg.specs.Regions.{is_page_mapped};
-ghost use Rattle.jh_history.specs.Admitted.{IsAdmitted};
+ghost use Rattle.jh_check.specs.Refusals.{refusal_of as refusal_of_lem};
+ghost use Rattle.jh_history.specs.Admitted.{pool_pages as pool_pages_lem, IsAdmitted};
 ghost use Rattle.jh_history.specs.Facts.{Facts};
 ghost use Rattle.jh_history.specs.Phases.{configs_of, may_give as may_give_lem, is_built_cell as is_built_cell_lem, or_unbuilt as or_unbuilt_lem, unless_refused as unless_refused_lem, creation_by};
 ghost use Rattle.jh_history.specs.ReadView.{as_read, gives_by, refusal_by};
@@ -13,6 +14,7 @@ use crate::call::Creation;
 use crate::cells::is_on_board;
 use crate::counting::pages_of;
 use crate::laws::admitted_roots_are_sound;
+use crate::verdict::refusal_of_another;
 use jh_cellcfg::{CellConfig, PciDevice, Region};
 use jh_check::refusal_of;
 use jh_cpu::Cpu;
@@ -75,6 +77,33 @@ fn given(image: &Image, cpus: &[Cpu], caller: u8) -> [bool; 16]
     may
 }
 
+/// Whether one of the CPUs may be given away.
+fn is_any(may: &[bool; 16]) -> bool
+    ensures { result ≡ list_any (λ (b : Bool). b) may.now }
+{
+    may.iter().any(|m| *m)
+}
+
+/// What the configuration is refused for by such pages, beside 15 cells at most. Beside 15 none of the CPUs may be
+/// given away.
+fn refusal_with(
+    image: &Image,
+    cells: &[CellConfig],
+    may: &[bool; 16],
+    config: &CellConfig,
+    pages: u64,
+) -> Option<i64>
+    requires few { length cells.now ≤ 15 }
+    requires kept { length cells.now ≡ 15 → list_any (λ (b : Bool). b) may.now ≡ false }
+    ensures { result ≡ refusal_of_lem image.now.system cells.now config.now (λ cpu. slice_index_or may.now cpu false) pages (pool_pages_lem image.now.system) }
+{
+    if cells.len() == 15 {
+        return refusal_of_another(&image.system, cells, config);
+    }
+    let pool = pool_pages(&image.system);
+    refusal_of(&image.system, cells, config, may, pages, pool)
+}
+
 /// What the configuration is refused for, by the CPUs that may be given away.
 fn refusal_by(
     image: &Image,
@@ -82,16 +111,16 @@ fn refusal_by(
     may: &[bool; 16],
     config: &CellConfig,
 ) -> Option<i64>
-    requires { length cells.now ≤ 14 }
+    requires few { length cells.now ≤ 15 }
+    requires kept { length cells.now ≡ 15 → list_any (λ (b : Bool). b) may.now ≡ false }
     ensures { result ≡ refusal_by image.now cells.now (λ cpu. slice_index_or may.now cpu false) config.now }
 {
-    let pool = pool_pages(&image.system);
     if is_built_cell(config) {
         let root = image.system.root.memory_regions.as_slice();
         let pages = pages_of(root, cells, Some(config));
-        refusal_of(&image.system, cells, config, may, pages, pool)
+        refusal_with(image, cells, may, config, pages)
     } else {
-        or_unbuilt(refusal_of(&image.system, cells, config, may, 0, pool))
+        or_unbuilt(refusal_with(image, cells, may, config, 0))
     }
 }
 
@@ -105,25 +134,30 @@ fn unless_refused(config: CellConfig, refusal: Option<i64>) -> Creation
     }
 }
 
-/// What comes of a create by the caller which has read this, beside 14 live cells at most.
-pub(crate) fn judged(
+/// What comes of a create by the caller which has read this, beside 15 cells at most. Nothing is told where a CPU
+/// may be given away beside 15 of them: each has a CPU for itself, and the caller is another.
+pub fn judged(
     image: &Image,
     cells: &[CellConfig],
     cpus: &[Cpu],
     caller: u8,
     read: Creation,
-) -> Creation
+) -> Option<Creation>
     requires admitted { IsAdmitted image.now }
-    requires few { length cells.now ≤ 14 }
+    requires few { length cells.now ≤ 15 }
     requires cpus { length cpus.now ≡ 16 }
-    ensures { (f : Facts) → configs_of f.cells ≡ cells.now → ((i : ℕ) → i < 16 → slice_get cpus.now i ≡ Some (f.cpu i)) → result ≡ creation_by image.now f caller (as_read read) }
+    ensures told { (f : Facts) → configs_of f.cells ≡ cells.now → ((i : ℕ) → i < 16 → slice_get cpus.now i ≡ Some (f.cpu i)) → IfSome result (λ creation. creation ≡ creation_by image.now f caller (as_read read)) }
+    ensures untold { IfNone result (length cells.now ≡ 15) }
 {
     match read {
         Creation::Comes { config } => {
             let may = given(image, cpus, caller);
+            if cells.len() == 15 && is_any(&may) {
+                return None;
+            }
             let refusal = refusal_by(image, cells, &may, &config);
-            unless_refused(config, refusal)
+            Some(unless_refused(config, refusal))
         }
-        Creation::Refused { number } => Creation::Refused { number },
+        Creation::Refused { number } => Some(Creation::Refused { number }),
     }
 }

@@ -29,6 +29,7 @@ mod plain;
 mod plain_known;
 mod reading;
 mod sound;
+mod verdict;
 mod written;
 
 pub use access::{Access, Reach, Wanted};
@@ -39,6 +40,7 @@ pub use calling::{Called, call_after};
 pub use cells::{gives, is_on_board, is_program_of, program_of};
 pub use change::{Change, cpus_after};
 pub use comm::{PageChange, PageWrite};
+pub use creation::judged;
 pub use due_facts::{
     a_cell_that_comes_may_live, decides_are_of_the_open_call, few_cells_live,
     pages_written_are_of_cells, places_reached_are_of_cells, sound_cells_name_a_cpu,

@@ -102,11 +102,11 @@ impl<'a> Known for Plain<'a> {
             return Ok(Creation::Refused { number: EPERM });
         }
         let read = read_config(self.alloc, self, at)?;
-        // Beside 15 cells no verdict is known here yet.
-        if self.cells.configs().len() > 14 {
-            return Err(NoMemory);
+        let cells = self.cells.configs();
+        match judged(self.image, cells, &self.cpus, caller, read) {
+            Some(creation) => Ok(creation),
+            None => Err(NoMemory),
         }
-        Ok(judged(self.image, self.cells.configs(), &self.cpus, caller, read))
     }
 
     fn call(&self) -> Option<&OpenCall> {

@@ -22,7 +22,7 @@ use Rattle.jh_history.specs.Grants.{reach}
 use Rattle.jh_history.specs.Bytes.{byte_written, preloaded}
 use Rattle.jh_history.specs.History.{after, facts}
 use Rattle.jh_history.specs.Due.{IsLegal, IsLegalFrom}
-use Rattle.jh_history.specs.Admitted.{has_byte_at, IsOtherPreload}
+use Rattle.jh_history.specs.Admitted.{IsAdmitted, has_byte_at, IsOtherPreload}
 use Rattle.jh_history.proofs.PlaceLemmas.{written-over}
 use Rattle.jh_history.proofs.AloneLemmas.{byte_after-roots}
 use Rattle.jh_history.proofs.FactsLemmas.{byte-after, facts-push, facts-nil}
@@ -172,11 +172,11 @@ opening_is : (image : Image) (place : ℕ) → (facts image []).byte (Physical p
 opening_is image place = ap (λ (f : Facts). f.byte (Physical place)) (facts-nil image)
 
 -- what a preload puts stands there at opening
-opening-put : (image : Image) (place : ℕ) (p : Preload) → IsSilent image → Contains image.preloads p → IsTrue (has_byte_at p place) → (facts image []).byte (Physical place) ≡ slice_index p.bytes (place - p.at)
+opening-put : (image : Image) (place : ℕ) (p : Preload) → IsAdmitted image → Contains image.preloads p → IsTrue (has_byte_at p place) → (facts image []).byte (Physical place) ≡ slice_index p.bytes (place - p.at)
 opening-put image place p admitted held has =
     let same : get_or image.preloads held.0 p ≡ p = held.2 in
     opening_is image place
-    ∙ opened_put (λ _. 0) image.preloads place held.0 p held.1 (ap (λ (q : Preload). has_byte_at q place) same ∙ has) admitted.admitted.apart
+    ∙ opened_put (λ _. 0) image.preloads place held.0 p held.1 (ap (λ (q : Preload). has_byte_at q place) same ∙ has) admitted.apart
     ∙ ap (λ (q : Preload). slice_index q.bytes (place - q.at)) same
 
 -- and 0 elsewhere
@@ -192,7 +192,7 @@ opening-none image place none =
 has_byte-there : (p : Preload) (k : ℕ) → k < length p.bytes → has_byte_at p (p.at + k) ≡ true
 has_byte-there p k lt = and_from (leb p.at (p.at + k)) (ltb (p.at + k) (p.at + length p.bytes)) (le-leb p.at (p.at + k) (omega arith)) (lt-ltb (p.at + k) (p.at + length p.bytes) (omega arith))
 
-pub opening-byte : (image : Image) (p : Preload) (k : ℕ) → IsSilent image → Contains image.preloads p → k < length p.bytes → (facts image []).byte (Physical (p.at + k)) ≡ slice_index p.bytes k
+pub opening-byte : (image : Image) (p : Preload) (k : ℕ) → IsAdmitted image → Contains image.preloads p → k < length p.bytes → (facts image []).byte (Physical (p.at + k)) ≡ slice_index p.bytes k
 opening-byte image p k admitted held lt =
     let same : (p.at + k) - p.at ≡ k = omega arith in
     opening-put image (p.at + k) p admitted held (has_byte-there p k lt) ∙ ap (slice_index p.bytes) same

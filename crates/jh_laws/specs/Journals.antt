@@ -7,14 +7,16 @@ use Rattle.jh_history.specs.declared.place.Place.{Place}
 use Rattle.jh_history.specs.declared.entry.Entry.{Entry}
 use Rattle.jh_history.specs.History.{facts}
 use Rattle.jh_history.specs.Due.{IsLegal}
-use Rattle.jh_history.specs.Admitted.{IsAdmitted, IsBuilt}
+use Rattle.jh_history.specs.Admitted.{HasNoCall, IsAdmitted, IsBuilt}
 
--- a legal journal of an image that a board may be opened with, and that has nothing which isn't built yet
+-- a legal journal of an image that a board may be opened with, that has nothing which isn't built yet, and whose
+-- programs have no hypercall
 pub record LegalJournal : Type 0 where
   pub image : Image
   pub entries : List Entry
   pub admitted : IsAdmitted image
   pub built : IsBuilt image
+  pub silent : HasNoCall image
   pub legal : IsLegal image entries
 
 -- an entry of such a journal, with the entries before it and the rest behind it
@@ -25,6 +27,7 @@ pub record Moment : Type 0 where
   pub rest : List Entry
   pub admitted : IsAdmitted image
   pub built : IsBuilt image
+  pub silent : HasNoCall image
   pub legal : IsLegal image (before ++ entry ∷ rest)
 
 -- the byte at the place, and the CPU, after the entries

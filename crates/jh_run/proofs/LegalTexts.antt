@@ -217,6 +217,7 @@ pub record IsFitImage (image : Image) : Type 0 where
   pub few : (cpu : ℕ) → IsTrue (is_on_board image cpu) → cpu < 16
   pub admitted : IsAdmitted image
   pub built : IsBuilt image
+  pub silent : HasNoCall image
   pub typed : HasTypedNumbers image
 
 -- the entry, with what its CPU came to it by
@@ -228,13 +229,13 @@ record Made (image : Image) (before : List Entry) (entry : Entry) : Type 0 where
 made : (laws : JournalLaws) (image : Image) → IsFitImage image → (before rest : List Entry) (entry : Entry) → IsLegal image (before ++ entry ∷ rest) → Made image before entry
 made laws image fit before rest entry legal =
     let early : IsLegal image before = laws.begins image before (entry ∷ rest) legal in
-    let j : LegalJournal = record { image = image; entries = before; admitted = fit.admitted; built = fit.built; legal = early } in
+    let j : LegalJournal = record { image = image; entries = before; admitted = fit.admitted; built = fit.built; silent = fit.silent; legal = early } in
     let due_here : due image before entry.cpu ≡ Some entry = laws.due_each image (before ++ entry ∷ rest) before rest entry legal refl in
     let own = laws.own j entry.cpu entry due_here in
     record {
       own = own;
       ready = (laws.ready j entry.cpu).0 (ap is_some due_here);
-      cell = own.cell_is ∙ (laws.alone image before fit.built.calls early).owners entry.cpu;
+      cell = own.cell_is ∙ (laws.alone image before fit.silent early).owners entry.cpu;
     }
 
 readable-entry : (laws : JournalLaws) (image : Image) → IsFitImage image → (before : List Entry) (entry : Entry) → Made image before entry → BytesFit image before → IsReadable entry
@@ -254,7 +255,7 @@ readable-from : (laws : JournalLaws) (image : Image) → IsFitImage image → (r
 readable-from laws image fit [] before legal fits = tt
 readable-from laws image fit (entry ∷ rest) before legal fits =
     let m = made laws image fit before rest entry legal in
-    let moment : Moment = record { image = image; before = before; entry = entry; rest = rest; admitted = fit.admitted; built = fit.built; legal = legal } in
+    let moment : Moment = record { image = image; before = before; entry = entry; rest = rest; admitted = fit.admitted; built = fit.built; silent = fit.silent; legal = legal } in
     let behind : BytesFit image (before ++ entry ∷ []) = fits-behind laws moment entry.act refl m.own.outcome fits in (
       readable-entry laws image fit before entry m fits,
       readable-from laws image fit rest (before ++ entry ∷ []) (subst (IsLegal image) (sym (append_assoc before (entry ∷ []) rest)) legal) behind,

@@ -1,13 +1,13 @@
 -- A configuration that was read.
-use Rattle.std.proofs.Common.{◌≡◌, ℕ, Bool, List, Option, false, get_or, ap, sym, ◌∙◌}
+use Rattle.std.proofs.Common.{◌≡◌, ℕ, Bool, List, false, get_or, ap, sym, ◌∙◌}
 use Rattle.jh_cellcfg.specs.declared.config.CellConfig.{CellConfig}
 use Rattle.jh_history.specs.Phases.{configs_of, may_give, unless_refused}
 use Rattle.jh_history.specs.ReadView.{refusal_by}
 use Rattle.jh_history.proofs.FactsLemmas.{same_function}
 use Rattle.jh_history.proofs.creation.judged.Goals as goal
 
-pub returns-in-Comes : goal.returns-in-Comes
-returns-in-Comes c = λ f e h.
+pub returns-else-cells-eq15-clause-told : goal.returns-else-cells-eq15-clause-told
+returns-else-cells-eq15-clause-told c = λ f e h.
     let image = c.args.image.now in
     let config = c.in-Comes.config in
     let may : ℕ → Bool = λ cpu. get_or c.given-may.result cpu false in

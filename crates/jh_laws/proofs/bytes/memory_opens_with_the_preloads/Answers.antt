@@ -3,7 +3,7 @@ use Rattle.jh_laws.proofs.ByteLemmas.{opening-byte, opening-zero}
 use Rattle.jh_laws.proofs.bytes.memory_opens_with_the_preloads.Goals as goal
 
 pub returns-clause-put : goal.returns-clause-put
-returns-clause-put c = λ image preload k admitted built held lt. opening-byte image preload k (record { admitted = admitted; silent = built.calls }) held lt
+returns-clause-put c = λ image preload k admitted built held lt. opening-byte image preload k admitted held lt
 
 pub returns-clause-zero : goal.returns-clause-zero
 returns-clause-zero c = λ image place admitted built none. opening-zero image place none

@@ -1,16 +1,15 @@
 -- An empty journal is legal, and a new board stands for it.
 use Rattle.std.proofs.Common.{◌≡◌, arith}
 use Rattle.jh_history.proofs.FactsLemmas.{IsLegal-nil}
-use Rattle.jh_board.proofs.MeansLemmas.{Means-opened}
 use Rattle.jh_board.proofs.board.Board.open.Goals as goal
 
 pub invariant_of-result : goal.invariant_of-result
 invariant_of-result c =
-    let same : c.in_ok-image.image ≡ c.args.image = c.in_ok-image.ensures.ok in record {
+    let same : c.in-Ok-new.image ≡ c.args.image = c.in-Ok-new.ensures.ok in record {
       admitted = rw same c.requires.admitted;
       built = rw same c.requires.built;
       legal = rw (c.new-2.ensures, same) (IsLegal-nil c.args.image);
       within = rw c.new-2.ensures (omega arith);
-      means = rw (c.new-2.ensures, same) (Means-opened c.args.image c.in-Ok.memory c.new-cpus.result c.in-Ok.ensures (λ i. c.new-cpus.ensures));
+      means = rw (c.new-2.ensures, same) c.in-Ok.ensures;
       last = omega arith;
     }

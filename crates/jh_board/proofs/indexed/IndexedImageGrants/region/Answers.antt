@@ -5,4 +5,4 @@ use Rattle.jh_board.proofs.indexed.IndexedImageGrants.region.Goals as goal
 pub returns-then-cell-self-clause-within : goal.returns-then-cell-self-clause-within
 returns-then-cell-self-clause-within c =
     let image = c.self.inside.image in
-    region_of-in_range image c.args.access c.args.at c.giving.result c.self.invariant.admitted (c.giving.ensures image.system.root.memory_regions (rw c.self.invariant.regions at c.at.ensures))
+    region_of-in_range image c.args.access c.args.at c.giving.result c.self.invariant.admitted (c.giving.ensures.found image.system.root.memory_regions (rw c.self.invariant.regions at c.at.ensures))

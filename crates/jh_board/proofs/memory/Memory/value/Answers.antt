@@ -1,12 +1,15 @@
--- A piece has as many bytes as places.
-use Rattle.std.proofs.Common.{◌≡◌, ℕ, ◌<◌, ◌^◌, ◌∙◌, List, ap, sym, subst, length}
-use Rattle.jh_history.specs.declared.place.Place.{Place}
+-- The bytes of a piece are those of its places.
+use Rattle.std.proofs.Common.{ap, sym, ◌∙◌}
+use Rattle.jh_num.specs.Memory.{spelled}
 use Rattle.jh_history.specs.declared.place.Place.TheVariants.{Physical}
-use Rattle.jh_history.proofs.ValueLemmas.{row-length}
+use Rattle.jh_board.specs.Pages.{MemoryView}
+use Rattle.jh_board.proofs.PieceLemmas.{row-of_memory, fits-in_row}
 use Rattle.jh_board.proofs.memory.Memory.value.Goals as goal
 
+pub returns-in-Some-clause-value : goal.returns-in-Some-clause-value
+returns-in-Some-clause-value c =
+    let memory : MemoryView = record { physical = c.self.inside.physical; comms = c.self.inside.comms } in
+    rw (c.in-Some.ensures.places, ← c.self.view_is) (c.value.ensures.spells ∙ ap spelled (sym (row-of_memory memory c.in-Some.piece.at c.in-Some.piece.count)))
+
 pub returns-in-Some-clause-fits : goal.returns-in-Some-clause-fits
-returns-in-Some-clause-fits c =
-    let same : length c.args.places.now ≡ c.in-Some.piece.count = ap (λ (ps : List Place). length ps) c.in-Some.ensures.places ∙ row-length (Physical c.in-Some.piece.at) c.in-Some.piece.count in
-    let P : ℕ → Type 0 = λ n. c.value_in_page.result < 256 ^ n in
-    subst P (sym same) c.value_in_page.ensures.fits
+returns-in-Some-clause-fits c = fits-in_row c.value.result c.in-Some.piece.count (Physical c.in-Some.piece.at) c.args.places.now c.in-Some.ensures.places c.value.ensures.fits

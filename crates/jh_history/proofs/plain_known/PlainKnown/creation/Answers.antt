@@ -26,19 +26,19 @@ returns-then-is_any_locked c = λ i f h.
     ap (λ (b : Place → ℕ). list_any (λ (live : Live). is_locked_by b live.config) f.cells) (sym byte) ∙ sym (c.is_any_locked.ensures f.cells cells) ∙ c.if-is_any_locked.true in
     rw locked refl
 
-pub returns : goal.returns
+pub returns-in-Some : goal.returns-in-Some
 unfolding creation_of
-returns c = λ i f h.
+returns-in-Some c = λ i f h.
     let p = c.args.self.now in
     let byte : last_byte p.image p.bytes ≡ f.byte = ap (λ (x : Image). last_byte x p.bytes) (sym h.0.same) ∙ same_function (last_byte i p.bytes) f.byte (λ q. sym (h.0.bytes q)) in
     let kept = ap (λ (v : PlainView). v.cells) c.self.view_is ∙ sym h.0.cells in
     let cells : configs_of f.cells ≡ c.configs.result.now = sym (c.configs.ensures ∙ ap (λ (lives : List Live). configs_of lives) kept) in
-    let cells_too : configs_of f.cells ≡ c.configs-3.result.now = sym (c.configs-3.ensures ∙ ap (λ (lives : List Live). configs_of lives) kept) in
+    let cells_too : configs_of f.cells ≡ c.configs-cells.result.now = sym (c.configs-cells.ensures ∙ ap (λ (lives : List Live). configs_of lives) kept) in
     let locked : list_any (is_locked f) f.cells ≡ false =
     ap (λ (b : Place → ℕ). list_any (λ (live : Live). is_locked_by b live.config) f.cells) (sym byte) ∙ sym (c.is_any_locked.ensures f.cells cells) ∙ c.if-is_any_locked.false in
     let fit : IsFit p.image p.cells = subst (λ (v : PlainView). IsFit v.image v.cells) c.self.view_is c.self.invariant in
     let image : c.self.inside.image.now ≡ i = ap (λ (v : PlainView). v.image) c.self.view_is ∙ sym h.0.same in
     rw locked
-    (c.judged.ensures f cells_too (λ n lt. ap (λ (v : PlainView). slice_get v.cpus n) c.self.view_is ∙ h.0.cpus n lt)
+    (c.in-Some.ensures.told f cells_too (λ n lt. ap (λ (v : PlainView). slice_get v.cpus n) c.self.view_is ∙ h.0.cpus n lt)
     ∙ ap (λ (x : Image). creation_by x f c.args.caller (as_read c.in_ok-read.read)) image
     ∙ ap (λ (read : ReadCell). creation_by i f c.args.caller read) (c.in_ok-read.ensures ∙ read_by-is i f (read_in p) c.args.at (λ a. plain-reads p i f a fit h.0)))

@@ -2,7 +2,7 @@
 use Rattle.std.proofs.Common.{◌≤◌, length, ◌∙◌, arith}
 use Rattle.jh_board.specs.Pages.{byte_at}
 use Rattle.jh_board.proofs.PieceLemmas.{stored-more}
-use Rattle.jh_board.proofs.memory.Memory.store.Goals as goal
+use Rattle.jh_board.proofs.physical.Physical.store.Goals as goal
 
 pub loop-done-preserved : goal.loop-done-preserved
 loop-done-preserved c =

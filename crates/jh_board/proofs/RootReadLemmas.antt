@@ -1,0 +1,36 @@
+-- What root reads of what a board holds.
+use Rattle.std.proofs.Common.{◌≡◌, ℕ, ◌<◌, List, Option, true, eqb, refl, ap, ◌∙◌}
+use Rattle.std.specs.Prelude.{option_map, All}
+use Rattle.std.proofs.lemmas.Bool.{eq-eqb}
+use Rattle.jh_cellcfg.specs.declared.live.Live.{Live}
+use Rattle.jh_cellcfg.specs.declared.region.Region.{Region}
+use Rattle.jh_cellcfg.specs.Regions.{IsInRange}
+use Rattle.jh_script.specs.declared.image.Image.{Image}
+use Rattle.jh_history.specs.declared.place.Place.{Place}
+use Rattle.jh_history.specs.declared.access.Access.TheVariants.{Read}
+use Rattle.jh_history.specs.Access.{reach_by, read_of}
+use Rattle.jh_history.specs.Admitted.{IsAdmitted}
+use Rattle.jh_history.specs.Facts.{Facts}
+use Rattle.jh_history.specs.Grants.{granted_in, granted, is_kept}
+use Rattle.jh_history.specs.Lives.{regions_in}
+use Rattle.jh_history.proofs.AdmittedLemmas.{within}
+use Rattle.jh_history.proofs.FactsLemmas.{same_function}
+use Rattle.jh_history.proofs.ReadLemmas.{read-one, granted-beyond}
+use Rattle.jh_board.specs.declared.held.Held.{Held}
+use Rattle.jh_board.specs.Pages.{byte_of}
+use Rattle.jh_board.specs.Means.{Means}
+
+root-within : (image : Image) (lives : List Live) → IsAdmitted image → All (λ (r : Region). 0 < r.size → IsInRange r) (regions_in image lives image.system.root.id)
+root-within image lives admitted = let own : eqb image.system.root.id image.system.root.id ≡ true = eq-eqb image.system.root.id image.system.root.id refl in rw own (within image admitted)
+
+-- the byte that root reads at the address, where it may
+abbrev pub read_held : Image → Held → ℕ → Option ℕ
+read_held image held at = read_of (byte_of held.memory) (reach_by (granted_in image held.cells.lives image.system.root.id Read) at 1)
+
+pub held-reads : (image : Image) (held : Held) (f : Facts) (at : ℕ) → IsAdmitted image → Means image held f → read_held image held at ≡ option_map f.byte (granted image f image.system.root.id Read at)
+held-reads image held f at admitted means =
+    let id = image.system.root.id in
+    let lives = held.cells.lives in
+    read-one (byte_of held.memory) (granted_in image lives id Read) at (λ a le. granted-beyond id (regions_in image lives id) (is_kept image lives id) a (root-within image lives admitted) le)
+    ∙ ap (λ (cells : List Live). option_map (byte_of held.memory) (granted_in image cells id Read at)) means.cells
+    ∙ ap (λ (byte : Place → ℕ). option_map byte (granted image f id Read at)) (same_function (byte_of held.memory) f.byte means.bytes)

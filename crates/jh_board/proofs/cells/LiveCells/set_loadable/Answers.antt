@@ -1,0 +1,63 @@
+-- The cell at the index is the one with the id; the configurations stay.
+use Rattle.std.proofs.Common.{◌≡◌, ◌+◌, ◌-◌, List, map, set, sym, ap, subst, ◌∙◌, arith}
+use Rattle.std.specs.Prelude.{All}
+use Rattle.jh_cellcfg.specs.declared.config.CellConfig.{CellConfig}
+use Rattle.jh_cellcfg.specs.declared.config.SystemConfig.{SystemConfig}
+use Rattle.jh_shape.specs.Pages.{pages_of}
+use Rattle.jh_life.specs.Lives.{configs_of, marks_of}
+use Rattle.jh_life.specs.Changes.{marked}
+use Rattle.jh_board.specs.Closed.{count_regions, AreInRange}
+use Rattle.jh_board.proofs.CellsLemmas.{cell-at, marked-none, marked-same}
+use Rattle.jh_board.proofs.cells.LiveCells.set_loadable.Goals as goal
+use Rattle.jh_board.proofs.cells.LiveCells.set_loadable.Goals.{After-loadable}
+
+pub returns-in_default-clause-lives : goal.returns-in_default-clause-lives
+returns-in_default-clause-lives c = rw (← c.self.view_is) (marked-none c.self.inside.cells.lives c.args.id c.args.on c.in_default.ensures.found)
+
+listed : (c : After-loadable) → c.list.result.now ≡ configs_of c.self.inside.cells.lives
+listed c = c.list.ensures.value ∙ c.set_loadable.ensures.list
+
+pub close_again-requires-clause-within : goal.close_again-requires-clause-within
+close_again-requires-clause-within c = subst (λ (cs : List CellConfig). All (λ (x : CellConfig). AreInRange x.memory_regions) cs) (sym (listed c)) c.self.invariant.within
+
+pub close_again-requires-clause-room : goal.close_again-requires-clause-room
+close_again-requires-clause-room c =
+    let same : count_regions c.list.result.now ≡ count_regions (configs_of c.self.inside.cells.lives) = ap (λ (cs : List CellConfig). count_regions cs) (listed c) in
+    let count = c.self.invariant.regions in
+    let room = c.self.invariant.room in
+    omega arith
+
+pub invariant_of-self : goal.invariant_of-self
+invariant_of-self c =
+    let old = c.self.invariant in
+    let lives = c.self.inside.cells.lives in
+    let new = c.set_loadable.new.self.lives in
+    let configs : configs_of new ≡ configs_of lives = c.set_loadable.ensures.list in
+    let same : count_regions c.list.result.now ≡ count_regions (configs_of new) = ap (λ (cs : List CellConfig). count_regions cs) c.list.ensures.value in
+    let counted : count_regions (configs_of new) ≡ count_regions (configs_of lives) = ap (λ (cs : List CellConfig). count_regions cs) configs in
+    let count = old.regions in
+    let few = c.close_again.ensures.few in
+    let room = c.close_again.ensures.room in
+    let was = old.room in
+    record {
+      indexes = old.indexes ∙ ap (λ (cs : List CellConfig). map (λ (x : CellConfig). x.memory_regions) cs) (sym configs);
+      within = subst (λ (cs : List CellConfig). All (λ (x : CellConfig). AreInRange x.memory_regions) cs) (sym configs) old.within;
+      closed = λ place. c.close_again.ensures.bytes new (sym c.list.ensures.value) c.loadable.ensures place;
+      few = omega arith;
+      regions = omega arith;
+      room = omega arith;
+      used = old.used
+          ∙ ap (λ (cs : List CellConfig). pages_of c.self.inside.cells.system.root.memory_regions cs) (sym configs)
+          ∙ ap (λ (s : SystemConfig). pages_of s.root.memory_regions (configs_of new)) (sym c.set_loadable.ensures.system);
+    }
+
+pub returns-clause-lives : goal.returns-clause-lives
+returns-clause-lives c =
+    let lives = c.self.inside.cells.lives in
+    let new = c.set_loadable.new.self.lives in
+    let cell = cell-at lives c.args.id c.in-Some.index c.in-Some.ensures.found in
+    let index : c.in-Some.index + 1 - 1 ≡ c.in-Some.index = omega arith in
+    rw (← c.self.view_is)
+    (c.a_place_is_marked_by_its_id.ensures c.in-Some.index cell.0 c.args.on new cell.1.at c.set_loadable.ensures.list (c.set_loadable.ensures.marks ∙ ap (λ k. set (marks_of lives) k c.args.on) index)
+    ∙ ap (λ id. map (marked id c.args.on) lives) cell.1.is
+    ∙ marked-same lives c.args.id c.args.on)

@@ -1,0 +1,64 @@
+-- What a create reads is what comes of it.
+use Rattle.std.proofs.Common.{◌≡◌, ◌∙◌, Option, Some, None, refl, sym, ap}
+use Rattle.jh_cellcfg.specs.declared.config.CellConfig.{CellConfig}
+use Rattle.jh_call.specs.declared.call.Call.TheVariants.{Create}
+use Rattle.jh_history.specs.declared.call.OpenCall.{OpenCall}
+use Rattle.jh_history.specs.declared.entry.Act.TheVariants.{Decide}
+use Rattle.jh_history.specs.declared.call.Creation.TheVariants.{Comes}
+use Rattle.jh_history.specs.Calls.{call_by}
+use Rattle.jh_history.specs.Phases.{creation_of}
+use Rattle.jh_board.proofs.ReadyLemmas.{going-decides, create-at, coming-is, ready-create, ready-early, not-refused}
+use Rattle.jh_board.proofs.steps.coming_of.Goals as goal
+
+pub unreachable-requires : goal.unreachable-requires
+unreachable-requires c =
+    let image = c.args.image.now in
+    let f = c.requires.facts in
+    let o : OpenCall = c.in-Some.begun in
+    let at = c.in-Some-create_of.at in
+    let act : c.args.entry.now.act ≡ Decide None = going-decides c.args.entry.now.act (sym c.goes_on.ensures ∙ c.if-not-goes_on.false) in
+    let is : f.call ≡ Some o = sym c.requires.means.call ∙ c.in-Some.is in
+    let create : o.call ≡ Create at = create-at o.call at (sym c.create_of.ensures ∙ c.in-Some-create_of.is) in
+    let read = c.decides_are_of_the_open_call.ensures.goes_on image f c.args.entry.now o at c.requires.sound c.requires.due act is create in
+    not-refused read.config c.in-Refused.number (creation_of image f o.caller at) read.comes
+    (sym (c.in_ok-config.ensures image f (rw c.new-state.ensures (refl, c.requires.means))) ∙ c.in-Refused.is)
+
+pub returns-clause-read : goal.returns-clause-read
+returns-clause-read c = λ f means due.
+    let image = c.args.image.now in
+    let o : OpenCall = c.in-Some.begun in
+    let at = c.in-Some-create_of.at in
+    let is : f.call ≡ Some o = sym means.call ∙ c.in-Some.is in
+    let create : o.call ≡ Create at = create-at o.call at (sym c.create_of.ensures ∙ c.in-Some-create_of.is) in
+    let comes : creation_of image f o.caller at ≡ Comes c.in-Comes.config = sym (c.in_ok-config.ensures image f (rw c.new-state.ensures (refl, means))) ∙ c.in-Comes.is in
+    let reads = c.decides_are_of_the_open_call.ensures.read image f o.caller at c.in-Comes.config comes in
+    ap (λ (d : Option CellConfig). call_by f.cells d f.call c.args.entry.now c.args.entry.now.act) (sym (coming-is image f o at c.in-Comes.config is create reads))
+
+pub returns-clause-ready : goal.returns-clause-ready
+returns-clause-ready c = λ f means due held before ready.
+    let image = c.args.image.now in
+    let o : OpenCall = c.in-Some.begun in
+    let at = c.in-Some-create_of.at in
+    let act : c.args.entry.now.act ≡ Decide None = going-decides c.args.entry.now.act (sym c.goes_on.ensures ∙ c.if-not-goes_on.false) in
+    let is : f.call ≡ Some o = sym means.call ∙ c.in-Some.is in
+    let create : o.call ≡ Create at = create-at o.call at (sym c.create_of.ensures ∙ c.in-Some-create_of.is) in
+    let comes : creation_of image f o.caller at ≡ Comes c.in-Comes.config = sym (c.in_ok-config.ensures image f (rw c.new-state.ensures (refl, means))) ∙ c.in-Comes.is in
+    let reads = c.decides_are_of_the_open_call.ensures.read image f o.caller at c.in-Comes.config comes in
+    ready-create held image f c.args.entry.now o at c.in-Comes.config is create (coming-is image f o at c.in-Comes.config is create reads) act ready
+
+pub returns-clause-free : goal.returns-clause-free
+returns-clause-free c = λ f means due held.
+    let o : OpenCall = c.in-Some.begun in
+    let act : c.args.entry.now.act ≡ Decide None = going-decides c.args.entry.now.act (sym c.goes_on.ensures ∙ c.if-not-goes_on.false) in
+    let is : c.requires.facts.call ≡ Some o = sym c.requires.means.call ∙ c.in-Some.is in
+    ready-early held f.call o (sym means.call ∙ c.in-Some.is)
+    (c.decides_are_of_the_open_call.ensures.phase c.args.image.now c.requires.facts c.args.entry.now None o c.requires.sound c.requires.due act is)
+
+pub returns-clause-apart : goal.returns-clause-apart
+returns-clause-apart c =
+    let image = c.args.image.now in
+    let f = c.requires.facts in
+    let o : OpenCall = c.in-Some.begun in
+    let at = c.in-Some-create_of.at in
+    let comes : creation_of image f o.caller at ≡ Comes c.in-Comes.config = sym (c.in_ok-config.ensures image f (rw c.new-state.ensures (refl, c.requires.means))) ∙ c.in-Comes.is in
+    (c.a_cell_that_comes_may_live.ensures.decided image f o.caller at c.in-Comes.config c.requires.sound comes).apart

@@ -1,0 +1,41 @@
+-- The call and the cells change as the act says.
+use Rattle.std.proofs.Common.{◌≡◌, ◌∙◌, Option, sym, ap, subst}
+use Rattle.std.specs.Option.{option_map_or}
+use Rattle.jh_cellcfg.specs.declared.config.CellConfig.{CellConfig}
+use Rattle.jh_history.specs.declared.call.OpenCall.{OpenCall}
+use Rattle.jh_history.specs.Commits.{created_by}
+use Rattle.jh_history.specs.Calls.{call_by}
+use Rattle.jh_board.specs.declared.held.Held.{Held}
+use Rattle.jh_board.specs.declared.steps.CellsChange.{CellsChange}
+use Rattle.jh_board.specs.Means.{IsReady}
+use Rattle.jh_board.specs.Steps.{change_of_cells, changed_cells, joined_cells}
+use Rattle.jh_board.proofs.MadeLemmas.{cells-made, ready-made, KeepsCells}
+use Rattle.jh_board.proofs.steps.make_call.Goals as goal
+
+pub returns-clause-lives : goal.returns-clause-lives
+returns-clause-lives c =
+    let held = c.args.held.now in
+    let lives = held.cells.lives in
+    let act = c.args.entry.now.act in
+    let made : c.call_after-call.result.created ≡ created_by held.call act = c.call_after-call.ensures.created ∙ ap (λ (k : Option OpenCall). created_by k act) c.take-begun.ensures.value in
+    let change : c.change_of_cells-change.result ≡ change_of_cells held.call act = c.change_of_cells-change.ensures ∙ ap (λ (k : Option OpenCall). change_of_cells k act) c.as_ref.ensures.value in
+    c.make_cells.ensures.lives
+    ∙ ap (λ (d : Option CellConfig). option_map_or (joined_cells lives) d (changed_cells c.change_of_cells-change.result lives)) made
+    ∙ ap (λ (d : CellsChange). option_map_or (joined_cells lives) (created_by held.call act) (changed_cells d lives)) change
+    ∙ cells-made held.call lives act
+
+pub returns-clause-ready : goal.returns-clause-ready
+returns-clause-ready c = λ h.
+    let old : Held = c.args.held.now in
+    let lives = old.cells.lives in
+    let entry = c.args.entry.now in
+    let act = entry.act in
+    let new : Held = record { memory = old.memory; cpus = old.cpus; cells = c.make_cells.new.cells; call = c.call_after-call.result.call; index = c.make_cells.new.index; alloc = old.alloc } in
+    let made : c.call_after-call.result.created ≡ created_by old.call act = c.call_after-call.ensures.created ∙ ap (λ (k : Option OpenCall). created_by k act) c.take-begun.ensures.value in
+    let change : c.change_of_cells-change.result ≡ change_of_cells old.call act = c.change_of_cells-change.ensures ∙ ap (λ (k : Option OpenCall). change_of_cells k act) c.as_ref.ensures.value in
+    let call : c.call_after-call.result.call ≡ call_by lives c.args.coming old.call entry act =
+    c.call_after-call.ensures.call lives (sym c.list.ensures) ∙ ap (λ (k : Option OpenCall). call_by lives c.args.coming k entry act) c.take-begun.ensures.value in
+    let P : Option OpenCall → Type 0 = IsReady old in
+    let Q : Option OpenCall → Type 0 = IsReady new in
+    let same : KeepsCells old new (created_by old.call act) (change_of_cells old.call act) = λ none keep. c.make_cells.ensures.kept (made ∙ none) (change ∙ keep) in
+    subst Q (sym call) (ready-made old new lives c.args.coming old.call entry act (λ cell held. held) same (subst P call h))

@@ -1,0 +1,40 @@
+-- What live cells close to root.
+use Rattle.std.specs.Prelude.{◌≡◌, ℕ, ◌<◌, Bool, List, [], Option, Some, None, length, map, find, slice_get, All, sum_by}
+use Rattle.std.specs.List.{list_any}
+use Rattle.std.specs.Option.{option_map_or}
+use Rattle.jh_cellcfg.specs.declared.config.CellConfig.{CellConfig}
+use Rattle.jh_cellcfg.specs.declared.region.Region.{Region}
+use Rattle.jh_cellcfg.specs.declared.live.Live.{Live}
+use Rattle.jh_cellcfg.specs.Lives.{has_id}
+use Rattle.jh_cellcfg.specs.Regions.{IsInRange}
+use Rattle.jh_shape.specs.Shapes.{takes, is_closed, holder_of_live}
+use Rattle.jh_history.specs.Lives.{live_in}
+
+-- a cell with these regions, loadable or not, takes the place from root
+abbrev pub is_taken : Bool → List Region → ℕ → Bool
+is_taken loadable regions place = list_any (λ (r : Region). takes loadable r place) regions
+
+-- one of the cells that live besides root does
+abbrev pub is_closed_by : List Live → ℕ → Bool
+is_closed_by lives place = is_closed (map holder_of_live lives) place
+
+-- how many regions the cells have together
+abbrev pub count_regions : List CellConfig → ℕ
+count_regions cells = sum_by (λ (c : CellConfig). length c.memory_regions) cells
+
+-- each region that isn't empty ends within the addresses, and within the places where it has any
+abbrev pub AreInRange : List Region → Type 0
+AreInRange regions = All (λ (r : Region). 0 < r.size → IsInRange r) regions
+
+-- the regions of the cell with the id, none where it doesn't live
+abbrev pub live_regions : List Live → ℕ → List Region
+live_regions lives id = option_map_or (λ (c : CellConfig). c.memory_regions) (live_in lives id) []
+
+-- the cell with the id is the one at the index, or none is
+pub record IsAt (lives : List Live) (id k : ℕ) : Type 0 where
+  pub within : k < length lives
+  pub found : find (has_id id) lives ≡ slice_get lives k
+
+abbrev pub IsIndexOf : List Live → ℕ → Option ℕ → Type 0
+IsIndexOf lives id None = find (has_id id) lives ≡ None
+IsIndexOf lives id (Some k) = IsAt lives id k

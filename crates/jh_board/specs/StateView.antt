@@ -1,0 +1,7 @@
+-- What contracts see of what a board holds, beside the image that it is held for.
+use Rattle.jh_script.specs.declared.image.Image.{Image}
+use Rattle.jh_board.specs.declared.held.Held.{Held}
+
+pub record StateView : Type 0 where
+  pub image : Image
+  pub held : Held

@@ -1,0 +1,110 @@
+-- What an entry does to what a board holds, and what must hold before it is made.
+use Rattle.std.specs.Prelude.{◌≡◌, ℕ, ◌<◌, ◌≤◌, Bool, true, false, length, List, [], ◌∷◌, ◌++◌, map, filter, All, Option, Some, None, IfSome}
+use Rattle.std.specs.Option.{option_map_or}
+use Rattle.jh_cellcfg.specs.declared.config.CellConfig.{CellConfig}
+use Rattle.jh_cellcfg.specs.declared.live.Live.{Live}
+use Rattle.jh_cellcfg.specs.declared.region.Region.{Region}
+use Rattle.jh_check.specs.Clean.{IsSoundBitmap}
+use Rattle.jh_check.specs.Refusals.{is_known}
+use Rattle.jh_call.specs.declared.call.Call.{Call}
+use Rattle.jh_call.specs.declared.call.Call.TheVariants.{Create, Start, Loadable, Destroy}
+use Rattle.jh_script.specs.declared.image.Image.{Image}
+use Rattle.jh_history.specs.declared.access.Reach.{Reach}
+use Rattle.jh_history.specs.declared.access.Reach.TheVariants.{Memory, Nothing}
+use Rattle.jh_history.specs.declared.call.OpenCall.{OpenCall}
+use Rattle.jh_history.specs.declared.entry.Entry.{Entry}
+use Rattle.jh_history.specs.declared.entry.Act.{Act}
+use Rattle.jh_history.specs.declared.entry.Act.TheVariants.{Write, Decide, Commit}
+use Rattle.jh_history.specs.Admitted.{IsAdmitted}
+use Rattle.jh_history.specs.Phases.{configs_of}
+use Rattle.jh_history.specs.Calls.{call_by}
+use Rattle.jh_history.specs.Commits.{marked, is_other}
+use Rattle.jh_history.specs.DueFacts.{NamesCpu}
+use Rattle.jh_history.specs.Facts.{Facts}
+use Rattle.jh_history.specs.History.{call_after}
+use Rattle.jh_history.specs.Due.{due_at}
+use Rattle.jh_history.specs.Sound.{IsSound}
+use Rattle.jh_board.specs.declared.steps.CellsChange.{CellsChange}
+use Rattle.jh_board.specs.declared.steps.CellsChange.TheVariants.{Keep, Mark, Remove}
+use Rattle.jh_board.specs.declared.held.Held.{Held}
+use Rattle.jh_board.specs.Closed.{AreInRange}
+use Rattle.jh_board.specs.LiveView.{LiveView}
+use Rattle.jh_board.specs.Means.{Means, IsReady, IsReadyFor}
+use Rattle.jh_board.specs.Pages.{MemoryView, MayHold}
+
+-- a Decide that goes on
+abbrev pub goes_on : Act → Bool
+goes_on (Decide None) = true
+goes_on act = false
+
+-- where a create reads its configuration
+abbrev pub create_of : Call → Option ℕ
+create_of (Create at) = Some at
+create_of call = None
+
+-- what the Commit of the call does to the cells that live already
+abbrev pub change_of_call : Call → CellsChange
+change_of_call (Start id) = Mark id false
+change_of_call (Loadable id) = Mark id true
+change_of_call (Destroy id) = Remove id
+change_of_call call = Keep
+
+abbrev pub change_of_cells : Option OpenCall → Act → CellsChange
+change_of_cells call Commit = option_map_or (λ (o : OpenCall). change_of_call o.call) call Keep
+change_of_cells call act = Keep
+
+-- the cells after the change
+abbrev pub changed_cells : CellsChange → List Live → List Live
+changed_cells Keep cells = cells
+changed_cells (Mark id loadable) cells = map (marked id loadable) cells
+changed_cells (Remove id) cells = filter (is_other id) cells
+
+-- each place that is reached may be written
+abbrev pub MayWrite : MemoryView → Reach → Type 0
+MayWrite memory (Memory places) = All (MayHold memory) places
+MayWrite memory Nothing = Unit {0}
+
+-- so may what the act writes, where it is a write
+abbrev pub MayWriteOf : MemoryView → Act → Reach → Type 0
+MayWriteOf memory (Write width at value ok) found = MayWrite memory found
+MayWriteOf memory act found = Unit {0}
+
+-- the cells with the one that comes, last and not loadable
+abbrev pub joined_cells : List Live → CellConfig → List Live
+joined_cells cells config = cells ++ (record { config = config; loadable = false }) ∷ []
+
+-- the cell with the configuration may join those that live, whose index and room are there; as it names a CPU, few live
+pub record MayJoin (live : LiveView) (found : Option (List Region)) (config : CellConfig) : Type 0 where
+  pub cpus : IsSoundBitmap config.cpu_set
+  pub few : NamesCpu config → length live.lives < 15
+  pub unknown : is_known (live.system.root ∷ configs_of live.lives) config ≡ false
+  pub within : AreInRange config.memory_regions
+  pub index : found ≡ Some config.memory_regions
+  pub cells : 0 < live.cells
+  pub regions : length config.memory_regions ≤ live.regions
+
+-- the entry is due where what is held stands for sound facts of an admitted image
+pub record IsNext (image : Image) (held : Held) (entry : Entry) : Type 0 where
+  pub facts : Facts
+  pub admitted : IsAdmitted image
+  pub means : Means image held facts
+  pub sound : IsSound image facts
+  pub due : due_at image facts entry.cpu ≡ Some entry
+
+-- with this configuration as the one that a create reads, the open call goes on by the entry as it has to
+abbrev pub IsRead : Image → Facts → Entry → Option CellConfig → Type 0
+IsRead image facts entry coming = call_by facts.cells coming facts.call entry entry.act ≡ call_after image facts entry
+
+-- no cell is about to come, where a create reads the configuration of one
+abbrev pub IsFree : Facts → Option CellConfig → Type 0
+IsFree facts coming = IfSome coming (λ config. (held : Held) → IsReady held facts.call)
+
+-- what is held is ready for what the call goes on to do, where it is ready for the cell that comes
+abbrev pub WillBeReady : Image → Facts → Entry → Option CellConfig → Type 0
+WillBeReady image facts entry coming = (held : Held) → IsReady held facts.call → IfSome coming (IsReadyFor held) → IsReady held (call_after image facts entry)
+
+-- the entry has all memory that it and the rest of its call take, but for its write
+pub record IsPrepared (image : Image) (held : Held) (facts : Facts) (entry : Entry) (coming : Option CellConfig) : Type 0 where
+  pub means : Means image held facts
+  pub read : IsRead image facts entry coming
+  pub ready : IsReady held (call_after image facts entry)

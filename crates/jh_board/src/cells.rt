@@ -1,0 +1,234 @@
+//! The cells that live besides root, with what is found once of each.
+ghost use Rattle.std.specs.Prelude.{◌≡◌, ◌↔◌, ℕ, ◌+◌, ◌<◌, ◌≤◌, ◌&&◌, [], ◌∷◌, ◌++◌, AllPairs, IfOk, IfSome, IsTrue, OnOk, false, filter, length, map, position};
+ghost use Rattle.std.specs.Option.{option_copied};
+ghost use Rattle.jh_num.specs.Bytes.{in_range, has_byte};
+ghost use Rattle.jh_cellcfg.specs.Regions.{IsInRange};
+ghost use Rattle.jh_check.specs.Refusals.{is_known};
+ghost use Rattle.jh_shape.specs.Pages.{pages_of};
+ghost use Rattle.jh_mmio.specs.Index.{IsRegionAt, SharesNoAddress};
+ghost use Rattle.jh_life.specs.Lives.{configs_of, has_config_id, new_live};
+ghost use Rattle.jh_history.specs.Commits.{is_other, marked};
+ghost use Rattle.jh_history.specs.Lives.{live_in};
+ghost use Rattle.jh_board.specs.Closed.{is_closed_by, live_regions, AreInRange, IsIndexOf};
+
+use crate::closed::{close_again, close_regions};
+use jh_cellcfg::{CellConfig, Region, SystemConfig};
+use jh_life::{
+    Cells, a_place_is_dropped_by_its_id, a_place_is_marked_by_its_id, live_cells_differ,
+};
+use jh_mmio::RegionIndex;
+use jh_num::{ByteSet, NoMemory, Range};
+use std::alloc::Global;
+use std::marker::Model;
+
+/// The cells that live besides root, in order of creation, and what they take from root.
+#[derive(Drop)]
+pub struct LiveCells {
+    cells: Cells,
+    /// The regions of each cell, in the order of the cells.
+    indexes: Vec<RegionIndex>,
+    /// The places that the cells close to root.
+    closed: ByteSet,
+    /// How many regions the cells have together.
+    regions: usize,
+    /// How many pages root and the cells use.
+    used: u32,
+}
+
+impl Model for LiveCells {
+    ghost use Rattle.std.specs.Prelude.{◌+◌, ◌-◌, ◌^◌, min, vec_len, vec_capacity};
+    ghost use Rattle.jh_board.specs.LiveView.{LiveView};
+    ghost use Rattle.jh_board.specs.IsLive.{IsLive};
+
+    ghost Value = { LiveView };
+
+    ghost view = { λ s. record {
+      system = s.cells.system;
+      lives = s.cells.lives;
+      cells = min s.cells.spare (vec_capacity s.indexes - vec_len s.indexes);
+      regions = min s.closed.room (2 ^ 64 - 1) - (s.regions + 1);
+    } };
+
+    ghost invariant = { IsLive };
+}
+
+/// The index of the first configuration with the id.
+fn position_of(cells: &[CellConfig], id: u64) -> Option<usize>
+    ensures { result ≡ position (has_config_id id) cells.now }
+{
+    cells.iter().position(|cell| u64::from(cell.id) == id)
+}
+
+/// The index of the cell with the id.
+fn index_of(cells: &Cells, id: u64) -> Option<usize>
+    ensures found { IsIndexOf cells.now.lives id result }
+    ensures few { IfSome result (λ index. index < 15) }
+{
+    position_of(cells.list(), id)
+}
+
+/// The pages that root and the cells use.
+fn count_pages(cells: &Cells) -> u32
+    ensures { result ≡ pages_of cells.now.system.root.memory_regions (configs_of cells.now.lives) }
+{
+    live_cells_differ(cells);
+    cells.pages(None) as u32
+}
+
+impl LiveCells {
+    /// Root alone. It takes memory for a copy of the system's configuration.
+    pub fn new(alloc: Global, system: &SystemConfig) -> Result<Self, NoMemory>
+        ensures system { IfOk result (λ cells. cells.system ≡ system.now) }
+        ensures alone { IfOk result (λ cells. cells.lives ≡ []) }
+    {
+        let cells = Cells::open(alloc, system)?;
+        let mut closed = ByteSet::new(alloc);
+        closed.reserve(1)?;
+        let used = count_pages(&cells);
+        Ok(LiveCells {
+            cells,
+            indexes: Vec::new(alloc),
+            closed,
+            regions: 0,
+            used,
+        })
+    }
+
+    /// The records of the cells, by which a new one is judged.
+    pub fn cells(&self) -> &Cells
+        ensures system { result.now.system ≡ self.now.system }
+        ensures lives { result.now.lives ≡ self.now.lives }
+    {
+        &self.cells
+    }
+
+    /// The configurations of the cells, in order of creation.
+    pub fn list(&self) -> &[CellConfig]
+        ensures { result.now ≡ configs_of self.now.lives }
+    {
+        self.cells.list()
+    }
+
+    /// How many cells live, root too.
+    pub fn count(&self) -> u32
+        ensures { result ≡ length self.now.lives + 1 }
+    {
+        self.cells.list().len() as u32 + 1
+    }
+
+    /// How many pages the live cells use, root too.
+    pub fn used(&self) -> u32
+        ensures { result ≡ pages_of self.now.system.root.memory_regions (configs_of self.now.lives) }
+    {
+        self.used
+    }
+
+    /// The configuration of the cell with the id.
+    pub fn live(&self, id: u64) -> Option<&CellConfig>
+        ensures { option_copied result ≡ live_in self.now.lives id }
+    {
+        match index_of(&self.cells, id) {
+            Some(index) => self.cells.list().get(index),
+            None => None,
+        }
+    }
+
+    /// The region of the cell with the id that has the address, or some other or none where none has it.
+    pub fn region(&self, id: u64, at: u64) -> Option<Region>
+        ensures found { IsRegionAt (live_regions self.now.lives id) at result }
+        ensures within { IfSome result (λ region. 0 < region.size → IsInRange region) }
+    {
+        match index_of(&self.cells, id) {
+            Some(index) => self.indexes[index].at(at),
+            None => None,
+        }
+    }
+
+    /// Whether a place of the range is closed to root.
+    pub fn closes(&self, places: Range) -> bool
+        ensures { IsTrue result ↔ ((place : ℕ) × IsTrue (in_range places place && is_closed_by self.now.lives place)) }
+    {
+        self.closed.meets(places)
+    }
+
+    /// The places that are closed to root.
+    pub fn closed(&self) -> &ByteSet
+        ensures { (place : ℕ) → has_byte result.now.ranges place ≡ is_closed_by self.now.lives place }
+    {
+        &self.closed
+    }
+
+    /// Makes ready for a new cell: room for it, and the index of its regions. No cell changes.
+    pub fn prepare(&mut self, alloc: Global, new: &CellConfig) -> Result<RegionIndex, NoMemory>
+        requires apart { AllPairs SharesNoAddress new.now.memory_regions }
+        ensures index { IfOk result (λ index. index ≡ new.now.memory_regions) }
+        ensures cells { OnOk result (0 < self.new.cells) }
+        ensures regions { OnOk result (length new.now.memory_regions ≤ self.new.regions) }
+        ensures system { self.new.system ≡ self.old.system }
+        ensures lives { self.new.lives ≡ self.old.lives }
+    {
+        let index = RegionIndex::new(alloc, new.memory_regions.as_slice())?;
+        self.cells.reserve()?;
+        self.indexes.reserve(1)?;
+        let Some(regions) = self.regions.checked_add(new.memory_regions.len()) else {
+            return Err(NoMemory);
+        };
+        let Some(room) = regions.checked_add(1) else {
+            return Err(NoMemory);
+        };
+        self.closed.reserve(room)?;
+        Ok(index)
+    }
+
+    /// A new cell lives, as the last, and isn't loadable. It takes no memory.
+    pub fn add(&mut self, new: CellConfig, index: RegionIndex)
+        requires few { length self.old.lives < 15 }
+        requires unknown { is_known (self.old.system.root ∷ configs_of self.old.lives) new ≡ false }
+        requires within { AreInRange new.memory_regions }
+        requires index { index ≡ new.memory_regions }
+        requires cells { 0 < self.old.cells }
+        requires regions { length new.memory_regions ≤ self.old.regions }
+        ensures system { self.new.system ≡ self.old.system }
+        ensures lives { self.new.lives ≡ self.old.lives ++ new_live new ∷ [] }
+    {
+        let regions = new.memory_regions.as_slice();
+        close_regions(&mut self.closed, regions, false);
+        self.regions += regions.len();
+        match self.cells.add(new) {
+            Ok(()) => (),
+            Err(_) => unreachable!(),
+        }
+        self.indexes.push_reserved(index);
+        self.used = count_pages(&self.cells);
+    }
+
+    /// The cell with the id lives no longer: what it alone took from root is open. It takes no memory.
+    pub fn remove(&mut self, id: u64)
+        ensures system { self.new.system ≡ self.old.system }
+        ensures lives { self.new.lives ≡ filter (is_other id) self.old.lives }
+    {
+        let Some(index) = index_of(&self.cells, id) else {
+            return;
+        };
+        a_place_is_dropped_by_its_id(&self.cells);
+        self.regions -= self.cells.list()[index].memory_regions.len();
+        self.cells.drop_cell(index as u32 + 1);
+        let _ = self.indexes.remove(index);
+        close_again(&mut self.closed, self.cells.list(), self.cells.loadable());
+        self.used = count_pages(&self.cells);
+    }
+
+    /// The cell with the id becomes loadable, or isn't so any longer: its loadable regions are root's while
+    /// it is. It takes no memory.
+    pub fn set_loadable(&mut self, id: u64, on: bool)
+        ensures system { self.new.system ≡ self.old.system }
+        ensures lives { self.new.lives ≡ map (marked id on) self.old.lives }
+    {
+        let Some(index) = index_of(&self.cells, id) else {
+            return;
+        };
+        a_place_is_marked_by_its_id(&self.cells);
+        self.cells.set_loadable(index as u32 + 1, on);
+        close_again(&mut self.closed, self.cells.list(), self.cells.loadable());
+    }
+}

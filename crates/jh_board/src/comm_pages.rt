@@ -1,0 +1,88 @@
+//! Bytes of communication pages; a page that isn't held is zero.
+ghost use Rattle.std.specs.Prelude.{◌≡◌, ◌≢◌, ℕ, ◌<◌, ◌≤◌, OnOk};
+ghost use Rattle.jh_history.specs.Pages.{page_after};
+ghost use Rattle.jh_board.specs.Pages.{comm_byte, HoldsComm};
+
+use crate::page::Page;
+use indexmap::IndexMap;
+use jh_history::PageWrite;
+use jh_num::NoMemory;
+use std::alloc::Global;
+use std::marker::Model;
+
+/// The communication pages of cells, by the cells' ids, in a map. That of a cell that lives no longer stays as
+/// it was.
+#[derive(Drop)]
+pub struct CommPages {
+    pages: IndexMap<u32, Page>,
+    alloc: Global,
+}
+
+impl Model for CommPages {
+    ghost use Rattle.std.specs.Prelude.{ℕ, List};
+
+    ghost Value = { List (ℕ × List ℕ) };
+
+    ghost view = { λ p. p.pages.entries };
+}
+
+impl CommPages {
+    /// No page is held.
+    pub fn new(alloc: Global) -> Self
+        ensures { (cell offset : ℕ) → comm_byte result cell offset ≡ 0 }
+    {
+        CommPages {
+            pages: IndexMap::new(alloc),
+            alloc,
+        }
+    }
+
+    /// The byte of the cell's page.
+    pub fn read(&self, cell: u32, offset: u64) -> u8
+        ensures { result ≡ comm_byte self.now cell offset }
+    {
+        match self.pages.get(&cell) {
+            Some(page) => page.byte(offset),
+            None => 0,
+        }
+    }
+
+    /// Holds the page of the cell. No byte changes.
+    pub fn hold(&mut self, cell: u32) -> Result<(), NoMemory>
+        ensures bytes { (other offset : ℕ) → comm_byte self.new other offset ≡ comm_byte self.old other offset }
+        ensures held { OnOk result (HoldsComm self.new cell) }
+        ensures others { (other : ℕ) → HoldsComm self.old other → HoldsComm self.new other }
+    {
+        if !self.pages.contains_key(&cell) {
+            let page = Page::zero(self.alloc)?;
+            self.pages.insert(cell, page)?;
+        }
+        Ok(())
+    }
+
+    /// Writes the byte of a page that is held.
+    pub fn write(&mut self, cell: u32, offset: u64, byte: u8)
+        requires held { HoldsComm self.old cell }
+        requires within { offset < 4096 }
+        ensures at { comm_byte self.new cell offset ≡ byte }
+        ensures others { (other k : ℕ) → (other ≡ cell → k ≢ offset) → comm_byte self.new other k ≡ comm_byte self.old other k }
+        ensures held { (other : ℕ) → HoldsComm self.old other → HoldsComm self.new other }
+    {
+        if let Some(page) = self.pages.get_mut(&cell) {
+            page.set(offset as usize, byte);
+        }
+    }
+
+    /// Changes words of a page that is held.
+    pub fn change(&mut self, write: &PageWrite)
+        requires { HoldsComm self.old write.now.cell }
+        ensures page { (k : ℕ) → k < 4096 → comm_byte self.new write.now.cell k ≡ page_after write.now.change (comm_byte self.old write.now.cell) k }
+        ensures behind { (k : ℕ) → 4096 ≤ k → comm_byte self.new write.now.cell k ≡ comm_byte self.old write.now.cell k }
+        ensures others { (other k : ℕ) → other ≢ write.now.cell → comm_byte self.new other k ≡ comm_byte self.old other k }
+        ensures held { (other : ℕ) → HoldsComm self.old other → HoldsComm self.new other }
+    {
+        if let Some(page) = self.pages.get_mut(&write.cell) {
+            page.change(&write.change);
+        }
+    }
+}

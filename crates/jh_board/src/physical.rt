@@ -1,0 +1,126 @@
+//! Bytes of physical memory; a page that isn't held is zero.
+ghost use Rattle.std.specs.Prelude.{◌≡◌, ◌≢◌, ℕ, ◌+◌, ◌%◌, ◌<◌, ◌≤◌, ◌^◌, OnOk, OnErr, length};
+ghost use Rattle.jh_num.specs.Memory.{spelled, stored};
+ghost use Rattle.jh_board.specs.Pages.{byte_at, bytes_from, Holds};
+
+use crate::page::Page;
+use indexmap::IndexMap;
+use jh_num::NoMemory;
+use std::alloc::Global;
+use std::marker::Model;
+
+/// Physical memory: pages of 4,096 bytes by their number, in a map.
+#[derive(Drop)]
+pub struct Physical {
+    pages: IndexMap<u64, Page>,
+    alloc: Global,
+}
+
+impl Model for Physical {
+    ghost use Rattle.std.specs.Prelude.{◌≡◌, ℕ, List, length};
+
+    ghost Value = { List (ℕ × List ℕ) };
+
+    ghost view = { λ m. m.pages.entries };
+}
+
+/// So many bytes from the address on, all of one page.
+#[derive(Clone, Copy)]
+pub struct Piece {
+    pub at: u64,
+    pub count: usize,
+}
+
+impl Physical {
+    pub fn new(alloc: Global) -> Self
+        ensures { (place : ℕ) → byte_at result place ≡ 0 }
+    {
+        Physical {
+            pages: IndexMap::new(alloc),
+            alloc,
+        }
+    }
+
+    /// The byte at the place.
+    pub fn read(&self, place: u64) -> u8
+        ensures { result ≡ byte_at self.now place }
+    {
+        match self.pages.get(&(place / 4096)) {
+            None => 0,
+            Some(page) => page.get((place % 4096) as usize),
+        }
+    }
+
+    /// The number that the bytes of the piece spell, the lowest first.
+    pub fn value(&self, piece: Piece) -> u64
+        requires page { piece.at % 4096 + piece.count ≤ 4096 }
+        requires few { piece.count ≤ 8 }
+        ensures spells { result ≡ spelled (bytes_from (byte_at self.now) piece.at piece.count) }
+        ensures fits { result < 256 ^ piece.count }
+    {
+        match self.pages.get(&(piece.at / 4096)) {
+            Some(page) => page.value((piece.at % 4096) as usize, piece.count),
+            None => 0,
+        }
+    }
+
+    /// Puts the bytes, all into the page of the first.
+    pub fn put(&mut self, at: u64, bytes: &[u8]) -> Result<(), NoMemory>
+        requires { at % 4096 + length bytes.now ≤ 4096 }
+        ensures ok { OnOk result ((q : ℕ) → byte_at self.new q ≡ stored (byte_at self.old) at bytes.now q) }
+        ensures err { OnErr result ((q : ℕ) → byte_at self.new q ≡ byte_at self.old q) }
+    {
+        let number = at / 4096;
+        let offset = (at % 4096) as usize;
+        if let Some(page) = self.pages.get_mut(&number) {
+            page.put(offset, bytes);
+            return Ok(());
+        }
+        let mut page = Page::zero(self.alloc)?;
+        page.put(offset, bytes);
+        self.pages.insert(number, page)?;
+        Ok(())
+    }
+
+    /// Holds the page of the place. No byte changes.
+    pub fn hold(&mut self, place: u64) -> Result<(), NoMemory>
+        ensures bytes { (q : ℕ) → byte_at self.new q ≡ byte_at self.old q }
+        ensures held { OnOk result (Holds self.new place) }
+        ensures others { (q : ℕ) → Holds self.old q → Holds self.new q }
+    {
+        let number = place / 4096;
+        if !self.pages.contains_key(&number) {
+            let page = Page::zero(self.alloc)?;
+            self.pages.insert(number, page)?;
+        }
+        Ok(())
+    }
+
+    /// Writes the byte at a place that is held.
+    pub fn write(&mut self, place: u64, byte: u8)
+        requires { Holds self.old place }
+        ensures at { byte_at self.new place ≡ byte }
+        ensures others { (q : ℕ) → q ≢ place → byte_at self.new q ≡ byte_at self.old q }
+        ensures held { (q : ℕ) → Holds self.old q → Holds self.new q }
+    {
+        if let Some(page) = self.pages.get_mut(&(place / 4096)) {
+            page.set((place % 4096) as usize, byte);
+        }
+    }
+
+    /// Puts the bytes from `at` on.
+    pub fn store(&mut self, at: u64, bytes: &[u8]) -> Result<(), NoMemory>
+        requires { at + length bytes.now < 2 ^ 64 }
+        ensures { OnOk result ((q : ℕ) → byte_at self.new q ≡ stored (byte_at self.old) at bytes.now q) }
+    {
+        let mut done = 0;
+        while done < bytes.len() {
+            let from = at + done as u64;
+            let room = 4096 - (from % 4096) as usize;
+            let end = bytes.len().min(done + room);
+            self.put(from, &bytes[done..end])?;
+            done = end;
+        }
+        Ok(())
+    }
+}
