@@ -110,11 +110,10 @@ impl<'a> Known for State<'a> {
             return Ok(Creation::Refused { number: EPERM });
         }
         let read = read_config(self.held.alloc, self, at)?;
-        // Beside 15 cells no verdict is known here yet.
-        if cells.len() > 14 {
-            return Err(NoMemory);
+        match judged(self.image.image(), cells, &self.held.cpus, caller, read) {
+            Some(creation) => Ok(creation),
+            None => Err(NoMemory),
         }
-        Ok(judged(self.image.image(), cells, &self.held.cpus, caller, read))
     }
 
     fn call(&self) -> Option<&OpenCall> {

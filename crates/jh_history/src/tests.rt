@@ -194,7 +194,7 @@ fn images_are_admitted_by_their_preload_and_their_operations(rt: HostRuntime) ->
 }
 
 #[test]
-fn images_are_built_of_whole_pages_and_without_hypercalls(rt: HostRuntime) -> Result<(), Fail> {
+fn images_are_built_of_whole_pages(rt: HostRuntime) -> Result<(), Fail> {
     let call = Op::Hvc {
         code: 0,
         a: 0,
@@ -205,7 +205,7 @@ fn images_are_built_of_whole_pages_and_without_hypercalls(rt: HostRuntime) -> Re
         (BASE, 0x800, READ, false),
         (BASE + 0x800, 0x1000, READ, false),
         (BASE, 0x1000, Op::Irq, true),
-        (BASE, 0x1000, call, false),
+        (BASE, 0x1000, call, true),
     ] {
         let image = image(rt.alloc(), region(start, size, 3), BASE, &[op])?;
         assert_eq!(rt; is_built(&image), want);

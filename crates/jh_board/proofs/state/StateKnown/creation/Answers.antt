@@ -31,9 +31,9 @@ returns-then-is_any_locked c = λ i f h.
     ∙ sym (c.is_any_locked.ensures f.cells (sym (c.list-cells.ensures ∙ ap configs_of lives))) ∙ c.if-is_any_locked.true in
     rw locked refl
 
-pub returns : goal.returns
+pub returns-in-Some : goal.returns-in-Some
 unfolding creation_of
-returns c = λ i f h.
+returns-in-Some c = λ i f h.
     let s = c.args.self.now in
     let held = c.self.inside.held.now in
     let lives : held.cells.lives ≡ f.cells = ap (λ (s : StateView). s.held.cells.lives) c.self.view_is ∙ h.1.cells in
@@ -47,6 +47,6 @@ returns c = λ i f h.
     let means : Means s.image s.held f = subst (λ (x : Image). Means x s.held f) h.0 h.1 in
     let reads = subst Q (sym h.0) (λ a. held-reads s.image s.held f a admitted means) in
     rw locked
-    (c.judged.ensures f cells (λ n lt. ap (λ (s : StateView). slice_get s.held.cpus n) c.self.view_is ∙ h.1.cpus n lt)
+    (c.in-Some.ensures.told f cells (λ n lt. ap (λ (s : StateView). slice_get s.held.cpus n) c.self.view_is ∙ h.1.cpus n lt)
     ∙ ap (λ (x : Image). creation_by x f c.args.caller (as_read c.in_ok-read.read)) (c.image.ensures.image ∙ image)
     ∙ ap (λ (read : ReadCell). creation_by i f c.args.caller read) (c.in_ok-read.ensures ∙ read_by-is i f (read_held s.image s.held) c.args.at reads))
