@@ -20,6 +20,8 @@ pub use board::Board;
 pub use turn::{Turn, TurnFault};
 
 #[cfg(test)]
+mod cells_tests;
+#[cfg(test)]
 mod plain;
 #[cfg(test)]
 mod tests;
