@@ -11,5 +11,5 @@ pub record Stands (b : Inside) : Type 0 where
   pub built : IsBuilt b.image
   pub legal : IsLegal b.image b.journal.entries
   pub within : length b.journal.entries ≤ b.limit
-  pub means : Means b.image b.held (facts b.image b.journal.entries)
+  pub means : Means b.image b.held.value (facts b.image b.journal.entries)
   pub last : b.last < 16

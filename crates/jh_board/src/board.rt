@@ -27,7 +27,7 @@ use std::marker::Model;
 pub struct Board {
     image: IndexedImage,
     limit: u32,
-    held: Held,
+    held: Box<Held>,
     journal: Journal,
     /// The CPU that made the last entry: it mostly has the next one due.
     last: u8,
@@ -92,7 +92,7 @@ fn load(alloc: Global, image: &Image) -> Result<Memory, NoMemory>
 }
 
 /// What is held at opening: the preloads, each CPU as root's, and no cell besides it.
-fn open_held(alloc: Global, image: &Image) -> Result<Held, NoMemory>
+fn held_at_opening(alloc: Global, image: &Image) -> Result<Held, NoMemory>
     requires { IsAdmitted image.now }
     ensures { IfOk result (λ held. Means image.now held (facts image.now [])) }
 {
@@ -106,6 +106,15 @@ fn open_held(alloc: Global, image: &Image) -> Result<Held, NoMemory>
         index: None,
         alloc,
     })
+}
+
+/// The same in a box, so that a board is small to move and to drop.
+fn open_held(alloc: Global, image: &Image) -> Result<Box<Held>, NoMemory>
+    requires { IsAdmitted image.now }
+    ensures { IfOk result (λ held. Means image.now held.value (facts image.now [])) }
+{
+    let held = held_at_opening(alloc, image)?;
+    Ok(Box::new(alloc, held)?)
 }
 
 impl Board {
@@ -171,7 +180,7 @@ impl Board {
         self.image.has_few_cpus();
         let made = advance(
             &self.image,
-            &mut self.held,
+            &mut *self.held,
             &mut self.journal,
             self.limit,
             cpu,

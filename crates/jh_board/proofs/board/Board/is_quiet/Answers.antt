@@ -1,5 +1,11 @@
 -- The board stands for its journal.
+use Rattle.std.proofs.Common.{sym, subst}
+use Rattle.jh_history.specs.History.{facts}
+use Rattle.jh_board.specs.Means.{Means}
+use Rattle.jh_board.specs.declared.held.Held.{Held}
 use Rattle.jh_board.proofs.board.Board.is_quiet.Goals as goal
 
 pub returns : goal.returns
-returns c = rw (← c.self.view_is) (c.is_quiet.ensures _ c.self.invariant.means)
+returns c =
+    let P : Held → Type 0 = λ held. Means c.self.inside.image held (facts c.self.inside.image c.self.inside.journal.entries) in
+    rw (← c.self.view_is) (c.is_quiet.ensures _ (subst P (sym c.deref.ensures) c.self.invariant.means))
