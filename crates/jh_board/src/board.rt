@@ -166,6 +166,13 @@ impl Board {
         is_quiet(&self.image, &self.held, self.last)
     }
 
+    /// How many cells live, root too.
+    pub fn count(&self) -> u32
+        ensures { result ≡ length (all_cells self.now.image (facts self.now.image self.now.entries).cells) }
+    {
+        self.held.cells.count()
+    }
+
     /// The configuration of the live cell at the place: root is at 0, and the others follow in order of creation.
     pub fn cell(&self, place: u32) -> Option<&CellConfig>
         ensures { option_copied result ≡ slice_get (all_cells self.now.image (facts self.now.image self.now.entries).cells) place }
