@@ -14,14 +14,14 @@ use std::process::Abort;
 use std::test::Fail;
 
 /// The first page of most regions, and the one after it.
-const BASE: u64 = 0x4000_0000;
+pub(crate) const BASE: u64 = 0x4000_0000;
 
 const NEXT: u64 = 0x4000_1000;
 
 /// The last page below 2^39.
 const LAST: u64 = 0x7f_ffff_f000;
 
-fn region(start: u64, flags: u64) -> Region {
+pub(crate) fn region(start: u64, flags: u64) -> Region {
     Region {
         phys_start: start,
         virt_start: start,
@@ -95,10 +95,10 @@ fn preload(alloc: Global) -> Result<Preload, NoMemory> {
 
 /// Root's regions, and the programs of its two CPUs.
 #[derive(Clone, Copy)]
-struct Case<'a> {
-    regions: &'a [Region],
-    zero: &'a [Op],
-    one: &'a [Op],
+pub(crate) struct Case<'a> {
+    pub(crate) regions: &'a [Region],
+    pub(crate) zero: &'a [Op],
+    pub(crate) one: &'a [Op],
 }
 
 fn image(alloc: Global, case: Case) -> Result<Image, NoMemory> {
@@ -115,7 +115,7 @@ fn image(alloc: Global, case: Case) -> Result<Image, NoMemory> {
 }
 
 /// The image of the case, which may be opened.
-fn ready(rt: &impl Abort, alloc: Global, case: Case) -> Result<Image, NoMemory>
+pub(crate) fn ready(rt: &impl Abort, alloc: Global, case: Case) -> Result<Image, NoMemory>
     ensures admitted { IfOk result IsAdmitted }
     ensures built { IfOk result IsBuilt }
 {

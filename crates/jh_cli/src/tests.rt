@@ -268,9 +268,9 @@ fn programs_are_played_or_refused(rt: HostRuntime) -> Result<(), Fail> {
     plays(
         &rt,
         alloc,
-        "hvc 5 0 0\n",
-        Status::Refused,
-        "refused: b.json: not built\n",
+        "hvc 5 4 0\n",
+        Status::Good,
+        "0 0 hvc 5 0x4 0x0 = 1\n",
     )?;
     Ok(())
 }

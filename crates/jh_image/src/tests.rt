@@ -321,13 +321,7 @@ fn programs_have_their_causes(rt: HostRuntime) -> Result<(), Fail> {
         b"irq\nread 3 0x0\n",
         "p.txt: line 2: width",
     )?;
-    with(
-        &rt,
-        rt.alloc(),
-        "p.txt",
-        b"hvc 5 0 0\n",
-        "b.json: not built",
-    )
+    with(&rt, rt.alloc(), "p.txt", b"hvc 5 0 0\n", "made")
 }
 
 fn preload(alloc: Global, at: u64) -> Result<Preload, Fail> {
