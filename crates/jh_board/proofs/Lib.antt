@@ -11,3 +11,4 @@ pub mod KeptLemmas
 pub mod MadeLemmas
 pub mod AfterLemmas
 pub mod RootReadLemmas
+pub mod ToldLemmas

@@ -10,3 +10,4 @@ pub mod Turns
 pub mod Stands
 pub mod Indexed
 pub mod IsIndexed
+pub mod Maps

@@ -1,11 +1,14 @@
 //! The board.
-ghost use Rattle.std.specs.Prelude.{◌≡◌, ℕ, ◌+◌, ◌<◌, ◌≤◌, ◌↔◌, [], ◌∷◌, ◌++◌, length, Some, None, IsSome, IfSome, IsTrue, IfOk, IfErr, OnErr};
+ghost use Rattle.std.specs.Prelude.{◌≡◌, ℕ, ◌+◌, ◌<◌, ◌≤◌, ◌↔◌, [], ◌∷◌, ◌++◌, length, Some, None, IsSome, IfSome, IsTrue, IfOk, IfErr, OnErr, option_copied, slice_get};
 ghost use Rattle.jh_history.specs.Lives.{is_on_board};
 ghost use Rattle.jh_history.specs.Due.{due, IsLegal, IsQuiet};
 ghost use Rattle.jh_history.specs.History.{facts, start};
-ghost use Rattle.jh_history.specs.Admitted.{IsAdmitted, IsBuilt};
+ghost use Rattle.jh_history.specs.Admitted.{IsAdmitted, IsBuilt, pool_pages};
+ghost use Rattle.jh_history.specs.Phases.{configs_of};
+ghost use Rattle.jh_shape.specs.Pages.{pages_of};
 ghost use Rattle.jh_history.specs.declared.place.Place.{Place as ThePlace};
 ghost use Rattle.jh_board.specs.Pages.{byte_of};
+ghost use Rattle.jh_board.specs.Maps.{all_cells, IsMapOrNone};
 ghost use Rattle.jh_board.specs.Means.{Means};
 ghost use Rattle.jh_board.specs.Turns.{Turns, Refuses, Advances};
 
@@ -15,10 +18,13 @@ use crate::indexed::IndexedImage;
 use crate::memory::Memory;
 use crate::state::{is_quiet, next_step};
 use crate::steps::make;
+use crate::told::{cell_at, map_of};
 use crate::turn::{Turn, TurnFault};
+use jh_cellcfg::CellConfig;
 use jh_cpu::Cpu;
 use jh_history::{Entry, Journal, legal_journals_are_sound};
-use jh_num::{NoMemory, Steps};
+use jh_map::Run;
+use jh_num::{NoMemory, Seq, Steps};
 use jh_script::Image;
 use std::alloc::Global;
 use std::marker::Model;
@@ -167,6 +173,42 @@ impl Board {
         ensures { IsTrue result ↔ IsQuiet self.now.image self.now.entries }
     {
         is_quiet(&self.image, &self.held, self.last)
+    }
+
+    /// How many cells live, root too.
+    pub fn count(&self) -> u32
+        ensures { result ≡ length (all_cells self.now.image (facts self.now.image self.now.entries).cells) }
+    {
+        self.held.cells.count()
+    }
+
+    /// The configuration of the live cell at the place: root is at 0, and the others follow in order of creation.
+    pub fn cell(&self, place: u32) -> Option<&CellConfig>
+        ensures { option_copied result ≡ slice_get (all_cells self.now.image (facts self.now.image self.now.entries).cells) place }
+    {
+        cell_at(&self.image, &self.held.cells, place)
+    }
+
+    /// The map of the live cell with the id; `None` where no live cell has it.
+    pub fn map_of(&self, id: u32) -> Result<Option<Seq<Run>>, NoMemory>
+        ensures { IfOk result (IsMapOrNone self.now.image (facts self.now.image self.now.entries).cells id) }
+    {
+        legal_journals_are_sound();
+        map_of(self.held.alloc, &self.image, &self.held.cells, id)
+    }
+
+    /// How many pages of the pool the live cells use, root too.
+    pub fn used(&self) -> u32
+        ensures { result ≡ pages_of self.now.image.system.root.memory_regions (configs_of (facts self.now.image self.now.entries).cells) }
+    {
+        self.held.cells.used()
+    }
+
+    /// How many pages the pool has.
+    pub fn size(&self) -> u32
+        ensures { result ≡ pool_pages self.now.image.system }
+    {
+        self.image.pool_pages()
     }
 
     /// One turn of the CPU, which makes the entry that is due to it. `Full` is tested before the

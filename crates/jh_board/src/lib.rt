@@ -9,14 +9,17 @@ mod crossing;
 mod granted;
 mod held;
 mod indexed;
+mod laws;
 mod memory;
 mod page;
 mod physical;
 mod state;
 mod steps;
+mod told;
 mod turn;
 
 pub use board::Board;
+pub use laws::maps_tell_what_is_granted;
 pub use turn::{Turn, TurnFault};
 
 #[cfg(test)]

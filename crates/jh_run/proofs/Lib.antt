@@ -2,3 +2,4 @@ pub mod RunLemmas
 pub mod RanLemmas
 pub mod EndLemmas
 pub mod LegalTexts
+pub mod MapsLemmas

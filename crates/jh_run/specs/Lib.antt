@@ -1,4 +1,5 @@
 pub mod Ends
+pub mod Maps
 pub mod Plays
 pub mod Ran
 pub mod Typed

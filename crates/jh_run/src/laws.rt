@@ -1,5 +1,5 @@
-//! That what is played can be read. The function does nothing; its contract is the law.
-ghost use Rattle.std.specs.Prelude.{◌≤◌, List, length};
+//! That what is played can be read, and that maps have one text. The functions do nothing; their contracts are the laws.
+ghost use Rattle.std.specs.Prelude.{◌≡◌, ◌≤◌, ℕ, List, length};
 ghost use Rattle.std.specs.List.{AllByRecursion};
 ghost use Rattle.jh_history.specs.declared.entry.Entry.{Entry};
 ghost use Rattle.jh_history.specs.Admitted.{HasNoCall, IsAdmitted, IsBuilt};
@@ -7,6 +7,8 @@ ghost use Rattle.jh_history.specs.Due.{IsLegal};
 ghost use Rattle.jh_text.specs.Text.{journal_text};
 ghost use Rattle.jh_text.specs.Ranges.{IsReadable};
 ghost use Rattle.jh_text.specs.Faults.{IsJournalText, max_entries};
+ghost use Rattle.jh_script.specs.declared.image.Image.{Image as TheImage};
+ghost use Rattle.jh_run.specs.Maps.{IsMapsText};
 ghost use Rattle.jh_run.specs.Typed.{HasTypedNumbers};
 
 use jh_history::{admitted_roots_are_sound, root_lives_alone};
@@ -15,6 +17,7 @@ use jh_laws::{
     legal_entries_are_due, memory_opens_with_the_preloads, ready_cpus_have_an_entry_due,
     root_is_granted_its_addresses,
 };
+use jh_map::maps_of_one_cell_are_equal;
 use jh_script::Image;
 
 /// Each entry of a legal journal of an image that is admitted and built and has no hypercall is one that a text may hold. So the text of the
@@ -36,4 +39,11 @@ pub fn legal_journals_are_readable(image: &Image)
     root_is_granted_its_addresses();
     memory_opens_with_the_preloads();
     entries_write_their_bytes();
+}
+
+/// The maps of the cells that live after the entries have one text.
+pub fn maps_have_one_text()
+    ensures { (image : TheImage) (entries : List Entry) (one other : List ℕ) → IsMapsText image entries one → IsMapsText image entries other → one ≡ other }
+{
+    maps_of_one_cell_are_equal();
 }

@@ -1,9 +1,10 @@
-//! The text of a journal, both ways: one line for each entry.
+//! The text of a journal, both ways, one line for each entry; and the text of a cell's map.
 #![tactic(auto)]
 
 mod entries;
 mod fault;
 mod laws;
+mod map;
 mod outcomes;
 mod print;
 mod read;
@@ -11,6 +12,7 @@ mod words;
 
 pub use fault::{JournalFault, MAX_ENTRIES};
 pub use laws::{every_text_has_an_answer, one_answer, texts_differ, texts_go_both_ways};
+pub use map::push_map;
 pub use print::{print_entry, print_journal};
 pub use read::read_journal;
 

@@ -1,0 +1,52 @@
+-- What a board tells of the cells that live: their maps, and what a map tells of grants.
+use Rattle.std.specs.Prelude.{◌≡◌, ℕ, ◌+◌, ◌-◌, Bool, ◌&&◌, nat_le, nat_lt, if◌then◌else◌, List, ◌∷◌, Option, Some, None, find, option_map, IsSome}
+use Rattle.jh_num.specs.declared.rights.Rights.{Rights}
+use Rattle.jh_cellcfg.specs.declared.config.CellConfig.{CellConfig}
+use Rattle.jh_cellcfg.specs.declared.live.Live.{Live}
+use Rattle.jh_map.specs.declared.run.Run.{Run}
+use Rattle.jh_map.specs.Maps.{IsMap}
+use Rattle.jh_script.specs.declared.image.Image.{Image}
+use Rattle.jh_history.specs.declared.access.Access.{Access}
+use Rattle.jh_history.specs.declared.access.Access.TheVariants.{Read, Write, Fetch}
+use Rattle.jh_history.specs.declared.place.Place.{Place}
+use Rattle.jh_history.specs.declared.place.Place.TheVariants.{Physical, Page}
+use Rattle.jh_history.specs.Grants.{is_kept}
+use Rattle.jh_history.specs.Lives.{cell_in, regions_in}
+use Rattle.jh_history.specs.Phases.{configs_of}
+
+-- the configurations of the cells that live, where these live besides root: root first, and then by creation
+abbrev pub all_cells : Image → List Live → List CellConfig
+all_cells image lives = image.system.root ∷ configs_of lives
+
+-- the cell with the id is kept from the physical place
+abbrev pub is_kept_at : Image → List Live → ℕ → ℕ → Bool
+is_kept_at image lives id place = is_kept image lives id (Physical place)
+
+-- the map of the live cell with the id: that of its regions, to which the places are closed that it is kept from
+abbrev pub IsMapIn : Image → List Live → ℕ → List Run → Type 0
+IsMapIn image lives id = IsMap (is_kept_at image lives id) (regions_in image lives id)
+
+-- what is told of a cell with the id: its map, or nothing where no live cell has the id
+abbrev pub IsMapOrNone : Image → List Live → ℕ → Option (List Run) → Type 0
+IsMapOrNone image lives id None = cell_in image lives id ≡ None
+IsMapOrNone image lives id (Some runs) = IsSome (cell_in image lives id) × IsMapIn image lives id runs
+
+-- ---- what a map tells of grants
+
+-- they are the rights that the access needs
+abbrev pub is_right : Access → Rights → Bool
+is_right Read rights = rights.read
+is_right Write rights = rights.write
+is_right Fetch rights = rights.execute
+
+-- the run tells that memory may be accessed so at the address
+abbrev pub is_told : Access → ℕ → Run → Bool
+is_told access at run = (nat_le run.start at && nat_lt at run.end) && (run.page && is_right access run.rights)
+
+-- where it tells that the address of the cell leads
+abbrev pub place_told : ℕ → ℕ → Run → Place
+place_told id at run = if run.comm then Page id (run.place + (at - run.start)) else Physical (run.place + (at - run.start))
+
+-- what the map of the cell tells that it is granted at the address, with the right
+abbrev pub told_grant : ℕ → List Run → Access → ℕ → Option Place
+told_grant id runs access at = option_map (place_told id at) (find (is_told access at) runs)

@@ -1,0 +1,4 @@
+mod ListLemmas
+mod MapLemmas
+mod RunLemmas
+mod AlikeLemmas

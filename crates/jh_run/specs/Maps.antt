@@ -1,0 +1,29 @@
+-- What the maps of all live cells say after a schedule.
+use Rattle.std.specs.Prelude.{◌≡◌, ℕ, Bool, true, false, List, [], ◌∷◌, ◌++◌, Option, Some, None}
+use Rattle.jh_cellcfg.specs.declared.config.CellConfig.{CellConfig}
+use Rattle.jh_cellcfg.specs.declared.live.Live.{Live}
+use Rattle.jh_map.specs.declared.run.Run.{Run}
+use Rattle.jh_script.specs.declared.image.Image.{Image}
+use Rattle.jh_history.specs.declared.entry.Entry.{Entry}
+use Rattle.jh_history.specs.Due.{IsLegal}
+use Rattle.jh_history.specs.History.{facts}
+use Rattle.jh_history.specs.Items.{items}
+use Rattle.jh_text.specs.Maps.{map_text}
+use Rattle.jh_board.specs.Maps.{all_cells, IsMapIn}
+use Rattle.jh_run.specs.Plays.{IsFullAtItem}
+
+-- the texts of the maps of these cells, one behind another, where such cells live besides root
+abbrev pub AreMaps : Image → List Live → List CellConfig → List ℕ → Type 0
+AreMaps image lives [] text = text ≡ []
+AreMaps image lives (cell ∷ cells) text =
+    (runs : List Run) × (rest : List ℕ) × IsMapIn image lives cell.id runs × (text ≡ map_text cell runs ++ rest) × AreMaps image lives cells rest
+
+-- the text of the maps of all cells that live after the entries: of root, and then of the others by creation
+abbrev pub IsMapsText : Image → List Entry → List ℕ → Type 0
+IsMapsText image entries = AreMaps image (facts image entries).cells (all_cells image (facts image entries).cells)
+
+-- what is told after the items of the schedule alone: the maps, or nothing where the limit stopped an item
+abbrev pub Maps : Image → ℕ → List ℕ → Option (List ℕ) → Type 0
+Maps image limit schedule None = ((items image limit schedule []).full ≡ true) × IsFullAtItem image limit schedule (items image limit schedule []).entries
+Maps image limit schedule (Some text) =
+    ((items image limit schedule []).full ≡ false) × IsLegal image (items image limit schedule []).entries × IsMapsText image (items image limit schedule []).entries text

@@ -1,0 +1,54 @@
+-- The text of the maps of cells.
+use Rattle.std.specs.Prelude.{ℕ, Bool, true, false, List, [], ◌∷◌, ◌++◌, codes, if◌then◌else◌}
+use Rattle.std.specs.List.{join_with_byte, flat_map}
+use Rattle.std.specs.Fmt.{decimal}
+use Rattle.jh_num.specs.declared.rights.Rights.{Rights}
+use Rattle.jh_cellcfg.specs.declared.config.CellConfig.{CellConfig}
+use Rattle.jh_cellcfg.specs.Cells.{name_of}
+use Rattle.jh_map.specs.declared.run.Run.{Run}
+use Rattle.jh_text.specs.Text.{hexadecimal}
+
+-- `phys` where a run leads to physical places, `comm` where it leads to the communication page
+abbrev pub place_text : Bool → List ℕ
+place_text true = codes "comm"
+place_text false = codes "phys"
+
+-- the letter of a right, or `-` where it is missing
+abbrev pub read_text : Bool → List ℕ
+read_text true = codes "r"
+read_text false = codes "-"
+
+abbrev pub write_text : Bool → List ℕ
+write_text true = codes "w"
+write_text false = codes "-"
+
+abbrev pub execute_text : Bool → List ℕ
+execute_text true = codes "x"
+execute_text false = codes "-"
+
+abbrev pub rights_text : Rights → List ℕ
+rights_text rights = read_text rights.read ++ write_text rights.write ++ execute_text rights.execute
+
+-- `page` where the region is of whole pages, `sub` where it is a subpage region
+abbrev pub kind_text : Bool → List ℕ
+kind_text true = codes "page"
+kind_text false = codes "sub"
+
+-- the addresses, up to one past the last; where the first leads; the rights, and the kind of the region
+abbrev pub run_words : Run → List (List ℕ)
+run_words run = (hexadecimal run.start ++ codes "-" ++ hexadecimal run.end) ∷ place_text run.comm ∷ hexadecimal run.place ∷ rights_text run.rights ∷ kind_text run.page ∷ []
+
+-- the cell's id and name
+abbrev pub cell_words : CellConfig → List (List ℕ)
+cell_words cell = codes "cell" ∷ decimal cell.id ∷ name_of cell ∷ []
+
+-- the words with one space between each two, ended by a line feed
+abbrev pub words_line : List (List ℕ) → List ℕ
+words_line words = join_with_byte 32 words ++ 10 ∷ []
+
+abbrev pub run_line : Run → List ℕ
+run_line run = words_line (run_words run)
+
+-- a line for the cell, and one for each run of its map
+abbrev pub map_text : CellConfig → List Run → List ℕ
+map_text cell runs = words_line (cell_words cell) ++ flat_map run_line runs
