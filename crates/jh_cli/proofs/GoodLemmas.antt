@@ -299,3 +299,8 @@ unread old new failed before after said status counted (inl whole) is =
 unread old new failed before after said status counted (inr part) is =
     let same : number_of WriteFault ≡ number_of ReadFault = ap number_of (sym part.0 ∙ is) in
     absurd (omega arith)
+
+-- another status than that and a sink's is the said one's
+pub said_read : (before after : Option (List ℕ)) (said : Said) (status : Status) → Sent before after said status → status ≢ ReadFault → status ≢ WriteFault → said.status ≢ ReadFault
+said_read before after said status (inl whole) read written is = read (whole.0 ∙ is)
+said_read before after said status (inr part) read written is = written part.0

@@ -1,7 +1,7 @@
 -- The files that a call reads, one after another.
-use Rattle.std.proofs.Common.{◌≡◌, ℕ, ◌+◌, ◌<◌, List, [], ◌∷◌, ◌++◌, length, get_or, Result, Ok, Err, refl, sym, ap, subst, inl, inr}
-use Rattle.std.specs.Prelude.{map, take}
-use Rattle.jh_outside.specs.Trail.{Ask, Asks, handed, faulted, AsksAll, AsksUntil}
+use Rattle.std.proofs.Common.{◌≡◌, ◌≢◌, ℕ, ◌+◌, ◌<◌, List, [], ◌∷◌, ◌++◌, length, get_or, Option, None, Some, Result, Ok, Err, refl, sym, ap, subst, ◌∙◌, inl, inr}
+use Rattle.std.specs.Prelude.{map, take, ⊤}
+use Rattle.jh_outside.specs.Trail.{Ask, Answer, Handed, Asks, no_ask, one_more_ask, kept_name, handed, faulted, AsksAll, AsksUntil}
 use Rattle.jh_outside.specs.TrailLaws.{all-both, until-first, until-behind, until-more, names-split}
 use Rattle.jh_image.specs.declared.fault.ImageCause.{ImageCause}
 use Rattle.jh_image.specs.declared.fault.ImageCause.TheVariants.{ReadFault, Oversize, Json, Member, System, Findings, PoolSmall, Preload as BadPreload, Program as BadProgram, NotBuilt}
@@ -12,11 +12,13 @@ use Rattle.jh_image.specs.Order.{board_files, ask_for as ask_at, AsksBoard, Asks
 use Rattle.jh_cli.specs.declared.told.Told.{Told}
 use Rattle.jh_cli.specs.declared.told.Stop.{Stop}
 use Rattle.jh_cli.specs.declared.told.Stop.TheVariants as stop
+use Rattle.jh_cli.specs.declared.status.Status.{Status}
 use Rattle.jh_cli.specs.declared.status.Status.TheVariants as status
 use Rattle.jh_cli.specs.Reading.{Contents, Said}
 use Rattle.jh_cli.specs.Boards.{stopped}
 use Rattle.jh_cli.specs.Stopped.{OnEnded, OnTold, said_of}
-use Rattle.jh_cli.specs.Order.{IsStop, ask_for, StopsIn, ReadsIn, ReadsBoard, the_board_alone, what_it_lists}
+use Rattle.jh_cli.specs.Words.{Asked, CheckOf, PackOf, PlayOf, AuditOf}
+use Rattle.jh_cli.specs.Order.{IsStop, ask_for, StopsIn, ReadsIn, ReadsBoard, the_board_alone, what_it_lists, IsReadFor}
 use Rattle.jh_cli.proofs.StopLemmas.{on_stop, on_told}
 use Rattle.jh_cli.proofs.BoardLemmas.{nothing}
 
@@ -105,3 +107,43 @@ module _ {S : Type 0} (one : S → Ask → S → Type 0) (failed : S → List �
       on_stop (StopsIn one failed (f x ∷ []) t u) (StopsIn one failed (map f names) s u) r
       (λ said stops. (stops.0, subst (λ ns. AsksUntil one failed ns (ask_for said.status) s u) (sym split.1)
           (until-behind one failed s t u (map f (take i names)) (f x ∷ split.0) (ask_for said.status) before (until-more one failed t u (f x ∷ []) split.0 (ask_for said.status) stops.1)))) h
+
+-- ---- reads that all handed out bytes
+
+abbrev AreHanded : List Ask → Type 0
+AreHanded [] = ⊤
+AreHanded (ask ∷ asks) = (ask.answer ≡ Handed) × AreHanded asks
+
+are_handed : (names : List (List ℕ)) → AreHanded (map handed names)
+are_handed [] = tt
+are_handed (name ∷ names) = (refl, are_handed names)
+
+are_handed_up_to : (names : List (List ℕ)) (last : Ask) → last.answer ≡ Handed → AreHanded (map handed names ++ last ∷ [])
+are_handed_up_to [] last is = (is, tt)
+are_handed_up_to (name ∷ names) last is = (refl, are_handed_up_to names last is)
+
+is_handed : (s : Status) (name : List ℕ) → s ≢ status.ReadFault → (ask_for s name).answer ≡ Handed
+is_handed status.ReadFault name other = absurd (other refl)
+is_handed _ name other = refl
+
+module _ {S : Type 0} (one : S → Ask → S → Type 0) (failed : S → List ℕ) where
+  keep : (s t : S) (asks : List Ask) → Asks one failed s asks t → AreHanded asks → failed t ≡ failed s
+  keep s t asks (no_ask u) are = refl
+  keep s t asks (one_more_ask u v w ask more is named rest) are = keep v w more rest are.1 ∙ named ∙ ap (kept_name (failed u) ask.name) are.0
+
+  all_keep : (names : List (List ℕ)) (s t : S) (said : Said) → said.status ≢ status.ReadFault → ReadsIn one failed names s t said → failed t ≡ failed s
+  all_keep names s t said read (inl all) = keep s t (map handed names) all (are_handed names)
+  all_keep names s t said read (inr (stop, until)) =
+      keep s t (map handed until.before ++ ask_for said.status until.name ∷ []) until.asked (are_handed_up_to until.before (ask_for said.status until.name) (is_handed said.status until.name read))
+
+  board_keeps : (contents : Contents) (board : List ℕ) (more : List (List ℕ)) (s t : S) (said : Said) → said.status ≢ status.ReadFault → ReadsBoard one failed contents board more s t said → failed t ≡ failed s
+  board_keeps contents board more s t said read (the_board_alone stops) = all_keep (board ∷ []) s t said read (inr stops)
+  board_keeps contents board more s t said read (what_it_lists listing lists reads) = all_keep (board_files board listing ++ more) s t said read reads
+
+  -- where it isn't told that a file can't be read, the name of the read that failed is what it was
+  pub call_keeps : (contents : Contents) (asked : Option Asked) (s t : S) (said : Said) → IsReadFor one failed contents asked s t said → said.status ≢ status.ReadFault → failed t ≡ failed s
+  call_keeps contents None s t said reads read = keep s t [] reads tt
+  call_keeps contents (Some (CheckOf system cells)) s t said reads read = all_keep (system ∷ cells) s t said read reads
+  call_keeps contents (Some (PackOf spec)) s t said reads read = all_keep (spec ∷ []) s t said read reads
+  call_keeps contents (Some (PlayOf board schedule)) s t said reads read = board_keeps contents board (schedule ∷ []) s t said read reads
+  call_keeps contents (Some (AuditOf board journal)) s t said reads read = board_keeps contents board (journal ∷ []) s t said read reads

@@ -1,6 +1,6 @@
 -- What a call says of its status, of the files that it reads and of the sink. Each call of the program has this one word
 -- as its contract, so it holds of all of them alike.
-use Rattle.std.specs.Prelude.{◌≡◌, ℕ, ◌⊎◌, List, Option}
+use Rattle.std.specs.Prelude.{◌≡◌, ◌≢◌, ℕ, ◌⊎◌, List, Option}
 use Rattle.jh_outside.specs.Count.{Rose}
 use Rattle.jh_outside.specs.Trail.{Ask}
 use Rattle.jh_outside.specs.Writes.{Appended}
@@ -36,5 +36,7 @@ module _ {S K : Type 0} (contents : S → Contents) (failed : S → List ℕ) (f
     -- a fault of reading or writing comes only where the count rose in this call
     pub read_fault : status ≡ ReadFault → Rose (faults s) (faults t) × Appended (written k) (written l) (fault_line (failed t))
     pub write_fault : status ≡ WriteFault → Rose (sink_faults k) (sink_faults l)
+    -- with any other status but want of memory the name of the failed read is what it was
+    pub unfailed : status ≢ ReadFault → status ≢ WriteFault → status ≢ NoMemory → failed t ≡ failed s
     -- good words and files give the command's answer or want of memory, unless a count rose in this call
     pub complete : (good : AreGood (contents s) asked) → IsAnswer (contents s) asked good status ⊎ (status ≡ NoMemory) ⊎ Rose (faults s) (faults t) ⊎ Rose (sink_faults k) (sink_faults l)

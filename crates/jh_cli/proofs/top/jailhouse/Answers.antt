@@ -3,8 +3,9 @@ use Rattle.std.proofs.Common.{inl, inr, refl}
 use Rattle.std.specs.Prelude.{map, string_bytes}
 use Rattle.jh_cli.specs.Words.{command_of}
 use Rattle.jh_cli.specs.Stopped.{said_of}
-use Rattle.jh_cli.proofs.GoodLemmas.{answered_or_rose, unread}
+use Rattle.jh_cli.proofs.GoodLemmas.{answered_or_rose, unread, said_read}
 use Rattle.jh_cli.specs.Complete.{IsAnswer}
+use Rattle.jh_cli.proofs.OrderLemmas.{call_keeps}
 use Rattle.jh_cli.proofs.StatusLemmas.{outcome_other}
 use Rattle.jh_cli.proofs.top.jailhouse.Goals as goal
 
@@ -23,6 +24,7 @@ returns-in-Ok g c =
       ends = inr (said, record { outcome = told.outcome; read = told.asked; counted = told.counted }, c.send.ensures.sent);
       read_fault = unread old new failed before after said c.send.result told.counted c.send.ensures.sent;
       write_fault = λ is. c.send.ensures.fault is (outcome_other contents asked said told.outcome);
+      unfailed = λ read written wanted. call_keeps g.F.Files.asks g.F.Files.failed contents asked c.args.files.now c.tell.new.files said told.asked (said_read before after said c.send.result c.send.ensures.sent read written);
       complete = λ good. answered_or_rose (IsAnswer contents asked good) old new (g.K.Sink.faults c.args.out.now) (g.K.Sink.faults c.send.new.out) failed before after said c.send.result
           (c.good_inputs_are_answered.ensures contents asked said good told.outcome) told.counted c.send.ensures.sent
           (λ is. c.send.ensures.fault is (outcome_other contents asked said told.outcome));
