@@ -1,6 +1,6 @@
 -- Where a call ends at a file.
-use Rattle.std.proofs.Common.{◌≡◌, ◌≤◌, List, ℕ, inl, inr, Result, Ok, Err, Option, None, Some, ◌∙◌, ap, arith}
-use Rattle.std.specs.Prelude.{IfSome}
+use Rattle.std.proofs.Common.{◌≡◌, ◌≤◌, List, ℕ, inl, inr, Result, Ok, Err, Option, None, Some, sym, ◌∙◌, ap, subst, arith}
+use Rattle.std.specs.Prelude.{IfSome, IsErrAnd}
 use Rattle.jh_outside.specs.Count.{Rose}
 use Rattle.jh_outside.specs.Reads.{HandsOut}
 use Rattle.jh_cli.specs.declared.told.Told.{Told}
@@ -36,6 +36,11 @@ stops_more most contents name Why Other more stop h = on_stop (StopsAt most cont
 pub on_told : (P Q : Said → Type 0) (r : Result Told Stop) → ((said : Said) → P said → Q said) → OnTold r P → OnTold r Q
 on_told P Q (Ok told) f h = f (said_of told) h
 on_told P Q (Err stop) f h = on_stop P Q stop f h
+
+-- what is said of a stop is told where it is passed up
+pub told_up : (P : Said → Type 0) (r : Result Told Stop) (stop : Stop) → IsErrAnd r (λ passed. passed ≡ stop) → OnEnded stop P → OnTold r P
+told_up P (Ok told) stop is h = absurd is
+told_up P (Err passed) stop is h = subst (λ (s : Stop). OnEnded s P) (sym is) h
 
 -- what follows a file that was read
 pub goes_on : {A : Type 0} (most : ℕ) (contents : Contents) (name : List ℕ) (Why : List ℕ → List ℕ → Type 0) (Form : List ℕ → A → Type 0) (next : A → Said → Type 0) (value : A) → SpellsAt most contents name Form value

@@ -1,8 +1,9 @@
 -- Each file gives a cell, or stops the call.
-use Rattle.std.proofs.Common.{◌+◌, [], ◌∷◌, length, ◌∙◌, ap, arith}
+use Rattle.std.proofs.Common.{◌+◌, [], ◌∷◌, length, ◌∙◌, ap, refl, arith}
 use Rattle.std.specs.Prelude.{string_bytes}
 use Rattle.std.proofs.lemmas.List.{length-append}
 use Rattle.jh_outside.specs.TrailLaws.{loop-more}
+use Rattle.jh_outside.specs.Trail.{no_ask}
 use Rattle.jh_cli.proofs.OrderLemmas.{next_stops}
 use Rattle.jh_cli.proofs.CellLemmas.{spell_next, stops_next}
 use Rattle.jh_cli.proofs.check.cells.Goals as goal
@@ -30,3 +31,12 @@ loop-name-preserved g c =
       asked = loop-more string_bytes g.F.Files.asks g.F.Files.failed c.args.files.now c.loop-name.files c.cell.new.files c.args.names.now c.loop-name.name-index c.name-item.result c.loop-name-test.true c.name-item.is c.loop-name.invariant.asked (rw c.as_str.ensures.value at c.in-Ok.ensures.asked);
       counted = omega arith;
     }
+
+pub loop-name-init : goal.loop-name-init
+loop-name-init g c = record {
+  spelled = rw c.new-cells.ensures tt;
+  few = rw c.new-cells.ensures refl;
+  kept = refl;
+  asked = no_ask c.args.files.now;
+  counted = omega arith;
+}

@@ -1,9 +1,11 @@
 -- The system is read, and then the cells.
+use Rattle.std.proofs.Common.{◌∷◌}
 use Rattle.std.specs.Prelude.{map, string_bytes}
 use Rattle.jh_cli.specs.Limits.{most_of_a_file}
 use Rattle.jh_cli.specs.Check.{IsSystemFile, SystemRefusal, ChecksCells}
-use Rattle.jh_cli.proofs.OrderLemmas.{file_behind}
-use Rattle.jh_cli.proofs.StopLemmas.{goes_on, counted_behind}
+use Rattle.jh_cli.specs.Order.{ReadsIn}
+use Rattle.jh_cli.proofs.OrderLemmas.{file_behind, first_stops}
+use Rattle.jh_cli.proofs.StopLemmas.{goes_on, counted_behind, told_up}
 use Rattle.jh_cli.proofs.check.check.Goals as goal
 
 pub returns-clause-ends : goal.returns-clause-ends
@@ -19,3 +21,9 @@ returns-clause-counted g c =
 pub returns-clause-asked : goal.returns-clause-asked
 returns-clause-asked g c =
     file_behind g.F.Files.asks g.F.Files.failed c.args.system_name.now (map string_bytes c.args.names.now) c.args.files.now c.system.new.files c.check_cells.new.files c.in_ok-system.ensures.asked c.check_cells.result c.check_cells.ensures.asked
+
+pub returns-in_err-system-clause-asked : goal.returns-in_err-system-clause-asked
+returns-in_err-system-clause-asked g c =
+    let names = map string_bytes c.args.names.now in
+    told_up (ReadsIn g.F.Files.asks g.F.Files.failed (c.args.system_name.now ∷ names) c.args.files.now c.system.new.files) c.from_residual.result c.in_err-system.field-0.0 c.from_residual.ensures.1
+    (first_stops g.F.Files.asks g.F.Files.failed c.args.system_name.now names c.args.files.now c.system.new.files c.in_err-system.field-0.0 c.in_err-system.ensures.asked_until)
