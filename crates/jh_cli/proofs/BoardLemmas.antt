@@ -16,7 +16,7 @@ use Rattle.jh_cli.specs.declared.status.Status.TheVariants as status
 use Rattle.jh_cli.specs.Lines.{number_of, fault_line, refusal_line}
 use Rattle.jh_cli.specs.Reading.{Said, Contents}
 use Rattle.jh_cli.specs.Boards.{stopped, EndsAt, Opens}
-use Rattle.jh_cli.specs.Stopped.{OnEnded, OnTold, said_of, IsCounted as IsCountedSaid}
+use Rattle.jh_cli.specs.Stopped.{OnEnded, OnTold, IsCounted as IsCountedSaid}
 use Rattle.jh_cli.proofs.StopLemmas.{on_stop, on_told}
 
 -- want of memory says nothing

@@ -1,10 +1,9 @@
 -- What files spell, and what they are refused for, is one.
-use Rattle.std.proofs.Common.{◌≡◌, ◌≢◌, ℕ, ◌+◌, ◌<◌, ◌≤◌, Bool, true, false, List, [], ◌∷◌, ◌++◌, length, Option, None, Some, Result, Ok, Err, ◌⊎◌, ◌↔◌, inl, inr, refl, sym, ◌∙◌, ap, subst, arith}
+use Rattle.std.proofs.Common.{◌≡◌, ◌≢◌, ℕ, ◌+◌, Bool, true, false, List, [], ◌∷◌, ◌++◌, length, Option, None, Some, Result, Err, ◌↔◌, inl, inr, refl, sym, ◌∙◌, ap, subst}
 use Rattle.std.specs.Prelude.{fold, IsTrue, codes}
 use Rattle.jh_outside.specs.Reads.{Told, HandsOut}
 use Rattle.jh_cellcfg.specs.declared.config.CellConfig.{CellConfig}
 use Rattle.jh_cellcfg.specs.declared.config.SystemConfig.{SystemConfig}
-use Rattle.jh_cellcfg.specs.declared.fault.ConfigFault.{ConfigFault}
 use Rattle.jh_cellcfg.specs.Faults.{first_fault}
 use Rattle.jh_cellcfg.specs.Limits.{IsWithinLimits}
 use Rattle.jh_cellcfg.specs.Spelling.{spelling}
@@ -17,7 +16,6 @@ use Rattle.jh_spec.specs.declared.spec.SpecFault.{SpecFault}
 use Rattle.jh_spec.specs.declared.spec.SpecFault.TheVariants as specs
 use Rattle.jh_spec.specs.Specs.{spec_told}
 use Rattle.jh_script.specs.declared.image.Image.{Image}
-use Rattle.jh_script.specs.declared.fault.ScheduleFault.{ScheduleFault}
 use Rattle.jh_script.specs.FaultText.{schedule_fault_text}
 use Rattle.jh_script.specs.Schedules.{schedule_of}
 use Rattle.jh_history.specs.declared.entry.Entry.{Entry}
@@ -31,14 +29,14 @@ use Rattle.jh_text.specs.FaultText.{fault_text as journal_fault_text}
 use Rattle.jh_audit.specs.declared.verdict.Verdict.{Verdict}
 use Rattle.jh_audit.specs.declared.verdict.Verdict.TheVariants.{Legal, Illegal}
 use Rattle.jh_audit.specs.Judges.{Judges, IsFirstIllegal}
-use Rattle.jh_cli.specs.declared.status.Status.TheVariants.{Good, Refused, ReadFault}
-use Rattle.jh_cli.specs.Limits.{most_of_a_file, most_of_a_journal, journal_limit}
+use Rattle.jh_cli.specs.declared.status.Status.TheVariants.{Refused, ReadFault}
+use Rattle.jh_cli.specs.Limits.{most_of_a_file, most_of_a_journal}
 use Rattle.jh_cli.specs.Lines.{refusal_line}
 use Rattle.jh_cli.specs.Reading.{Said, Contents, StopsAt, SpellsAt, ReadsAt}
-use Rattle.jh_cli.specs.Check.{IsCellFile, CellRefusal, IsSystemFile, SystemRefusal, SpellCells, StopsAmong, ChecksCells, Checks, checked}
-use Rattle.jh_cli.specs.Pack.{IsSpecFile, SpecRefusal, Packs, packed}
-use Rattle.jh_cli.specs.Play.{IsSchedule, ScheduleRefusal, IsPlayed, PlaysBy, Plays}
-use Rattle.jh_cli.specs.Audit.{IsJournalFile, JournalRefusal, IsAudited, AuditsBy, Audits, verdict_status, verdict_text}
+use Rattle.jh_cli.specs.Check.{IsCellFile, CellRefusal, IsSystemFile, SystemRefusal, SpellCells, ChecksCells, checked}
+use Rattle.jh_cli.specs.Pack.{IsSpecFile, SpecRefusal}
+use Rattle.jh_cli.specs.Play.{ScheduleRefusal}
+use Rattle.jh_cli.specs.Audit.{JournalRefusal, IsAudited, verdict_status, verdict_text}
 use Rattle.jh_cli.specs.Complete.{AreTold}
 use Rattle.jh_cli.proofs.GoodLemmas.{CellsAreFaultless, no_more, ok_one, cell_sound, same_for_image}
 

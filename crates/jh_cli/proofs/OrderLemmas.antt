@@ -1,7 +1,7 @@
 -- The files that a call reads, one after another.
-use Rattle.std.proofs.Common.{◌≡◌, ◌≢◌, ℕ, ◌+◌, ◌<◌, List, [], ◌∷◌, ◌++◌, length, get_or, Option, None, Some, Result, Ok, Err, refl, sym, ap, subst, ◌∙◌, inl, inr}
+use Rattle.std.proofs.Common.{◌≡◌, ◌≢◌, ℕ, ◌<◌, List, [], ◌∷◌, ◌++◌, length, get_or, Option, None, Some, Result, refl, sym, ap, subst, ◌∙◌, inl, inr}
 use Rattle.std.specs.Prelude.{map, take, ⊤}
-use Rattle.jh_outside.specs.Trail.{Ask, Answer, Handed, Asks, no_ask, one_more_ask, kept_name, handed, faulted, AsksAll, AsksUntil}
+use Rattle.jh_outside.specs.Trail.{Ask, Handed, Asks, no_ask, one_more_ask, kept_name, handed, faulted, AsksAll, AsksUntil}
 use Rattle.jh_outside.specs.TrailLaws.{all-both, until-first, until-behind, until-more, names-split}
 use Rattle.jh_image.specs.declared.fault.ImageCause.{ImageCause}
 use Rattle.jh_image.specs.declared.fault.ImageCause.TheVariants.{ReadFault, Oversize, Json, Member, System, Findings, PoolSmall, Preload as BadPreload, Program as BadProgram, NotBuilt}
@@ -16,7 +16,7 @@ use Rattle.jh_cli.specs.declared.status.Status.{Status}
 use Rattle.jh_cli.specs.declared.status.Status.TheVariants as status
 use Rattle.jh_cli.specs.Reading.{Contents, Said}
 use Rattle.jh_cli.specs.Boards.{stopped}
-use Rattle.jh_cli.specs.Stopped.{OnEnded, OnTold, said_of}
+use Rattle.jh_cli.specs.Stopped.{OnEnded, OnTold}
 use Rattle.jh_cli.specs.Words.{Asked, CheckOf, PackOf, PlayOf, AuditOf}
 use Rattle.jh_cli.specs.Order.{IsStop, ask_for, StopsIn, ReadsIn, ReadsBoard, the_board_alone, what_it_lists, IsReadFor}
 use Rattle.jh_cli.proofs.StopLemmas.{on_stop, on_told}

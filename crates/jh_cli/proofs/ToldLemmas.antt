@@ -1,5 +1,5 @@
 -- A board of which the files tell all that it names: what is said of it holds too where the files tell every name.
-use Rattle.std.proofs.Common.{◌≡◌, ◌≢◌, ℕ, zero, suc, ◌+◌, List, [], ◌∷◌, ◌++◌, length, take, Option, None, Some, refl, sym, ap, subst, inl, inr}
+use Rattle.std.proofs.Common.{◌≡◌, ◌≢◌, ℕ, zero, suc, ◌+◌, List, [], ◌∷◌, ◌++◌, length, take, None, Some, refl, sym, subst}
 use Rattle.std.specs.Prelude.{map, slice_get}
 use Rattle.std.specs.List.{AllByRecursion}
 use Rattle.jh_outside.specs.Reads.{Told, HandsOut}
@@ -16,8 +16,8 @@ use Rattle.jh_image.specs.declared.fault.ImageCause.{ImageCause}
 use Rattle.jh_image.specs.declared.fault.ImageCause.TheVariants.{ReadFault, Oversize, Json, Member, System, Findings, PoolSmall, Preload as BadPreload, Program as BadProgram, NotBuilt}
 use Rattle.jh_image.specs.Files.{Contents, max_file_size, HasBytes, IsOversize, Lists, SpellsSystem, IsPreloadOf, IsProgramOf, Preloads, no_preloads, one_more_preload, Programs, no_programs, one_more_program}
 use Rattle.jh_image.specs.Images.{HasSystem, IsReady, IsNextPreload, HasPreloads, IsNextProgram, MakesImage, Comes, the_board, the_system, a_preload, a_program, IsImage}
-use Rattle.jh_image.specs.Causes.{IsBadBoard, IsBadSystem, HasFindings, IsSmall, IsBadPreload, IsBadProgram, IsUnbuilt, Stops}
-use Rattle.jh_image.specs.Order.{preload_name, program_name, board_files}
+use Rattle.jh_image.specs.Causes.{IsBadBoard, Stops}
+use Rattle.jh_image.specs.Order.{preload_name, program_name}
 use Rattle.jh_image.specs.Laws.{AreTold as AreAllTold}
 use Rattle.jh_cli.specs.Complete.{AreTold, IsBoardTold}
 

@@ -1,5 +1,5 @@
 -- The files that a call reads, in their order, each once, and how far it comes in it.
-use Rattle.std.specs.Prelude.{◌≡◌, ℕ, ◌⊎◌, List, [], ◌∷◌, ◌++◌, ⊤, Option, Some, None}
+use Rattle.std.specs.Prelude.{ℕ, ◌⊎◌, List, [], ◌∷◌, ◌++◌, ⊤, Option, Some, None}
 use Rattle.jh_outside.specs.Trail.{Ask, Asks, handed, faulted, AsksAll, AsksUntil}
 use Rattle.jh_image.specs.declared.board.Listing.{Listing}
 use Rattle.jh_image.specs.Files.{Lists}

@@ -1,5 +1,5 @@
 -- What is told is sent, and for want of memory nothing is.
-use Rattle.std.proofs.Common.{inl, inr, refl}
+use Rattle.std.proofs.Common.{inr}
 use Rattle.std.specs.Prelude.{map, string_bytes}
 use Rattle.jh_cli.specs.Words.{command_of}
 use Rattle.jh_cli.specs.Stopped.{said_of}
