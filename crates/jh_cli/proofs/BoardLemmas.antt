@@ -1,6 +1,5 @@
 -- Where a call ends at a board's files.
-use Rattle.std.proofs.Common.{◌≡◌, ◌≢◌, List, ℕ, inl, inr, Result, Ok, Err, refl, sym, ◌∙◌, ap, arith}
-use Rattle.std.specs.Prelude.{IfOk, IfErr}
+use Rattle.std.proofs.Common.{◌≡◌, ◌≢◌, List, ℕ, inl, inr, Result, refl, sym, ◌∙◌, ap, arith}
 use Rattle.jh_script.specs.declared.image.Image.{Image}
 use Rattle.jh_image.specs.declared.fault.ImageCause.{ImageCause}
 use Rattle.jh_image.specs.declared.fault.ImageCause.TheVariants.{ReadFault, Oversize, Json, Member, System, Findings, PoolSmall, Preload as BadPreload, Program as BadProgram, NotBuilt}
@@ -17,8 +16,8 @@ use Rattle.jh_cli.specs.declared.status.Status.TheVariants as status
 use Rattle.jh_cli.specs.Lines.{number_of, fault_line, refusal_line}
 use Rattle.jh_cli.specs.Reading.{Said, Contents}
 use Rattle.jh_cli.specs.Boards.{stopped, EndsAt, Opens}
-use Rattle.jh_cli.specs.Stopped.{OnEnded, said_of, IsCounted as IsCountedSaid}
-use Rattle.jh_cli.proofs.StopLemmas.{on_stop}
+use Rattle.jh_cli.specs.Stopped.{OnEnded, OnTold, IsCounted as IsCountedSaid}
+use Rattle.jh_cli.proofs.StopLemmas.{on_stop, on_told}
 
 -- want of memory says nothing
 pub nothing : (P : Said → Type 0) (s : Stop) → s ≡ stop.NoMemory → OnEnded s P
@@ -58,15 +57,9 @@ counted_at old new failed (Refused file cause) counted s told memory =
 counted_at old new failed NoMemory counted s told memory = nothing (IsCountedSaid old new failed) s (memory refl)
 
 -- what follows a board that was read
-pub opens_ok : (contents : Contents) (board : List ℕ) (next : Image → Said → Type 0) (image : Image) → IsImage contents board image → IsAdmitted image
-    → (r : Result Told Stop) → IfOk r (λ told. next image (said_of told)) → IfOk r (λ told. Opens contents board next (said_of told))
-opens_ok contents board next image is admitted (Ok told) h = inr (image, is, admitted, h)
-opens_ok contents board next image is admitted (Err s) h = tt
-
-pub opens_err : (contents : Contents) (board : List ℕ) (next : Image → Said → Type 0) (image : Image) → IsImage contents board image → IsAdmitted image
-    → (r : Result Told Stop) → IfErr r (λ s. OnEnded s (next image)) → IfErr r (λ s. OnEnded s (Opens contents board next))
-opens_err contents board next image is admitted (Ok told) h = tt
-opens_err contents board next image is admitted (Err s) h = on_stop (next image) (Opens contents board next) s (λ said rest. inr (image, is, admitted, rest)) h
+pub opens : (contents : Contents) (board : List ℕ) (next : Image → Said → Type 0) (image : Image) → IsImage contents board image → IsAdmitted image
+    → (r : Result Told Stop) → OnTold r (next image) → OnTold r (Opens contents board next)
+opens contents board next image is admitted r h = on_told (next image) (Opens contents board next) r (λ said rest. inr (image, is, admitted, rest)) h
 
 -- a call that ends at one of the board's files ends so
 pub opens_not : (contents : Contents) (board : List ℕ) (next : Image → Said → Type 0) (s : Stop) → OnEnded s (EndsAt contents board) → OnEnded s (Opens contents board next)

@@ -1,10 +1,11 @@
--- Good words and files are not refused.
+-- Good words and files are answered.
 use Rattle.std.proofs.Common.{◌≡◌, ◌≢◌, ℕ, ◌<◌, ◌≤◌, Bool, true, false, cond, ◌&&◌, List, [], ◌∷◌, ◌++◌, length, take, Option, None, Some, Result, Ok, Err, ◌⊎◌, inl, inr, refl, sym, ◌∙◌, ap, subst, arith}
 use Rattle.std.specs.Prelude.{map, nat_lt}
 use Rattle.std.proofs.lemmas.List.{take_all}
 use Rattle.std.proofs.lemmas.Bool.{cases_Bool}
 use Rattle.jh_outside.specs.Count.{Rose}
 use Rattle.jh_outside.specs.Reads.{Told, HandsOut}
+use Rattle.jh_outside.specs.Writes.{Appended}
 use Rattle.jh_cellcfg.specs.declared.config.CellConfig.{CellConfig}
 use Rattle.jh_cellcfg.specs.declared.config.SystemConfig.{SystemConfig}
 use Rattle.jh_cellcfg.specs.Faults.{first_fault}
@@ -34,10 +35,11 @@ use Rattle.jh_image.specs.declared.fault.ImageCause.{ImageCause}
 use Rattle.jh_image.specs.declared.fault.ImageCause.TheVariants.{ReadFault as CantBeRead}
 use Rattle.jh_image.specs.Causes.{Stops}
 use Rattle.jh_image.specs.Images.{IsImage}
-use Rattle.jh_image.specs.Laws.{AreTold}
+use Rattle.jh_image.specs.Laws.{AreTold as AreAllTold}
 use Rattle.jh_cli.specs.declared.status.Status.{Status}
-use Rattle.jh_cli.specs.declared.status.Status.TheVariants.{Good, Found, ReadFault, WriteFault}
-use Rattle.jh_cli.specs.declared.limits.TheConstants.{MOST, MOST_OF_A_JOURNAL, JOURNAL_LIMIT}
+use Rattle.jh_cli.specs.declared.status.Status.TheVariants.{Good, Found, ReadFault, WriteFault, NoMemory}
+use Rattle.jh_cli.specs.Limits.{most_of_a_file, most_of_a_journal, journal_limit}
+use Rattle.jh_cli.specs.Lines.{number_of, fault_line}
 use Rattle.jh_cli.specs.Words.{Asked, CheckOf, PackOf, PlayOf, AuditOf}
 use Rattle.jh_cli.specs.Reading.{Said, Contents, StopsAt, ReadsAt}
 use Rattle.jh_cli.specs.Check.{IsCellFile, CellRefusal, IsSystemFile, SystemRefusal, StopsAmong, ChecksCells, Checks, checked_status}
@@ -47,7 +49,8 @@ use Rattle.jh_cli.specs.Play.{AreCpus, IsSchedule, ScheduleRefusal, IsPlayed, pl
 use Rattle.jh_cli.specs.Audit.{IsJournalFile, JournalRefusal, IsAudited, AuditsBy, Audits, verdict_status}
 use Rattle.jh_cli.specs.Outcome.{Outcome, Sent}
 use Rattle.jh_cli.specs.Stopped.{IsCounted}
-use Rattle.jh_cli.specs.Complete.{Holds, HoldCells, AreGoodToCheck, IsGoodToPack, AreGoodToPlay, AreGoodToAudit, AreGood, IsUnrefused, IsDone}
+use Rattle.jh_cli.specs.Complete.{IsBoardTold, Holds, HoldCells, AreGoodToCheck, IsGoodToPack, AreGoodToPlay, AreGoodToAudit, AreGood, IsAnswer}
+use Rattle.jh_cli.proofs.ToldLemmas.{all_told, each_is_told, is_image, stops}
 
 -- ---- the laws of the layers below
 
@@ -64,10 +67,10 @@ abbrev pub NotLong : Type 0
 NotLong = (text : List ℕ) (entries : List Entry) → IsJournalText text entries → IsTooLong text → ⊥
 
 abbrev pub OneImage : Type 0
-OneImage = (contents : Contents) (board : List ℕ) (one other : Image) → AreTold contents → IsImage contents board one → IsImage contents board other → one ≡ other
+OneImage = (contents : Contents) (board : List ℕ) (one other : Image) → AreAllTold contents → IsImage contents board one → IsImage contents board other → one ≡ other
 
 abbrev pub BoardsAreUnrefused : Type 0
-BoardsAreUnrefused = (contents : Contents) (board file : List ℕ) (image : Image) (cause : ImageCause) → AreTold contents → IsImage contents board image → Stops contents board file cause → cause ≡ CantBeRead
+BoardsAreUnrefused = (contents : Contents) (board file : List ℕ) (image : Image) (cause : ImageCause) → AreAllTold contents → IsImage contents board image → Stops contents board file cause → cause ≡ CantBeRead
 
 -- ---- one file
 
@@ -78,84 +81,92 @@ handed_held told most bytes handed is within h =
     hands ∙ take_all most bytes (omega arith)
 
 -- a file that holds a value ends no call but where it can't be read
-abbrev IsSound : {A : Type 0} → (List ℕ → List ℕ → Type 0) → (List ℕ → A → Type 0) → ℕ → A → Type 0
+abbrev pub IsSound : {A : Type 0} → (List ℕ → List ℕ → Type 0) → (List ℕ → A → Type 0) → ℕ → A → Type 0
 IsSound Why Form most value = (bytes words : List ℕ) → length bytes < most → Form bytes value → Why bytes words → ⊥
 
-of_status : (said : Said) (status : Status) → said.status ≡ status → (status ≡ Good) ⊎ (status ≡ Found) ⊎ (status ≡ ReadFault) → IsUnrefused said
-of_status said status is one = subst (λ (s : Status). (s ≡ Good) ⊎ (s ≡ Found) ⊎ (s ≡ ReadFault)) (sym is) one
+-- it is answered so, or could not be read
+abbrev pub IsAnswered : (Status → Type 0) → Said → Type 0
+IsAnswered Answer said = Answer said.status ⊎ (said.status ≡ ReadFault)
 
-stops_unrefused : {A : Type 0} (most : ℕ) (contents : Contents) (name : List ℕ) (Why : List ℕ → List ℕ → Type 0) (Form : List ℕ → A → Type 0) (value : A) (said : Said)
-    → IsSound Why Form most value → Holds most contents name Form value → StopsAt most contents name Why said → IsUnrefused said
-stops_unrefused most contents name Why Form value said sound held (inl fault) = of_status said ReadFault (ap (λ (s : Said). s.status) fault) (inr (inr refl))
-stops_unrefused most contents name Why Form value said sound held (inr is) =
+-- the answer is that something is found, or nothing
+abbrev IsVerdict : Status → Type 0
+IsVerdict status = (status ≡ Good) ⊎ (status ≡ Found)
+
+of_verdict : (said : Said) (status : Status) → said.status ≡ status → IsVerdict status → IsAnswered IsVerdict said
+of_verdict said status is one = inl (subst IsVerdict (sym is) one)
+
+stops_unrefused : {A : Type 0} (Answer : Status → Type 0) (most : ℕ) (contents : Contents) (name : List ℕ) (Why : List ℕ → List ℕ → Type 0) (Form : List ℕ → A → Type 0) (value : A) (said : Said)
+    → IsSound Why Form most value → Holds most contents name Form value → StopsAt most contents name Why said → IsAnswered Answer said
+stops_unrefused Answer most contents name Why Form value said sound held (inl fault) = inr (ap (λ (s : Said). s.status) fault)
+stops_unrefused Answer most contents name Why Form value said sound held (inr is) =
     let same : is.bytes ≡ held.bytes = handed_held (contents name) most held.bytes is.bytes held.told held.within is.handed in
     absurd (sound held.bytes is.words held.within held.spelled (subst (λ bytes. Why bytes is.words) same is.why))
 
 -- what follows a file that holds a value is what was read of it
-reads_unrefused : {A : Type 0} (most : ℕ) (contents : Contents) (name : List ℕ) (Why : List ℕ → List ℕ → Type 0) (Form : List ℕ → A → Type 0) (next : A → Said → Type 0) (value : A) (said : Said)
-    → IsSound Why Form most value → Holds most contents name Form value → ((bytes : List ℕ) (other : A) → Form bytes value → Form bytes other → next other said → IsUnrefused said)
-    → ReadsAt most contents name Why Form next said → IsUnrefused said
-reads_unrefused most contents name Why Form next value said sound held rest (inl stops) = stops_unrefused most contents name Why Form value said sound held stops
-reads_unrefused most contents name Why Form next value said sound held rest (inr (other, spells, went)) =
+reads_unrefused : {A : Type 0} (Answer : Status → Type 0) (most : ℕ) (contents : Contents) (name : List ℕ) (Why : List ℕ → List ℕ → Type 0) (Form : List ℕ → A → Type 0) (next : A → Said → Type 0) (value : A) (said : Said)
+    → IsSound Why Form most value → Holds most contents name Form value → ((bytes : List ℕ) (other : A) → Form bytes value → Form bytes other → next other said → IsAnswered Answer said)
+    → ReadsAt most contents name Why Form next said → IsAnswered Answer said
+reads_unrefused Answer most contents name Why Form next value said sound held rest (inl stops) = stops_unrefused Answer most contents name Why Form value said sound held stops
+reads_unrefused Answer most contents name Why Form next value said sound held rest (inr (other, spells, went)) =
     let same : spells.bytes ≡ held.bytes = handed_held (contents name) most held.bytes spells.bytes held.told held.within spells.handed in
     rest held.bytes other held.spelled (subst (λ bytes. Form bytes other) same spells.spelled) went
 
-no_more : (most : ℕ) (bytes : List ℕ) → length bytes < most → most ≤ length bytes → ⊥
+pub no_more : (most : ℕ) (bytes : List ℕ) → length bytes < most → most ≤ length bytes → ⊥
 no_more most bytes few many = omega arith
 
-some_none : {A : Type 0} (o : Option A) (x : A) → o ≡ None → o ≡ Some x → ⊥
+pub some_none : {A : Type 0} (o : Option A) (x : A) → o ≡ None → o ≡ Some x → ⊥
 some_none o x h k = cc
 
-ok_err : {X E : Type 0} (r : Result X E) (x : X) (e : E) → r ≡ Ok x → r ≡ Err e → ⊥
+pub ok_err : {X E : Type 0} (r : Result X E) (x : X) (e : E) → r ≡ Ok x → r ≡ Err e → ⊥
 ok_err r x e h k = cc
 
-ok_one : {X E : Type 0} (r : Result X E) (one other : X) → r ≡ Ok one → r ≡ Ok other → one ≡ other
+pub ok_one : {X E : Type 0} (r : Result X E) (one other : X) → r ≡ Ok one → r ≡ Ok other → one ≡ other
 ok_one r one other h k = cc
 
 -- ---- check
 
-system_sound : SystemsAreFaultless → (system : SystemConfig) → IsSound SystemRefusal IsSystemFile MOST system
-system_sound faultless system bytes words within form (inl over) = no_more MOST bytes within over.0
+pub system_sound : SystemsAreFaultless → (system : SystemConfig) → IsSound SystemRefusal IsSystemFile most_of_a_file system
+system_sound faultless system bytes words within form (inl over) = no_more most_of_a_file bytes within over.0
 system_sound faultless system bytes words within form (inr bad) =
     some_none (system_fault bytes) bad.fault (ap system_fault form.spelled ∙ faultless system form.typed form.limits) bad.first
 
-cell_sound : CellsAreFaultless → (cell : CellConfig) → IsSound CellRefusal IsCellFile MOST cell
-cell_sound faultless cell bytes words within form (inl over) = no_more MOST bytes within over.0
+pub cell_sound : CellsAreFaultless → (cell : CellConfig) → IsSound CellRefusal IsCellFile most_of_a_file cell
+cell_sound faultless cell bytes words within form (inl over) = no_more most_of_a_file bytes within over.0
 cell_sound faultless cell bytes words within form (inr bad) =
     some_none (first_fault bytes) bad.fault (ap first_fault form.spelled ∙ faultless cell form.typed form.limits) bad.first
 
 -- each of the files holds a cell
 one_of_cells : (contents : Contents) (before : List (List ℕ)) (name : List ℕ) (rest : List (List ℕ)) (cells : List CellConfig)
-    → HoldCells contents (before ++ name ∷ rest) cells → (cell : CellConfig) × Holds MOST contents name IsCellFile cell
+    → HoldCells contents (before ++ name ∷ rest) cells → (cell : CellConfig) × Holds most_of_a_file contents name IsCellFile cell
 one_of_cells contents [] name rest [] held = absurd held
 one_of_cells contents [] name rest (cell ∷ cells) held = (cell, held.0)
 one_of_cells contents (b ∷ before) name rest [] held = absurd held
 one_of_cells contents (b ∷ before) name rest (cell ∷ cells) held = one_of_cells contents before name rest cells held.1
 
-among_unrefused : CellsAreFaultless → (contents : Contents) (names : List (List ℕ)) (cells : List CellConfig) (said : Said) → HoldCells contents names cells → StopsAmong contents names said → IsUnrefused said
+among_unrefused : CellsAreFaultless → (contents : Contents) (names : List (List ℕ)) (cells : List CellConfig) (said : Said) → HoldCells contents names cells → StopsAmong contents names said → IsAnswered IsVerdict said
 among_unrefused faultless contents names cells said held among =
     let split : HoldCells contents (among.before ++ among.name ∷ among.rest) cells = subst (λ (ns : List (List ℕ)). HoldCells contents ns cells) among.split held in
     let one = one_of_cells contents among.before among.name among.rest cells split in
-    stops_unrefused MOST contents among.name CellRefusal IsCellFile one.0 said (cell_sound faultless one.0) one.1 among.stops
+    stops_unrefused IsVerdict most_of_a_file contents among.name CellRefusal IsCellFile one.0 said (cell_sound faultless one.0) one.1 among.stops
 
-checked_unrefused : (any : Bool) → (cond any Found Good ≡ Good) ⊎ (cond any Found Good ≡ Found) ⊎ (cond any Found Good ≡ ReadFault)
-checked_unrefused true = inr (inl refl)
+checked_unrefused : (any : Bool) → IsVerdict (cond any Found Good)
+checked_unrefused true = inr refl
 checked_unrefused false = inl refl
 
-cells_unrefused : CellsAreFaultless → (contents : Contents) (names : List (List ℕ)) (cells : List CellConfig) (system : SystemConfig) (said : Said) → HoldCells contents names cells → ChecksCells contents names system said → IsUnrefused said
+cells_unrefused : CellsAreFaultless → (contents : Contents) (names : List (List ℕ)) (cells : List CellConfig) (system : SystemConfig) (said : Said) → HoldCells contents names cells → ChecksCells contents names system said → IsAnswered IsVerdict said
 cells_unrefused faultless contents names cells system said held (inl among) = among_unrefused faultless contents names cells said held among
 cells_unrefused faultless contents names cells system said held (inr all) =
-    of_status said (checked_status (capped (findings system all.0))) (ap (λ (s : Said). s.status) all.2) (checked_unrefused (is_any (capped (findings system all.0))))
+    of_verdict said (checked_status (capped (findings system all.0))) (ap (λ (s : Said). s.status) all.2) (checked_unrefused (is_any (capped (findings system all.0))))
 
-check_unrefused : CellsAreFaultless → SystemsAreFaultless → (contents : Contents) (system : List ℕ) (cells : List (List ℕ)) (said : Said) → AreGoodToCheck contents system cells → Checks contents system cells said → IsUnrefused said
+check_unrefused : CellsAreFaultless → SystemsAreFaultless → (contents : Contents) (system : List ℕ) (cells : List (List ℕ)) (said : Said) → AreGoodToCheck contents system cells → Checks contents system cells said → IsAnswered IsVerdict said
 check_unrefused cells_faultless systems_faultless contents system cells said good h =
-    reads_unrefused MOST contents system SystemRefusal IsSystemFile (ChecksCells contents cells) good.of_system said (system_sound systems_faultless good.of_system) good.system_held
+    reads_unrefused IsVerdict most_of_a_file contents system SystemRefusal IsSystemFile (ChecksCells contents cells) good.of_system said (system_sound systems_faultless good.of_system) good.system_held
     (λ bytes other form form_other went. cells_unrefused cells_faultless contents cells good.of_cells other said good.cells_held went) h
 
 -- ---- pack
 
-spec_sound : (spec : Spec) → IsSound SpecRefusal IsSpecFile MOST spec
-spec_sound spec bytes words within form (inl over) = no_more MOST bytes within over.0
+pub spec_sound : (spec : Spec) → IsSound SpecRefusal IsSpecFile most_of_a_file spec
+spec_sound spec bytes words within form (inl over) = no_more most_of_a_file bytes within over.0
 spec_sound spec bytes words within form (inr (inl bad)) =
     let told = form.1 in
     ok_err (spec_told told.0) spec specs.Json told.2 (bad.1 told.0 told.1)
@@ -166,18 +177,18 @@ spec_sound spec bytes words within form (inr (inr bad)) =
     let same : faulty.0 ≡ told.0 = cc read in
     ok_err (spec_told told.0) spec (specs.Member bad.name) told.2 (ap spec_told (sym same) ∙ faulty.2)
 
-pack_unrefused : (contents : Contents) (name : List ℕ) (said : Said) → IsGoodToPack contents name → Packs contents name said → IsUnrefused said
+pack_unrefused : (contents : Contents) (name : List ℕ) (said : Said) → IsGoodToPack contents name → Packs contents name said → IsAnswered (λ status. status ≡ Good) said
 pack_unrefused contents name said good h =
-    reads_unrefused MOST contents name SpecRefusal IsSpecFile (λ (spec : Spec) (s : Said). s ≡ record { status = Good; text = packed spec }) good.spec said (spec_sound good.spec) good.held
-    (λ bytes other form form_other went. of_status said Good (ap (λ (s : Said). s.status) went) (inl refl)) h
+    reads_unrefused (λ status. status ≡ Good) most_of_a_file contents name SpecRefusal IsSpecFile (λ (spec : Spec) (s : Said). s ≡ record { status = Good; text = packed spec }) good.spec said (spec_sound good.spec) good.held
+    (λ bytes other form form_other went. inl (ap (λ (s : Said). s.status) went)) h
 
 -- ---- boards
 
-board_unrefused : BoardsAreUnrefused → (contents : Contents) (board : List ℕ) (image : Image) (said : Said) → AreTold contents → IsImage contents board image → EndsAt contents board said → IsUnrefused said
-board_unrefused unrefused contents board image said told is ends =
-    let cause : ends.cause ≡ CantBeRead = unrefused contents board ends.file image ends.cause told is ends.stops in
-    let status : said.status ≡ ReadFault = ap (λ (s : Said). s.status) ends.told ∙ ap (λ (c : ImageCause). (stopped ends.file c).status) cause in
-    of_status said ReadFault status (inr (inr refl))
+pub board_unrefused : BoardsAreUnrefused → (Answer : Status → Type 0) (contents : Contents) (board : List ℕ) (image : Image) (said : Said) → IsBoardTold contents board → IsImage contents board image → EndsAt contents board said → IsAnswered Answer said
+board_unrefused unrefused Answer contents board image said told is ends =
+    let cause : ends.cause ≡ CantBeRead =
+    unrefused (all_told contents) board ends.file image ends.cause (each_is_told contents) (is_image contents board told image is) (stops contents board told ends.file ends.cause ends.stops) in
+    inr (ap (λ (s : Said). s.status) ends.told ∙ ap (λ (c : ImageCause). (stopped ends.file c).status) cause)
 
 -- ---- play
 
@@ -201,79 +212,95 @@ same_schedule : (one other : ℕ) → ((n : ℕ) → n < 16 → has_cpu one n �
 unfolding schedule_of
 same_schedule one other same text = ap (λ (items : List (Option ℕ)). unless (first_refusal 0 items) (cpus_of items)) (same_items one other same text)
 
-same_for_image : (image : Image) (one other : ℕ) (text : List ℕ) → AreCpus image one → AreCpus image other → schedule_of one text ≡ schedule_of other text
+pub same_for_image : (image : Image) (one other : ℕ) (text : List ℕ) → AreCpus image one → AreCpus image other → schedule_of one text ≡ schedule_of other text
 same_for_image image one other text h k = same_schedule one other (λ n lt. h n lt ∙ sym (k n lt)) text
 
-schedule_sound : (image : Image) (items : List ℕ) → IsSound (ScheduleRefusal image) (IsSchedule image) MOST items
-schedule_sound image items bytes words within form (inl over) = no_more MOST bytes within over.0
+pub schedule_sound : (image : Image) (items : List ℕ) → IsSound (ScheduleRefusal image) (IsSchedule image) most_of_a_file items
+schedule_sound image items bytes words within form (inl over) = no_more most_of_a_file bytes within over.0
 schedule_sound image items bytes words within form (inr bad) =
     ok_err (schedule_of form.cpus bytes) items bad.fault form.told (same_for_image image form.cpus bad.cpus bytes form.are bad.are ∙ bad.first)
 
-one_schedule : (image : Image) (bytes one other : List ℕ) → IsSchedule image bytes one → IsSchedule image bytes other → one ≡ other
+pub one_schedule : (image : Image) (bytes one other : List ℕ) → IsSchedule image bytes one → IsSchedule image bytes other → one ≡ other
 one_schedule image bytes one other h k = ok_one (schedule_of h.cpus bytes) one other h.told (same_for_image image h.cpus k.cpus bytes h.are k.are ∙ k.told)
 
-played_unrefused : (image : Image) (items other : List ℕ) (said : Said) → (played image JOURNAL_LIMIT items).full ≡ false → items ≡ other → IsPlayed image other said → IsUnrefused said
-played_unrefused image items other said under same is =
-    let full : (played image JOURNAL_LIMIT other).full ≡ false = subst (λ (xs : List ℕ). (played image JOURNAL_LIMIT xs).full ≡ false) same under in
-    of_status said Good (ap (λ (s : Said). s.status) is.told ∙ ap played_status full) (inl refl)
+-- what a play of the items ends with
+abbrev IsPlayOf : Image → List ℕ → Status → Type 0
+IsPlayOf image items status = status ≡ played_status (played image journal_limit items).full
 
-plays_unrefused : (contents : Contents) (schedule : List ℕ) (image : Image) (items : List ℕ) (said : Said) → Holds MOST contents schedule (IsSchedule image) items → (played image JOURNAL_LIMIT items).full ≡ false
-    → PlaysBy contents schedule image said → IsUnrefused said
-plays_unrefused contents schedule image items said held under h =
-    reads_unrefused MOST contents schedule (ScheduleRefusal image) (IsSchedule image) (IsPlayed image) items said (schedule_sound image items) held
-    (λ bytes other form form_other is. played_unrefused image items other said under (one_schedule image bytes items other form form_other) is) h
+played_unrefused : (image : Image) (items other : List ℕ) (said : Said) → items ≡ other → IsPlayed image other said → IsAnswered (IsPlayOf image items) said
+played_unrefused image items other said same is =
+    inl (ap (λ (s : Said). s.status) is.told ∙ ap (λ (xs : List ℕ). played_status (played image journal_limit xs).full) (sym same))
 
-play_unrefused : OneImage → BoardsAreUnrefused → (contents : Contents) (board schedule : List ℕ) (said : Said) → AreGoodToPlay contents board schedule → Plays contents board schedule said → IsUnrefused said
-play_unrefused one_image unrefused contents board schedule said good (inl ends) = board_unrefused unrefused contents board good.image said good.told good.is ends
+plays_unrefused : (contents : Contents) (schedule : List ℕ) (image : Image) (items : List ℕ) (said : Said) → Holds most_of_a_file contents schedule (IsSchedule image) items
+    → PlaysBy contents schedule image said → IsAnswered (IsPlayOf image items) said
+plays_unrefused contents schedule image items said held h =
+    reads_unrefused (IsPlayOf image items) most_of_a_file contents schedule (ScheduleRefusal image) (IsSchedule image) (IsPlayed image) items said (schedule_sound image items) held
+    (λ bytes other form form_other is. played_unrefused image items other said (one_schedule image bytes items other form form_other) is) h
+
+play_unrefused : OneImage → BoardsAreUnrefused → (contents : Contents) (board schedule : List ℕ) (said : Said) (good : AreGoodToPlay contents board schedule) → Plays contents board schedule said
+    → IsAnswered (IsPlayOf good.image good.items) said
+play_unrefused one_image unrefused contents board schedule said good (inl ends) = board_unrefused unrefused (IsPlayOf good.image good.items) contents board good.image said good.told good.is ends
 play_unrefused one_image unrefused contents board schedule said good (inr (image, is, admitted, plays)) =
-    let same : image ≡ good.image = one_image contents board image good.image good.told is good.is in
-    plays_unrefused contents schedule good.image good.items said good.held good.under (subst (λ (i : Image). PlaysBy contents schedule i said) same plays)
+    let same : image ≡ good.image =
+    one_image (all_told contents) board image good.image (each_is_told contents) (is_image contents board good.told image is) (is_image contents board good.told good.image good.is) in
+    plays_unrefused contents schedule good.image good.items said good.held (subst (λ (i : Image). PlaysBy contents schedule i said) same plays)
 
 -- ---- audit
 
-journal_sound : NoBadLine → NotLong → (entries : List Entry) → IsSound JournalRefusal IsJournalFile MOST_OF_A_JOURNAL entries
-journal_sound no_bad not_long entries bytes words within form (inl over) = no_more MOST_OF_A_JOURNAL bytes within over.0
+pub journal_sound : NoBadLine → NotLong → (entries : List Entry) → IsSound JournalRefusal IsJournalFile most_of_a_journal entries
+journal_sound no_bad not_long entries bytes words within form (inl over) = no_more most_of_a_journal bytes within over.0
 journal_sound no_bad not_long entries bytes words within form (inr bad) = faultless bad.fault bad.is_of_text bad.first where
   faultless : (fault : JournalFault) → fault ≢ journals.NoMemory → IsFault bytes fault → ⊥
   faultless (journals.Line number) other first = no_bad bytes entries number form.told first
   faultless journals.TooLong other first = not_long bytes entries form.told first
   faultless journals.NoMemory other first = other refl
 
-verdict_unrefused : (verdict : Verdict) → (verdict_status verdict ≡ Good) ⊎ (verdict_status verdict ≡ Found) ⊎ (verdict_status verdict ≡ ReadFault)
+verdict_unrefused : (verdict : Verdict) → IsVerdict (verdict_status verdict)
 verdict_unrefused (Legal quiet) = inl refl
-verdict_unrefused (Illegal line expected) = inr (inl refl)
+verdict_unrefused (Illegal line expected) = inr refl
 
-audits_unrefused : NoBadLine → NotLong → (contents : Contents) (journal : List ℕ) (image : Image) (entries : List Entry) (said : Said) → Holds MOST_OF_A_JOURNAL contents journal IsJournalFile entries
-    → AuditsBy contents journal image said → IsUnrefused said
+audits_unrefused : NoBadLine → NotLong → (contents : Contents) (journal : List ℕ) (image : Image) (entries : List Entry) (said : Said) → Holds most_of_a_journal contents journal IsJournalFile entries
+    → AuditsBy contents journal image said → IsAnswered IsVerdict said
 audits_unrefused no_bad not_long contents journal image entries said held h =
-    reads_unrefused MOST_OF_A_JOURNAL contents journal JournalRefusal IsJournalFile (IsAudited image) entries said (journal_sound no_bad not_long entries) held
-    (λ bytes other form form_other is. of_status said (verdict_status is.verdict) (ap (λ (s : Said). s.status) is.told) (verdict_unrefused is.verdict)) h
+    reads_unrefused IsVerdict most_of_a_journal contents journal JournalRefusal IsJournalFile (IsAudited image) entries said (journal_sound no_bad not_long entries) held
+    (λ bytes other form form_other is. of_verdict said (verdict_status is.verdict) (ap (λ (s : Said). s.status) is.told) (verdict_unrefused is.verdict)) h
 
-audit_unrefused : BoardsAreUnrefused → NoBadLine → NotLong → (contents : Contents) (board journal : List ℕ) (said : Said) → AreGoodToAudit contents board journal → Audits contents board journal said → IsUnrefused said
-audit_unrefused unrefused no_bad not_long contents board journal said good (inl ends) = board_unrefused unrefused contents board good.image said good.told good.is ends
+audit_unrefused : BoardsAreUnrefused → NoBadLine → NotLong → (contents : Contents) (board journal : List ℕ) (said : Said) → AreGoodToAudit contents board journal → Audits contents board journal said → IsAnswered IsVerdict said
+audit_unrefused unrefused no_bad not_long contents board journal said good (inl ends) = board_unrefused unrefused IsVerdict contents board good.image said good.told good.is ends
 audit_unrefused unrefused no_bad not_long contents board journal said good (inr (image, is, admitted, audits)) =
     audits_unrefused no_bad not_long contents journal image good.entries said good.held audits
 
 -- ---- all of them
 
-pub good_unrefused : CellsAreFaultless → SystemsAreFaultless → NoBadLine → NotLong → OneImage → BoardsAreUnrefused
-    → (contents : Contents) (asked : Option Asked) (said : Said) → AreGood contents asked → Outcome contents asked said → IsUnrefused said
-good_unrefused cells systems no_bad not_long one_image unrefused contents None said good h = absurd good
-good_unrefused cells systems no_bad not_long one_image unrefused contents (Some (CheckOf system names)) said good h = check_unrefused cells systems contents system names said good h
-good_unrefused cells systems no_bad not_long one_image unrefused contents (Some (PackOf spec)) said good h = pack_unrefused contents spec said good h
-good_unrefused cells systems no_bad not_long one_image unrefused contents (Some (PlayOf board schedule)) said good h = play_unrefused one_image unrefused contents board schedule said good h
-good_unrefused cells systems no_bad not_long one_image unrefused contents (Some (AuditOf board journal)) said good h = audit_unrefused unrefused no_bad not_long contents board journal said good h
+pub good_answered : CellsAreFaultless → SystemsAreFaultless → NoBadLine → NotLong → OneImage → BoardsAreUnrefused
+    → (contents : Contents) (asked : Option Asked) (said : Said) (good : AreGood contents asked) → Outcome contents asked said → IsAnswer contents asked good said.status ⊎ (said.status ≡ ReadFault)
+good_answered cells systems no_bad not_long one_image unrefused contents None said good h = absurd good
+good_answered cells systems no_bad not_long one_image unrefused contents (Some (CheckOf system names)) said good h = check_unrefused cells systems contents system names said good h
+good_answered cells systems no_bad not_long one_image unrefused contents (Some (PackOf spec)) said good h = pack_unrefused contents spec said good h
+good_answered cells systems no_bad not_long one_image unrefused contents (Some (PlayOf board schedule)) said good h = play_unrefused one_image unrefused contents board schedule said good h
+good_answered cells systems no_bad not_long one_image unrefused contents (Some (AuditOf board journal)) said good h = audit_unrefused unrefused no_bad not_long contents board journal said good h
 
 -- ---- the status
 
-answered : (old new : ℕ) (failed : List ℕ) (Other : Type 0) (said : Said) (status : Status) → status ≡ said.status → IsCounted old new failed said → IsUnrefused said → IsDone status ⊎ Rose old new ⊎ Other
-answered old new failed Other said status is counted (inl good) = inl (inl (is ∙ good))
-answered old new failed Other said status is counted (inr (inl found)) = inl (inr (inl (is ∙ found)))
-answered old new failed Other said status is counted (inr (inr fault)) = inr (inl (counted fault).0)
+-- the status that is answered is the said one's, unless a count rose
+pub answered_or_rose : (Answer : Status → Type 0) (old new old_sink new_sink : ℕ) (failed : List ℕ) (before after : Option (List ℕ)) (said : Said) (status : Status)
+    → IsAnswered Answer said → IsCounted old new failed said → Sent before after said status → (status ≡ WriteFault → Rose old_sink new_sink)
+    → Answer status ⊎ (status ≡ NoMemory) ⊎ Rose old new ⊎ Rose old_sink new_sink
+answered_or_rose Answer old new old_sink new_sink failed before after said status (inl answer) counted (inl whole) fault = inl (subst Answer (sym whole.0) answer)
+answered_or_rose Answer old new old_sink new_sink failed before after said status (inr unread) counted (inl whole) fault = inr (inr (inl (counted unread).0))
+answered_or_rose Answer old new old_sink new_sink failed before after said status one counted (inr part) fault = inr (inr (inr (fault part.0)))
 
--- what isn't refused is done, unless a count rose
-pub done_or_rose : (old new old_sink new_sink : ℕ) (failed : List ℕ) (before after : Option (List ℕ)) (said : Said) (status : Status)
-    → IsUnrefused said → IsCounted old new failed said → Sent before after said status → (status ≡ WriteFault → Rose old_sink new_sink)
-    → IsDone status ⊎ Rose old new ⊎ Rose old_sink new_sink
-done_or_rose old new old_sink new_sink failed before after said status one counted (inl whole) fault = answered old new failed (Rose old_sink new_sink) said status whole.0 counted one
-done_or_rose old new old_sink new_sink failed before after said status one counted (inr part) fault = inr (inr (fault part.0))
+-- that a file couldn't be read is answered only where the count rose
+pub unread : (old new : ℕ) (failed : List ℕ) (before after : Option (List ℕ)) (said : Said) (status : Status)
+    → IsCounted old new failed said → Sent before after said status → status ≡ ReadFault → Rose old new × Appended before after (fault_line failed)
+unread old new failed before after said status counted (inl whole) is =
+    let rose = counted (sym whole.0 ∙ is) in
+    (rose.0, subst (λ (text : List ℕ). Appended before after text) rose.1 whole.1)
+unread old new failed before after said status counted (inr part) is =
+    let same : number_of WriteFault ≡ number_of ReadFault = ap number_of (sym part.0 ∙ is) in
+    absurd (omega arith)
+
+-- another status than that and a sink's is the said one's
+pub said_read : (before after : Option (List ℕ)) (said : Said) (status : Status) → Sent before after said status → status ≢ ReadFault → status ≢ WriteFault → said.status ≢ ReadFault
+said_read before after said status (inl whole) read written is = read (whole.0 ∙ is)
+said_read before after said status (inr part) read written is = written part.0

@@ -11,7 +11,7 @@ use Rattle.jh_run.specs.Plays.{Plays, IsFullAtCpu}
 use Rattle.jh_run.specs.Ends.{is_full}
 use Rattle.jh_run.specs.declared.ended.Ended.{Ended}
 use Rattle.jh_run.specs.declared.ended.Ended.TheVariants.{Quiet, Full}
-use Rattle.jh_cli.specs.declared.limits.TheConstants.{JOURNAL_LIMIT}
+use Rattle.jh_cli.specs.Limits.{journal_limit}
 use Rattle.jh_cli.specs.declared.status.Status.{Status}
 use Rattle.jh_cli.specs.declared.status.Status.TheVariants.{Good, Full as FullStatus}
 use Rattle.jh_cli.specs.Reading.{Said}
@@ -32,13 +32,13 @@ told_of reached = record { status = played_status reached.full; text = journal_t
 
 -- the board at the played journal, and how it ended, tell the play
 pub IsPlayed-from : (image : Image) (cpus : List ℕ) (board : BoardView) (ended : Ended) (status : Status) (text : List ℕ)
-    → Plays image JOURNAL_LIMIT cpus board ended → IsLegal image board.entries → ((ended ≡ Quiet) ↔ IsQuiet image board.entries) → ((ended ≡ Full) ↔ IsFullAtCpu image JOURNAL_LIMIT board.entries)
+    → Plays image journal_limit cpus board ended → IsLegal image board.entries → ((ended ≡ Quiet) ↔ IsQuiet image board.entries) → ((ended ≡ Full) ↔ IsFullAtCpu image journal_limit board.entries)
     → status ≡ played_status (is_full ended) → text ≡ journal_text board.entries
     → IsPlayed image cpus (record { status = status; text = text })
 IsPlayed-from image cpus board ended status text plays legal quiet full is_status is_text =
-    let entries : board.entries ≡ (played image JOURNAL_LIMIT cpus).entries = ap (λ (r : Reached). r.entries) (sym plays.0) in
+    let entries : board.entries ≡ (played image journal_limit cpus).entries = ap (λ (r : Reached). r.entries) (sym plays.0) in
     let Legal : List Entry → Type 0 = λ es. IsLegal image es in
-    let AtLimit : List Entry → Type 0 = λ es. IsFullAtCpu image JOURNAL_LIMIT es in
+    let AtLimit : List Entry → Type 0 = λ es. IsFullAtCpu image journal_limit es in
     let Quieted : List Entry → Type 0 = λ es. IsQuiet image es in
     let of_status : Status → Said = λ (s : Status). record { status = s; text = text } in
     let of_text : List ℕ → Said = λ (t : List ℕ). record { status = played_status (is_full ended); text = t } in

@@ -21,7 +21,7 @@ use Rattle.jh_cli.specs.Pack.{IsSpecFile, SpecRefusal, packed}
 use Rattle.jh_cli.specs.Boards.{stopped, Opens}
 use Rattle.jh_cli.specs.Play.{ScheduleRefusal, IsSchedule, IsPlayed, played_status, PlaysBy}
 use Rattle.jh_cli.specs.Audit.{JournalRefusal, IsJournalFile, IsAudited, AuditsBy, verdict_status}
-use Rattle.jh_cli.specs.declared.limits.TheConstants.{MOST, MOST_OF_A_JOURNAL, JOURNAL_LIMIT}
+use Rattle.jh_cli.specs.Limits.{most_of_a_file, most_of_a_journal, journal_limit}
 use Rattle.jh_cli.specs.Outcome.{Outcome}
 
 abbrev IsOther : Said → Type 0
@@ -49,13 +49,13 @@ checked_other true = omega arith
 checked_other false = omega arith
 
 cells_other : (contents : Contents) (names : List (List ℕ)) (system : SystemConfig) (said : Said) → ChecksCells contents names system said → IsOther said
-cells_other contents names system said (inl among) = stops_other MOST contents among.name CellRefusal said among.stops
+cells_other contents names system said (inl among) = stops_other most_of_a_file contents among.name CellRefusal said among.stops
 cells_other contents names system said (inr all) =
     other said (checked_status (capped (findings system all.0))) (ap (λ (s : Said). s.status) all.2) (checked_other (is_any (capped (findings system all.0))))
 
 played_ends_other : (image : Image) (cpus : List ℕ) (said : Said) → IsPlayed image cpus said → IsOther said
 played_ends_other image cpus said is =
-    other said (played_status (played image JOURNAL_LIMIT cpus).full) (ap (λ (s : Said). s.status) is.told) (played_other (played image JOURNAL_LIMIT cpus).full)
+    other said (played_status (played image journal_limit cpus).full) (ap (λ (s : Said). s.status) is.told) (played_other (played image journal_limit cpus).full)
 
 audited_other : (verdict : Verdict) → number_of (verdict_status verdict) ≢ 5
 audited_other (Legal quiet) = omega arith
@@ -84,12 +84,12 @@ opens_other contents board next said rest (inr went) = rest went.0 went.3
 pub outcome_other : (contents : Contents) (asked : Option Asked) (said : Said) → Outcome contents asked said → said.status ≢ WriteFault
 outcome_other contents None said h = other said Usage (ap (λ (s : Said). s.status) h) (omega arith)
 outcome_other contents (Some (CheckOf system cells)) said h =
-    reads_other MOST contents system SystemRefusal IsSystemFile (ChecksCells contents cells) said (λ s rest. cells_other contents cells s said rest) h
+    reads_other most_of_a_file contents system SystemRefusal IsSystemFile (ChecksCells contents cells) said (λ s rest. cells_other contents cells s said rest) h
 outcome_other contents (Some (PackOf name)) said h =
-    reads_other MOST contents name SpecRefusal IsSpecFile (λ (spec : Spec) (s : Said). s ≡ record { status = Good; text = packed spec }) said (λ spec is. other said Good (ap (λ (s : Said). s.status) is) (omega arith)) h
+    reads_other most_of_a_file contents name SpecRefusal IsSpecFile (λ (spec : Spec) (s : Said). s ≡ record { status = Good; text = packed spec }) said (λ spec is. other said Good (ap (λ (s : Said). s.status) is) (omega arith)) h
 outcome_other contents (Some (PlayOf board schedule)) said h =
     opens_other contents board (PlaysBy contents schedule) said
-    (λ image reads. reads_other MOST contents schedule (ScheduleRefusal image) (IsSchedule image) (IsPlayed image) said (λ cpus is. played_ends_other image cpus said is) reads) h
+    (λ image reads. reads_other most_of_a_file contents schedule (ScheduleRefusal image) (IsSchedule image) (IsPlayed image) said (λ cpus is. played_ends_other image cpus said is) reads) h
 outcome_other contents (Some (AuditOf board journal)) said h =
     opens_other contents board (AuditsBy contents journal) said
-    (λ image reads. reads_other MOST_OF_A_JOURNAL contents journal JournalRefusal IsJournalFile (IsAudited image) said (λ entries is. audit_ends_other image entries said is) reads) h
+    (λ image reads. reads_other most_of_a_journal contents journal JournalRefusal IsJournalFile (IsAudited image) said (λ entries is. audit_ends_other image entries said is) reads) h

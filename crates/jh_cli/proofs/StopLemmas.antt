@@ -1,6 +1,7 @@
 -- Where a call ends at a file.
-use Rattle.std.proofs.Common.{◌≡◌, List, ℕ, inl, inr, Result, Ok, Err}
-use Rattle.std.specs.Prelude.{IfOk, IfErr}
+use Rattle.std.proofs.Common.{◌≡◌, ◌≤◌, List, ℕ, inl, inr, Result, Ok, Err, Option, None, Some, sym, ◌∙◌, ap, subst, arith}
+use Rattle.std.specs.Prelude.{IfSome, IsErrAnd}
+use Rattle.jh_outside.specs.Count.{Rose}
 use Rattle.jh_outside.specs.Reads.{HandsOut}
 use Rattle.jh_cli.specs.declared.told.Told.{Told}
 use Rattle.jh_cli.specs.declared.status.Status.TheVariants.{Refused}
@@ -8,7 +9,7 @@ use Rattle.jh_cli.specs.declared.told.Stop.{Stop}
 use Rattle.jh_cli.specs.declared.told.Stop.TheVariants.{Ended, NoMemory}
 use Rattle.jh_cli.specs.Lines.{refusal_line}
 use Rattle.jh_cli.specs.Reading.{Contents, Said, SpellsAt, StopsAt, ReadsAt}
-use Rattle.jh_cli.specs.Stopped.{OnEnded, said_of}
+use Rattle.jh_cli.specs.Stopped.{OnEnded, OnTold, said_of, IsCounted}
 
 -- what is said of every ended call carries over
 pub on_stop : (P Q : Said → Type 0) (stop : Stop) → ((said : Said) → P said → Q said) → OnEnded stop P → OnEnded stop Q
@@ -31,13 +32,38 @@ pub stops_more : (most : ℕ) (contents : Contents) (name : List ℕ) (Why Other
     → (stop : Stop) → OnEnded stop (StopsAt most contents name Why) → OnEnded stop (StopsAt most contents name Other)
 stops_more most contents name Why Other more stop h = on_stop (StopsAt most contents name Why) (StopsAt most contents name Other) stop (stopped_more most contents name Why Other more) h
 
--- what follows a file that was read
-pub goes_on_ok : {A : Type 0} (most : ℕ) (contents : Contents) (name : List ℕ) (Why : List ℕ → List ℕ → Type 0) (Form : List ℕ → A → Type 0) (next : A → Said → Type 0) (value : A) → SpellsAt most contents name Form value
-    → (r : Result Told Stop) → IfOk r (λ told. next value (said_of told)) → IfOk r (λ told. ReadsAt most contents name Why Form next (said_of told))
-goes_on_ok most contents name Why Form next value spells (Ok told) h = inr (value, spells, h)
-goes_on_ok most contents name Why Form next value spells (Err stop) h = tt
+-- what is said carries over
+pub on_told : (P Q : Said → Type 0) (r : Result Told Stop) → ((said : Said) → P said → Q said) → OnTold r P → OnTold r Q
+on_told P Q (Ok told) f h = f (said_of told) h
+on_told P Q (Err stop) f h = on_stop P Q stop f h
 
-pub goes_on_err : {A : Type 0} (most : ℕ) (contents : Contents) (name : List ℕ) (Why : List ℕ → List ℕ → Type 0) (Form : List ℕ → A → Type 0) (next : A → Said → Type 0) (value : A) → SpellsAt most contents name Form value
-    → (r : Result Told Stop) → IfErr r (λ stop. OnEnded stop (next value)) → IfErr r (λ stop. OnEnded stop (ReadsAt most contents name Why Form next))
-goes_on_err most contents name Why Form next value spells (Ok told) h = tt
-goes_on_err most contents name Why Form next value spells (Err stop) h = on_stop (next value) (ReadsAt most contents name Why Form next) stop (λ said rest. inr (value, spells, rest)) h
+-- what is said of a stop is told where it is passed up
+pub told_up : (P : Said → Type 0) (r : Result Told Stop) (stop : Stop) → IsErrAnd r (λ passed. passed ≡ stop) → OnEnded stop P → OnTold r P
+told_up P (Ok told) stop is h = absurd is
+told_up P (Err passed) stop is h = subst (λ (s : Stop). OnEnded s P) (sym is) h
+
+-- what follows a file that was read
+pub goes_on : {A : Type 0} (most : ℕ) (contents : Contents) (name : List ℕ) (Why : List ℕ → List ℕ → Type 0) (Form : List ℕ → A → Type 0) (next : A → Said → Type 0) (value : A) → SpellsAt most contents name Form value
+    → (r : Result Told Stop) → OnTold r (next value) → OnTold r (ReadsAt most contents name Why Form next)
+goes_on most contents name Why Form next value spells r h = on_told (next value) (ReadsAt most contents name Why Form next) r (λ said rest. inr (value, spells, rest)) h
+
+-- the count that rose behind a read rose in both
+rose_behind : (old mid new : ℕ) → old ≤ mid → Rose mid new → Rose old new
+rose_behind old mid new le (inl more) = inl (omega arith)
+rose_behind old mid new le (inr full) = inr full
+
+pub counted_behind : (old mid new : ℕ) (failed : List ℕ) → old ≤ mid → (r : Result Told Stop) → OnTold r (IsCounted mid new failed) → OnTold r (IsCounted old new failed)
+counted_behind old mid new failed le r h =
+    on_told (IsCounted mid new failed) (IsCounted old new failed) r (λ said counted is. let both = counted is in (rose_behind old mid new le both.0, both.1)) h
+
+abbrev refused_said : List ℕ → List ℕ → Said
+refused_said name words = record { status = Refused; text = refusal_line name words }
+
+-- the fault's text is that of the words that it displays
+pub refused_by : (name words : List ℕ) (output : Option (List ℕ)) → IfSome output (λ text. words ≡ text)
+    → (stop : Stop) → OnEnded stop (λ said. said ≡ record { status = Refused; text = refusal_line name words })
+    → IfSome output (λ text. OnEnded stop (λ said. said ≡ record { status = Refused; text = refusal_line name text }))
+refused_by name words None is stop h = tt
+refused_by name words (Some text) is stop h =
+    on_stop (λ said. said ≡ record { status = Refused; text = refusal_line name words }) (λ said. said ≡ record { status = Refused; text = refusal_line name text }) stop
+    (λ said told. told ∙ ap (refused_said name) is) h

@@ -14,23 +14,23 @@ use Rattle.jh_cli.specs.Reading.{Said, Contents, ReadsAt, IsOversizeAt}
 use Rattle.jh_cli.specs.Boards.{Opens}
 use Rattle.jh_cli.specs.declared.status.Status.{Status}
 use Rattle.jh_cli.specs.declared.status.Status.TheVariants.{Good, Found}
-use Rattle.jh_cli.specs.declared.limits.TheConstants.{MOST_OF_A_JOURNAL}
+use Rattle.jh_cli.specs.Limits.{most_of_a_journal}
 
 -- the bytes are the text of a journal with these entries
 pub record IsJournalFile (bytes : List ℕ) (entries : List Entry) : Type 0 where
-  pub within : length bytes < MOST_OF_A_JOURNAL
+  pub within : length bytes < most_of_a_journal
   pub told : IsJournalText bytes entries
 
 -- they are not, for the fault that these words tell
 pub record IsNoJournal (bytes words : List ℕ) : Type 0 where
-  pub within : length bytes < MOST_OF_A_JOURNAL
+  pub within : length bytes < most_of_a_journal
   pub fault : JournalFault
   pub is_of_text : fault ≢ NoMemory
   pub first : IsFault bytes fault
   pub told : words ≡ fault_text fault
 
 abbrev pub JournalRefusal : List ℕ → List ℕ → Type 0
-JournalRefusal bytes words = IsOversizeAt MOST_OF_A_JOURNAL bytes words ⊎ IsNoJournal bytes words
+JournalRefusal bytes words = IsOversizeAt most_of_a_journal bytes words ⊎ IsNoJournal bytes words
 
 -- the line that tells that the entry was due in the place of the one in this line
 abbrev pub due_text : ℕ → Entry → List ℕ
@@ -55,7 +55,7 @@ pub record IsAudited (image : Image) (entries : List Entry) (said : Said) : Type
 
 -- what an audit of the journal by the image ends with
 abbrev pub AuditsBy : Contents → List ℕ → Image → Said → Type 0
-AuditsBy contents journal image = ReadsAt MOST_OF_A_JOURNAL contents journal JournalRefusal IsJournalFile (IsAudited image)
+AuditsBy contents journal image = ReadsAt most_of_a_journal contents journal JournalRefusal IsJournalFile (IsAudited image)
 
 -- what an audit of the journal by the board ends with: the board's files are read, then the journal's, and the first
 -- that stops the call ends it

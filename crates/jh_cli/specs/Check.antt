@@ -18,17 +18,18 @@ use Rattle.jh_check.specs.Texts.{finding_text}
 use Rattle.jh_cli.specs.Reading.{Said, Contents, Spells, Stops, Reads, IsOversize}
 use Rattle.jh_cli.specs.declared.status.Status.{Status}
 use Rattle.jh_cli.specs.declared.status.Status.TheVariants.{Good, Found}
-use Rattle.jh_cli.specs.declared.limits.TheConstants.{MOST}
+use Rattle.jh_cli.specs.Limits.{most_of_a_file}
 
 -- the bytes of a file are those of this cell
 pub record IsCellFile (bytes : List ℕ) (cell : CellConfig) : Type 0 where
+  pub within : length bytes < most_of_a_file
   pub typed : IsCell cell
   pub limits : IsWithinLimits cell
   pub spelled : bytes ≡ spelling cell
 
 -- they are of no cell, for the fault that these words tell
 pub record IsNoCell (bytes words : List ℕ) : Type 0 where
-  pub within : length bytes < MOST
+  pub within : length bytes < most_of_a_file
   pub fault : ConfigFault
   pub first : first_fault bytes ≡ Some fault
   pub told : words ≡ fault_text fault
@@ -38,12 +39,13 @@ CellRefusal bytes words = IsOversize bytes words ⊎ IsNoCell bytes words
 
 -- the same of a system
 pub record IsSystemFile (bytes : List ℕ) (system : SystemConfig) : Type 0 where
+  pub within : length bytes < most_of_a_file
   pub typed : IsSystem system
   pub limits : IsSystemWithinLimits system
   pub spelled : bytes ≡ system_spelling system
 
 pub record IsNoSystem (bytes words : List ℕ) : Type 0 where
-  pub within : length bytes < MOST
+  pub within : length bytes < most_of_a_file
   pub fault : ConfigFault
   pub first : system_fault bytes ≡ Some fault
   pub told : words ≡ fault_text fault

@@ -1,23 +1,26 @@
 -- Good words and files: the words have a command, and each file that they name is in its grammar and within its
 -- limits. A call with them isn't refused.
-use Rattle.std.specs.Prelude.{◌≡◌, ◌<◌, ℕ, ◌⊎◌, false, List, [], ◌∷◌, length, Option, None, Some, ⊤}
+use Rattle.std.specs.Prelude.{◌≡◌, ◌≢◌, ◌<◌, ℕ, ◌⊎◌, List, [], ◌∷◌, length, Option, None, Some, ⊤}
+use Rattle.std.specs.List.{AllByRecursion}
 use Rattle.jh_cellcfg.specs.declared.config.CellConfig.{CellConfig}
 use Rattle.jh_cellcfg.specs.declared.config.SystemConfig.{SystemConfig}
 use Rattle.jh_script.specs.declared.image.Image.{Image}
 use Rattle.jh_history.specs.declared.entry.Entry.{Entry}
 use Rattle.jh_history.specs.Items.{played}
 use Rattle.jh_spec.specs.declared.spec.Spec.{Spec}
+use Rattle.jh_image.specs.declared.board.Listing.{Listing}
+use Rattle.jh_image.specs.Files.{Lists}
 use Rattle.jh_image.specs.Images.{IsImage}
-use Rattle.jh_image.specs.Laws.{AreTold}
+use Rattle.jh_image.specs.Order.{board_files}
 use Rattle.jh_cli.specs.Words.{Asked, CheckOf, PackOf, PlayOf, AuditOf}
-use Rattle.jh_cli.specs.Reading.{Said, Contents}
+use Rattle.jh_cli.specs.Reading.{Contents}
 use Rattle.jh_cli.specs.Check.{IsCellFile, IsSystemFile}
 use Rattle.jh_cli.specs.Pack.{IsSpecFile}
-use Rattle.jh_cli.specs.Play.{IsSchedule}
+use Rattle.jh_cli.specs.Play.{IsSchedule, played_status}
 use Rattle.jh_cli.specs.Audit.{IsJournalFile}
 use Rattle.jh_cli.specs.declared.status.Status.{Status}
-use Rattle.jh_cli.specs.declared.status.Status.TheVariants.{Good, Found, ReadFault, NoMemory}
-use Rattle.jh_cli.specs.declared.limits.TheConstants.{MOST, MOST_OF_A_JOURNAL, JOURNAL_LIMIT}
+use Rattle.jh_cli.specs.declared.status.Status.TheVariants.{Good, Found}
+use Rattle.jh_cli.specs.Limits.{most_of_a_file, most_of_a_journal, journal_limit}
 
 module _ {A : Type 0} where
   -- the file of this name holds these bytes, fewer than `most`, and they spell the value
@@ -30,38 +33,53 @@ module _ {A : Type 0} where
 -- the files of these names hold these cells, one each
 abbrev pub HoldCells : Contents → List (List ℕ) → List CellConfig → Type 0
 HoldCells contents [] [] = ⊤
-HoldCells contents (name ∷ names) (cell ∷ cells) = Holds MOST contents name IsCellFile cell × HoldCells contents names cells
+HoldCells contents (name ∷ names) (cell ∷ cells) = Holds most_of_a_file contents name IsCellFile cell × HoldCells contents names cells
 HoldCells contents _ _ = ⊥
+
+-- the files tell of each of these names all the bytes that it holds, or that it is missing
+abbrev pub AreTold : Contents → List (List ℕ) → Type 0
+AreTold contents names = AllByRecursion (λ name. contents name ≢ None) names
+
+-- the files tell of the board and of what it lists
+pub record IsBoardTold (contents : Contents) (board : List ℕ) : Type 0 where
+  pub of_board : AreTold contents (board ∷ [])
+  pub of_files : (listing : Listing) → Lists contents board listing → AreTold contents (board_files board listing)
+
+-- the files tell of each file that the words name, and of what a board lists
+abbrev pub AreFilesTold : Contents → Option Asked → Type 0
+AreFilesTold contents None = ⊤
+AreFilesTold contents (Some (CheckOf system cells)) = AreTold contents (system ∷ cells)
+AreFilesTold contents (Some (PackOf spec)) = AreTold contents (spec ∷ [])
+AreFilesTold contents (Some (PlayOf board schedule)) = IsBoardTold contents board × AreTold contents (schedule ∷ [])
+AreFilesTold contents (Some (AuditOf board journal)) = IsBoardTold contents board × AreTold contents (journal ∷ [])
 
 -- the files of a check hold a system and a cell each, whatever the check finds in them
 pub record AreGoodToCheck (contents : Contents) (system : List ℕ) (cells : List (List ℕ)) : Type 0 where
   pub of_system : SystemConfig
-  pub system_held : Holds MOST contents system IsSystemFile of_system
+  pub system_held : Holds most_of_a_file contents system IsSystemFile of_system
   pub of_cells : List CellConfig
   pub cells_held : HoldCells contents cells of_cells
 
 -- the file of a pack holds a configuration's SPEC
 pub record IsGoodToPack (contents : Contents) (name : List ℕ) : Type 0 where
   pub spec : Spec
-  pub held : Holds MOST contents name IsSpecFile spec
+  pub held : Holds most_of_a_file contents name IsSpecFile spec
 
--- the board's files make an image, the schedule's holds items for it, and the journal that they make stays under its
--- limit
+-- the board's files make an image, and the schedule's holds items for it
 pub record AreGoodToPlay (contents : Contents) (board schedule : List ℕ) : Type 0 where
-  pub told : AreTold contents
+  pub told : IsBoardTold contents board
   pub image : Image
   pub is : IsImage contents board image
   pub items : List ℕ
-  pub held : Holds MOST contents schedule (IsSchedule image) items
-  pub under : (played image JOURNAL_LIMIT items).full ≡ false
+  pub held : Holds most_of_a_file contents schedule (IsSchedule image) items
 
 -- the board's files make an image, and the journal's holds a journal, whether it is legal or not
 pub record AreGoodToAudit (contents : Contents) (board journal : List ℕ) : Type 0 where
-  pub told : AreTold contents
+  pub told : IsBoardTold contents board
   pub image : Image
   pub is : IsImage contents board image
   pub entries : List Entry
-  pub held : Holds MOST_OF_A_JOURNAL contents journal IsJournalFile entries
+  pub held : Holds most_of_a_journal contents journal IsJournalFile entries
 
 -- the words have a command, and its files are good for it
 abbrev pub AreGood : Contents → Option Asked → Type 0
@@ -71,10 +89,11 @@ AreGood contents (Some (PackOf spec)) = IsGoodToPack contents spec
 AreGood contents (Some (PlayOf board schedule)) = AreGoodToPlay contents board schedule
 AreGood contents (Some (AuditOf board journal)) = AreGoodToAudit contents board journal
 
--- what is told is the command's answer, or that a file could not be read
-abbrev pub IsUnrefused : Said → Type 0
-IsUnrefused said = (said.status ≡ Good) ⊎ (said.status ≡ Found) ⊎ (said.status ≡ ReadFault)
-
--- the status is the command's answer, or want of memory
-abbrev pub IsDone : Status → Type 0
-IsDone status = (status ≡ Good) ⊎ (status ≡ Found) ⊎ (status ≡ NoMemory)
+-- what a call with good words and files ends with: a check with whether something is found, a play with whether the
+-- journal stopped at its limit, an audit with whether the journal is legal
+abbrev pub IsAnswer : (contents : Contents) (asked : Option Asked) → AreGood contents asked → Status → Type 0
+IsAnswer contents None good status = ⊥
+IsAnswer contents (Some (CheckOf system cells)) good status = (status ≡ Good) ⊎ (status ≡ Found)
+IsAnswer contents (Some (PackOf spec)) good status = status ≡ Good
+IsAnswer contents (Some (PlayOf board schedule)) good status = status ≡ played_status (played good.image journal_limit good.items).full
+IsAnswer contents (Some (AuditOf board journal)) good status = (status ≡ Good) ⊎ (status ≡ Found)

@@ -1,3 +1,4 @@
+pub mod Limits
 pub mod Words
 pub mod Lines
 pub mod Reading
@@ -6,6 +7,8 @@ pub mod Pack
 pub mod Boards
 pub mod Play
 pub mod Audit
+pub mod Stopped
+pub mod Order
 pub mod Outcome
 pub mod Complete
-pub mod Stopped
+pub mod Call

@@ -9,7 +9,7 @@ use Rattle.jh_cli.specs.Pack.{Packs}
 use Rattle.jh_cli.specs.Play.{Plays}
 use Rattle.jh_cli.specs.Audit.{Audits}
 use Rattle.jh_cli.specs.declared.status.Status.{Status}
-use Rattle.jh_cli.specs.declared.status.Status.TheVariants.{Usage, WriteFault, NoMemory}
+use Rattle.jh_cli.specs.declared.status.Status.TheVariants.{Usage, WriteFault}
 
 -- what the words ask for, and what a call with them ends with
 abbrev pub Outcome : Contents → Option Asked → Said → Type 0
@@ -22,8 +22,3 @@ Outcome contents (Some (AuditOf board journal)) said = Audits contents board jou
 -- the text was appended and the status is its own, or a proper front of it was and the status tells so
 abbrev pub Sent : Option (List ℕ) → Option (List ℕ) → Said → Status → Type 0
 Sent old new said status = ((status ≡ said.status) × Appended old new said.text) ⊎ ((status ≡ WriteFault) × AppendedPart old new said.text)
-
--- a call with these words over these files ends with the status, and leaves the sink so; where memory
--- was wanted nothing was appended
-abbrev pub Ends : Contents → Option Asked → Option (List ℕ) → Option (List ℕ) → Status → Type 0
-Ends contents asked old new status = ((status ≡ NoMemory) × (new ≡ old)) ⊎ ((said : Said) × Outcome contents asked said × Sent old new said status)

@@ -13,7 +13,7 @@ use Rattle.jh_cli.specs.Reading.{Said, Contents, Reads, IsOversize}
 use Rattle.jh_cli.specs.Boards.{Opens}
 use Rattle.jh_cli.specs.declared.status.Status.{Status}
 use Rattle.jh_cli.specs.declared.status.Status.TheVariants.{Good, Full}
-use Rattle.jh_cli.specs.declared.limits.TheConstants.{MOST, JOURNAL_LIMIT}
+use Rattle.jh_cli.specs.Limits.{most_of_a_file, journal_limit}
 
 -- bit n of the set says whether the board has CPU n
 abbrev pub AreCpus : Image → ℕ → Type 0
@@ -21,14 +21,14 @@ AreCpus image cpus = (n : ℕ) → n < 16 → has_cpu cpus n ≡ is_on_board ima
 
 -- the bytes are the text of a schedule for the board, and these are its items
 pub record IsSchedule (image : Image) (bytes items : List ℕ) : Type 0 where
-  pub within : length bytes < MOST
+  pub within : length bytes < most_of_a_file
   pub cpus : ℕ
   pub are : AreCpus image cpus
   pub told : schedule_of cpus bytes ≡ Ok items
 
 -- they are not, for the fault that these words tell
 pub record IsNoSchedule (image : Image) (bytes words : List ℕ) : Type 0 where
-  pub within : length bytes < MOST
+  pub within : length bytes < most_of_a_file
   pub cpus : ℕ
   pub are : AreCpus image cpus
   pub fault : ScheduleFault
@@ -45,10 +45,10 @@ played_status full = if full then Full else Good
 -- the played journal's text; the journal is legal, and with status `Good` nothing is due after it. The status is
 -- `Full` exactly where the journal is at its limit and some CPU has an entry due
 pub record IsPlayed (image : Image) (cpus : List ℕ) (said : Said) : Type 0 where
-  pub told : said ≡ record { status = played_status (played image JOURNAL_LIMIT cpus).full; text = journal_text (played image JOURNAL_LIMIT cpus).entries }
-  pub legal : IsLegal image (played image JOURNAL_LIMIT cpus).entries
-  pub quiet : said.status ≡ Good → IsQuiet image (played image JOURNAL_LIMIT cpus).entries
-  pub full : (said.status ≡ Full) ↔ IsFullAtCpu image JOURNAL_LIMIT (played image JOURNAL_LIMIT cpus).entries
+  pub told : said ≡ record { status = played_status (played image journal_limit cpus).full; text = journal_text (played image journal_limit cpus).entries }
+  pub legal : IsLegal image (played image journal_limit cpus).entries
+  pub quiet : said.status ≡ Good → IsQuiet image (played image journal_limit cpus).entries
+  pub full : (said.status ≡ Full) ↔ IsFullAtCpu image journal_limit (played image journal_limit cpus).entries
 
 -- what a play of the image by the schedule ends with
 abbrev pub PlaysBy : Contents → List ℕ → Image → Said → Type 0

@@ -4,7 +4,7 @@ use Rattle.jh_outside.specs.Reads.{Told, HandsOut}
 use Rattle.jh_cli.specs.Lines.{fault_line, refusal_line}
 use Rattle.jh_cli.specs.declared.status.Status.{Status}
 use Rattle.jh_cli.specs.declared.status.Status.TheVariants.{Refused, ReadFault}
-use Rattle.jh_cli.specs.declared.limits.TheConstants.{MOST}
+use Rattle.jh_cli.specs.Limits.{most_of_a_file}
 
 -- a status, and what is written before it
 pub record Said : Type 0 where
@@ -28,7 +28,7 @@ abbrev pub StopsAt : ℕ → Contents → List ℕ → (List ℕ → List ℕ �
 StopsAt most contents name Why said = (said ≡ record { status = ReadFault; text = fault_line name }) ⊎ IsRefused most contents name Why said
 
 abbrev pub Stops : Contents → List ℕ → (List ℕ → List ℕ → Type 0) → Said → Type 0
-Stops contents name Why said = StopsAt MOST contents name Why said
+Stops contents name Why said = StopsAt most_of_a_file contents name Why said
 
 module _ {A : Type 0} where
   -- the file hands out bytes that spell this value, where so many are asked
@@ -38,14 +38,14 @@ module _ {A : Type 0} where
     pub spelled : Form bytes value
 
   abbrev pub Spells : Contents → List ℕ → (List ℕ → A → Type 0) → A → Type 0
-  Spells contents name Form value = SpellsAt MOST contents name Form value
+  Spells contents name Form value = SpellsAt most_of_a_file contents name Form value
 
   -- the file is read: the call ends at it, or goes on with what it spells
   abbrev pub ReadsAt : ℕ → Contents → List ℕ → (List ℕ → List ℕ → Type 0) → (List ℕ → A → Type 0) → (A → Said → Type 0) → Said → Type 0
   ReadsAt most contents name Why Form next said = StopsAt most contents name Why said ⊎ ((value : A) × SpellsAt most contents name Form value × next value said)
 
   abbrev pub Reads : Contents → List ℕ → (List ℕ → List ℕ → Type 0) → (List ℕ → A → Type 0) → (A → Said → Type 0) → Said → Type 0
-  Reads contents name Why Form next said = ReadsAt MOST contents name Why Form next said
+  Reads contents name Why Form next said = ReadsAt most_of_a_file contents name Why Form next said
 
 -- the file has more bytes than it may have: all those that were asked, of which one is too many
 abbrev pub IsOversizeAt : ℕ → List ℕ → List ℕ → Type 0
@@ -53,4 +53,4 @@ IsOversizeAt most bytes words = (most ≤ length bytes) × (words ≡ codes "ove
 
 -- a file has at most 1 MiB
 abbrev pub IsOversize : List ℕ → List ℕ → Type 0
-IsOversize bytes words = IsOversizeAt MOST bytes words
+IsOversize bytes words = IsOversizeAt most_of_a_file bytes words

@@ -1,5 +1,5 @@
 -- What a step of a play says of the files and of how it stopped.
-use Rattle.std.specs.Prelude.{◌≡◌, ℕ, ⊤, List}
+use Rattle.std.specs.Prelude.{◌≡◌, ℕ, ⊤, List, Result, Ok, Err}
 use Rattle.jh_outside.specs.Count.{Rose}
 use Rattle.jh_cli.specs.declared.told.Told.{Told}
 use Rattle.jh_cli.specs.declared.told.Stop.{Stop}
@@ -16,6 +16,11 @@ said_of told = record { status = told.status; text = told.text.items }
 abbrev pub OnEnded : Stop → (Said → Type 0) → Type 0
 OnEnded (Ended told) P = P (said_of told)
 OnEnded NoMemory P = ⊤
+
+-- a fact of what a command tells, where it ends at a file too; for want of memory nothing is told
+abbrev pub OnTold : Result Told Stop → (Said → Type 0) → Type 0
+OnTold (Ok told) P = P (said_of told)
+OnTold (Err stop) P = OnEnded stop P
 
 -- a fault of reading is told only where the count of faults rose, and its line names the read that failed
 abbrev pub IsCounted : ℕ → ℕ → List ℕ → Said → Type 0

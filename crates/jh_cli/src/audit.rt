@@ -1,18 +1,20 @@
 //! Auditing a journal by a board.
-ghost use Rattle.std.specs.Prelude.{◌≡◌, ◌≢◌, ◌≤◌, length, IfOk, IfErr};
+ghost use Rattle.std.specs.Prelude.{◌≡◌, ◌≢◌, ◌≤◌, length, IfOk, IfErr, ◌∷◌, [], OnOk};
 ghost use Rattle.jh_history.specs.Admitted.{IsAdmitted, IsBuilt};
 ghost use Rattle.jh_text.specs.FaultText.{fault_text};
 ghost use Rattle.jh_text.specs.declared.fault.JournalFault.TheVariants.{NoMemory as for_memory};
-ghost use Rattle.jh_cli.specs.declared.limits.TheConstants.{MOST_OF_A_JOURNAL as most_of_a_journal, JOURNAL_LIMIT as journal_limit};
+ghost use Rattle.jh_outside.specs.Trail.{AsksAll};
+ghost use Rattle.jh_cli.specs.Order.{StopsIn, ReadsIn, ReadsBoard};
+ghost use Rattle.jh_cli.specs.Limits.{most_of_a_journal, journal_limit};
 ghost use Rattle.jh_cli.specs.Lines.{refusal_line as refusal_line_lem};
 ghost use Rattle.jh_cli.specs.Reading.{SpellsAt, StopsAt};
 ghost use Rattle.jh_cli.specs.Audit.{IsJournalFile, JournalRefusal, IsAudited, AuditsBy, Audits, due_text as due_text_lem, verdict_text as verdict_text_lem, verdict_status};
-ghost use Rattle.jh_cli.specs.Stopped.{said_of, OnEnded, IsCounted};
+ghost use Rattle.jh_cli.specs.Stopped.{said_of, OnEnded, OnTold, IsCounted};
 
 use crate::boards::open;
 use crate::limits::MOST_OF_A_JOURNAL;
 use crate::status::Status;
-use crate::told::{Stop, Told, read_below, refused};
+use crate::told::{Stop, Told, read_below, refused_for};
 use jh_audit::{Verdict, audit as audit_journal};
 use jh_history::{Entry, Journal};
 use jh_num::NoMemory;
@@ -21,17 +23,6 @@ use jh_script::Image;
 use jh_text::{JournalFault, print_entry, read_journal};
 use std::alloc::Global;
 
-/// The call ends since the journal in the file of this name has this fault.
-fn faulty(alloc: Global, name: &str, fault: &JournalFault) -> Stop
-    ensures { OnEnded result (λ said. said ≡ record { status = Status.Refused; text = refusal_line_lem name.now (fault_text fault.now) }) }
-{
-    let mut words = String::new(alloc);
-    match write!(words, "{fault}") {
-        Ok(()) => refused(alloc, name.as_bytes(), words.as_bytes()),
-        Err(_) => Stop::NoMemory,
-    }
-}
-
 /// The call ends since no journal was read from the file of this name.
 fn unread(alloc: Global, name: &str, fault: &JournalFault) -> Stop
     ensures told { OnEnded result (λ said. said ≡ record { status = Status.Refused; text = refusal_line_lem name.now (fault_text fault.now) }) }
@@ -39,7 +30,7 @@ fn unread(alloc: Global, name: &str, fault: &JournalFault) -> Stop
 {
     match fault {
         JournalFault::NoMemory => Stop::NoMemory,
-        _ => faulty(alloc, name, fault),
+        _ => refused_for(alloc, name, fault),
     }
 }
 
@@ -51,6 +42,8 @@ fn journal<F: Files>(alloc: Global, files: &mut F, name: &str) -> Result<Journal
     ensures counted { IfErr result (λ stop. OnEnded stop (IsCounted (F.faults files.old) (F.faults files.new) (F.failed files.new))) }
     ensures never_falls { F.faults files.old ≤ F.faults files.new }
     ensures kept { F.contents files.new ≡ F.contents files.old }
+    ensures asked { OnOk result (AsksAll F.asks F.failed (name.now ∷ []) files.old files.new) }
+    ensures asked_until { IfErr result (λ stop. OnEnded stop (StopsIn F.asks F.failed (name.now ∷ []) files.old files.new)) }
 {
     let bytes = read_below(alloc, files, name, MOST_OF_A_JOURNAL)?;
     match read_journal(alloc, bytes.as_slice()) {
@@ -116,10 +109,9 @@ fn tell_verdict(alloc: Global, image: Image, journal: &Journal) -> Result<Told, 
 fn audit_by<F: Files>(alloc: Global, files: &mut F, image: Image, name: &str) -> Result<Told, Stop>
     requires admitted { IsAdmitted image }
     requires built { IsBuilt image }
-    ensures ok { IfOk result (λ told. AuditsBy (F.contents files.old) name.now image (said_of told)) }
-    ensures err { IfErr result (λ stop. OnEnded stop (AuditsBy (F.contents files.old) name.now image)) }
-    ensures counted_ok { IfOk result (λ told. IsCounted (F.faults files.old) (F.faults files.new) (F.failed files.new) (said_of told)) }
-    ensures counted { IfErr result (λ stop. OnEnded stop (IsCounted (F.faults files.old) (F.faults files.new) (F.failed files.new))) }
+    ensures ends { OnTold result (AuditsBy (F.contents files.old) name.now image) }
+    ensures counted { OnTold result (IsCounted (F.faults files.old) (F.faults files.new) (F.failed files.new)) }
+    ensures asked { OnTold result (ReadsIn F.asks F.failed (name.now ∷ []) files.old files.new) }
 {
     let journal = journal(alloc, files, name)?;
     Ok(tell_verdict(alloc, image, &journal)?)
@@ -127,10 +119,9 @@ fn audit_by<F: Files>(alloc: Global, files: &mut F, image: Image, name: &str) ->
 
 /// Reads the board and the journal, and judges the one by the other.
 pub fn audit<F: Files>(alloc: Global, files: &mut F, board: &str, name: &str) -> Result<Told, Stop>
-    ensures ok { IfOk result (λ told. Audits (F.contents files.old) board.now name.now (said_of told)) }
-    ensures err { IfErr result (λ stop. OnEnded stop (Audits (F.contents files.old) board.now name.now)) }
-    ensures counted_ok { IfOk result (λ told. IsCounted (F.faults files.old) (F.faults files.new) (F.failed files.new) (said_of told)) }
-    ensures counted { IfErr result (λ stop. OnEnded stop (IsCounted (F.faults files.old) (F.faults files.new) (F.failed files.new))) }
+    ensures ends { OnTold result (Audits (F.contents files.old) board.now name.now) }
+    ensures counted { OnTold result (IsCounted (F.faults files.old) (F.faults files.new) (F.failed files.new)) }
+    ensures asked { OnTold result (ReadsBoard F.asks F.failed (F.contents files.old) board.now (name.now ∷ []) files.old files.new) }
 {
     let image = open(alloc, files, board)?;
     audit_by(alloc, files, image, name)

@@ -1,9 +1,11 @@
 //! The image that a board's files make.
-ghost use Rattle.std.specs.Prelude.{◌≡◌, ◌≤◌, IfOk, IfErr};
+ghost use Rattle.std.specs.Prelude.{◌≡◌, ◌≤◌, IfOk, IfErr, ℕ, List, OnOk};
 ghost use Rattle.jh_history.specs.Admitted.{IsAdmitted, IsBuilt};
 ghost use Rattle.jh_image.specs.Causes.{OnRefused};
 ghost use Rattle.jh_image.specs.Images.{IsImage};
 ghost use Rattle.jh_image.specs.declared.fault.ImageFault.TheVariants.{NoMemory as image_for_memory};
+ghost use Rattle.jh_image.specs.Order.{AsksBoard};
+ghost use Rattle.jh_cli.specs.Order.{ReadsBoard};
 ghost use Rattle.jh_cli.specs.Boards.{stopped, EndsAt};
 ghost use Rattle.jh_cli.specs.Stopped.{OnEnded, IsCounted};
 
@@ -15,7 +17,7 @@ use jh_script::Image;
 use std::alloc::Global;
 
 /// The call ends since the file is refused for this cause.
-fn refused_for(alloc: Global, file: &[u8], cause: &ImageCause) -> Stop
+fn stopped_for(alloc: Global, file: &[u8], cause: &ImageCause) -> Stop
     ensures { OnEnded result (λ said. said ≡ stopped file.now cause.now) }
 {
     match cause {
@@ -33,7 +35,7 @@ fn unopened(alloc: Global, fault: &ImageFault) -> Stop
     ensures memory { fault.now ≡ image_for_memory → result ≡ Stop.NoMemory }
 {
     match fault {
-        ImageFault::Refused { file, cause } => refused_for(alloc, file.as_slice(), cause),
+        ImageFault::Refused { file, cause } => stopped_for(alloc, file.as_slice(), cause),
         ImageFault::NoMemory => Stop::NoMemory,
     }
 }
@@ -47,6 +49,8 @@ pub fn open<F: Files>(alloc: Global, files: &mut F, board: &str) -> Result<Image
     ensures counted { IfErr result (λ stop. OnEnded stop (IsCounted (F.faults files.old) (F.faults files.new) (F.failed files.new))) }
     ensures never_falls { F.faults files.old ≤ F.faults files.new }
     ensures kept { F.contents files.new ≡ F.contents files.old }
+    ensures asked { OnOk result (AsksBoard F.asks F.failed (F.contents files.old) board.now files.old files.new) }
+    ensures asked_until { IfErr result (λ stop. (more : List (List ℕ)) → OnEnded stop (ReadsBoard F.asks F.failed (F.contents files.old) board.now more files.old files.new)) }
 {
     match read_image(alloc, files, board) {
         Ok(image) => Ok(image),

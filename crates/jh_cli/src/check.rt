@@ -1,33 +1,23 @@
 //! Checking a system and its cells.
-ghost use Rattle.std.specs.Prelude.{◌≡◌, ◌≤◌, ◌⊎◌, length, map, string_bytes, IfOk, IfErr, OnOk, ◌++◌};
-ghost use Rattle.jh_cellcfg.specs.Texts.{fault_text};
+ghost use Rattle.std.specs.Prelude.{◌≡◌, ◌≤◌, ◌⊎◌, length, map, string_bytes, IfOk, IfErr, OnOk, ◌++◌, ◌∷◌, []};
 ghost use Rattle.jh_check.specs.Findings.{findings};
 ghost use Rattle.jh_check.specs.Lists.{capped};
 ghost use Rattle.jh_check.specs.Texts.{finding_text};
-ghost use Rattle.jh_cli.specs.Lines.{refusal_line as refusal_line_lem};
+ghost use Rattle.jh_outside.specs.Trail.{AsksAll};
+ghost use Rattle.jh_cli.specs.Order.{StopsIn, ReadsIn};
 ghost use Rattle.jh_cli.specs.Reading.{Spells, Stops};
 ghost use Rattle.jh_cli.specs.Check.{IsCellFile, CellRefusal, IsSystemFile, SystemRefusal, SpellCells, StopsAmong, ChecksCells, Checks, checked, checked_status, findings_text as findings_text_lem};
-ghost use Rattle.jh_cli.specs.Stopped.{said_of, OnEnded, IsCounted};
+ghost use Rattle.jh_cli.specs.Stopped.{said_of, OnEnded, OnTold, IsCounted};
 
+use crate::limits::MOST;
 use crate::status::Status;
-use crate::told::{Stop, Told, read_whole, refused};
+use crate::told::{Stop, Told, read_below, refused_for};
 use jh_cellcfg::{CellConfig, ConfigFault, SystemConfig, read_cell};
 use jh_check::{Finding, check as check_all};
 use jh_num::{NoMemory, Seq};
 use jh_outside::Files;
 use jh_syscfg::read_system;
 use std::alloc::Global;
-
-/// The call ends since the configuration in the file of this name has this fault.
-fn faulty(alloc: Global, name: &str, fault: &ConfigFault) -> Stop
-    ensures { OnEnded result (λ said. said ≡ record { status = Status.Refused; text = refusal_line_lem name.now (fault_text fault.now) }) }
-{
-    let mut words = String::new(alloc);
-    match write!(words, "{fault}") {
-        Ok(()) => refused(alloc, name.as_bytes(), words.as_bytes()),
-        Err(_) => Stop::NoMemory,
-    }
-}
 
 /// The cell in the file of this name.
 fn cell<F: Files>(alloc: Global, files: &mut F, name: &str) -> Result<CellConfig, Stop>
@@ -36,12 +26,14 @@ fn cell<F: Files>(alloc: Global, files: &mut F, name: &str) -> Result<CellConfig
     ensures counted { IfErr result (λ stop. OnEnded stop (IsCounted (F.faults files.old) (F.faults files.new) (F.failed files.new))) }
     ensures never_falls { F.faults files.old ≤ F.faults files.new }
     ensures kept { F.contents files.new ≡ F.contents files.old }
+    ensures asked { OnOk result (AsksAll F.asks F.failed (name.now ∷ []) files.old files.new) }
+    ensures asked_until { IfErr result (λ stop. OnEnded stop (StopsIn F.asks F.failed (name.now ∷ []) files.old files.new)) }
 {
-    let bytes = read_whole(alloc, files, name)?;
+    let bytes = read_below(alloc, files, name, MOST)?;
     match read_cell(alloc, bytes.as_slice()) {
         Ok(cell) => Ok(cell),
         Err(ConfigFault::NoMemory) => Err(Stop::NoMemory),
-        Err(fault) => Err(faulty(alloc, name, &fault)),
+        Err(fault) => Err(refused_for(alloc, name, &fault)),
     }
 }
 
@@ -52,12 +44,14 @@ fn system<F: Files>(alloc: Global, files: &mut F, name: &str) -> Result<SystemCo
     ensures counted { IfErr result (λ stop. OnEnded stop (IsCounted (F.faults files.old) (F.faults files.new) (F.failed files.new))) }
     ensures never_falls { F.faults files.old ≤ F.faults files.new }
     ensures kept { F.contents files.new ≡ F.contents files.old }
+    ensures asked { OnOk result (AsksAll F.asks F.failed (name.now ∷ []) files.old files.new) }
+    ensures asked_until { IfErr result (λ stop. OnEnded stop (StopsIn F.asks F.failed (name.now ∷ []) files.old files.new)) }
 {
-    let bytes = read_whole(alloc, files, name)?;
+    let bytes = read_below(alloc, files, name, MOST)?;
     match read_system(alloc, bytes.as_slice()) {
         Ok(system) => Ok(system),
         Err(ConfigFault::NoMemory) => Err(Stop::NoMemory),
-        Err(fault) => Err(faulty(alloc, name, &fault)),
+        Err(fault) => Err(refused_for(alloc, name, &fault)),
     }
 }
 
@@ -68,6 +62,8 @@ fn cells<F: Files>(alloc: Global, files: &mut F, names: &[String]) -> Result<Seq
     ensures err { IfErr result (λ stop. OnEnded stop (StopsAmong (F.contents files.old) (map string_bytes names.now))) }
     ensures counted { IfErr result (λ stop. OnEnded stop (IsCounted (F.faults files.old) (F.faults files.new) (F.failed files.new))) }
     ensures never_falls { F.faults files.old ≤ F.faults files.new }
+    ensures asked { OnOk result (AsksAll F.asks F.failed (map string_bytes names.now) files.old files.new) }
+    ensures asked_until { IfErr result (λ stop. OnEnded stop (StopsIn F.asks F.failed (map string_bytes names.now) files.old files.new)) }
 {
     let mut cells = Seq::new(alloc);
     for name in names {
@@ -118,10 +114,9 @@ fn check_cells<F: Files>(
     names: &[String],
 ) -> Result<Told, Stop>
     requires { length names.now ≤ 15 }
-    ensures ok { IfOk result (λ told. ChecksCells (F.contents files.old) (map string_bytes names.now) system.now (said_of told)) }
-    ensures err { IfErr result (λ stop. OnEnded stop (ChecksCells (F.contents files.old) (map string_bytes names.now) system.now)) }
-    ensures counted_ok { IfOk result (λ told. IsCounted (F.faults files.old) (F.faults files.new) (F.failed files.new) (said_of told)) }
-    ensures counted { IfErr result (λ stop. OnEnded stop (IsCounted (F.faults files.old) (F.faults files.new) (F.failed files.new))) }
+    ensures ends { OnTold result (ChecksCells (F.contents files.old) (map string_bytes names.now) system.now) }
+    ensures counted { OnTold result (IsCounted (F.faults files.old) (F.faults files.new) (F.failed files.new)) }
+    ensures asked { OnTold result (ReadsIn F.asks F.failed (map string_bytes names.now) files.old files.new) }
 {
     let cells = cells(alloc, files, names)?;
     Ok(tell_findings(alloc, system, cells.as_slice())?)
@@ -135,10 +130,9 @@ pub fn check<F: Files>(
     names: &[String],
 ) -> Result<Told, Stop>
     requires { length names.now ≤ 15 }
-    ensures ok { IfOk result (λ told. Checks (F.contents files.old) system_name.now (map string_bytes names.now) (said_of told)) }
-    ensures err { IfErr result (λ stop. OnEnded stop (Checks (F.contents files.old) system_name.now (map string_bytes names.now))) }
-    ensures counted_ok { IfOk result (λ told. IsCounted (F.faults files.old) (F.faults files.new) (F.failed files.new) (said_of told)) }
-    ensures counted { IfErr result (λ stop. OnEnded stop (IsCounted (F.faults files.old) (F.faults files.new) (F.failed files.new))) }
+    ensures ends { OnTold result (Checks (F.contents files.old) system_name.now (map string_bytes names.now)) }
+    ensures counted { OnTold result (IsCounted (F.faults files.old) (F.faults files.new) (F.failed files.new)) }
+    ensures asked { OnTold result (ReadsIn F.asks F.failed (system_name.now ∷ map string_bytes names.now) files.old files.new) }
 {
     let system = system(alloc, files, system_name)?;
     check_cells(alloc, files, &system, names)

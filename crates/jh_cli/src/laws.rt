@@ -1,23 +1,43 @@
-//! What holds of all files, whoever reads them. The function does nothing; its contract is the law.
-ghost use Rattle.std.specs.Prelude.{Option};
+//! What holds of all files, whoever reads them. Each function does nothing; its contract is the law.
+ghost use Rattle.std.specs.Prelude.{◌≡◌, ◌≢◌, ◌⊎◌, Option};
 ghost use Rattle.jh_cli.specs.Words.{Asked};
 ghost use Rattle.jh_cli.specs.Reading.{Said, Contents};
 ghost use Rattle.jh_cli.specs.Outcome.{Outcome};
-ghost use Rattle.jh_cli.specs.Complete.{AreGood, IsUnrefused};
+ghost use Rattle.jh_cli.specs.Complete.{AreFilesTold, AreGood, IsAnswer};
 
-use jh_cellcfg::spelling_has_no_fault;
-use jh_image::{boards_make_one_image, boards_that_make_an_image_are_not_refused};
-use jh_syscfg::system_has_no_fault;
-use jh_text::one_answer;
+use crate::status::Status;
+use jh_cellcfg::{one_spelling, spelling_has_no_fault};
+use jh_image::{
+    boards_have_one_cause, boards_make_one_image, boards_that_make_an_image_are_not_refused,
+};
+use jh_syscfg::{one_system_spelling, system_has_no_fault};
+use jh_text::{one_answer, texts_go_both_ways};
 
-/// Good words and files are not refused: the outcome is the command's answer, 0 or 1, or that a file could not be
+/// Good words and files are answered: the status is that of the command's answer, or tells that a file could not be
 /// read.
-pub fn good_inputs_are_not_refused()
-    ensures { (contents : Contents) (asked : Option Asked) (said : Said) → AreGood contents asked → Outcome contents asked said → IsUnrefused said }
+pub fn good_inputs_are_answered()
+    ensures { (contents : Contents) (asked : Option Asked) (said : Said) (good : AreGood contents asked) → Outcome contents asked said → IsAnswer contents asked good said.status ⊎ (said.status ≡ Status.ReadFault) }
 {
     spelling_has_no_fault();
     system_has_no_fault();
     one_answer();
     boards_make_one_image();
     boards_that_make_an_image_are_not_refused();
+}
+
+/// Where the files tell what they hold, words have one outcome besides that a file could not be read: one status and
+/// one text.
+pub fn words_have_one_outcome()
+    ensures { (contents : Contents) (asked : Option Asked) (one other : Said) → AreFilesTold contents asked → Outcome contents asked one → Outcome contents asked other
+        → one.status ≢ Status.ReadFault → other.status ≢ Status.ReadFault → one ≡ other }
+{
+    spelling_has_no_fault();
+    system_has_no_fault();
+    one_spelling();
+    one_system_spelling();
+    one_answer();
+    texts_go_both_ways();
+    boards_make_one_image();
+    boards_that_make_an_image_are_not_refused();
+    boards_have_one_cause();
 }

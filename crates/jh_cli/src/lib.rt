@@ -20,7 +20,7 @@ mod told;
 mod top;
 
 pub use command::{Command, command_of};
-pub use laws::good_inputs_are_not_refused;
+pub use laws::{good_inputs_are_answered, words_have_one_outcome};
 pub use limits::{JOURNAL_LIMIT, MOST, MOST_OF_A_JOURNAL};
 pub use status::Status;
 pub use top::jailhouse;

@@ -1,13 +1,15 @@
 //! Writing the configuration that a SPEC describes.
-ghost use Rattle.std.specs.Prelude.{◌≡◌, ◌≤◌, ◌++◌, codes, IfOk, IfErr};
+ghost use Rattle.std.specs.Prelude.{◌≡◌, ◌≤◌, ◌++◌, codes, IfOk, IfErr, ◌∷◌, [], OnOk};
 ghost use Rattle.jh_spec.specs.Specs.{MayBeWritten};
-ghost use Rattle.jh_cli.specs.Lines.{refusal_line as refusal_line_lem};
+ghost use Rattle.jh_outside.specs.Trail.{AsksAll};
+ghost use Rattle.jh_cli.specs.Order.{StopsIn, ReadsIn};
 ghost use Rattle.jh_cli.specs.Reading.{Spells, Stops};
 ghost use Rattle.jh_cli.specs.Pack.{IsSpecFile, SpecRefusal, Packs, packed};
-ghost use Rattle.jh_cli.specs.Stopped.{said_of, OnEnded, IsCounted};
+ghost use Rattle.jh_cli.specs.Stopped.{said_of, OnEnded, OnTold, IsCounted};
 
+use crate::limits::MOST;
 use crate::status::Status;
-use crate::told::{Stop, Told, read_whole, refused};
+use crate::told::{Stop, Told, read_below, refused};
 use jh_cellcfg::write_cell;
 use jh_num::NoMemory;
 use jh_outside::Files;
@@ -15,16 +17,7 @@ use jh_spec::{Spec, SpecFault, read_spec};
 use jh_syscfg::write_system;
 use std::alloc::Global;
 
-/// The call ends since this member of the file has a fault.
-fn faulty_member(alloc: Global, name: &str, member: &[u8]) -> Stop
-    ensures { OnEnded result (λ said. said ≡ record { status = Status.Refused; text = refusal_line_lem name.now (codes "member " ++ member.now) }) }
-{
-    match member_words(alloc, member) {
-        Ok(words) => refused(alloc, name.as_bytes(), words.as_slice()),
-        Err(NoMemory) => Stop::NoMemory,
-    }
-}
-
+/// What is said of a member that has a fault.
 fn member_words(alloc: Global, member: &[u8]) -> Result<Vec<u8>, NoMemory>
     ensures { IfOk result (λ words. words.items ≡ codes "member " ++ member.now) }
 {
@@ -41,12 +34,17 @@ fn spec<F: Files>(alloc: Global, files: &mut F, name: &str) -> Result<Spec, Stop
     ensures err { IfErr result (λ stop. OnEnded stop (Stops (F.contents files.old) name.now SpecRefusal)) }
     ensures counted { IfErr result (λ stop. OnEnded stop (IsCounted (F.faults files.old) (F.faults files.new) (F.failed files.new))) }
     ensures never_falls { F.faults files.old ≤ F.faults files.new }
+    ensures asked { OnOk result (AsksAll F.asks F.failed (name.now ∷ []) files.old files.new) }
+    ensures asked_until { IfErr result (λ stop. OnEnded stop (StopsIn F.asks F.failed (name.now ∷ []) files.old files.new)) }
 {
-    let bytes = read_whole(alloc, files, name)?;
+    let bytes = read_below(alloc, files, name, MOST)?;
     match read_spec(alloc, bytes.as_slice()) {
         Ok(spec) => Ok(spec),
         Err(SpecFault::Json) => Err(refused(alloc, name.as_bytes(), b"json")),
-        Err(SpecFault::Member(member)) => Err(faulty_member(alloc, name, member.as_slice())),
+        Err(SpecFault::Member(member)) => {
+            let words = member_words(alloc, member.as_slice())?;
+            Err(refused(alloc, name.as_bytes(), words.as_slice()))
+        }
         Err(SpecFault::NoMemory) => Err(Stop::NoMemory),
     }
 }
@@ -64,10 +62,9 @@ fn written(alloc: Global, spec: &Spec) -> Result<Vec<u8>, NoMemory>
 
 /// Reads the SPEC, and tells its configuration's bytes.
 pub fn pack<F: Files>(alloc: Global, files: &mut F, name: &str) -> Result<Told, Stop>
-    ensures ok { IfOk result (λ told. Packs (F.contents files.old) name.now (said_of told)) }
-    ensures err { IfErr result (λ stop. OnEnded stop (Packs (F.contents files.old) name.now)) }
-    ensures counted_ok { IfOk result (λ told. IsCounted (F.faults files.old) (F.faults files.new) (F.failed files.new) (said_of told)) }
-    ensures counted { IfErr result (λ stop. OnEnded stop (IsCounted (F.faults files.old) (F.faults files.new) (F.failed files.new))) }
+    ensures ends { OnTold result (Packs (F.contents files.old) name.now) }
+    ensures counted { OnTold result (IsCounted (F.faults files.old) (F.faults files.new) (F.failed files.new)) }
+    ensures asked { OnTold result (ReadsIn F.asks F.failed (name.now ∷ []) files.old files.new) }
 {
     let spec = spec(alloc, files, name)?;
     Ok(Told {

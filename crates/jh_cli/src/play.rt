@@ -1,10 +1,11 @@
 //! Playing a board by a schedule.
-ghost use Rattle.std.specs.Prelude.{◌≡◌, All, IsTrue, IfOk, IfErr};
+ghost use Rattle.std.specs.Prelude.{◌≡◌, All, IsTrue, IfOk, ◌∷◌, []};
 ghost use Rattle.jh_history.specs.Admitted.{IsAdmitted, IsBuilt};
 ghost use Rattle.jh_history.specs.Lives.{is_on_board};
 ghost use Rattle.jh_run.specs.Ends.{is_full};
+ghost use Rattle.jh_cli.specs.Order.{ReadsIn, ReadsBoard};
 ghost use Rattle.jh_cli.specs.Play.{IsPlayed, played_status, PlaysBy, Plays};
-ghost use Rattle.jh_cli.specs.Stopped.{said_of, OnEnded, IsCounted};
+ghost use Rattle.jh_cli.specs.Stopped.{said_of, OnTold, IsCounted};
 
 use crate::boards::open;
 use crate::limits::JOURNAL_LIMIT;
@@ -47,10 +48,9 @@ fn render(alloc: Global, image: Image, cpus: &[u8]) -> Result<Told, NoMemory>
 fn play_by<F: Files>(alloc: Global, files: &mut F, image: Image, items: &str) -> Result<Told, Stop>
     requires admitted { IsAdmitted image }
     requires built { IsBuilt image }
-    ensures ok { IfOk result (λ told. PlaysBy (F.contents files.old) items.now image (said_of told)) }
-    ensures err { IfErr result (λ stop. OnEnded stop (PlaysBy (F.contents files.old) items.now image)) }
-    ensures counted_ok { IfOk result (λ told. IsCounted (F.faults files.old) (F.faults files.new) (F.failed files.new) (said_of told)) }
-    ensures counted { IfErr result (λ stop. OnEnded stop (IsCounted (F.faults files.old) (F.faults files.new) (F.failed files.new))) }
+    ensures ends { OnTold result (PlaysBy (F.contents files.old) items.now image) }
+    ensures counted { OnTold result (IsCounted (F.faults files.old) (F.faults files.new) (F.failed files.new)) }
+    ensures asked { OnTold result (ReadsIn F.asks F.failed (items.now ∷ []) files.old files.new) }
 {
     let cpus = schedule(alloc, files, items, &image)?;
     Ok(render(alloc, image, cpus.as_slice())?)
@@ -58,10 +58,9 @@ fn play_by<F: Files>(alloc: Global, files: &mut F, image: Image, items: &str) ->
 
 /// Reads the board, and plays it by the schedule.
 pub fn play<F: Files>(alloc: Global, files: &mut F, board: &str, items: &str) -> Result<Told, Stop>
-    ensures ok { IfOk result (λ told. Plays (F.contents files.old) board.now items.now (said_of told)) }
-    ensures err { IfErr result (λ stop. OnEnded stop (Plays (F.contents files.old) board.now items.now)) }
-    ensures counted_ok { IfOk result (λ told. IsCounted (F.faults files.old) (F.faults files.new) (F.failed files.new) (said_of told)) }
-    ensures counted { IfErr result (λ stop. OnEnded stop (IsCounted (F.faults files.old) (F.faults files.new) (F.failed files.new))) }
+    ensures ends { OnTold result (Plays (F.contents files.old) board.now items.now) }
+    ensures counted { OnTold result (IsCounted (F.faults files.old) (F.faults files.new) (F.failed files.new)) }
+    ensures asked { OnTold result (ReadsBoard F.asks F.failed (F.contents files.old) board.now (items.now ∷ []) files.old files.new) }
 {
     let image = open(alloc, files, board)?;
     play_by(alloc, files, image, items)

@@ -1,14 +1,14 @@
 //! The schedule of a board's CPUs.
-ghost use Rattle.std.specs.Prelude.{◌≡◌, ◌≤◌, ◌<◌, ℕ, All, IsTrue, IfOk, IfErr};
-ghost use Rattle.jh_script.specs.FaultText.{schedule_fault_text};
+ghost use Rattle.std.specs.Prelude.{◌≡◌, ◌≤◌, ◌<◌, ℕ, All, IsTrue, IfOk, IfErr, ◌∷◌, [], OnOk};
 ghost use Rattle.jh_history.specs.Lives.{is_on_board as is_on_board_lem};
-ghost use Rattle.jh_cli.specs.Lines.{refusal_line as refusal_line_lem};
+ghost use Rattle.jh_outside.specs.Trail.{AsksAll};
+ghost use Rattle.jh_cli.specs.Order.{StopsIn};
 ghost use Rattle.jh_cli.specs.Reading.{Spells, Stops};
 ghost use Rattle.jh_cli.specs.Play.{AreCpus, IsSchedule, ScheduleRefusal};
 ghost use Rattle.jh_cli.specs.Stopped.{OnEnded, IsCounted};
 
-use crate::status::Status;
-use crate::told::{Stop, read_whole, refused};
+use crate::limits::MOST;
+use crate::told::{Stop, read_below, refused_for};
 use jh_history::is_on_board;
 use jh_num::Seq;
 use jh_outside::Files;
@@ -28,17 +28,6 @@ fn cpus_of(image: &Image) -> u16
     cpus
 }
 
-/// The call ends since the schedule in the file of this name has this fault.
-fn faulty(alloc: Global, name: &str, fault: &ScheduleFault) -> Stop
-    ensures { OnEnded result (λ said. said ≡ record { status = Status.Refused; text = refusal_line_lem name.now (schedule_fault_text fault.now) }) }
-{
-    let mut words = String::new(alloc);
-    match write!(words, "{fault}") {
-        Ok(()) => refused(alloc, name.as_bytes(), words.as_bytes()),
-        Err(_) => Stop::NoMemory,
-    }
-}
-
 /// The items of the schedule in the file of this name, for the image's board.
 pub fn schedule<F: Files>(
     alloc: Global,
@@ -52,11 +41,13 @@ pub fn schedule<F: Files>(
     ensures counted { IfErr result (λ stop. OnEnded stop (IsCounted (F.faults files.old) (F.faults files.new) (F.failed files.new))) }
     ensures never_falls { F.faults files.old ≤ F.faults files.new }
     ensures kept { F.contents files.new ≡ F.contents files.old }
+    ensures asked { OnOk result (AsksAll F.asks F.failed (name.now ∷ []) files.old files.new) }
+    ensures asked_until { IfErr result (λ stop. OnEnded stop (StopsIn F.asks F.failed (name.now ∷ []) files.old files.new)) }
 {
-    let bytes = read_whole(alloc, files, name)?;
+    let bytes = read_below(alloc, files, name, MOST)?;
     match read_schedule(alloc, bytes.as_slice(), cpus_of(image)) {
         Ok(items) => Ok(items),
         Err(ScheduleFault::NoMemory) => Err(Stop::NoMemory),
-        Err(fault) => Err(faulty(alloc, name, &fault)),
+        Err(fault) => Err(refused_for(alloc, name, &fault)),
     }
 }

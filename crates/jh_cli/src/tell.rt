@@ -1,9 +1,10 @@
 //! What the words ask for, worked out before anything is written.
-ghost use Rattle.std.specs.Prelude.{◌≡◌, IfOk, IfErr, map, string_bytes, Some};
+ghost use Rattle.std.specs.Prelude.{◌≡◌, IfOk, map, string_bytes, Some};
+ghost use Rattle.jh_cli.specs.Order.{ReadsFor, IsReadFor};
 ghost use Rattle.jh_cli.specs.Words.{command_of as command_of_lem, asked_by, HasFewCells};
 ghost use Rattle.jh_cli.specs.Lines.{usage_line as usage_line_lem};
 ghost use Rattle.jh_cli.specs.Outcome.{Outcome};
-ghost use Rattle.jh_cli.specs.Stopped.{said_of, OnEnded, IsCounted};
+ghost use Rattle.jh_cli.specs.Stopped.{said_of, OnTold, IsCounted};
 
 use crate::audit::audit;
 use crate::check::check;
@@ -20,10 +21,9 @@ use std::alloc::Global;
 /// Does what the command asks for.
 fn obey<F: Files>(alloc: Global, command: Command<'_>, files: &mut F) -> Result<Told, Stop>
     requires { HasFewCells command }
-    ensures ok { IfOk result (λ told. Outcome (F.contents files.old) (Some (asked_by command.entry)) (said_of told)) }
-    ensures err { IfErr result (λ stop. OnEnded stop (Outcome (F.contents files.old) (Some (asked_by command.entry)))) }
-    ensures counted_ok { IfOk result (λ told. IsCounted (F.faults files.old) (F.faults files.new) (F.failed files.new) (said_of told)) }
-    ensures counted { IfErr result (λ stop. OnEnded stop (IsCounted (F.faults files.old) (F.faults files.new) (F.failed files.new))) }
+    ensures ends { OnTold result (Outcome (F.contents files.old) (Some (asked_by command.entry))) }
+    ensures counted { OnTold result (IsCounted (F.faults files.old) (F.faults files.new) (F.failed files.new)) }
+    ensures asked { OnTold result (ReadsFor F.asks F.failed (F.contents files.old) (asked_by command.entry) files.old files.new) }
 {
     match command {
         Command::Check { system, cells } => check(alloc, files, system, cells),
@@ -37,6 +37,7 @@ fn obey<F: Files>(alloc: Global, command: Command<'_>, files: &mut F) -> Result<
 pub fn tell<F: Files>(alloc: Global, words: &[String], files: &mut F) -> Result<Told, NoMemory>
     ensures outcome { IfOk result (λ told. Outcome (F.contents files.old) (command_of_lem (map string_bytes words.now)) (said_of told)) }
     ensures counted { IfOk result (λ told. IsCounted (F.faults files.old) (F.faults files.new) (F.failed files.new) (said_of told)) }
+    ensures asked { IfOk result (λ told. IsReadFor F.asks F.failed (F.contents files.old) (command_of_lem (map string_bytes words.now)) files.old files.new (said_of told)) }
 {
     let Some(command) = command_of(words) else {
         return Ok(Told {

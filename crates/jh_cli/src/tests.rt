@@ -376,6 +376,15 @@ fn each_read_that_fails_is_named(rt: HostRuntime) -> Result<(), Fail> {
 }
 
 #[test]
+fn a_read_that_is_not_made_cannot_fail(rt: HostRuntime) -> Result<(), Fail> {
+    let mut files = files(rt.alloc(), PROGRAM)?;
+    files.fail(4)?;
+    ends(&rt, rt.alloc(), &mut files, &PLAY, Status::Good, JOURNAL)?;
+    assert_eq!(rt; files.faults(), 0);
+    Ok(())
+}
+
+#[test]
 fn a_missing_program_is_named(rt: HostRuntime) -> Result<(), Fail> {
     let mut files = MemFiles::new(rt.alloc());
     files.add("b.json", BOARD.as_bytes())?;

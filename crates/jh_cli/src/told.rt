@@ -1,16 +1,18 @@
 //! How a call ends, and where it ends at a file.
-ghost use Rattle.std.specs.Prelude.{◌≡◌, ◌≤◌, ◌<◌, ◌⊎◌, length, codes, OnOk, IfOk, IfErr};
+ghost use Rattle.std.specs.Prelude.{◌≡◌, ◌≤◌, ◌<◌, ◌⊎◌, length, OnOk, IfOk, IfErr, IfSome, ◌∷◌, []};
 ghost use Rattle.jh_outside.specs.Reads.{HandsOut};
+ghost use Rattle.jh_outside.specs.Trail.{AsksAll};
+ghost use Rattle.jh_cli.specs.Order.{StopsIn};
 ghost use Rattle.jh_cli.specs.Lines.{fault_line as fault_line_lem, refusal_line as refusal_line_lem};
-ghost use Rattle.jh_cli.specs.Reading.{Said, Stops, StopsAt, IsOversize, IsOversizeAt};
-ghost use Rattle.jh_cli.specs.Stopped.{said_of, OnEnded, IsCounted};
+ghost use Rattle.jh_cli.specs.Reading.{StopsAt, IsOversizeAt};
+ghost use Rattle.jh_cli.specs.Stopped.{OnEnded, IsCounted};
 
-use crate::limits::MOST;
 use crate::lines::{fault_line, refusal_line};
 use crate::status::Status;
 use jh_num::{NoMemory, Seq};
 use jh_outside::{FileFault, Files};
 use std::alloc::Global;
+use std::fmt::Display;
 
 /// How a call ends: its status, and the text that is written before it.
 #[derive(Drop)]
@@ -63,23 +65,13 @@ pub fn refused(alloc: Global, name: &[u8], words: &[u8]) -> Stop
     }
 }
 
-/// What the file of this name hands out, where so many bytes are asked.
-fn read_file<F: Files>(
-    alloc: Global,
-    files: &mut F,
-    name: &str,
-    most: usize,
-) -> Result<Seq<u8>, Stop>
-    ensures ok { IfOk result (λ bytes. HandsOut (F.contents files.old name.now) most bytes) }
-    ensures err { IfErr result (λ stop. OnEnded stop (λ said. said ≡ record { status = Status.ReadFault; text = fault_line_lem name.now })) }
-    ensures counted { IfErr result (λ stop. OnEnded stop (IsCounted (F.faults files.old) (F.faults files.new) (F.failed files.new))) }
-    ensures never_falls { F.faults files.old ≤ F.faults files.new }
-    ensures kept { F.contents files.new ≡ F.contents files.old }
+/// The call ends since the file of this name is refused for what the fault displays.
+pub fn refused_for<E: Display>(alloc: Global, name: &str, fault: &E) -> Stop
+    ensures { IfSome (E.output fault.now) (λ words. OnEnded result (λ said. said ≡ record { status = Status.Refused; text = refusal_line_lem name.now words })) }
 {
-    match files.read(name, most) {
-        Ok(bytes) => Ok(bytes),
-        Err(FileFault::Fault) => Err(faulted(alloc, name.as_bytes())),
-        Err(FileFault::NoMemory) => Err(Stop::NoMemory),
+    match fault.to_string(alloc) {
+        Ok(words) => refused(alloc, name.as_bytes(), words.as_bytes()),
+        Err(_) => Stop::NoMemory,
     }
 }
 
@@ -96,22 +88,16 @@ pub fn read_below<F: Files>(
     ensures counted { IfErr result (λ stop. OnEnded stop (IsCounted (F.faults files.old) (F.faults files.new) (F.failed files.new))) }
     ensures never_falls { F.faults files.old ≤ F.faults files.new }
     ensures kept { F.contents files.new ≡ F.contents files.old }
+    ensures asked { OnOk result (AsksAll F.asks F.failed (name.now ∷ []) files.old files.new) }
+    ensures asked_until { IfErr result (λ stop. OnEnded stop (StopsIn F.asks F.failed (name.now ∷ []) files.old files.new)) }
 {
-    let bytes = read_file(alloc, files, name, most)?;
+    let bytes = match files.read(name, most) {
+        Ok(bytes) => bytes,
+        Err(FileFault::Fault) => return Err(faulted(alloc, name.as_bytes())),
+        Err(FileFault::NoMemory) => return Err(Stop::NoMemory),
+    };
     if bytes.len() >= most {
         return Err(refused(alloc, name.as_bytes(), b"oversize"));
     }
     Ok(bytes)
-}
-
-/// What the file of this name hands out, which is at most 1 MiB.
-pub fn read_whole<F: Files>(alloc: Global, files: &mut F, name: &str) -> Result<Seq<u8>, Stop>
-    ensures ok { IfOk result (λ bytes. HandsOut (F.contents files.old name.now) MOST bytes) }
-    ensures within { IfOk result (λ bytes. length bytes < MOST) }
-    ensures err { IfErr result (λ stop. OnEnded stop (Stops (F.contents files.old) name.now IsOversize)) }
-    ensures counted { IfErr result (λ stop. OnEnded stop (IsCounted (F.faults files.old) (F.faults files.new) (F.failed files.new))) }
-    ensures never_falls { F.faults files.old ≤ F.faults files.new }
-    ensures kept { F.contents files.new ≡ F.contents files.old }
-{
-    read_below(alloc, files, name, MOST)
 }

@@ -1,13 +1,9 @@
 //! The top call.
-ghost use Rattle.std.specs.Prelude.{◌≡◌, ◌⊎◌, map, string_bytes};
-ghost use Rattle.jh_outside.specs.Count.{Rose};
-ghost use Rattle.jh_outside.specs.Writes.{Appended};
+ghost use Rattle.std.specs.Prelude.{map, string_bytes};
 ghost use Rattle.jh_cli.specs.Words.{command_of};
-ghost use Rattle.jh_cli.specs.Lines.{fault_line};
-ghost use Rattle.jh_cli.specs.Outcome.{Ends};
-ghost use Rattle.jh_cli.specs.Complete.{AreGood, IsDone};
+ghost use Rattle.jh_cli.specs.Call.{IsCall};
 
-use crate::laws::good_inputs_are_not_refused;
+use crate::laws::good_inputs_are_answered;
 use crate::send::send;
 use crate::status::Status;
 use crate::tell::tell;
@@ -23,15 +19,10 @@ pub fn jailhouse<F: Files, K: Sink>(
     files: &mut F,
     out: &mut K,
 ) -> Status
-    // the status, and what was appended, are those that the words ask for
-    ensures ends { Ends (F.contents files.old) (command_of (map string_bytes words.now)) (K.written out.old) (K.written out.new) result }
-    // a fault of reading or writing comes only where the count rose in this call
-    ensures read_fault { result ≡ Status.ReadFault → Rose (F.faults files.old) (F.faults files.new) × Appended (K.written out.old) (K.written out.new) (fault_line (F.failed files.new)) }
-    ensures write_fault { result ≡ Status.WriteFault → Rose (K.faults out.old) (K.faults out.new) }
-    // good words and files give the command's answer, 0 or 1, or want of memory, unless a count rose in this call
-    ensures complete { AreGood (F.contents files.old) (command_of (map string_bytes words.now)) → IsDone result ⊎ Rose (F.faults files.old) (F.faults files.new) ⊎ Rose (K.faults out.old) (K.faults out.new) }
+    // the status and the text are those that the words ask for, and each failure comes only where its count rose
+    ensures { IsCall F.contents F.failed F.faults F.asks K.written K.faults (command_of (map string_bytes words.now)) files.old files.new out.old out.new result }
 {
-    good_inputs_are_not_refused();
+    good_inputs_are_answered();
     match tell(alloc, words, files) {
         Ok(told) => send(out, &told),
         Err(NoMemory) => Status::NoMemory,

@@ -1,6 +1,9 @@
 -- The journal's text has a fault, and the call ends there.
 use Rattle.std.proofs.Common.{ℕ, List, Err, refl, subst}
 use Rattle.jh_text.specs.declared.fault.JournalFault.TheVariants.{NoMemory}
+use Rattle.jh_text.specs.FaultText.{fault_text}
+use Rattle.jh_cli.specs.Lines.{refusal_line}
+use Rattle.jh_cli.proofs.OrderLemmas.{refuses_one}
 use Rattle.jh_cli.proofs.JournalLemmas.{IsTold, is_fault, ends_there, no_fault_there}
 use Rattle.jh_cli.proofs.audit.journal.Goals as goal
 
@@ -17,4 +20,6 @@ returns g c =
       counted = no_fault_there (g.F.Files.faults c.args.files.now) (g.F.Files.faults c.read_below.new.files) (g.F.Files.failed c.read_below.new.files) c.args.name.now fault c.unread.result c.unread.ensures.told;
       never_falls = c.read_below.ensures.never_falls;
       kept = c.read_below.ensures.kept;
+      asked = tt;
+      asked_until = refuses_one g.F.Files.asks g.F.Files.failed c.args.name.now (refusal_line c.args.name.now (fault_text fault)) c.args.files.now c.read_below.new.files c.unread.result c.in_ok-bytes.ensures.asked c.unread.ensures.told;
     }

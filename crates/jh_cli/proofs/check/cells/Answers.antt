@@ -1,7 +1,10 @@
 -- Each file gives a cell, or stops the call.
-use Rattle.std.proofs.Common.{◌+◌, [], ◌∷◌, length, ◌∙◌, ap, arith}
+use Rattle.std.proofs.Common.{◌+◌, [], ◌∷◌, length, ◌∙◌, ap, refl, arith}
 use Rattle.std.specs.Prelude.{string_bytes}
 use Rattle.std.proofs.lemmas.List.{length-append}
+use Rattle.jh_outside.specs.TrailLaws.{loop-more}
+use Rattle.jh_outside.specs.Trail.{no_ask}
+use Rattle.jh_cli.proofs.OrderLemmas.{next_stops}
 use Rattle.jh_cli.proofs.CellLemmas.{spell_next, stops_next}
 use Rattle.jh_cli.proofs.check.cells.Goals as goal
 
@@ -9,6 +12,11 @@ pub returns-in-Err-clause-err : goal.returns-in-Err-clause-err
 returns-in-Err-clause-err g c =
     let stops = rw (c.loop-name.invariant.kept, c.as_str.ensures.value, c.name-item.is) at c.in-Err.ensures.err in
     stops_next string_bytes (g.F.Files.contents c.args.files.now) c.args.names.now c.loop-name.name-index _ c.loop-name.cells c.loop-name-test.true c.loop-name.invariant.spelled c.in-Err.stop stops
+
+pub returns-in-Err-clause-asked_until : goal.returns-in-Err-clause-asked_until
+returns-in-Err-clause-asked_until g c =
+    next_stops g.F.Files.asks g.F.Files.failed string_bytes c.args.names.now c.loop-name.name-index c.name-item.result c.args.files.now c.loop-name.files c.cell.new.files c.loop-name-test.true c.name-item.is c.loop-name.invariant.asked
+    c.in-Err.stop (rw c.as_str.ensures.value at c.in-Err.ensures.asked_until)
 
 pub loop-name-preserved : goal.loop-name-preserved
 loop-name-preserved g c =
@@ -20,5 +28,15 @@ loop-name-preserved g c =
       spelled = rw c.in_ok-push-in-Ok.ensures.ok (spell_next string_bytes contents c.args.names.now c.loop-name.name-index _ c.loop-name.cells c.in-Ok.cell c.loop-name-test.true c.loop-name.invariant.spelled one);
       few = ap length c.in_ok-push-in-Ok.ensures.ok ∙ length-append c.loop-name.cells (c.in-Ok.cell ∷ []) ∙ ap (λ n. n + 1) c.loop-name.invariant.few;
       kept = c.cell.ensures.kept ∙ c.loop-name.invariant.kept;
+      asked = loop-more string_bytes g.F.Files.asks g.F.Files.failed c.args.files.now c.loop-name.files c.cell.new.files c.args.names.now c.loop-name.name-index c.name-item.result c.loop-name-test.true c.name-item.is c.loop-name.invariant.asked (rw c.as_str.ensures.value at c.in-Ok.ensures.asked);
       counted = omega arith;
     }
+
+pub loop-name-init : goal.loop-name-init
+loop-name-init g c = record {
+  spelled = rw c.new-cells.ensures tt;
+  few = rw c.new-cells.ensures refl;
+  kept = refl;
+  asked = no_ask c.args.files.now;
+  counted = omega arith;
+}

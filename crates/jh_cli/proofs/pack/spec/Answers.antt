@@ -3,8 +3,9 @@ use Rattle.std.proofs.Common.{List, ℕ, Err, refl, subst, inl, inr}
 use Rattle.std.specs.Prelude.{codes}
 use Rattle.jh_spec.specs.Specs.{Tells}
 use Rattle.jh_spec.specs.declared.spec.SpecFault.TheVariants.{Json}
-use Rattle.jh_cli.specs.declared.limits.TheConstants.{MOST}
+use Rattle.jh_cli.specs.Limits.{most_of_a_file}
 use Rattle.jh_cli.specs.Pack.{SpecRefusal}
+use Rattle.jh_cli.proofs.OrderLemmas.{refuses_one}
 use Rattle.jh_cli.proofs.StopLemmas.{refuses}
 use Rattle.jh_cli.proofs.pack.spec.Goals as goal
 
@@ -12,5 +13,13 @@ pub returns-in-Err-Json-clause-err : goal.returns-in-Err-Json-clause-err
 returns-in-Err-Json-clause-err g c =
     let bytes = c.in_ok-bytes.bytes in
     let told : Tells bytes (Err Json) = subst (λ (b : List ℕ). Tells b (Err Json)) c.as_slice.ensures.value (rw (c.in-Err-Json.is, c.in-Err-Json.field-0-is) at c.read_spec.ensures.told) in
-    refuses MOST (g.F.Files.contents c.args.files.now) c.args.name.now SpecRefusal bytes (codes "json") c.in_ok-bytes.ensures.ok
+    refuses most_of_a_file (g.F.Files.contents c.args.files.now) c.args.name.now SpecRefusal bytes (codes "json") c.in_ok-bytes.ensures.ok
     (inr (inl (c.in_ok-bytes.ensures.within, told, refl))) c.refused.result (rw c.as_bytes.ensures.value at c.refused.ensures)
+
+pub returns-in-Err-Json-clause-asked_until : goal.returns-in-Err-Json-clause-asked_until
+returns-in-Err-Json-clause-asked_until g c =
+    refuses_one g.F.Files.asks g.F.Files.failed c.args.name.now _ c.args.files.now c.read_below.new.files c.refused.result c.in_ok-bytes.ensures.asked c.refused.ensures
+
+pub returns-in-Err-Member-clause-asked_until : goal.returns-in-Err-Member-clause-asked_until
+returns-in-Err-Member-clause-asked_until g c =
+    refuses_one g.F.Files.asks g.F.Files.failed c.args.name.now _ c.args.files.now c.read_below.new.files c.refused-in-Err-Member.result c.in_ok-bytes.ensures.asked c.refused-in-Err-Member.ensures

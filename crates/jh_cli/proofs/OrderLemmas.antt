@@ -1,0 +1,149 @@
+-- The files that a call reads, one after another.
+use Rattle.std.proofs.Common.{◌≡◌, ◌≢◌, ℕ, ◌<◌, List, [], ◌∷◌, ◌++◌, length, get_or, Option, None, Some, Result, refl, sym, ap, subst, ◌∙◌, inl, inr}
+use Rattle.std.specs.Prelude.{map, take, ⊤}
+use Rattle.jh_outside.specs.Trail.{Ask, Handed, Asks, no_ask, one_more_ask, kept_name, handed, faulted, AsksAll, AsksUntil}
+use Rattle.jh_outside.specs.TrailLaws.{all-both, until-first, until-behind, until-more, names-split}
+use Rattle.jh_image.specs.declared.fault.ImageCause.{ImageCause}
+use Rattle.jh_image.specs.declared.fault.ImageCause.TheVariants.{ReadFault, Oversize, Json, Member, System, Findings, PoolSmall, Preload as BadPreload, Program as BadProgram, NotBuilt}
+use Rattle.jh_image.specs.declared.fault.ImageFault.{ImageFault}
+use Rattle.jh_image.specs.declared.fault.ImageFault.TheVariants.{Refused, NoMemory}
+use Rattle.jh_image.specs.Causes.{OnRefused}
+use Rattle.jh_image.specs.Order.{board_files, ask_for as ask_at, AsksBoard, AsksBoardUntil, until_the_board, until_a_file}
+use Rattle.jh_cli.specs.declared.told.Told.{Told}
+use Rattle.jh_cli.specs.declared.told.Stop.{Stop}
+use Rattle.jh_cli.specs.declared.told.Stop.TheVariants as stop
+use Rattle.jh_cli.specs.declared.status.Status.{Status}
+use Rattle.jh_cli.specs.declared.status.Status.TheVariants as status
+use Rattle.jh_cli.specs.Reading.{Contents, Said}
+use Rattle.jh_cli.specs.Boards.{stopped}
+use Rattle.jh_cli.specs.Stopped.{OnEnded, OnTold}
+use Rattle.jh_cli.specs.Words.{Asked, CheckOf, PackOf, PlayOf, AuditOf}
+use Rattle.jh_cli.specs.Order.{IsStop, ask_for, StopsIn, ReadsIn, ReadsBoard, the_board_alone, what_it_lists, IsReadFor}
+use Rattle.jh_cli.proofs.StopLemmas.{on_stop, on_told}
+use Rattle.jh_cli.proofs.BoardLemmas.{nothing}
+
+-- ---- a board
+
+-- the status of a refusal by its cause
+at_cause : (file : List ℕ) (cause : ImageCause) → ask_at cause ≡ ask_for (stopped file cause).status
+at_cause file ReadFault = refl
+at_cause file Oversize = refl
+at_cause file Json = refl
+at_cause file (Member name) = refl
+at_cause file (System fault) = refl
+at_cause file (Findings found) = refl
+at_cause file (PoolSmall need have) = refl
+at_cause file (BadPreload number) = refl
+at_cause file (BadProgram fault) = refl
+at_cause file NotBuilt = refl
+
+is_stop : (file : List ℕ) (cause : ImageCause) → IsStop (stopped file cause).status
+is_stop file ReadFault = tt
+is_stop file Oversize = tt
+is_stop file Json = tt
+is_stop file (Member name) = tt
+is_stop file (System fault) = tt
+is_stop file (Findings found) = tt
+is_stop file (PoolSmall need have) = tt
+is_stop file (BadPreload number) = tt
+is_stop file (BadProgram fault) = tt
+is_stop file NotBuilt = tt
+
+module _ {S : Type 0} (one : S → Ask → S → Type 0) (failed : S → List ℕ) where
+  -- where the call ends at a file, the read of that file is the last
+  pub stops_one : (name text : List ℕ) (s t : S) (stop : Stop) → Asks one failed s (faulted name ∷ []) t → OnEnded stop (λ said. said ≡ record { status = status.ReadFault; text = text }) → OnEnded stop (StopsIn one failed (name ∷ []) s t)
+  stops_one name text s t stop asked h =
+      on_stop (λ said. said ≡ record { status = status.ReadFault; text = text }) (StopsIn one failed (name ∷ []) s t) stop
+      (λ said is. subst (StopsIn one failed (name ∷ []) s t) (sym is) (tt, until-first one failed s t name [] (ask_for status.ReadFault) asked)) h
+
+  pub refuses_one : (name text : List ℕ) (s t : S) (stop : Stop) → AsksAll one failed (name ∷ []) s t → OnEnded stop (λ said. said ≡ record { status = status.Refused; text = text }) → OnEnded stop (StopsIn one failed (name ∷ []) s t)
+  refuses_one name text s t stop asked h =
+      on_stop (λ said. said ≡ record { status = status.Refused; text = text }) (StopsIn one failed (name ∷ []) s t) stop
+      (λ said is. subst (StopsIn one failed (name ∷ []) s t) (sym is) (tt, until-first one failed s t name [] (ask_for status.Refused) asked)) h
+
+  -- ---- a board
+
+  stops_at_cause : (contents : Contents) (board : List ℕ) (more : List (List ℕ)) (s t : S) (file : List ℕ) (cause : ImageCause) → AsksBoardUntil one failed contents board cause s t → ReadsBoard one failed contents board more s t (stopped file cause)
+  stops_at_cause contents board more s t file cause (until_the_board until) =
+      the_board_alone (is_stop file cause, subst (λ last. AsksUntil one failed (board ∷ []) last s t) (at_cause file cause) until)
+  stops_at_cause contents board more s t file cause (until_a_file listing lists until) =
+      let last = ask_for (stopped file cause).status in
+      what_it_lists listing lists (inr (is_stop file cause, until-more one failed s t (board_files board listing) more last (subst (λ asked. AsksUntil one failed (board_files board listing) asked s t) (at_cause file cause) until)))
+
+  -- the call ends at one of a board's files
+  pub stops_in_board : (contents : Contents) (board : List ℕ) (more : List (List ℕ)) (s t : S) (fault : ImageFault) → OnRefused (λ file cause. AsksBoardUntil one failed contents board cause s t) fault
+      → (r : Stop) → OnRefused (λ file cause. OnEnded r (λ said. said ≡ stopped file cause)) fault → (fault ≡ NoMemory → r ≡ stop.NoMemory) → OnEnded r (ReadsBoard one failed contents board more s t)
+  stops_in_board contents board more s t (Refused file cause) until r told memory =
+      on_stop (λ said. said ≡ stopped file cause) (ReadsBoard one failed contents board more s t) r
+      (λ said is. subst (ReadsBoard one failed contents board more s t) (sym is) (stops_at_cause contents board more s t file cause until)) told
+  stops_in_board contents board more s t NoMemory until r told memory = nothing (ReadsBoard one failed contents board more s t) r (memory refl)
+
+  -- ---- files, and others behind them
+
+  reads_behind : (before names : List (List ℕ)) (s t u : S) → AsksAll one failed before s t → (said : Said) → ReadsIn one failed names t u said → ReadsIn one failed (before ++ names) s u said
+  reads_behind before names s t u asked said (inl all) = inl (all-both one failed s t u before names asked all)
+  reads_behind before names s t u asked said (inr stops) = inr (stops.0, until-behind one failed s t u before names (ask_for said.status) asked stops.1)
+
+  pub file_behind : (name : List ℕ) (names : List (List ℕ)) (s t u : S) → AsksAll one failed (name ∷ []) s t
+      → (r : Result Told Stop) → OnTold r (ReadsIn one failed names t u) → OnTold r (ReadsIn one failed (name ∷ names) s u)
+  file_behind name names s t u asked r h = on_told (ReadsIn one failed names t u) (ReadsIn one failed (name ∷ names) s u) r (reads_behind (name ∷ []) names s t u asked) h
+
+  pub board_behind : (contents : Contents) (board : List ℕ) (names : List (List ℕ)) (s t u : S) → AsksBoard one failed contents board s t
+      → (r : Result Told Stop) → OnTold r (ReadsIn one failed names t u) → OnTold r (ReadsBoard one failed contents board names s u)
+  board_behind contents board names s t u opened r h =
+      on_told (ReadsIn one failed names t u) (ReadsBoard one failed contents board names s u) r
+      (λ said reads. what_it_lists opened.listing opened.lists (reads_behind (board_files board opened.listing) names s t u opened.all said reads)) h
+
+  -- the call ends at the first of these files
+  pub first_stops : (name : List ℕ) (names : List (List ℕ)) (s t : S) (r : Stop) → OnEnded r (StopsIn one failed (name ∷ []) s t) → OnEnded r (ReadsIn one failed (name ∷ names) s t)
+  first_stops name names s t r h =
+      on_stop (StopsIn one failed (name ∷ []) s t) (ReadsIn one failed (name ∷ names) s t) r (λ said stops. inr (stops.0, until-more one failed s t (name ∷ []) names (ask_for said.status) stops.1)) h
+
+  -- the next name's file stops the call; `f` gives a name's bytes
+  pub next_stops : {X : Type 0} (f : X → List ℕ) (names : List X) (i : ℕ) (x : X) (s t u : S) → i < length names → x ≡ get_or names i x → AsksAll one failed (map f (take i names)) s t
+      → (r : Stop) → OnEnded r (StopsIn one failed (f x ∷ []) t u) → OnEnded r (StopsIn one failed (map f names) s u)
+  next_stops f names i x s t u lt is before r h =
+      let split = names-split f names i x lt is in
+      on_stop (StopsIn one failed (f x ∷ []) t u) (StopsIn one failed (map f names) s u) r
+      (λ said stops. (stops.0, subst (λ ns. AsksUntil one failed ns (ask_for said.status) s u) (sym split.1)
+          (until-behind one failed s t u (map f (take i names)) (f x ∷ split.0) (ask_for said.status) before (until-more one failed t u (f x ∷ []) split.0 (ask_for said.status) stops.1)))) h
+
+-- ---- reads that all handed out bytes
+
+abbrev AreHanded : List Ask → Type 0
+AreHanded [] = ⊤
+AreHanded (ask ∷ asks) = (ask.answer ≡ Handed) × AreHanded asks
+
+are_handed : (names : List (List ℕ)) → AreHanded (map handed names)
+are_handed [] = tt
+are_handed (name ∷ names) = (refl, are_handed names)
+
+are_handed_up_to : (names : List (List ℕ)) (last : Ask) → last.answer ≡ Handed → AreHanded (map handed names ++ last ∷ [])
+are_handed_up_to [] last is = (is, tt)
+are_handed_up_to (name ∷ names) last is = (refl, are_handed_up_to names last is)
+
+is_handed : (s : Status) (name : List ℕ) → s ≢ status.ReadFault → (ask_for s name).answer ≡ Handed
+is_handed status.ReadFault name other = absurd (other refl)
+is_handed _ name other = refl
+
+module _ {S : Type 0} (one : S → Ask → S → Type 0) (failed : S → List ℕ) where
+  keep : (s t : S) (asks : List Ask) → Asks one failed s asks t → AreHanded asks → failed t ≡ failed s
+  keep s t asks (no_ask u) are = refl
+  keep s t asks (one_more_ask u v w ask more is named rest) are = keep v w more rest are.1 ∙ named ∙ ap (kept_name (failed u) ask.name) are.0
+
+  all_keep : (names : List (List ℕ)) (s t : S) (said : Said) → said.status ≢ status.ReadFault → ReadsIn one failed names s t said → failed t ≡ failed s
+  all_keep names s t said read (inl all) = keep s t (map handed names) all (are_handed names)
+  all_keep names s t said read (inr (stop, until)) =
+      keep s t (map handed until.before ++ ask_for said.status until.name ∷ []) until.asked (are_handed_up_to until.before (ask_for said.status until.name) (is_handed said.status until.name read))
+
+  board_keeps : (contents : Contents) (board : List ℕ) (more : List (List ℕ)) (s t : S) (said : Said) → said.status ≢ status.ReadFault → ReadsBoard one failed contents board more s t said → failed t ≡ failed s
+  board_keeps contents board more s t said read (the_board_alone stops) = all_keep (board ∷ []) s t said read (inr stops)
+  board_keeps contents board more s t said read (what_it_lists listing lists reads) = all_keep (board_files board listing ++ more) s t said read reads
+
+  -- where it isn't told that a file can't be read, the name of the read that failed is what it was
+  pub call_keeps : (contents : Contents) (asked : Option Asked) (s t : S) (said : Said) → IsReadFor one failed contents asked s t said → said.status ≢ status.ReadFault → failed t ≡ failed s
+  call_keeps contents None s t said reads read = keep s t [] reads tt
+  call_keeps contents (Some (CheckOf system cells)) s t said reads read = all_keep (system ∷ cells) s t said read reads
+  call_keeps contents (Some (PackOf spec)) s t said reads read = all_keep (spec ∷ []) s t said read reads
+  call_keeps contents (Some (PlayOf board schedule)) s t said reads read = board_keeps contents board (schedule ∷ []) s t said read reads
+  call_keeps contents (Some (AuditOf board journal)) s t said reads read = board_keeps contents board (journal ∷ []) s t said read reads

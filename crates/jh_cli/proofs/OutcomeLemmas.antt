@@ -1,0 +1,73 @@
+-- Words have one outcome.
+use Rattle.std.proofs.Common.{◌≡◌, ◌≢◌, ℕ, List, Option, None, Some, inl, inr, sym, ◌∙◌, ap, subst}
+use Rattle.jh_spec.specs.declared.spec.Spec.{Spec}
+use Rattle.jh_script.specs.declared.image.Image.{Image}
+use Rattle.jh_image.specs.declared.fault.ImageCause.{ImageCause}
+use Rattle.jh_image.specs.declared.fault.ImageCause.TheVariants.{ReadFault as CantBeRead}
+use Rattle.jh_image.specs.Causes.{Stops}
+use Rattle.jh_image.specs.Laws.{AreTold as AreAllTold}
+use Rattle.jh_cli.specs.declared.status.Status.TheVariants.{Good, ReadFault}
+use Rattle.jh_cli.specs.Limits.{most_of_a_file, most_of_a_journal}
+use Rattle.jh_cli.specs.Words.{Asked, CheckOf, PackOf, PlayOf, AuditOf}
+use Rattle.jh_cli.specs.Reading.{Said, Contents}
+use Rattle.jh_cli.specs.Check.{IsSystemFile, SystemRefusal, ChecksCells}
+use Rattle.jh_cli.specs.Pack.{IsSpecFile, SpecRefusal, packed}
+use Rattle.jh_cli.specs.Boards.{stopped, EndsAt, Opens}
+use Rattle.jh_cli.specs.Play.{IsSchedule, ScheduleRefusal, IsPlayed, PlaysBy}
+use Rattle.jh_cli.specs.Audit.{IsJournalFile, JournalRefusal, IsAudited, AuditsBy}
+use Rattle.jh_cli.specs.Outcome.{Outcome}
+use Rattle.jh_cli.specs.Complete.{IsBoardTold, AreFilesTold}
+use Rattle.jh_cli.proofs.GoodLemmas.{CellsAreFaultless, SystemsAreFaultless, NoBadLine, NotLong, OneImage, BoardsAreUnrefused, IsAnswered, system_sound, spec_sound, schedule_sound, one_schedule, journal_sound, board_unrefused}
+use Rattle.jh_cli.proofs.ToldLemmas.{all_told, each_is_told, is_image, stops}
+use Rattle.jh_cli.proofs.OneLemmas.{OneCell, OneSystem, OneJournal, NotBoth, OneLine, IsRead, one_reading, system_words, system_values, one_check, spec_words, spec_values, schedule_words, journal_words, one_audited}
+
+-- ---- boards
+
+abbrev pub OneCause : Type 0
+OneCause = (contents : Contents) (board file other : List ℕ) (cause more : ImageCause) → AreAllTold contents → Stops contents board file cause → cause ≢ CantBeRead
+    → Stops contents board other more → more ≢ CantBeRead → (cause ≡ more) × (file ≡ other)
+
+is_unread : (file : List ℕ) (cause : ImageCause) (said : Said) → said ≡ stopped file cause → IsRead said → cause ≢ CantBeRead
+is_unread file cause said is read fault = read (ap (λ (s : Said). s.status) is ∙ ap (λ (c : ImageCause). (stopped file c).status) fault)
+
+-- a call ends at one file of a board for one cause
+one_end : OneCause → (contents : Contents) (board : List ℕ) → IsBoardTold contents board → (one other : Said) → EndsAt contents board one → EndsAt contents board other → IsRead one → IsRead other → one ≡ other
+one_end one_cause contents board told one other h k read also =
+    let same : (h.cause ≡ k.cause) × (h.file ≡ k.file) = one_cause (all_told contents) board h.file k.file h.cause k.cause (each_is_told contents)
+    (stops contents board told h.file h.cause h.stops) (is_unread h.file h.cause one h.told read) (stops contents board told k.file k.cause k.stops) (is_unread k.file k.cause other k.told also) in
+    h.told ∙ ap (λ (f : List ℕ). stopped f h.cause) same.1 ∙ ap (λ (c : ImageCause). stopped k.file c) same.0 ∙ sym k.told
+
+unread_end : (said : Said) → IsAnswered (λ status. ⊥) said → said.status ≡ ReadFault
+unread_end said (inl never) = absurd never
+unread_end said (inr is) = is
+
+one_opening : OneCause → OneImage → BoardsAreUnrefused → (contents : Contents) (board : List ℕ) (next : Image → Said → Type 0) (one other : Said) → IsBoardTold contents board
+    → ((image : Image) → next image one → next image other → one ≡ other)
+    → Opens contents board next one → Opens contents board next other → IsRead one → IsRead other → one ≡ other
+one_opening one_cause one_image unrefused contents board next one other told rest (inl h) (inl k) read also = one_end one_cause contents board told one other h k read also
+one_opening one_cause one_image unrefused contents board next one other told rest (inl h) (inr k) read also = absurd (read (unread_end one (board_unrefused unrefused (λ status. ⊥) contents board k.0 one told k.1 h)))
+one_opening one_cause one_image unrefused contents board next one other told rest (inr h) (inl k) read also = absurd (also (unread_end other (board_unrefused unrefused (λ status. ⊥) contents board h.0 other told h.1 k)))
+one_opening one_cause one_image unrefused contents board next one other told rest (inr h) (inr k) read also =
+    let same : h.0 ≡ k.0 = one_image (all_told contents) board h.0 k.0 (each_is_told contents) (is_image contents board told h.0 h.1) (is_image contents board told k.0 k.1) in
+    rest k.0 (subst (λ (i : Image). next i one) same h.3) k.3
+
+-- ---- all of them
+
+pub one_outcome : CellsAreFaultless → SystemsAreFaultless → OneCell → OneSystem → NoBadLine → NotLong → OneJournal → NotBoth → OneLine → OneImage → BoardsAreUnrefused → OneCause
+    → (contents : Contents) (asked : Option Asked) (one other : Said) → AreFilesTold contents asked → Outcome contents asked one → Outcome contents asked other → IsRead one → IsRead other → one ≡ other
+one_outcome cells systems one_cell one_system no_bad not_long one_journal not_both one_line one_image unrefused one_cause contents None one other told h k read also = h ∙ sym k
+one_outcome cells systems one_cell one_system no_bad not_long one_journal not_both one_line one_image unrefused one_cause contents (Some (CheckOf system names)) one other told h k read also =
+    one_reading most_of_a_file contents system told.0 SystemRefusal IsSystemFile system_words (system_values one_system) (λ bytes s words form why. system_sound systems s bytes words form.within form why)
+    (ChecksCells contents names) one other (λ s a b. one_check cells one_cell contents names s one other told.1 a b) h k read also
+one_outcome cells systems one_cell one_system no_bad not_long one_journal not_both one_line one_image unrefused one_cause contents (Some (PackOf name)) one other told h k read also =
+    one_reading most_of_a_file contents name told.0 SpecRefusal IsSpecFile spec_words spec_values (λ bytes s words form why. spec_sound s bytes words form.0 form why)
+    (λ (spec : Spec) (s : Said). s ≡ record { status = Good; text = packed spec }) one other (λ s a b r q. a ∙ sym b) h k read also
+one_outcome cells systems one_cell one_system no_bad not_long one_journal not_both one_line one_image unrefused one_cause contents (Some (PlayOf board schedule)) one other told h k read also =
+    one_opening one_cause one_image unrefused contents board (PlaysBy contents schedule) one other told.0
+    (λ image a b. one_reading most_of_a_file contents schedule told.1.0 (ScheduleRefusal image) (IsSchedule image) (schedule_words image) (one_schedule image) (λ bytes s words form why. schedule_sound image s bytes words form.within form why)
+        (IsPlayed image) one other (λ s x y r q. x.told ∙ sym y.told) a b read also) h k read also
+one_outcome cells systems one_cell one_system no_bad not_long one_journal not_both one_line one_image unrefused one_cause contents (Some (AuditOf board journal)) one other told h k read also =
+    one_opening one_cause one_image unrefused contents board (AuditsBy contents journal) one other told.0
+    (λ image a b. one_reading most_of_a_journal contents journal told.1.0 JournalRefusal IsJournalFile (journal_words not_both one_line) (λ bytes x y f g. one_journal bytes x y f.told g.told)
+        (λ bytes s words form why. journal_sound no_bad not_long s bytes words form.within form why)
+        (IsAudited image) one other (λ entries x y r q. one_audited image entries one other x y) a b read also) h k read also

@@ -1,0 +1,42 @@
+-- What a call says of its status, of the files that it reads and of the sink. Each call of the program has this one word
+-- as its contract, so it holds of all of them alike.
+use Rattle.std.specs.Prelude.{◌≡◌, ◌≢◌, ℕ, ◌⊎◌, List, Option}
+use Rattle.jh_outside.specs.Count.{Rose}
+use Rattle.jh_outside.specs.Trail.{Ask}
+use Rattle.jh_outside.specs.Writes.{Appended}
+use Rattle.jh_cli.specs.Words.{Asked}
+use Rattle.jh_cli.specs.Lines.{fault_line}
+use Rattle.jh_cli.specs.Reading.{Contents, Said}
+use Rattle.jh_cli.specs.Stopped.{IsCounted}
+use Rattle.jh_cli.specs.Order.{IsReadFor}
+use Rattle.jh_cli.specs.Outcome.{Outcome, Sent}
+use Rattle.jh_cli.specs.Complete.{AreGood, IsAnswer}
+use Rattle.jh_cli.specs.declared.status.Status.{Status}
+use Rattle.jh_cli.specs.declared.status.Status.TheVariants.{ReadFault, WriteFault, NoMemory}
+
+-- `S` are the states of the files and `K` those of the sink: what each name holds, the name of the read that failed
+-- last, the count of failed reads and what one read does; what was written, and the count of failed writes
+module _ {S K : Type 0} (contents : S → Contents) (failed : S → List ℕ) (faults : S → ℕ) (one : S → Ask → S → Type 0) (written : K → Option (List ℕ)) (sink_faults : K → ℕ) where
+  -- what is said is what the words ask for; the files that they name are read for it in their order, each once and no
+  -- other, up to the one where the call ends; and that a file can't be read is said only where the count rose, of the
+  -- read that failed
+  pub record Says (asked : Option Asked) (s t : S) (said : Said) : Type 0 where
+    pub outcome : Outcome (contents s) asked said
+    pub read : IsReadFor one failed (contents s) asked s t said
+    pub counted : IsCounted (faults s) (faults t) (failed t) said
+
+  -- it is said whole or a proper front of it, or memory was wanted and nothing was written
+  abbrev pub Ends : Option Asked → S → S → K → K → Status → Type 0
+  Ends asked s t k l status = ((status ≡ NoMemory) × (written l ≡ written k)) ⊎ ((said : Said) × Says asked s t said × Sent (written k) (written l) said status)
+
+  -- what a call with these words is: it takes the files from `s` to `t` and the sink from `k` to `l`
+  pub record IsCall (asked : Option Asked) (s t : S) (k l : K) (status : Status) : Type 0 where
+    -- the status, and what was appended, are those that the words ask for
+    pub ends : Ends asked s t k l status
+    -- a fault of reading or writing comes only where the count rose in this call
+    pub read_fault : status ≡ ReadFault → Rose (faults s) (faults t) × Appended (written k) (written l) (fault_line (failed t))
+    pub write_fault : status ≡ WriteFault → Rose (sink_faults k) (sink_faults l)
+    -- with any other status but want of memory the name of the failed read is what it was
+    pub unfailed : status ≢ ReadFault → status ≢ WriteFault → status ≢ NoMemory → failed t ≡ failed s
+    -- good words and files give the command's answer or want of memory, unless a count rose in this call
+    pub complete : (good : AreGood (contents s) asked) → IsAnswer (contents s) asked good status ⊎ (status ≡ NoMemory) ⊎ Rose (faults s) (faults t) ⊎ Rose (sink_faults k) (sink_faults l)

@@ -1,0 +1,14 @@
+-- How much is read and played, as numbers of their own and not those of the code.
+use Rattle.std.specs.Prelude.{ℕ}
+
+-- how many bytes are asked of a file: one more than the 1 MiB that it may have
+abbrev pub most_of_a_file : ℕ
+most_of_a_file = 1048577
+
+-- how many bytes are asked of a journal's file: one more than the 32 MiB that it may have
+abbrev pub most_of_a_journal : ℕ
+most_of_a_journal = 33554433
+
+-- how many entries a journal may have
+abbrev pub journal_limit : ℕ
+journal_limit = 262144
