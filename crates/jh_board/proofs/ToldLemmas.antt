@@ -74,9 +74,9 @@ same_region : (regions : List Region) (r s : Region) (at : ℕ) → AllPairs Sha
 same_region regions r s at apart (i, il, i_is) (j, jl, j_is) r_has s_has = ⊎_elim
     (λ (e : i ≡ j). sym i_is ∙ ap (λ k. get_or regions k r) e ∙ get_or_default regions j r s jl ∙ j_is)
     (λ o. ⊎_elim
-        (λ (lt : i < j). absurd (not_both i j r s il jl i_is j_is r_has s_has lt))
-        (λ (gt : j < i). absurd (not_both j i s r jl il j_is i_is s_has r_has gt))
-        o)
+    (λ (lt : i < j). absurd (not_both i j r s il jl i_is j_is r_has s_has lt))
+    (λ (gt : j < i). absurd (not_both j i s r jl il j_is i_is s_has r_has gt))
+    o)
     (cases_order i j)
   where
     not_both : (i j : ℕ) (r s : Region) → i < length regions → j < length regions → get_or regions i r ≡ r → get_or regions j s ≡ s → has_address r at ≡ true → has_address s at ≡ true → i < j → ⊥
@@ -190,7 +190,7 @@ told_by leads single kept id regions runs access at page apart is (Some r) e = �
         let told = is.whole r at found.held h in
         let here = gives_told closed access at r told.run told.of told.has found.passes in
         let only = find-unique (is_told access at) runs told.run told.held here
-            (λ other held passes. single closed regions runs other told.run at is held told.held (told_in access at other passes) told.has) in
+        (λ other held passes. single closed regions runs other told.run at is held told.held (told_in access at other passes) told.has) in
         ap (option_map (place_told id at)) only ∙ ap Some (place_is leads closed id at r told.run told.of told.has)
         ∙ sym (open_as kept id (byte_in r at) (place_in r at) (is_comm r) page (sym as_left ∙ h))
 

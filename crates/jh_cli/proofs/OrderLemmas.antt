@@ -105,8 +105,11 @@ module _ {S : Type 0} (one : S → Ask → S → Type 0) (failed : S → List �
   next_stops f names i x s t u lt is before r h =
       let split = names-split f names i x lt is in
       on_stop (StopsIn one failed (f x ∷ []) t u) (StopsIn one failed (map f names) s u) r
-      (λ said stops. (stops.0, subst (λ ns. AsksUntil one failed ns (ask_for said.status) s u) (sym split.1)
-          (until-behind one failed s t u (map f (take i names)) (f x ∷ split.0) (ask_for said.status) before (until-more one failed t u (f x ∷ []) split.0 (ask_for said.status) stops.1)))) h
+      (λ said stops. (
+        stops.0,
+        subst (λ ns. AsksUntil one failed ns (ask_for said.status) s u) (sym split.1)
+            (until-behind one failed s t u (map f (take i names)) (f x ∷ split.0) (ask_for said.status) before (until-more one failed t u (f x ∷ []) split.0 (ask_for said.status) stops.1)),
+      )) h
 
 -- ---- reads that all handed out bytes
 

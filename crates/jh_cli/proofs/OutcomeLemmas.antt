@@ -65,9 +65,9 @@ one_outcome cells systems one_cell one_system no_bad not_long one_journal not_bo
 one_outcome cells systems one_cell one_system no_bad not_long one_journal not_both one_line one_image unrefused one_cause contents (Some (PlayOf board schedule)) one other told h k read also =
     one_opening one_cause one_image unrefused contents board (PlaysBy contents schedule) one other told.0
     (λ image a b. one_reading most_of_a_file contents schedule told.1.0 (ScheduleRefusal image) (IsSchedule image) (schedule_words image) (one_schedule image) (λ bytes s words form why. schedule_sound image s bytes words form.within form why)
-        (IsPlayed image) one other (λ s x y r q. x.told ∙ sym y.told) a b read also) h k read also
+    (IsPlayed image) one other (λ s x y r q. x.told ∙ sym y.told) a b read also) h k read also
 one_outcome cells systems one_cell one_system no_bad not_long one_journal not_both one_line one_image unrefused one_cause contents (Some (AuditOf board journal)) one other told h k read also =
     one_opening one_cause one_image unrefused contents board (AuditsBy contents journal) one other told.0
     (λ image a b. one_reading most_of_a_journal contents journal told.1.0 JournalRefusal IsJournalFile (journal_words not_both one_line) (λ bytes x y f g. one_journal bytes x y f.told g.told)
-        (λ bytes s words form why. journal_sound no_bad not_long s bytes words form.within form why)
-        (IsAudited image) one other (λ entries x y r q. one_audited image entries one other x y) a b read also) h k read also
+    (λ bytes s words form why. journal_sound no_bad not_long s bytes words form.within form why)
+    (IsAudited image) one other (λ entries x y r q. one_audited image entries one other x y) a b read also) h k read also

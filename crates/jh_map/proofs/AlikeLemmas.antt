@@ -91,15 +91,15 @@ same_head x xs y ys up other_up some other_some there back =
     ⊎_elim
     (λ (e : y ≡ x). e)
     (λ (later : Contains ys x).
-        let le = pair_head y ys x other_up later in
-        ⊎_elim
-        (λ (e : x ≡ y). sym e)
-        (λ (behind : Contains xs y).
-            let ge = pair_head x xs y up behind in
-            let x_some = some x (Contains-head x xs) in
-            let y_some = other_some y (Contains-head y ys) in
-            absurd (omega arith))
-        (Contains-cases x xs y (back y (Contains-head y ys))))
+    let le = pair_head y ys x other_up later in
+    ⊎_elim
+    (λ (e : x ≡ y). sym e)
+    (λ (behind : Contains xs y).
+    let ge = pair_head x xs y up behind in
+    let x_some = some x (Contains-head x xs) in
+    let y_some = other_some y (Contains-head y ys) in
+    absurd (omega arith))
+    (Contains-cases x xs y (back y (Contains-head y ys))))
     (Contains-cases y ys x (there x (Contains-head x xs)))
 
 -- a member of the rest isn't the first
@@ -108,10 +108,10 @@ unfolding Some In
 in_tail x xs y ys up some same there r held =
     ⊎_elim
     (λ (e : y ≡ r).
-        let le = pair_head x xs r up held in
-        let x_some = some x (Contains-head x xs) in
-        let start : x.start ≡ r.start = ap (λ (z : Run). z.start) (sym same ∙ e) in
-        absurd (omega arith))
+    let le = pair_head x xs r up held in
+    let x_some = some x (Contains-head x xs) in
+    let start : x.start ≡ r.start = ap (λ (z : Run). z.start) (sym same ∙ e) in
+    absurd (omega arith))
     (λ (later : Contains ys r). later)
     (Contains-cases y ys r (there r (Contains-tail x xs r held)))
 
@@ -140,9 +140,9 @@ single closed regions runs one other at is (i, il, i_is) (j, jl, j_is) has other
     ⊎_elim
     (λ (e : i ≡ j). sym i_is ∙ ap (λ k. get_or runs k one) e ∙ get_or_default runs j one other jl ∙ j_is)
     (λ o. ⊎_elim
-        (λ (lt : i < j). absurd (not_both runs one other at is.order i j lt jl i_is j_is has other_has))
-        (λ (gt : j < i). absurd (not_both runs other one at is.order j i gt il j_is i_is other_has has))
-        o)
+    (λ (lt : i < j). absurd (not_both runs one other at is.order i j lt jl i_is j_is has other_has))
+    (λ (gt : j < i). absurd (not_both runs other one at is.order j i gt il j_is i_is other_has has))
+    o)
     (cases_order i j)
   where
     not_both : (runs : List Run) (one other : Run) (at : ℕ) → AllPairs EndsBefore runs → (i j : ℕ) → i < j → j < length runs → get_or runs i one ≡ one → get_or runs j other ≡ other → IsIn one at → IsIn other at → ⊥

@@ -29,9 +29,9 @@ stood_at xs a b m d al bl ml =
     ⊎_elim
     (λ (e : m ≡ a). record { n = b; within = bl; is = ap (λ k. get_or (swap xs a b) k d) e ∙ s.0; moved = inl (e, refl) })
     (λ (na : m ≡ a → ⊥). ⊎_elim
-        (λ (e : m ≡ b). record { n = a; within = al; is = ap (λ k. get_or (swap xs a b) k d) e ∙ s.1; moved = inr (inl (e, refl)) })
-        (λ (nb : m ≡ b → ⊥). record { n = m; within = ml; is = s.2 m na nb; moved = inr (inr (refl, na, nb)) })
-        (cases_eq m b))
+    (λ (e : m ≡ b). record { n = a; within = al; is = ap (λ k. get_or (swap xs a b) k d) e ∙ s.1; moved = inr (inl (e, refl)) })
+    (λ (nb : m ≡ b → ⊥). record { n = m; within = ml; is = s.2 m na nb; moved = inr (inr (refl, na, nb)) })
+    (cases_eq m b))
     (cases_eq m a)
 
 -- R holds of each two elements at different places
@@ -62,18 +62,18 @@ all_pairs_append {X} R xs ys one other both i j d lt jl =
     let n : length (xs ++ ys) ≡ length xs + length ys = length-append xs ys in
     ⊎_elim
     (λ (jx : j < length xs).
-        let P : X → Type 0 = λ x. R x (get_or (xs ++ ys) j d) in
-        let Q : X → Type 0 = λ y. R (get_or xs i d) y in
-        subst P (sym (get_or_append_left xs ys d i (omega arith))) (subst Q (sym (get_or_append_left xs ys d j jx)) (one i j d lt jx)))
+    let P : X → Type 0 = λ x. R x (get_or (xs ++ ys) j d) in
+    let Q : X → Type 0 = λ y. R (get_or xs i d) y in
+    subst P (sym (get_or_append_left xs ys d i (omega arith))) (subst Q (sym (get_or_append_left xs ys d j jx)) (one i j d lt jx)))
     (λ (jy : length xs ≤ j).
-        let Q : X → Type 0 = λ y. R (get_or (xs ++ ys) i d) y in
-        subst Q (sym (get_or-append_right xs ys (length xs) j d refl jy))
-        (⊎_elim
-            (λ (ix : i < length xs).
-                let P : X → Type 0 = λ x. R x (get_or ys (j - length xs) d) in
-                subst P (sym (get_or_append_left xs ys d i ix)) (both i (j - length xs) d ix (omega arith)))
-            (λ (iy : length xs ≤ i).
-                let P : X → Type 0 = λ x. R x (get_or ys (j - length xs) d) in
-                subst P (sym (get_or-append_right xs ys (length xs) i d refl iy)) (other (i - length xs) (j - length xs) d (omega arith) (omega arith)))
-            (cases_lt i (length xs))))
+    let Q : X → Type 0 = λ y. R (get_or (xs ++ ys) i d) y in
+    subst Q (sym (get_or-append_right xs ys (length xs) j d refl jy))
+    (⊎_elim
+    (λ (ix : i < length xs).
+    let P : X → Type 0 = λ x. R x (get_or ys (j - length xs) d) in
+    subst P (sym (get_or_append_left xs ys d i ix)) (both i (j - length xs) d ix (omega arith)))
+    (λ (iy : length xs ≤ i).
+    let P : X → Type 0 = λ x. R x (get_or ys (j - length xs) d) in
+    subst P (sym (get_or-append_right xs ys (length xs) i d refl iy)) (other (i - length xs) (j - length xs) d (omega arith) (omega arith)))
+    (cases_lt i (length xs))))
     (cases_lt j (length xs))

@@ -75,14 +75,14 @@ told_right closed rs ss r at is = record { run = is.run; held = Contains-append_
 pub joined_map : (closed : ℕ → Bool) (xs ys : List Region) (rs ss : List Run) → ((r s : Region) → Contains xs r → Contains ys s → Precedes closed r s) → IsMap closed xs rs → IsMap closed ys ss → IsMap closed (xs ++ ys) (rs ++ ss)
 joined_map closed xs ys rs ss before one other = record {
   own = All-append (IsRunIn closed (xs ++ ys)) rs ss
-    (All-weaker (IsRunIn closed xs) (IsRunIn closed (xs ++ ys)) (λ run is. own_left closed xs ys run is) rs one.own)
-    (All-weaker (IsRunIn closed ys) (IsRunIn closed (xs ++ ys)) (λ run is. own_right closed xs ys run is) ss other.own);
+      (All-weaker (IsRunIn closed xs) (IsRunIn closed (xs ++ ys)) (λ run is. own_left closed xs ys run is) rs one.own)
+      (All-weaker (IsRunIn closed ys) (IsRunIn closed (xs ++ ys)) (λ run is. own_right closed xs ys run is) ss other.own);
   whole = λ r at held is. ⊎_elim
-    (λ (low : Contains xs r). told_left closed rs ss r at (one.whole r at low is))
-    (λ (high : Contains ys r). told_right closed rs ss r at (other.whole r at high is))
-    (Contains-append_cases xs ys r held);
+      (λ (low : Contains xs r). told_left closed rs ss r at (one.whole r at low is))
+      (λ (high : Contains ys r). told_right closed rs ss r at (other.whole r at high is))
+      (Contains-append_cases xs ys r held);
   order = all_pairs_append EndsBefore rs ss one.order other.order
-    (λ i j d il jl.
+      (λ i j d il jl.
       let low = one.own i d il in
       let high = other.own j d jl in
       ends_before closed low.region high.region (get_or rs i d) (get_or ss j d) (before low.region high.region low.held high.held) low.of high.of);
@@ -92,8 +92,8 @@ joined_map closed xs ys rs ss before one other = record {
 pub moved_map : (closed : ℕ → Bool) (xs ys : List Region) (runs : List Run) → IsPermutation xs ys → IsMap closed ys runs → IsMap closed xs runs
 moved_map closed xs ys runs moved is = record {
   own = All-weaker (IsRunIn closed ys) (IsRunIn closed xs)
-    (λ run own. record { region = own.region; held = Contains-permutation ys xs own.region (IsPermutation-sym xs ys moved) own.held; of = own.of })
-    runs is.own;
+      (λ run own. record { region = own.region; held = Contains-permutation ys xs own.region (IsPermutation-sym xs ys moved) own.held; of = own.of })
+      runs is.own;
   whole = λ r at held granted. is.whole r at (Contains-permutation xs ys r moved held) granted;
   order = is.order;
 }
@@ -132,7 +132,7 @@ more_map closed regions sorted k d rs ss moved up apart lt one other =
     let P : List Region → Type 0 = λ xs. IsMap closed xs (rs ++ ss) in
     subst P (sym (take_more sorted k d lt))
     (joined_map closed (take k sorted) (get_or sorted k d ∷ []) rs ss
-        (λ r s r_held s_held.
-            let Q : Region → Type 0 = λ y. Precedes closed r y in
-            subst Q (alone (get_or sorted k d) s s_held) (sorted_precedes closed regions sorted k d moved up apart lt r r_held))
-        one other)
+    (λ r s r_held s_held.
+    let Q : Region → Type 0 = λ y. Precedes closed r y in
+    subst Q (alone (get_or sorted k d) s s_held) (sorted_precedes closed regions sorted k d moved up apart lt r r_held))
+    one other)

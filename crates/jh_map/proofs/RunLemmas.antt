@@ -22,11 +22,11 @@ pub empty_map : (closed : ℕ → Bool) (r : Region) → r.size ≡ 0 → IsMap 
 empty_map closed r none = record {
   own = All-nil (IsRunIn closed (r ∷ []));
   whole = λ s at held granted.
-    let P : Region → Type 0 = λ x. is_granted closed x at ≡ true in
-    let has = granted_has closed r at (subst P (sym (alone r s held)) granted) in
-    let low = has_low r at has in
-    let high = has_high r at has in
-    absurd (omega arith);
+      let P : Region → Type 0 = λ x. is_granted closed x at ≡ true in
+      let has = granted_has closed r at (subst P (sym (alone r s held)) granted) in
+      let low = has_low r at has in
+      let high = has_high r at has in
+      absurd (omega arith);
   order = λ i j d lt jl. absurd (omega arith);
 }
 
@@ -35,13 +35,13 @@ pub whole_map : (closed : ℕ → Bool) (r : Region) (run : Run) → IsRunOf clo
 whole_map closed r run of start end = record {
   own = All-cons (IsRunIn closed (r ∷ [])) run [] (record { region = r; held = Contains-head r []; of = of }) (All-nil (IsRunIn closed (r ∷ [])));
   whole = λ s at held granted.
-    let same = alone r s held in
-    let P : Region → Type 0 = λ x. is_granted closed x at ≡ true in
-    let Q : Region → Type 0 = λ x. IsRunOf closed x run in
-    let has = granted_has closed r at (subst P (sym same) granted) in
-    let low = has_low r at has in
-    let high = has_high r at has in
-    record { run = run; held = Contains-head run []; of = subst Q same of; has = record { first = omega arith; last = omega arith } };
+      let same = alone r s held in
+      let P : Region → Type 0 = λ x. is_granted closed x at ≡ true in
+      let Q : Region → Type 0 = λ x. IsRunOf closed x run in
+      let has = granted_has closed r at (subst P (sym same) granted) in
+      let low = has_low r at has in
+      let high = has_high r at has in
+      record { run = run; held = Contains-head run []; of = subst Q same of; has = record { first = omega arith; last = omega arith } };
   order = λ i j d lt jl. absurd (omega arith);
 }
 
@@ -74,9 +74,9 @@ touched : (ranges : List Range) (k j : ℕ) (d : Range) (p : ℕ) → AreApart r
 touched ranges k j d p apart kl jl low high j_low j_high =
     ⊎_elim (λ (e : j ≡ k). e)
     (λ o. ⊎_elim
-        (λ (lt : j < k). let b = ends_before 0 ranges j k d apart lt kl in absurd (omega arith))
-        (λ (gt : k < j). let b = ends_before 0 ranges k j d apart gt jl in absurd (omega arith))
-        o)
+    (λ (lt : j < k). let b = ends_before 0 ranges j k d apart lt kl in absurd (omega arith))
+    (λ (gt : k < j). let b = ends_before 0 ranges k j d apart gt jl in absurd (omega arith))
+    o)
     (cases_order j k)
 
 -- so one that a range touches and doesn't have is in none
@@ -131,12 +131,12 @@ left_from closed r free ranges within no_comm are apart bytes = record {
   no_comm = no_comm;
   apart = apart;
   bytes = λ p. ⊎_elim
-    (λ (has : has_place r p ≡ true).
-        let high = place_high r p has in
-        let end = within.phys no_comm in
-        left_by (has_byte free p) (closed p) (has_place r p) (has_byte ranges p) (are p (omega arith)) (bytes p))
-    (λ (lacks : has_place r p ≡ false). left_past (has_byte free p) (closed p) (has_place r p) (has_byte ranges p) lacks (bytes p))
-    (cases_Bool (has_place r p));
+      (λ (has : has_place r p ≡ true).
+      let high = place_high r p has in
+      let end = within.phys no_comm in
+      left_by (has_byte free p) (closed p) (has_place r p) (has_byte ranges p) (are p (omega arith)) (bytes p))
+      (λ (lacks : has_place r p ≡ false). left_past (has_byte free p) (closed p) (has_place r p) (has_byte ranges p) lacks (bytes p))
+      (cases_Bool (has_place r p));
 }
 
 -- they are the region's
@@ -186,10 +186,10 @@ run_of closed r ranges x left is low high =
     record {
       some = omega arith;
       each = λ at has.
-        let first = has.first in
-        let last = has.last in
-        let own = has_from r at (omega arith) (omega arith) in
-        granted_is closed r ranges at left own ∙ is.each (place_in r at) (omega arith) (omega arith);
+          let first = has.first in
+          let last = has.last in
+          let own = has_from r at (omega arith) (omega arith) in
+          granted_is closed r ranges at left own ∙ is.each (place_in r at) (omega arith) (omega arith);
       before = λ at e. before_run at e;
       behind = not_granted closed r ranges (run_to r x).end x.end left (λ le. omega arith) is.behind;
       place = leads_as (is_comm r) (byte_in r (run_to r x).start) (place_in r (run_to r x).start) x.start left.no_comm (omega arith);
@@ -201,8 +201,8 @@ run_of closed r ranges x left is low high =
     before_run : (at : ℕ) → at + 1 ≡ (run_to r x).start → is_granted closed r at ≡ false
     before_run at e = ⊎_elim
         (λ (has : has_address r at ≡ true).
-            let at_low = has_low r at has in
-            granted_is closed r ranges at left has ∙ is.before (place_in r at) (omega arith))
+        let at_low = has_low r at has in
+        granted_is closed r ranges at left has ∙ is.before (place_in r at) (omega arith))
         (λ (lacks : has_address r at ≡ false). and_left (has_address r at) (is_comm r || not (closed (place_in r at))) lacks)
         (cases_Bool (has_address r at))
 
@@ -231,12 +231,12 @@ told_at closed r ranges at left own granted =
 pub ranges_map : (closed : ℕ → Bool) (r : Region) (ranges : List Range) → AreLeft closed r ranges → All (λ (x : Range). (r.phys_start ≤ x.start) × (x.end ≤ phys_end r)) ranges → IsMap closed (r ∷ []) (map (run_to r) ranges)
 ranges_map closed r ranges left own = record {
   own = All-map (IsRunIn closed (r ∷ [])) (run_to r) ranges
-    (λ k d kl. record { region = r; held = Contains-head r []; of = run_of closed r ranges (get_or ranges k d) left (one_of ranges k d left.apart kl) (own k d kl).0 (own k d kl).1 });
+      (λ k d kl. record { region = r; held = Contains-head r []; of = run_of closed r ranges (get_or ranges k d) left (one_of ranges k d left.apart kl) (own k d kl).0 (own k d kl).1 });
   whole = λ s at held granted.
-    let same = alone r s held in
-    let P : Region → Type 0 = λ y. is_granted closed y at ≡ true in
-    let Q : Region → Type 0 = λ y. IsTold closed (map (run_to r) ranges) y at in
-    subst Q same (told_at closed r ranges at left own (subst P (sym same) granted));
+      let same = alone r s held in
+      let P : Region → Type 0 = λ y. is_granted closed y at ≡ true in
+      let Q : Region → Type 0 = λ y. IsTold closed (map (run_to r) ranges) y at in
+      subst Q same (told_at closed r ranges at left own (subst P (sym same) granted));
   order = λ i j d lt jl. ordered i j d lt jl;
 }
   where

@@ -117,11 +117,7 @@ fn in_order(alloc: Global, regions: &[Region]) -> Result<Vec<Region>, AllocError
 }
 
 /// The map of a cell with these regions, to which these places are closed.
-pub fn map_of(
-    alloc: Global,
-    regions: &[Region],
-    closed: &ByteSet,
-) -> Result<Seq<Run>, NoMemory>
+pub fn map_of(alloc: Global, regions: &[Region], closed: &ByteSet) -> Result<Seq<Run>, NoMemory>
     requires within { All (λ (r : TheRegion). 0 < r.size → IsInRange r) regions.now }
     requires apart { AllPairs SharesNoAddress regions.now }
     ensures { IfOk result (λ runs. IsMap (has_byte closed.now.ranges) regions.now runs) }

@@ -88,12 +88,7 @@ fn comm() -> Run {
 }
 
 /// The map of these regions, where the places of these ranges are closed, is that.
-fn maps(
-    rt: &impl Abort,
-    alloc: Global,
-    closed: &[Range],
-    runs: &[Run],
-) -> Result<(), NoMemory> {
+fn maps(rt: &impl Abort, alloc: Global, closed: &[Range], runs: &[Run]) -> Result<(), NoMemory> {
     let mut set = ByteSet::new(alloc);
     for places in closed {
         set.insert(*places)?;
@@ -105,7 +100,12 @@ fn maps(
 
 #[test]
 fn each_region_is_a_run_where_nothing_is_closed(rt: HostRuntime) -> Result<(), Fail> {
-    maps(&rt, rt.alloc(), &[], &[uart(), memory(0x4000_0000, 0x4001_0000), comm()])?;
+    maps(
+        &rt,
+        rt.alloc(),
+        &[],
+        &[uart(), memory(0x4000_0000, 0x4001_0000), comm()],
+    )?;
     Ok(())
 }
 

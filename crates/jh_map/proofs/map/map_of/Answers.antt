@@ -32,9 +32,9 @@ loop-region-preserved c =
     let items = c.in_ok-extend_from_slice.ensures.items ∙ ap (λ xs. c.loop-region.runs.items ++ xs) c.as_slice.ensures.value in
     subst P (sym items)
     (more_map closed c.args.regions.now sorted k d c.loop-region.runs.items c.in_ok-more.more.items
-        (subst M (sym c.as_slice-region-items.ensures.value) c.in_ok-sorted.ensures.moved)
-        (subst S (sym c.as_slice-region-items.ensures.value) c.in_ok-sorted.ensures.sorted)
-        c.requires.apart c.loop-region-test.true c.loop-region.invariant (c.in_ok-more.ensures closed c.in_ok-free.ensures))
+    (subst M (sym c.as_slice-region-items.ensures.value) c.in_ok-sorted.ensures.moved)
+    (subst S (sym c.as_slice-region-items.ensures.value) c.in_ok-sorted.ensures.sorted)
+    c.requires.apart c.loop-region-test.true c.loop-region.invariant (c.in_ok-more.ensures closed c.in_ok-free.ensures))
 
 pub returns : goal.returns
 returns c =

@@ -25,5 +25,5 @@ returns c closed free =
     let items = c.in_ok-runs_to_places.ensures ∙ ap (map (run_to c.args.region.now)) c.ranges-2.ensures.ranges in
     subst P (sym items)
     (ranges_map closed c.args.region.now c.in_ok-left.left.ranges
-        (left_from closed c.args.region.now c.args.free.now.ranges c.in_ok-left.left.ranges (c.requires.within (omega (arith, c.if-region-eq0.false))) (sym c.if-is_comm.ensures) free c.in_ok-left.ensures.apart c.in_ok-left.ensures.bytes)
-        (own_ranges c.args.region.now c.args.free.now.ranges c.in_ok-left.left.ranges c.in_ok-left.ensures.apart c.in_ok-left.ensures.bytes))
+    (left_from closed c.args.region.now c.args.free.now.ranges c.in_ok-left.left.ranges (c.requires.within (omega (arith, c.if-region-eq0.false))) (sym c.if-is_comm.ensures) free c.in_ok-left.ensures.apart c.in_ok-left.ensures.bytes)
+    (own_ranges c.args.region.now c.args.free.now.ranges c.in_ok-left.left.ranges c.in_ok-left.ensures.apart c.in_ok-left.ensures.bytes))
