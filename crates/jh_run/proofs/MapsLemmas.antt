@@ -1,8 +1,8 @@
 -- The text of the maps of all live cells.
-use Rattle.std.proofs.Common.{◌≡◌, ℕ, ◌+◌, ◌<◌, ◌≤◌, Bool, true, false, cond, eqb, List, [], ◌∷◌, ◌++◌, length, get_or, Option, Some, None, refl, sym, ap, subst, ◌∙◌, ⊎_elim, arith, append_assoc}
-use Rattle.std.specs.Prelude.{Contains, find, map, option_map, slice_get}
+use Rattle.std.proofs.Common.{◌≡◌, ℕ, Bool, true, false, cond, eqb, List, [], ◌∷◌, ◌++◌, Option, Some, None, refl, sym, ap, subst, ◌∙◌, ⊎_elim, append_assoc}
+use Rattle.std.specs.Prelude.{Contains, find, option_map, slice_get}
 use Rattle.std.proofs.lemmas.Bool.{eq-eqb, both_ways}
-use Rattle.std.proofs.lemmas.List.{append-nil, take_more}
+use Rattle.std.proofs.lemmas.List.{append-nil}
 use Rattle.std.proofs.lemmas.Option.{none-some, slice_get_within, get_or_from_slice_get}
 use Rattle.jh_num.proofs.Lists.{Contains-cases, Contains-from_map, find-None}
 use Rattle.jh_cellcfg.specs.declared.config.CellConfig.{CellConfig}
@@ -13,7 +13,6 @@ use Rattle.jh_map.specs.declared.run.Run.{Run}
 use Rattle.jh_map.specs.Maps.{IsMap}
 use Rattle.jh_script.specs.declared.image.Image.{Image}
 use Rattle.jh_history.specs.declared.entry.Entry.{Entry}
-use Rattle.jh_history.specs.History.{facts}
 use Rattle.jh_history.specs.Due.{IsLegal}
 use Rattle.jh_history.specs.Items.{items}
 use Rattle.jh_history.specs.Lives.{live_in, cell_in, regions_in}
@@ -24,7 +23,7 @@ use Rattle.jh_board.specs.Maps.{all_cells, is_kept_at, IsMapIn}
 use Rattle.jh_run.specs.declared.ended.Ended.{Ended}
 use Rattle.jh_run.specs.declared.ended.Ended.TheVariants.{Quiet, Full}
 use Rattle.jh_run.specs.Ends.{is_full}
-use Rattle.jh_run.specs.Plays.{IsBoardOf, Follows, IsFullAtItem}
+use Rattle.jh_run.specs.Plays.{Follows, IsFullAtItem}
 use Rattle.jh_run.specs.Maps.{AreMaps, IsMapsText, Maps}
 
 -- ---- a live cell is found by its id
