@@ -1,15 +1,8 @@
 -- The text of the maps of all live cells.
-<<<<<<< HEAD
 use Rattle.std.proofs.Common.{◌≡◌, ℕ, Bool, true, false, cond, eqb, List, [], ◌∷◌, ◌++◌, Option, Some, None, refl, sym, ap, subst, ◌∙◌, ⊎_elim, append_assoc}
 use Rattle.std.specs.Prelude.{Contains, find, option_map, slice_get}
 use Rattle.std.proofs.lemmas.Bool.{eq-eqb, both_ways}
 use Rattle.std.proofs.lemmas.List.{append-nil}
-=======
-use Rattle.std.proofs.Common.{◌≡◌, ℕ, zero, suc, ◌+◌, ◌<◌, ◌≤◌, Bool, true, false, cond, eqb, List, [], ◌∷◌, ◌++◌, length, get_or, take, Option, Some, None, Result, Ok, Err, refl, sym, ap, subst, ◌∙◌, ⊎_elim, arith, append_assoc}
-use Rattle.std.specs.Prelude.{Contains, OnOk, find, map, option_map, slice_get}
-use Rattle.std.proofs.lemmas.Bool.{eq-eqb, both_ways}
-use Rattle.std.proofs.lemmas.List.{append-nil, take_more, take_all}
->>>>>>> 13b520233ee2cc966a8511cdcbe9eaa67207ca51
 use Rattle.std.proofs.lemmas.Option.{none-some, slice_get_within, get_or_from_slice_get}
 use Rattle.jh_num.proofs.Lists.{Contains-cases, Contains-from_map, find-None}
 use Rattle.jh_cellcfg.specs.declared.config.CellConfig.{CellConfig}
@@ -64,29 +57,6 @@ pub one_more : (image : Image) (lives : List Live) (cells : List CellConfig) (ce
 one_more image lives [] cell runs text e is = (runs, [], is, ap (λ t. t ++ map_text cell runs) e ∙ sym (append-nil (map_text cell runs)), refl)
 one_more image lives (first ∷ cells) cell runs text (own, rest, own_is, e, more) is =
     (own, rest ++ map_text cell runs, own_is, ap (λ t. t ++ map_text cell runs) e ∙ append_assoc (map_text first own) rest (map_text cell runs), one_more image lives cells cell runs rest more is)
-
-pub more_told : (image : Image) (lives : List Live) (k : ℕ) (cell : CellConfig) (runs : List Run) (text new : List ℕ) → Some cell ≡ slice_get (all_cells image lives) k → AreMaps image lives (take k (all_cells image lives)) text
-    → IsMapIn image lives cell.id runs → new ≡ text ++ map_text cell runs → AreMaps image lives (take (k + 1) (all_cells image lives)) new
-more_told image lives k cell runs text new e told is more =
-    let cells = all_cells image lives in
-    let grown : take (k + 1) cells ≡ take k cells ++ cell ∷ [] = take_more cells k cell (slice_get_within cells k cell (sym e)) ∙ ap (λ (c : CellConfig). take k cells ++ c ∷ []) (get_or_from_slice_get cells k cell cell (sym e)) in
-    let P : List CellConfig → Type 0 = λ cs. AreMaps image lives cs new in
-    let Q : List ℕ → Type 0 = λ t. AreMaps image lives (take k cells ++ cell ∷ []) t in
-    subst P (sym grown) (subst Q (sym more) (one_more image lives (take k cells) cell runs text told is))
-
-pub all_told : (image : Image) (lives : List Live) (k : ℕ) (text : List ℕ) → length (all_cells image lives) ≤ k → AreMaps image lives (take k (all_cells image lives)) text → AreMaps image lives (all_cells image lives) text
-all_told image lives k text le told =
-    let P : List CellConfig → Type 0 = λ cs. AreMaps image lives cs text in
-    subst P (take_all k (all_cells image lives) le) told
-
-pub not_past : {X : Type 0} (xs : List X) (k : ℕ) → None ≡ slice_get xs k → k < length xs → ⊥
-not_past [] k e lt = absurd (omega arith)
-not_past (x ∷ xs) zero e lt = none-some x e
-not_past (x ∷ xs) (suc k) e lt = not_past xs k e (omega arith)
-
-pub on_ok_more : {T E : Type 0} (r : Result T E) (P Q : Type 0) → (P → Q) → OnOk r P → OnOk r Q
-on_ok_more (Ok x) P Q f h = f h
-on_ok_more (Err e) P Q f h = tt
 
 -- ---- one text
 
