@@ -12,7 +12,7 @@
 -- A case that holds and whose tests fail ends the search: nothing answers. Closed places are those that
 -- other cells hold; only root has some. An answer names the region or the window by its number, in 32
 -- bits; those that have no number of 32 bits share the last one.
-use Rattle.std.specs.Prelude.{◌≡◌, ℕ, ◌+◌, ◌-◌, ◌%◌, Bool, true, false, ◌&&◌, ◌||◌, not, ◌==◌, nat_lt, nat_le, min, if◌then◌else◌, List, Some, position, slice_get}
+use Rattle.std.specs.Prelude.{◌≡◌, ℕ, ◌+◌, ◌-◌, ◌%◌, Bool, true, false, ◌&&◌, ◌||◌, not, ◌==◌, nat_lt, nat_le, min, if◌then◌else◌, List, Option, Some, None, position, slice_get}
 use Rattle.std.specs.List.{list_all, list_any, range_with_len}
 use Rattle.std.specs.Option.{option_map_or}
 use Rattle.jh_num.specs.declared.range.Range.{Range}
@@ -38,6 +38,15 @@ is_at_closed closed at width r = not (is_comm r) && list_any (λ a. closed (plac
 abbrev pub takes_all : (ℕ → Bool) → ℕ → ℕ → Region → Bool
 takes_all closed at width r =
     (has_size r && not (is_page_mapped r)) && (lies_between r.virt_start (virt_end r) at width && not (is_at_closed closed at width r))
+
+-- the region is a subpage region that has all bytes of the access
+abbrev pub has_whole : ℕ → ℕ → Region → Bool
+has_whole at width r = (has_size r && not (is_page_mapped r)) && lies_between r.virt_start (virt_end r) at width
+
+-- the region, where no byte of the access is at a closed place of it
+abbrev pub unless_closed : (ℕ → Bool) → ℕ → ℕ → Option Region → Option Region
+unless_closed closed at width None = None
+unless_closed closed at width (Some r) = if is_at_closed closed at width r then None else Some r
 
 -- the region has the right to read, or to write
 abbrev pub has_right : Bool → Region → Bool
