@@ -8,7 +8,7 @@ use Rattle.jh_cellcfg.specs.declared.config.SystemConfig.{SystemConfig}
 use Rattle.jh_cellcfg.specs.declared.live.Live.{Live}
 use Rattle.jh_cellcfg.specs.declared.region.Region.{Region}
 use Rattle.jh_cellcfg.specs.Regions.{has_size, is_page_mapped, is_comm, place_in, virt_end}
-use Rattle.jh_mmio.specs.Dispatch.{lies_between, is_at_closed, takes_all, has_right, unless_closed}
+use Rattle.jh_mmio.specs.Dispatch.{lies_between, is_at_closed, takes_all, has_whole, has_right, unless_closed}
 use Rattle.jh_script.specs.declared.image.Image.{Image}
 use Rattle.jh_history.specs.declared.place.Place.{Place}
 use Rattle.jh_history.specs.declared.place.Place.TheVariants.{Physical, Page}
@@ -32,6 +32,13 @@ pub takes_all-subpage : (closed : ℕ → Bool) (at n : ℕ) (r : Region) → ta
 takes_all-subpage closed at n r h =
     let whole = and_parts (has_size r && not (is_page_mapped r)) (lies_between r.virt_start (virt_end r) at n && not (is_at_closed closed at n r)) h in
     not-true (is_page_mapped r) (and_parts (has_size r) (not (is_page_mapped r)) whole.0).1
+
+-- where it has all of it, it takes it unless a byte is at a closed place
+pub whole_takes : (closed : ℕ → Bool) (at n : ℕ) (r : Region) → has_whole at n r ≡ true → takes_all closed at n r ≡ not (is_at_closed closed at n r)
+whole_takes closed at n r h =
+    let parts = and_parts (has_size r && not (is_page_mapped r)) (lies_between r.virt_start (virt_end r) at n) h in
+    ap (λ (b : Bool). b && (lies_between r.virt_start (virt_end r) at n && not (is_at_closed closed at n r))) parts.0
+    ∙ ap (λ (b : Bool). b && not (is_at_closed closed at n r)) parts.1
 
 -- ---- its places, and what is kept of them
 
