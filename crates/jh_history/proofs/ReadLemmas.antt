@@ -151,11 +151,11 @@ bytes_by-length byte at (suc n) bs e = length_by (byte at) (bytes_by byte (at + 
 
 abbrev places_reached : Reach → List Place
 places_reached (Memory ps) = ps
-places_reached Nothing = []
+places_reached found = []
 
 abbrev reaches : Reach → Bool
 reaches (Memory ps) = true
-reaches Nothing = false
+reaches found = false
 
 nothing-memory : (ps : List Place) → Nothing ≡ Memory ps → ⊥
 nothing-memory ps e = both_ways true (ap reaches (sym e)) refl
