@@ -202,7 +202,7 @@ place-given image cells cell access at place sound live e = place_by image cells
 
 -- ---- what is left to it
 
-left_free : (image : Image) (cells : List Live) (cell : CellConfig) (place : Place) → IsLeft image cells cell place → is_kept image cells cell.id place ≡ false
+pub left_free : (image : Image) (cells : List Live) (cell : CellConfig) (place : Place) → IsLeft image cells cell place → is_kept image cells cell.id place ≡ false
 left_free image cells cell (Page id offset) left = refl
 left_free image cells cell (Physical p) left =
     false_from_ne_true (is_kept image cells cell.id (Physical p))
@@ -210,7 +210,7 @@ left_free image cells cell (Physical p) left =
     let parts = and_parts (eqb cell.id image.system.root.id) (is_closed (map holder_of_live cells) p) kept in
     left (eqb-true cell.id image.system.root.id parts.0) (taken_there cells p parts.1))
 
-free_left : (image : Image) (cells : List Live) (cell : CellConfig) (place : Place) → is_kept image cells cell.id place ≡ false → IsLeft image cells cell place
+pub free_left : (image : Image) (cells : List Live) (cell : CellConfig) (place : Place) → is_kept image cells cell.id place ≡ false → IsLeft image cells cell place
 free_left image cells cell (Page id offset) free = tt
 free_left image cells cell (Physical p) free = λ root taken.
     both_ways (is_kept image cells cell.id (Physical p)) free
@@ -218,7 +218,7 @@ free_left image cells cell (Physical p) free = λ root taken.
 
 -- ---- what is granted
 
-regions_of_live : (image : Image) (cells : List Live) (cell : CellConfig) → AreSoundCells image.system (configs_of cells) → IsLive image cells cell → regions_in image cells cell.id ≡ cell.memory_regions
+pub regions_of_live : (image : Image) (cells : List Live) (cell : CellConfig) → AreSoundCells image.system (configs_of cells) → IsLive image cells cell → regions_in image cells cell.id ≡ cell.memory_regions
 regions_of_live image cells cell sound live = ap (λ (o : Option CellConfig). option_map_or (λ (c : CellConfig). c.memory_regions) o []) (live-cell image cells cell sound live)
 
 granted_live : (image : Image) (cells : List Live) (cell : CellConfig) (access : Access) (at : ℕ) (place : Place) → AreSoundCells image.system (configs_of cells) → IsLive image cells cell → IsGranted cell access at place → IsLeft image cells cell place

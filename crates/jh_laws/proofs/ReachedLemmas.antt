@@ -222,10 +222,6 @@ lets-through access at width r other h =
 
 -- ---- the ECAM window
 
-end_of : (base end_bus : ℕ) (b : Bool) → eqb base 0 ≡ b → ℕ
-end_of base end_bus true is = 0
-end_of base end_bus false is = min (base + (end_bus + 1) * 0x100000) 0xffffffffffffffff
-
 window_from : (base end_bus at width : ℕ) (b : Bool) → eqb base 0 ≡ b → at + width ≤ ADDRESS_END → base ≢ 0 → base ≤ at → at + width ≤ base + (end_bus + 1) * 2 ^ 20
     → lies_between base (cond b 0 (min (base + (end_bus + 1) * 0x100000) 0xffffffffffffffff)) at width ≡ true
 window_from base end_bus at width true is below some first last = absurd (some (eqb-true base 0 is))
@@ -261,3 +257,162 @@ true_wide width h = elim (cases_Bool (eqb width 1)) [
     | inr two ↦ inr (inr (eqb-true width 4 (sym (rw (one, two) refl) ∙ h)))
   ]
 ]
+
+abbrev is_wide : ℕ → Bool
+is_wide width = eqb width 1 || eqb width 2 || eqb width 4
+
+ecam_hit : (start at width : ℕ) → IsWide width → (at - start) % width ≡ 0 → by_ecam_at start at width ≡ Ecam
+ecam_hit start at width wide aligned = ap (λ (b : Bool). cond b Ecam HitsNothing) (and_from (is_wide width) (eqb ((at - start) % width) 0) (wide_true width wide) (eq-eqb ((at - start) % width) 0 aligned))
+
+-- ---- the ways in which an access ends
+
+pub data Way (image : Image) (f : Facts) (id : ℕ) (access : Access) (at width : ℕ) : Type 0 where
+  OnMemory : (ps : List Place) → AreGrantedTo image f.cells id access at width → reach image f id access at width ≡ Memory ps → Way image f id access at width
+  OnRegion : (r : Region) → IsAnsweredBy image f.cells id access at width r → reach image f id access at width ≡ Subpage (places_in_row (place_in_cell id r at) width) → Way image f id access at width
+  OnWindow : IsAnsweredByWindow image f.cells id access at width → reach image f id access at width ≡ Config (at - image.system.pci_mmconfig_base) → Way image f id access at width
+  OnNothing : (IsAnswered image f.cells id access at width → ⊥) → reach image f id access at width ≡ Nothing → Way image f id access at width
+
+-- nothing answers where memory doesn't, and neither a region nor the window does
+unanswered : (image : Image) (cells : List Live) (id : ℕ) (access : Access) (at width : ℕ) → (AreGrantedTo image cells id access at width → ⊥) → ((r : Region) → IsAnsweredBy image cells id access at width r → ⊥)
+    → (IsAnsweredByWindow image cells id access at width → ⊥) → IsAnswered image cells id access at width → ⊥
+unanswered image cells id access at width memory region window h = ⊎_elim memory (λ rest. ⊎_elim (λ (by : (r : Region) × IsAnsweredBy image cells id access at width r). region by.0 by.1) window rest) h
+
+abbrev Behind : Image → Facts → ℕ → Access → ℕ → ℕ → Type 0
+Behind image f id access at width = IsBehindMemory image f.cells id access at width
+
+-- a region has the access, and lets it through or not
+region_way : (image : Image) (f : Facts) (id : ℕ) (access : Access) (at width : ℕ) (r : Region) (b : Bool) → AreSoundCells image.system (configs_of f.cells) → 0 < width → Behind image f id access at width → HasAccess image f.cells id at width r
+    → lets_through at width (is_write access) r ≡ b → reach image f id access at width ≡ cond b (Subpage (places_in_row (place_in_cell id r at) width)) Nothing → Way image f id access at width
+region_way image f id access at width r true sound some behind has is e = OnRegion r (record { behind = behind; has = has; through = lets-through access at width r behind.no_fetch is }) e
+region_way image f id access at width r false sound some behind has is e =
+    OnNothing
+    (unanswered image f.cells id access at width behind.lacks
+    (λ s by.
+    let P : Region → Type 0 = LetsThrough access at width in
+    both_ways (lets_through at width (is_write access) r) is (through-lets access at width r behind.no_fetch (subst P (one-region image f.cells id at width s r sound some by.has has) by.through)))
+    (λ by. by.none r has))
+    e
+
+-- no region has it, and the access lies in the window or not
+config_way : (image : Image) (f : Facts) (id : ℕ) (access : Access) (at width : ℕ) (b : Bool) → Behind image f id access at width → ((r : Region) → HasAccess image f.cells id at width r → ⊥) → IsInWindow image.system at width
+    → (is_wide width && eqb ((at - image.system.pci_mmconfig_base) % width) 0) ≡ b → reach image f id access at width ≡ in_ecam image.system.pci_mmconfig_base at (cond b Ecam HitsNothing) → Way image f id access at width
+config_way image f id access at width true behind none within is e =
+    let parts = and_parts (is_wide width) (eqb ((at - image.system.pci_mmconfig_base) % width) 0) is in
+    OnWindow (record { behind = behind; none = none; within = within; wide = true_wide width parts.0; aligned = eqb-true ((at - image.system.pci_mmconfig_base) % width) 0 parts.1 }) e
+config_way image f id access at width false behind none within is e =
+    OnNothing
+    (unanswered image f.cells id access at width behind.lacks (λ r by. none r by.has)
+    (λ by. both_ways (is_wide width && eqb ((at - image.system.pci_mmconfig_base) % width) 0) is
+    (and_from (is_wide width) (eqb ((at - image.system.pci_mmconfig_base) % width) 0) (wide_true width by.wide) (eq-eqb ((at - image.system.pci_mmconfig_base) % width) 0 by.aligned))))
+    e
+
+window_way : (image : Image) (f : Facts) (id : ℕ) (access : Access) (at width : ℕ) (b : Bool) → 0 < width → Behind image f id access at width → ((r : Region) → HasAccess image f.cells id at width r → ⊥)
+    → lies_between (ecam_start image.system) (ecam_end image.system) at width ≡ b → reach image f id access at width ≡ in_ecam image.system.pci_mmconfig_base at (cond b (by_ecam_at image.system.pci_mmconfig_base at width) HitsNothing) → Way image f id access at width
+window_way image f id access at width true some behind none is e =
+    config_way image f id access at width (is_wide width && eqb ((at - image.system.pci_mmconfig_base) % width) 0) behind none (window-in image.system at width some is) refl e
+window_way image f id access at width false some behind none is e =
+    OnNothing
+    (unanswered image f.cells id access at width behind.lacks (λ r by. none r by.has)
+    (λ by. both_ways (lies_between (ecam_start image.system) (ecam_end image.system) at width) is (in-window image.system at width behind.below by.within)))
+    e
+
+found_way : (image : Image) (f : Facts) (id : ℕ) (access : Access) (at width : ℕ) (o : Option Region) → AreSoundCells image.system (configs_of f.cells) → 0 < width → Behind image f id access at width
+    → find (takes_all (kept_of image f.cells id) at width) (regions_in image f.cells id) ≡ o → reach image f id access at width ≡ answer_by id o (ecam_start image.system) (ecam_end image.system) (is_write access) at width → Way image f id access at width
+found_way image f id access at width (Some r) sound some behind is e =
+    let found = IsFound-from_find (takes_all (kept_of image f.cells id) at width) (regions_in image f.cells id) r is in
+    region_way image f id access at width r (lets_through at width (is_write access) r) sound some behind (takes-has image f.cells id at width r some found.held found.passes) refl e
+found_way image f id access at width None sound some behind is e =
+    window_way image f id access at width (lies_between (ecam_start image.system) (ecam_end image.system) at width) some behind
+    (λ r has.
+    let takes = has-takes image f.cells id at width r sound some has in
+    both_ways (takes_all (kept_of image f.cells id) at width r) (find-None (takes_all (kept_of image f.cells id) at width) (regions_in image f.cells id) r is takes.0) takes.1)
+    refl e
+
+-- an access that is no fetch
+register_way : (image : Image) (f : Facts) (id : ℕ) (access : Access) (at width : ℕ) → AreSoundCells image.system (configs_of f.cells) → 0 < width → access ≢ ToFetch → (AreGrantedTo image f.cells id access at width → ⊥)
+    → ((o : Option Region) → answer_to id o (ecam_start image.system) (ecam_end image.system) access at width ≡ answer_by id o (ecam_start image.system) (ecam_end image.system) (is_write access) at width)
+    → reach image f id access at width ≡ behind_in image f.cells id access at width → Way image f id access at width
+register_way image f id access at width sound some other lacks by e = elim (cases_lt ADDRESS_END (at + width)) [
+  | inl beyond ↦
+      OnNothing
+      (unanswered image f.cells id access at width lacks (λ r h. let low = h.behind.below in absurd (omega arith)) (λ h. let low = h.behind.below in absurd (omega arith)))
+      (e ∙ answer-beyond id (regions_in image f.cells id) (is_kept image f.cells id) image.system access at width beyond)
+  | inr within ↦
+      found_way image f id access at width (find (takes_all (kept_of image f.cells id) at width) (regions_in image f.cells id)) sound some (record { no_fetch = other; below = within; lacks = lacks }) refl
+      (e ∙ answer-within id (regions_in image f.cells id) (is_kept image f.cells id) image.system access at width within ∙ by (find (takes_all (kept_of image f.cells id) at width) (regions_in image f.cells id)))
+]
+
+fetch_way : (image : Image) (f : Facts) (id at width : ℕ) → (AreGrantedTo image f.cells id ToFetch at width → ⊥) → reach image f id ToFetch at width ≡ behind_in image f.cells id ToFetch at width → Way image f id ToFetch at width
+fetch_way image f id at width lacks e =
+    OnNothing
+    (unanswered image f.cells id ToFetch at width lacks (λ r h. h.behind.no_fetch refl) (λ h. h.behind.no_fetch refl))
+    (e ∙ elim (cases_lt ADDRESS_END (at + width)) [
+      | inl beyond ↦ answer-beyond id (regions_in image f.cells id) (is_kept image f.cells id) image.system ToFetch at width beyond
+      | inr within ↦ answer-within id (regions_in image f.cells id) (is_kept image f.cells id) image.system ToFetch at width within
+    ])
+
+abbrev access_number : Access → ℕ
+access_number ToRead = 0
+access_number ToWrite = 1
+access_number ToFetch = 2
+
+behind_way : (image : Image) (f : Facts) (id : ℕ) (access : Access) (at width : ℕ) → AreSoundCells image.system (configs_of f.cells) → 0 < width → (AreGrantedTo image f.cells id access at width → ⊥)
+    → reach image f id access at width ≡ behind_in image f.cells id access at width → Way image f id access at width
+behind_way image f id ToRead at width sound some lacks e = register_way image f id ToRead at width sound some (λ same. let n : 0 ≡ 2 = ap access_number same in absurd (omega arith)) lacks (λ o. refl) e
+behind_way image f id ToWrite at width sound some lacks e = register_way image f id ToWrite at width sound some (λ same. let n : 1 ≡ 2 = ap access_number same in absurd (omega arith)) lacks (λ o. refl) e
+behind_way image f id ToFetch at width sound some lacks e = fetch_way image f id at width lacks e
+
+pub way : (image : Image) (f : Facts) (id : ℕ) (access : Access) (at width : ℕ) → AreSoundCells image.system (configs_of f.cells) → 0 < width → Way image f id access at width
+way image f id access at width sound some =
+    ⊎_elim
+    (λ (found : (ps : List Place) × (reach_by (granted image f id access) at width ≡ Memory ps)).
+    OnMemory found.0 (granted_memory image f id access at width found.0 sound found.1) (ap (λ (r : Reach). or_behind r (behind_in image f.cells id access at width)) found.1))
+    (λ (none : reach_by (granted image f id access) at width ≡ Nothing).
+    behind_way image f id access at width sound some
+    (λ each. let found = memory_granted image f id access at width sound some each in nothing_memory found.0 (sym none ∙ found.1))
+    (ap (λ (r : Reach). or_behind r (behind_in image f.cells id access at width)) none))
+    (memory_cases (granted image f id access) at width)
+
+-- ---- the places of an access
+
+row-listed : (id : ℕ) (r : Region) (at width : ℕ) (place : ℕ → Place) → r.virt_start ≤ at → ((k : ℕ) → k < width → place k ≡ place_in_cell id r (at + k)) → places_in_row (place_in_cell id r at) width ≡ listed place width
+row-listed id r at width place low each =
+    let g : ℕ → Option Place = λ a. Some (place_in_cell id r a) in
+    same_Some (places_in_row (place_in_cell id r at) width) (listed place width)
+    (sym (places_from-row g (place_in_cell id r at) at width (λ k lt. ap Some (place_in_cell-further id r at k low)))
+    ∙ places_from-listed g place at width (λ k lt. ap Some (sym (each k lt))))
+
+-- those of memory
+pub places-of_memory : (image : Image) (f : Facts) (id : ℕ) (access : Access) (at width : ℕ) (ps : List Place) (place : ℕ → Place) → AreSoundCells image.system (configs_of f.cells) → 0 < width → AreGrantedTo image f.cells id access at width
+    → reach image f id access at width ≡ Memory ps → AreItsPlaces image f.cells id access at width place → ps ≡ listed place width
+places-of_memory image f id access at width ps place sound some granted is are =
+    ⊎_elim
+    (λ (each : (k : ℕ) → k < width → IsGrantedTo image f.cells id access (at + k) (place k)).
+    same_memory ps (listed place width) (sym is ∙ ap (λ (r : Reach). or_behind r (behind_in image f.cells id access at width)) (memory_listed image f id access at width place sound some each)))
+    (λ (by : GivesPlaces image f.cells id access at width place). absurd (by.answers.behind.lacks granted))
+    are
+  where
+    memory_of : Reach → List Place
+    memory_of (Memory qs) = qs
+    memory_of found = []
+    same_memory : (qs rs : List Place) → Memory qs ≡ Memory rs → qs ≡ rs
+    same_memory qs rs e = ap memory_of e
+
+-- those of a subpage region
+pub places-of_region : (image : Image) (f : Facts) (id : ℕ) (access : Access) (at width : ℕ) (r : Region) (place : ℕ → Place) → AreSoundCells image.system (configs_of f.cells) → 0 < width → IsAnsweredBy image f.cells id access at width r
+    → AreItsPlaces image f.cells id access at width place → places_in_row (place_in_cell id r at) width ≡ listed place width
+places-of_region image f id access at width r place sound some answers are =
+    ⊎_elim
+    (λ (each : (k : ℕ) → k < width → IsGrantedTo image f.cells id access (at + k) (place k)). absurd (answers.behind.lacks (λ k lt. (place k, each k lt))))
+    (λ (by : GivesPlaces image f.cells id access at width place).
+    let same : by.region ≡ r = one-region image f.cells id at width by.region r sound some by.answers.has answers.has in
+    let P : Region → Type 0 = λ s. places_in_row (place_in_cell id s at) width ≡ listed place width in
+    subst P same
+    (row-listed id by.region at width place by.answers.has.first (λ k lt.
+    by.given k lt ∙ ap (λ (i : ℕ). place_in_cell i by.region (at + k)) by.answers.has.named)))
+    are
+
+-- and each access that a region answers has them
+pub region-places : (image : Image) (cells : List Live) (id : ℕ) (access : Access) (at width : ℕ) (r : Region) → IsAnsweredBy image cells id access at width r → AreItsPlaces image cells id access at width (λ k. place_in_cell id r (at + k))
+region-places image cells id access at width r answers =
+    inr (record { region = r; answers = answers; given = λ k lt. ap (λ (i : ℕ). place_in_cell i r (at + k)) (sym answers.has.named) })
