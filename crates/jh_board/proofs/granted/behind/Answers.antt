@@ -3,6 +3,7 @@ use Rattle.std.proofs.Common.{◌≡◌, ℕ, ◌+◌, ◌<◌, Option, ap, sym,
 use Rattle.std.proofs.lemmas.Bool.{cases_lt, false≢true}
 use Rattle.jh_num.specs.declared.address.TheConstants.{ADDRESS_END}
 use Rattle.jh_cellcfg.specs.declared.region.Region.{Region}
+use Rattle.jh_script.specs.declared.image.Image.{Image}
 use Rattle.jh_history.specs.Behind.{answer_to, ecam_start, ecam_end}
 use Rattle.jh_history.specs.Grants.{is_kept}
 use Rattle.jh_history.specs.Lives.{regions_in}
@@ -20,7 +21,8 @@ returns-then-is_within c =
     let end = c.ecam_of.result.end in
     c.answer_of.ensures
     ∙ ap (λ (s : ℕ). answer_to cell region s end wanted.access wanted.at wanted.width) c.ecam_of.ensures.start
-    ∙ ap (λ (e : ℕ). answer_to cell region (ecam_start image.system) e wanted.access wanted.at wanted.width) c.ecam_of.ensures.end
+    ∙ ap (λ (e : ℕ). answer_to cell region (ecam_start c.image.result.now.system) e wanted.access wanted.at wanted.width) c.ecam_of.ensures.end
+    ∙ ap (λ (i : Image). answer_to cell region (ecam_start i.system) (ecam_end i.system) wanted.access wanted.at wanted.width) c.image.ensures.image
     ∙ ap (λ (o : Option Region). answer_to cell o (ecam_start image.system) (ecam_end image.system) wanted.access wanted.at wanted.width) c.open_whole-region.ensures.found
     ∙ sym (answer-within cell (regions_in image cells cell) (is_kept image cells cell) image.system wanted.access wanted.at wanted.width within.1)
 
