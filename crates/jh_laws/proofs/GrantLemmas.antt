@@ -28,7 +28,6 @@ use Rattle.jh_history.proofs.AloneLemmas.{reach-alone}
 use Rattle.jh_history.proofs.AccessLemmas.{reach_by-within, reach_by-beyond}
 use Rattle.jh_laws.specs.Journals.{byte_at}
 use Rattle.jh_laws.specs.Grants.{may, IsGranted, AreGranted}
-use Rattle.jh_laws.specs.Outcomes.{IsGot}
 use Rattle.jh_laws.proofs.RootLemmas.{regions, has_address-first, has_address-last, has_address-from, gives-address, gives-pages, gives-right, gives-from, root_region, only_one}
 use Rattle.jh_laws.proofs.ListedLemmas.{places_from-listed, places_from-each, places_from-some}
 

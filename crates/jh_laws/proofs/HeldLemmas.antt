@@ -50,7 +50,7 @@ use Rattle.jh_history.proofs.AccessLemmas.{reach_by-within, reach_by-beyond}
 use Rattle.jh_history.specs.Sound.{AreTwo, AreSoundCells, IsSound}
 use Rattle.jh_laws.specs.Grants.{may, IsGranted}
 use Rattle.jh_laws.specs.Ways.{is_phase}
-use Rattle.jh_laws.specs.Held.{IsLive, IsLeft, IsGrantedTo, AreGrantedTo, IsGotBy, IsAwaitedBy, EndsAsGranted}
+use Rattle.jh_laws.specs.Held.{IsLive, IsLeft, IsGrantedTo}
 use Rattle.jh_laws.proofs.RootLemmas.{has_address-first, has_address-last, has_address-from, gives-address, gives-pages, gives-right, gives-from, op-plain}
 use Rattle.jh_laws.proofs.ListedLemmas.{places_from-listed, places_from-each, places_from-some}
 use Rattle.jh_history.proofs.SoundCpusLemmas.{other-root}

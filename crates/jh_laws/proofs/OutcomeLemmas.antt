@@ -8,7 +8,12 @@ use Rattle.jh_history.specs.declared.access.Access.TheVariants.{Read as ToRead, 
 use Rattle.jh_history.specs.declared.entry.Entry.{Entry}
 use Rattle.jh_history.specs.declared.entry.Act.{Act}
 use Rattle.jh_history.specs.declared.entry.Act.TheVariants.{Read, Write, Fetch, Await}
-use Rattle.jh_history.specs.Access.{read_of}
+use Rattle.jh_cellcfg.specs.declared.live.Live.{Live}
+use Rattle.jh_history.specs.declared.access.Access.{Access}
+use Rattle.jh_history.specs.Access.{read_of, is_reached}
+use Rattle.jh_history.specs.Admitted.{IsAdmitted}
+use Rattle.jh_history.specs.Facts.{Facts}
+use Rattle.jh_history.proofs.SoundLemmas.{sound-start}
 use Rattle.jh_history.specs.History.{facts}
 use Rattle.jh_history.specs.Grants.{reach}
 use Rattle.jh_history.specs.Due.{IsLegal}
