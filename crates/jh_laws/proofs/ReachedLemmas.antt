@@ -254,7 +254,7 @@ true_wide width h = elim (cases_Bool (eqb width 1)) [
   | inl e ↦ inl (eqb-true width 1 e)
   | inr one ↦ elim (cases_Bool (eqb width 2)) [
     | inl e ↦ inr (inl (eqb-true width 2 e))
-    | inr two ↦ inr (inr (eqb-true width 4 (sym (rw (one, two) refl) ∙ h)))
+    | inr two ↦ (let last : (eqb width 1 || eqb width 2 || eqb width 4) ≡ eqb width 4 = rw (one, two) refl in inr (inr (eqb-true width 4 (sym last ∙ h))))
   ]
 ]
 
