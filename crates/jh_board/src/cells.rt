@@ -106,7 +106,8 @@ impl LiveCells {
 
     /// The configurations of the cells, in order of creation.
     pub fn list(&self) -> &[CellConfig]
-        ensures { result.now ≡ configs_of self.now.lives }
+        ensures value { result.now ≡ configs_of self.now.lives }
+        ensures few { length result.now ≤ 15 }
     {
         self.cells.list()
     }

@@ -28,7 +28,7 @@ returns-then-is_any_locked c = λ i f h.
     let byte : byte_of held.memory ≡ f.byte = ap (λ (s : StateView). byte_of s.held.memory) c.self.view_is ∙ same_function (byte_of c.args.self.now.held.memory) f.byte h.1.bytes in
     let locked : list_any (is_locked f) f.cells ≡ true =
     ap (λ (b : Place → ℕ). list_any (λ (live : Live). is_locked_by b live.config) f.cells) (sym byte)
-    ∙ sym (c.is_any_locked.ensures f.cells (sym (c.list-cells.ensures ∙ ap configs_of lives))) ∙ c.if-is_any_locked.true in
+    ∙ sym (c.is_any_locked.ensures f.cells (sym (c.list-cells.ensures.value ∙ ap configs_of lives))) ∙ c.if-is_any_locked.true in
     rw locked refl
 
 pub returns-in-Some : goal.returns-in-Some
@@ -38,7 +38,7 @@ returns-in-Some c = λ i f h.
     let held = c.self.inside.held.now in
     let lives : held.cells.lives ≡ f.cells = ap (λ (s : StateView). s.held.cells.lives) c.self.view_is ∙ h.1.cells in
     let byte : byte_of held.memory ≡ f.byte = ap (λ (s : StateView). byte_of s.held.memory) c.self.view_is ∙ same_function (byte_of s.held.memory) f.byte h.1.bytes in
-    let cells : configs_of f.cells ≡ c.list-cells.result.now = sym (c.list-cells.ensures ∙ ap configs_of lives) in
+    let cells : configs_of f.cells ≡ c.list-cells.result.now = sym (c.list-cells.ensures.value ∙ ap configs_of lives) in
     let locked : list_any (is_locked f) f.cells ≡ false =
     ap (λ (b : Place → ℕ). list_any (λ (live : Live). is_locked_by b live.config) f.cells) (sym byte) ∙ sym (c.is_any_locked.ensures f.cells cells) ∙ c.if-is_any_locked.false in
     let image : c.self.inside.image.now ≡ i = ap (λ (s : StateView). s.image) c.self.view_is ∙ sym h.0 in
