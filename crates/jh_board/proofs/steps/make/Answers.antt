@@ -36,7 +36,7 @@ make_page-requires c =
     let cpus : (i : ℕ) → i < 16 → slice_get c.cpus_after.new.cpus i ≡ Some (cpu_after image f entry i) =
     λ i lt. c.cpus_after.ensures f (sym (c.as_ref.ensures.value ∙ means.call)) means.cpus i lt ∙ ap (λ (im : Image). Some (cpu_after im f entry i)) c.image.ensures.image in
     let write : c.page_write-write.result ≡ page_write_by image f entry entry.act =
-    c.page_write-write.ensures f (sym (c.list.ensures ∙ ap configs_of means.cells)) (sym (c.as_ref-2.ensures.value ∙ means.call)) (λ i lt. cpus i lt ∙ ap (λ (im : Image). Some (cpu_after im f entry i)) (sym c.image-2.ensures.image))
+    c.page_write-write.ensures f (sym (c.list.ensures.value ∙ ap configs_of means.cells)) (sym (c.as_ref-2.ensures.value ∙ means.call)) (λ i lt. cpus i lt ∙ ap (λ (im : Image). Some (cpu_after im f entry i)) (sym c.image-2.ensures.image))
     ∙ ap (λ (im : Image). page_write_by im f entry entry.act) c.image-2.ensures.image in
     if-some c.page_write-write.result (λ (w : PageWrite). HoldsComm c.make_bytes.new.memory.comms w.cell) (λ w is.
     c.make_bytes.ensures.held w.cell (page-held image held f entry.act w.cell means
@@ -66,7 +66,7 @@ returns-clause-ok c = λ f old due.
     let cpus : (i : ℕ) → i < 16 → slice_get c.cpus_after.new.cpus i ≡ Some (cpu_after image f entry i) =
     λ i lt. c.cpus_after.ensures f (sym (c.as_ref.ensures.value ∙ means.call)) means.cpus i lt ∙ ap (λ (im : Image). Some (cpu_after im f entry i)) c.image.ensures.image in
     let write : c.page_write-write.result ≡ page_write_by image f entry entry.act =
-    c.page_write-write.ensures f (sym (c.list.ensures ∙ ap configs_of means.cells)) (sym (c.as_ref-2.ensures.value ∙ means.call)) (λ i lt. cpus i lt ∙ ap (λ (im : Image). Some (cpu_after im f entry i)) (sym c.image-2.ensures.image))
+    c.page_write-write.ensures f (sym (c.list.ensures.value ∙ ap configs_of means.cells)) (sym (c.as_ref-2.ensures.value ∙ means.call)) (λ i lt. cpus i lt ∙ ap (λ (im : Image). Some (cpu_after im f entry i)) (sym c.image-2.ensures.image))
     ∙ ap (λ (im : Image). page_write_by im f entry entry.act) c.image-2.ensures.image in
     let bytes : byte_of c.make_bytes.new.memory ≡ byte_written image f entry.cell entry.act =
     same_function (byte_of c.make_bytes.new.memory) (byte_written image f entry.cell entry.act) (c.in_ok-make_bytes.ensures.ok image f entry.cell means.bytes (c.requires.reached f old)) in

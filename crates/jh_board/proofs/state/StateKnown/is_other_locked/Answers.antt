@@ -15,5 +15,5 @@ returns c = λ i f h.
     let held = c.self.inside.held.now in
     let lives : held.cells.lives ≡ f.cells = ap (λ (s : StateView). s.held.cells.lives) c.self.view_is ∙ h.1.cells in
     let byte : byte_of held.memory ≡ f.byte = ap (λ (s : StateView). byte_of s.held.memory) c.self.view_is ∙ same_function (byte_of c.args.self.now.held.memory) f.byte h.1.bytes in
-    c.is_any_other_locked.ensures f.cells (sym (c.list.ensures ∙ ap configs_of lives))
+    c.is_any_other_locked.ensures f.cells (sym (c.list.ensures.value ∙ ap configs_of lives))
     ∙ ap (λ (b : Place → ℕ). list_any (λ (live : Live). is_other_locked_by b c.args.id live.config) f.cells) byte
