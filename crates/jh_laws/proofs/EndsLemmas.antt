@@ -66,7 +66,7 @@ use Rattle.jh_laws.proofs.ReachedLemmas.{Way, OnMemory, OnRegion, OnWindow, OnNo
 -- ---- what a reading access gets
 
 -- an access that configuration space answers has no places
-window-places : (image : Image) (cells : List Live) (id : ℕ) (access : Access) (at width : ℕ) (place : ℕ → Place) → IsAnsweredByWindow image cells id access at width → AreItsPlaces image cells id access at width place → ⊥
+pub window-places : (image : Image) (cells : List Live) (id : ℕ) (access : Access) (at width : ℕ) (place : ℕ → Place) → IsAnsweredByWindow image cells id access at width → AreItsPlaces image cells id access at width place → ⊥
 window-places image cells id access at width place window are =
     ⊎_elim
     (λ each. window.behind.lacks (λ k lt. (place k, each k lt)))

@@ -193,7 +193,7 @@ other_writes image cells live number region place other at sound held there give
     (cases_lt own.0 there.0)
 
 -- the same, by the name of the cell itself
-own_name : (image : Image) (cells : List Live) (id at : ℕ) (place : Place) (h : IsGivenTo image cells id at place) → IsGivenTo image cells h.cell.id at place
+abbrev own_name : (image : Image) (cells : List Live) (id at : ℕ) (place : Place) (h : IsGivenTo image cells id at place) → IsGivenTo image cells h.cell.id at place
 own_name image cells id at place h = record {
   cell = h.cell;
   live = h.live;
