@@ -75,12 +75,7 @@ fn keeps(image: &IndexedImage, cells: &LiveCells, cell: u32, places: &Places) ->
 }
 
 /// The memory that the cell's access reaches, where these cells live besides root.
-pub fn memory(
-    image: &IndexedImage,
-    cells: &LiveCells,
-    cell: u32,
-    wanted: &Wanted,
-) -> Option<Places>
+pub fn memory(image: &IndexedImage, cells: &LiveCells, cell: u32, wanted: &Wanted) -> Option<Places>
     requires { wanted.now.width ≤ 8 }
     ensures { memory_or_nothing result ≡ reach_by (granted_in image.now cells.now.lives cell wanted.now.access) wanted.now.at wanted.now.width }
 {
@@ -98,12 +93,7 @@ pub fn memory(
 }
 
 /// The subpage region of the cell that has the whole access.
-fn whole(
-    image: &IndexedImage,
-    cells: &LiveCells,
-    cell: u32,
-    wanted: &Wanted,
-) -> Option<Region>
+fn whole(image: &IndexedImage, cells: &LiveCells, cell: u32, wanted: &Wanted) -> Option<Region>
     requires { 0 < wanted.now.width }
     ensures found { (closed : ℕ → Bool) → find (takes_all closed wanted.now.at wanted.now.width) (regions_in image.now cells.now.lives cell) ≡ unless_closed closed wanted.now.at wanted.now.width result }
     ensures within { IfSome result IsInRange }
@@ -117,12 +107,7 @@ fn whole(
 }
 
 /// The same, where the cell is kept from none of the bytes of the access.
-fn open_whole(
-    image: &IndexedImage,
-    cells: &LiveCells,
-    cell: u32,
-    wanted: &Wanted,
-) -> Option<Region>
+fn open_whole(image: &IndexedImage, cells: &LiveCells, cell: u32, wanted: &Wanted) -> Option<Region>
     requires some { 0 < wanted.now.width }
     requires few { wanted.now.width ≤ 8 }
     ensures found { result ≡ find (takes_all (λ p. is_kept_lem image.now cells.now.lives cell (Physical p)) wanted.now.at wanted.now.width) (regions_in image.now cells.now.lives cell) }

@@ -86,13 +86,7 @@ fn in_ecam(ecam: Range, at: u64, hitting: Hitting) -> Reach
 }
 
 /// What answers a read or a write, where that is the subpage region which has it.
-fn answer_by(
-    cell: u32,
-    region: Option<Region>,
-    ecam: Range,
-    wanted: &Wanted,
-    write: bool,
-) -> Reach
+fn answer_by(cell: u32, region: Option<Region>, ecam: Range, wanted: &Wanted, write: bool) -> Reach
     requires some { 0 < wanted.now.width }
     requires few { wanted.now.width ≤ 8 }
     requires within { IfSome region IsInRange }

@@ -229,13 +229,7 @@ pub(crate) fn memory_in(
 }
 
 /// Whether it is a subpage region that has the cell's access, and the cell is kept from none of its bytes.
-fn takes_all(
-    image: &Image,
-    cells: &LiveCells,
-    cell: u32,
-    region: &Region,
-    wanted: &Wanted,
-) -> bool
+fn takes_all(image: &Image, cells: &LiveCells, cell: u32, region: &Region, wanted: &Wanted) -> bool
     requires some { 0 < wanted.now.width }
     requires few { wanted.now.width ≤ 8 }
     requires within { 0 < region.now.size → IsInRange region.now }

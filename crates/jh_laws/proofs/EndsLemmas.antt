@@ -237,4 +237,3 @@ ends-at image before rest entry admitted legal =
     let due : due_at image f entry.cpu ≡ Some entry = due-split image before rest entry legal in
     let P : ℕ → Type 0 = λ id. EndsAsGranted image f id entry.act in
     subst P (sym (next-from_due image f entry due).cell) (ends_made image f entry admitted sound (made-by image f entry sound due))
-

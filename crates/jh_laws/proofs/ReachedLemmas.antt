@@ -122,17 +122,16 @@ has-takes image cells id at width r sound some h =
     let size : has_size r ≡ true = lt-ltb 0 r.size (omega arith) in
     let lies : lies_between r.virt_start (virt_end r) at width ≡ true = lies_from r.virt_start (virt_end r) at width low high in
     let free : list_any kept (places_in_row (place_in_cell id r at) width) ≡ false = row_free kept (place_in_cell id r at) width
-        (λ k lt.
-        let P : ℕ → Type 0 = λ i. is_kept image cells i (place_in_cell i r (at + k)) ≡ false in
-        ap kept (sym (place_in_cell-further id r at k low)) ∙ subst P h.named (left_free image cells h.cell (place_in_cell h.cell.id r (at + k)) (h.left k lt))) in
+    (λ k lt.
+    let P : ℕ → Type 0 = λ i. is_kept image cells i (place_in_cell i r (at + k)) ≡ false in
+    ap kept (sym (place_in_cell-further id r at k low)) ∙ subst P h.named (left_free image cells h.cell (place_in_cell h.cell.id r (at + k)) (h.left k lt))) in
     let open_is : is_at_closed (kept_of image cells id) at width r ≡ false = sym (kept-row image cells id at width r low) ∙ free in
     let C : List Region → Type 0 = λ rs. Contains rs r in
-    let R : ℕ → Type 0 = λ i. regions_in image cells i ≡ h.cell.memory_regions in
-    (
+    let R : ℕ → Type 0 = λ i. regions_in image cells i ≡ h.cell.memory_regions in (
       subst C (sym (subst R h.named (regions_of_live image cells h.cell sound h.live))) h.held,
       and_from (has_size r && not (is_page_mapped r)) (lies_between r.virt_start (virt_end r) at width && not (is_at_closed (kept_of image cells id) at width r))
-      (and_from (has_size r) (not (is_page_mapped r)) size (ap not h.part))
-      (and_from (lies_between r.virt_start (virt_end r) at width) (not (is_at_closed (kept_of image cells id) at width r)) lies (ap not open_is)),
+          (and_from (has_size r) (not (is_page_mapped r)) size (ap not h.part))
+          (and_from (lies_between r.virt_start (virt_end r) at width) (not (is_at_closed (kept_of image cells id) at width r)) lies (ap not open_is)),
     )
 
 has_of_cell : (image : Image) (cells : List Live) (id at width : ℕ) (r : Region) (o : Option CellConfig) → 0 < width → cell_in image cells id ≡ o → Contains (option_map_or (λ (c : CellConfig). c.memory_regions) o []) r
@@ -200,9 +199,9 @@ may_by ToFetch r other = absurd (other refl)
 through-lets : (access : Access) (at width : ℕ) (r : Region) → access ≢ ToFetch → LetsThrough access at width r → lets_through at width (is_write access) r ≡ true
 through-lets access at width r other h =
     let aligned : (allows_unaligned r || eqb (at % width) 0) ≡ true = ⊎_elim
-        (λ (e : at % width ≡ 0). ap (λ (b : Bool). allows_unaligned r || b) (eq-eqb (at % width) 0 e) ∙ or_true (allows_unaligned r))
-        (λ (e : IsTrue (allows_unaligned r)). ap (λ (b : Bool). b || eqb (at % width) 0) e)
-        h.aligned in
+    (λ (e : at % width ≡ 0). ap (λ (b : Bool). allows_unaligned r || b) (eq-eqb (at % width) 0 e) ∙ or_true (allows_unaligned r))
+    (λ (e : IsTrue (allows_unaligned r)). ap (λ (b : Bool). b || eqb (at % width) 0) e)
+    h.aligned in
     and_from (has_right (is_write access) r) (allows_width width r && (allows_unaligned r || eqb (at % width) 0)) (may_by access r other ∙ h.right)
     (and_from (allows_width width r) (allows_unaligned r || eqb (at % width) 0) h.wide aligned)
   where
@@ -395,6 +394,7 @@ places-of_memory image f id access at width ps place sound some granted is are =
     memory_of : Reach → List Place
     memory_of (Memory qs) = qs
     memory_of found = []
+
     same_memory : (qs rs : List Place) → Memory qs ≡ Memory rs → qs ≡ rs
     same_memory qs rs e = ap memory_of e
 

@@ -19,4 +19,3 @@ returns-in_ok-write_places-in-Memory-clause-bytes c = λ i f h q.
     (λ (is : c.reach_in.result ≡ Memory c.in-Memory.places). kept-write i f c.args.cell wanted c.reach_in.result c.in-Memory.places c.args.value q c.args.self.now h found is)
     (λ (is : c.reach_in.result ≡ Subpage c.in-Memory.places). kept-write_subpage i f c.args.cell wanted c.reach_in.result c.in-Memory.places c.args.value q c.args.self.now h found is)
     c.in-Memory.is
-
