@@ -2,3 +2,9 @@ pub mod Ends
 pub mod Plays
 pub mod Ran
 pub mod Typed
+pub mod Origins
+pub mod Turns
+pub mod Running
+pub mod Drives
+pub mod Workers
+pub mod Summaries

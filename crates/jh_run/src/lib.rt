@@ -1,13 +1,25 @@
-//! Schedules on a board.
+//! Schedules on a board, and a worker for each of its CPUs.
 #![tactic(auto)]
 
+mod crossing;
+mod driving;
 mod ended;
 mod laws;
+mod run_turn;
+mod running;
 mod schedule;
+mod summary;
+mod turning;
+mod workers;
 
+pub use driving::drive;
 pub use ended::Ended;
 pub use laws::legal_journals_are_readable;
+pub use run_turn::{Halt, RunTurn};
+pub use running::Running;
 pub use schedule::{follow, play};
+pub use summary::{Summary, summary_of};
+pub use workers::run;
 
 #[cfg(test)]
 mod tests;
