@@ -1,16 +1,16 @@
 -- Ports that are spread over workers, one after another, and gathered again.
-use Rattle.std.proofs.Common.{◌≡◌, ℕ, ◌+◌, ◌<◌, List, [], ◌∷◌, ◌++◌, length, All, Contains, map, refl, sym, subst, ap, ◌∙◌, inl, inr, ◌⊎◌, arith, append-nil, append_assoc}
-use Rattle.std.proofs.lemmas.List.{map-append, length_push}
-use Rattle.std.proofs.lemmas.List.Elements.{All-append, All-nil, All-cons, Contains-append_left, Contains-push, Contains-push_cases, at_from_Contains}
+use Rattle.std.proofs.Common.{◌≡◌, ℕ, ◌+◌, ◌<◌, List, [], ◌∷◌, ◌++◌, length, take, drop, All, Contains, map, refl, sym, subst, ap, ◌∙◌, inl, inr, ◌⊎◌, arith, append-nil, append_assoc, length-append}
+use Rattle.std.proofs.lemmas.List.{map-append, length_push, take-append-le, take_all}
+use Rattle.std.proofs.lemmas.List.Elements.{All-nil, All-push, All-contains, Contains-append_left, Contains-append_right, Contains-push, Contains-push_cases, at_from_Contains}
 use mathlib.Core.List.{IsPrefix}
 use Rattle.jh_turn.specs.declared.turner.Turner.{Ghosts}
 use Rattle.jh_turn.specs.declared.shared.Shared.{Shared}
 use Rattle.jh_turn.specs.declared.shared.Port.{Port}
 use Rattle.jh_turn.specs.Ports.{port_caller, IsPortOf}
-
--- one element more
-pub All-push : {X : Type 0} (P : X → Type 0) (xs : List X) (x : X) → All P xs → P x → All P (xs ++ x ∷ [])
-All-push P xs x all h = All-append P xs (x ∷ []) all (All-cons P x [] h (All-nil P))
+use Rattle.jh_history.specs.declared.entry.Entry.{Entry}
+use Rattle.jh_run.specs.Origins.{Origin}
+use Rattle.jh_run.specs.Drives.{SomeShows}
+use Rattle.jh_run.specs.declared.driving.Stop.{Stop}
 
 -- numbers of a list, and of one element more
 pub push-kept : {X : Type 0} (f : X → ℕ) (xs : List X) (x : X) (n : ℕ) → Contains (map f xs) n → Contains (map f (xs ++ x ∷ [])) n
@@ -34,6 +34,40 @@ begins-numbers {X} f first all n b h =
     let P : List X → Type 0 = λ xs. Contains (map f xs) n in
     let Q : List ℕ → Type 0 = λ ns. Contains ns n in
     subst P b.1 (subst Q (sym (map-append f first b.0)) (Contains-append_left (map f first) (map f b.0) n h))
+
+-- an element of a list that is split there
+pub Contains-at : {X : Type 0} (xs ys all : List X) (x : X) → all ≡ xs ++ x ∷ ys → Contains all x
+Contains-at {X} xs ys all x e = let P : List X → Type 0 = λ zs. Contains zs x in subst P (sym e) (Contains-append_right xs (x ∷ ys) x (0, omega (arith), refl))
+
+pub All-at : {X : Type 0} (P : X → Type 0) (xs ys all : List X) (x : X) → all ≡ xs ++ x ∷ ys → All P all → P x
+All-at P xs ys all x e h = All-contains P all x h (Contains-at xs ys all x e)
+
+-- what was left begins with the one that came now
+pub split-next : {X : Type 0} (all done left rest : List X) (x : X) → all ≡ done ++ left → left ≡ x ∷ rest → all ≡ done ++ x ∷ rest
+split-next all done left rest x whole e = whole ∙ ap (λ w. done ++ w) e
+
+pub split-more : {X : Type 0} (all done left rest : List X) (x : X) → all ≡ done ++ left → left ≡ x ∷ rest → all ≡ (done ++ x ∷ []) ++ rest
+split-more all done left rest x whole e = split-next all done left rest x whole e ∙ sym (append_assoc done (x ∷ []) rest)
+
+pub split-few : {X : Type 0} (all done left rest : List X) (x : X) → all ≡ done ++ left → left ≡ x ∷ rest → length done < length all
+split-few {X} all done left rest x whole e = omega (arith, ap length (split-next all done left rest x whole e), length-append {A = X})
+
+-- what was lent whole and is written back is what was lent, as it is now
+written_back : {X : Type 0} (n : ℕ) (now before : List X) → length now ≡ n → take n (now ++ drop (length now) before) ≡ now
+written_back n now before e = take-append-le n now (drop (length now) before) (omega arith) ∙ take_all n now (omega arith)
+
+pub begins-back : {X : Type 0} (n : ℕ) (now before all : List X) → length now ≡ n → IsPrefix (take n (now ++ drop (length now) before)) all → IsPrefix now all
+begins-back n now before all e h = (h.0, ap (λ w. w ++ h.0) (sym (written_back n now before e)) ∙ h.1)
+
+module _ {T A : Type 0} {G : Ghosts T Entry A} where
+  -- what one of the first ports has seen tells why, and that port is one of all
+  pub some_shows-kept : (origin : Origin) (stop : Stop) (first all : List (Port T Entry A G)) → IsPrefix first all → SomeShows origin stop first → SomeShows origin stop all
+  some_shows-kept origin stop first all begins s = record { port = s.port; one = begins-contains first all s.port begins s.one; shows = s.shows }
+
+module _ {T E A : Type 0} {G : Ghosts T E A} where
+  -- a port of an object is one of the same object
+  pub port_of-same : (one other : Shared T E A) (port : Port T E A G) → one ≡ other → IsPortOf one port → IsPortOf other port
+  port_of-same one other port e h = let P : Shared T E A → Type 0 = λ s. IsPortOf s port in subst P e h
 
 module _ {T E A : Type 0} {G : Ghosts T E A} {X : Type 0} where
   -- each port that came is the caller's own now, or a worker has it; those past the marks are the caller's own

@@ -1,10 +1,13 @@
 -- What a turn of a running board tells.
-use Rattle.std.proofs.Common.{◌≡◌, ℕ, ◌+◌, ◌<◌, ◌≤◌, List, [], ◌∷◌, ◌++◌, true, false, Option, Some, None, refl, sym, ◌∙◌, ap, subst, length, inl, inr}
-use Rattle.std.specs.Prelude.{IsSome, IfSome}
+use Rattle.std.proofs.Common.{◌≡◌, ℕ, ◌+◌, ◌<◌, ◌≤◌, List, [], ◌∷◌, ◌++◌, Bool, true, false, Option, Some, None, refl, sym, ◌∙◌, ap, subst, length, inl, inr}
+use Rattle.std.specs.Prelude.{IsSome, IfSome, option_map, if◌then◌else◌}
 use Rattle.std.proofs.lemmas.Bool.{false≢true}
-use Rattle.std.proofs.lemmas.Option.{none-some}
+use Rattle.std.proofs.lemmas.Option.{none-some, same_Some}
 use Rattle.jh_history.specs.declared.entry.Entry.{Entry}
-use Rattle.jh_history.specs.Due.{due, IsQuiet}
+use Rattle.jh_history.specs.declared.entry.Act.{Act}
+use Rattle.jh_script.specs.declared.image.Image.{Image}
+use Rattle.jh_history.specs.Lives.{is_on_board}
+use Rattle.jh_history.specs.Due.{due, due_at, entry_by, IsQuiet}
 use Rattle.jh_turn.specs.Histories.{Grows}
 use Rattle.jh_board.specs.BoardView.{BoardView}
 use Rattle.jh_run.specs.Origins.{Origin}
@@ -29,17 +32,30 @@ Takes-origin old cpu Done new h = ap board_origin h.1
 Takes-origin old cpu (Halted Full) new h = ap board_origin h.2
 Takes-origin old cpu (Halted NoMemory) new h = ap board_origin h
 
+by_cpu : (cpu cell : ℕ) (entry : Entry) (o : Option Act) → option_map (entry_by cpu cell) o ≡ Some entry → entry.cpu ≡ cpu
+by_cpu cpu cell entry None h = absurd (none-some entry h)
+by_cpu cpu cell entry (Some act) h = ap (λ (e : Entry). e.cpu) (sym (same_Some (entry_by cpu cell act) entry h))
+
+on_board : (b : Bool) (o : Option Entry) (entry : Entry) → (if b then o else None) ≡ Some entry → o ≡ Some entry
+on_board true o entry h = h
+on_board false o entry h = absurd (none-some entry h)
+
+-- what is due to a CPU is its own
+pub due-own : (image : Image) (before : List Entry) (cpu : ℕ) (entry : Entry) → due image before cpu ≡ Some entry → entry.cpu ≡ cpu
+unfolding due_at
+due-own image before cpu entry h = by_cpu cpu _ entry _ (on_board (is_on_board image cpu) _ entry h)
+
 abbrev entries : BoardView → List Entry
 entries board = board.entries
 
 -- it leaves the entries, or adds one of the CPU
-pub Takes-grows : (old : BoardView) (cpu : ℕ) (turn : RunTurn) (new : BoardView) → ((entry : Entry) → due old.image old.entries cpu ≡ Some entry → entry.cpu ≡ cpu) → Takes old cpu turn new → Grows whose_entry cpu old.entries new.entries
-Takes-grows old cpu (Made entry) new own h = inr (entry, own entry h.0, ap entries h.2)
-Takes-grows old cpu (Edited left) new own h = absurd h
-Takes-grows old cpu NotNow new own h = inl (ap entries h.2)
-Takes-grows old cpu Done new own h = inl (ap entries h.1)
-Takes-grows old cpu (Halted Full) new own h = inl (ap entries h.2)
-Takes-grows old cpu (Halted NoMemory) new own h = inl (ap entries h)
+pub Takes-grows : (old : BoardView) (cpu : ℕ) (turn : RunTurn) (new : BoardView) → Takes old cpu turn new → Grows whose_entry cpu old.entries new.entries
+Takes-grows old cpu (Made entry) new h = inr (entry, due-own old.image old.entries cpu entry h.0, ap entries h.2)
+Takes-grows old cpu (Edited left) new h = absurd h
+Takes-grows old cpu NotNow new h = inl (ap entries h.2)
+Takes-grows old cpu Done new h = inl (ap entries h.1)
+Takes-grows old cpu (Halted Full) new h = inl (ap entries h.2)
+Takes-grows old cpu (Halted NoMemory) new h = inl (ap entries h)
 
 -- where something is due, the entries aren't quiet
 busy : (o : Option Entry) → IsSome o → o ≡ None → ⊥

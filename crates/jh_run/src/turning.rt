@@ -9,7 +9,6 @@ use crate::run_turn::{Halt, RunTurn};
 use crate::running::Running;
 use jh_board::{Board, Turn, TurnFault};
 use jh_history::Entry;
-use jh_laws::due_entries_are_their_cpus_own;
 use jh_num::Steps;
 use jh_turn::Turner;
 
@@ -59,13 +58,13 @@ impl Turner for Running {
     ghost answers = { Answers };
 
     fn turn(&mut self, who: u8) -> RunTurn
+        requires { Serves (origin_of self.old) who }
         ensures origin { origin_of self.new ≡ origin_of self.old }
         ensures history { Grows whose_entry who (entries_of self.old) (entries_of self.new) }
         ensures answer { Answers (origin_of self.old) who (entries_of self.old) (entries_of self.new) result }
         ensures ran { self.old.halted ≡ None → Takes self.old.board who result self.new.board × (self.new.halted ≡ halt_of result) }
         ensures halted { (halt : Halt) → self.old.halted ≡ Some halt → (result ≡ RunTurn.Halted halt) × (self.new.board ≡ self.old.board) × (self.new.halted ≡ self.old.halted) }
     {
-        due_entries_are_their_cpus_own();
         let _ = self.board.journal();
         if let Some(halt) = self.halted {
             return RunTurn::Halted(halt);

@@ -108,7 +108,7 @@ fn gather<'s, R: Threads>(
     requires room { length own.old.items + length children.items ≤ vec_capacity own.old }
     ensures own { All (IsPortOf shared.now) own.new.items }
     ensures kept { IsPrefix own.old.items own.new.items }
-    ensures each { (who : ℕ) → Contains (map (λ child. child.promise.caller) children.items) who → Contains (map port_caller own.new.items) who }
+    ensures each { (who : ℕ) → Contains (map (λ child. child.promise.caller) children.entry.items) who → Contains (map port_caller own.new.items) who }
 {
     for child in children {
         own.push_reserved(child.join(rt));
@@ -128,7 +128,7 @@ fn finish<'s, R: Threads + Wait, G: Gate>(
     requires given { All (λ child. child.promise.shared.now ≡ shared.now) children.items }
     requires room { length own.items + length children.items ≤ vec_capacity own }
     ensures own { All (IsPortOf shared.now) result.ports.items }
-    ensures each { (who : ℕ) → Contains (map port_caller own.items) who ⊎ Contains (map (λ child. child.promise.caller) children.items) who → Contains (map port_caller result.ports.items) who }
+    ensures each { (who : ℕ) → Contains (map port_caller own.items) who ⊎ Contains (map (λ child. child.promise.caller) children.entry.items) who → Contains (map port_caller result.ports.items) who }
     ensures shows { SomeShows (origin_of (opened_value shared.now)) (stop_of result.halted) result.ports.items }
 {
     let halted = drive(rt, shared, own.as_mut_slice(), gate);
@@ -199,7 +199,7 @@ fn drive_all<R: Threads + Wait + Sync, G: Gate + Sync>(
         rt,
         |scope| -> Result<Driven, NoMemory>
             requires { All (IsPortOf shared.now) ports.items × (length stays.now < length ports.items) × (own.items ≡ []) × (length ports.items ≤ vec_capacity own) }
-            ensures back { IfOk result (λ driven. AreBack shared.entry.now ports.entry.items driven.ports.items) }
+            ensures back { IfOk result (λ driven. AreBack shared.entry.now ports.items driven.ports.items) }
             ensures shows { IfOk result (λ driven. SomeShows (origin_of (opened_value shared.entry.now)) (stop_of driven.halted) driven.ports.items) }
         {
             let children = Vec::with_capacity(alloc, ports.len())?;
