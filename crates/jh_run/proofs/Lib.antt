@@ -6,3 +6,4 @@ pub mod TurnLemmas
 pub mod PortLemmas
 pub mod WholeLemmas
 pub mod SpreadLemmas
+pub mod CallerLemmas

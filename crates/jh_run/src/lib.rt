@@ -7,6 +7,7 @@ mod ended;
 mod laws;
 mod run_turn;
 mod running;
+mod runs;
 mod schedule;
 mod summary;
 mod turning;
@@ -17,9 +18,9 @@ pub use ended::Ended;
 pub use laws::legal_journals_are_readable;
 pub use run_turn::{Halt, RunTurn};
 pub use running::Running;
+pub use runs::run;
 pub use schedule::{follow, play};
 pub use summary::{Summary, summary_of};
-pub use workers::run;
 
 #[cfg(test)]
 mod tests;

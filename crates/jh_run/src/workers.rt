@@ -1,25 +1,16 @@
-//! A worker for each CPU.
-ghost use Rattle.std.specs.Prelude.{◌≡◌, ℕ, ◌+◌, ◌<◌, ◌≤◌, ◌↔◌, ◌⊎◌, [], length, map, All, Contains, IfOk, IfErr, vec_len, vec_capacity};
+//! A worker for each port, in a thread of its own where one can be had.
+ghost use Rattle.std.specs.Prelude.{◌≡◌, ℕ, ◌+◌, ◌<◌, ◌≤◌, ◌⊎◌, [], length, map, All, Contains, IfOk, IfErr, vec_len, vec_capacity};
 ghost use mathlib.Core.List.{IsPrefix};
-ghost use Rattle.jh_history.specs.Admitted.{IsAdmitted, IsBuilt};
-ghost use Rattle.jh_history.specs.Due.{IsLegal, IsQuiet};
 ghost use Rattle.jh_turn.specs.Ports.{IsPortOf, port_caller, opened_value};
-ghost use Rattle.jh_run.specs.Drives.{SomeShows, stop_of, end_stop};
-ghost use Rattle.jh_run.specs.Plays.{IsBoardOf};
+ghost use Rattle.jh_run.specs.Drives.{SomeShows, stop_of};
 ghost use Rattle.jh_run.specs.Running.{origin_of};
 ghost use Rattle.jh_run.specs.Workers.{AreBack};
 
 use crate::driving::drive;
-use crate::ended::Ended;
 use crate::run_turn::Halt;
 use crate::running::Running;
-use crate::schedule::{cpus_of, opened};
-use jh_board::Board;
-use jh_check::{nothing_is_found_in_what_is_clean, sound_bitmaps_name_few_cpus};
-use jh_laws::{nothing_extends_a_quiet_journal, rounds_are_of_the_boards_cpus};
 use jh_num::NoMemory;
 use jh_outside::Gate;
-use jh_script::Image;
 use jh_turn::{Port, Shared};
 use std::alloc::Global;
 use std::sync::Wait;
@@ -43,9 +34,9 @@ impl<'a> Promise<Port<Running>> for Given<'a> {
 
 /// All ports once they are driven no more, and why the board was halted, if it was.
 #[derive(Drop)]
-struct Driven {
-    ports: Vec<Port<Running>>,
-    halted: Option<Halt>,
+pub struct Driven {
+    pub ports: Vec<Port<Running>>,
+    pub halted: Option<Halt>,
 }
 
 /// Drives the port, unless it stays with the caller, and gives it back.
@@ -179,7 +170,7 @@ fn marks(alloc: Global, count: usize) -> Result<Vec<AtomicBool>, NoMemory>
 }
 
 /// A thread for each port but the last, as far as threads can be started.
-fn drive_all<R: Threads + Wait + Sync, G: Gate + Sync>(
+pub fn drive_all<R: Threads + Wait + Sync, G: Gate + Sync>(
     rt: &R,
     alloc: Global,
     shared: &Shared<Running>,
@@ -206,52 +197,4 @@ fn drive_all<R: Threads + Wait + Sync, G: Gate + Sync>(
             Ok(spread(scope, rt, shared, ports, gate, stays, own, children))
         },
     )
-}
-
-/// How a run ended whose board was halted so, if it was.
-fn ended_by(halted: Option<Halt>) -> Result<Ended, NoMemory>
-    ensures { IfOk result (λ ended. stop_of halted ≡ end_stop ended) }
-{
-    match halted {
-        None => Ok(Ended::Quiet),
-        Some(Halt::Full) => Ok(Ended::Full),
-        Some(Halt::NoMemory) => Err(NoMemory),
-    }
-}
-
-/// A worker for each CPU of the image's board, each in a thread of its own where one can be had, until
-/// nothing is due to any CPU or the journal is full. Each worker passes the gate before each of its turns.
-/// It waits for the workers, and may wait for ever.
-pub fn run<R: Threads + Wait + Sync, G: Gate + Sync>(
-    rt: &R,
-    alloc: Global,
-    image: Image,
-    gate: &G,
-    limit: u32,
-) -> Result<(Board, Ended), NoMemory>
-    requires admitted { IsAdmitted image }
-    requires built { IsBuilt image }
-    ensures board { IfOk result (λ r. IsBoardOf image limit r.0) }
-    ensures legal { IfOk result (λ r. IsLegal image r.0.entries) }
-    ensures quiet { IfOk result (λ r. (r.1 ≡ Ended.Quiet) ↔ IsQuiet image r.0.entries) }
-    ensures full { IfOk result (λ r. (r.1 ≡ Ended.Full) ↔ ((length r.0.entries ≡ limit) × ¬ IsQuiet image r.0.entries)) }
-{
-    rounds_are_of_the_boards_cpus();
-    nothing_extends_a_quiet_journal();
-    nothing_is_found_in_what_is_clean(&image.system, &[]);
-    sound_bitmaps_name_few_cpus(image.system.root.cpu_set.as_slice());
-    let cpus = cpus_of(alloc, &image)?;
-    let running = Running {
-        board: opened(alloc, image, limit)?,
-        halted: None,
-    };
-    let (shared, ports) = match Shared::open(alloc, running, cpus.as_slice()) {
-        Ok(opened) => opened,
-        Err(_) => return Err(NoMemory),
-    };
-    let driven = drive_all(rt, alloc, &shared, ports, gate)?;
-    let Running { board, halted: _ } = shared.close(driven.ports);
-    let _ = board.journal();
-    let ended = ended_by(driven.halted)?;
-    Ok((board, ended))
 }
