@@ -7,3 +7,6 @@ pub mod PortLemmas
 pub mod WholeLemmas
 pub mod SpreadLemmas
 pub mod CallerLemmas
+pub mod SoakLemmas
+pub mod SoakClean
+pub mod SoakTables

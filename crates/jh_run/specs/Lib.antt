@@ -8,3 +8,4 @@ pub mod Running
 pub mod Drives
 pub mod Workers
 pub mod Summaries
+pub mod Soak

@@ -9,6 +9,7 @@ mod run_turn;
 mod running;
 mod runs;
 mod schedule;
+mod soak;
 mod summary;
 mod turning;
 mod workers;
@@ -20,6 +21,7 @@ pub use run_turn::{Halt, RunTurn};
 pub use running::Running;
 pub use runs::run;
 pub use schedule::{follow, play};
+pub use soak::{MAX_ROUNDS, soak_image};
 pub use summary::{Summary, summary_of};
 
 #[cfg(test)]

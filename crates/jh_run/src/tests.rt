@@ -2,7 +2,7 @@
 ghost use Rattle.std.specs.Prelude.{IfOk};
 ghost use Rattle.jh_history.specs.Admitted.{IsAdmitted, IsBuilt};
 
-use crate::{Ended, follow, play, run};
+use crate::{Ended, Summary, follow, play, run, soak_image, summary_of};
 use jh_cellcfg::{CellConfig, Console, Region, SystemConfig};
 use jh_history::{Act, Entry, admit, is_built, is_on_board};
 use jh_num::{NoMemory, Seq};
@@ -332,5 +332,31 @@ fn cpus_that_await_one_another_have_one_order(rt: HostRuntime) -> Result<(), Fai
     assert_eq!(rt; ended, Ended::Quiet);
     let entries = [wrote(3, 2), waited(0, 2), wrote(0, 3), waited(3, 3)];
     assert_eq!(rt; board.journal().as_slice(), entries.as_slice());
+    Ok(())
+}
+
+#[test]
+fn a_soak_of_one_round(rt: HostRuntime) -> Result<(), Fail> {
+    let alloc = rt.alloc();
+    let image = soak_image(alloc, 1)?;
+    assert!(rt; admit(alloc, &image)?);
+    assert!(rt; is_built(&image));
+    let (board, ended) = run(&rt, alloc, image, &NoGate, 262_144)?;
+    assert_eq!(rt; ended, Ended::Quiet);
+    let summary = Summary { entries: 603, reads: 258, writes: 292, stops: 13, sum: 32_642 };
+    assert_eq!(rt; summary_of(board.journal()), summary);
+    Ok(())
+}
+
+#[test]
+fn a_soak_of_a_hundred_rounds(rt: HostRuntime) -> Result<(), Fail> {
+    let alloc = rt.alloc();
+    let image = soak_image(alloc, 100)?;
+    assert!(rt; admit(alloc, &image)?);
+    assert!(rt; is_built(&image));
+    let (board, ended) = run(&rt, alloc, image, &NoGate, 262_144)?;
+    assert_eq!(rt; ended, Ended::Quiet);
+    let summary = Summary { entries: 9_612, reads: 456, writes: 3_856, stops: 1_300, sum: 37_790 };
+    assert_eq!(rt; summary_of(board.journal()), summary);
     Ok(())
 }
