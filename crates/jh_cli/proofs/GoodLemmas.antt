@@ -2,7 +2,7 @@
 use Rattle.std.proofs.Common.{◌≡◌, ◌≢◌, ℕ, ◌<◌, ◌≤◌, Bool, true, false, cond, ◌&&◌, List, [], ◌∷◌, ◌++◌, length, take, Option, None, Some, Result, Ok, Err, ◌⊎◌, inl, inr, refl, sym, ◌∙◌, ap, subst, arith}
 use Rattle.std.specs.Prelude.{map, nat_lt}
 use Rattle.std.proofs.lemmas.List.{take_all}
-use Rattle.std.proofs.lemmas.Bool.{cases_Bool}
+use Rattle.std.proofs.lemmas.Bool.{false≢true, cases_Bool}
 use Rattle.jh_outside.specs.Count.{Rose}
 use Rattle.jh_outside.specs.Reads.{Told, HandsOut}
 use Rattle.jh_cellcfg.specs.declared.config.CellConfig.{CellConfig}
@@ -24,7 +24,7 @@ use Rattle.jh_script.specs.Programs.{unless}
 use Rattle.jh_script.specs.Schedules.{has_cpu, cpu_of, items_of, first_refusal, cpus_of, schedule_of}
 use Rattle.jh_script.specs.Words.{words, spaces}
 use Rattle.jh_history.specs.declared.entry.Entry.{Entry}
-use Rattle.jh_history.specs.Items.{played}
+use Rattle.jh_history.specs.Items.{items, played}
 use Rattle.jh_text.specs.declared.fault.JournalFault.{JournalFault}
 use Rattle.jh_text.specs.declared.fault.JournalFault.TheVariants as journals
 use Rattle.jh_text.specs.Faults.{IsFirstBadLine, IsJournalText, IsTooLong, IsFault}
@@ -38,7 +38,7 @@ use Rattle.jh_image.specs.Laws.{AreTold}
 use Rattle.jh_cli.specs.declared.status.Status.{Status}
 use Rattle.jh_cli.specs.declared.status.Status.TheVariants.{Good, Found, ReadFault, WriteFault}
 use Rattle.jh_cli.specs.declared.limits.TheConstants.{MOST, MOST_OF_A_JOURNAL, JOURNAL_LIMIT}
-use Rattle.jh_cli.specs.Words.{Asked, CheckOf, PackOf, PlayOf, AuditOf}
+use Rattle.jh_cli.specs.Words.{Asked, CheckOf, PackOf, PlayOf, MapOf, AuditOf}
 use Rattle.jh_cli.specs.Reading.{Said, Contents, StopsAt, ReadsAt}
 use Rattle.jh_cli.specs.Check.{IsCellFile, CellRefusal, IsSystemFile, SystemRefusal, StopsAmong, ChecksCells, Checks, checked_status}
 use Rattle.jh_cli.specs.Pack.{IsSpecFile, SpecRefusal, Packs, packed}
@@ -47,7 +47,9 @@ use Rattle.jh_cli.specs.Play.{AreCpus, IsSchedule, ScheduleRefusal, IsPlayed, pl
 use Rattle.jh_cli.specs.Audit.{IsJournalFile, JournalRefusal, IsAudited, AuditsBy, Audits, verdict_status}
 use Rattle.jh_cli.specs.Outcome.{Outcome, Sent}
 use Rattle.jh_cli.specs.Stopped.{IsCounted}
-use Rattle.jh_cli.specs.Complete.{Holds, HoldCells, AreGoodToCheck, IsGoodToPack, AreGoodToPlay, AreGoodToAudit, AreGood, IsUnrefused, IsDone}
+use Rattle.jh_run.specs.Maps.{Maps}
+use Rattle.jh_cli.specs.Map.{mapped_said, IsMapped, MapsBy, MapsOf}
+use Rattle.jh_cli.specs.Complete.{Holds, HoldCells, AreGoodToCheck, IsGoodToPack, AreGoodToPlay, AreGoodToMap, AreGoodToAudit, AreGood, IsUnrefused, IsDone}
 
 -- ---- the laws of the layers below
 
@@ -254,6 +256,29 @@ audit_unrefused unrefused no_bad not_long contents board journal said good (inl 
 audit_unrefused unrefused no_bad not_long contents board journal said good (inr (image, is, admitted, audits)) =
     audits_unrefused no_bad not_long contents journal image good.entries said good.held audits
 
+-- ---- map
+
+mapped_unrefused : (image : Image) (cpus : List ℕ) (found : Option (List ℕ)) → (items image JOURNAL_LIMIT cpus []).full ≡ false → Maps image JOURNAL_LIMIT cpus found → IsUnrefused (mapped_said found)
+mapped_unrefused image cpus (Some text) under is = inl refl
+mapped_unrefused image cpus None under is = absurd (false≢true (sym under ∙ is.0))
+
+told_unrefused : (image : Image) (cpus other : List ℕ) (said : Said) → (items image JOURNAL_LIMIT cpus []).full ≡ false → cpus ≡ other → IsMapped image other said → IsUnrefused said
+told_unrefused image cpus other said under same (found, is, told) =
+    let full : (items image JOURNAL_LIMIT other []).full ≡ false = subst (λ (xs : List ℕ). (items image JOURNAL_LIMIT xs []).full ≡ false) same under in
+    subst (λ (s : Said). IsUnrefused s) (sym told) (mapped_unrefused image other found full is)
+
+maps_unrefused : (contents : Contents) (schedule : List ℕ) (image : Image) (cpus : List ℕ) (said : Said) → Holds MOST contents schedule (IsSchedule image) cpus → (items image JOURNAL_LIMIT cpus []).full ≡ false
+    → MapsBy contents schedule image said → IsUnrefused said
+maps_unrefused contents schedule image cpus said held under h =
+    reads_unrefused MOST contents schedule (ScheduleRefusal image) (IsSchedule image) (IsMapped image) cpus said (schedule_sound image cpus) held
+    (λ bytes other form form_other is. told_unrefused image cpus other said under (one_schedule image bytes cpus other form form_other) is) h
+
+map_unrefused : OneImage → BoardsAreUnrefused → (contents : Contents) (board schedule : List ℕ) (said : Said) → AreGoodToMap contents board schedule → MapsOf contents board schedule said → IsUnrefused said
+map_unrefused one_image unrefused contents board schedule said good (inl ends) = board_unrefused unrefused contents board good.image said good.told good.is ends
+map_unrefused one_image unrefused contents board schedule said good (inr (image, is, admitted, plays)) =
+    let same : image ≡ good.image = one_image contents board image good.image good.told is good.is in
+    maps_unrefused contents schedule good.image good.cpus said good.held good.under (subst (λ (i : Image). MapsBy contents schedule i said) same plays)
+
 -- ---- all of them
 
 pub good_unrefused : CellsAreFaultless → SystemsAreFaultless → NoBadLine → NotLong → OneImage → BoardsAreUnrefused
@@ -262,6 +287,7 @@ good_unrefused cells systems no_bad not_long one_image unrefused contents None s
 good_unrefused cells systems no_bad not_long one_image unrefused contents (Some (CheckOf system names)) said good h = check_unrefused cells systems contents system names said good h
 good_unrefused cells systems no_bad not_long one_image unrefused contents (Some (PackOf spec)) said good h = pack_unrefused contents spec said good h
 good_unrefused cells systems no_bad not_long one_image unrefused contents (Some (PlayOf board schedule)) said good h = play_unrefused one_image unrefused contents board schedule said good h
+good_unrefused cells systems no_bad not_long one_image unrefused contents (Some (MapOf board schedule)) said good h = map_unrefused one_image unrefused contents board schedule said good h
 good_unrefused cells systems no_bad not_long one_image unrefused contents (Some (AuditOf board journal)) said good h = audit_unrefused unrefused no_bad not_long contents board journal said good h
 
 -- ---- the status

@@ -5,11 +5,11 @@ use Rattle.jh_cellcfg.specs.declared.config.CellConfig.{CellConfig}
 use Rattle.jh_cellcfg.specs.declared.config.SystemConfig.{SystemConfig}
 use Rattle.jh_script.specs.declared.image.Image.{Image}
 use Rattle.jh_history.specs.declared.entry.Entry.{Entry}
-use Rattle.jh_history.specs.Items.{played}
+use Rattle.jh_history.specs.Items.{items, played}
 use Rattle.jh_spec.specs.declared.spec.Spec.{Spec}
 use Rattle.jh_image.specs.Images.{IsImage}
 use Rattle.jh_image.specs.Laws.{AreTold}
-use Rattle.jh_cli.specs.Words.{Asked, CheckOf, PackOf, PlayOf, AuditOf}
+use Rattle.jh_cli.specs.Words.{Asked, CheckOf, PackOf, PlayOf, MapOf, AuditOf}
 use Rattle.jh_cli.specs.Reading.{Said, Contents}
 use Rattle.jh_cli.specs.Check.{IsCellFile, IsSystemFile}
 use Rattle.jh_cli.specs.Pack.{IsSpecFile}
@@ -55,6 +55,16 @@ pub record AreGoodToPlay (contents : Contents) (board schedule : List ℕ) : Typ
   pub held : Holds MOST contents schedule (IsSchedule image) items
   pub under : (played image JOURNAL_LIMIT items).full ≡ false
 
+-- the board's files make an image, the schedule's holds items for it, and the journal that they alone make stays under
+-- its limit
+pub record AreGoodToMap (contents : Contents) (board schedule : List ℕ) : Type 0 where
+  pub told : AreTold contents
+  pub image : Image
+  pub is : IsImage contents board image
+  pub cpus : List ℕ
+  pub held : Holds MOST contents schedule (IsSchedule image) cpus
+  pub under : (items image JOURNAL_LIMIT cpus []).full ≡ false
+
 -- the board's files make an image, and the journal's holds a journal, whether it is legal or not
 pub record AreGoodToAudit (contents : Contents) (board journal : List ℕ) : Type 0 where
   pub told : AreTold contents
@@ -69,6 +79,7 @@ AreGood contents None = ⊥
 AreGood contents (Some (CheckOf system cells)) = AreGoodToCheck contents system cells
 AreGood contents (Some (PackOf spec)) = IsGoodToPack contents spec
 AreGood contents (Some (PlayOf board schedule)) = AreGoodToPlay contents board schedule
+AreGood contents (Some (MapOf board schedule)) = AreGoodToMap contents board schedule
 AreGood contents (Some (AuditOf board journal)) = AreGoodToAudit contents board journal
 
 -- what is told is the command's answer, or that a file could not be read

@@ -1,5 +1,6 @@
 pub mod Words
 pub mod Lines
+pub mod Map
 pub mod Reading
 pub mod Check
 pub mod Pack

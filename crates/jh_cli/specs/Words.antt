@@ -3,13 +3,14 @@ use Rattle.std.specs.Prelude.{ℕ, Bool, true, not, ◌==◌, nat_le, if◌then�
 use Rattle.std.specs.List.{list_all}
 use Rattle.std.specs.Cmp.Lexicographic.{pointwise}
 use Rattle.jh_cli.specs.declared.command.Command.{Command}
-use Rattle.jh_cli.specs.declared.command.Command.TheVariants.{Check, Pack, Play, Audit}
+use Rattle.jh_cli.specs.declared.command.Command.TheVariants.{Check, Pack, Play, Map, Audit}
 
 -- what a command asks for, with the names of its files
 pub data Asked : Type 0 where
   CheckOf : List ℕ → List (List ℕ) → Asked
   PackOf : List ℕ → Asked
   PlayOf : List ℕ → List ℕ → Asked
+  MapOf : List ℕ → List ℕ → Asked
   AuditOf : List ℕ → List ℕ → Asked
 
 -- a word that begins with `-` is no operand
@@ -39,6 +40,13 @@ play_of (board ∷ []) = None
 play_of (board ∷ schedule ∷ []) = Some (PlayOf board schedule)
 play_of (board ∷ schedule ∷ other ∷ more) = None
 
+-- `map` has a board and a schedule
+abbrev pub map_of : List (List ℕ) → Option Asked
+map_of [] = None
+map_of (board ∷ []) = None
+map_of (board ∷ schedule ∷ []) = Some (MapOf board schedule)
+map_of (board ∷ schedule ∷ other ∷ more) = None
+
 -- `audit` has a board and a journal
 abbrev pub audit_of : List (List ℕ) → Option Asked
 audit_of [] = None
@@ -52,8 +60,9 @@ asked_for word operands =
     if is_word word (codes "check") then check_of operands
     else (if is_word word (codes "pack") then pack_of operands
     else (if is_word word (codes "play") then play_of operands
+    else (if is_word word (codes "map") then map_of operands
     else (if is_word word (codes "audit") then audit_of operands
-    else None)))
+    else None))))
 
 -- the command of the words: the program's name, the command's word letter for letter, and its operands
 abbrev pub command_of : List (List ℕ) → Option Asked
@@ -66,6 +75,7 @@ abbrev pub asked_by : Command → Asked
 asked_by (Check system cells) = CheckOf system.now (map string_bytes cells.now)
 asked_by (Pack spec) = PackOf spec.now
 asked_by (Play board schedule) = PlayOf board.now schedule.now
+asked_by (Map board schedule) = MapOf board.now schedule.now
 asked_by (Audit board journal) = AuditOf board.now journal.now
 
 -- it has at most 15 cells

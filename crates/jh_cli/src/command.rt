@@ -2,7 +2,7 @@
 ghost use Rattle.std.specs.Prelude.{◌≡◌, ◌==◌, IfSome, None, map, string_bytes, not, slice_get, Bool};
 ghost use Rattle.std.specs.List.{list_all};
 ghost use Rattle.std.specs.Option.{option_map};
-ghost use Rattle.jh_cli.specs.Words.{is_operand as is_operand_lem, check_of as check_of_lem, pack_of as pack_of_lem, play_of as play_of_lem, audit_of as audit_of_lem, asked_for as asked_for_lem, command_of as command_of_lem, asked_by, HasFewCells};
+ghost use Rattle.jh_cli.specs.Words.{is_operand as is_operand_lem, check_of as check_of_lem, pack_of as pack_of_lem, play_of as play_of_lem, map_of as map_of_lem, audit_of as audit_of_lem, asked_for as asked_for_lem, command_of as command_of_lem, asked_by, HasFewCells};
 
 /// How many cells are checked at most.
 const MOST_CELLS: usize = 15;
@@ -21,6 +21,11 @@ pub enum Command<'a> {
     },
     /// Plays a board by a schedule.
     Play {
+        board: &'a str,
+        schedule: &'a str,
+    },
+    /// Tells the maps of a board's cells after a schedule.
+    Map {
         board: &'a str,
         schedule: &'a str,
     },
@@ -88,6 +93,19 @@ fn play_of(operands: &[String]) -> Option<Command<'_>>
     }
 }
 
+fn map_of(operands: &[String]) -> Option<Command<'_>>
+    ensures command { option_map asked_by result ≡ map_of_lem (map string_bytes operands.now) }
+    ensures few { IfSome result HasFewCells }
+{
+    match operands {
+        [board, schedule] => Some(Command::Map {
+            board: board.as_str(),
+            schedule: schedule.as_str(),
+        }),
+        _ => None,
+    }
+}
+
 fn audit_of(operands: &[String]) -> Option<Command<'_>>
     ensures command { option_map asked_by result ≡ audit_of_lem (map string_bytes operands.now) }
     ensures few { IfSome result HasFewCells }
@@ -112,6 +130,8 @@ fn asked_for<'a>(word: &str, operands: &'a [String]) -> Option<Command<'a>>
         pack_of(operands)
     } else if word == "play" {
         play_of(operands)
+    } else if word == "map" {
+        map_of(operands)
     } else if word == "audit" {
         audit_of(operands)
     } else {

@@ -8,6 +8,7 @@ mod command;
 mod laws;
 mod limits;
 mod lines;
+mod map;
 mod pack;
 mod play;
 mod schedule;

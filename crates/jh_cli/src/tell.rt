@@ -9,6 +9,7 @@ use crate::audit::audit;
 use crate::check::check;
 use crate::command::{Command, command_of};
 use crate::lines::usage_line;
+use crate::map::map;
 use crate::pack::pack;
 use crate::play::play;
 use crate::status::Status;
@@ -29,6 +30,7 @@ fn obey<F: Files>(alloc: Global, command: Command<'_>, files: &mut F) -> Result<
         Command::Check { system, cells } => check(alloc, files, system, cells),
         Command::Pack { spec } => pack(alloc, files, spec),
         Command::Play { board, schedule } => play(alloc, files, board, schedule),
+        Command::Map { board, schedule } => map(alloc, files, board, schedule),
         Command::Audit { board, journal } => audit(alloc, files, board, journal),
     }
 }
