@@ -6,7 +6,7 @@ ghost use Rattle.jh_history.specs.Wants.{IsReachOfEntry};
 ghost use Rattle.jh_board.specs.Means.{Means};
 ghost use Rattle.jh_board.specs.declared.state.NextStep.{NextStep as TheStep};
 
-use crate::granted::reach;
+use crate::granted::{memory, reach};
 use crate::held::Held;
 use crate::indexed::IndexedImage;
 use jh_cellcfg::CellConfig;
@@ -49,7 +49,7 @@ impl<'a> RootBytes for State<'a> {
     ghost use Rattle.jh_history.specs.Grants.{granted_in};
     ghost use Rattle.jh_board.specs.Pages.{byte_of};
 
-    ghost readable = { λ s at. read_of (byte_of s.held.memory) (reach_by (granted_in s.image s.held.cells.lives s.image.system.root.id Read) at 1) };
+    ghost readable = { λ s at. read_of (byte_of s.held.memory) 1 (reach_by (granted_in s.image s.held.cells.lives s.image.system.root.id Read) at 1) };
 
     fn read(&self, at: u64) -> Option<u8> {
         let wanted = Wanted {
@@ -57,9 +57,9 @@ impl<'a> RootBytes for State<'a> {
             at,
             width: 1,
         };
-        match reach(self.image, &self.held.cells, self.image.root(), &wanted) {
-            Reach::Memory(places) => Some(self.held.memory.value(&places) as u8),
-            Reach::Nothing => None,
+        match memory(self.image, &self.held.cells, self.image.root(), &wanted) {
+            Some(places) => Some(self.held.memory.value(&places) as u8),
+            None => None,
         }
     }
 

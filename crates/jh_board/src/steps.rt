@@ -168,8 +168,8 @@ fn make_write(memory: &mut Memory, reach: &Reach, value: u64) -> Result<(), NoMe
     ensures held { (cell : ℕ) → HoldsComm memory.old.comms cell → HoldsComm memory.new.comms cell }
 {
     match reach {
-        Reach::Memory(places) => memory.write_value(places, value),
-        Reach::Nothing => Ok(()),
+        Reach::Memory(places) | Reach::Subpage(places) => memory.write_value(places, value),
+        Reach::Config { .. } | Reach::Nothing => Ok(()),
     }
 }
 

@@ -60,7 +60,7 @@ granted_from id regions kept access at (suc count) =
 
 abbrev pub unless_kept : (Place → Bool) → Reach → Reach
 unless_kept kept (Memory places) = cond (list_any kept places) Nothing (Memory places)
-unless_kept kept Nothing = Nothing
+unless_kept kept found = found
 
 memory_by : (places : List Place) (b : Bool) → memory_or_nothing (cond b None (Some places)) ≡ cond b Nothing (Memory places)
 memory_by places true = refl

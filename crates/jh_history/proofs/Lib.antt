@@ -1,5 +1,6 @@
 pub mod PlaceLemmas
 pub mod AccessLemmas
+pub mod BehindLemmas
 pub mod GrantLemmas
 pub mod FactsLemmas
 pub mod DueLemmas

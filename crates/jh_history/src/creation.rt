@@ -1,8 +1,7 @@
 //! What comes of a create.
 ghost use Rattle.std.specs.Prelude.{◌≡◌, ℕ, ◌<◌, ◌≤◌, ◌==◌, Bool, Some, false, length, slice_get, slice_index_or, IfSome, IfNone};
-ghost use Rattle.std.specs.List.{list_all, list_any};
+ghost use Rattle.std.specs.List.{list_any};
 ghost use Rattle.jh_cellcfg.specs.declared.config.PciDevice.{PciDevice as TheDevice};
-ghost use Rattle.jh_cellcfg.specs.Regions.{is_page_mapped};
 ghost use Rattle.jh_check.specs.Refusals.{refusal_of as refusal_of_lem};
 ghost use Rattle.jh_history.specs.Admitted.{pool_pages as pool_pages_lem, IsAdmitted};
 ghost use Rattle.jh_history.specs.Facts.{Facts};
@@ -15,7 +14,7 @@ use crate::cells::is_on_board;
 use crate::counting::pages_of;
 use crate::laws::admitted_roots_are_sound;
 use crate::verdict::refusal_of_another;
-use jh_cellcfg::{CellConfig, PciDevice, Region};
+use jh_cellcfg::{CellConfig, PciDevice};
 use jh_check::refusal_of;
 use jh_cpu::Cpu;
 use jh_num::error::ENOSYS;
@@ -23,13 +22,6 @@ use jh_script::Image;
 
 /// The kind of an ivshmem device.
 const IVSHMEM: u8 = 3;
-
-/// Whether all of the regions are page-mapped.
-fn are_page_mapped(regions: &[Region]) -> bool
-    ensures { result ≡ list_all is_page_mapped regions.now }
-{
-    regions.iter().all(|r| r.is_page_mapped())
-}
 
 /// Whether one of the devices is an ivshmem device.
 fn has_ivshmem(devices: &[PciDevice]) -> bool
@@ -42,8 +34,7 @@ fn has_ivshmem(devices: &[PciDevice]) -> bool
 fn is_built_cell(config: &CellConfig) -> bool
     ensures { result ≡ is_built_cell_lem config.now }
 {
-    let regions = config.memory_regions.as_slice();
-    are_page_mapped(regions) && !has_ivshmem(config.pci_devices.as_slice())
+    !has_ivshmem(config.pci_devices.as_slice())
 }
 
 /// The refusal, or that of what isn't built.

@@ -5,7 +5,7 @@ use crate::access::{Access, Reach, Wanted};
 use crate::admission::pool_pages;
 use crate::bytes::{Bytes, value_of};
 use crate::call::{Creation, OpenCall};
-use crate::cells::{config_in, is_on_board, op_at, reach_in};
+use crate::cells::{config_in, is_on_board, memory_in, op_at, reach_in};
 use crate::counting::pages_of;
 use crate::creation::judged;
 use crate::known::Known;
@@ -44,7 +44,7 @@ impl<'a> RootBytes for Plain<'a> {
     ghost use Rattle.jh_history.specs.Grants.{granted_in};
     ghost use Rattle.jh_history.specs.PlainView.{last_byte};
 
-    ghost readable = { λ p at. read_of (last_byte p.image p.bytes) (reach_by (granted_in p.image p.cells p.image.system.root.id Read) at 1) };
+    ghost readable = { λ p at. read_of (last_byte p.image p.bytes) 1 (reach_by (granted_in p.image p.cells p.image.system.root.id Read) at 1) };
 
     fn read(&self, at: u64) -> Option<u8> {
         let wanted = Wanted {
@@ -53,9 +53,9 @@ impl<'a> RootBytes for Plain<'a> {
             width: 1,
         };
         let root = self.image.system.root.id;
-        match reach_in(self.image, &self.cells, root, &wanted) {
-            Reach::Memory(places) => Some(value_of(self, &places) as u8),
-            Reach::Nothing => None,
+        match memory_in(self.image, &self.cells, root, &wanted) {
+            Some(places) => Some(value_of(self, &places) as u8),
+            None => None,
         }
     }
 

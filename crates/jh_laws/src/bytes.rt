@@ -21,16 +21,16 @@ pub fn memory_opens_with_the_preloads()
 
 /// An entry gives each place that it writes the byte that it writes there, and no other place changes.
 pub fn entries_write_their_bytes()
-    ensures written { (m : Moment) (place : ThePlace) (byte : ℕ) → Writes (cell_of m) m.entry.act place byte →
+    ensures written { (m : Moment) (place : ThePlace) (byte : ℕ) → Writes m.image (cell_of m) m.entry.act place byte →
         byte_behind m place ≡ byte }
-    ensures others { (m : Moment) (place : ThePlace) → WritesNot (cell_of m) place m.entry →
+    ensures others { (m : Moment) (place : ThePlace) → WritesNot m.image (cell_of m) place m.entry →
         byte_behind m place ≡ byte_before m place }
 {}
 
 /// Each byte has the value that the last entry which wrote it gave it, and its opening value where none did.
 pub fn bytes_are_the_last_written()
-    ensures last { (m : Moment) (place : ThePlace) (byte : ℕ) → Writes (cell_of m) m.entry.act place byte →
-        All (WritesNot (cell_of m) place) m.rest → byte_at m.image (entries_of m) place ≡ byte }
-    ensures opening { (j : LegalJournal) (place : ThePlace) → All (WritesNot (root_of j) place) j.entries →
+    ensures last { (m : Moment) (place : ThePlace) (byte : ℕ) → Writes m.image (cell_of m) m.entry.act place byte →
+        All (WritesNot m.image (cell_of m) place) m.rest → byte_at m.image (entries_of m) place ≡ byte }
+    ensures opening { (j : LegalJournal) (place : ThePlace) → All (WritesNot j.image (root_of j) place) j.entries →
         byte_at j.image j.entries place ≡ byte_at j.image [] place }
 {}
