@@ -3,3 +3,8 @@ pub mod RanLemmas
 pub mod EndLemmas
 pub mod LegalTexts
 pub mod MapsLemmas
+pub mod TurnLemmas
+pub mod PortLemmas
+pub mod WholeLemmas
+pub mod SpreadLemmas
+pub mod CallerLemmas
