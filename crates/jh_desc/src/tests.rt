@@ -1,7 +1,10 @@
-//! The words of the format's examples, each kind at each level, and words that nothing here writes.
+//! The words of the format's examples, each right and kind of memory at each level, and words that nothing here writes.
+ghost use Rattle.std.specs.Prelude.{◌≡◌, ◌≤◌, ◌%◌};
+ghost use Rattle.jh_desc.specs.Levels.{first_level, last_level, slot_size};
 
 use crate::{Descriptor, index, offset, read, slot_size, word};
 use jh_num::Rights;
+use std::process::Abort;
 
 /// A 2 MB block at 0x40000000, rwx, normal memory.
 const BLOCK: u64 = 0x0000_0000_4000_07fd;
@@ -53,6 +56,107 @@ const fn leaf(out: u64, rights: Rights, device: bool) -> Descriptor {
     }
 }
 
+const fn rights(read: bool, write: bool, execute: bool) -> Rights {
+    Rights {
+        read,
+        write,
+        execute,
+    }
+}
+
+/// The leaf at 0x40000000 has this word, both ways.
+fn is_word(rt: &impl Abort, level: u8, rights: Rights, device: bool, said: u64)
+    requires first { first_level ≤ level }
+    requires last { level ≤ last_level }
+    requires slot { 0x40000000 % slot_size level ≡ 0 }
+{
+    let leaf = Descriptor::Leaf {
+        out: 0x4000_0000,
+        rights,
+        device,
+    };
+    assert_eq!(rt; word(leaf, level), said);
+    assert_eq!(rt; read(said, level), leaf);
+}
+
+/// The leaves at 0x40000000 have these words, of no right, r, w, rw, x, rx, wx and rwx.
+fn are_words(rt: &impl Abort, level: u8, device: bool, said: [u64; 8])
+    requires first { first_level ≤ level }
+    requires last { level ≤ last_level }
+    requires slot { 0x40000000 % slot_size level ≡ 0 }
+{
+    is_word(rt, level, rights(false, false, false), device, said[0]);
+    is_word(rt, level, rights(true, false, false), device, said[1]);
+    is_word(rt, level, rights(false, true, false), device, said[2]);
+    is_word(rt, level, rights(true, true, false), device, said[3]);
+    is_word(rt, level, rights(false, false, true), device, said[4]);
+    is_word(rt, level, rights(true, false, true), device, said[5]);
+    is_word(rt, level, rights(false, true, true), device, said[6]);
+    is_word(rt, level, rights(true, true, true), device, said[7]);
+}
+
+const PLAIN_BLOCKS: [u64; 8] = [
+    0x0040_0000_4000_073d,
+    0x0040_0000_4000_077d,
+    0x0040_0000_4000_07bd,
+    0x0040_0000_4000_07fd,
+    0x0000_0000_4000_073d,
+    0x0000_0000_4000_077d,
+    0x0000_0000_4000_07bd,
+    0x0000_0000_4000_07fd,
+];
+
+const DEVICE_BLOCKS: [u64; 8] = [
+    0x0040_0000_4000_0705,
+    0x0040_0000_4000_0745,
+    0x0040_0000_4000_0785,
+    0x0040_0000_4000_07c5,
+    0x0000_0000_4000_0705,
+    0x0000_0000_4000_0745,
+    0x0000_0000_4000_0785,
+    0x0000_0000_4000_07c5,
+];
+
+const PLAIN_PAGES: [u64; 8] = [
+    0x0040_0000_4000_073f,
+    0x0040_0000_4000_077f,
+    0x0040_0000_4000_07bf,
+    0x0040_0000_4000_07ff,
+    0x0000_0000_4000_073f,
+    0x0000_0000_4000_077f,
+    0x0000_0000_4000_07bf,
+    0x0000_0000_4000_07ff,
+];
+
+const DEVICE_PAGES: [u64; 8] = [
+    0x0040_0000_4000_0707,
+    0x0040_0000_4000_0747,
+    0x0040_0000_4000_0787,
+    0x0040_0000_4000_07c7,
+    0x0000_0000_4000_0707,
+    0x0000_0000_4000_0747,
+    0x0000_0000_4000_0787,
+    0x0000_0000_4000_07c7,
+];
+
+#[test]
+fn each_block_of_a_gigabyte_has_its_word(rt: HostRuntime) {
+    are_words(&rt, 1, false, PLAIN_BLOCKS);
+    are_words(&rt, 1, true, DEVICE_BLOCKS);
+}
+
+#[test]
+fn each_block_of_two_megabytes_has_its_word(rt: HostRuntime) {
+    are_words(&rt, 2, false, PLAIN_BLOCKS);
+    are_words(&rt, 2, true, DEVICE_BLOCKS);
+}
+
+#[test]
+fn each_page_has_its_word(rt: HostRuntime) {
+    are_words(&rt, 3, false, PLAIN_PAGES);
+    are_words(&rt, 3, true, DEVICE_PAGES);
+}
+
 #[test]
 fn a_block_of_plain_memory_has_its_word(rt: HostRuntime) {
     assert_eq!(rt; word(PLAIN_BLOCK, 2), BLOCK);
@@ -78,8 +182,18 @@ fn a_block_stands_above_the_last_level(rt: HostRuntime) {
 fn a_table_is_its_address_and_three(rt: HostRuntime) {
     let table = Descriptor::Table { next: 0x7fc0_3000 };
     assert_eq!(rt; word(table, 1), 0x7fc0_3003);
+    assert_eq!(rt; word(table, 2), 0x7fc0_3003);
+    assert_eq!(rt; read(0x7fc0_3003, 1), table);
     assert_eq!(rt; read(0x7fc0_3003, 2), table);
+}
+
+#[test]
+fn nothing_is_mapped_by_a_word_of_zero(rt: HostRuntime) {
+    assert_eq!(rt; word(Descriptor::Invalid, 1), 0);
+    assert_eq!(rt; word(Descriptor::Invalid, 2), 0);
     assert_eq!(rt; word(Descriptor::Invalid, 3), 0);
+    assert_eq!(rt; read(0, 2), Descriptor::Invalid);
+    assert_eq!(rt; read(0, 3), Descriptor::Invalid);
 }
 
 #[test]
