@@ -1,5 +1,5 @@
 -- What it takes to break a rule about two regions.
-use Rattle.std.proofs.Common.{◌≡◌, ℕ, ◌<◌, ◌≤◌, Bool, true, false, ◌&&◌, not, ◌==◌, nat_lt, List, [], length, get_or, sym, ap, subst, ◌∙◌, inl, inr, arith}
+use Rattle.std.proofs.Common.{◌≡◌, ℕ, ◌+◌, ◌<◌, ◌≤◌, Bool, true, false, ◌&&◌, not, ◌==◌, nat_lt, List, [], length, get_or, sym, ap, subst, ◌∙◌, inl, inr, arith}
 use Rattle.std.specs.List.{Contains}
 use Rattle.std.proofs.lemmas.Bool.{false≢true, ltb-true, eqb-true, cases_order}
 use Rattle.std.proofs.lemmas.List.{get_or_default}
@@ -12,10 +12,10 @@ use Rattle.jh_check.specs.declared.spans.Span.{Span}
 use Rattle.jh_check.specs.Regions.{Spot, pair_breaks, share_places, takes_pages, both_shared}
 use Rattle.jh_check.specs.Devices.{are_same_section}
 use Rattle.jh_check.specs.Spans.{takes_part, span_of, spans_meet, joins, is_within, IsIndex, AreApart}
-use Rattle.jh_check.specs.Lists.{only_if}
+use Rattle.jh_check.specs.Lists.{only_if, is_any}
 use Rattle.jh_check.specs.Findings.{spot, beside, beside_at, between, between_at, finding_of}
 use Rattle.jh_check.proofs.BoolLemmas.{false-from_not, not-both, and-left, and-right, and-both}
-use Rattle.jh_check.proofs.ListLemmas.{found-none0}
+use Rattle.jh_check.proofs.ListLemmas.{found-none0, any-at, any-only}
 
 virt-parts : (one other : Region) → virt_meet one other ≡ true → ((has_size one && has_size other) ≡ true) × ((nat_lt one.virt_start (virt_end other) && nat_lt other.virt_start (virt_end one)) ≡ true)
 virt-parts one other h =
@@ -114,6 +114,50 @@ pair-meets SubpageTaken one other h =
     (phys-parts one.region other.region (pages-parts one.region other.region (two-parts (not (one.cell == 0)) (other.cell == 0) (takes_pages one.region other.region) h).1).1).1
 pair-meets CellsOverlap one other h = (phys-parts one.region other.region (share-parts one.region other.region (overlap-share one other h)).2).1
 pair-meets _ one other h = absurd (false≢true h)
+
+-- and so does the second, where the two are of two cells that overlap
+overlap-second : (one other : Spot) → pair_breaks CellsOverlap one other ≡ true → takes_part CellsOverlap other.region ≡ true
+overlap-second one other h =
+    let p = share-parts one.region other.region (overlap-share one other h) in
+    and-both (has_size other.region) (not (is_comm other.region)) (and-right (has_size one.region) (has_size other.region) (phys-parts one.region other.region p.2).0) p.1
+
+-- where a region breaks it with none of a cell, nothing is found of the two
+pub beside-none : (rule : Rule) (one : Spot) (b : ℕ) (other : CellConfig) → ((s : ℕ) (d : Region) → s < length other.memory_regions → pair_breaks rule one (spot b other s (get_or other.memory_regions s d)) ≡ true → ⊥) → beside rule one b other ≡ []
+unfolding beside only_if
+beside-none rule one b other h =
+    let none : Region = record { phys_start = 0; virt_start = 0; size = 0; flags = 0 } in
+    found-none0 (beside_at rule one b other) other.memory_regions none (λ s j.
+    ap (λ t. only_if t (finding_of rule one.cell one.item b s)) (false-from_not (pair_breaks rule one (spot b other s (get_or other.memory_regions s none))) (h s none j)))
+
+-- a region that takes no part
+pub beside-idle : (rule : Rule) (one : Spot) (b : ℕ) (other : CellConfig) → takes_part rule one.region ≡ false → beside rule one b other ≡ []
+beside-idle rule one b other e =
+    beside-none rule one b other (λ s d j t. not-both (takes_part rule one.region) (pair-takes_part rule one (spot b other s (get_or other.memory_regions s d)) t) e)
+
+-- a region that breaks it with one of the cell
+pub beside-hit : (rule : Rule) (one : Spot) (b : ℕ) (other : CellConfig) (s : ℕ) (d : Region) → s < length other.memory_regions → pair_breaks rule one (spot b other s (get_or other.memory_regions s d)) ≡ true → is_any (beside rule one b other) ≡ true
+unfolding beside
+beside-hit rule one b other s d h e =
+    any-at (beside_at rule one b other) 0 other.memory_regions s d h
+    (subst (λ m. is_any (beside_at rule one b other m (get_or other.memory_regions s d)) ≡ true) (let f : s ≡ 0 + s = omega arith in f)
+    (any-only (pair_breaks rule one (spot b other s (get_or other.memory_regions s d))) (finding_of rule one.cell one.item b s) ∙ e))
+
+meet-swap : (one other : Span) → spans_meet one other ≡ true → spans_meet other one ≡ true
+meet-swap one other h =
+    let first = nat_lt one.start other.end in
+    let second = nat_lt other.start one.end in
+    and-both second first (and-right first second h) (and-left first second h)
+
+-- a region that overlaps with none of those that meet it in the cell's index
+pub beside-unmet : (one : Spot) (b : ℕ) (other : CellConfig) (spans met : List Span) → IsIndex CellsOverlap other.memory_regions spans → ((x : Span) → Contains spans x → spans_meet x (span_of CellsOverlap one.item one.region) ≡ true → Contains met x) → ((x : Span) (d : Region) → Contains met x → pair_breaks CellsOverlap one (spot b other x.item (get_or other.memory_regions x.item d)) ≡ false) → beside CellsOverlap one b other ≡ []
+beside-unmet one b other spans met index each none =
+    beside-none CellsOverlap one b other (λ s d j t.
+    let y = get_or other.memory_regions s d in
+    let second = spot b other s y in
+    let x = span_of CellsOverlap s y in
+    let cx = index.each s d j (overlap-second one second t) in
+    let m = meet-swap (span_of CellsOverlap one.item one.region) x (pair-meets CellsOverlap one second t) in
+    not-both (pair_breaks CellsOverlap one second) t (none x d (each x cx m)))
 
 -- where no two of their regions break it, nothing is found between two cells
 pub between-none : (rule : Rule) (a : ℕ) (one : CellConfig) (b : ℕ) (other : CellConfig) → ((r s : ℕ) (d : Region) → r < length one.memory_regions → s < length other.memory_regions → pair_breaks rule (spot a one r (get_or one.memory_regions r d)) (spot b other s (get_or other.memory_regions s d)) ≡ true → ⊥) → between rule a one b other ≡ []

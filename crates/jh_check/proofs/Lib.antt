@@ -14,3 +14,4 @@ pub mod OrderLemmas
 pub mod GivenLemmas
 pub mod RefusalLemmas
 pub mod CappedLemmas
+pub mod IdleLemmas

@@ -2,6 +2,7 @@
 use Rattle.std.proofs.Common.{◌≡◌, ℕ, ◌+◌, ◌<◌, ◌≤◌, zero, suc, Bool, ◌&&◌, true, false, ◌||◌, List, [], ◌∷◌, ◌++◌, length, get_or, take, drop, refl, sym, ap, subst, ◌∙◌, append_assoc, add-zero, arith}
 use Rattle.std.proofs.lemmas.List.{take-append-le, drop_more, get_or-take, length-take}
 use Rattle.std.specs.List.{list_all}
+use Rattle.std.proofs.lemmas.Bool.{or_left, or_right}
 use Rattle.std.proofs.Math.ListN.{drop_of_length-le}
 use Rattle.jh_check.specs.declared.finding.Finding.{Finding}
 use Rattle.jh_check.specs.Lists.{found_from, only_if, capped, is_any}
@@ -90,6 +91,19 @@ any-hit found xs i d goal h e g =
 
 pub any-done : {X : Type 0} (found : ℕ → X → List Finding) (xs : List X) (i : ℕ) (goal : Bool) → length xs ≤ i → is_any (found_from found i (drop i xs)) ≡ goal → false ≡ goal
 any-done found xs i goal h g = sym (ap is_any (found-end found xs i h)) ∙ g
+
+-- something is found where an item gives something
+pub any-at : {X : Type 0} (found : ℕ → X → List Finding) (n : ℕ) (xs : List X) (i : ℕ) (d : X) → i < length xs → is_any (found (n + i) (get_or xs i d)) ≡ true → is_any (found_from found n xs) ≡ true
+unfolding found_from
+any-at found n [] i d h e = absurd (omega arith)
+any-at found n (x ∷ xs) zero d h e =
+    let rest = found_from found (n + 1) xs in
+    is_any-append (found n x) rest ∙ or_left (is_any (found n x)) (is_any rest) (subst (λ m. is_any (found m x) ≡ true) (add-zero n) e)
+any-at found n (x ∷ xs) (suc i) d h e =
+    let rest = found_from found (n + 1) xs in
+    let place : n + suc i ≡ (n + 1) + i = omega arith in
+    is_any-append (found n x) rest
+    ∙ or_right (is_any (found n x)) (is_any rest) (any-at found (n + 1) xs i d (omega arith) (subst (λ m. is_any (found m (get_or xs i d)) ≡ true) place e))
 
 -- a finding stands alone exactly where its test says so
 pub any-only : (test : Bool) (finding : Finding) → is_any (only_if test finding) ≡ test

@@ -1,11 +1,12 @@
 -- Spans that are apart, and a search among them.
-use Rattle.std.proofs.Common.{◌≡◌, ℕ, ◌+◌, ◌-◌, ◌<◌, ◌≤◌, false, nat_lt, List, length, get_or, sym, subst, inl, inr, arith}
+use Rattle.std.proofs.Common.{◌≡◌, ℕ, ◌+◌, ◌-◌, ◌<◌, ◌≤◌, true, false, nat_lt, leb, List, length, get_or, take, drop, sym, ap, subst, ◌∙◌, inl, inr, arith, length-drop}
 use Rattle.std.specs.List.{Contains, AllWithin}
 use Rattle.std.specs.List.Sorted.{IsPartitionedBy}
-use Rattle.std.proofs.lemmas.Bool.{ltb-true, lt-ltb, le-ltb, cases_eq, cases_lt}
+use Rattle.std.proofs.lemmas.Bool.{ltb-true, ltb-false, lt-ltb, le-ltb, leb-true, le-leb, cases_eq, cases_lt}
+use Rattle.std.proofs.lemmas.List.{get_or-take, get_or-drop, length-take}
 use Rattle.jh_check.specs.declared.spans.Span.{Span}
 use Rattle.jh_check.specs.Spans.{spans_meet, AreApartTo, AreApart}
-use Rattle.jh_check.proofs.BoolLemmas.{and-first, and-second}
+use Rattle.jh_check.proofs.BoolLemmas.{and-left, and-right, and-first, and-second}
 
 -- none is apart from nothing, and one more
 pub apart-none : (spans : List Span) → AreApartTo spans 0
@@ -60,6 +61,12 @@ apart-parted spans limit apart = λ i j d h k p.
     let less = ltb-true (get_or spans j d).start limit p in
     lt-ltb (get_or spans i d).start limit (omega arith)
 
+pub apart-ended : (spans : List Span) (limit : ℕ) → AreApart spans → IsPartitionedBy (λ (span : Span). leb span.end limit) spans
+apart-ended spans limit apart = λ i j d h k p.
+    let rise = ends-rise spans apart i j d h k in
+    let less = leb-true (get_or spans j d).end limit p in
+    le-leb (get_or spans i d).end limit (omega arith)
+
 -- where the last that begins before a span's end ends before it begins, none meets it
 pub unmet : (spans : List Span) (other : Span) (n : ℕ) → AreApart spans → n ≤ length spans → AllWithin (λ (span : Span). nat_lt span.start other.end ≡ false) spans n (length spans) → ((d : Span) → 0 < n → (get_or spans (n - 1) d).end ≤ other.start) → (x : Span) → Contains spans x → spans_meet x other ≡ false
 unmet spans other n apart bound after last x cx =
@@ -76,3 +83,37 @@ unmet spans other n apart bound after last x cx =
           let P : Span → Type 0 = λ s. nat_lt s.start other.end ≡ false in
           and-first (nat_lt x.start other.end) (nat_lt other.start x.end) (subst P cx.2 (after k x h cx.1))
     ]
+
+-- what meets it begins before its end, and ends behind its start
+met-begins : (spans : List Span) (other : Span) (n : ℕ) → AllWithin (λ (span : Span). nat_lt span.start other.end ≡ false) spans n (length spans) → (x : Span) (k : ℕ) → k < length spans → get_or spans k x ≡ x → spans_meet x other ≡ true → k < n
+met-begins spans other n after x k within is meets =
+    elim (cases_lt k n) [
+      | inl h ↦ h
+      | inr h ↦
+          let P : Span → Type 0 = λ s. nat_lt s.start other.end ≡ false in
+          let a = ltb-false x.start other.end (subst P is (after k x h within)) in
+          let b = ltb-true x.start other.end (and-left (nat_lt x.start other.end) (nat_lt other.start x.end) meets) in
+          absurd (omega arith)
+    ]
+
+met-ends : (spans : List Span) (other : Span) (m : ℕ) → AllWithin (λ (span : Span). leb span.end other.start ≡ true) spans 0 m → (x : Span) (k : ℕ) → get_or spans k x ≡ x → spans_meet x other ≡ true → m ≤ k
+met-ends spans other m before x k is meets =
+    elim (cases_lt k m) [
+      | inl h ↦
+          let P : Span → Type 0 = λ s. leb s.end other.start ≡ true in
+          let a = leb-true x.end other.start (subst P is (before k x (omega arith) h)) in
+          let b = ltb-true other.start x.end (and-right (nat_lt x.start other.end) (nat_lt other.start x.end) meets) in
+          absurd (omega arith)
+      | inr h ↦ h
+    ]
+
+-- so it stands between the two borders
+pub met-within : (spans : List Span) (other : Span) (first m n : ℕ) → first ≤ m → first ≤ n → n ≤ length spans → AllWithin (λ (span : Span). nat_lt span.start other.end ≡ false) spans n (length spans) → AllWithin (λ (span : Span). leb span.end other.start ≡ true) spans 0 m → (x : Span) → Contains spans x → spans_meet x other ≡ true → Contains (take (n - first) (drop first spans)) x
+met-within spans other first m n low high bound after before x cx meets =
+    let k = cx.0 in
+    let a = met-begins spans other n after x k cx.1 cx.2 meets in
+    let b = met-ends spans other m before x k cx.2 meets in
+    let sum : first + (k - first) ≡ k = omega arith in
+    let size = length-take (n - first) (drop first spans) in
+    let rest = length-drop first spans in
+    (k - first, omega arith, get_or-take (n - first) (drop first spans) (k - first) x (omega arith) ∙ get_or-drop first spans (k - first) x ∙ ap (λ i. get_or spans i x) sum ∙ cx.2)

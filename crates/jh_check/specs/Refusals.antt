@@ -31,6 +31,10 @@ is_beyond may set cpu = is_cpu_set set cpu && not (may cpu)
 unfoldable pub names_beyond : (ℕ → Bool) → List ℕ → Bool
 names_beyond may set = any_below (is_beyond may set) (8 * length set)
 
+-- no CPU may be given away
+abbrev pub nobody : ℕ → Bool
+nobody cpu = false
+
 -- by what the check says of the new cell
 abbrev pub by_check : NewCell → Option ℤ → Option ℤ
 by_check Invalid rest = Some EINVAL

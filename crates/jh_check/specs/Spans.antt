@@ -37,6 +37,10 @@ abbrev pub HasEach : Rule → List Region → List Span → Type 0
 HasEach rule regions spans =
     (r : ℕ) (d : Region) → r < length regions → takes_part rule (slice_index_or regions r d) ≡ true → Contains spans (span_of rule r (slice_index_or regions r d))
 
+-- each span is of one of the regions
+abbrev pub HasOnly : List Region → List Span → Type 0
+HasOnly regions spans = (x : Span) → Contains spans x → x.item < length regions
+
 -- the first of them end behind their starts, and each ends before those behind it begin
 pub record AreApartTo (spans : List Span) (n : ℕ) : Type 0 where
   pub ordered : (i : ℕ) (d : Span) → i < n → (slice_index_or spans i d).start ≤ (slice_index_or spans i d).end
@@ -52,4 +56,5 @@ spans_meet one other = nat_lt one.start other.end && nat_lt other.start one.end
 
 pub record IsIndex (rule : Rule) (regions : List Region) (spans : List Span) : Type 0 where
   pub each : HasEach rule regions spans
+  pub only : HasOnly regions spans
   pub apart : AreApart spans

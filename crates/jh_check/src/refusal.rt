@@ -1,14 +1,17 @@
 //! What a new cell is refused for, once its configuration was read.
-ghost use Rattle.std.specs.Prelude.{◌≡◌, ℕ, ◌≤◌, ◌<◌, ◌∷◌, false, not, drop, length, slice_index, slice_index_or};
+ghost use Rattle.std.specs.Prelude.{◌≡◌, ℕ, ◌≤◌, ◌<◌, ◌∷◌, IsSome, false, not, drop, length, slice_index, slice_index_or, IfOk};
 ghost use Rattle.std.specs.List.{list_any, list_all};
 ghost use Rattle.jh_cellcfg.specs.Cells.{is_cpu_set};
 ghost use Rattle.jh_check.specs.Devices.{is_zero};
-ghost use Rattle.jh_check.specs.Refusals.{is_namesake, is_known, any_below, is_beyond, names_beyond, refusal_of};
+ghost use Rattle.jh_check.specs.Refusals.{is_namesake, is_known, any_below, is_beyond, names_beyond, nobody, refusal_of};
 
 use crate::devices::are_zero;
+use crate::laws::{beyond_is_a_cpu, sound_bitmaps_name_few_cpus};
 use crate::verdict::{NewCell, clean_with};
 use jh_cellcfg::{CellConfig, SystemConfig};
+use jh_num::NoMemory;
 use jh_num::error::{EBUSY, EEXIST, EINVAL, ENOMEM};
+use std::alloc::Global;
 
 /// Whether the cell has the new one's id or name.
 fn is_namesake(new: &CellConfig, cell: &CellConfig) -> bool
@@ -24,7 +27,7 @@ fn any_namesake(cells: &[CellConfig], new: &CellConfig) -> bool
     cells.iter().any(|cell| is_namesake(new, cell))
 }
 
-/// Whether root or a live cell has.
+/// Whether root or a live cell has the new one's id or name.
 fn is_known(root: &CellConfig, live: &[CellConfig], new: &CellConfig) -> bool
     ensures { result ≡ is_known (root.now ∷ live.now) new.now }
 {
@@ -59,7 +62,8 @@ fn names_high(set: &[u8]) -> bool
     !are_zero(&set[set.len().min(2)..])
 }
 
-/// Whether the new cell names a CPU that it mustn't; of those from 16 on it may have none.
+/// Whether the new cell names a CPU that it mustn't. `may` says of each of the first 16 whether it may; of those
+/// from 16 on it may have none.
 fn names_beyond(may: &[bool; 16], cell: &CellConfig) -> bool
     ensures { result ≡ names_beyond (λ i. slice_index_or may.now i false) cell.now.cpu_set }
 {
@@ -68,29 +72,53 @@ fn names_beyond(may: &[bool; 16], cell: &CellConfig) -> bool
 
 /// What a new cell is refused for beside the system and the live cells: EEXIST, EBUSY, EINVAL or ENOMEM, by the
 /// first cause that holds. `may` says of each of the first 16 CPUs whether the new cell may have it, `pages` how
-/// many pages all cells take with it, and `pool` how many there are. It takes no memory.
+/// many pages all cells take with it, and `pool` how many there are. It takes memory for an index of the new cell's
+/// regions, and for nothing else.
 #[tactic(auto, unfolding(crate::specs::Refusals::refusal_of))]
 pub fn refusal_of(
+    alloc: Global,
     system: &SystemConfig,
     live: &[CellConfig],
     new: &CellConfig,
     may: &[bool; 16],
     pages: u64,
     pool: u64,
-) -> Option<i64>
+) -> Result<Option<i64>, NoMemory>
     requires { length live.now ≤ 14 }
-    ensures { result ≡ refusal_of system.now live.now new.now (λ cpu. slice_index_or may.now cpu false) pages pool }
+    ensures { IfOk result (λ refusal. refusal ≡ refusal_of system.now live.now new.now (λ cpu. slice_index_or may.now cpu false) pages pool) }
 {
+    if is_known(&system.root, live, new) {
+        return Ok(Some(EEXIST));
+    }
+    if names_beyond(may, new) {
+        return Ok(Some(EBUSY));
+    }
+    match clean_with(alloc, system, live, new)? {
+        NewCell::Invalid => Ok(Some(EINVAL)),
+        NewCell::Busy => Ok(Some(EBUSY)),
+        NewCell::Clean if pool < pages => Ok(Some(ENOMEM)),
+        NewCell::Clean => Ok(None),
+    }
+}
+
+/// What a new cell is refused for where no CPU may be given away, beside any number of live cells: EEXIST, EBUSY or
+/// EINVAL. Then a cell that names a CPU is busy and one that names none invalid, whichever the others are. It takes
+/// no memory.
+pub fn refusal_without_cpus(
+    system: &SystemConfig,
+    live: &[CellConfig],
+    new: &CellConfig,
+) -> Option<i64>
+    ensures some { IsSome result }
+    ensures value { (pages pool : ℕ) → result ≡ refusal_of system.now live.now new.now nobody pages pool }
+{
+    sound_bitmaps_name_few_cpus(new.cpu_set.as_slice());
+    beyond_is_a_cpu(new.cpu_set.as_slice());
     if is_known(&system.root, live, new) {
         return Some(EEXIST);
     }
-    if names_beyond(may, new) {
+    if names_beyond(&[false; 16], new) {
         return Some(EBUSY);
     }
-    match clean_with(system, live, new) {
-        NewCell::Invalid => Some(EINVAL),
-        NewCell::Busy => Some(EBUSY),
-        NewCell::Clean if pool < pages => Some(ENOMEM),
-        NewCell::Clean => None,
-    }
+    Some(EINVAL)
 }

@@ -1,7 +1,7 @@
 //! An index of a cell's regions, by which pairs that can't break a rule are told at once.
-ghost use Rattle.std.specs.Prelude.{◌≡◌, ◌-◌, ◌<◌, ◌≤◌, true, false, length, slice_index_or, OnOk, IfOk, IfSome, Contains};
+ghost use Rattle.std.specs.Prelude.{◌≡◌, ◌≢◌, ◌-◌, ◌<◌, ◌≤◌, true, false, length, slice_index_or, OnOk, IfOk, IfSome, Contains};
 ghost use Rattle.jh_check.specs.declared.spans.Span.{Span};
-ghost use Rattle.jh_check.specs.Spans.{takes_part, span_of, spans_meet, HasEach, AreApart, IsIndex};
+ghost use Rattle.jh_check.specs.Spans.{takes_part, span_of, spans_meet, HasEach, HasOnly, AreApart, IsIndex};
 
 use crate::rule::Rule;
 use jh_cellcfg::Region;
@@ -17,7 +17,7 @@ pub(crate) struct Span {
 }
 
 /// Whether the region may break the rule as the one of a pair.
-fn takes_part(rule: Rule, region: &Region) -> bool
+pub(crate) fn takes_part(rule: Rule, region: &Region) -> bool
     ensures { result ≡ takes_part rule region.now }
 {
     match rule {
@@ -52,6 +52,7 @@ pub(crate) fn span_of(rule: Rule, item: usize, region: &Region) -> Span
 fn push(spans: &mut Vec<Span>, rule: Rule, item: usize, region: &Region) -> Result<(), NoMemory>
     ensures kept { (x : Span) → Contains spans.old.items x → Contains spans.new.items x }
     ensures has { OnOk result (takes_part rule region.now ≡ true → Contains spans.new.items (span_of rule item region.now)) }
+    ensures others { (x : Span) → x.item ≢ item → Contains spans.new.items x → Contains spans.old.items x }
 {
     if takes_part(rule, region) {
         spans.push(span_of(rule, item, region))?;
@@ -61,7 +62,8 @@ fn push(spans: &mut Vec<Span>, rule: Rule, item: usize, region: &Region) -> Resu
 
 /// The spans of the regions that take part, in the order of their starts.
 fn sorted(alloc: Global, rule: Rule, regions: &[Region]) -> Result<Vec<Span>, NoMemory>
-    ensures { IfOk result (λ spans. HasEach rule regions.now spans.items) }
+    ensures each { IfOk result (λ spans. HasEach rule regions.now spans.items) }
+    ensures only { IfOk result (λ spans. HasOnly regions.now spans.items) }
 {
     let mut spans = Vec::new(alloc);
     for (item, region) in regions.iter().enumerate() {
@@ -116,4 +118,16 @@ pub(crate) fn may_meet(spans: &[Span], other: Span) -> bool
 {
     let n = spans.partition_point(|span| u128::from(span.start) < other.end);
     n > 0 && spans[n - 1].end > u128::from(other.start)
+}
+
+/// Those of the spans that meet that one. As they are apart, they stand side by side.
+pub(crate) fn met_by(spans: &[Span], other: Span) -> &[Span]
+    requires { AreApart spans.now }
+    ensures each { (x : Span) → Contains spans.now x → spans_meet x other ≡ true → Contains result.now x }
+    ensures only { (x : Span) → Contains result.now x → Contains spans.now x }
+{
+    let start = u128::from(other.start);
+    let end = spans.partition_point(|span| u128::from(span.start) < other.end);
+    let first = spans.partition_point(|span| span.end <= start);
+    &spans[first.min(end)..end]
 }

@@ -624,7 +624,10 @@ fn verdict_at(alloc: Global, at: u64) -> Result<NewCell, Fail> {
     if live.len() > 14 {
         return Err("one cell".into());
     }
-    Ok(clean_with(&system, live.as_slice(), &new))
+    let verdict = clean_with(alloc, &system, live.as_slice(), &new)
+        .ok()
+        .ok_or("memory suffices")?;
+    Ok(verdict)
 }
 
 #[test]
@@ -652,7 +655,10 @@ fn refused(alloc: Global, id: u32, at: u64, given: bool, pages: u64) -> Result<O
     }
     let mut may = [false; 16];
     may[2] = given;
-    Ok(refusal_of(&system, live.as_slice(), &new, &may, pages, 100))
+    let refusal = refusal_of(alloc, &system, live.as_slice(), &new, &may, pages, 100)
+        .ok()
+        .ok_or("memory suffices")?;
+    Ok(refusal)
 }
 
 #[test]

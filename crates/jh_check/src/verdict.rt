@@ -1,9 +1,10 @@
 //! Whether a new cell may join those that are live.
-ghost use Rattle.std.specs.Prelude.{◌≡◌, ◌≤◌, ◌+◌, ◌++◌, [], ◌∷◌, take, length};
+ghost use Rattle.std.specs.Prelude.{◌≡◌, ◌≤◌, ◌+◌, ◌++◌, [], ◌∷◌, true, take, length, IfOk, IfSome};
 ghost use Rattle.std.specs.List.{list_any};
 ghost use Rattle.jh_check.specs.Cells.{cells_of};
 ghost use Rattle.jh_check.specs.Sites.{spot_of};
 ghost use Rattle.jh_check.specs.Lists.{is_any, found_from};
+ghost use Rattle.jh_check.specs.Spans.{is_within, IsIndex};
 ghost use Rattle.jh_check.specs.Findings.{beside, between, in_cell, in_devices_of, found_by, found_at, in_pairs, rules_in_order};
 ghost use Rattle.jh_check.specs.Verdicts.{is_invalid, is_busy, verdict_of};
 ghost use Rattle.jh_check.specs.declared.rule.Rule.TheVariants.{CellsOverlap};
@@ -13,7 +14,10 @@ use crate::pairs::{Site, pair_breaks};
 use crate::regions::region_breaks;
 use crate::rule::{RULES, Rule, rule_at};
 use crate::setup::Setup;
+use crate::spans::{Span, index, met_by, span_of, takes_part};
 use jh_cellcfg::{CellConfig, Region, SystemConfig};
+use jh_num::NoMemory;
+use std::alloc::Global;
 
 /// What the check says of a new cell.
 #[derive(Clone, Copy, PartialEq, Eq, Debug)]
@@ -30,6 +34,9 @@ pub enum NewCell {
 fn any_beside(rule: Rule, one: &Site, b: u32, other: &CellConfig) -> bool
     ensures { result ≡ is_any (beside rule (spot_of one.now) b other.now) }
 {
+    if !takes_part(rule, one.region) {
+        return false;
+    }
     for (s, region) in other.memory_regions.as_slice().iter().enumerate() {
         let second = Site {
             cell: b,
@@ -62,6 +69,74 @@ fn any_between(rule: Rule, a: u32, one: &CellConfig, b: u32, other: &CellConfig)
     false
 }
 
+/// Whether two regions of the cell, which has that number, break the rule, which is about two of one cell.
+fn any_within(alloc: Global, rule: Rule, number: u32, cell: &CellConfig) -> Result<bool, NoMemory>
+    requires { is_within rule ≡ true }
+    ensures { IfOk result (λ breaks. breaks ≡ is_any (between rule number cell.now number cell.now)) }
+{
+    match index(alloc, rule, cell.memory_regions.as_slice())? {
+        Some(_) => Ok(false),
+        None => Ok(any_between(rule, number, cell, number, cell)),
+    }
+}
+
+/// Whether a region overlaps with one of another cell, of whose places that is the index.
+fn any_met(one: &Site, spans: &[Span], b: u32, other: &CellConfig) -> bool
+    requires { IsIndex CellsOverlap other.now.memory_regions spans.now }
+    ensures { result ≡ is_any (beside CellsOverlap (spot_of one.now) b other.now) }
+{
+    let regions = other.memory_regions.as_slice();
+    let met = met_by(spans, span_of(Rule::CellsOverlap, one.item, one.region));
+    for span in met {
+        let second = Site {
+            cell: b,
+            config: other,
+            item: span.item,
+            region: &regions[span.item],
+        };
+        if pair_breaks(Rule::CellsOverlap, one, &second) {
+            return true;
+        }
+    }
+    false
+}
+
+/// Whether a region of the one cell overlaps with one of the other, of whose places that is the index.
+fn any_indexed(a: u32, one: &CellConfig, spans: &[Span], b: u32, other: &CellConfig) -> bool
+    requires { IsIndex CellsOverlap other.now.memory_regions spans.now }
+    ensures { result ≡ is_any (between CellsOverlap a one.now b other.now) }
+{
+    for (r, region) in one.memory_regions.as_slice().iter().enumerate() {
+        let first = Site {
+            cell: a,
+            config: one,
+            item: r,
+            region,
+        };
+        if any_met(&first, spans, b, other) {
+            return true;
+        }
+    }
+    false
+}
+
+/// The same where there may be no index.
+fn any_overlap(
+    a: u32,
+    one: &CellConfig,
+    index: &Option<Vec<Span>>,
+    b: u32,
+    other: &CellConfig,
+) -> bool
+    requires { IfSome index.now (λ spans. IsIndex CellsOverlap other.now.memory_regions spans.items) }
+    ensures { result ≡ is_any (between CellsOverlap a one.now b other.now) }
+{
+    match index {
+        Some(spans) => any_indexed(a, one, spans.as_slice(), b, other),
+        None => any_between(Rule::CellsOverlap, a, one, b, other),
+    }
+}
+
 /// Whether a region of the cell breaks a rule about one region.
 fn any_region(rule: Rule, hypervisor: &Region, a: u32, regions: &[Region]) -> bool
     ensures { result ≡ is_any (in_cell rule hypervisor.now a regions.now) }
@@ -89,60 +164,82 @@ fn any_device(setup: &Setup, number: u32, cell: &CellConfig) -> bool
 }
 
 /// Whether the new cell, whose number is the next, breaks the rule, overlaps with other cells aside.
-fn breaks(setup: &Setup, number: u32, new: &CellConfig, rule: Rule) -> bool
+fn breaks(
+    alloc: Global,
+    setup: &Setup,
+    number: u32,
+    new: &CellConfig,
+    rule: Rule,
+) -> Result<bool, NoMemory>
     requires count { length setup.now.cells.now ≤ 14 }
     requires number { number ≡ length (cells_of setup.now) }
-    ensures { result ≡ list_any (is_invalid number) (found_by rule setup.now.hypervisor.now (cells_of setup.now ++ new.now ∷ [])) }
+    ensures { IfOk result (λ breaks. breaks ≡ list_any (is_invalid number) (found_by rule setup.now.hypervisor.now (cells_of setup.now ++ new.now ∷ []))) }
 {
     match rule {
-        Rule::VirtOverlap => any_between(rule, number, new, number, new),
-        Rule::PhysOverlap => any_between(rule, number, new, number, new),
-        Rule::SubpageTaken => any_between(rule, number, new, 0, setup.root),
-        Rule::CellsOverlap => false,
-        Rule::Shmem => any_device(setup, number, new),
-        Rule::NoCpu => cpus_break(new.cpu_set.as_slice()),
-        _ => any_region(
+        Rule::VirtOverlap => any_within(alloc, rule, number, new),
+        Rule::PhysOverlap => any_within(alloc, rule, number, new),
+        Rule::SubpageTaken => Ok(any_between(rule, number, new, 0, setup.root)),
+        Rule::CellsOverlap => Ok(false),
+        Rule::Shmem => Ok(any_device(setup, number, new)),
+        Rule::NoCpu => Ok(cpus_break(new.cpu_set.as_slice())),
+        _ => Ok(any_region(
             rule,
             setup.hypervisor,
             number,
             new.memory_regions.as_slice(),
-        ),
+        )),
     }
 }
 
 /// Whether it breaks one of the rules so.
-fn is_invalid(setup: &Setup, number: u32, new: &CellConfig) -> bool
+fn is_invalid(alloc: Global, setup: &Setup, number: u32, new: &CellConfig) -> Result<bool, NoMemory>
     requires count { length setup.now.cells.now ≤ 14 }
     requires number { number ≡ length (cells_of setup.now) }
-    ensures { result ≡ list_any (is_invalid number) (found_from (found_at setup.now.hypervisor.now (cells_of setup.now ++ new.now ∷ [])) 0 rules_in_order) }
+    ensures { IfOk result (λ invalid. invalid ≡ list_any (is_invalid number) (found_from (found_at setup.now.hypervisor.now (cells_of setup.now ++ new.now ∷ [])) 0 rules_in_order)) }
 {
     for i in 0..RULES.len() {
-        if breaks(setup, number, new, rule_at(i)) {
-            return true;
+        if breaks(alloc, setup, number, new, rule_at(i))? {
+            return Ok(true);
         }
     }
-    false
+    Ok(false)
 }
 
-/// Whether the new cell would hold a place that another holds.
-fn is_busy(setup: &Setup, number: u32, new: &CellConfig) -> bool
+/// Whether the new cell, of whose places that is the index, would hold a place that another holds.
+fn overlaps(setup: &Setup, index: &Option<Vec<Span>>, number: u32, new: &CellConfig) -> bool
     requires count { length setup.now.cells.now ≤ 15 }
     requires number { number ≡ length (cells_of setup.now) }
+    requires index { IfSome index.now (λ spans. IsIndex CellsOverlap new.now.memory_regions spans.items) }
     ensures { result ≡ list_any (is_busy number) (in_pairs CellsOverlap (cells_of setup.now ++ new.now ∷ [])) }
 {
     for a in 0..number {
-        if any_between(Rule::CellsOverlap, a, setup.cell(a), number, new) {
+        if any_overlap(a, setup.cell(a), index, number, new) {
             return true;
         }
     }
     false
 }
 
+/// Whether the new cell would.
+fn is_busy(alloc: Global, setup: &Setup, number: u32, new: &CellConfig) -> Result<bool, NoMemory>
+    requires count { length setup.now.cells.now ≤ 15 }
+    requires number { number ≡ length (cells_of setup.now) }
+    ensures { IfOk result (λ busy. busy ≡ list_any (is_busy number) (in_pairs CellsOverlap (cells_of setup.now ++ new.now ∷ []))) }
+{
+    let known = index(alloc, Rule::CellsOverlap, new.memory_regions.as_slice())?;
+    Ok(overlaps(setup, &known, number, new))
+}
+
 /// What the check of the system, the live cells and a new one, which comes last, says of the new one. It
-/// takes no memory.
-pub fn clean_with(system: &SystemConfig, live: &[CellConfig], new: &CellConfig) -> NewCell
+/// takes memory for an index of the new cell's regions, and for nothing else.
+pub fn clean_with(
+    alloc: Global,
+    system: &SystemConfig,
+    live: &[CellConfig],
+    new: &CellConfig,
+) -> Result<NewCell, NoMemory>
     requires { length live.now ≤ 14 }
-    ensures { result ≡ verdict_of system.now live.now new.now }
+    ensures { IfOk result (λ verdict. verdict ≡ verdict_of system.now live.now new.now) }
 {
     let setup = Setup {
         hypervisor: &system.hypervisor_memory,
@@ -150,11 +247,11 @@ pub fn clean_with(system: &SystemConfig, live: &[CellConfig], new: &CellConfig) 
         cells: live,
     };
     let number = setup.count();
-    if is_invalid(&setup, number, new) {
-        NewCell::Invalid
-    } else if is_busy(&setup, number, new) {
-        NewCell::Busy
+    if is_invalid(alloc, &setup, number, new)? {
+        Ok(NewCell::Invalid)
+    } else if is_busy(alloc, &setup, number, new)? {
+        Ok(NewCell::Busy)
     } else {
-        NewCell::Clean
+        Ok(NewCell::Clean)
     }
 }

@@ -1,5 +1,5 @@
 -- What the create of a cell is refused for, once its configuration was read.
-use Rattle.std.specs.Prelude.{ℕ, ℤ, Bool, false, ◌&&◌, not, ◌==◌, [], ◌∷◌, ◌++◌, Option, Some, if◌then◌else◌}
+use Rattle.std.specs.Prelude.{ℕ, ℤ, Bool, ◌&&◌, not, ◌==◌, [], ◌∷◌, ◌++◌, Option, Some, if◌then◌else◌}
 use Rattle.jh_num.specs.declared.error.TheConstants.{EPERM}
 use Rattle.jh_cellcfg.specs.declared.config.CellConfig.{CellConfig}
 use Rattle.jh_check.specs.Refusals.{refusal_of}
@@ -11,10 +11,6 @@ use Rattle.jh_life.specs.Lives.{configs_of}
 -- a CPU that may be given away: root's, and not the caller's
 abbrev pub may_have : ℕ → ℕ → ℕ → Bool
 may_have owned caller cpu = has_bit owned cpu && not (cpu == caller)
-
--- none may be
-abbrev pub nobody : ℕ → Bool
-nobody cpu = false
 
 -- A live cell is locked; or else the first of these that holds of the new one beside root and the live ones: it has
 -- the name or the id of one, it names a CPU that mustn't be given away, the check finds something that names it, or

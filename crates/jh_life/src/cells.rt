@@ -12,9 +12,8 @@ ghost use Rattle.jh_life.specs.Verdict.{verdict_of_create};
 use crate::copy::copy_of_system;
 use crate::counting::pages_of;
 use crate::marks::{free_cpus, mask_of};
-use crate::verdict::refusal_of_another;
 use jh_cellcfg::{CellConfig, SystemConfig};
-use jh_check::refusal_of;
+use jh_check::{refusal_of, refusal_without_cpus};
 use jh_num::NoMemory;
 use jh_num::error::EPERM;
 use std::alloc::Global;
@@ -111,29 +110,32 @@ impl Cells {
     /// What the create of a cell is refused for, whose configuration was read: EPERM, EEXIST, EBUSY, EINVAL or
     /// ENOMEM, by the first cause that holds; `None` lets it go on. `locked` says that a live cell allows no create,
     /// `caller` is the CPU that asks for it, `owned` has a bit for each of the 16 CPUs that is root's, and `pool` is
-    /// how many pages there are. A cell that isn't refused may be added. It takes no memory.
+    /// how many pages there are. A cell that isn't refused may be added. It takes memory for an index of the new
+    /// cell's regions, and for nothing else.
     pub fn verdict(
         &self,
+        alloc: Global,
         locked: bool,
         new: &CellConfig,
         caller: u8,
         owned: u16,
         pool: u32,
-    ) -> Option<i64>
+    ) -> Result<Option<i64>, NoMemory>
         requires { length self.now.lives ≡ 15 → (cpu : ℕ) → IsTrue (has_bit owned cpu) → cpu ≡ caller }
-        ensures value { result ≡ verdict_of_create self.now locked new.now owned caller pool }
-        ensures unknown { IfNone result (is_known (cells_of self.now) new.now ≡ false) }
-        ensures room { IfNone result (length self.now.lives < 15) }
+        ensures value { IfOk result (λ refusal. refusal ≡ verdict_of_create self.now locked new.now owned caller pool) }
+        ensures unknown { IfOk result (λ refusal. IfNone refusal (is_known (cells_of self.now) new.now ≡ false)) }
+        ensures room { IfOk result (λ refusal. IfNone refusal (length self.now.lives < 15)) }
     {
         if locked {
-            return Some(EPERM);
+            return Ok(Some(EPERM));
         }
         let live = self.configs.as_slice();
         if live.len() == MOST_CELLS {
-            return refusal_of_another(&self.system, live, new);
+            return Ok(refusal_without_cpus(&self.system, live, new));
         }
         let free = free_cpus(owned, caller);
         refusal_of(
+            alloc,
             &self.system,
             live,
             new,

@@ -7,7 +7,6 @@ mod copy;
 mod counting;
 mod laws;
 mod marks;
-mod verdict;
 
 pub use cells::{Cells, MOST_CELLS, live_cells_differ};
 pub use laws::{

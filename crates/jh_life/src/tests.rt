@@ -86,11 +86,11 @@ fn alone(alloc: Global) -> Result<Cells, NoMemory> {
 }
 
 /// Adds the cell where it may join; tells whether it did.
-fn join(cells: &mut Cells, new: CellConfig) -> Result<bool, NoMemory> {
+fn join(alloc: Global, cells: &mut Cells, new: CellConfig) -> Result<bool, NoMemory> {
     if cells.list().len() >= MOST_CELLS {
         return Ok(false);
     }
-    match cells.verdict(false, &new, 0, 0xffff, 0xffff) {
+    match cells.verdict(alloc, false, &new, 0, 0xffff, 0xffff)? {
         Some(_) => Ok(false),
         None => {
             cells.add(new)?;
@@ -109,7 +109,7 @@ fn with_one(alloc: Global) -> Result<Cells, NoMemory> {
         0x2,
         &[region(ROOT + BLOCK, BLOCK, READ_WRITE)],
     )?;
-    join(&mut cells, one)?;
+    join(alloc, &mut cells, one)?;
     Ok(cells)
 }
 
@@ -129,11 +129,17 @@ fn another(alloc: Global, flaws: u8) -> Result<CellConfig, NoMemory> {
 }
 
 /// The verdict on it for CPU 0, where CPU 1 isn't root's and one other cell is listed.
-fn verdict_on(cells: &Cells, new: &CellConfig, locked: bool, pool: u32) -> Option<i64> {
+fn verdict_on(
+    alloc: Global,
+    cells: &Cells,
+    new: &CellConfig,
+    locked: bool,
+    pool: u32,
+) -> Result<Option<i64>, NoMemory> {
     if cells.list().len() != 1 {
-        return None;
+        return Ok(None);
     }
-    cells.verdict(locked, new, 0, 0xd, pool)
+    cells.verdict(alloc, locked, new, 0, 0xd, pool)
 }
 
 /// That beside `a`. All take eight pages: root two tables, each of the others two and its communication page.
@@ -141,7 +147,7 @@ fn judged(alloc: Global, flaws: u8) -> Result<Option<i64>, NoMemory> {
     let cells = with_one(alloc)?;
     let new = another(alloc, flaws)?;
     let pool = if has(flaws, 0x20) { 7 } else { 8 };
-    Ok(verdict_on(&cells, &new, has(flaws, 0x1), pool))
+    verdict_on(alloc, &cells, &new, has(flaws, 0x1), pool)
 }
 
 /// Makes the cell at the place loadable, where there is one besides root.
@@ -164,7 +170,7 @@ fn leave(cells: &mut Cells, place: u32) {
 fn with_two(alloc: Global) -> Result<Cells, NoMemory> {
     let mut cells = with_one(alloc)?;
     cells.reserve()?;
-    join(&mut cells, another(alloc, 0)?)?;
+    join(alloc, &mut cells, another(alloc, 0)?)?;
     mark(&mut cells, 2);
     Ok(cells)
 }
@@ -210,17 +216,17 @@ fn a_cell_that_leaves_takes_its_mark_along(rt: HostRuntime) -> Result<(), Fail> 
 fn fill(alloc: Global, cells: &mut Cells) -> Result<(), NoMemory> {
     for i in 0..15u8 {
         let new = cell(alloc, b'a' + i, 1 + u32::from(i), 0x2, &[])?;
-        join(cells, new)?;
+        join(alloc, cells, new)?;
     }
     Ok(())
 }
 
 /// The verdict for CPU 0, which alone is root's, where 15 cells are listed.
-fn refused(cells: &Cells, new: &CellConfig) -> Option<i64> {
+fn refused(alloc: Global, cells: &Cells, new: &CellConfig) -> Result<Option<i64>, NoMemory> {
     if cells.list().len() != MOST_CELLS {
-        return None;
+        return Ok(None);
     }
-    cells.verdict(false, new, 0, 0x1, 0xffff)
+    cells.verdict(alloc, false, new, 0, 0x1, 0xffff)
 }
 
 /// That on a cell with the id and the CPUs beside 15 others.
@@ -228,7 +234,7 @@ fn crowded(alloc: Global, id: u32, cpus: u8) -> Result<Option<i64>, NoMemory> {
     let mut cells = alone(alloc)?;
     fill(alloc, &mut cells)?;
     let new = cell(alloc, b'z', id, cpus, &[])?;
-    Ok(refused(&cells, &new))
+    refused(alloc, &cells, &new)
 }
 
 #[test]

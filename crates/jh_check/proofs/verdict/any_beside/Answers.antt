@@ -1,11 +1,19 @@
-use Rattle.std.proofs.Common.{◌≡◌, ◌<◌, true, false, length, get_or, refl}
+use Rattle.std.proofs.Common.{◌≡◌, ◌<◌, true, false, length, get_or, refl, sym, ap}
 use Rattle.jh_cellcfg.specs.declared.region.Region.{Region}
 use Rattle.jh_check.specs.Sites.{spot_of}
 use Rattle.jh_check.specs.Regions.{pair_breaks}
+use Rattle.jh_check.specs.Spans.{takes_part}
 use Rattle.jh_check.specs.Lists.{is_any}
 use Rattle.jh_check.specs.Findings.{beside_at, beside, spot, finding_of}
 use Rattle.jh_check.proofs.ListLemmas.{any-step, any-hit, any-done, any-only}
+use Rattle.jh_check.proofs.BreakLemmas.{beside-idle}
 use Rattle.jh_check.proofs.verdict.any_beside.Goals as goal
+
+pub returns-then-not-takes_part : goal.returns-then-not-takes_part
+returns-then-not-takes_part c =
+    let one = spot_of c.args.one.now in
+    let h : takes_part c.args.rule one.region ≡ false = cc in
+    sym (ap is_any (beside-idle c.args.rule one c.args.b c.args.other.now h))
 
 pub loop-s-init : goal.loop-s-init
 unfolding beside

@@ -1,4 +1,5 @@
-use Rattle.std.proofs.Common.{◌<◌, [], ◌∷◌, ◌++◌, ◌∙◌, ap, arith}
+use Rattle.std.proofs.Common.{◌≡◌, ◌<◌, [], ◌∷◌, ◌++◌, ◌∙◌, Bool, ap, subst, arith}
+use Rattle.std.specs.Prelude.{IfOk}
 use Rattle.jh_check.specs.Cells.{cells_of}
 use Rattle.jh_check.specs.Devices.{cpus_break}
 use Rattle.jh_check.specs.Lists.{is_any}
@@ -7,14 +8,18 @@ use Rattle.jh_check.proofs.VerdictLemmas.{own-virt, own-phys, own-taken, own-cro
 use Rattle.jh_check.proofs.verdict.breaks.Goals as goal
 
 pub returns-in-VirtOverlap : goal.returns-in-VirtOverlap
-returns-in-VirtOverlap c = c.any_between.ensures ∙ own-virt c.args.rule c.args.setup.now.hypervisor.now (cells_of c.args.setup.now) c.args.new.now c.args.number c.requires.number c.in-VirtOverlap.is
+returns-in-VirtOverlap c =
+    subst (λ (found : Bool). IfOk c.any_within.result (λ breaks. breaks ≡ found))
+    (own-virt c.args.rule c.args.setup.now.hypervisor.now (cells_of c.args.setup.now) c.args.new.now c.args.number c.requires.number c.in-VirtOverlap.is) c.any_within.ensures
 
 pub returns-in-PhysOverlap : goal.returns-in-PhysOverlap
-returns-in-PhysOverlap c = c.any_between-in-PhysOverlap.ensures ∙ own-phys c.args.rule c.args.setup.now.hypervisor.now (cells_of c.args.setup.now) c.args.new.now c.args.number c.requires.number c.in-PhysOverlap.is
+returns-in-PhysOverlap c =
+    subst (λ (found : Bool). IfOk c.any_within-in-PhysOverlap.result (λ breaks. breaks ≡ found))
+    (own-phys c.args.rule c.args.setup.now.hypervisor.now (cells_of c.args.setup.now) c.args.new.now c.args.number c.requires.number c.in-PhysOverlap.is) c.any_within-in-PhysOverlap.ensures
 
 pub returns-in-SubpageTaken : goal.returns-in-SubpageTaken
 returns-in-SubpageTaken c =
-    c.any_between-in-SubpageTaken.ensures ∙ own-taken c.args.rule c.args.setup.now.hypervisor.now c.args.setup.now.root.now c.args.setup.now.cells.now c.args.new.now c.args.number c.requires.number c.in-SubpageTaken.is
+    c.any_between.ensures ∙ own-taken c.args.rule c.args.setup.now.hypervisor.now c.args.setup.now.root.now c.args.setup.now.cells.now c.args.new.now c.args.number c.requires.number c.in-SubpageTaken.is
 
 pub returns-in-CellsOverlap : goal.returns-in-CellsOverlap
 returns-in-CellsOverlap c =

@@ -10,12 +10,12 @@ use Rattle.jh_check.proofs.verdict.is_invalid.Goals as goal
 pub loop-i-init : goal.loop-i-init
 loop-i-init c = refl
 
-pub returns-then-breaks : goal.returns-then-breaks
-returns-then-breaks c =
+pub returns-then-branch : goal.returns-then-branch
+returns-then-branch c =
     let found = found_at c.args.setup.now.hypervisor.now (cells_of c.args.setup.now ++ c.args.new.now ∷ []) in
     let v = c.rule_at.ensures in
-    let b = c.breaks.ensures in
-    let i = c.if-breaks.true in
+    let b = c.in_ok-breaks.ensures in
+    let i = c.if-branch.true in
     let h : c.loop-i.i < length rules_in_order = c.loop-i-test.true in
     let e : list_any (is_invalid c.args.number) (found c.loop-i.i (get_or rules_in_order c.loop-i.i VirtOverlap)) ≡ true = cc in
     list-hit (is_invalid c.args.number) found rules_in_order c.loop-i.i VirtOverlap _ h e c.loop-i.invariant
@@ -24,8 +24,8 @@ pub loop-i-preserved : goal.loop-i-preserved
 loop-i-preserved c =
     let found = found_at c.args.setup.now.hypervisor.now (cells_of c.args.setup.now ++ c.args.new.now ∷ []) in
     let v = c.rule_at.ensures in
-    let b = c.breaks.ensures in
-    let i = c.if-breaks.false in
+    let b = c.in_ok-breaks.ensures in
+    let i = c.if-branch.false in
     let h : c.loop-i.i < length rules_in_order = c.loop-i-test.true in
     let e : list_any (is_invalid c.args.number) (found c.loop-i.i (get_or rules_in_order c.loop-i.i VirtOverlap)) ≡ false = cc in
     list-step (is_invalid c.args.number) found rules_in_order c.loop-i.i VirtOverlap _ h e c.loop-i.invariant

@@ -5,18 +5,18 @@ use Rattle.jh_check.specs.Cells.{cells_of}
 use Rattle.jh_check.specs.Findings.{from_cell, in_pairs}
 use Rattle.jh_check.specs.Verdicts.{is_busy}
 use Rattle.jh_check.proofs.VerdictLemmas.{list-step, list-hit, busy-one, busy-end}
-use Rattle.jh_check.proofs.verdict.is_busy.Goals as goal
+use Rattle.jh_check.proofs.verdict.overlaps.Goals as goal
 
 pub loop-a-init : goal.loop-a-init
 unfolding in_pairs
 loop-a-init c = refl
 
-pub returns-then-any_between : goal.returns-then-any_between
-returns-then-any_between c =
+pub returns-then-any_overlap : goal.returns-then-any_overlap
+returns-then-any_overlap c =
     let xs = cells_of c.args.setup.now in
     let all = xs ++ c.args.new.now ∷ [] in
-    let b = c.any_between.ensures in
-    let i = c.if-any_between.true in
+    let b = c.any_overlap.ensures in
+    let i = c.if-any_overlap.true in
     let n = c.requires.number in
     let size = length-append xs (c.args.new.now ∷ []) in
     let h : c.loop-a.a < length all = omega arith in
@@ -28,8 +28,8 @@ pub loop-a-preserved : goal.loop-a-preserved
 loop-a-preserved c =
     let xs = cells_of c.args.setup.now in
     let all = xs ++ c.args.new.now ∷ [] in
-    let b = c.any_between.ensures in
-    let i = c.if-any_between.false in
+    let b = c.any_overlap.ensures in
+    let i = c.if-any_overlap.false in
     let n = c.requires.number in
     let size = length-append xs (c.args.new.now ∷ []) in
     let h : c.loop-a.a < length all = omega arith in

@@ -5,7 +5,7 @@ use Rattle.jh_check.specs.Cells.{cells_of}
 use Rattle.jh_check.specs.Lists.{found_from}
 use Rattle.jh_check.specs.Findings.{from_cell, in_pairs}
 use Rattle.jh_check.specs.Verdicts.{is_busy}
-use Rattle.jh_check.proofs.verdict.is_busy.Given as goal
+use Rattle.jh_check.proofs.verdict.overlaps.Given as goal
 
 abbrev pub invariant-loop-a : goal.invariant-loop-a
 invariant-loop-a l =
