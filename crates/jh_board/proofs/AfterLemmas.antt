@@ -11,7 +11,7 @@ use Rattle.jh_call.specs.declared.call.Call.{Call}
 use Rattle.jh_call.specs.declared.call.Call.TheVariants.{Create, Start, Loadable, Destroy, Info, State, CpuInfo, Unknown}
 use Rattle.jh_script.specs.declared.image.Image.{Image}
 use Rattle.jh_history.specs.declared.access.Reach.{Reach}
-use Rattle.jh_history.specs.declared.access.Reach.TheVariants.{Memory, Nothing}
+use Rattle.jh_history.specs.declared.access.Reach.TheVariants.{Memory, Subpage, Config, Nothing}
 use Rattle.jh_history.specs.declared.call.OpenCall.{OpenCall}
 use Rattle.jh_history.specs.declared.call.Phase.{Phase}
 use Rattle.jh_history.specs.declared.call.Phase.TheVariants.{ToDecide, ToSettle, ToCreate, ToCommit, ToNote, ToNoted, ToFinish}
@@ -54,6 +54,8 @@ may-place memory cells pages (Page id offset) h = (live-page memory cells id pag
 
 may-reach : (memory : MemoryView) (cells : List Live) → All (λ (live : Live). HoldsComm memory.comms live.config.id) cells → (found : Reach) → ReachesCells cells found → MayWrite memory found
 may-reach memory cells pages (Memory places) h = All-weaker (IsOfCells cells) (MayHold memory) (may-place memory cells pages) places h
+may-reach memory cells pages (Subpage places) h = All-weaker (IsOfCells cells) (MayHold memory) (may-place memory cells pages) places h
+may-reach memory cells pages (Config at) h = tt
 may-reach memory cells pages Nothing h = tt
 
 -- what the act writes may be written

@@ -3,9 +3,11 @@ use Rattle.std.proofs.Common.{◌≡◌, ℕ, zero, suc, ◌+◌, ◌<◌, ◌�
 use Rattle.std.specs.Prelude.{IsTrue, ◌↔◌, option_map, option_and_then, nat_le, nat_lt}
 use Rattle.std.specs.List.{list_any}
 use Rattle.std.proofs.lemmas.Bool.{cases_Bool, cases_eq, eq-eqb, ne_eqb, both_ways, and_from, and_parts, or_left, or_right}
+use Rattle.std.specs.Option.{option_map_or}
 use Rattle.std.proofs.lemmas.Bool.Decides.{nat_tests}
 use Rattle.std.proofs.lemmas.List.Folds.{list_any-append}
 use Rattle.jh_num.specs.declared.address.TheConstants.{ADDRESS_END}
+use Rattle.jh_cellcfg.specs.declared.config.CellConfig.{CellConfig}
 use Rattle.jh_cellcfg.specs.declared.live.Live.{Live}
 use Rattle.jh_script.specs.declared.image.Image.{Image}
 use Rattle.jh_history.specs.declared.place.Place.{Place}
@@ -16,8 +18,8 @@ use Rattle.jh_history.specs.declared.access.Reach.TheVariants.{Memory, Nothing}
 use Rattle.jh_history.specs.Places.{places_in_row}
 use Rattle.jh_history.specs.Access.{places_from, place_of, memory_or_nothing, reach_by}
 use Rattle.jh_history.specs.Grants.{is_kept, unless, granted_in}
-use Rattle.jh_history.specs.Lives.{regions_in}
-use Rattle.jh_board.specs.Closed.{is_closed_by}
+use Rattle.jh_history.specs.Lives.{live_in, regions_in}
+use Rattle.jh_board.specs.Closed.{is_closed_by, live_regions}
 
 -- ---- which places root is kept from
 
@@ -130,7 +132,7 @@ places-open kept place at (suc n) = open-step kept (place at) (places_from place
 -- what is reached, where no place of it is kept
 abbrev pub reach_open : (Place → Bool) → Reach → Reach
 reach_open kept (Memory places) = cond (list_any kept places) Nothing (Memory places)
-reach_open kept Nothing = Nothing
+reach_open kept found = found
 
 reached : (kept : Place → Bool) (found : Option (List Place)) → memory_or_nothing (option_and_then (open-all kept) found) ≡ reach_open kept (memory_or_nothing found)
 reached kept None = refl
@@ -166,6 +168,13 @@ reach-free image lives id access at width found places b same is kept free =
 
 pub reach-nothing : (image : Image) (lives : List Live) (id : ℕ) (access : Access) (at width : ℕ) (found : Reach) → found ≡ reach_of image lives id access at width → found ≡ Nothing → Nothing ≡ reach_by (granted_in image lives id access) at width
 reach-nothing image lives id access at width found same is = sym (reach-granted image lives id access at width ∙ ap (reach_open (is_kept image lives id)) (sym same ∙ is))
+
+-- the regions of root, and of a cell that lives besides it
+pub regions-root : (image : Image) (lives : List Live) (id : ℕ) → id ≡ image.system.root.id → regions_in image lives id ≡ image.system.root.memory_regions
+regions-root image lives id own = ap (λ (b : Bool). option_map_or (λ (c : CellConfig). c.memory_regions) (cond b (Some image.system.root) (live_in lives id)) []) (eq-eqb id image.system.root.id own)
+
+pub regions-live : (image : Image) (lives : List Live) (id : ℕ) → (id ≡ image.system.root.id → ⊥) → regions_in image lives id ≡ live_regions lives id
+regions-live image lives id other = ap (λ (b : Bool). option_map_or (λ (c : CellConfig). c.memory_regions) (cond b (Some image.system.root) (live_in lives id)) []) (ne_eqb id image.system.root.id other)
 
 -- the first run decides, or the second
 pub kept-low : (image : Image) (lives : List Live) (id : ℕ) (low high places : List Place) (a : Bool) → id ≡ image.system.root.id → places ≡ low ++ high

@@ -1,6 +1,6 @@
 -- Regions and programs by an index.
 use Rattle.std.proofs.Common.{◌≡◌, ℕ, ◌<◌, List, [], true, false, cond, eqb, Option, Some, None, refl, sym, ◌∙◌, ap, get_or, arith}
-use Rattle.std.specs.Prelude.{slice_get, IfSome}
+use Rattle.std.specs.Prelude.{slice_get, Contains, IfSome, IsTrue}
 use Rattle.std.specs.Option.{option_map_or}
 use Rattle.std.proofs.lemmas.Bool.Decides.{nat_tests}
 use Rattle.std.proofs.lemmas.Option.{none-some, same_Some}
@@ -13,7 +13,7 @@ use Rattle.jh_script.specs.declared.image.Program.{Program}
 use Rattle.jh_history.specs.declared.access.Access.{Access}
 use Rattle.jh_history.specs.Access.{gives, region_of}
 use Rattle.jh_history.specs.Lives.{program_of, regions_in}
-use Rattle.jh_cellcfg.specs.Regions.{IsInRange}
+use Rattle.jh_cellcfg.specs.Regions.{has_address, IsInRange}
 use Rattle.std.proofs.lemmas.List.Elements.{All-contains}
 use Rattle.jh_history.specs.Admitted.{IsAdmitted}
 use Rattle.jh_history.proofs.AdmittedLemmas.{within}
@@ -68,3 +68,12 @@ found_in_range image access at (Some r) admitted e =
 
 pub region_of-in_range : (image : Image) (access : Access) (at : ℕ) (o : Option Region) → IsAdmitted image → o ≡ region_of image.system.root.memory_regions access at → IfSome o IsInRange
 region_of-in_range image access at o admitted e = found_in_range image access at o admitted (sym e)
+
+-- a region that has an address has a size, and so lies in range
+pub sized-in_range : (at : ℕ) (o : Option Region) → IfSome o (λ r. 0 < r.size → IsInRange r) → IfSome o (λ r. IsTrue (has_address r at)) → IfSome o IsInRange
+sized-in_range at None within has = tt
+sized-in_range at (Some r) within has = within (has-some r at has)
+
+pub held-in_range : (image : Image) (o : Option Region) → IsAdmitted image → IfSome o (Contains image.system.root.memory_regions) → IfSome o (λ r. 0 < r.size → IsInRange r)
+held-in_range image None admitted own = tt
+held-in_range image (Some r) admitted own = All-contains (λ (x : Region). 0 < x.size → IsInRange x) image.system.root.memory_regions r (within image admitted) own

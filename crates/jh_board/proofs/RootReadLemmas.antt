@@ -25,7 +25,7 @@ root-within image lives admitted = let own : eqb image.system.root.id image.syst
 
 -- the byte that root reads at the address, where it may
 abbrev pub read_held : Image → Held → ℕ → Option ℕ
-read_held image held at = read_of (byte_of held.memory) (reach_by (granted_in image held.cells.lives image.system.root.id Read) at 1)
+read_held image held at = read_of (byte_of held.memory) 1 (reach_by (granted_in image held.cells.lives image.system.root.id Read) at 1)
 
 pub held-reads : (image : Image) (held : Held) (f : Facts) (at : ℕ) → IsAdmitted image → Means image held f → read_held image held at ≡ option_map f.byte (granted image f image.system.root.id Read at)
 held-reads image held f at admitted means =

@@ -11,3 +11,4 @@ pub mod Stands
 pub mod Indexed
 pub mod IsIndexed
 pub mod Maps
+pub mod Found

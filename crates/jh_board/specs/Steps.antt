@@ -10,7 +10,7 @@ use Rattle.jh_call.specs.declared.call.Call.{Call}
 use Rattle.jh_call.specs.declared.call.Call.TheVariants.{Create, Start, Loadable, Destroy}
 use Rattle.jh_script.specs.declared.image.Image.{Image}
 use Rattle.jh_history.specs.declared.access.Reach.{Reach}
-use Rattle.jh_history.specs.declared.access.Reach.TheVariants.{Memory, Nothing}
+use Rattle.jh_history.specs.declared.access.Reach.TheVariants.{Memory, Subpage, Config, Nothing}
 use Rattle.jh_history.specs.declared.call.OpenCall.{OpenCall}
 use Rattle.jh_history.specs.declared.entry.Entry.{Entry}
 use Rattle.jh_history.specs.declared.entry.Act.{Act}
@@ -62,6 +62,8 @@ changed_cells (Remove id) cells = filter (is_other id) cells
 -- each place that is reached may be written
 abbrev pub MayWrite : MemoryView → Reach → Type 0
 MayWrite memory (Memory places) = All (MayHold memory) places
+MayWrite memory (Subpage places) = All (MayHold memory) places
+MayWrite memory (Config at) = Unit {0}
 MayWrite memory Nothing = Unit {0}
 
 -- so may what the act writes, where it is a write

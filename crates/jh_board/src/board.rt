@@ -16,7 +16,7 @@ use crate::cells::LiveCells;
 use crate::held::Held;
 use crate::indexed::IndexedImage;
 use crate::memory::Memory;
-use crate::state::{is_quiet, next_step};
+use crate::state::{NextStep, is_quiet, next_step};
 use crate::steps::make;
 use crate::told::{cell_at, map_of};
 use crate::turn::{Turn, TurnFault};
@@ -74,13 +74,18 @@ fn advance(
     let Some(step) = next_step(image, held, cpu)? else {
         return Ok(None);
     };
+    let NextStep {
+        entry,
+        reach,
+        found,
+    } = step;
     if journal.len() >= limit as usize {
         return Err(TurnFault::Full);
     }
     journal.reserve(1)?;
-    make(image, held, &step.entry, &step.reach)?;
-    match journal.push(step.entry) {
-        Ok(()) => Ok(Some(step.entry)),
+    make(image, held, &entry, &reach, found)?;
+    match journal.push(entry) {
+        Ok(()) => Ok(Some(entry)),
         Err(_) => unreachable!(),
     }
 }

@@ -1,8 +1,10 @@
 //! The cells that live besides root, with what is found once of each.
-ghost use Rattle.std.specs.Prelude.{◌≡◌, ◌↔◌, ℕ, ◌+◌, ◌<◌, ◌≤◌, ◌&&◌, [], ◌∷◌, ◌++◌, AllPairs, IfOk, IfSome, IsTrue, OnOk, false, filter, length, map, position};
+ghost use Rattle.std.specs.Prelude.{◌≡◌, ◌↔◌, ℕ, ◌+◌, ◌<◌, ◌≤◌, ◌&&◌, Bool, find, [], ◌∷◌, ◌++◌, AllPairs, IfOk, IfSome, IsTrue, OnOk, false, filter, length, map, position};
 ghost use Rattle.std.specs.Option.{option_copied};
 ghost use Rattle.jh_num.specs.Bytes.{in_range, has_byte};
-ghost use Rattle.jh_cellcfg.specs.Regions.{IsInRange};
+ghost use Rattle.jh_cellcfg.specs.declared.region.Region.{Region as TheRegion};
+ghost use Rattle.jh_cellcfg.specs.Regions.{has_address, IsInRange};
+ghost use Rattle.jh_mmio.specs.Dispatch.{takes_all, unless_closed};
 ghost use Rattle.jh_check.specs.Refusals.{is_known};
 ghost use Rattle.jh_shape.specs.Pages.{pages_of};
 ghost use Rattle.jh_mmio.specs.Index.{IsRegionAt, SharesNoAddress};
@@ -141,6 +143,19 @@ impl LiveCells {
     {
         match index_of(&self.cells, id) {
             Some(index) => self.indexes[index].at(at),
+            None => None,
+        }
+    }
+
+    /// The subpage region of the cell with the id that has the whole access.
+    pub fn subpage(&self, id: u64, at: u64, width: u8) -> Option<Region>
+        requires { 0 < width }
+        ensures found { (closed : ℕ → Bool) → find (takes_all closed at width) (live_regions self.now.lives id) ≡ unless_closed closed at width result }
+        ensures within { IfSome result IsInRange }
+        ensures first { IfSome result (λ (r : TheRegion). IsTrue (has_address r at)) }
+    {
+        match index_of(&self.cells, id) {
+            Some(index) => self.indexes[index].subpage(at, width),
             None => None,
         }
     }

@@ -77,7 +77,10 @@ fn create(
     if cells.count() > 15 {
         return Ok(false);
     }
-    match cells.cells().verdict(false, &new, 0, 0xffff, 0xffff) {
+    match cells
+        .cells()
+        .verdict(alloc, false, &new, 0, 0xffff, 0xffff)?
+    {
         Some(_) => Ok(false),
         None => {
             let index = cells.prepare(alloc, &new)?;

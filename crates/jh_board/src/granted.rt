@@ -1,15 +1,22 @@
 //! What live cells are granted.
-ghost use Rattle.std.specs.Prelude.{◌≡◌, ◌≤◌, Bool, List};
+ghost use Rattle.std.specs.Prelude.{◌≡◌, ◌<◌, ◌≤◌, ℕ, Bool, List, IfSome, IsTrue, find};
 ghost use Rattle.std.specs.List.{list_any};
 ghost use Rattle.jh_script.specs.declared.image.Image.{Image as TheImage};
-ghost use Rattle.jh_history.specs.Access.{reach_by};
-ghost use Rattle.jh_history.specs.Grants.{granted_in, is_kept as is_kept_lem};
+ghost use Rattle.jh_cellcfg.specs.declared.region.Region.{Region as TheRegion};
+ghost use Rattle.jh_cellcfg.specs.Regions.{has_address, IsInRange};
+ghost use Rattle.jh_mmio.specs.Dispatch.{takes_all, unless_closed};
+ghost use Rattle.jh_history.specs.declared.place.Place.TheVariants.{Physical};
+ghost use Rattle.jh_history.specs.Access.{memory_or_nothing, reach_by};
+ghost use Rattle.jh_history.specs.Grants.{granted_in, is_kept as is_kept_lem, behind_in, reach_in};
+ghost use Rattle.jh_history.specs.Lives.{regions_in};
 ghost use Rattle.jh_history.specs.Places.{places_of_run, IsRun};
 
 use crate::cells::LiveCells;
 use crate::indexed::{IndexedImage, giving};
 use jh_cellcfg::Region;
-use jh_history::{Access, Grants, Place, Places, Reach, Run, Wanted};
+use jh_history::{
+    Access, Grants, Place, Places, Reach, Run, Wanted, answer_of, ecam_of, is_within, places_in,
+};
 use jh_num::Range;
 use std::marker::Model;
 
@@ -67,20 +74,79 @@ fn keeps(image: &IndexedImage, cells: &LiveCells, cell: u32, places: &Places) ->
     keeps_run(cells, low) || keeps_run(cells, high)
 }
 
+/// The memory that the cell's access reaches, where these cells live besides root.
+pub fn memory(image: &IndexedImage, cells: &LiveCells, cell: u32, wanted: &Wanted) -> Option<Places>
+    requires { wanted.now.width ≤ 8 }
+    ensures { memory_or_nothing result ≡ reach_by (granted_in image.now cells.now.lives cell wanted.now.access) wanted.now.at wanted.now.width }
+{
+    let granted = Granted { image, cells };
+    match jh_history::memory(&granted, cell, wanted) {
+        Some(places) => {
+            if keeps(image, cells, cell, &places) {
+                None
+            } else {
+                Some(places)
+            }
+        }
+        None => None,
+    }
+}
+
+/// The subpage region of the cell that has the whole access.
+fn whole(image: &IndexedImage, cells: &LiveCells, cell: u32, wanted: &Wanted) -> Option<Region>
+    requires { 0 < wanted.now.width }
+    ensures found { (closed : ℕ → Bool) → find (takes_all closed wanted.now.at wanted.now.width) (regions_in image.now cells.now.lives cell) ≡ unless_closed closed wanted.now.at wanted.now.width result }
+    ensures within { IfSome result IsInRange }
+    ensures first { IfSome result (λ (r : TheRegion). IsTrue (has_address r wanted.now.at)) }
+{
+    if cell == image.root() {
+        image.subpage(wanted.at, wanted.width)
+    } else {
+        cells.subpage(u64::from(cell), wanted.at, wanted.width)
+    }
+}
+
+/// The same, where the cell is kept from none of the bytes of the access.
+fn open_whole(image: &IndexedImage, cells: &LiveCells, cell: u32, wanted: &Wanted) -> Option<Region>
+    requires some { 0 < wanted.now.width }
+    requires few { wanted.now.width ≤ 8 }
+    ensures found { result ≡ find (takes_all (λ p. is_kept_lem image.now cells.now.lives cell (Physical p)) wanted.now.at wanted.now.width) (regions_in image.now cells.now.lives cell) }
+    ensures within { IfSome result IsInRange }
+    ensures first { IfSome result (λ (r : TheRegion). IsTrue (has_address r wanted.now.at)) }
+{
+    match whole(image, cells, cell, wanted) {
+        Some(region) => {
+            let places = places_in(cell, &region, wanted.at, wanted.width);
+            if keeps(image, cells, cell, &places) {
+                None
+            } else {
+                Some(region)
+            }
+        }
+        None => None,
+    }
+}
+
+/// What answers the cell's access where no memory does, where these cells live besides root.
+fn behind(image: &IndexedImage, cells: &LiveCells, cell: u32, wanted: &Wanted) -> Reach
+    requires { wanted.now.width ≤ 8 }
+    ensures { result ≡ behind_in image.now cells.now.lives cell wanted.now.access wanted.now.at wanted.now.width }
+{
+    if is_within(wanted) {
+        let region = open_whole(image, cells, cell, wanted);
+        answer_of(cell, region, ecam_of(&image.image().system), wanted)
+    } else {
+        Reach::Nothing
+    }
+}
+
 /// What the cell's access reaches, where these cells live besides root.
 pub fn reach(image: &IndexedImage, cells: &LiveCells, cell: u32, wanted: &Wanted) -> Reach
     requires { wanted.now.width ≤ 8 }
-    ensures { result ≡ reach_by (granted_in image.now cells.now.lives cell wanted.now.access) wanted.now.at wanted.now.width }
+    ensures { result ≡ reach_in image.now cells.now.lives cell wanted.now.access wanted.now.at wanted.now.width }
 {
-    let granted = Granted { image, cells };
-    match jh_history::reach(&granted, cell, wanted) {
-        Reach::Memory(places) => {
-            if keeps(image, cells, cell, &places) {
-                Reach::Nothing
-            } else {
-                Reach::Memory(places)
-            }
-        }
-        Reach::Nothing => Reach::Nothing,
+    match memory(image, cells, cell, wanted) {
+        Some(places) => Reach::Memory(places),
+        None => behind(image, cells, cell, wanted),
     }
 }

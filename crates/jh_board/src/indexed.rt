@@ -1,7 +1,9 @@
 //! An image with what turns look up in it, found once.
-ghost use Rattle.std.specs.Prelude.{◌≡◌, ℕ, ◌<◌, ◌≤◌, List, [], All, IsTrue, find, slice_get, IfSome, IfOk, IfErr};
+ghost use Rattle.std.specs.Prelude.{◌≡◌, ℕ, ◌<◌, ◌≤◌, Bool, List, [], All, IsTrue, find, slice_get, IfSome, IfOk, IfErr};
 ghost use Rattle.jh_cellcfg.specs.Cells.{name_of as name_of_lem};
-ghost use Rattle.jh_cellcfg.specs.Regions.{IsInRange};
+ghost use Rattle.jh_cellcfg.specs.declared.region.Region.{Region as TheRegion};
+ghost use Rattle.jh_cellcfg.specs.Regions.{has_address, IsInRange};
+ghost use Rattle.jh_mmio.specs.Dispatch.{takes_all, unless_closed};
 ghost use Rattle.jh_mmio.specs.Index.{IsRegionAt};
 ghost use Rattle.jh_script.specs.Operations.{IsPlain};
 ghost use Rattle.jh_history.specs.Access.{region_of};
@@ -140,6 +142,17 @@ impl IndexedImage {
     {
         admitted_roots_are_sound(&self.image);
         pool_pages(&self.image.system) as u32
+    }
+
+    /// The subpage region of root that has the whole access.
+    pub fn subpage(&self, at: u64, width: u8) -> Option<Region>
+        requires { 0 < width }
+        ensures found { (closed : ℕ → Bool) → find (takes_all closed at width) self.now.system.root.memory_regions ≡ unless_closed closed at width result }
+        ensures within { IfSome result IsInRange }
+        ensures first { IfSome result (λ (r : TheRegion). IsTrue (has_address r at)) }
+    {
+        admitted_roots_are_sound(&self.image);
+        self.regions.subpage(at, width)
     }
 
     /// Whether the board has the CPU.

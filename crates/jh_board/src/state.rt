@@ -1,30 +1,43 @@
 //! What a board holds, as what tells the facts of its journal.
 ghost use Rattle.std.specs.Prelude.{◌≡◌, ℕ, ◌<◌, ◌↔◌, None, IfSome, IfOk, IsTrue, option_map};
+ghost use Rattle.jh_script.specs.declared.image.Image.{Image};
 ghost use Rattle.jh_history.specs.Due.{due_at};
+ghost use Rattle.jh_history.specs.Phases.{creation_of};
 ghost use Rattle.jh_history.specs.Facts.{Facts};
 ghost use Rattle.jh_history.specs.Wants.{IsReachOfEntry};
 ghost use Rattle.jh_board.specs.Means.{Means};
+ghost use Rattle.jh_board.specs.Found.{IsFound};
 ghost use Rattle.jh_board.specs.declared.state.NextStep.{NextStep as TheStep};
 
-use crate::granted::reach;
+use crate::granted::{memory, reach};
 use crate::held::Held;
 use crate::indexed::IndexedImage;
+use jh_call::Call;
 use jh_cellcfg::CellConfig;
 use jh_cpu::Cpu;
 use jh_history::{
-    Access, Creation, Entry, Known, OpenCall, Places, Reach, RootBytes, Wanted, is_any_locked,
-    is_any_other_locked, judged, next_of, none_due, reach_of, read_config,
+    Access, Creation, Entry, Known, OpenCall, Phase, Places, Reach, RootBytes, Wanted,
+    is_any_locked, is_any_other_locked, is_due, judged, next_of, none_due, reach_of, read_config,
 };
 use jh_num::NoMemory;
 use jh_num::error::EPERM;
 use jh_script::Op;
 use std::marker::Model;
 
-/// What a board holds, lent to what reads it.
+/// What comes of the create by the caller, of the configuration at the address, found once for its Decide.
+#[derive(Drop)]
+pub struct FoundCreate {
+    pub caller: u8,
+    pub at: u64,
+    pub creation: Creation,
+}
+
+/// What a board holds, lent to what reads it, and what was found of the create that is about to be decided.
 #[derive(Drop)]
 pub struct State<'a> {
     image: &'a IndexedImage,
     held: &'a Held,
+    found: &'a Option<FoundCreate>,
 }
 
 impl<'a> Model for State<'a> {
@@ -33,13 +46,43 @@ impl<'a> Model for State<'a> {
     ghost Value = { StateView };
 
     ghost view = { λ s. record { image = s.image.now; held = s.held.now } };
+
+    ghost use Rattle.std.specs.Prelude.{IfSome};
+    ghost use Rattle.jh_board.specs.Found.{IsFound};
+
+    ghost invariant = { λ s. IfSome s.found.now (IsFound s.image.now s.held.now) };
 }
 
 impl<'a> State<'a> {
-    pub fn new(image: &'a IndexedImage, held: &'a Held) -> Self
+    /// What is held, where this was found of a create.
+    pub fn new(image: &'a IndexedImage, held: &'a Held, found: &'a Option<FoundCreate>) -> Self
+        requires { IfSome found.now (IsFound image.now held.now) }
         ensures { result ≡ record { image = image.now; held = held.now } }
     {
-        State { image, held }
+        State { image, held, found }
+    }
+
+    /// What comes of a create by the caller, of the configuration at the address.
+    fn creation(&self, caller: u8, at: u64) -> Result<Creation, NoMemory>
+        ensures { (i : Image) (f : Facts) → (i ≡ self.now.image) × Means i self.now.held f → IfOk result (λ creation. creation ≡ creation_of i f caller at) }
+    {
+        let cells = self.held.cells.list();
+        if is_any_locked(&self.held.memory, cells) {
+            return Ok(Creation::Refused { number: EPERM });
+        }
+        let read = read_config(self.held.alloc, self, at)?;
+        let alloc = self.held.alloc;
+        match judged(
+            alloc,
+            self.image.image(),
+            cells,
+            &self.held.cpus,
+            caller,
+            read,
+        )? {
+            Some(creation) => Ok(creation),
+            None => Err(NoMemory),
+        }
     }
 }
 
@@ -49,7 +92,7 @@ impl<'a> RootBytes for State<'a> {
     ghost use Rattle.jh_history.specs.Grants.{granted_in};
     ghost use Rattle.jh_board.specs.Pages.{byte_of};
 
-    ghost readable = { λ s at. read_of (byte_of s.held.memory) (reach_by (granted_in s.image s.held.cells.lives s.image.system.root.id Read) at 1) };
+    ghost readable = { λ s at. read_of (byte_of s.held.memory) 1 (reach_by (granted_in s.image s.held.cells.lives s.image.system.root.id Read) at 1) };
 
     fn read(&self, at: u64) -> Option<u8> {
         let wanted = Wanted {
@@ -57,9 +100,9 @@ impl<'a> RootBytes for State<'a> {
             at,
             width: 1,
         };
-        match reach(self.image, &self.held.cells, self.image.root(), &wanted) {
-            Reach::Memory(places) => Some(self.held.memory.value(&places) as u8),
-            Reach::Nothing => None,
+        match memory(self.image, &self.held.cells, self.image.root(), &wanted) {
+            Some(places) => Some(self.held.memory.value(&places) as u8),
+            None => None,
         }
     }
 
@@ -104,16 +147,14 @@ impl<'a> Known for State<'a> {
         is_any_other_locked(&self.held.memory, self.held.cells.list(), id)
     }
 
-    fn creation(&self, caller: u8, at: u64) -> Result<Creation, NoMemory> {
-        let cells = self.held.cells.list();
-        if is_any_locked(&self.held.memory, cells) {
-            return Ok(Creation::Refused { number: EPERM });
+    fn refusal(&self, caller: u8, at: u64) -> Result<Option<i64>, NoMemory> {
+        if let Some(found) = self.found {
+            if found.caller == caller && found.at == at {
+                return Ok(found.creation.refusal());
+            }
         }
-        let read = read_config(self.held.alloc, self, at)?;
-        match judged(self.image.image(), cells, &self.held.cpus, caller, read) {
-            Some(creation) => Ok(creation),
-            None => Err(NoMemory),
-        }
+        let creation = self.creation(caller, at)?;
+        Ok(creation.refusal())
     }
 
     fn call(&self) -> Option<&OpenCall> {
@@ -145,11 +186,42 @@ impl<'a> Known for State<'a> {
     }
 }
 
-/// The entry that a CPU makes next, and what its access reaches.
+/// The entry that a CPU makes next, what its access reaches, and what was found of the create that it decides.
 #[derive(Drop)]
 pub struct NextStep {
     pub entry: Entry,
     pub reach: Reach,
+    pub found: Option<FoundCreate>,
+}
+
+/// Who is about to decide a create, and where it reads its configuration.
+fn create_to_decide(held: &Held) -> Option<(u8, u64)> {
+    let begun = held.call.as_ref()?;
+    match (&begun.phase, &begun.call) {
+        (Phase::ToDecide, Call::Create { at }) => Some((begun.caller, *at)),
+        _ => None,
+    }
+}
+
+/// What comes of the create that the CPU decides next.
+fn find_create(image: &IndexedImage, held: &Held, cpu: u8) -> Result<Option<FoundCreate>, NoMemory>
+    requires { cpu < 16 }
+    ensures { IfOk result (λ found. IfSome found (IsFound image.now held.now)) }
+{
+    let Some((caller, at)) = create_to_decide(held) else {
+        return Ok(None);
+    };
+    let unknown = None;
+    let state = State::new(image, held, &unknown);
+    if caller != cpu || !is_due(&state, cpu) {
+        return Ok(None);
+    }
+    let creation = state.creation(caller, at)?;
+    Ok(Some(FoundCreate {
+        caller,
+        at,
+        creation,
+    }))
 }
 
 /// What the CPU does next. Only what a create reads takes memory.
@@ -158,13 +230,40 @@ pub fn next_step(image: &IndexedImage, held: &Held, cpu: u8) -> Result<Option<Ne
     ensures due { (f : Facts) → Means image.now held.now f → IfOk result (λ step. option_map (λ (s : TheStep). s.entry) step ≡ due_at image.now f cpu) }
     ensures reached { (f : Facts) → Means image.now held.now f → IfOk result (λ step. IfSome step (λ s. IsReachOfEntry image.now f s.entry s.reach)) }
     ensures cpu { IfOk result (λ step. IfSome step (λ s. s.entry.cpu ≡ cpu)) }
+    ensures found { IfOk result (λ step. IfSome step (λ s. IfSome s.found (IsFound image.now held.now))) }
 {
-    let state = State::new(image, held);
+    let found = find_create(image, held, cpu)?;
+    let state = State::new(image, held, &found);
     let reach = reach_of(&state, cpu);
     match next_of(&state, cpu, &reach)? {
-        Some(entry) => Ok(Some(NextStep { entry, reach })),
+        Some(entry) => Ok(Some(NextStep {
+            entry,
+            reach,
+            found,
+        })),
         None => Ok(None),
     }
+}
+
+/// What comes of a create by the caller, of the configuration at the address: as it was found, or else as it is
+/// found now.
+pub fn creation_by(
+    image: &IndexedImage,
+    held: &Held,
+    found: Option<FoundCreate>,
+    caller: u8,
+    at: u64,
+) -> Result<Creation, NoMemory>
+    requires { IfSome found (IsFound image.now held.now) }
+    ensures { (f : Facts) → Means image.now held.now f → IfOk result (λ creation. creation ≡ creation_of image.now f caller at) }
+{
+    if let Some(found) = found {
+        if found.caller == caller && found.at == at {
+            return Ok(found.creation);
+        }
+    }
+    let unknown = None;
+    State::new(image, held, &unknown).creation(caller, at)
 }
 
 /// Whether nothing is due to any CPU; they are asked from `first` on.
@@ -173,5 +272,6 @@ pub fn is_quiet(image: &IndexedImage, held: &Held, first: u8) -> bool
     ensures { (f : Facts) → Means image.now held.now f → IsTrue result ↔ ((cpu : ℕ) → due_at image.now f cpu ≡ None) }
 {
     image.has_few_cpus();
-    none_due(&State::new(image, held), first)
+    let unknown = None;
+    none_due(&State::new(image, held, &unknown), first)
 }

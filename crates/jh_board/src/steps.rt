@@ -16,6 +16,7 @@ ghost use Rattle.jh_history.specs.Pages.{with_page_write};
 ghost use Rattle.jh_history.specs.Due.{due_at};
 ghost use Rattle.jh_history.specs.Wants.{IsReachOfAct, IsReachOfEntry};
 ghost use Rattle.jh_board.specs.Pages.{byte_of, HoldsComm};
+ghost use Rattle.jh_board.specs.Found.{IsFound};
 ghost use Rattle.jh_board.specs.Means.{Means, IsReady, IsReadyFor};
 ghost use Rattle.jh_board.specs.Steps.{goes_on as goes_on_lem, create_of as create_of_lem, change_of_call as change_of_call_lem, change_of_cells as change_of_cells_lem, changed_cells, IsNext, IsRead, IsFree, WillBeReady, IsPrepared, MayWrite, MayWriteOf, MayJoin, joined_cells};
 
@@ -23,7 +24,7 @@ use crate::cells::LiveCells;
 use crate::held::Held;
 use crate::indexed::IndexedImage;
 use crate::memory::Memory;
-use crate::state::State;
+use crate::state::{FoundCreate, creation_by};
 use jh_call::Call;
 use jh_cellcfg::CellConfig;
 use jh_history::{
@@ -104,8 +105,10 @@ fn coming_of(
     image: &IndexedImage,
     held: &Held,
     entry: &Entry,
+    found: Option<FoundCreate>,
 ) -> Result<Option<CellConfig>, NoMemory>
-    requires { IsNext image.now held.now entry.now }
+    requires next { IsNext image.now held.now entry.now }
+    requires found { IfSome found (IsFound image.now held.now) }
     ensures read { (f : Facts) → Means image.now held.now f → due_at image.now f entry.now.cpu ≡ Some entry.now → IfOk result (IsRead image.now f entry.now) }
     ensures ready { (f : Facts) → Means image.now held.now f → due_at image.now f entry.now.cpu ≡ Some entry.now → IfOk result (WillBeReady image.now f entry.now) }
     ensures free { (f : Facts) → Means image.now held.now f → due_at image.now f entry.now.cpu ≡ Some entry.now → IfOk result (IsFree f) }
@@ -122,8 +125,7 @@ fn coming_of(
     };
     decides_are_of_the_open_call();
     a_cell_that_comes_may_live();
-    let state = State::new(image, held);
-    match state.creation(begun.caller, at)? {
+    match creation_by(image, held, found, begun.caller, at)? {
         Creation::Comes { config } => Ok(Some(config)),
         Creation::Refused { .. } => unreachable!(),
     }
@@ -146,12 +148,14 @@ fn prepare(
     image: &IndexedImage,
     held: &mut Held,
     entry: &Entry,
+    found: Option<FoundCreate>,
 ) -> Result<Option<CellConfig>, NoMemory>
-    requires { IsNext image.now held.old entry.now }
+    requires next { IsNext image.now held.old entry.now }
+    requires found { IfSome found (IsFound image.now held.old) }
     ensures means { (f : Facts) → Means image.now held.old f → Means image.now held.new f }
     ensures ok { (f : Facts) → Means image.now held.old f → due_at image.now f entry.now.cpu ≡ Some entry.now → IfOk result (IsPrepared image.now held.new f entry.now) }
 {
-    match coming_of(image, held, entry)? {
+    match coming_of(image, held, entry, found)? {
         Some(config) => {
             make_ready(held, &config)?;
             Ok(Some(config))
@@ -168,8 +172,8 @@ fn make_write(memory: &mut Memory, reach: &Reach, value: u64) -> Result<(), NoMe
     ensures held { (cell : ℕ) → HoldsComm memory.old.comms cell → HoldsComm memory.new.comms cell }
 {
     match reach {
-        Reach::Memory(places) => memory.write_value(places, value),
-        Reach::Nothing => Ok(()),
+        Reach::Memory(places) | Reach::Subpage(places) => memory.write_value(places, value),
+        Reach::Config { .. } | Reach::Nothing => Ok(()),
     }
 }
 
@@ -245,14 +249,17 @@ fn make_call(held: &mut Held, entry: &Entry, coming: Option<CellConfig>)
     make_cells(&mut held.cells, &mut held.index, created, change);
 }
 
-/// Makes the entry in what a board holds; `reach` is what its access reaches, where it makes one.
+/// Makes the entry in what a board holds; `reach` is what its access reaches, where it makes one, and `found`
+/// what comes of the create that it decides.
 pub fn make(
     image: &IndexedImage,
     held: &mut Held,
     entry: &Entry,
     reach: &Reach,
+    found: Option<FoundCreate>,
 ) -> Result<(), NoMemory>
     requires next { IsNext image.now held.old entry.now }
+    requires found { IfSome found (IsFound image.now held.old) }
     requires reached { (f : Facts) → Means image.now held.old f → IsReachOfEntry image.now f entry.now reach.now }
     ensures ok { OnOk result ((f : Facts) → Means image.now held.old f → due_at image.now f entry.now.cpu ≡ Some entry.now → Means image.now held.new (after image.now f entry.now)) }
     ensures err { OnErr result ((f : Facts) → Means image.now held.old f → Means image.now held.new f) }
@@ -261,7 +268,7 @@ pub fn make(
     pages_written_are_of_cells();
     a_cell_that_comes_may_live();
     few_cells_live();
-    let coming = prepare(image, held, entry)?;
+    let coming = prepare(image, held, entry, found)?;
     make_bytes(&mut held.memory, &entry.act, reach)?;
     cpus_after(&mut held.cpus, image.image(), held.call.as_ref(), entry);
     let write = page_write(

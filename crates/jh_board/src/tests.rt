@@ -18,6 +18,11 @@ pub(crate) const BASE: u64 = 0x4000_0000;
 
 const NEXT: u64 = 0x4000_1000;
 
+/// Where a region of registers begins, and where the ECAM window does.
+const REGISTERS: u64 = 0x900_0040;
+
+const WINDOW: u64 = 0x3000_0000;
+
 /// The last page below 2^39.
 const LAST: u64 = 0x7f_ffff_f000;
 
@@ -67,7 +72,7 @@ fn system(root: CellConfig) -> SystemConfig {
             gate_nr: 0,
             clock_reg: 0,
         },
-        pci_mmconfig_base: 0,
+        pci_mmconfig_base: WINDOW,
         pci_mmconfig_end_bus: 0,
         pci_is_virtual: 0,
         pci_domain: 0,
@@ -378,6 +383,59 @@ fn no_access_reaches_past_the_addresses(rt: HostRuntime) -> Result<(), Fail> {
     for at in [LAST + 0x1000, u64::MAX - 7, u64::MAX - 6, u64::MAX] {
         is_past(&rt, rt.alloc(), at)?;
     }
+    Ok(())
+}
+
+/// Registers of root that are read and written by four bytes.
+const WORDS: Region = Region {
+    phys_start: REGISTERS,
+    virt_start: REGISTERS,
+    size: 0x40,
+    flags: 0x4_0003,
+};
+
+#[test]
+fn registers_keep_what_is_written_by_their_width(rt: HostRuntime) -> Result<(), Fail> {
+    let case = Case {
+        regions: &[region(BASE, 3), WORDS],
+        zero: &[
+            write(4, REGISTERS + 0x3c, 0x1122_3344),
+            read(4, REGISTERS + 0x3c),
+            read(4, REGISTERS + 0x40),
+        ],
+        one: &[wait(4, REGISTERS + 0x3c, 0x1122_3344), read(2, REGISTERS)],
+    };
+    let entries = [
+        wrote(0, 4, REGISTERS + 0x3c, 0x1122_3344, true),
+        waited(1, 4, REGISTERS + 0x3c, 0x1122_3344),
+        got(0, 4, REGISTERS + 0x3c, Some(0x1122_3344)),
+        got(1, 2, REGISTERS, None),
+        got(0, 4, REGISTERS + 0x40, None),
+    ];
+    plays(&rt, rt.alloc(), case, &[], &entries)?;
+    Ok(())
+}
+
+#[test]
+fn a_window_without_functions_reads_all_ones(rt: HostRuntime) -> Result<(), Fail> {
+    let end = WINDOW + 0x10_0000;
+    let case = Case {
+        regions: &[region(BASE, 3)],
+        zero: &[
+            write(2, WINDOW, 0x1234),
+            wait(2, WINDOW, 0xffff),
+            read(8, WINDOW),
+        ],
+        one: &[read(1, end - 1), read(4, end)],
+    };
+    let entries = [
+        wrote(0, 2, WINDOW, 0x1234, true),
+        got(1, 1, end - 1, Some(0xff)),
+        waited(0, 2, WINDOW, 0xffff),
+        got(1, 4, end, None),
+        got(0, 8, WINDOW, None),
+    ];
+    plays(&rt, rt.alloc(), case, &[], &entries)?;
     Ok(())
 }
 

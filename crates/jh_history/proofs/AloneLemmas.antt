@@ -26,10 +26,10 @@ use Rattle.jh_history.specs.declared.comm.PageWrite.{PageWrite}
 use Rattle.jh_history.specs.declared.entry.Entry.{Entry}
 use Rattle.jh_history.specs.declared.entry.Act.{Act}
 use Rattle.jh_history.specs.declared.entry.Act.TheVariants.{Read, Write, Fetch, Await, Irq, Hvc, Begin, Stop, Decide, Settle, Commit, Note, Noted, Finish}
-use Rattle.jh_history.specs.Access.{place_of, reach_by, read_of}
+use Rattle.jh_history.specs.Access.{place_of, reach_by, or_behind, read_of}
 use Rattle.jh_history.specs.Facts.{Facts}
 use Rattle.jh_history.specs.Lives.{is_on_board, cell_in, regions_in, program_of, ops_in, op_at}
-use Rattle.jh_history.specs.Grants.{is_kept, unless, granted_in, granted, reach}
+use Rattle.jh_history.specs.Grants.{is_kept, unless, granted_in, granted, behind_in, reach}
 use Rattle.jh_history.specs.Cpus.{change_of, changed, acted}
 use Rattle.jh_history.specs.Calls.{call_by}
 use Rattle.jh_history.specs.Commits.{cells_by}
@@ -58,9 +58,11 @@ all_open image id (Some p) = rw (not_kept image id p) refl
 pub granted-alone : (image : Image) (f : Facts) (id : ℕ) (access : Access) (at : ℕ) → f.cells ≡ [] → granted image f id access at ≡ place_of id (regions_in image [] id) access at
 granted-alone image f id access at none = ap (λ (cells : List Live). granted_in image cells id access at) none ∙ all_open image id (place_of id (regions_in image [] id) access at)
 
-pub reach-alone : (image : Image) (f : Facts) (id : ℕ) (access : Access) (at width : ℕ) → f.cells ≡ [] → reach image f id access at width ≡ reach_by (place_of id (regions_in image [] id) access) at width
+pub reach-alone : (image : Image) (f : Facts) (id : ℕ) (access : Access) (at width : ℕ) → f.cells ≡ []
+    → reach image f id access at width ≡ or_behind (reach_by (place_of id (regions_in image [] id) access) at width) (behind_in image [] id access at width)
 reach-alone image f id access at width none =
-    ap (λ (place : ℕ → Option Place). reach_by place at width) (same_function (granted image f id access) (place_of id (regions_in image [] id) access) (λ a. granted-alone image f id access a none))
+    ap (λ (place : ℕ → Option Place). or_behind (reach_by place at width) (behind_in image f.cells id access at width)) (same_function (granted image f id access) (place_of id (regions_in image [] id) access) (λ a. granted-alone image f id access a none))
+    ∙ ap (λ (cells : List Live). or_behind (reach_by (place_of id (regions_in image [] id) access) at width) (behind_in image cells id access at width)) none
 
 -- at opening
 pub alone-start : (image : Image) → IsAlone image (start image)
@@ -82,7 +84,7 @@ own_act : (image : Image) (f : Facts) (cell : ℕ) (op : Op) → IsNoCall op →
 own_act image f cell (ReadOp width at) no_call = refl
 own_act image f cell (WriteOp width at value) no_call = refl
 own_act image f cell (FetchOp at) no_call = refl
-own_act image f cell (AwaitOp width at value) no_call = own_await width at value (read_of f.byte (reach image f cell ToRead at width))
+own_act image f cell (AwaitOp width at value) no_call = own_await width at value (read_of f.byte width (reach image f cell ToRead at width))
 own_act image f cell IrqOp no_call = tt
 own_act image f cell (HvcOp code a b) no_call = absurd no_call
 

@@ -1,9 +1,9 @@
 -- What an access reaches on a sound board: physical memory, and pages of cells that live.
-use Rattle.std.proofs.Common.{◌≡◌, ℕ, zero, suc, ◌+◌, ◌-◌, ◌<◌, ◌≤◌, List, [], ◌∷◌, Bool, true, false, cond, leb, ltb, eqb, Option, Some, None, refl, sym, ap, subst, ◌∙◌, arith}
+use Rattle.std.proofs.Common.{◌≡◌, ℕ, zero, suc, ◌+◌, ◌-◌, ◌%◌, ◌<◌, ◌≤◌, List, [], ◌∷◌, Bool, true, false, cond, leb, ltb, eqb, Option, Some, None, refl, sym, ap, subst, ◌∙◌, arith}
 use Rattle.std.specs.Prelude.{Contains, find, option_map, option_and_then, slice_get, IsTrue}
 use Rattle.std.specs.List.{AllByRecursion}
 use Rattle.std.specs.Option.{option_map_or}
-use Rattle.std.proofs.lemmas.Bool.{both_ways, and_parts, leb-true, ltb-true}
+use Rattle.std.proofs.lemmas.Bool.{both_ways, and_parts, and_from, false_from_ne_true, true≢false, leb-true, ltb-true, eq-eqb}
 use Rattle.std.proofs.lemmas.Option.{none-some, same_Some, slice_get-get_or}
 use Rattle.std.proofs.lemmas.List.Elements.{All-from_recursion}
 use Rattle.jh_num.specs.declared.address.TheConstants.{ADDRESS_END, PAGE_SIZE}
@@ -12,24 +12,32 @@ use Rattle.jh_cellcfg.specs.declared.config.CellConfig.{CellConfig}
 use Rattle.jh_cellcfg.specs.declared.live.Live.{Live}
 use Rattle.jh_cellcfg.specs.declared.region.Region.{Region}
 use Rattle.jh_cellcfg.specs.Lives.{has_id}
-use Rattle.jh_cellcfg.specs.Regions.{has_address, is_comm, byte_in, place_in}
+use Rattle.jh_cellcfg.specs.Regions.{has_address, is_page_mapped, is_comm, byte_in, place_in}
+use Rattle.jh_check.specs.Clean.{IsClean}
+use Rattle.jh_mmio.specs.declared.hitting.Hitting.{Hitting}
+use Rattle.jh_mmio.specs.declared.hitting.Hitting.TheVariants.{Subpage as HitsSubpage, Ecam, Bar, Nothing as HitsNothing}
+use Rattle.jh_mmio.specs.Dispatch.{takes_all, lets_through, behind_between}
 use Rattle.jh_script.specs.declared.image.Image.{Image}
 use Rattle.jh_history.specs.declared.place.Place.{Place}
 use Rattle.jh_history.specs.declared.place.Place.TheVariants.{Physical, Page}
 use Rattle.jh_history.specs.declared.access.Access.{Access}
-use Rattle.jh_history.specs.declared.access.Access.TheVariants.{Write as ToWrite}
+use Rattle.jh_history.specs.declared.access.Access.TheVariants.{Read as ToRead, Write as ToWrite, Fetch as ToFetch}
 use Rattle.jh_history.specs.declared.access.Reach.{Reach}
+use Rattle.jh_history.specs.declared.access.Reach.TheVariants.{Memory, Subpage, Config, Nothing}
 use Rattle.jh_history.specs.declared.entry.Entry.{Entry}
 use Rattle.jh_history.specs.declared.entry.Act.{Act}
 use Rattle.jh_history.specs.declared.entry.Act.TheVariants.{Read, Write, Fetch, Await, Irq, Hvc, Begin, Stop, Decide, Settle, Commit, Note, Noted, Finish}
-use Rattle.jh_history.specs.Access.{gives, region_of, place_in_cell, place_of, places_from, memory_or_nothing, reach_by}
+use Rattle.jh_history.specs.Access.{gives, region_of, place_in_cell, place_of, places_from, memory_or_nothing, reach_by, or_behind}
+use Rattle.jh_history.specs.Behind.{ecam_start, ecam_end, in_ecam, answer_by, answer_to, answer}
+use Rattle.jh_history.specs.Places.{places_in_row}
 use Rattle.jh_history.specs.Facts.{Facts}
-use Rattle.jh_history.specs.Grants.{is_kept, unless, granted, reach}
+use Rattle.jh_history.specs.Grants.{is_kept, unless, granted, behind_in, reach}
 use Rattle.jh_history.specs.Lives.{regions_in}
 use Rattle.jh_history.specs.Phases.{configs_of}
 use Rattle.jh_history.specs.Wants.{IsReachOfAct, IsReachOfEntry}
 use Rattle.jh_history.specs.Sound.{IsSound}
 use Rattle.jh_history.specs.DueFacts.{IsLive, IsOfCells, ReachesCells, WritesCells}
+use Rattle.jh_history.proofs.BehindLemmas.{takes_all-size, takes_all-subpage}
 use Rattle.jh_history.proofs.GrantLemmas.{gives-has, has-some}
 use Rattle.jh_history.proofs.SoundDecideLemmas.{found-live}
 use Rattle.jh_history.proofs.DueComesLemmas.{numbered}
@@ -120,12 +128,84 @@ granted-cells : (image : Image) (f : Facts) (id : ℕ) (access : Access) (at : �
 granted-cells image f id access at p sound e =
     place_of-cells image f id access at p sound (granted_by (is_kept image f.cells id) (place_of id (regions_in image f.cells id) access at) p e)
 
+-- ---- a subpage region that has an access
+
+-- it is no communication region, which is one whole page
+plain_by : (image : Image) (lives : List Live) (id : ℕ) (r : Region) (root : Bool) (o : Option Live) → IsClean image.system (configs_of lives) → find (has_id id) lives ≡ o
+    → Contains (option_map_or (λ (c : CellConfig). c.memory_regions) (cond root (Some image.system.root) (option_map (λ (l : Live). l.config) o)) []) r
+    → 0 < r.size → is_page_mapped r ≡ false → is_comm r ≡ true → ⊥
+plain_by image lives id r true o clean is held some pages comm =
+    let item = item_of image.system.root.memory_regions r held in
+    both_ways (is_comm r) (clean.no_comm item.0 r item.1 some) comm
+plain_by image lives id r false None clean is held some pages comm = let lt : held.0 < 0 = held.1 in absurd (omega arith)
+plain_by image lives id r false (Some live) clean is held some pages comm =
+    let cell = numbered image.system (configs_of lives) live.config (found-live lives id live is).0 in
+    let item = item_of live.config.memory_regions r held in
+    let page = clean.comms cell.0 live.config cell.1 cell.2 item.0 r item.1 some comm in
+    let size : r.size ≡ 4096 = page.size in
+    let start : r.virt_start % 4096 ≡ 0 = page.aligned in
+    let whole : r.size % 4096 ≡ 0 = omega arith in
+    both_ways (is_page_mapped r) pages (and_from (eqb (r.virt_start % 4096) 0) (eqb (r.size % 4096) 0) (eq-eqb (r.virt_start % 4096) 0 start) (eq-eqb (r.size % 4096) 0 whole))
+
+pub takes_all-plain : (image : Image) (lives : List Live) (id : ℕ) (closed : ℕ → Bool) (at n : ℕ) (r : Region) → IsClean image.system (configs_of lives) → Contains (regions_in image lives id) r → takes_all closed at n r ≡ true → is_comm r ≡ false
+takes_all-plain image lives id closed at n r clean held takes =
+    false_from_ne_true (is_comm r) (plain_by image lives id r (eqb id image.system.root.id) (find (has_id id) lives) clean refl held (takes_all-size closed at n r takes) (takes_all-subpage closed at n r takes))
+
+-- so its places are those of physical memory
+row_cells : (cells : List Live) (p n : ℕ) → AllByRecursion (IsOfCells cells) (places_in_row (Physical p) n)
+row_cells cells p zero = tt
+row_cells cells p (suc n) = (tt, row_cells cells (p + 1) n)
+
+region_answers : (cells : List Live) (id at width : ℕ) (r : Region) (comm through : Bool) → comm ≡ false
+    → ReachesCells cells (cond through (Subpage (places_in_row (cond comm (Page id (byte_in r at)) (Physical (place_in r at))) width)) Nothing)
+region_answers cells id at width r comm false plain = tt
+region_answers cells id at width r true true plain = absurd (true≢false plain)
+region_answers cells id at width r false true plain = All-from_recursion (IsOfCells cells) (places_in_row (Physical (place_in r at)) width) (row_cells cells (place_in r at) width)
+
+window_answers : (cells : List Live) (start at : ℕ) (h : Hitting) → ReachesCells cells (in_ecam start at h)
+window_answers cells start at Ecam = tt
+window_answers cells start at (HitsSubpage region) = tt
+window_answers cells start at (Bar window) = tt
+window_answers cells start at HitsNothing = tt
+
+found_answers : (image : Image) (lives : List Live) (id : ℕ) (closed : ℕ → Bool) (start end : ℕ) (write : Bool) (at width : ℕ) (o : Option Region) → IsClean image.system (configs_of lives) → find (takes_all closed at width) (regions_in image lives id) ≡ o
+    → ReachesCells lives (answer_by id o start end write at width)
+found_answers image lives id closed start end write at width None clean is = window_answers lives start at (behind_between start end [] at width)
+found_answers image lives id closed start end write at width (Some r) clean is =
+    let found = IsFound-from_find (takes_all closed at width) (regions_in image lives id) r is in
+    region_answers lives id at width r (is_comm r) (lets_through at width write r) (takes_all-plain image lives id closed at width r clean found.held found.passes)
+
+access_answers : (image : Image) (lives : List Live) (id : ℕ) (closed : ℕ → Bool) (start end : ℕ) (access : Access) (at width : ℕ) → IsClean image.system (configs_of lives)
+    → ReachesCells lives (answer_to id (find (takes_all closed at width) (regions_in image lives id)) start end access at width)
+access_answers image lives id closed start end ToRead at width clean = found_answers image lives id closed start end false at width (find (takes_all closed at width) (regions_in image lives id)) clean refl
+access_answers image lives id closed start end ToWrite at width clean = found_answers image lives id closed start end true at width (find (takes_all closed at width) (regions_in image lives id)) clean refl
+access_answers image lives id closed start end ToFetch at width clean = tt
+
+answer_or_not : (lives : List Live) (b : Bool) (found : Reach) → ReachesCells lives found → ReachesCells lives (cond b found Nothing)
+answer_or_not lives true found all = all
+answer_or_not lives false found all = tt
+
+behind-cells : (image : Image) (lives : List Live) (id : ℕ) (access : Access) (at width : ℕ) → IsClean image.system (configs_of lives) → ReachesCells lives (behind_in image lives id access at width)
+unfolding answer
+behind-cells image lives id access at width clean =
+    answer_or_not lives (leb (at + width) ADDRESS_END) (answer_to id (find (takes_all (λ p. is_kept image lives id (Physical p)) at width) (regions_in image lives id)) (ecam_start image.system) (ecam_end image.system) access at width)
+    (access_answers image lives id (λ p. is_kept image lives id (Physical p)) (ecam_start image.system) (ecam_end image.system) access at width clean)
+
 -- ---- what is reached
+
+memory_or_behind : (cells : List Live) (memory behind : Reach) → ReachesCells cells memory → ReachesCells cells behind → ReachesCells cells (or_behind memory behind)
+memory_or_behind cells (Memory places) behind all rest = all
+memory_or_behind cells (Subpage places) behind all rest = all
+memory_or_behind cells (Config at) behind all rest = tt
+memory_or_behind cells Nothing behind all rest = rest
 
 pub reach-cells : (image : Image) (f : Facts) (cell at width : ℕ) (access : Access) (found : Reach) → IsSound image f → found ≡ reach image f cell access at width → ReachesCells f.cells found
 reach-cells image f cell at width access found sound is =
     let P : Reach → Type 0 = ReachesCells f.cells in
-    subst P (sym is) (reach_by-cells f.cells (granted image f cell access) (λ a p e. granted-cells image f cell access a p sound e) at width)
+    subst P (sym is)
+    (memory_or_behind f.cells (reach_by (granted image f cell access) at width) (behind_in image f.cells cell access at width)
+    (reach_by-cells f.cells (granted image f cell access) (λ a p e. granted-cells image f cell access a p sound e) at width)
+    (behind-cells image f.cells cell access at width sound.cells.clean))
 
 write_by : (image : Image) (f : Facts) (cell : ℕ) (act : Act) (found : Reach) → IsSound image f → IsReachOfAct image f cell act found → WritesCells f.cells act found
 write_by image f cell (Read width at got) found sound is = tt

@@ -69,7 +69,7 @@ place_in_cell-further id r at k le = by_comm id r at k (is_comm r) le
 pub gives-has : (access : Access) (at : ℕ) (r : Region) → gives access at r ≡ true → IsTrue (has_address r at)
 gives-has access at r h = (and_parts (has_address r at) (is_page_mapped r) (and_parts (has_address r at && is_page_mapped r) (has_flags (right_of access) r) h).0).0
 
-has-start : (r : Region) (at : ℕ) → IsTrue (has_address r at) → r.virt_start ≤ at
+pub has-start : (r : Region) (at : ℕ) → IsTrue (has_address r at) → r.virt_start ≤ at
 has-start r at h = leb-true r.virt_start at (and_parts (leb r.virt_start at) (ltb at (r.virt_start + r.size)) h).0
 
 pub has-some : (r : Region) (at : ℕ) → IsTrue (has_address r at) → 0 < r.size

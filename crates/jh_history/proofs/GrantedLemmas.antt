@@ -1,10 +1,10 @@
 -- What a cell is granted, by what its regions give and by what it is kept from.
-use Rattle.std.proofs.Common.{◌≡◌, ℕ, zero, suc, ◌+◌, ◌<◌, ◌||◌, Bool, true, false, cond, leb, eqb, List, [], ◌∷◌, ◌++◌, length, get_or, take, replicate, Option, Some, None, refl, ap, sym, ◌∙◌, arith}
-use Rattle.std.specs.Prelude.{find, map, All, Contains, option_map, option_and_then, slice_get}
+use Rattle.std.proofs.Common.{◌≡◌, ℕ, zero, suc, ◌+◌, ◌<◌, ◌||◌, Bool, true, false, cond, leb, eqb, List, [], ◌∷◌, get_or, Option, Some, None, refl, ap, ◌∙◌, arith}
+use Rattle.std.specs.Prelude.{All, option_map, option_and_then}
 use Rattle.std.specs.List.{list_any}
 use Rattle.std.specs.Option.{option_map_or}
-use Rattle.std.proofs.lemmas.Option.{none-some, same_Some, slice_get-get_or}
-use Rattle.jh_num.proofs.Lists.{IsFound-from_find, find-map}
+use Rattle.std.proofs.lemmas.Option.{slice_get-get_or}
+use Rattle.jh_num.proofs.Lists.{IsFound-from_find}
 use Rattle.jh_num.specs.declared.address.TheConstants.{ADDRESS_END}
 use Rattle.jh_cellcfg.specs.declared.config.CellConfig.{CellConfig}
 use Rattle.jh_cellcfg.specs.declared.live.Live.{Live}
@@ -60,7 +60,7 @@ granted_from id regions kept access at (suc count) =
 
 abbrev pub unless_kept : (Place → Bool) → Reach → Reach
 unless_kept kept (Memory places) = cond (list_any kept places) Nothing (Memory places)
-unless_kept kept Nothing = Nothing
+unless_kept kept found = found
 
 memory_by : (places : List Place) (b : Bool) → memory_or_nothing (cond b None (Some places)) ≡ cond b Nothing (Memory places)
 memory_by places true = refl

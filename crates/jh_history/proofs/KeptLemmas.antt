@@ -7,12 +7,12 @@ use Rattle.jh_history.specs.declared.place.Place.{Place}
 use Rattle.jh_history.specs.declared.written.WrittenByte.{WrittenByte}
 use Rattle.jh_history.specs.declared.entry.Entry.{Entry}
 use Rattle.jh_history.specs.declared.access.Reach.{Reach}
-use Rattle.jh_history.specs.declared.access.Reach.TheVariants.{Memory}
+use Rattle.jh_history.specs.declared.access.Reach.TheVariants.{Memory, Subpage}
 use Rattle.jh_history.specs.declared.access.Wanted.{Wanted}
-use Rattle.jh_history.specs.Places.{further, places_in_row, over}
+use Rattle.jh_history.specs.Places.{further, places_in_row, over, written}
 use Rattle.jh_cellcfg.specs.declared.live.Live.{Live}
-use Rattle.jh_history.specs.Access.{write_of, reach_by}
-use Rattle.jh_history.specs.Grants.{granted_in}
+use Rattle.jh_history.specs.Access.{write_of}
+use Rattle.jh_history.specs.Grants.{reach_in}
 use Rattle.jh_history.specs.Facts.{Facts}
 use Rattle.jh_history.specs.Bytes.{opening_byte, byte_after}
 use Rattle.jh_history.specs.Cpus.{cpu_after}
@@ -40,19 +40,27 @@ pub over-runs : (image : Image) (old middle new : List WrittenByte) (low high pl
 over-runs image old middle new low high places value rest last q is first second =
     second [] ∙ first (high ++ []) ∙ ap (λ (ps : List Place). over (low ++ ps) value q (last_byte image old q)) (append-nil high) ∙ ap (λ (ps : List Place). over ps value q (last_byte image old q)) (sym is)
 
--- a write where it reaches memory
+-- a write where it reaches memory, or a subpage region
+written_at : (i : Image) (f : Facts) (places : List Place) (value : ℕ) (q : Place) (old : PlainView) → Stands old i f → over places value q (last_byte i old.bytes q) ≡ written f.byte places value q
+written_at i f places value q old stands = ap (over places value q) (sym (stands.bytes q)) ∙ sym (written-over f.byte places value q)
+
 pub kept-write : (i : Image) (f : Facts) (cell : ℕ) (wanted : Wanted) (found : Reach) (places : List Place) (value : ℕ) (q : Place) (old : PlainView) → Stands old i f → found ≡ reach_of i f cell wanted → found ≡ Memory places
     → over places value q (last_byte i old.bytes q) ≡ write_of f.byte (reach_of i f cell wanted) value q
 kept-write i f cell wanted found places value q old stands is_found is =
-    ap (over places value q) (sym (stands.bytes q)) ∙ sym (written-over f.byte places value q) ∙ ap (λ (r : Reach). write_of f.byte r value q) (sym is ∙ is_found)
+    written_at i f places value q old stands ∙ ap (λ (r : Reach). write_of f.byte r value q) (sym is ∙ is_found)
+
+pub kept-write_subpage : (i : Image) (f : Facts) (cell : ℕ) (wanted : Wanted) (found : Reach) (places : List Place) (value : ℕ) (q : Place) (old : PlainView) → Stands old i f → found ≡ reach_of i f cell wanted → found ≡ Subpage places
+    → over places value q (last_byte i old.bytes q) ≡ write_of f.byte (reach_of i f cell wanted) value q
+kept-write_subpage i f cell wanted found places value q old stands is_found is =
+    written_at i f places value q old stands ∙ ap (λ (r : Reach). write_of f.byte r value q) (sym is ∙ is_found)
 
 -- what an access reaches, by the image and the cells that are kept
 pub reach-kept : (i image : Image) (f : Facts) (cells : List Live) (cell : ℕ) (wanted : Wanted) (found : Reach) → image ≡ i → cells ≡ f.cells
-    → found ≡ reach_by (granted_in image cells cell wanted.access) wanted.at wanted.width → found ≡ reach_of i f cell wanted
+    → found ≡ reach_in image cells cell wanted.access wanted.at wanted.width → found ≡ reach_of i f cell wanted
 reach-kept i image f cells cell wanted found same lives is =
     is
-    ∙ ap (λ (x : Image). reach_by (granted_in x cells cell wanted.access) wanted.at wanted.width) same
-    ∙ ap (λ (l : List Live). reach_by (granted_in i l cell wanted.access) wanted.at wanted.width) lives
+    ∙ ap (λ (x : Image). reach_in x cells cell wanted.access wanted.at wanted.width) same
+    ∙ ap (λ (l : List Live). reach_in i l cell wanted.access wanted.at wanted.width) lives
 
 -- one entry more
 pub Stands-after : (i : Image) (f : Facts) (entry : Entry) (old new : PlainView) → Stands old i f → new.image ≡ old.image

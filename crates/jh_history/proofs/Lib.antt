@@ -1,5 +1,6 @@
 pub mod PlaceLemmas
 pub mod AccessLemmas
+pub mod BehindLemmas
 pub mod GrantLemmas
 pub mod FactsLemmas
 pub mod DueLemmas
@@ -34,4 +35,3 @@ pub mod PlainStepLemmas
 pub mod FewLemmas
 pub mod ReadLemmas
 pub mod PlainReadLemmas
-pub mod VerdictLemmas

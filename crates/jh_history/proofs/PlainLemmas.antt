@@ -68,7 +68,7 @@ plain_act : (image : Image) (f : Facts) (cell : ℕ) (op : Op) → IsPlain op �
 plain_act image f cell (Read width at) plain = width_le width plain
 plain_act image f cell (Write width at value) plain = width_le width plain.0
 plain_act image f cell (Fetch at) plain = tt
-plain_act image f cell (Await width at value) plain = plain_await width at value (read_of f.byte (reach image f cell ToRead at width))
+plain_act image f cell (Await width at value) plain = plain_await width at value (read_of f.byte width (reach image f cell ToRead at width))
 plain_act image f cell Irq plain = tt
 plain_act image f cell (Hvc code a b) plain = plain_hvc code a b (answer_of (decoded code a b) (seen_of image f cell (decoded code a b))) ((eqb cell image.system.root.id) && is_management (decoded code a b))
 

@@ -1,5 +1,5 @@
 -- What the slow plain program reads for root.
-use Rattle.std.proofs.Common.{◌≡◌, ℕ, ◌≤◌, List, Option, refl, ap, sym, ◌∙◌}
+use Rattle.std.proofs.Common.{◌≡◌, ℕ, List, Option, ap, sym, ◌∙◌}
 use Rattle.std.specs.Prelude.{option_map}
 use Rattle.jh_cellcfg.specs.declared.live.Live.{Live}
 use Rattle.jh_script.specs.declared.image.Image.{Image}
@@ -16,7 +16,7 @@ use Rattle.jh_history.proofs.ReadLemmas.{read-one, granted-beyond}
 
 -- the byte that root reads at the address, where it may
 abbrev pub read_in : PlainView → ℕ → Option ℕ
-read_in p at = read_of (last_byte p.image p.bytes) (reach_by (granted_in p.image p.cells p.image.system.root.id Read) at 1)
+read_in p at = read_of (last_byte p.image p.bytes) 1 (reach_by (granted_in p.image p.cells p.image.system.root.id Read) at 1)
 
 pub plain-reads : (p : PlainView) (i : Image) (f : Facts) (at : ℕ) → IsFit p.image p.cells → Stands p i f → read_in p at ≡ option_map f.byte (granted i f i.system.root.id Read at)
 plain-reads p i f at fit stands =

@@ -2,7 +2,6 @@
 use Rattle.std.proofs.Common.{◌≡◌, ℕ, zero, suc, ◌+◌, ◌*◌, ◌<◌, ◌≤◌, List, [], ◌∷◌, ◌++◌, Bool, true, false, leb, ltb, Option, Some, None, map, length, refl, sym, ap, subst, ◌∙◌, inl, inr, arith}
 use Rattle.std.specs.Prelude.{option_map, option_and_then, All, IsTrue}
 use Rattle.jh_num.specs.declared.address.TheConstants.{ADDRESS_END}
-use Rattle.jh_num.specs.Memory.{spelled}
 use Rattle.jh_cellcfg.specs.Faults.{header_fault, header_size}
 use Rattle.jh_script.specs.declared.image.Image.{Image}
 use Rattle.jh_history.specs.declared.place.Place.{Place}
@@ -128,15 +127,15 @@ granted-beyond id regions kept at within le = beyond_by id regions kept at (regi
 spelled-one : (b : ℕ) → b + 256 * 0 ≡ b
 spelled-one b = omega arith
 
-one_read : (f : Place → ℕ) (o : Option Place) → read_of f (memory_or_nothing (option_and_then (λ (p : Place). option_map (λ (ps : List Place). p ∷ ps) (Some [])) o)) ≡ option_map f o
+one_read : (f : Place → ℕ) (o : Option Place) → read_of f 1 (memory_or_nothing (option_and_then (λ (p : Place). option_map (λ (ps : List Place). p ∷ ps) (Some [])) o)) ≡ option_map f o
 one_read f None = refl
 one_read f (Some p) = ap Some (spelled-one (f p))
 
 -- what an access of one byte reads
-pub read-one : (f : Place → ℕ) (place : ℕ → Option Place) (at : ℕ) → ((a : ℕ) → ADDRESS_END ≤ a → place a ≡ None) → read_of f (reach_by place at 1) ≡ option_map f (place at)
+pub read-one : (f : Place → ℕ) (place : ℕ → Option Place) (at : ℕ) → ((a : ℕ) → ADDRESS_END ≤ a → place a ≡ None) → read_of f 1 (reach_by place at 1) ≡ option_map f (place at)
 read-one f place at beyond = elim (cases_lt at ADDRESS_END) [
-  | inl lt ↦ ap (read_of f) (reach_by-within place at 1 (omega arith)) ∙ one_read f (place at)
-  | inr le ↦ ap (read_of f) (reach_by-beyond place at 1 (omega arith)) ∙ sym (ap (option_map f) (beyond at le))
+  | inl lt ↦ ap (read_of f 1) (reach_by-within place at 1 (omega arith)) ∙ one_read f (place at)
+  | inr le ↦ ap (read_of f 1) (reach_by-beyond place at 1 (omega arith)) ∙ sym (ap (option_map f) (beyond at le))
 ]
 
 -- how many they are
@@ -151,11 +150,11 @@ bytes_by-length byte at (suc n) bs e = length_by (byte at) (bytes_by byte (at + 
 
 abbrev places_reached : Reach → List Place
 places_reached (Memory ps) = ps
-places_reached Nothing = []
+places_reached found = []
 
 abbrev reaches : Reach → Bool
 reaches (Memory ps) = true
-reaches Nothing = false
+reaches found = false
 
 nothing-memory : (ps : List Place) → Nothing ≡ Memory ps → ⊥
 nothing-memory ps e = both_ways true (ap reaches (sym e)) refl
@@ -175,5 +174,5 @@ one-place place at ps e = elim (cases_lt at ADDRESS_END) [
 ]
 
 -- nothing is read past the addresses
-pub read-beyond : (f : Place → ℕ) (place : ℕ → Option Place) (at : ℕ) → ADDRESS_END ≤ at → read_of f (reach_by place at 1) ≡ None
-read-beyond f place at le = ap (read_of f) (reach_by-beyond place at 1 (omega arith))
+pub read-beyond : (f : Place → ℕ) (place : ℕ → Option Place) (at : ℕ) → ADDRESS_END ≤ at → read_of f 1 (reach_by place at 1) ≡ None
+read-beyond f place at le = ap (read_of f 1) (reach_by-beyond place at 1 (omega arith))

@@ -81,7 +81,7 @@ act_comes : (image : Image) (f : Facts) (cell : ℕ) (op : Op) → IfSome (act_o
 act_comes image f cell (ReadOp width at) = tt
 act_comes image f cell (WriteOp width at value) = tt
 act_comes image f cell (FetchOp at) = tt
-act_comes image f cell (AwaitOp width at value) = await_comes image cell (AwaitOp width at value) width at value (read_of f.byte (reach image f cell ToRead at width))
+act_comes image f cell (AwaitOp width at value) = await_comes image cell (AwaitOp width at value) width at value (read_of f.byte width (reach image f cell ToRead at width))
 act_comes image f cell IrqOp = tt
 act_comes image f cell (HvcOp code a b) =
     cond_both (eqb cell image.system.root.id && is_management (decoded code a b)) (Begin code a b)

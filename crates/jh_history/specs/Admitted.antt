@@ -4,7 +4,7 @@ use Rattle.jh_num.specs.declared.address.TheConstants.{ADDRESS_END, PAGE_SIZE}
 use Rattle.jh_cellcfg.specs.declared.region.Region.{Region}
 use Rattle.jh_cellcfg.specs.declared.config.PciDevice.{PciDevice}
 use Rattle.jh_cellcfg.specs.declared.config.SystemConfig.{SystemConfig}
-use Rattle.jh_cellcfg.specs.Regions.{has_place, is_page_mapped}
+use Rattle.jh_cellcfg.specs.Regions.{has_place}
 use Rattle.jh_check.specs.Findings.{findings}
 use Rattle.jh_shape.specs.Pages.{pages_of}
 use Rattle.jh_script.specs.declared.image.Image.{Image}
@@ -68,10 +68,8 @@ IsNoCall _ = Unit {0}
 abbrev pub HasNoCall : Image → Type 0
 HasNoCall image = All (λ (p : Program). All IsNoCall p.ops) image.programs
 
--- the image has nothing that isn't built yet: no subpage region, ECAM window or ivshmem device of root
+-- the image has nothing that isn't built yet: no ivshmem device of root
 pub record IsBuilt (image : Image) : Type 0 where
-  pub regions : All (λ (r : Region). IsTrue (is_page_mapped r)) image.system.root.memory_regions
-  pub window : image.system.pci_mmconfig_base ≡ 0
   pub devices : All (λ (d : PciDevice). d.kind ≢ 3) image.system.root.pci_devices
 
 -- the act's width is at most that of a register

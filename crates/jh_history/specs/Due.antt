@@ -28,10 +28,10 @@ await_of width at value (Some got) = if got == value then Some (Await width at v
 -- what the cell's operation comes to, where it is due. No device has a pending vector yet, so an
 -- interrupt is never due
 abbrev pub act_of : Image → Facts → ℕ → Op → Option Act
-act_of image facts cell (ReadOp width at) = Some (Read width at (read_of facts.byte (reach image facts cell ToRead at width)))
+act_of image facts cell (ReadOp width at) = Some (Read width at (read_of facts.byte width (reach image facts cell ToRead at width)))
 act_of image facts cell (WriteOp width at value) = Some (Write width at value (is_reached (reach image facts cell ToWrite at width)))
-act_of image facts cell (FetchOp at) = Some (Fetch at (read_of facts.byte (reach image facts cell ToFetch at 4)))
-act_of image facts cell (AwaitOp width at value) = await_of width at value (read_of facts.byte (reach image facts cell ToRead at width))
+act_of image facts cell (FetchOp at) = Some (Fetch at (read_of facts.byte 4 (reach image facts cell ToFetch at 4)))
+act_of image facts cell (AwaitOp width at value) = await_of width at value (read_of facts.byte width (reach image facts cell ToRead at width))
 act_of image facts cell IrqOp = None
 act_of image facts cell (HvcOp code a b) = Some (hvc_act image facts cell code a b)
 

@@ -12,7 +12,7 @@ use Rattle.jh_script.specs.declared.image.Image.{Image}
 use Rattle.jh_history.specs.declared.place.Place.{Place}
 use Rattle.jh_history.specs.declared.place.Place.TheVariants.{Physical, Page}
 use Rattle.jh_history.specs.declared.access.Reach.{Reach}
-use Rattle.jh_history.specs.declared.access.Reach.TheVariants.{Memory, Nothing}
+use Rattle.jh_history.specs.declared.access.Reach.TheVariants.{Memory, Subpage, Config, Nothing}
 use Rattle.jh_history.specs.declared.call.OpenCall.{OpenCall}
 use Rattle.jh_history.specs.declared.call.Creation.TheVariants.{Comes}
 use Rattle.jh_history.specs.declared.call.Phase.TheVariants.{ToCreate}
@@ -66,6 +66,8 @@ IsOfCells cells (Page id offset) = (offset < PAGE_SIZE) × IsLive cells id
 -- so is each place that is reached
 abbrev pub ReachesCells : List Live → Reach → Type 0
 ReachesCells cells (Memory places) = All (IsOfCells cells) places
+ReachesCells cells (Subpage places) = All (IsOfCells cells) places
+ReachesCells cells (Config at) = Unit {0}
 ReachesCells cells Nothing = Unit {0}
 
 -- where the act is a write

@@ -8,7 +8,8 @@ use Rattle.jh_history.specs.declared.place.Place.{Place}
 use Rattle.jh_history.specs.declared.place.Place.TheVariants.{Physical, Page}
 use Rattle.jh_history.specs.declared.access.Access.{Access}
 use Rattle.jh_history.specs.declared.access.Reach.{Reach}
-use Rattle.jh_history.specs.Access.{place_of, reach_by}
+use Rattle.jh_history.specs.Access.{place_of, reach_by, or_behind}
+use Rattle.jh_history.specs.Behind.{answer}
 use Rattle.jh_history.specs.Facts.{Facts}
 use Rattle.jh_history.specs.Lives.{regions_in}
 
@@ -34,6 +35,13 @@ granted_in image cells id = granted_by id (regions_in image cells id) (is_kept i
 abbrev pub granted : Image → Facts → ℕ → Access → ℕ → Option Place
 granted image facts id = granted_in image facts.cells id
 
--- what the cell's access of so many bytes reaches
+-- what answers the access of the cell with the id where no memory does, where these cells live besides root
+abbrev pub behind_in : Image → List Live → ℕ → Access → ℕ → ℕ → Reach
+behind_in image cells id = answer id (regions_in image cells id) (is_kept image cells id) image.system
+
+-- what the access of so many bytes reaches: memory where each byte is granted, and else what answers behind memory
+abbrev pub reach_in : Image → List Live → ℕ → Access → ℕ → ℕ → Reach
+reach_in image cells id access at width = or_behind (reach_by (granted_in image cells id access) at width) (behind_in image cells id access at width)
+
 abbrev pub reach : Image → Facts → ℕ → Access → ℕ → ℕ → Reach
-reach image facts id access = reach_by (granted image facts id access)
+reach image facts id = reach_in image facts.cells id

@@ -1,5 +1,5 @@
 -- Hypercalls: which begin a management call, and what the others are answered.
-use Rattle.std.specs.Prelude.{ℕ, Bool, ◌+◌, ◌==◌, ◌&&◌, ◌||◌, length, Option, Some, None, option_map, if◌then◌else◌}
+use Rattle.std.specs.Prelude.{ℕ, ◌+◌, ◌==◌, ◌&&◌, ◌||◌, length, Option, Some, None, option_map, if◌then◌else◌}
 use Rattle.jh_cellcfg.specs.declared.config.CellConfig.{CellConfig}
 use Rattle.jh_shape.specs.Pages.{pages_of}
 use Rattle.jh_cpu.specs.declared.cpu.Cpu.{Cpu}

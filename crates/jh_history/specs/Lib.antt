@@ -1,6 +1,7 @@
 pub mod Log
 pub mod Places
 pub mod Access
+pub mod Behind
 pub mod Facts
 pub mod Lives
 pub mod Grants

@@ -1,12 +1,11 @@
 -- The phases of an open management call: what is due to its caller, and when.
-use Rattle.std.specs.Prelude.{ℕ, ℤ, Bool, true, false, ◌==◌, ◌&&◌, ◌||◌, not, nat_le, List, ◌∷◌, [], ◌++◌, map, Option, Some, None, option_map, option_and_then, is_some, if◌then◌else◌}
-use Rattle.std.specs.List.{list_any, list_all}
+use Rattle.std.specs.Prelude.{ℕ, ℤ, Bool, ◌==◌, ◌&&◌, ◌||◌, not, nat_le, List, ◌∷◌, [], ◌++◌, map, Option, Some, None, option_map, option_and_then, is_some, if◌then◌else◌}
+use Rattle.std.specs.List.{list_any}
 use Rattle.jh_num.specs.declared.error.TheConstants.{EPERM, ENOENT, EINVAL, ENOSYS}
 use Rattle.jh_cellcfg.specs.declared.config.CellConfig.{CellConfig}
 use Rattle.jh_cellcfg.specs.declared.live.Live.{Live}
 use Rattle.jh_cellcfg.specs.Lives.{id_of, has_id}
 use Rattle.jh_cellcfg.specs.declared.config.PciDevice.{PciDevice}
-use Rattle.jh_cellcfg.specs.Regions.{is_page_mapped}
 use Rattle.jh_cellcfg.specs.Cells.{is_passive}
 use Rattle.jh_check.specs.Refusals.{any_below, refusal_of}
 use Rattle.jh_shape.specs.Pages.{pages_of}
@@ -17,7 +16,6 @@ use Rattle.jh_call.specs.declared.call.Call.{Call}
 use Rattle.jh_call.specs.declared.call.Call.TheVariants.{Create, Start, Loadable, Destroy}
 use Rattle.jh_script.specs.declared.image.Image.{Image}
 use Rattle.jh_history.specs.declared.place.Place.TheVariants.{Page}
-use Rattle.jh_history.specs.declared.call.OpenCall.{OpenCall}
 use Rattle.jh_history.specs.declared.call.Creation.{Creation}
 use Rattle.jh_history.specs.declared.call.Creation.TheVariants.{Refused, Comes}
 use Rattle.jh_history.specs.declared.call.Phase.{Phase}
@@ -71,10 +69,9 @@ abbrev pub unless_refused : CellConfig → Option ℤ → Creation
 unless_refused config None = Comes config
 unless_refused config (Some number) = Refused number
 
--- the configuration has nothing that isn't built yet of cells: no subpage region, of size 0 too, and no ivshmem
--- device
+-- the configuration has nothing that isn't built yet of cells: no ivshmem device
 abbrev pub is_built_cell : CellConfig → Bool
-is_built_cell config = list_all is_page_mapped config.memory_regions && not (list_any (λ (d : PciDevice). d.kind == 3) config.pci_devices)
+is_built_cell config = not (list_any (λ (d : PciDevice). d.kind == 3) config.pci_devices)
 
 -- else it is refused last of all
 abbrev pub or_unbuilt : Option ℤ → Option ℤ

@@ -1,5 +1,5 @@
 -- How a configuration is read from bytes, where these may be read.
-use Rattle.std.specs.Prelude.{ℕ, ℤ, zero, suc, ◌+◌, Bool, false, ◌==◌, ◌&&◌, not, if◌then◌else◌, List, [], ◌∷◌, ◌++◌, Option, Some, None, option_map, option_and_then}
+use Rattle.std.specs.Prelude.{ℕ, ℤ, zero, suc, ◌+◌, Bool, ◌==◌, ◌&&◌, not, if◌then◌else◌, List, [], ◌∷◌, ◌++◌, Option, Some, None, option_map, option_and_then}
 use Rattle.jh_num.specs.declared.error.TheConstants.{EINVAL}
 use Rattle.jh_cellcfg.specs.declared.config.CellConfig.{CellConfig}
 use Rattle.jh_cellcfg.specs.declared.fault.ConfigFault.{ConfigFault}
@@ -47,7 +47,3 @@ refusal_by image configs may config =
     if is_built_cell config
     then refusal_of image.system configs config may (pages_of image.system.root.memory_regions (configs ++ config ∷ [])) (pool_pages image.system)
     else or_unbuilt (refusal_of image.system configs config may 0 (pool_pages image.system))
-
--- no CPU may be given away
-abbrev pub nobody : ℕ → Bool
-nobody cpu = false

@@ -25,6 +25,10 @@ pub struct Wanted {
 pub enum Reach {
     /// Bytes of memory.
     Memory(Places),
+    /// Bytes of a region of less than whole pages.
+    Subpage(Places),
+    /// Configuration space, by the offset from its window's start.
+    Config { at: u64 },
     /// It is a violation.
     Nothing,
 }

@@ -1,8 +1,6 @@
 //! What an image is asked for before a board is opened with it.
 ghost use Rattle.std.specs.Prelude.{◌≡◌, ◌≢◌, ℕ, ◌↔◌, ◌<◌, ◌≤◌, ◌+◌, ◌^◌, [], IsTrue, IfOk, All, AllPairs, length};
 ghost use Rattle.jh_cellcfg.specs.declared.config.PciDevice.{PciDevice as ThePciDevice};
-ghost use Rattle.jh_cellcfg.specs.declared.region.Region.{Region as TheRegion};
-ghost use Rattle.jh_cellcfg.specs.Regions.{is_page_mapped as is_page_mapped_lem};
 ghost use Rattle.jh_check.specs.Findings.{findings};
 ghost use Rattle.jh_script.specs.declared.image.Program.{Program as TheProgram};
 ghost use Rattle.jh_script.specs.Operations.{is_width, IsPlain};
@@ -182,13 +180,6 @@ pub fn admit(alloc: Global, image: &Image) -> Result<bool, NoMemory>
     Ok(admitted && are_fit_preloads(image) && are_fit_programs(image))
 }
 
-/// Whether each of the regions is of whole pages.
-fn are_page_mapped(regions: &[Region]) -> bool
-    ensures { IsTrue result ↔ All (λ (r : TheRegion). IsTrue (is_page_mapped_lem r)) regions.now }
-{
-    regions.iter().all(|r| r.is_page_mapped())
-}
-
 /// Whether none of the devices is an ivshmem device.
 fn has_no_ivshmem(devices: &[PciDevice]) -> bool
     ensures { IsTrue result ↔ All (λ (d : ThePciDevice). d.kind ≢ 3) devices.now }
@@ -196,13 +187,9 @@ fn has_no_ivshmem(devices: &[PciDevice]) -> bool
     devices.iter().all(|d| d.kind != IVSHMEM)
 }
 
-/// Whether the image has nothing that isn't built yet: no region of less than whole pages, no ECAM
-/// window, and no ivshmem device.
+/// Whether the image has nothing that isn't built yet: no ivshmem device.
 pub fn is_built(image: &Image) -> bool
     ensures { IsTrue result ↔ IsBuilt image.now }
 {
-    let root = &image.system.root;
-    are_page_mapped(root.memory_regions.as_slice())
-        && image.system.pci_mmconfig_base == 0
-        && has_no_ivshmem(root.pci_devices.as_slice())
+    has_no_ivshmem(image.system.root.pci_devices.as_slice())
 }

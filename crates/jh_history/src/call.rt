@@ -1,4 +1,6 @@
 //! A management call that is open.
+ghost use Rattle.std.specs.Prelude.{◌≡◌};
+ghost use Rattle.jh_history.specs.Phases.{refused_by};
 
 use jh_call::Call;
 use jh_cellcfg::CellConfig;
@@ -51,4 +53,16 @@ pub enum Creation {
     Refused { number: i64 },
     /// The new cell has this configuration.
     Comes { config: CellConfig },
+}
+
+impl Creation {
+    /// What the create is refused for.
+    pub fn refusal(&self) -> Option<i64>
+        ensures { result ≡ refused_by self.now }
+    {
+        match self {
+            Creation::Refused { number } => Some(*number),
+            Creation::Comes { .. } => None,
+        }
+    }
 }

@@ -1,12 +1,15 @@
 //! The live cells: their regions, and what their CPUs run.
-ghost use Rattle.std.specs.Prelude.{◌≡◌, ◌<◌, ◌≤◌, List, All, IfSome, option_copied};
+ghost use Rattle.std.specs.Prelude.{◌≡◌, ◌<◌, ◌≤◌, List, All, IfSome, IsTrue, find, option_copied};
 ghost use Rattle.std.specs.List.{list_any};
 ghost use Rattle.jh_cellcfg.specs.declared.live.Live.{Live as TheLive};
 ghost use Rattle.jh_check.specs.Clean.{IsClean};
-ghost use Rattle.jh_cellcfg.specs.Regions.{IsInRange};
+ghost use Rattle.jh_cellcfg.specs.declared.region.Region.{Region as TheRegion};
+ghost use Rattle.jh_cellcfg.specs.Regions.{has_address, IsInRange};
+ghost use Rattle.jh_mmio.specs.Dispatch.{takes_all as takes_all_lem};
+ghost use Rattle.jh_history.specs.declared.place.Place.TheVariants.{Physical};
 ghost use Rattle.jh_script.specs.Operations.{IsPlain};
-ghost use Rattle.jh_history.specs.Access.{right_of, gives as gives_lem, region_of as region_of_lem, reach_by};
-ghost use Rattle.jh_history.specs.Grants.{granted_in, is_kept as is_kept_lem};
+ghost use Rattle.jh_history.specs.Access.{right_of, gives as gives_lem, region_of as region_of_lem, memory_or_nothing, reach_by};
+ghost use Rattle.jh_history.specs.Grants.{granted_in, is_kept as is_kept_lem, behind_in as behind_in_lem, reach_in as reach_in_lem};
 ghost use Rattle.jh_history.specs.Phases.{configs_of};
 ghost use Rattle.jh_history.specs.Places.{places_of_run, IsRun};
 ghost use Rattle.jh_history.specs.Admitted.{IsAdmitted};
@@ -14,12 +17,14 @@ ghost use Rattle.jh_history.specs.Facts.{Facts};
 ghost use Rattle.jh_history.specs.Lives.{is_on_board as is_on_board_lem, is_program_of as is_program_of_lem, program_of as program_of_lem, cell_in, regions_in as regions_in_lem, ops_in as ops_in_lem, op_at as op_at_lem};
 
 use crate::access::{Access, Reach, Wanted};
-use crate::grants::{Grants, reach};
+use crate::behind::{answer_of, ecam_of, is_within, places_in};
+use crate::grants::{Grants, memory};
 use crate::live_cells::LiveCells;
 use crate::pages::live_in;
 use crate::place::{Place, Places, Run};
 use jh_cellcfg::{CellConfig, Region, RegionFlags};
 use jh_cpu::Cpu;
+use jh_mmio::has_whole;
 use jh_script::{Image, Op, Program};
 use std::marker::Model;
 
@@ -200,20 +205,85 @@ fn are_kept(image: &Image, cells: &LiveCells, cell: u32, places: &Places) -> boo
     is_run_kept(image, cells, cell, high)
 }
 
+/// The memory that the cell's access reaches.
+pub(crate) fn memory_in(
+    image: &Image,
+    cells: &LiveCells,
+    cell: u32,
+    wanted: &Wanted,
+) -> Option<Places>
+    requires clean { IsClean image.now.system (configs_of cells.now) }
+    requires few { wanted.now.width ≤ 8 }
+    ensures { memory_or_nothing result ≡ reach_by (granted_in image.now cells.now cell wanted.now.access) wanted.now.at wanted.now.width }
+{
+    match memory(&ImageGrants { image, cells }, cell, wanted) {
+        Some(places) => {
+            if are_kept(image, cells, cell, &places) {
+                None
+            } else {
+                Some(places)
+            }
+        }
+        None => None,
+    }
+}
+
+/// Whether it is a subpage region that has the cell's access, and the cell is kept from none of its bytes.
+fn takes_all(image: &Image, cells: &LiveCells, cell: u32, region: &Region, wanted: &Wanted) -> bool
+    requires some { 0 < wanted.now.width }
+    requires few { wanted.now.width ≤ 8 }
+    requires within { 0 < region.now.size → IsInRange region.now }
+    ensures takes { result ≡ takes_all_lem (λ p. is_kept_lem image.now cells.now cell (Physical p)) wanted.now.at wanted.now.width region.now }
+    ensures first { IsTrue result → IsTrue (has_address region.now wanted.now.at) }
+{
+    if has_whole(region, wanted.at, wanted.width) {
+        let places = places_in(cell, region, wanted.at, wanted.width);
+        !are_kept(image, cells, cell, &places)
+    } else {
+        false
+    }
+}
+
+/// The subpage region of the cell that has the access, where the cell is kept from none of its bytes.
+fn subpage_of(image: &Image, cells: &LiveCells, cell: u32, wanted: &Wanted) -> Option<Region>
+    requires clean { IsClean image.now.system (configs_of cells.now) }
+    requires some { 0 < wanted.now.width }
+    requires few { wanted.now.width ≤ 8 }
+    ensures found { result ≡ find (takes_all_lem (λ p. is_kept_lem image.now cells.now cell (Physical p)) wanted.now.at wanted.now.width) (regions_in_lem image.now cells.now cell) }
+    ensures within { IfSome result IsInRange }
+    ensures first { IfSome result (λ (r : TheRegion). IsTrue (has_address r wanted.now.at)) }
+{
+    let regions = regions_in(image, cells.configs(), cell);
+    for region in regions {
+        if takes_all(image, cells, cell, region, wanted) {
+            return Some(*region);
+        }
+    }
+    None
+}
+
+/// What answers the cell's access where no memory does.
+fn behind_in(image: &Image, cells: &LiveCells, cell: u32, wanted: &Wanted) -> Reach
+    requires clean { IsClean image.now.system (configs_of cells.now) }
+    requires few { wanted.now.width ≤ 8 }
+    ensures { result ≡ behind_in_lem image.now cells.now cell wanted.now.access wanted.now.at wanted.now.width }
+{
+    if is_within(wanted) {
+        let region = subpage_of(image, cells, cell, wanted);
+        answer_of(cell, region, ecam_of(&image.system), wanted)
+    } else {
+        Reach::Nothing
+    }
+}
+
 /// What the cell's access reaches.
 pub(crate) fn reach_in(image: &Image, cells: &LiveCells, cell: u32, wanted: &Wanted) -> Reach
     requires clean { IsClean image.now.system (configs_of cells.now) }
     requires few { wanted.now.width ≤ 8 }
-    ensures { result ≡ reach_by (granted_in image.now cells.now cell wanted.now.access) wanted.now.at wanted.now.width }
+    ensures { result ≡ reach_in_lem image.now cells.now cell wanted.now.access wanted.now.at wanted.now.width }
 {
-    match reach(&ImageGrants { image, cells }, cell, wanted) {
-        Reach::Memory(places) => {
-            if are_kept(image, cells, cell, &places) {
-                Reach::Nothing
-            } else {
-                Reach::Memory(places)
-            }
-        }
-        Reach::Nothing => Reach::Nothing,
+    match memory_in(image, cells, cell, wanted) {
+        Some(places) => Reach::Memory(places),
+        None => behind_in(image, cells, cell, wanted),
     }
 }

@@ -1,8 +1,7 @@
 //! What comes of a create.
-ghost use Rattle.std.specs.Prelude.{◌≡◌, ℕ, ◌<◌, ◌≤◌, ◌==◌, Bool, Some, false, length, slice_get, slice_index_or, IfSome, IfNone};
-ghost use Rattle.std.specs.List.{list_all, list_any};
+ghost use Rattle.std.specs.Prelude.{◌≡◌, ℕ, ◌<◌, ◌≤◌, ◌==◌, Bool, Some, false, length, slice_get, slice_index_or, IfOk, IfSome, IfNone};
+ghost use Rattle.std.specs.List.{list_any};
 ghost use Rattle.jh_cellcfg.specs.declared.config.PciDevice.{PciDevice as TheDevice};
-ghost use Rattle.jh_cellcfg.specs.Regions.{is_page_mapped};
 ghost use Rattle.jh_check.specs.Refusals.{refusal_of as refusal_of_lem};
 ghost use Rattle.jh_history.specs.Admitted.{pool_pages as pool_pages_lem, IsAdmitted};
 ghost use Rattle.jh_history.specs.Facts.{Facts};
@@ -14,22 +13,16 @@ use crate::call::Creation;
 use crate::cells::is_on_board;
 use crate::counting::pages_of;
 use crate::laws::admitted_roots_are_sound;
-use crate::verdict::refusal_of_another;
-use jh_cellcfg::{CellConfig, PciDevice, Region};
-use jh_check::refusal_of;
+use jh_cellcfg::{CellConfig, PciDevice};
+use jh_check::{refusal_of, refusal_without_cpus};
 use jh_cpu::Cpu;
+use jh_num::NoMemory;
 use jh_num::error::ENOSYS;
 use jh_script::Image;
+use std::alloc::Global;
 
 /// The kind of an ivshmem device.
 const IVSHMEM: u8 = 3;
-
-/// Whether all of the regions are page-mapped.
-fn are_page_mapped(regions: &[Region]) -> bool
-    ensures { result ≡ list_all is_page_mapped regions.now }
-{
-    regions.iter().all(|r| r.is_page_mapped())
-}
 
 /// Whether one of the devices is an ivshmem device.
 fn has_ivshmem(devices: &[PciDevice]) -> bool
@@ -42,8 +35,7 @@ fn has_ivshmem(devices: &[PciDevice]) -> bool
 fn is_built_cell(config: &CellConfig) -> bool
     ensures { result ≡ is_built_cell_lem config.now }
 {
-    let regions = config.memory_regions.as_slice();
-    are_page_mapped(regions) && !has_ivshmem(config.pci_devices.as_slice())
+    !has_ivshmem(config.pci_devices.as_slice())
 }
 
 /// The refusal, or that of what isn't built.
@@ -87,40 +79,43 @@ fn is_any(may: &[bool; 16]) -> bool
 /// What the configuration is refused for by such pages, beside 15 cells at most. Beside 15 none of the CPUs may be
 /// given away.
 fn refusal_with(
+    alloc: Global,
     image: &Image,
     cells: &[CellConfig],
     may: &[bool; 16],
     config: &CellConfig,
     pages: u64,
-) -> Option<i64>
+) -> Result<Option<i64>, NoMemory>
     requires few { length cells.now ≤ 15 }
     requires kept { length cells.now ≡ 15 → list_any (λ (b : Bool). b) may.now ≡ false }
-    ensures { result ≡ refusal_of_lem image.now.system cells.now config.now (λ cpu. slice_index_or may.now cpu false) pages (pool_pages_lem image.now.system) }
+    ensures { IfOk result (λ refusal. refusal ≡ refusal_of_lem image.now.system cells.now config.now (λ cpu. slice_index_or may.now cpu false) pages (pool_pages_lem image.now.system)) }
 {
     if cells.len() == 15 {
-        return refusal_of_another(&image.system, cells, config);
+        return Ok(refusal_without_cpus(&image.system, cells, config));
     }
     let pool = pool_pages(&image.system);
-    refusal_of(&image.system, cells, config, may, pages, pool)
+    refusal_of(alloc, &image.system, cells, config, may, pages, pool)
 }
 
 /// What the configuration is refused for, by the CPUs that may be given away.
 fn refusal_by(
+    alloc: Global,
     image: &Image,
     cells: &[CellConfig],
     may: &[bool; 16],
     config: &CellConfig,
-) -> Option<i64>
+) -> Result<Option<i64>, NoMemory>
     requires few { length cells.now ≤ 15 }
     requires kept { length cells.now ≡ 15 → list_any (λ (b : Bool). b) may.now ≡ false }
-    ensures { result ≡ refusal_by image.now cells.now (λ cpu. slice_index_or may.now cpu false) config.now }
+    ensures { IfOk result (λ refusal. refusal ≡ refusal_by image.now cells.now (λ cpu. slice_index_or may.now cpu false) config.now) }
 {
     if is_built_cell(config) {
         let root = image.system.root.memory_regions.as_slice();
         let pages = pages_of(root, cells, Some(config));
-        refusal_with(image, cells, may, config, pages)
+        refusal_with(alloc, image, cells, may, config, pages)
     } else {
-        or_unbuilt(refusal_with(image, cells, may, config, 0))
+        let refusal = refusal_with(alloc, image, cells, may, config, 0)?;
+        Ok(or_unbuilt(refusal))
     }
 }
 
@@ -135,29 +130,31 @@ fn unless_refused(config: CellConfig, refusal: Option<i64>) -> Creation
 }
 
 /// What comes of a create by the caller which has read this, beside 15 cells at most. Nothing is told where a CPU
-/// may be given away beside 15 of them: each has a CPU for itself, and the caller is another.
+/// may be given away beside 15 of them: each has a CPU for itself, and the caller is another. It takes memory for an
+/// index of the new cell's regions, and for nothing else.
 pub fn judged(
+    alloc: Global,
     image: &Image,
     cells: &[CellConfig],
     cpus: &[Cpu],
     caller: u8,
     read: Creation,
-) -> Option<Creation>
+) -> Result<Option<Creation>, NoMemory>
     requires admitted { IsAdmitted image.now }
     requires few { length cells.now ≤ 15 }
     requires cpus { length cpus.now ≡ 16 }
-    ensures told { (f : Facts) → configs_of f.cells ≡ cells.now → ((i : ℕ) → i < 16 → slice_get cpus.now i ≡ Some (f.cpu i)) → IfSome result (λ creation. creation ≡ creation_by image.now f caller (as_read read)) }
-    ensures untold { IfNone result (length cells.now ≡ 15) }
+    ensures told { (f : Facts) → configs_of f.cells ≡ cells.now → ((i : ℕ) → i < 16 → slice_get cpus.now i ≡ Some (f.cpu i)) → IfOk result (λ told. IfSome told (λ creation. creation ≡ creation_by image.now f caller (as_read read))) }
+    ensures untold { IfOk result (λ told. IfNone told (length cells.now ≡ 15)) }
 {
     match read {
         Creation::Comes { config } => {
             let may = given(image, cpus, caller);
             if cells.len() == 15 && is_any(&may) {
-                return None;
+                return Ok(None);
             }
-            let refusal = refusal_by(image, cells, &may, &config);
-            Some(unless_refused(config, refusal))
+            let refusal = refusal_by(alloc, image, cells, &may, &config)?;
+            Ok(Some(unless_refused(config, refusal)))
         }
-        Creation::Refused { number } => Some(Creation::Refused { number }),
+        Creation::Refused { number } => Ok(Some(Creation::Refused { number })),
     }
 }

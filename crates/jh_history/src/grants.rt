@@ -3,9 +3,9 @@ ghost use Rattle.std.specs.Prelude.{◌≡◌, ◌+◌, ◌%◌, ◌<◌, ◌≤
 ghost use Rattle.jh_cellcfg.specs.declared.region.Region.{Region as TheRegion};
 ghost use Rattle.jh_cellcfg.specs.Regions.{has_address, IsInRange};
 ghost use Rattle.jh_history.specs.Places.{places_of_run, number_of, IsRun};
-ghost use Rattle.jh_history.specs.Access.{place_in_cell as place_in_cell_lem, place_of, places_from, reach_by};
+ghost use Rattle.jh_history.specs.Access.{place_in_cell as place_in_cell_lem, place_of, places_from, memory_or_nothing, reach_by};
 
-use crate::access::{Access, Reach, Wanted};
+use crate::access::{Access, Wanted};
 use crate::place::{Place, Places, Run};
 use jh_cellcfg::Region;
 use jh_num::ADDRESS_END;
@@ -43,7 +43,7 @@ fn in_page(at: u64, width: u8) -> u8
 }
 
 /// The place that the region of the cell gives its address.
-fn place_in_cell(cell: u32, region: &Region, at: u64) -> Place
+pub(crate) fn place_in_cell(cell: u32, region: &Region, at: u64) -> Place
     requires within { IsInRange region.now }
     requires has { IsTrue (has_address region.now at) }
     ensures place { result ≡ place_in_cell_lem cell region.now at }
@@ -92,17 +92,14 @@ fn places_of<G: Grants>(grants: &G, cell: u32, wanted: &Wanted) -> Option<Places
     Some(Places::new(low, high))
 }
 
-/// What the cell's access reaches.
-pub fn reach<G: Grants>(grants: &G, cell: u32, wanted: &Wanted) -> Reach
+/// The memory that the cell's access reaches by these regions.
+pub fn memory<G: Grants>(grants: &G, cell: u32, wanted: &Wanted) -> Option<Places>
     requires { wanted.now.width ≤ 8 }
-    ensures { result ≡ reach_by (place_of cell (G.regions grants.now cell) wanted.now.access) wanted.now.at wanted.now.width }
+    ensures { memory_or_nothing result ≡ reach_by (place_of cell (G.regions grants.now cell) wanted.now.access) wanted.now.at wanted.now.width }
 {
     let width = u64::from(wanted.width);
     if wanted.at > ADDRESS_END || width > ADDRESS_END - wanted.at {
-        return Reach::Nothing;
+        return None;
     }
-    match places_of(grants, cell, wanted) {
-        Some(places) => Reach::Memory(places),
-        None => Reach::Nothing,
-    }
+    places_of(grants, cell, wanted)
 }

@@ -3,7 +3,7 @@ ghost use Rattle.std.specs.Prelude.{◌≡◌, ◌<◌, ◌≤◌, IfSome, map, 
 ghost use Rattle.std.specs.List.{list_any};
 
 use crate::access::{Reach, Wanted};
-use crate::call::{Creation, OpenCall};
+use crate::call::OpenCall;
 use crate::place::Places;
 use jh_cellcfg::CellConfig;
 use jh_cpu::Cpu;
@@ -19,7 +19,7 @@ pub trait Known {
     ghost use Rattle.jh_history.specs.Lives.{is_on_board, live_in, cell_of, op_at};
     ghost use Rattle.jh_shape.specs.Pages.{pages_of};
     ghost use Rattle.jh_history.specs.Admitted.{pool_pages};
-    ghost use Rattle.jh_history.specs.Phases.{configs_of, is_other_locked, creation_of};
+    ghost use Rattle.jh_history.specs.Phases.{configs_of, is_other_locked, creation_of, refused_by};
     ghost use Rattle.jh_history.specs.Wants.{reach_of};
 
     /// It knows these facts of this image.
@@ -53,9 +53,9 @@ pub trait Known {
     fn is_other_locked(&self, id: u64) -> bool
         ensures { (i : Image) (f : Facts) → Knows self.now i f → result ≡ list_any (is_other_locked f id) f.cells };
 
-    /// What comes of a create by the caller, of the configuration at the address.
-    fn creation(&self, caller: u8, at: u64) -> Result<Creation, NoMemory>
-        ensures { (i : Image) (f : Facts) → Knows self.now i f → IfOk result (λ creation. creation ≡ creation_of i f caller at) };
+    /// What a create by the caller is refused for, of the configuration at the address.
+    fn refusal(&self, caller: u8, at: u64) -> Result<Option<i64>, NoMemory>
+        ensures { (i : Image) (f : Facts) → Knows self.now i f → IfOk result (λ refused. refused ≡ refused_by (creation_of i f caller at)) };
 
     /// The management call that is open.
     fn call(&self) -> Option<&OpenCall>

@@ -4,6 +4,7 @@
 mod access;
 mod admission;
 mod apart;
+mod behind;
 mod bytes;
 mod call;
 mod calling;
@@ -29,11 +30,11 @@ mod plain;
 mod plain_known;
 mod reading;
 mod sound;
-mod verdict;
 mod written;
 
 pub use access::{Access, Reach, Wanted};
 pub use admission::{admit, is_built, is_other_preload, is_sound_preload, pool_pages, root_pages};
+pub use behind::{answer_of, ecam_of, is_within, places_in};
 pub use bytes::{Bytes, value_of};
 pub use call::{Creation, OpenCall, Phase};
 pub use calling::{Called, call_after};
@@ -46,7 +47,7 @@ pub use due_facts::{
     pages_written_are_of_cells, places_reached_are_of_cells, sound_cells_name_a_cpu,
 };
 pub use entry::{Act, Entry, Heard, Settled};
-pub use grants::{Grants, reach};
+pub use grants::{Grants, memory};
 pub use jh_cpu::{Cpu, Mode};
 pub use journal::Journal;
 pub use known::Known;

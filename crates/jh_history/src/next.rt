@@ -1,7 +1,7 @@
 //! What a CPU does next, told by what is known.
-ghost use Rattle.std.specs.Prelude.{◌≡◌, ◌<◌, ◌≤◌, ℕ, None, IfSome, IfOk, IsTrue, ◌↔◌, is_some, option_map, option_copied};
+ghost use Rattle.std.specs.Prelude.{◌≡◌, ◌-◌, ◌^◌, ◌<◌, ◌≤◌, ℕ, None, IfSome, IfOk, IsTrue, ◌↔◌, is_some, option_map, option_copied};
 ghost use Rattle.jh_script.specs.declared.image.Image.{Image as TheImage};
-ghost use Rattle.jh_script.specs.Operations.{IsPlain};
+ghost use Rattle.jh_script.specs.Operations.{is_width, IsPlain};
 ghost use Rattle.jh_cellcfg.specs.Cells.{is_cpu_set as is_cpu_set_lem};
 ghost use Rattle.jh_check.specs.Refusals.{any_below};
 ghost use Rattle.jh_history.specs.Access.{read_of as read_of_lem, is_reached as is_reached_lem};
@@ -20,7 +20,7 @@ use crate::known::Known;
 use crate::phases::{is_phase_due, phase_act};
 use jh_cpu::Cpu;
 use jh_num::NoMemory;
-use jh_script::Op;
+use jh_script::{Op, max_of_width};
 
 /// The access that the operation makes.
 fn wanted_of(op: Op) -> Option<Wanted>
@@ -91,12 +91,15 @@ pub fn reach_of<K: Known>(known: &K, cpu: u8) -> Reach
     }
 }
 
-/// The number that an access reads where it reaches.
-fn read_of<K: Known>(known: &K, reach: &Reach) -> Option<u64>
-    ensures { (i : TheImage) (f : Facts) → K.Knows known.now i f → result ≡ read_of_lem f.byte reach.now }
+/// The number that an access of so many bytes reads where it reaches.
+fn read_of<K: Known>(known: &K, width: u8, reach: &Reach) -> Option<u64>
+    requires { IsTrue (is_width width) }
+    ensures { (i : TheImage) (f : Facts) → K.Knows known.now i f → result ≡ read_of_lem f.byte width reach.now }
 {
     match reach {
         Reach::Memory(places) => Some(known.value(places)),
+        Reach::Subpage(places) => Some(known.value(places)),
+        Reach::Config { .. } => Some(max_of_width(width)),
         Reach::Nothing => None,
     }
 }
@@ -107,6 +110,8 @@ fn is_reached(reach: &Reach) -> bool
 {
     match reach {
         Reach::Memory(_) => true,
+        Reach::Subpage(_) => true,
+        Reach::Config { .. } => true,
         Reach::Nothing => false,
     }
 }
@@ -146,7 +151,7 @@ fn act_of<K: Known>(known: &K, cell: u32, op: Op, reach: &Reach) -> Option<Act>
 {
     match op {
         Op::Read { width, at } => {
-            let got = read_of(known, reach);
+            let got = read_of(known, width, reach);
             Some(Act::Read { width, at, got })
         }
         Op::Write { width, at, value } => {
@@ -159,11 +164,11 @@ fn act_of<K: Known>(known: &K, cell: u32, op: Op, reach: &Reach) -> Option<Act>
             })
         }
         Op::Fetch { at } => {
-            let got = read_of(known, reach);
+            let got = read_of(known, 4, reach);
             Some(Act::Fetch { at, got })
         }
         Op::Await { width, at, value } => {
-            let got = read_of(known, reach);
+            let got = read_of(known, width, reach);
             await_of(width, at, value, got)
         }
         Op::Irq => None,
@@ -212,7 +217,7 @@ fn is_op_due<K: Known>(known: &K, cell: u32, op: Op) -> bool
                 at,
                 width,
             };
-            is_await_due(value, read_of(known, &known.reach(cell, &wanted)))
+            is_await_due(value, read_of(known, width, &known.reach(cell, &wanted)))
         }
         Op::Irq => false,
         Op::Hvc { .. } => true,

@@ -6,7 +6,7 @@ ghost use Rattle.jh_check.specs.Refusals.{any_below};
 ghost use Rattle.jh_comm.specs.Page.{word_in};
 ghost use Rattle.jh_history.specs.declared.place.Place.TheVariants.{Page};
 ghost use Rattle.jh_history.specs.Facts.{Facts};
-ghost use Rattle.jh_history.specs.Phases.{keeps_decide as keeps_decide_lem, keeps_commit as keeps_commit_lem, id_refusal as id_refusal_lem, first_refusal as first_refusal_lem, is_down as is_down_lem, is_over as is_over_lem, settled_by as settled_by_lem, heard_by as heard_by_lem, state_word as state_word_lem, reply_word as reply_word_lem, settled_of as settled_of_lem, heard_of as heard_of_lem, refused_by as refused_by_lem, decision as decision_lem, phase_act as phase_act_lem};
+ghost use Rattle.jh_history.specs.Phases.{keeps_decide as keeps_decide_lem, keeps_commit as keeps_commit_lem, id_refusal as id_refusal_lem, first_refusal as first_refusal_lem, is_down as is_down_lem, is_over as is_over_lem, settled_by as settled_by_lem, heard_by as heard_by_lem, state_word as state_word_lem, reply_word as reply_word_lem, settled_of as settled_of_lem, heard_of as heard_of_lem, decision as decision_lem, phase_act as phase_act_lem};
 ghost use Rattle.jh_history.specs.Pages.{named_cell as named_cell_lem};
 ghost use Rattle.jh_history.specs.declared.entry.Settled.{Settled as TheSettled};
 ghost use Rattle.jh_history.specs.declared.entry.Heard.{Heard as TheHeard};
@@ -14,7 +14,7 @@ ghost use Rattle.jh_history.specs.declared.entry.Act.TheVariants.{Settle, Noted}
 ghost use Rattle.jh_history.specs.Alone.{is_phase};
 ghost use Rattle.jh_history.specs.Calls.{is_named as is_named_lem};
 
-use crate::call::{Creation, OpenCall, Phase};
+use crate::call::{OpenCall, Phase};
 use crate::change::is_running;
 use crate::entry::{Act, Heard, Settled};
 use crate::known::Known;
@@ -224,25 +224,12 @@ fn heard_of<K: Known>(known: &K, idle: bool, id: u32, waited: u64) -> Option<Hea
     }
 }
 
-/// What a create is refused for.
-fn refused_by(creation: &Creation) -> Option<i64>
-    ensures { result ≡ refused_by_lem creation.now }
-{
-    match creation {
-        Creation::Refused { number } => Some(*number),
-        Creation::Comes { .. } => None,
-    }
-}
-
 /// What the call is refused for at its Decide.
 fn decision<K: Known>(known: &K, caller: u8, call: &Call) -> Result<Option<i64>, NoMemory>
     ensures { (i : TheImage) (f : Facts) → K.Knows known.now i f → IfOk result (λ refused. refused ≡ decision_lem i f caller call.now) }
 {
     match *call {
-        Call::Create { at } => {
-            let creation = known.creation(caller, at)?;
-            Ok(refused_by(&creation))
-        }
+        Call::Create { at } => known.refusal(caller, at),
         Call::Destroy { id } => {
             let locked = known.is_other_locked(id);
             Ok(first_refusal(id_refusal(known, id), locked))

@@ -141,11 +141,11 @@ impl<'a> Plain<'a> {
         ensures others { IsSameBut self.old self.new }
     {
         match reach_in(self.image, &self.cells, cell, wanted) {
-            Reach::Memory(places) => {
+            Reach::Memory(places) | Reach::Subpage(places) => {
                 write_places(&mut self.bytes, &places, value)?;
                 Ok(())
             }
-            Reach::Nothing => Ok(()),
+            Reach::Config { .. } | Reach::Nothing => Ok(()),
         }
     }
 

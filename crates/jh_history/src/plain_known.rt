@@ -1,11 +1,16 @@
 //! The slow plain program as what tells the facts.
 ghost use Rattle.std.specs.Prelude.{◌≡◌, ◌≤◌, ℕ, length, IsTrue, IfOk};
+ghost use Rattle.jh_script.specs.declared.image.Image.{Image as TheImage};
+ghost use Rattle.jh_history.specs.Facts.{Facts};
+ghost use Rattle.jh_history.specs.Phases.{creation_of};
+ghost use Rattle.jh_history.specs.PlainView.{Stands};
+ghost use Rattle.jh_history.specs.Sound.{IsSound};
 
 use crate::access::{Access, Reach, Wanted};
 use crate::admission::pool_pages;
 use crate::bytes::{Bytes, value_of};
 use crate::call::{Creation, OpenCall};
-use crate::cells::{config_in, is_on_board, op_at, reach_in};
+use crate::cells::{config_in, is_on_board, memory_in, op_at, reach_in};
 use crate::counting::pages_of;
 use crate::creation::judged;
 use crate::known::Known;
@@ -44,7 +49,7 @@ impl<'a> RootBytes for Plain<'a> {
     ghost use Rattle.jh_history.specs.Grants.{granted_in};
     ghost use Rattle.jh_history.specs.PlainView.{last_byte};
 
-    ghost readable = { λ p at. read_of (last_byte p.image p.bytes) (reach_by (granted_in p.image p.cells p.image.system.root.id Read) at 1) };
+    ghost readable = { λ p at. read_of (last_byte p.image p.bytes) 1 (reach_by (granted_in p.image p.cells p.image.system.root.id Read) at 1) };
 
     fn read(&self, at: u64) -> Option<u8> {
         let wanted = Wanted {
@@ -53,13 +58,30 @@ impl<'a> RootBytes for Plain<'a> {
             width: 1,
         };
         let root = self.image.system.root.id;
-        match reach_in(self.image, &self.cells, root, &wanted) {
-            Reach::Memory(places) => Some(value_of(self, &places) as u8),
-            Reach::Nothing => None,
+        match memory_in(self.image, &self.cells, root, &wanted) {
+            Some(places) => Some(value_of(self, &places) as u8),
+            None => None,
         }
     }
 
     fn ends(&self) {}
+}
+
+impl<'a> Plain<'a> {
+    /// What comes of a create by the caller, of the configuration at the address.
+    fn creation(&self, caller: u8, at: u64) -> Result<Creation, NoMemory>
+        ensures { (i : TheImage) (f : Facts) → Stands self.now i f × IsSound i f → IfOk result (λ creation. creation ≡ creation_of i f caller at) }
+    {
+        if is_any_locked(self, self.cells.configs()) {
+            return Ok(Creation::Refused { number: EPERM });
+        }
+        let read = read_config(self.alloc, self, at)?;
+        let cells = self.cells.configs();
+        match judged(self.alloc, self.image, cells, &self.cpus, caller, read)? {
+            Some(creation) => Ok(creation),
+            None => Err(NoMemory),
+        }
+    }
 }
 
 impl<'a> Known for Plain<'a> {
@@ -97,16 +119,9 @@ impl<'a> Known for Plain<'a> {
         is_any_other_locked(self, self.cells.configs(), id)
     }
 
-    fn creation(&self, caller: u8, at: u64) -> Result<Creation, NoMemory> {
-        if is_any_locked(self, self.cells.configs()) {
-            return Ok(Creation::Refused { number: EPERM });
-        }
-        let read = read_config(self.alloc, self, at)?;
-        let cells = self.cells.configs();
-        match judged(self.image, cells, &self.cpus, caller, read) {
-            Some(creation) => Ok(creation),
-            None => Err(NoMemory),
-        }
+    fn refusal(&self, caller: u8, at: u64) -> Result<Option<i64>, NoMemory> {
+        let creation = self.creation(caller, at)?;
+        Ok(creation.refusal())
     }
 
     fn call(&self) -> Option<&OpenCall> {

@@ -297,17 +297,17 @@ fn systems_have_their_causes(rt: HostRuntime) -> Result<(), Fail> {
     judged(&rt, rt.alloc(), 0, 0, "s: findings 1")?;
     judged(&rt, rt.alloc(), 0x1000, 0, "b.json: pool 2 1")?;
     judged(&rt, rt.alloc(), 0x2000, 0, "made")?;
-    judged(&rt, rt.alloc(), 0x40_0000, 0x1000_0000, "b.json: not built")?;
+    judged(&rt, rt.alloc(), 0x40_0000, 0x1000_0000, "made")?;
     let mut long = system(rt.alloc(), 0x40_0000, 0, 1, 0)?;
     long.push(0)?;
     with(&rt, rt.alloc(), "s", long.as_slice(), "s: trailing 1")
 }
 
 #[test]
-fn root_has_no_device_and_no_part_of_a_page(rt: HostRuntime) -> Result<(), Fail> {
+fn root_has_a_part_of_a_page_and_no_device(rt: HostRuntime) -> Result<(), Fail> {
     let mut bytes = system(rt.alloc(), 0x40_0000, 0, 2, 0)?;
     region(&mut bytes, 0x900_0000, 0x100, 0x1_0003)?;
-    with(&rt, rt.alloc(), "s", bytes.as_slice(), "b.json: not built")?;
+    with(&rt, rt.alloc(), "s", bytes.as_slice(), "made")?;
     let bytes = system_with_device(rt.alloc())?;
     with(&rt, rt.alloc(), "s", bytes.as_slice(), "b.json: not built")
 }

@@ -5,10 +5,11 @@ use Rattle.std.specs.List.{fold, AllByRecursion}
 use Rattle.std.proofs.lemmas.Bool.{false≢true, cases_Bool, and_from, and_parts, le-leb, lt-ltb, leb-true, ltb-true}
 use Rattle.std.proofs.lemmas.List.{get_or_default}
 use Rattle.jh_num.proofs.MemoryLemmas.{listed}
+use Rattle.jh_cellcfg.specs.declared.live.Live.{Live}
 use Rattle.jh_script.specs.declared.image.Image.{Image}
 use Rattle.jh_script.specs.declared.image.Preload.{Preload}
 use Rattle.jh_history.specs.declared.place.Place.{Place}
-use Rattle.jh_history.specs.declared.place.Place.TheVariants.{Physical}
+use Rattle.jh_history.specs.declared.place.Place.TheVariants.{Physical, Page}
 use Rattle.jh_history.specs.declared.access.Access.TheVariants.{Write as ToWrite}
 use Rattle.jh_history.specs.declared.access.Reach.{Reach}
 use Rattle.jh_history.specs.declared.access.Reach.TheVariants.{Memory}
@@ -27,52 +28,27 @@ use Rattle.jh_history.proofs.PlaceLemmas.{written-over}
 use Rattle.jh_history.proofs.AloneLemmas.{byte_after-roots}
 use Rattle.jh_history.proofs.FactsLemmas.{byte-after, facts-push, facts-nil}
 use Rattle.jh_history.proofs.LegalLemmas.{IsLegal-begin, IsLegal-rest, facts-append}
-use Rattle.jh_laws.specs.Grants.{IsGranted, AreGranted}
 use Rattle.jh_laws.specs.Outcomes.{is_violation}
 use Rattle.jh_laws.specs.Writes.{Writes, WritesNot}
-use Rattle.jh_laws.proofs.ListedLemmas.{over-other, over-at}
-use Rattle.jh_laws.proofs.GrantLemmas.{granted-same, granted_at, reach-root, reach_by-listed, reached-of}
+use Rattle.jh_laws.specs.Written.{IsByteBy}
+use Rattle.jh_laws.proofs.WrittenLemmas.{write-puts, write-kept}
 use Rattle.jh_laws.proofs.MadeLemmas.{IsSilent, by_root, IsAccess, IsNext, AllRoots, made-access, next-made, roots_after, roots-at, made-at}
-use Rattle.jh_laws.proofs.OutcomeLemmas.{some_width}
+use Rattle.jh_laws.proofs.OutcomeLemmas.{alone-sound}
 
--- the places of so many addresses
-abbrev own_places : ℕ → ℕ → Place
-own_places at k = Physical (at + k)
+-- what a write writes, where root lives alone
+is_written : (image : Image) (f : Facts) (act : Act) (place : Place) (byte : ℕ) → IsSilent image → f.cells ≡ [] → Writes image image.system.root act place byte → byte_written image f image.system.root.id act place ≡ byte
+is_written image f (Write width at value true) place byte admitted alone writes =
+    let P : List Live → Type 0 = λ cells. IsByteBy image cells image.system.root.id at width value place byte in
+    write-puts image f image.system.root.id at width value place byte (alone-sound image f admitted.admitted alone) (subst P (sym alone) writes.1)
+is_written image f (Write width at value false) place byte admitted alone writes = absurd (false≢true writes.0)
+is_written image f _ place byte admitted alone writes = absurd writes
 
--- a write that reaches writes the addresses' own places, in order
-written_places : (image : Image) (f : Facts) (at width value : ℕ) (place : Place) → IsSilent image → f.cells ≡ [] → 0 < width → AreGranted image.system.root ToWrite at width
-    → write_of f.byte (reach image f image.system.root.id ToWrite at width) value place ≡ over (listed (own_places at) width) value place (f.byte place)
-written_places image f at width value place admitted none some granted =
-    let reached : reach image f image.system.root.id ToWrite at width ≡ Memory (listed (own_places at) width)
-    = reach-root image f ToWrite at width none ∙ reach_by-listed image ToWrite at width (own_places at) admitted.admitted some (granted_at image ToWrite at width admitted.admitted granted) in
-    ap (λ (r : Reach). write_of f.byte r value place) reached ∙ written-over f.byte (listed (own_places at) width) value place
-
-same_index : (at j k : ℕ) (place : Place) → place ≡ Physical (at + k) → place ≡ Physical (at + j) → j ≡ k
-same_index at j k place is_k is_j = let e : at + k ≡ at + j = ap number_of (sym is_k ∙ is_j) in omega arith
-
-is_written : (image : Image) (f : Facts) (act : Act) (place : Place) (byte : ℕ) → IsSilent image → f.cells ≡ [] → IsAccess image f image.system.root.id act → Writes image.system.root act place byte → byte_written image f image.system.root.id act place ≡ byte
-is_written image f (Write width at value true) place byte admitted alone access writes =
-    let some : 0 < width = some_width width access.0 in
-    let granted : AreGranted image.system.root ToWrite at width = (reached-of image f ToWrite at width admitted.admitted alone some).0 (sym access.1) in
-    let k = writes.1.index in
-    let same : place ≡ Physical (at + k) = granted-same image ToWrite (at + k) place admitted.admitted writes.1.granted in
-    let within : k < width = writes.1.within in
-    written_places image f at width value place admitted alone some granted
-    ∙ over-at (own_places at) width value place (f.byte place) k within same (λ j lt h. same_index at j k place same h)
-    ∙ sym writes.1.is
-is_written image f (Write width at value false) place byte admitted alone access writes = absurd (false≢true writes.0)
-is_written image f _ place byte admitted alone access writes = absurd writes
-
-byte_kept : (image : Image) (f : Facts) (act : Act) (place : Place) → IsSilent image → f.cells ≡ [] → IsAccess image f image.system.root.id act → ((byte : ℕ) → Writes image.system.root act place byte → ⊥) → byte_written image f image.system.root.id act place ≡ f.byte place
-byte_kept image f (Write width at value true) place admitted alone access none =
-    let some : 0 < width = some_width width access.0 in
-    let granted : AreGranted image.system.root ToWrite at width = (reached-of image f ToWrite at width admitted.admitted alone some).0 (sym access.1) in
-    let P : ℕ → Place → Type 0 = λ a p. IsGranted image.system.root ToWrite a p in
-    written_places image f at width value place admitted alone some granted
-    ∙ over-other (own_places at) width value place (f.byte place)
-    (λ k lt h. none (value / 256 ^ k % 256) (refl, record { index = k; within = lt; granted = subst (P (at + k)) (sym h) (granted_at image ToWrite at width admitted.admitted granted k lt); is = refl }))
-byte_kept image f (Write width at value false) place admitted alone access none = refl
-byte_kept image f _ place admitted alone access none = refl
+byte_kept : (image : Image) (f : Facts) (act : Act) (place : Place) → IsSilent image → f.cells ≡ [] → ((byte : ℕ) → Writes image image.system.root act place byte → ⊥) → byte_written image f image.system.root.id act place ≡ f.byte place
+byte_kept image f (Write width at value true) place admitted alone none =
+    write-kept image f image.system.root.id at width value place (alone-sound image f admitted.admitted alone)
+    (λ byte h. let P : List Live → Type 0 = λ cells. IsByteBy image cells image.system.root.id at width value place byte in none byte (refl, subst P alone h))
+byte_kept image f (Write width at value false) place admitted alone none = refl
+byte_kept image f _ place admitted alone none = refl
 
 -- one entry
 after_at_root : (image : Image) (f : Facts) (entry : Entry) (place : Place) → IsSilent image → AllRoots image f → IsNext image f entry → (after image f entry).byte place ≡ byte_written image f image.system.root.id entry.act place
@@ -81,31 +57,31 @@ after_at_root image f entry place admitted roots made =
     ∙ byte_after-roots image f entry place (by_root image f entry admitted roots made)
     ∙ ap (λ (cell : ℕ). byte_written image f cell entry.act place) (made.cell_is ∙ (roots.cpus entry.cpu).owner)
 
-after_written : (image : Image) (f : Facts) (entry : Entry) (place : Place) (byte : ℕ) → IsSilent image → AllRoots image f → IsNext image f entry → Writes image.system.root entry.act place byte → (after image f entry).byte place ≡ byte
+after_written : (image : Image) (f : Facts) (entry : Entry) (place : Place) (byte : ℕ) → IsSilent image → AllRoots image f → IsNext image f entry → Writes image image.system.root entry.act place byte → (after image f entry).byte place ≡ byte
 after_written image f entry place byte admitted roots made writes =
-    after_at_root image f entry place admitted roots made ∙ is_written image f entry.act place byte admitted roots.alone.cells (made-access image f entry.cpu entry made admitted).access writes
+    after_at_root image f entry place admitted roots made ∙ is_written image f entry.act place byte admitted roots.alone.cells writes
 
-after_kept : (image : Image) (f : Facts) (entry : Entry) (place : Place) → IsSilent image → AllRoots image f → IsNext image f entry → WritesNot image.system.root place entry → (after image f entry).byte place ≡ f.byte place
+after_kept : (image : Image) (f : Facts) (entry : Entry) (place : Place) → IsSilent image → AllRoots image f → IsNext image f entry → WritesNot image image.system.root place entry → (after image f entry).byte place ≡ f.byte place
 after_kept image f entry place admitted roots made none =
-    after_at_root image f entry place admitted roots made ∙ byte_kept image f entry.act place admitted roots.alone.cells (made-access image f entry.cpu entry made admitted).access none
+    after_at_root image f entry place admitted roots made ∙ byte_kept image f entry.act place admitted roots.alone.cells none
 
 roots_before : (image : Image) (before rest : List Entry) → IsSilent image → IsLegal image (before ++ rest) → AllRoots image (facts image before)
 roots_before image before rest admitted legal = roots-at image before admitted (IsLegal-begin image before rest legal)
 
-pub byte-written : (image : Image) (before rest : List Entry) (entry : Entry) (place : Place) (byte : ℕ) → IsSilent image → IsLegal image (before ++ entry ∷ rest) → Writes image.system.root entry.act place byte
+pub byte-written : (image : Image) (before rest : List Entry) (entry : Entry) (place : Place) (byte : ℕ) → IsSilent image → IsLegal image (before ++ entry ∷ rest) → Writes image image.system.root entry.act place byte
     → (facts image (before ++ entry ∷ [])).byte place ≡ byte
 byte-written image before rest entry place byte admitted legal writes =
     ap (λ (f : Facts). f.byte place) (facts-push image before entry)
     ∙ after_written image (facts image before) entry place byte admitted (roots_before image before (entry ∷ rest) admitted legal) (made-at image before rest entry admitted legal) writes
 
-pub byte-kept : (image : Image) (before rest : List Entry) (entry : Entry) (place : Place) → IsSilent image → IsLegal image (before ++ entry ∷ rest) → WritesNot image.system.root place entry
+pub byte-kept : (image : Image) (before rest : List Entry) (entry : Entry) (place : Place) → IsSilent image → IsLegal image (before ++ entry ∷ rest) → WritesNot image image.system.root place entry
     → (facts image (before ++ entry ∷ [])).byte place ≡ (facts image before).byte place
 byte-kept image before rest entry place admitted legal none =
     ap (λ (f : Facts). f.byte place) (facts-push image before entry)
     ∙ after_kept image (facts image before) entry place admitted (roots_before image before (entry ∷ rest) admitted legal) (made-at image before rest entry admitted legal) none
 
 -- a violation writes nothing
-violation_writes : (image : Image) (act : Act) (place : Place) (byte : ℕ) → is_violation act ≡ true → Writes image.system.root act place byte → ⊥
+violation_writes : (image : Image) (act : Act) (place : Place) (byte : ℕ) → is_violation act ≡ true → Writes image image.system.root act place byte → ⊥
 violation_writes image (Write width at value true) place byte h writes = false≢true h
 violation_writes image (Write width at value false) place byte h writes = false≢true writes.0
 violation_writes image _ place byte h writes = writes
@@ -115,21 +91,21 @@ pub byte-violation : (image : Image) (before rest : List Entry) (entry : Entry) 
 byte-violation image before rest entry place admitted legal h = byte-kept image before rest entry place admitted legal (λ byte. violation_writes image entry.act place byte h)
 
 -- entries that don't write the place
-kept_from : (image : Image) (f : Facts) (entries : List Entry) (place : Place) → IsSilent image → AllRoots image f → IsLegalFrom image f entries → AllByRecursion (WritesNot image.system.root place) entries
+kept_from : (image : Image) (f : Facts) (entries : List Entry) (place : Place) → IsSilent image → AllRoots image f → IsLegalFrom image f entries → AllByRecursion (WritesNot image image.system.root place) entries
     → (fold (after image) f entries).byte place ≡ f.byte place
 kept_from image f [] place admitted roots legal none = refl
 kept_from image f (entry ∷ entries) place admitted roots legal none =
     let made : IsNext image f entry = next-made image f entry entries roots legal in
     kept_from image (after image f entry) entries place admitted (roots_after image f entry admitted made roots) legal.1 none.1 ∙ after_kept image f entry place admitted roots made none.0
 
-pub byte-rest : (image : Image) (before rest : List Entry) (place : Place) → IsSilent image → IsLegal image (before ++ rest) → AllByRecursion (WritesNot image.system.root place) rest
+pub byte-rest : (image : Image) (before rest : List Entry) (place : Place) → IsSilent image → IsLegal image (before ++ rest) → AllByRecursion (WritesNot image image.system.root place) rest
     → (facts image (before ++ rest)).byte place ≡ (facts image before).byte place
 byte-rest image before rest place admitted legal none =
     ap (λ (f : Facts). f.byte place) (facts-append image before rest)
     ∙ kept_from image (facts image before) rest place admitted (roots_before image before rest admitted legal) (IsLegal-rest image before rest legal) none
 
 -- the last entry that wrote the place gave it its byte
-pub byte-last : (image : Image) (before rest : List Entry) (entry : Entry) (place : Place) (byte : ℕ) → IsSilent image → IsLegal image (before ++ entry ∷ rest) → Writes image.system.root entry.act place byte → AllByRecursion (WritesNot image.system.root place) rest
+pub byte-last : (image : Image) (before rest : List Entry) (entry : Entry) (place : Place) (byte : ℕ) → IsSilent image → IsLegal image (before ++ entry ∷ rest) → Writes image image.system.root entry.act place byte → AllByRecursion (WritesNot image image.system.root place) rest
     → (facts image (before ++ entry ∷ rest)).byte place ≡ byte
 byte-last image before rest entry place byte admitted legal writes none =
     let split : (before ++ entry ∷ []) ++ rest ≡ before ++ entry ∷ rest = append_assoc before (entry ∷ []) rest in
@@ -170,6 +146,9 @@ opened_put f (p ∷ ps) place (suc i) d lt has apart = opened_put (preloaded f p
 
 opening_is : (image : Image) (place : ℕ) → (facts image []).byte (Physical place) ≡ fold preloaded (λ _. 0) image.preloads place
 opening_is image place = ap (λ (f : Facts). f.byte (Physical place)) (facts-nil image)
+
+pub opening-page : (image : Image) (cell offset : ℕ) → (facts image []).byte (Page cell offset) ≡ 0
+opening-page image cell offset = ap (λ (f : Facts). f.byte (Page cell offset)) (facts-nil image)
 
 -- what a preload puts stands there at opening
 opening-put : (image : Image) (place : ℕ) (p : Preload) → IsAdmitted image → Contains image.preloads p → IsTrue (has_byte_at p place) → (facts image []).byte (Physical place) ≡ slice_index p.bytes (place - p.at)

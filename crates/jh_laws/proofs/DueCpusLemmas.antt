@@ -43,14 +43,15 @@ use Rattle.jh_history.specs.Phases.{phase_act, keeps_decide, keeps_commit, confi
 use Rattle.jh_history.specs.Due.{due_at, entry_of, entry_by, next_act, state_act, act_of, await_of, caller_act, is_idle_but}
 use Rattle.jh_history.specs.Admitted.{IsAdmitted}
 use Rattle.jh_history.specs.Sound.{AreSoundCells, IsHalted, IsAsked, IsHalting, IsCaller, IsOpen, IsSound}
-use Rattle.jh_laws.specs.Held.{IsGrantedTo, AreGrantedTo, IsReadBy, IsGotBy}
+use Rattle.jh_laws.specs.Ends.{IsAnswered, IsReadBy, IsGotBy}
 use Rattle.jh_laws.specs.Ready.{IsDueIn, NothingElse, HasHeard, RootHasStopped, IsPhaseDue, IsReadyCaller, IsReadyProgram, IsReadyAt}
 use Rattle.jh_history.proofs.SoundCpusLemmas.{calm-goes, goes-calm, goes-running, running-mode, root-unnamed}
 use Rattle.jh_history.proofs.SoundDecideLemmas.{board-few, halted-to_decide, found-live}
 use Rattle.jh_history.proofs.SoundCommitLemmas.{halted-to_commit, named-board}
 use Rattle.jh_history.proofs.SoundDueLemmas.{IsOfProgram, state-parts}
 use Rattle.jh_laws.proofs.CallLemmas.{sound-open}
-use Rattle.jh_laws.proofs.HeldLemmas.{got-of_cell, width-some, granted-to, ops-plain, found-by_id}
+use Rattle.jh_laws.proofs.HeldLemmas.{found-by_id}
+use Rattle.jh_laws.proofs.EndsLemmas.{got-of_cell, one-value, width-some, ops-plain}
 
 -- ---- what an operation comes to
 
@@ -58,35 +59,27 @@ abbrev picked_place : Option Place → Place
 picked_place None = Physical 0
 picked_place (Some place) = place
 
--- the places that are granted, by their index
-granted_places : (image : Image) (f : Facts) (id at width : ℕ) → AreSoundCells image.system (configs_of f.cells) → AreGrantedTo image f.cells id ToRead at width
-    → (k : ℕ) → k < width → IsGrantedTo image f.cells id ToRead (at + k) (picked_place (granted image f id ToRead (at + k)))
-granted_places image f id at width sound each k lt =
-    let P : Place → Type 0 = IsGrantedTo image f.cells id ToRead (at + k) in
-    subst P (ap picked_place (sym (granted-to image f id ToRead (at + k) (each k lt).0 sound (each k lt).1))) (each k lt).1
-
-await_due : (image : Image) (f : Facts) (id width at value : ℕ) (o : Option ℕ) → IsGotBy image f id ToRead at width o → is_some (await_of width at value o) ≡ true → AreGrantedTo image f.cells id ToRead at width → IsReadBy image f id ToRead at width value
-await_due image f id width at value None got due granted = absurd (false≢true (got.granted.1 granted))
-await_due image f id width at value (Some n) got due granted =
+await_due : (image : Image) (f : Facts) (id width at value : ℕ) (o : Option ℕ) → IsGotBy image f id ToRead at width o → is_some (await_of width at value o) ≡ true → IsAnswered image f.cells id ToRead at width → IsReadBy image f id ToRead at width value
+await_due image f id width at value None got due answered = absurd (false≢true (got.answered.1 answered))
+await_due image f id width at value (Some n) got due answered =
     ⊎_elim
-    (λ (same : eqb n value ≡ true). λ place each. sym (eqb-true n value same) ∙ got.reads n refl place each)
+    (λ (same : eqb n value ≡ true). let P : ℕ → Type 0 = IsReadBy image f id ToRead at width in subst P (eqb-true n value same) (got.reads n refl))
     (λ (apart : eqb n value ≡ false). absurd (both_ways (is_some (await_of width at value (Some n))) (ap (λ (b : Bool). is_some (cond b (Some (Await width at value true)) None)) apart) due))
     (cases_Bool (eqb n value))
 
 due_await : (image : Image) (f : Facts) (id width at value : ℕ) (o : Option ℕ) → AreSoundCells image.system (configs_of f.cells) → IsGotBy image f id ToRead at width o
-    → (AreGrantedTo image f.cells id ToRead at width → IsReadBy image f id ToRead at width value) → is_some (await_of width at value o) ≡ true
+    → (IsAnswered image f.cells id ToRead at width → IsReadBy image f id ToRead at width value) → is_some (await_of width at value o) ≡ true
 due_await image f id width at value None sound got due = refl
 due_await image f id width at value (Some n) sound got due =
-    let all = got.granted.0 refl in
-    let each = granted_places image f id at width sound all in
-    let same : n ≡ value = got.reads n refl (λ k. picked_place (granted image f id ToRead (at + k))) each ∙ sym (due all (λ k. picked_place (granted image f id ToRead (at + k))) each) in
+    let answered = got.answered.0 refl in
+    let same : n ≡ value = one-value image f id ToRead at width n value sound answered (got.reads n refl) (due answered) in
     ap (λ (b : Bool). is_some (cond b (Some (Await width at value true)) None)) (eq-eqb n value same)
 
 op_due : (image : Image) (f : Facts) (id : ℕ) (op : Op) → AreSoundCells image.system (configs_of f.cells) → IsPlain op → is_some (act_of image f id op) ≡ true → IsDueIn image f id op
 op_due image f id (ReadOp width at) sound plain due = tt
 op_due image f id (WriteOp width at value) sound plain due = tt
 op_due image f id (FetchOp at) sound plain due = tt
-op_due image f id (AwaitOp width at value) sound plain due = await_due image f id width at value (read_of f.byte (reach image f id ToRead at width)) (got-of_cell image f id ToRead at width sound (width-some width plain.0)) due
+op_due image f id (AwaitOp width at value) sound plain due = await_due image f id width at value (read_of f.byte width (reach image f id ToRead at width)) (got-of_cell image f id ToRead at width sound (width-some width plain.0)) due
 op_due image f id IrqOp sound plain due = absurd (false≢true due)
 op_due image f id (HvcOp code a b) sound plain due = tt
 
@@ -94,7 +87,7 @@ due_op : (image : Image) (f : Facts) (id : ℕ) (op : Op) → AreSoundCells imag
 due_op image f id (ReadOp width at) sound plain due = refl
 due_op image f id (WriteOp width at value) sound plain due = refl
 due_op image f id (FetchOp at) sound plain due = refl
-due_op image f id (AwaitOp width at value) sound plain due = due_await image f id width at value (read_of f.byte (reach image f id ToRead at width)) sound (got-of_cell image f id ToRead at width sound (width-some width plain.0)) due
+due_op image f id (AwaitOp width at value) sound plain due = due_await image f id width at value (read_of f.byte width (reach image f id ToRead at width)) sound (got-of_cell image f id ToRead at width sound (width-some width plain.0)) due
 due_op image f id IrqOp sound plain due = absurd due
 due_op image f id (HvcOp code a b) sound plain due = refl
 

@@ -49,7 +49,7 @@ act_of_op : (image : Image) (f : Facts) (cell : ℕ) (op : Op) → IfSome (act_o
 act_of_op image f cell (ReadOp width at) = refl
 act_of_op image f cell (WriteOp width at value) = refl
 act_of_op image f cell (FetchOp at) = refl
-act_of_op image f cell (AwaitOp width at value) = await_of_op (AwaitOp width at value) width at value (read_of f.byte (reach image f cell ToRead at width)) refl
+act_of_op image f cell (AwaitOp width at value) = await_of_op (AwaitOp width at value) width at value (read_of f.byte width (reach image f cell ToRead at width)) refl
 act_of_op image f cell IrqOp = tt
 act_of_op image f cell (HvcOp code a b) =
     cond_both (eqb cell image.system.root.id && is_management (decoded code a b)) (Begin code a b) (Hvc code a b (answer_of (decoded code a b) (seen_of image f cell (decoded code a b)))) (IsOfOp (HvcOp code a b)) (λ _. refl) (λ _. refl)

@@ -17,7 +17,7 @@ use Rattle.jh_script.specs.declared.image.Preload.{Preload}
 use Rattle.jh_history.specs.declared.place.Place.{Place}
 use Rattle.jh_history.specs.declared.place.Place.TheVariants.{Physical, Page}
 use Rattle.jh_history.specs.declared.access.Reach.{Reach}
-use Rattle.jh_history.specs.declared.access.Reach.TheVariants.{Memory, Nothing}
+use Rattle.jh_history.specs.declared.access.Reach.TheVariants.{Memory, Subpage, Config, Nothing}
 use Rattle.jh_history.specs.declared.comm.PageChange.{PageChange}
 use Rattle.jh_history.specs.declared.comm.PageChange.TheVariants.{State as NewState, Message, Fresh}
 use Rattle.jh_history.specs.declared.comm.PageWrite.{PageWrite}
@@ -119,6 +119,8 @@ written_small byte (place ∷ places) value q small =
 
 pub write-small : (byte : Place → ℕ) (reach : Reach) (value : ℕ) (q : Place) → ((p : Place) → byte p < 256) → write_of byte reach value q < 256
 write-small byte (Memory places) value q small = written_small byte places value q small
+write-small byte (Subpage places) value q small = written_small byte places value q small
+write-small byte (Config at) value q small = small q
 write-small byte Nothing value q small = small q
 
 -- ---- opening

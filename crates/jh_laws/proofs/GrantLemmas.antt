@@ -28,7 +28,6 @@ use Rattle.jh_history.proofs.AloneLemmas.{reach-alone}
 use Rattle.jh_history.proofs.AccessLemmas.{reach_by-within, reach_by-beyond}
 use Rattle.jh_laws.specs.Journals.{byte_at}
 use Rattle.jh_laws.specs.Grants.{may, IsGranted, AreGranted}
-use Rattle.jh_laws.specs.Outcomes.{IsGot}
 use Rattle.jh_laws.proofs.RootLemmas.{regions, has_address-first, has_address-last, has_address-from, gives-address, gives-pages, gives-right, gives-from, root_region, only_one}
 use Rattle.jh_laws.proofs.ListedLemmas.{places_from-listed, places_from-each, places_from-some}
 
@@ -94,86 +93,3 @@ granted_at image access at width admitted granted k lt =
     let found = granted k lt in
     let P : Place → Type 0 = IsGranted image.system.root access (at + k) in
     subst P (granted-same image access (at + k) found.0 admitted found.1) found.1
-
--- the regions of root are those that its accesses go by
-root_regions : (image : Image) → regions_in image [] image.system.root.id ≡ regions image
-root_regions image = let e : eqb image.system.root.id image.system.root.id ≡ true = same_number image.system.root.id in rw e refl
-
-pub reach-root : (image : Image) (f : Facts) (access : Access) (at width : ℕ) → f.cells ≡ [] → reach image f image.system.root.id access at width ≡ reach_by (roots_place image access) at width
-reach-root image f access at width none = reach-alone image f image.system.root.id access at width none ∙ ap (λ (rs : List Region). reach_by (place_of image.system.root.id rs access) at width) (root_regions image)
-
--- where each byte is granted the access reaches memory
-pub reach_by-granted : (image : Image) (access : Access) (at width : ℕ) → IsAdmitted image → 0 < width → AreGranted image.system.root access at width
-    → (ps : List Place) × (reach_by (roots_place image access) at width ≡ Memory ps)
-reach_by-granted image access at width admitted some granted =
-    let f : ℕ → Option Place = roots_place image access in
-    let end = (granted (width - 1) (omega arith)).1 in
-    let below : at + (width - 1) < ADDRESS_END = end.below in
-    let within : at + width ≤ ADDRESS_END = omega arith in
-    let found = places_from-some f at width (λ k lt. ((granted k lt).0, place_of-granted image access (at + k) (granted k lt).0 admitted (granted k lt).1)) in
-    (found.0, reach_by-within f at width within ∙ ap memory_or_nothing found.1)
-
--- and it reaches the places that are granted
-pub reach_by-listed : (image : Image) (access : Access) (at width : ℕ) (place : ℕ → Place) → IsAdmitted image → 0 < width → ((k : ℕ) → k < width → IsGranted image.system.root access (at + k) (place k))
-    → reach_by (roots_place image access) at width ≡ Memory (listed place width)
-reach_by-listed image access at width place admitted some granted =
-    let f : ℕ → Option Place = roots_place image access in
-    let below : at + (width - 1) < ADDRESS_END = (granted (width - 1) (omega arith)).below in
-    let within : at + width ≤ ADDRESS_END = omega arith in
-    reach_by-within f at width within ∙ ap memory_or_nothing (places_from-listed f place at width (λ k lt. place_of-granted image access (at + k) (place k) admitted (granted k lt)))
-
-nothing-memory : (ps : List Place) → Nothing ≡ Memory ps → ⊥
-nothing-memory ps e = false≢true (ap is_reached e)
-
-granted_of : (image : Image) (access : Access) (at width : ℕ) (o : Option (List Place)) (ps : List Place) → IsAdmitted image → places_from (roots_place image access) at width ≡ o → memory_or_nothing o ≡ Memory ps → AreGranted image.system.root access at width
-granted_of image access at width None ps admitted is e = absurd (nothing-memory ps e)
-granted_of image access at width (Some qs) ps admitted is e = λ k lt.
-    let found = places_from-each (roots_place image access) at width qs is k lt in
-    (found.0, granted-place_of image access (at + k) found.0 admitted found.1)
-
--- where an access reaches memory, each byte is granted
-pub granted-reach_by : (image : Image) (access : Access) (at width : ℕ) (ps : List Place) → IsAdmitted image → reach_by (roots_place image access) at width ≡ Memory ps → AreGranted image.system.root access at width
-granted-reach_by image access at width ps admitted e = elim (cases_lt ADDRESS_END (at + width)) [
-  | inl beyond ↦ absurd (nothing-memory ps (sym (reach_by-beyond (roots_place image access) at width beyond) ∙ e))
-  | inr within ↦ granted_of image access at width (places_from (roots_place image access) at width) ps admitted refl (sym (reach_by-within (roots_place image access) at width within) ∙ e)
-]
-
-got_by : (image : Image) (entries : List Entry) (access : Access) (at width : ℕ) (r : Reach) → IsAdmitted image → 0 < width → reach_by (roots_place image access) at width ≡ r
-    → IsGot image entries image.system.root access at width (read_of (byte_at image entries) r)
-got_by image entries access at width (Memory ps) admitted some is = record {
-  granted = (λ _. granted-reach_by image access at width ps admitted is, λ _. refl);
-  reads = λ value e place granted.
-      let places : reach_by (roots_place image access) at width ≡ Memory (listed place width) = reach_by-listed image access at width place admitted some granted in
-      let read : read_of (byte_at image entries) (Memory ps) ≡ read_of (byte_at image entries) (Memory (listed place width)) = ap (read_of (byte_at image entries)) (sym is ∙ places) in
-      let spelt : Some value ≡ Some (spelled (map (byte_at image entries) (listed place width))) = sym e ∙ read in
-      same_Some value (spelled (map (byte_at image entries) (listed place width))) spelt ∙ spelled-listed (byte_at image entries) place width;
-}
-got_by image entries access at width Nothing admitted some is = record {
-  granted = (
-    λ e. absurd (false≢true e),
-    λ granted. let found = reach_by-granted image access at width admitted some granted in absurd (nothing-memory found.0 (sym is ∙ found.1)),
-  );
-  reads = λ value e place granted. absurd (none-some value e);
-}
-
--- what a reading access of root's gets
-pub got-of : (image : Image) (entries : List Entry) (access : Access) (at width : ℕ) → IsAdmitted image → (facts image entries).cells ≡ [] → 0 < width
-    → IsGot image entries image.system.root access at width (read_of (facts image entries).byte (reach image (facts image entries) image.system.root.id access at width))
-got-of image entries access at width admitted none some =
-    let P : Reach → Type 0 = λ r. IsGot image entries image.system.root access at width (read_of (facts image entries).byte r) in
-    subst P (sym (reach-root image (facts image entries) access at width none)) (got_by image entries access at width (reach_by (roots_place image access) at width) admitted some refl)
-
-reached_by : (image : Image) (access : Access) (at width : ℕ) (r : Reach) → IsAdmitted image → 0 < width → reach_by (roots_place image access) at width ≡ r
-    → (is_reached r ≡ true → AreGranted image.system.root access at width) × (AreGranted image.system.root access at width → is_reached r ≡ true)
-reached_by image access at width (Memory ps) admitted some is = (λ _. granted-reach_by image access at width ps admitted is, λ _. refl)
-reached_by image access at width Nothing admitted some is = (
-  λ e. absurd (false≢true e),
-  λ granted. let found = reach_by-granted image access at width admitted some granted in absurd (nothing-memory found.0 (sym is ∙ found.1)),
-)
-
--- an access of root's reaches memory exactly where each byte is granted
-pub reached-of : (image : Image) (f : Facts) (access : Access) (at width : ℕ) → IsAdmitted image → f.cells ≡ [] → 0 < width
-    → (is_reached (reach image f image.system.root.id access at width) ≡ true → AreGranted image.system.root access at width) × (AreGranted image.system.root access at width → is_reached (reach image f image.system.root.id access at width) ≡ true)
-reached-of image f access at width admitted none some =
-    let P : Reach → Type 0 = λ r. (is_reached r ≡ true → AreGranted image.system.root access at width) × (AreGranted image.system.root access at width → is_reached r ≡ true) in
-    subst P (sym (reach-root image f access at width none)) (reached_by image access at width (reach_by (roots_place image access) at width) admitted some refl)

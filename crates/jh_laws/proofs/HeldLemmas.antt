@@ -1,4 +1,4 @@
--- What live cells are granted on a sound board, and what their accesses reach.
+-- What live cells are granted on a sound board.
 use Rattle.std.proofs.Common.{◌≡◌, ◌≢◌, ℕ, suc, ◌+◌, ◌-◌, ◌<◌, ◌≤◌, List, [], ◌∷◌, ◌++◌, Bool, true, false, cond, ◌&&◌, eqb, length, get_or, map, Option, Some, None, refl, sym, ap, subst, ◌∙◌, inl, inr, ⊎_elim, arith}
 use Rattle.std.specs.Prelude.{Contains, find, option_map, option_and_then, slice_get, nat_eq, IsTrue, IfSome}
 use Rattle.std.specs.Option.{option_map_or}
@@ -50,7 +50,7 @@ use Rattle.jh_history.proofs.AccessLemmas.{reach_by-within, reach_by-beyond}
 use Rattle.jh_history.specs.Sound.{AreTwo, AreSoundCells, IsSound}
 use Rattle.jh_laws.specs.Grants.{may, IsGranted}
 use Rattle.jh_laws.specs.Ways.{is_phase}
-use Rattle.jh_laws.specs.Held.{IsLive, IsLeft, IsGrantedTo, AreGrantedTo, IsGotBy, IsAwaitedBy, EndsAsGranted}
+use Rattle.jh_laws.specs.Held.{IsLive, IsLeft, IsGrantedTo}
 use Rattle.jh_laws.proofs.RootLemmas.{has_address-first, has_address-last, has_address-from, gives-address, gives-pages, gives-right, gives-from, op-plain}
 use Rattle.jh_laws.proofs.ListedLemmas.{places_from-listed, places_from-each, places_from-some}
 use Rattle.jh_history.proofs.SoundCpusLemmas.{other-root}
@@ -202,7 +202,7 @@ place-given image cells cell access at place sound live e = place_by image cells
 
 -- ---- what is left to it
 
-left_free : (image : Image) (cells : List Live) (cell : CellConfig) (place : Place) → IsLeft image cells cell place → is_kept image cells cell.id place ≡ false
+pub left_free : (image : Image) (cells : List Live) (cell : CellConfig) (place : Place) → IsLeft image cells cell place → is_kept image cells cell.id place ≡ false
 left_free image cells cell (Page id offset) left = refl
 left_free image cells cell (Physical p) left =
     false_from_ne_true (is_kept image cells cell.id (Physical p))
@@ -210,7 +210,7 @@ left_free image cells cell (Physical p) left =
     let parts = and_parts (eqb cell.id image.system.root.id) (is_closed (map holder_of_live cells) p) kept in
     left (eqb-true cell.id image.system.root.id parts.0) (taken_there cells p parts.1))
 
-free_left : (image : Image) (cells : List Live) (cell : CellConfig) (place : Place) → is_kept image cells cell.id place ≡ false → IsLeft image cells cell place
+pub free_left : (image : Image) (cells : List Live) (cell : CellConfig) (place : Place) → is_kept image cells cell.id place ≡ false → IsLeft image cells cell place
 free_left image cells cell (Page id offset) free = tt
 free_left image cells cell (Physical p) free = λ root taken.
     both_ways (is_kept image cells cell.id (Physical p)) free
@@ -218,7 +218,7 @@ free_left image cells cell (Physical p) free = λ root taken.
 
 -- ---- what is granted
 
-regions_of_live : (image : Image) (cells : List Live) (cell : CellConfig) → AreSoundCells image.system (configs_of cells) → IsLive image cells cell → regions_in image cells cell.id ≡ cell.memory_regions
+pub regions_of_live : (image : Image) (cells : List Live) (cell : CellConfig) → AreSoundCells image.system (configs_of cells) → IsLive image cells cell → regions_in image cells cell.id ≡ cell.memory_regions
 regions_of_live image cells cell sound live = ap (λ (o : Option CellConfig). option_map_or (λ (c : CellConfig). c.memory_regions) o []) (live-cell image cells cell sound live)
 
 granted_live : (image : Image) (cells : List Live) (cell : CellConfig) (access : Access) (at : ℕ) (place : Place) → AreSoundCells image.system (configs_of cells) → IsLive image cells cell → IsGranted cell access at place → IsLeft image cells cell place
@@ -273,160 +273,6 @@ to_granted image cells id access at place (Some cell) sound is h =
 
 pub to-granted : (image : Image) (f : Facts) (id : ℕ) (access : Access) (at : ℕ) (place : Place) → AreSoundCells image.system (configs_of f.cells) → granted image f id access at ≡ Some place → IsGrantedTo image f.cells id access at place
 to-granted image f id access at place sound h = to_granted image f.cells id access at place (cell_in image f.cells id) sound refl h
-
--- ---- what an access reaches
-
-nothing_memory : (ps : List Place) → Nothing ≡ Memory ps → ⊥
-nothing_memory ps e = false≢true (ap is_reached e)
-
--- where each byte is granted it reaches memory
-reach_granted : (image : Image) (f : Facts) (id : ℕ) (access : Access) (at width : ℕ) → AreSoundCells image.system (configs_of f.cells) → 0 < width → AreGrantedTo image f.cells id access at width
-    → (ps : List Place) × (reach image f id access at width ≡ Memory ps)
-reach_granted image f id access at width sound some each =
-    let g : ℕ → Option Place = granted image f id access in
-    let end = (each (width - 1) (omega arith)).1.given in
-    let below : at + (width - 1) < ADDRESS_END = end.below in
-    let within : at + width ≤ ADDRESS_END = omega arith in
-    let found = places_from-some g at width (λ k lt. ((each k lt).0, granted-to image f id access (at + k) (each k lt).0 sound (each k lt).1)) in
-    (found.0, reach_by-within g at width within ∙ ap memory_or_nothing found.1)
-
--- and it reaches the places that are granted
-pub reach-listed : (image : Image) (f : Facts) (id : ℕ) (access : Access) (at width : ℕ) (place : ℕ → Place) → AreSoundCells image.system (configs_of f.cells) → 0 < width → ((k : ℕ) → k < width → IsGrantedTo image f.cells id access (at + k) (place k))
-    → reach image f id access at width ≡ Memory (listed place width)
-reach-listed image f id access at width place sound some each =
-    let g : ℕ → Option Place = granted image f id access in
-    let below : at + (width - 1) < ADDRESS_END = (each (width - 1) (omega arith)).given.below in
-    let within : at + width ≤ ADDRESS_END = omega arith in
-    reach_by-within g at width within ∙ ap memory_or_nothing (places_from-listed g place at width (λ k lt. granted-to image f id access (at + k) (place k) sound (each k lt)))
-
-granted_of : (image : Image) (f : Facts) (id : ℕ) (access : Access) (at width : ℕ) (o : Option (List Place)) (ps : List Place) → AreSoundCells image.system (configs_of f.cells) → places_from (granted image f id access) at width ≡ o → memory_or_nothing o ≡ Memory ps
-    → AreGrantedTo image f.cells id access at width
-granted_of image f id access at width None ps sound is e = absurd (nothing_memory ps e)
-granted_of image f id access at width (Some qs) ps sound is e = λ k lt.
-    let found = places_from-each (granted image f id access) at width qs is k lt in
-    (found.0, to-granted image f id access (at + k) found.0 sound found.1)
-
--- where an access reaches memory, each byte is granted
-granted_reach : (image : Image) (f : Facts) (id : ℕ) (access : Access) (at width : ℕ) (ps : List Place) → AreSoundCells image.system (configs_of f.cells) → reach image f id access at width ≡ Memory ps → AreGrantedTo image f.cells id access at width
-granted_reach image f id access at width ps sound e = elim (cases_lt ADDRESS_END (at + width)) [
-  | inl beyond ↦ absurd (nothing_memory ps (sym (reach_by-beyond (granted image f id access) at width beyond) ∙ e))
-  | inr within ↦ granted_of image f id access at width (places_from (granted image f id access) at width) ps sound refl (sym (reach_by-within (granted image f id access) at width within) ∙ e)
-]
-
-got_by : (image : Image) (f : Facts) (id : ℕ) (access : Access) (at width : ℕ) (r : Reach) → AreSoundCells image.system (configs_of f.cells) → 0 < width → reach image f id access at width ≡ r → IsGotBy image f id access at width (read_of f.byte r)
-got_by image f id access at width (Memory ps) sound some is = record {
-  granted = (λ _. granted_reach image f id access at width ps sound is, λ _. refl);
-  reads = λ value e place each.
-      let places : reach image f id access at width ≡ Memory (listed place width) = reach-listed image f id access at width place sound some each in
-      let read : read_of f.byte (Memory ps) ≡ read_of f.byte (Memory (listed place width)) = ap (read_of f.byte) (sym is ∙ places) in
-      let spelt : Some value ≡ Some (spelled (map f.byte (listed place width))) = sym e ∙ read in
-      same_Some value (spelled (map f.byte (listed place width))) spelt ∙ spelled-listed f.byte place width;
-}
-got_by image f id access at width Nothing sound some is = record {
-  granted = (
-    λ e. absurd (false≢true e),
-    λ each. let found = reach_granted image f id access at width sound some each in absurd (nothing_memory found.0 (sym is ∙ found.1)),
-  );
-  reads = λ value e place each. absurd (none-some value e);
-}
-
-pub got-of_cell : (image : Image) (f : Facts) (id : ℕ) (access : Access) (at width : ℕ) → AreSoundCells image.system (configs_of f.cells) → 0 < width → IsGotBy image f id access at width (read_of f.byte (reach image f id access at width))
-got-of_cell image f id access at width sound some = got_by image f id access at width (reach image f id access at width) sound some refl
-
-reached_by : (image : Image) (f : Facts) (id : ℕ) (access : Access) (at width : ℕ) (r : Reach) → AreSoundCells image.system (configs_of f.cells) → 0 < width → reach image f id access at width ≡ r
-    → (is_reached r ≡ true → AreGrantedTo image f.cells id access at width) × (AreGrantedTo image f.cells id access at width → is_reached r ≡ true)
-reached_by image f id access at width (Memory ps) sound some is = (λ _. granted_reach image f id access at width ps sound is, λ _. refl)
-reached_by image f id access at width Nothing sound some is = (
-  λ e. absurd (false≢true e),
-  λ each. let found = reach_granted image f id access at width sound some each in absurd (nothing_memory found.0 (sym is ∙ found.1)),
-)
-
-pub reached-of_cell : (image : Image) (f : Facts) (id : ℕ) (access : Access) (at width : ℕ) → AreSoundCells image.system (configs_of f.cells) → 0 < width
-    → (is_reached (reach image f id access at width) ≡ true → AreGrantedTo image f.cells id access at width) × (AreGrantedTo image f.cells id access at width → is_reached (reach image f id access at width) ≡ true)
-reached-of_cell image f id access at width sound some = reached_by image f id access at width (reach image f id access at width) sound some refl
-
--- ---- how an operation ends
-
-pub width-some : (w : ℕ) → IsTrue (is_width w) → 0 < w
-width-some w h = grind arith
-
-abbrev Ends : Image → Facts → ℕ → Option Act → Type 0
-Ends image f id o = IfSome o (EndsAsGranted image f id)
-
-await_failed : (image : Image) (f : Facts) (id at width value : ℕ) (got : Option ℕ) → IsGotBy image f id ToRead at width got → got ≡ None → IsAwaitedBy image f id at width value false
-await_failed image f id at width value got outcome none = record {
-  granted = (λ h. absurd (false≢true h), λ each. absurd (false≢true (let some = outcome.granted.1 each in rw none at some)));
-  reads = λ h. absurd (false≢true h);
-}
-
-await_done : (image : Image) (f : Facts) (id at width value got : ℕ) → IsGotBy image f id ToRead at width (Some got) → eqb got value ≡ true → IsAwaitedBy image f id at width value true
-await_done image f id at width value got outcome same = record {
-  granted = (λ _. outcome.granted.0 refl, λ _. refl);
-  reads = λ _ place each. sym (eqb-true got value same) ∙ outcome.reads got refl place each;
-}
-
-await_ends : (image : Image) (f : Facts) (id at width value : ℕ) (o : Option ℕ) → IsGotBy image f id ToRead at width o → Ends image f id (await_of width at value o)
-await_ends image f id at width value None outcome = await_failed image f id at width value None outcome refl
-await_ends image f id at width value (Some got) outcome =
-    cond_both (eqb got value) (Some (Await width at value true)) None (Ends image f id) (λ same. await_done image f id at width value got outcome same) (λ _. tt)
-
-op_ends : (image : Image) (f : Facts) (id : ℕ) (op : Op) → AreSoundCells image.system (configs_of f.cells) → IsPlain op → Ends image f id (act_of image f id op)
-op_ends image f id (ReadOp width at) sound plain = got-of_cell image f id ToRead at width sound (width-some width plain)
-op_ends image f id (WriteOp width at value) sound plain = reached-of_cell image f id ToWrite at width sound (width-some width plain.0)
-op_ends image f id (FetchOp at) sound plain = got-of_cell image f id ToFetch at 4 sound (omega arith)
-op_ends image f id (AwaitOp width at value) sound plain = await_ends image f id at width value (read_of f.byte (reach image f id ToRead at width)) (got-of_cell image f id ToRead at width sound (width-some width plain.0))
-op_ends image f id IrqOp sound plain = tt
-op_ends image f id (HvcOp code a b) sound plain =
-    cond_both (eqb id image.system.root.id && is_management (decoded code a b)) (Begin code a b) (Hvc code a b (answer_of (decoded code a b) (seen_of image f id (decoded code a b))))
-    (EndsAsGranted image f id) (λ _. tt) (λ _. tt)
-
-ends_by : (image : Image) (f : Facts) (id : ℕ) (act : Act) (o : Option Act) → Ends image f id o → o ≡ Some act → EndsAsGranted image f id act
-ends_by image f id act None h is = absurd (none-some act is)
-ends_by image f id act (Some other) h is = let P : Act → Type 0 = EndsAsGranted image f id in subst P (same_Some other act is) h
-
--- the operations of a cell are plain
-pub ops-plain : (image : Image) (cpu : ℕ) (o : Option CellConfig) (i : ℕ) (op : Op) → IsAdmitted image → slice_get (option_map_or (λ (c : CellConfig). program_of image (name_of c) cpu) o []) i ≡ Some op → IsPlain op
-ops-plain image cpu None i op admitted h = absurd (none-some op h)
-ops-plain image cpu (Some c) i op admitted h = op-plain image (name_of c) cpu i op admitted h
-
-pub ends-as_granted : (image : Image) (f : Facts) (state : Cpu) (cpu : ℕ) (op : Op) (act : Act) → IsAdmitted image → AreSoundCells image.system (configs_of f.cells) → slice_get (ops_in image f.cells state.owner cpu) state.position ≡ Some op
-    → act_of image f state.owner op ≡ Some act → EndsAsGranted image f state.owner act
-ends-as_granted image f state cpu op act admitted sound at is =
-    ends_by image f state.owner act (act_of image f state.owner op) (op_ends image f state.owner op sound (ops-plain image cpu (cell_in image f.cells state.owner) state.position op admitted at)) is
-
--- no other act is an access
-stop_ends : (image : Image) (f : Facts) (id : ℕ) (act : Act) → Stop ≡ act → EndsAsGranted image f id act
-stop_ends image f id act is = let P : Act → Type 0 = EndsAsGranted image f id in subst P is tt
-
-phase_ends : (image : Image) (f : Facts) (id : ℕ) (act : Act) → is_phase act ≡ true → EndsAsGranted image f id act
-phase_ends image f id (Read width at got) h = absurd (false≢true h)
-phase_ends image f id (Write width at value ok) h = absurd (false≢true h)
-phase_ends image f id (Fetch at got) h = absurd (false≢true h)
-phase_ends image f id (Await width at value ok) h = absurd (false≢true h)
-phase_ends image f id (Irq device vector) h = tt
-phase_ends image f id (Hvc code a b answer) h = tt
-phase_ends image f id (Begin code a b) h = tt
-phase_ends image f id Stop h = tt
-phase_ends image f id (Decide refused) h = tt
-phase_ends image f id (Settle how) h = tt
-phase_ends image f id Commit h = tt
-phase_ends image f id (Note who) h = tt
-phase_ends image f id (Noted who how) h = tt
-phase_ends image f id (Finish answer) h = tt
-
-ends_made : (image : Image) (f : Facts) (entry : Entry) → IsAdmitted image → IsSound image f → IsMadeBy image f entry → EndsAsGranted image f (f.cpu entry.cpu).owner entry.act
-ends_made image f entry admitted sound (Stopping is) = stop_ends image f (f.cpu entry.cpu).owner entry.act is
-ends_made image f entry admitted sound (Calling phase) = phase_ends image f (f.cpu entry.cpu).owner entry.act phase
-ends_made image f entry admitted sound (Running program) = ends-as_granted image f (f.cpu entry.cpu) entry.cpu program.op entry.act admitted sound.cells program.at program.is
-
--- each access of a legal journal ends as its cell is granted
-pub ends-at : (image : Image) (before rest : List Entry) (entry : Entry) → IsAdmitted image → IsLegal image (before ++ entry ∷ rest) → EndsAsGranted image (facts image before) entry.cell entry.act
-ends-at image before rest entry admitted legal =
-    let f : Facts = facts image before in
-    let sound = legal-sound image before admitted (IsLegal-begin image before (entry ∷ rest) legal) in
-    let due : due_at image f entry.cpu ≡ Some entry = due-split image before rest entry legal in
-    let P : ℕ → Type 0 = λ id. EndsAsGranted image f id entry.act in
-    subst P (sym (next-from_due image f entry due).cell) (ends_made image f entry admitted sound (made-by image f entry sound due))
 
 -- ---- root
 

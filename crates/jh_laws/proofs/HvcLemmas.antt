@@ -137,7 +137,7 @@ op_answered : (image : Image) (f : Facts) (cell : ℕ) (op : Op) → AreSoundCel
 op_answered image f cell (ReadOp width at) sound = tt
 op_answered image f cell (WriteOp width at value) sound = tt
 op_answered image f cell (FetchOp at) sound = tt
-op_answered image f cell (AwaitOp width at value) sound = await_answered image f cell width at value (read_of f.byte (reach image f cell ToRead at width))
+op_answered image f cell (AwaitOp width at value) sound = await_answered image f cell width at value (read_of f.byte width (reach image f cell ToRead at width))
 op_answered image f cell IrqOp sound = tt
 op_answered image f cell (HvcOp code a b) sound =
     cond_both (eqb cell image.system.root.id && is_management (decoded code a b)) (Begin code a b) (Hvc code a b (answer_of (decoded code a b) (seen_of image f cell (decoded code a b))))

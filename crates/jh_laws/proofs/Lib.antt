@@ -9,6 +9,9 @@ pub mod ReadyLemmas
 pub mod RunLemmas
 pub mod CallLemmas
 pub mod HeldLemmas
+pub mod ReachedLemmas
+pub mod EndsLemmas
+pub mod StoredLemmas
 pub mod HvcLemmas
 pub mod QuietLemmas
 pub mod CommitLemmas

@@ -136,10 +136,10 @@ AwaitOf got value false = got ≡ None
 
 -- the act is an access of the cell with the outcome that the facts give it
 abbrev pub IsAccess : Image → Facts → ℕ → Act → Type 0
-IsAccess image f cell (Read width at got) = IsTrue (is_width width) × (got ≡ read_of f.byte (reach image f cell ToRead at width))
+IsAccess image f cell (Read width at got) = IsTrue (is_width width) × (got ≡ read_of f.byte width (reach image f cell ToRead at width))
 IsAccess image f cell (Write width at value ok) = IsTrue (is_width width) × (ok ≡ is_reached (reach image f cell ToWrite at width))
-IsAccess image f cell (Fetch at got) = got ≡ read_of f.byte (reach image f cell ToFetch at 4)
-IsAccess image f cell (Await width at value ok) = IsTrue (is_width width) × AwaitOf (read_of f.byte (reach image f cell ToRead at width)) value ok
+IsAccess image f cell (Fetch at got) = got ≡ read_of f.byte 4 (reach image f cell ToFetch at 4)
+IsAccess image f cell (Await width at value ok) = IsTrue (is_width width) × AwaitOf (read_of f.byte width (reach image f cell ToRead at width)) value ok
 IsAccess image f cell _ = ⊥
 
 -- it is one, and that of the operation
@@ -147,7 +147,7 @@ pub record IsAccessOf (image : Image) (f : Facts) (cell : ℕ) (op : Op) (act : 
   pub access : IsAccess image f cell act
   pub operation : op_of act ≡ Some op
 
-await_equal : (image : Image) (f : Facts) (cell width at value got : ℕ) (act : Act) (b : Bool) → IsTrue (is_width width) → read_of f.byte (reach image f cell ToRead at width) ≡ Some got → eqb got value ≡ b
+await_equal : (image : Image) (f : Facts) (cell width at value got : ℕ) (act : Act) (b : Bool) → IsTrue (is_width width) → read_of f.byte width (reach image f cell ToRead at width) ≡ Some got → eqb got value ≡ b
     → cond b (Some (Await width at value true)) None ≡ Some act → IsAccessOf image f cell (AwaitOp width at value) act
 await_equal image f cell width at value got act true plain e is h =
     let same : got ≡ value = eqb-true got value is in
@@ -155,7 +155,7 @@ await_equal image f cell width at value got act true plain e is h =
     subst P (same_Some (Await width at value true) act h) (record { access = (plain, e ∙ ap Some same); operation = refl })
 await_equal image f cell width at value got act false plain e is h = absurd (none-some act h)
 
-await_access : (image : Image) (f : Facts) (cell width at value : ℕ) (act : Act) (o : Option ℕ) → IsTrue (is_width width) → read_of f.byte (reach image f cell ToRead at width) ≡ o
+await_access : (image : Image) (f : Facts) (cell width at value : ℕ) (act : Act) (o : Option ℕ) → IsTrue (is_width width) → read_of f.byte width (reach image f cell ToRead at width) ≡ o
     → await_of width at value o ≡ Some act → IsAccessOf image f cell (AwaitOp width at value) act
 await_access image f cell width at value act None plain e h =
     let P : Act → Type 0 = IsAccessOf image f cell (AwaitOp width at value) in
@@ -165,14 +165,14 @@ await_access image f cell width at value act (Some got) plain e h = await_equal 
 pub act_access : (image : Image) (f : Facts) (cell : ℕ) (op : Op) (act : Act) → IsPlain op → IsNoCall op → act_of image f cell op ≡ Some act → IsAccessOf image f cell op act
 act_access image f cell (ReadOp width at) act plain silent h =
     let P : Act → Type 0 = IsAccessOf image f cell (ReadOp width at) in
-    subst P (same_Some (Read width at (read_of f.byte (reach image f cell ToRead at width))) act h) (record { access = (plain, refl); operation = refl })
+    subst P (same_Some (Read width at (read_of f.byte width (reach image f cell ToRead at width))) act h) (record { access = (plain, refl); operation = refl })
 act_access image f cell (WriteOp width at value) act plain silent h =
     let P : Act → Type 0 = IsAccessOf image f cell (WriteOp width at value) in
     subst P (same_Some (Write width at value (is_reached (reach image f cell ToWrite at width))) act h) (record { access = (plain.0, refl); operation = refl })
 act_access image f cell (FetchOp at) act plain silent h =
     let P : Act → Type 0 = IsAccessOf image f cell (FetchOp at) in
-    subst P (same_Some (Fetch at (read_of f.byte (reach image f cell ToFetch at 4))) act h) (record { access = refl; operation = refl })
-act_access image f cell (AwaitOp width at value) act plain silent h = await_access image f cell width at value act (read_of f.byte (reach image f cell ToRead at width)) plain.0 refl h
+    subst P (same_Some (Fetch at (read_of f.byte 4 (reach image f cell ToFetch at 4))) act h) (record { access = refl; operation = refl })
+act_access image f cell (AwaitOp width at value) act plain silent h = await_access image f cell width at value act (read_of f.byte width (reach image f cell ToRead at width)) plain.0 refl h
 act_access image f cell IrqOp act plain silent h = absurd (none-some act h)
 act_access image f cell (HvcOp code a b) act plain silent h = absurd silent
 

@@ -24,9 +24,9 @@ use Rattle.jh_history.specs.declared.comm.PageWrite.{PageWrite}
 use Rattle.jh_history.specs.declared.entry.Entry.{Entry}
 use Rattle.jh_history.specs.declared.entry.Act.{Act}
 use Rattle.jh_history.specs.declared.entry.Act.TheVariants.{Read, Write, Fetch, Await, Irq, Hvc, Begin, Stop, Decide, Settle, Commit, Note, Noted, Finish}
-use Rattle.jh_history.specs.Access.{places_from, memory_or_nothing, is_reached, write_of}
+use Rattle.jh_history.specs.Access.{write_of}
 use Rattle.jh_history.specs.Facts.{Facts}
-use Rattle.jh_history.specs.Grants.{granted, reach}
+use Rattle.jh_history.specs.Grants.{reach}
 use Rattle.jh_history.specs.Places.{is_same, with_byte, written}
 use Rattle.jh_history.specs.Pages.{page_after, with_page_write, page_write_by}
 use Rattle.jh_history.specs.Bytes.{byte_written, byte_after}
@@ -35,13 +35,14 @@ use Rattle.jh_history.specs.Phases.{configs_of}
 use Rattle.jh_history.specs.Due.{IsLegal}
 use Rattle.jh_history.specs.Admitted.{IsAdmitted}
 use Rattle.jh_history.proofs.FactsLemmas.{facts-push, byte-after}
-use Rattle.jh_history.proofs.AccessLemmas.{reach_by-within, reach_by-beyond}
 use Rattle.jh_history.proofs.LegalLemmas.{IsLegal-begin}
 use Rattle.jh_history.specs.Sound.{AreSoundCells}
-use Rattle.jh_laws.specs.Grants.{IsGranted}
-use Rattle.jh_laws.specs.Held.{IsGrantedTo, IsHeld, IsOwnOrLinked}
+use Rattle.jh_laws.specs.Held.{IsHeld, IsOwnOrLinked}
 use Rattle.jh_laws.proofs.ListedLemmas.{same-place}
-use Rattle.jh_laws.proofs.HeldLemmas.{to-granted, at-same}
+use Rattle.jh_num.proofs.MemoryLemmas.{listed}
+use Rattle.jh_laws.specs.Ends.{AreItsPlaces}
+use Rattle.jh_laws.proofs.HeldLemmas.{at-same}
+use Rattle.jh_laws.proofs.StoredLemmas.{IsGivenTo, listed-at, placed, places-given}
 use Rattle.jh_history.proofs.SoundLemmas.{legal-sound}
 
 -- ---- places
@@ -67,62 +68,33 @@ written-other byte (place ∷ places) value q none =
     let parts = or_parts (is_same q place) (list_any (is_same q) places) none in
     written-other (with_byte byte place (value % 256)) places (value / 256) q parts.1 ∙ ap (λ (b : Bool). cond b (value % 256) (byte q)) parts.0
 
--- the places that addresses have, each at its address
-at_one : (f : ℕ → Option Place) (at count : ℕ) (ps : List Place) (q : Place) (o : Option Place) (os : Option (List Place)) → f at ≡ o → places_from f (at + 1) count ≡ os
-    → ((qs : List Place) → places_from f (at + 1) count ≡ Some qs → Contains qs q → (k : ℕ) × (k < count) × (f ((at + 1) + k) ≡ Some q))
-    → option_and_then (λ (p : Place). option_map (λ (qs : List Place). p ∷ qs) os) o ≡ Some ps → Contains ps q → (k : ℕ) × (k < suc count) × (f (at + k) ≡ Some q)
-at_one f at count ps q None os is_o is_os rest e held = absurd (none-some ps e)
-at_one f at count ps q (Some p) None is_o is_os rest e held = absurd (none-some ps e)
-at_one f at count ps q (Some p) (Some qs) is_o is_os rest e held =
-    let P : List Place → Type 0 = λ l. Contains l q in
-    ⊎_elim
-    (λ (here : p ≡ q). (0, omega arith, (let same : at + 0 ≡ at = omega arith in ap f same) ∙ is_o ∙ ap Some here))
-    (λ (later : Contains qs q).
-    let found = rest qs is_os later in
-    let below : found.0 < count = found.1 in
-    (suc found.0, omega arith, (let same : at + suc found.0 ≡ (at + 1) + found.0 = omega arith in ap f same) ∙ found.2))
-    (Contains-cases p qs q (subst P (sym (same_Some (p ∷ qs) ps e)) held))
-
-place_at : (f : ℕ → Option Place) (at count : ℕ) (ps : List Place) (q : Place) → places_from f at count ≡ Some ps → Contains ps q → (k : ℕ) × (k < count) × (f (at + k) ≡ Some q)
-place_at f at zero ps q e held = let P : List Place → Type 0 = λ l. Contains l q in let none : Contains [] q = subst P (sym (same_Some [] ps e)) held in let below : none.0 < 0 = none.1 in absurd (omega arith)
-place_at f at (suc count) ps q e held = at_one f at count ps q (f at) (places_from f (at + 1) count) refl refl (λ qs h i. place_at f (at + 1) count qs q h i) e held
-
-abbrev reached_places : Reach → Option (List Place)
-reached_places (Memory places) = Some places
-reached_places Nothing = None
-
-memory_of : (o : Option (List Place)) (ps : List Place) → memory_or_nothing o ≡ Memory ps → o ≡ Some ps
-memory_of None ps e = absurd (false≢true (ap is_reached e))
-memory_of (Some qs) ps e = ap reached_places e
-
--- a place that an access reaches is granted at one of its addresses
-pub reached-at : (image : Image) (f : Facts) (id : ℕ) (access : Access) (at width : ℕ) (ps : List Place) (q : Place) → reach image f id access at width ≡ Memory ps → Contains ps q → (k : ℕ) × (k < width) × (granted image f id access (at + k) ≡ Some q)
-reached-at image f id access at width ps q e held = elim (cases_lt ADDRESS_END (at + width)) [
-  | inl beyond ↦ absurd (false≢true (ap is_reached (sym (reach_by-beyond (granted image f id access) at width beyond) ∙ e)))
-  | inr within ↦ place_at (granted image f id access) at width ps q
-      (memory_of (places_from (granted image f id access) at width) ps (sym (reach_by-within (granted image f id access) at width within) ∙ e)) held
-]
-
--- the cell is granted the place by a write of it
+-- a region of the cell gives it the place
 abbrev MayWrite : Image → Facts → ℕ → Place → Type 0
-MayWrite image f id q = (at : ℕ) × IsGrantedTo image f.cells id ToWrite at q
+MayWrite image f id q = (at : ℕ) × IsGivenTo image f.cells id at q
 
-write_of_reach : (image : Image) (f : Facts) (id at width value : ℕ) (q : Place) (r : Reach) → AreSoundCells image.system (configs_of f.cells) → reach image f id ToWrite at width ≡ r → write_of f.byte r value q ≢ f.byte q → MayWrite image f id q
-write_of_reach image f id at width value q Nothing sound is changed = absurd (changed refl)
-write_of_reach image f id at width value q (Memory ps) sound is changed =
+changed_at : (image : Image) (f : Facts) (id at width value : ℕ) (q : Place) (place : ℕ → Place) → AreItsPlaces image f.cells id ToWrite at width place → written f.byte (listed place width) value q ≢ f.byte q → MayWrite image f id q
+changed_at image f id at width value q place are changed =
     ⊎_elim
-    (λ (some : list_any (is_same q) ps ≡ true).
-    let found = IsFound-from_list_any (is_same q) ps some in
-    let P : Place → Type 0 = λ p. Contains ps p in
-    let held : Contains ps q = subst P (sym (same-place q found.0 found.1.passes)) found.1.held in
-    let k = reached-at image f id ToWrite at width ps q is held in
-    (at + k.0, to-granted image f id ToWrite (at + k.0) q sound k.2))
-    (λ (none : list_any (is_same q) ps ≡ false). absurd (changed (written-other f.byte ps value q none)))
-    (cases_Bool (list_any (is_same q) ps))
+    (λ (some : list_any (is_same q) (listed place width) ≡ true).
+    let found = IsFound-from_list_any (is_same q) (listed place width) some in
+    let P : Place → Type 0 = λ p. Contains (listed place width) p in
+    let k = listed-at place width q (subst P (sym (same-place q found.0 found.1.passes)) found.1.held) in
+    let G : Place → Type 0 = IsGivenTo image f.cells id (at + k.0) in
+    (at + k.0, subst G (sym k.2) (places-given image f.cells id at width place are k.0 k.1)))
+    (λ (none : list_any (is_same q) (listed place width) ≡ false). absurd (changed (written-other f.byte (listed place width) value q none)))
+    (cases_Bool (list_any (is_same q) (listed place width)))
 
--- what the act of the cell writes itself it writes by a grant
+write_of_reach : (image : Image) (f : Facts) (id at width value : ℕ) (q : Place) → AreSoundCells image.system (configs_of f.cells) → write_of f.byte (reach image f id ToWrite at width) value q ≢ f.byte q → MayWrite image f id q
+write_of_reach image f id at width value q sound changed =
+    ⊎_elim
+    (λ (at_places : (place : ℕ → Place) × AreItsPlaces image f.cells id ToWrite at width place × ((v : ℕ) → write_of f.byte (reach image f id ToWrite at width) v ≡ written f.byte (listed place width) v)).
+    changed_at image f id at width value q at_places.0 at_places.1 (λ same. changed (ap (λ (b : Place → ℕ). b q) (at_places.2 value) ∙ same)))
+    (λ (nowhere : (v : ℕ) → write_of f.byte (reach image f id ToWrite at width) v ≡ f.byte). absurd (changed (ap (λ (b : Place → ℕ). b q) (nowhere value))))
+    (placed image f id at width sound)
+
+-- what the act of the cell writes itself it writes at a place that a region of the cell gives it
 written_by : (image : Image) (f : Facts) (id : ℕ) (act : Act) (q : Place) → AreSoundCells image.system (configs_of f.cells) → byte_written image f id act q ≢ f.byte q → MayWrite image f id q
-written_by image f id (Write width at value true) q sound changed = write_of_reach image f id at width value q (reach image f id ToWrite at width) sound refl changed
+written_by image f id (Write width at value true) q sound changed = write_of_reach image f id at width value q sound changed
 written_by image f id (Write width at value false) q sound changed = absurd (changed refl)
 written_by image f id (Read width at got) q sound changed = absurd (changed refl)
 written_by image f id (Fetch at got) q sound changed = absurd (changed refl)
@@ -153,13 +125,13 @@ page_kept (Some write) byte cell offset other =
 -- ---- who may write at a place that is held
 
 -- a place of physical memory that a region of the cell gives is one of the region's
-given_place : (cell : CellConfig) (at p : ℕ) (h : IsGranted cell ToWrite at (Physical p)) → (is_comm h.region ≡ false) × (has_place h.region p ≡ true)
-given_place cell at p h =
+given_place : (image : Image) (cells : List Live) (id at p : ℕ) (h : IsGivenTo image cells id at (Physical p)) → (is_comm h.region ≡ false) × (has_place h.region p ≡ true)
+given_place image cells id at p h =
     let r : Region = h.region in
     let offset : ℕ = at - r.virt_start in
     given_by (is_comm r) refl h.given
   where
-    given_by : (b : Bool) → is_comm h.region ≡ b → Physical p ≡ cond b (Page cell.id (at - h.region.virt_start)) (Physical (h.region.phys_start + (at - h.region.virt_start))) → (is_comm h.region ≡ false) × (has_place h.region p ≡ true)
+    given_by : (b : Bool) → is_comm h.region ≡ b → Physical p ≡ cond b (Page h.cell.id (at - h.region.virt_start)) (Physical (h.region.phys_start + (at - h.region.virt_start))) → (is_comm h.region ≡ false) × (has_place h.region p ≡ true)
     given_by true is e = absurd (true≢false (ap is_memory e))
     given_by false is e =
         let same : p ≡ h.region.phys_start + (at - h.region.virt_start) = ap number_in e in
@@ -195,14 +167,14 @@ numbered : {X : Type 0} (xs : List X) (x : X) (held : Contains xs x) → slice_g
 numbered xs x held = slice_get-get_or xs held.0 x held.1 ∙ ap Some held.2
 
 other_writes : (image : Image) (cells : List Live) (live : Live) (number : ℕ) (region : Region) (place : ℕ) (other : CellConfig) (at : ℕ) → AreSoundCells image.system (configs_of cells) → IsHeld cells live number region place → Contains (configs_of cells) other
-    → IsGranted other ToWrite at (Physical place) → IsOwnOrLinked cells live.config number other.id
-other_writes image cells live number region place other at sound held there given =
+    → (given : IsGivenTo image cells other.id at (Physical place)) → given.cell ≡ other → IsOwnOrLinked cells live.config number other.id
+other_writes image cells live number region place other at sound held there given is_other =
     let configs : List CellConfig = configs_of cells in
     let own : Contains configs live.config = Contains-map (λ (l : Live). l.config) cells live held.lives in
     let mine = unshared_parts region held.alone in
     let y : Region = given.region in
-    let yours = given_place other at place given in
-    let item_y : slice_get other.memory_regions given.held.0 ≡ Some y = numbered other.memory_regions y given.held in
+    let yours = given_place image cells other.id at place given in
+    let item_y : slice_get other.memory_regions given.held.0 ≡ Some y = ap (λ (c : CellConfig). slice_get c.memory_regions given.held.0) (sym is_other) ∙ numbered given.cell.memory_regions y given.held in
     let one_way : both_shared region y ≡ false = and_left (has_flags 0x80 region) (has_flags 0x80 y) mine.1 in
     let other_way : both_shared y region ≡ false = and_right (has_flags 0x80 y) (has_flags 0x80 region) mine.1 in
     ⊎_elim
@@ -220,14 +192,28 @@ other_writes image cells live number region place other at sound held there give
     (cases_lt there.0 own.0))
     (cases_lt own.0 there.0)
 
+-- the same, by the name of the cell itself
+abbrev own_name : (image : Image) (cells : List Live) (id at : ℕ) (place : Place) (h : IsGivenTo image cells id at place) → IsGivenTo image cells h.cell.id at place
+own_name image cells id at place h = record {
+  cell = h.cell;
+  live = h.live;
+  named = refl;
+  region = h.region;
+  held = h.held;
+  first = h.first;
+  last = h.last;
+  given = h.given;
+  left = h.left;
+}
+
 -- so such a place is written by its cell, or by one with a linked device
-pub held-writes : (image : Image) (f : Facts) (live : Live) (number : ℕ) (region : Region) (place id at : ℕ) → AreSoundCells image.system (configs_of f.cells) → IsHeld f.cells live number region place → IsGrantedTo image f.cells id ToWrite at (Physical place)
+pub held-writes : (image : Image) (f : Facts) (live : Live) (number : ℕ) (region : Region) (place id at : ℕ) → AreSoundCells image.system (configs_of f.cells) → IsHeld f.cells live number region place → IsGivenTo image f.cells id at (Physical place)
     → IsOwnOrLinked f.cells live.config number id
 held-writes image f live number region place id at sound held h =
     let P : ℕ → Type 0 = IsOwnOrLinked f.cells live.config number in
     ⊎_elim
     (λ (root : h.cell ≡ image.system.root). absurd (h.left (ap (λ (c : CellConfig). c.id) root) (held_taken f.cells live number region place held)))
-    (λ (there : Contains (configs_of f.cells) h.cell). subst P h.named (other_writes image f.cells live number region place h.cell at sound held there h.given))
+    (λ (there : Contains (configs_of f.cells) h.cell). subst P h.named (other_writes image f.cells live number region place h.cell at sound held there (own_name image f.cells id at (Physical place) h) refl))
     h.live
 
 pub held-changes : (image : Image) (f : Facts) (entry : Entry) (live : Live) (number : ℕ) (region : Region) (place : ℕ) → AreSoundCells image.system (configs_of f.cells) → IsHeld f.cells live number region place
@@ -238,10 +224,10 @@ held-changes image f entry live number region place sound held changed =
     held-writes image f live number region place entry.cell write.0 sound held write.1
 
 -- a page is written by its own cell
-page_owner : (image : Image) (cells : List Live) (id at cell offset : ℕ) → IsGrantedTo image cells id ToWrite at (Page cell offset) → id ≡ cell
-page_owner image cells id at cell offset h = sym h.named ∙ owner_by (is_comm h.given.region) h.given.given
+page_owner : (image : Image) (cells : List Live) (id at cell offset : ℕ) → IsGivenTo image cells id at (Page cell offset) → id ≡ cell
+page_owner image cells id at cell offset h = sym h.named ∙ owner_by (is_comm h.region) h.given
   where
-    owner_by : (b : Bool) → Page cell offset ≡ cond b (Page h.cell.id (at - h.given.region.virt_start)) (Physical (h.given.region.phys_start + (at - h.given.region.virt_start))) → h.cell.id ≡ cell
+    owner_by : (b : Bool) → Page cell offset ≡ cond b (Page h.cell.id (at - h.region.virt_start)) (Physical (h.region.phys_start + (at - h.region.virt_start))) → h.cell.id ≡ cell
     owner_by true e = sym (ap cell_in_place e)
     owner_by false e = absurd (false≢true (ap is_memory e))
 

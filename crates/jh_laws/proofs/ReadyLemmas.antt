@@ -20,27 +20,26 @@ use Rattle.jh_history.specs.History.{facts}
 use Rattle.jh_history.specs.Grants.{reach}
 use Rattle.jh_history.specs.Due.{due, act_of, await_of, entry_by, IsLegal, IsQuiet}
 use Rattle.jh_history.specs.Admitted.{IsNoCall}
-use Rattle.jh_laws.specs.Grants.{AreGranted}
-use Rattle.jh_laws.specs.Outcomes.{IsRead, IsGot, IsAwaited, HasItsOutcome}
+use Rattle.jh_laws.specs.Ends.{IsAnswered, IsReadBy, IsGotBy, IsAwaitedBy}
+use Rattle.jh_laws.specs.Outcomes.{HasItsOutcome}
 use Rattle.jh_laws.specs.Operations.{op_of, IsDueOp, IsReady, IsOwn}
 use Rattle.jh_laws.proofs.RootLemmas.{op-plain}
-use Rattle.jh_laws.proofs.GrantLemmas.{granted_at, got-of, reached-of}
 use Rattle.jh_laws.proofs.MadeLemmas.{IsSilent, op-silent, IsMade, due_at-made, due_at-running, made-access, roots-at}
-use Rattle.jh_laws.proofs.OutcomeLemmas.{some_width, outcome}
+use Rattle.jh_laws.proofs.OutcomeLemmas.{some_width, got-of, reached-of, value-of, outcome}
 
 -- what root's read of so many bytes gets after the entries
 abbrev got_after : Image → List Entry → ℕ → ℕ → Option ℕ
-got_after image entries at width = read_of (facts image entries).byte (reach image (facts image entries) image.system.root.id ToRead at width)
+got_after image entries at width = read_of (facts image entries).byte width (reach image (facts image entries) image.system.root.id ToRead at width)
 
 -- an await that comes to an act is due
-equal_due : (image : Image) (entries : List Entry) (width at value got : ℕ) (act : Act) (b : Bool) → IsGot image entries image.system.root ToRead at width (Some got) → eqb got value ≡ b
-    → cond b (Some (Await width at value true)) None ≡ Some act → AreGranted image.system.root ToRead at width → IsRead image entries image.system.root ToRead at width value
-equal_due image entries width at value got act true outcome is h = λ granted place each. sym (eqb-true got value is) ∙ outcome.reads got refl place each
+equal_due : (image : Image) (entries : List Entry) (width at value got : ℕ) (act : Act) (b : Bool) → IsGotBy image (facts image entries) image.system.root.id ToRead at width (Some got) → eqb got value ≡ b
+    → cond b (Some (Await width at value true)) None ≡ Some act → IsAnswered image (facts image entries).cells image.system.root.id ToRead at width → IsReadBy image (facts image entries) image.system.root.id ToRead at width value
+equal_due image entries width at value got act true outcome is h = λ answered. let P : ℕ → Type 0 = IsReadBy image (facts image entries) image.system.root.id ToRead at width in subst P (eqb-true got value is) (outcome.reads got refl)
 equal_due image entries width at value got act false outcome is h = absurd (none-some act h)
 
-await_due : (image : Image) (entries : List Entry) (width at value : ℕ) (act : Act) (o : Option ℕ) → IsGot image entries image.system.root ToRead at width o → await_of width at value o ≡ Some act
-    → AreGranted image.system.root ToRead at width → IsRead image entries image.system.root ToRead at width value
-await_due image entries width at value act None outcome h = λ granted. absurd (false≢true (outcome.granted.1 granted))
+await_due : (image : Image) (entries : List Entry) (width at value : ℕ) (act : Act) (o : Option ℕ) → IsGotBy image (facts image entries) image.system.root.id ToRead at width o → await_of width at value o ≡ Some act
+    → IsAnswered image (facts image entries).cells image.system.root.id ToRead at width → IsReadBy image (facts image entries) image.system.root.id ToRead at width value
+await_due image entries width at value act None outcome h = λ granted. absurd (false≢true (outcome.answered.1 granted))
 await_due image entries width at value act (Some got) outcome h = equal_due image entries width at value got act (eqb got value) outcome refl h
 
 op_due : (image : Image) (entries : List Entry) (op : Op) (act : Act) → IsSilent image → (facts image entries).cells ≡ [] → IsPlain op → IsNoCall op → act_of image (facts image entries) image.system.root.id op ≡ Some act → IsDueOp image entries image.system.root op
@@ -53,22 +52,20 @@ op_due image entries IrqOp act admitted none plain silent h = none-some act h
 op_due image entries (HvcOp code a b) act admitted none plain silent h = silent
 
 -- and one that is due comes to an act
-await_act : (image : Image) (entries : List Entry) (width at value : ℕ) (o : Option ℕ) → IsSilent image → IsGot image entries image.system.root ToRead at width o
-    → (AreGranted image.system.root ToRead at width → IsRead image entries image.system.root ToRead at width value) → (act : Act) × (await_of width at value o ≡ Some act)
-await_act image entries width at value None admitted outcome due = (Await width at value false, refl)
-await_act image entries width at value (Some got) admitted outcome due =
-    let granted : AreGranted image.system.root ToRead at width = outcome.granted.0 refl in
-    let place = λ (k : ℕ). Physical (at + k) in
-    let each = granted_at image ToRead at width admitted.admitted granted in
-    let same : got ≡ value = outcome.reads got refl place each ∙ sym (due granted place each) in
+await_act : (image : Image) (entries : List Entry) (width at value : ℕ) (o : Option ℕ) → IsSilent image → (facts image entries).cells ≡ [] → IsGotBy image (facts image entries) image.system.root.id ToRead at width o
+    → (IsAnswered image (facts image entries).cells image.system.root.id ToRead at width → IsReadBy image (facts image entries) image.system.root.id ToRead at width value) → (act : Act) × (await_of width at value o ≡ Some act)
+await_act image entries width at value None admitted alone outcome due = (Await width at value false, refl)
+await_act image entries width at value (Some got) admitted alone outcome due =
+    let answered = outcome.answered.0 refl in
+    let same : got ≡ value = value-of image entries ToRead at width got value admitted.admitted alone answered (outcome.reads got refl) (due answered) in
     (Await width at value true, ap (λ (b : Bool). cond b (Some (Await width at value true)) None) (eq-eqb got value same))
 
 due_act : (image : Image) (entries : List Entry) (op : Op) → IsSilent image → (facts image entries).cells ≡ [] → IsPlain op → IsDueOp image entries image.system.root op → (act : Act) × (act_of image (facts image entries) image.system.root.id op ≡ Some act)
 due_act image entries (ReadOp width at) admitted none plain due = (Read width at (got_after image entries at width), refl)
 due_act image entries (WriteOp width at value) admitted none plain due = (Write width at value (is_reached (reach image (facts image entries) image.system.root.id ToWrite at width)), refl)
-due_act image entries (FetchOp at) admitted none plain due = (Fetch at (read_of (facts image entries).byte (reach image (facts image entries) image.system.root.id ToFetch at 4)), refl)
+due_act image entries (FetchOp at) admitted none plain due = (Fetch at (read_of (facts image entries).byte 4 (reach image (facts image entries) image.system.root.id ToFetch at 4)), refl)
 due_act image entries (AwaitOp width at value) admitted none plain due =
-    await_act image entries width at value (got_after image entries at width) admitted (got-of image entries ToRead at width admitted.admitted none (some_width width plain.0)) due
+    await_act image entries width at value (got_after image entries at width) admitted none (got-of image entries ToRead at width admitted.admitted none (some_width width plain.0)) due
 due_act image entries IrqOp admitted none plain due = absurd due
 due_act image entries (HvcOp code a b) admitted none plain due = absurd due
 
@@ -119,33 +116,28 @@ quiet-from_none image entries admitted legal none cpu =
     none_by image entries cpu (due image entries cpu) refl (λ some. none cpu (ready-from_due image entries cpu admitted legal some))
 
 -- two readings of the same bytes
-got_same : (image : Image) (entries : List Entry) (access : Access) (at width : ℕ) (one other : Option ℕ) → IsSilent image → IsGot image entries image.system.root access at width one → IsGot image entries image.system.root access at width other → one ≡ other
-got_same image entries access at width None None admitted a b = refl
-got_same image entries access at width None (Some w) admitted a b = absurd (false≢true (a.granted.1 (b.granted.0 refl)))
-got_same image entries access at width (Some v) None admitted a b = absurd (false≢true (b.granted.1 (a.granted.0 refl)))
-got_same image entries access at width (Some v) (Some w) admitted a b =
-    let place = λ (k : ℕ). Physical (at + k) in
-    let each = granted_at image access at width admitted.admitted (a.granted.0 refl) in
-    ap Some (a.reads v refl place each ∙ sym (b.reads w refl place each))
+got_same : (image : Image) (entries : List Entry) (access : Access) (at width : ℕ) (one other : Option ℕ) → IsSilent image → (facts image entries).cells ≡ [] → IsGotBy image (facts image entries) image.system.root.id access at width one → IsGotBy image (facts image entries) image.system.root.id access at width other → one ≡ other
+got_same image entries access at width None None admitted alone a b = refl
+got_same image entries access at width None (Some w) admitted alone a b = absurd (false≢true (a.answered.1 (b.answered.0 refl)))
+got_same image entries access at width (Some v) None admitted alone a b = absurd (false≢true (b.answered.1 (a.answered.0 refl)))
+got_same image entries access at width (Some v) (Some w) admitted alone a b = ap Some (value-of image entries access at width v w admitted.admitted alone (a.answered.0 refl) (a.reads v refl) (b.reads w refl))
 
 -- an await with its outcome is what the operation comes to
-await_from : (image : Image) (entries : List Entry) (width at value : ℕ) (o : Option ℕ) (ok : Bool) → IsSilent image → IsGot image entries image.system.root ToRead at width o → IsAwaited image entries image.system.root at width value ok
+await_from : (image : Image) (entries : List Entry) (width at value : ℕ) (o : Option ℕ) (ok : Bool) → IsSilent image → (facts image entries).cells ≡ [] → IsGotBy image (facts image entries) image.system.root.id ToRead at width o → IsAwaitedBy image (facts image entries) image.system.root.id at width value ok
     → await_of width at value o ≡ Some (Await width at value ok)
-await_from image entries width at value None true admitted got awaited = absurd (false≢true (got.granted.1 (awaited.granted.0 refl)))
-await_from image entries width at value None false admitted got awaited = refl
-await_from image entries width at value (Some v) true admitted got awaited =
-    let place = λ (k : ℕ). Physical (at + k) in
-    let each = granted_at image ToRead at width admitted.admitted (got.granted.0 refl) in
-    let same : v ≡ value = got.reads v refl place each ∙ sym (awaited.reads refl place each) in
+await_from image entries width at value None true admitted alone got awaited = absurd (false≢true (got.answered.1 (awaited.answered.0 refl)))
+await_from image entries width at value None false admitted alone got awaited = refl
+await_from image entries width at value (Some v) true admitted alone got awaited =
+    let same : v ≡ value = value-of image entries ToRead at width v value admitted.admitted alone (got.answered.0 refl) (got.reads v refl) (awaited.reads refl) in
     ap (λ (b : Bool). cond b (Some (Await width at value true)) None) (eq-eqb v value same)
-await_from image entries width at value (Some v) false admitted got awaited = absurd (false≢true (awaited.granted.1 (got.granted.0 refl)))
+await_from image entries width at value (Some v) false admitted alone got awaited = absurd (false≢true (awaited.answered.1 (got.answered.0 refl)))
 
 -- and so is each access
 act_from : (image : Image) (entries : List Entry) (op : Op) (act : Act) → IsSilent image → (facts image entries).cells ≡ [] → IsPlain op → op_of act ≡ Some op → HasItsOutcome image entries image.system.root act → act_of image (facts image entries) image.system.root.id op ≡ Some act
 act_from image entries op (Read width at got) admitted none plain is h =
     let P : Op → Type 0 = λ o. IsPlain o → act_of image (facts image entries) image.system.root.id o ≡ Some (Read width at got) in
     subst P (same_Some (ReadOp width at) op is)
-    (λ own. ap (λ (g : Option ℕ). Some (Read width at g)) (got_same image entries ToRead at width (got_after image entries at width) got admitted (got-of image entries ToRead at width admitted.admitted none (some_width width own)) h))
+    (λ own. ap (λ (g : Option ℕ). Some (Read width at g)) (got_same image entries ToRead at width (got_after image entries at width) got admitted none (got-of image entries ToRead at width admitted.admitted none (some_width width own)) h))
     plain
 act_from image entries op (Write width at value ok) admitted none plain is h =
     let P : Op → Type 0 = λ o. IsPlain o → act_of image (facts image entries) image.system.root.id o ≡ Some (Write width at value ok) in
@@ -156,13 +148,13 @@ act_from image entries op (Write width at value ok) admitted none plain is h =
     plain
 act_from image entries op (Fetch at got) admitted none plain is h =
     let P : Op → Type 0 = λ o. act_of image (facts image entries) image.system.root.id o ≡ Some (Fetch at got) in
-    let r = read_of (facts image entries).byte (reach image (facts image entries) image.system.root.id ToFetch at 4) in
+    let r = read_of (facts image entries).byte 4 (reach image (facts image entries) image.system.root.id ToFetch at 4) in
     subst P (same_Some (FetchOp at) op is)
-    (ap (λ (g : Option ℕ). Some (Fetch at g)) (got_same image entries ToFetch at 4 r got admitted (got-of image entries ToFetch at 4 admitted.admitted none (omega arith)) h))
+    (ap (λ (g : Option ℕ). Some (Fetch at g)) (got_same image entries ToFetch at 4 r got admitted none (got-of image entries ToFetch at 4 admitted.admitted none (omega arith)) h))
 act_from image entries op (Await width at value ok) admitted none plain is h =
     let P : Op → Type 0 = λ o. IsPlain o → act_of image (facts image entries) image.system.root.id o ≡ Some (Await width at value ok) in
     subst P (same_Some (AwaitOp width at value) op is)
-    (λ own. await_from image entries width at value (got_after image entries at width) ok admitted (got-of image entries ToRead at width admitted.admitted none (some_width width own.0)) h)
+    (λ own. await_from image entries width at value (got_after image entries at width) ok admitted none (got-of image entries ToRead at width admitted.admitted none (some_width width own.0)) h)
     plain
 act_from image entries op _ admitted none plain is h = absurd h
 

@@ -4,8 +4,6 @@ use Rattle.std.specs.Prelude.{Contains, slice_get, nat_lt, nat_le}
 use Rattle.std.proofs.lemmas.Bool.{both_ways, and_parts, and_from, eqb-true, false≢true, true≢false, lt-ltb, ltb-true, le-leb, cases_Bool, false_from_ne_true}
 use Rattle.std.proofs.lemmas.Option.{none-some, same_Some, slice_get-get_or}
 use Rattle.jh_num.proofs.Booleans.{same_number}
-use Rattle.std.specs.List.{list_any}
-use Rattle.jh_num.proofs.Lists.{IsFound-from_list_any}
 use Rattle.jh_num.proofs.MemoryLemmas.{listed}
 use Rattle.jh_cellcfg.specs.declared.config.CellConfig.{CellConfig}
 use Rattle.jh_cellcfg.specs.declared.live.Live.{Live}
@@ -17,16 +15,14 @@ use Rattle.jh_history.specs.declared.place.Place.{Place}
 use Rattle.jh_history.specs.declared.place.Place.TheVariants.{Physical, Page}
 use Rattle.jh_history.specs.declared.access.Access.{Access}
 use Rattle.jh_history.specs.declared.access.Access.TheVariants.{Write as ToWrite}
-use Rattle.jh_history.specs.declared.access.Reach.{Reach}
-use Rattle.jh_history.specs.declared.access.Reach.TheVariants.{Memory, Nothing}
 use Rattle.jh_history.specs.declared.comm.PageWrite.{PageWrite}
 use Rattle.jh_history.specs.declared.entry.Entry.{Entry}
 use Rattle.jh_history.specs.declared.entry.Act.{Act}
 use Rattle.jh_history.specs.declared.entry.Act.TheVariants.{Read, Write, Fetch, Await, Irq, Hvc, Begin, Stop, Decide, Settle, Commit, Note, Noted, Finish}
-use Rattle.jh_history.specs.Access.{write_of}
+use Rattle.jh_history.specs.Access.{place_in_cell, write_of}
 use Rattle.jh_history.specs.Facts.{Facts}
-use Rattle.jh_history.specs.Grants.{granted, reach}
-use Rattle.jh_history.specs.Places.{is_same}
+use Rattle.jh_history.specs.Grants.{reach}
+use Rattle.jh_history.specs.Places.{further, written}
 use Rattle.jh_history.specs.Lives.{cell_in}
 use Rattle.jh_history.specs.Pages.{page_after, with_page_write, page_write_by}
 use Rattle.jh_history.specs.Bytes.{byte_written, byte_after}
@@ -38,11 +34,14 @@ use Rattle.jh_history.proofs.PlaceLemmas.{written-over}
 use Rattle.jh_history.proofs.LegalLemmas.{IsLegal-begin}
 use Rattle.jh_history.specs.Sound.{AreSoundCells}
 use Rattle.jh_laws.specs.Grants.{IsGranted}
-use Rattle.jh_laws.specs.Held.{IsLive, IsGrantedTo, AreGrantedTo, EndsAsGranted}
+use Rattle.jh_laws.specs.Held.{IsLive, IsGrantedTo}
 use Rattle.jh_laws.specs.Written.{IsByteBy, Puts, IsByteOfPage, WritesByte, NoneWrites}
-use Rattle.jh_laws.proofs.ListedLemmas.{over-at, same-place}
-use Rattle.jh_laws.proofs.HeldLemmas.{live-cell, number-of, reach-listed, to-granted, granted-to, ends-at}
-use Rattle.jh_laws.proofs.PlacesHeldLemmas.{is_memory, byte-behind, reached-at, written-other}
+use Rattle.jh_laws.proofs.ListedLemmas.{over-at, over-other}
+use Rattle.jh_laws.specs.Ends.{AreItsPlaces, GivesPlaces}
+use Rattle.jh_laws.proofs.HeldLemmas.{live-cell, number-of}
+use Rattle.jh_laws.proofs.StoredLemmas.{write-stored, placed}
+use Rattle.jh_history.proofs.GrantLemmas.{place_in_cell-further}
+use Rattle.jh_laws.proofs.PlacesHeldLemmas.{is_memory, byte-behind}
 use Rattle.jh_history.proofs.SoundLemmas.{legal-sound}
 
 -- ---- no two addresses of a cell have one place
@@ -123,54 +122,55 @@ single-address image cells id access a b q sound g h =
 
 -- ---- a write that succeeds
 
-abbrev picked_place : Option Place → Place
-picked_place None = Physical 0
-picked_place (Some place) = place
+further_index : (p : Place) (j k : ℕ) → further p j ≡ further p k → j ≡ k
+further_index (Physical p) j k e = let same : p + j ≡ p + k = ap offset_in e in omega arith
+further_index (Page cell offset) j k e = let same : offset + j ≡ offset + k = ap offset_in e in omega arith
 
-abbrev place_for : Image → Facts → ℕ → ℕ → ℕ → Place
-place_for image f id at k = picked_place (granted image f id ToWrite (at + k))
+-- no two bytes of an access have one place
+one_index : (image : Image) (f : Facts) (id at width : ℕ) (place : ℕ → Place) (j k : ℕ) → AreSoundCells image.system (configs_of f.cells) → AreItsPlaces image f.cells id ToWrite at width place → j < width → k < width → place j ≡ place k → j ≡ k
+one_index image f id at width place j k sound are lt_j lt_k same =
+    ⊎_elim
+    (λ (each : (i : ℕ) → i < width → IsGrantedTo image f.cells id ToWrite (at + i) (place i)).
+    let Q : Place → Type 0 = IsGrantedTo image f.cells id ToWrite (at + j) in
+    let e : at + j ≡ at + k = single-address image f.cells id ToWrite (at + j) (at + k) (place k) sound (subst Q same (each j lt_j)) (each k lt_k) in
+    omega arith)
+    (λ (by : GivesPlaces image f.cells id ToWrite at width place).
+    let first = place_in_cell by.answers.has.cell.id by.region at in
+    let low = by.answers.has.first in
+    further_index first j k
+    (sym (place_in_cell-further by.answers.has.cell.id by.region at j low) ∙ sym (by.given j lt_j) ∙ same ∙ by.given k lt_k ∙ place_in_cell-further by.answers.has.cell.id by.region at k low))
+    are
 
-each_granted : (image : Image) (f : Facts) (id at width : ℕ) → AreSoundCells image.system (configs_of f.cells) → AreGrantedTo image f.cells id ToWrite at width → (k : ℕ) → k < width → IsGrantedTo image f.cells id ToWrite (at + k) (place_for image f id at k)
-each_granted image f id at width sound each k lt =
-    let P : Place → Type 0 = IsGrantedTo image f.cells id ToWrite (at + k) in
-    subst P (ap picked_place (sym (granted-to image f id ToWrite (at + k) (each k lt).0 sound (each k lt).1))) (each k lt).1
-
-pub write-puts : (image : Image) (f : Facts) (id at width value : ℕ) (place : Place) (byte : ℕ) → AreSoundCells image.system (configs_of f.cells) → AreGrantedTo image f.cells id ToWrite at width → IsByteBy image f id at width value place byte
+pub write-puts : (image : Image) (f : Facts) (id at width value : ℕ) (place : Place) (byte : ℕ) → AreSoundCells image.system (configs_of f.cells) → IsByteBy image f.cells id at width value place byte
     → write_of f.byte (reach image f id ToWrite at width) value place ≡ byte
-write-puts image f id at width value place byte sound each h =
-    let pl : ℕ → Place = place_for image f id at in
-    let all = each_granted image f id at width sound each in
+write-puts image f id at width value place byte sound h =
     let k : ℕ = h.index in
     let below : k < width = h.within in
     let some : 0 < width = omega arith in
-    let here : place ≡ pl k = ap picked_place (sym (granted-to image f id ToWrite (at + k) place sound h.granted)) in
-    let P : Place → Type 0 = λ q. IsGrantedTo image f.cells id ToWrite (at + k) q in
-    let only : (j : ℕ) → j < width → place ≡ pl j → j ≡ k =
-    λ j lt is. (let Q : Place → Type 0 = IsGrantedTo image f.cells id ToWrite (at + j) in let e : at + j ≡ at + k = single-address image f.cells id ToWrite (at + j) (at + k) place sound (subst Q (sym is) (all j lt)) h.granted in omega arith) in
-    ap (λ (r : Reach). write_of f.byte r value place) (reach-listed image f id ToWrite at width pl sound some all)
-    ∙ written-over f.byte (listed pl width) value place
-    ∙ over-at pl width value place (f.byte place) k below here only
+    ap (λ (b : Place → ℕ). b place) (write-stored image f id at width h.places value sound some h.are)
+    ∙ written-over f.byte (listed h.places width) value place
+    ∙ over-at h.places width value place (f.byte place) k below h.there (λ j lt is. one_index image f id at width h.places j k sound h.are lt below (sym is ∙ h.there))
     ∙ sym h.is
 
 -- ---- the entry
 
-put_by : (image : Image) (f : Facts) (entry : Entry) (act : Act) (place : Place) (byte : ℕ) → AreSoundCells image.system (configs_of f.cells) → EndsAsGranted image f entry.cell act → Puts image f entry.cell act place byte
+put_by : (image : Image) (f : Facts) (entry : Entry) (act : Act) (place : Place) (byte : ℕ) → AreSoundCells image.system (configs_of f.cells) → Puts image f.cells entry.cell act place byte
     → with_page_write (page_write_by image f entry act) (byte_written image f entry.cell act) place ≡ byte
-put_by image f entry (Write width at value true) place byte sound ends puts = write-puts image f entry.cell at width value place byte sound (ends.0 refl) puts.1
-put_by image f entry (Write width at value false) place byte sound ends puts = absurd (false≢true puts.0)
-put_by image f entry (Read width at got) place byte sound ends puts = absurd puts
-put_by image f entry (Fetch at got) place byte sound ends puts = absurd puts
-put_by image f entry (Await width at value ok) place byte sound ends puts = absurd puts
-put_by image f entry (Irq device vector) place byte sound ends puts = absurd puts
-put_by image f entry (Hvc code a b answer) place byte sound ends puts = absurd puts
-put_by image f entry (Begin code a b) place byte sound ends puts = absurd puts
-put_by image f entry Stop place byte sound ends puts = absurd puts
-put_by image f entry (Decide refused) place byte sound ends puts = absurd puts
-put_by image f entry (Settle how) place byte sound ends puts = absurd puts
-put_by image f entry Commit place byte sound ends puts = absurd puts
-put_by image f entry (Note id) place byte sound ends puts = absurd puts
-put_by image f entry (Noted id how) place byte sound ends puts = absurd puts
-put_by image f entry (Finish answer) place byte sound ends puts = absurd puts
+put_by image f entry (Write width at value true) place byte sound puts = write-puts image f entry.cell at width value place byte sound puts.1
+put_by image f entry (Write width at value false) place byte sound puts = absurd (false≢true puts.0)
+put_by image f entry (Read width at got) place byte sound puts = absurd puts
+put_by image f entry (Fetch at got) place byte sound puts = absurd puts
+put_by image f entry (Await width at value ok) place byte sound puts = absurd puts
+put_by image f entry (Irq device vector) place byte sound puts = absurd puts
+put_by image f entry (Hvc code a b answer) place byte sound puts = absurd puts
+put_by image f entry (Begin code a b) place byte sound puts = absurd puts
+put_by image f entry Stop place byte sound puts = absurd puts
+put_by image f entry (Decide refused) place byte sound puts = absurd puts
+put_by image f entry (Settle how) place byte sound puts = absurd puts
+put_by image f entry Commit place byte sound puts = absurd puts
+put_by image f entry (Note id) place byte sound puts = absurd puts
+put_by image f entry (Noted id how) place byte sound puts = absurd puts
+put_by image f entry (Finish answer) place byte sound puts = absurd puts
 
 -- an entry that changes a page writes nothing itself
 quiet_act : (image : Image) (f : Facts) (entry : Entry) (act : Act) (write : PageWrite) → page_write_by image f entry act ≡ Some write → byte_written image f entry.cell act ≡ f.byte
@@ -210,29 +210,27 @@ entry-writes image before rest entry place byte admitted legal h =
     let sound = legal-sound image before admitted (IsLegal-begin image before (entry ∷ rest) legal) in
     byte-behind image before entry place
     ∙ ⊎_elim
-    (λ (puts : Puts image f entry.cell entry.act place byte). put_by image f entry entry.act place byte sound.cells (ends-at image before rest entry admitted legal) puts)
+    (λ (puts : Puts image f.cells entry.cell entry.act place byte). put_by image f entry entry.act place byte sound.cells puts)
     (λ paged. paged_by image f entry place byte paged.0 paged.1 paged.2)
     h
 
 -- ---- a place that it doesn't write
 
--- what a granted address of a write that succeeded gets
-kept_write : (image : Image) (f : Facts) (id at width value : ℕ) (place : Place) (r : Reach) → AreSoundCells image.system (configs_of f.cells) → reach image f id ToWrite at width ≡ r
-    → ((byte : ℕ) → IsByteBy image f id at width value place byte → ⊥) → write_of f.byte r value place ≡ f.byte place
-kept_write image f id at width value place Nothing sound is none = refl
-kept_write image f id at width value place (Memory ps) sound is none =
+-- where no byte of the value is put there
+pub write-kept : (image : Image) (f : Facts) (id at width value : ℕ) (place : Place) → AreSoundCells image.system (configs_of f.cells) → ((byte : ℕ) → IsByteBy image f.cells id at width value place byte → ⊥)
+    → write_of f.byte (reach image f id ToWrite at width) value place ≡ f.byte place
+write-kept image f id at width value place sound none =
     ⊎_elim
-    (λ (some : list_any (is_same place) ps ≡ true).
-    let found = IsFound-from_list_any (is_same place) ps some in
-    let P : Place → Type 0 = λ p. Contains ps p in
-    let held : Contains ps place = subst P (sym (same-place place found.0 found.1.passes)) found.1.held in
-    let k = reached-at image f id ToWrite at width ps place is held in
-    absurd (none (value / 256 ^ k.0 % 256) (record { index = k.0; within = k.1; granted = to-granted image f id ToWrite (at + k.0) place sound k.2; is = refl })))
-    (λ (other : list_any (is_same place) ps ≡ false). written-other f.byte ps value place other)
-    (cases_Bool (list_any (is_same place) ps))
+    (λ (at_places : (pl : ℕ → Place) × AreItsPlaces image f.cells id ToWrite at width pl × ((v : ℕ) → write_of f.byte (reach image f id ToWrite at width) v ≡ written f.byte (listed pl width) v)).
+    ap (λ (b : Place → ℕ). b place) (at_places.2 value)
+    ∙ written-over f.byte (listed at_places.0 width) value place
+    ∙ over-other at_places.0 width value place (f.byte place)
+    (λ k lt is. none (value / 256 ^ k % 256) (record { index = k; within = lt; places = at_places.0; are = at_places.1; there = is; is = refl })))
+    (λ (nowhere : (v : ℕ) → write_of f.byte (reach image f id ToWrite at width) v ≡ f.byte). ap (λ (b : Place → ℕ). b place) (nowhere value))
+    (placed image f id at width sound)
 
-kept_act : (image : Image) (f : Facts) (id : ℕ) (act : Act) (place : Place) → AreSoundCells image.system (configs_of f.cells) → ((byte : ℕ) → Puts image f id act place byte → ⊥) → byte_written image f id act place ≡ f.byte place
-kept_act image f id (Write width at value true) place sound none = kept_write image f id at width value place (reach image f id ToWrite at width) sound refl (λ byte h. none byte (refl, h))
+kept_act : (image : Image) (f : Facts) (id : ℕ) (act : Act) (place : Place) → AreSoundCells image.system (configs_of f.cells) → ((byte : ℕ) → Puts image f.cells id act place byte → ⊥) → byte_written image f id act place ≡ f.byte place
+kept_act image f id (Write width at value true) place sound none = write-kept image f id at width value place sound (λ byte h. none byte (refl, h))
 kept_act image f id (Write width at value false) place sound none = refl
 kept_act image f id (Read width at got) place sound none = refl
 kept_act image f id (Fetch at got) place sound none = refl

@@ -1,4 +1,4 @@
--- What a live cell is granted, and how its accesses end.
+-- What a live cell is granted, and what it holds for itself.
 use Rattle.std.specs.Prelude.{◌≡◌, ◌<◌, ◌+◌, ◌⊎◌, ◌↔◌, ℕ, Bool, true, List, Contains, Option, Some, slice_get, IsSome, IsTrue}
 use Rattle.jh_num.specs.Memory.{little_endian}
 use Rattle.jh_cellcfg.specs.declared.config.CellConfig.{CellConfig}
@@ -39,29 +39,6 @@ pub record IsGrantedTo (image : Image) (cells : List Live) (id : ℕ) (access : 
 -- each of so many bytes from the address on is granted some place
 abbrev pub AreGrantedTo : Image → List Live → ℕ → Access → ℕ → ℕ → Type 0
 AreGrantedTo image cells id access at width = (k : ℕ) → k < width → (place : Place) × IsGrantedTo image cells id access (at + k) place
-
--- the value is the number of the bytes at the places that the cell is granted from the address on, the lowest first
-abbrev pub IsReadBy : Image → Facts → ℕ → Access → ℕ → ℕ → ℕ → Type 0
-IsReadBy image f id access at width value =
-    (place : ℕ → Place) → ((k : ℕ) → k < width → IsGrantedTo image f.cells id access (at + k) (place k)) → value ≡ little_endian width (λ k. f.byte (place k))
-
--- what a reading access got: a value exactly where each byte is granted, and then that of these bytes
-pub record IsGotBy (image : Image) (f : Facts) (id : ℕ) (access : Access) (at width : ℕ) (got : Option ℕ) : Type 0 where
-  pub granted : IsSome got ↔ AreGrantedTo image f.cells id access at width
-  pub reads : (value : ℕ) → got ≡ Some value → IsReadBy image f id access at width value
-
--- an await is made at the value that it waits for, and succeeds exactly where each byte is granted
-pub record IsAwaitedBy (image : Image) (f : Facts) (id at width value : ℕ) (ok : Bool) : Type 0 where
-  pub granted : IsTrue ok ↔ AreGrantedTo image f.cells id ToRead at width
-  pub reads : IsTrue ok → IsReadBy image f id ToRead at width value
-
--- an access of the cell has the outcome that it has where these facts hold
-abbrev pub EndsAsGranted : Image → Facts → ℕ → Act → Type 0
-EndsAsGranted image f id (Read width at got) = IsGotBy image f id ToRead at width got
-EndsAsGranted image f id (Fetch at got) = IsGotBy image f id ToFetch at 4 got
-EndsAsGranted image f id (Write width at value ok) = IsTrue ok ↔ AreGrantedTo image f.cells id ToWrite at width
-EndsAsGranted image f id (Await width at value ok) = IsAwaitedBy image f id at width value ok
-EndsAsGranted image f id _ = Unit {0}
 
 -- ---- what a cell holds for itself
 

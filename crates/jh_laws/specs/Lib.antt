@@ -8,6 +8,7 @@ pub mod Runs
 pub mod Moments
 pub mod Ways
 pub mod Held
+pub mod Ends
 pub mod Hypercalls
 pub mod Decisions
 pub mod Written

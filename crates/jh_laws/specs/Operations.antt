@@ -11,10 +11,11 @@ use Rattle.jh_history.specs.declared.access.Access.TheVariants.{Read as ToRead}
 use Rattle.jh_history.specs.declared.entry.Entry.{Entry}
 use Rattle.jh_history.specs.declared.entry.Act.{Act}
 use Rattle.jh_history.specs.declared.entry.Act.TheVariants.{Read, Write, Fetch, Await, Irq, Hvc, Begin}
+use Rattle.jh_history.specs.History.{facts}
 use Rattle.jh_history.specs.Lives.{program_of}
 use Rattle.jh_laws.specs.Journals.{cpu_at}
-use Rattle.jh_laws.specs.Grants.{AreGranted}
-use Rattle.jh_laws.specs.Outcomes.{IsRead, HasItsOutcome}
+use Rattle.jh_laws.specs.Ends.{IsAnswered, IsReadBy}
+use Rattle.jh_laws.specs.Outcomes.{HasItsOutcome}
 
 -- the operation that the act is, without its outcome; the later phases of a management call are none
 abbrev pub op_of : Act → Option Op
@@ -39,14 +40,13 @@ operations_by cpu entries = filter_map (op_by cpu) entries
 abbrev pub program_in : Image → CellConfig → ℕ → List Op
 program_in image cell cpu = program_of image (name_of cell) cpu
 
--- the cell's operation is due after the entries: a read, write or fetch always is, and an await where
--- its bytes, if they are granted, have the value that it waits for. An interrupt or a hypercall never is
--- yet
+-- the cell's operation is due after the entries: a read, write or fetch always is, and an await where it reads the value
+-- that it waits for, if anything answers it. An interrupt or a hypercall never is yet
 abbrev pub IsDueOp : Image → List Entry → CellConfig → Op → Type 0
 IsDueOp image entries cell (ReadOp width at) = Unit {0}
 IsDueOp image entries cell (WriteOp width at value) = Unit {0}
 IsDueOp image entries cell (FetchOp at) = Unit {0}
-IsDueOp image entries cell (AwaitOp width at value) = AreGranted cell ToRead at width → IsRead image entries cell ToRead at width value
+IsDueOp image entries cell (AwaitOp width at value) = IsAnswered image (facts image entries).cells cell.id ToRead at width → IsReadBy image (facts image entries) cell.id ToRead at width value
 IsDueOp image entries cell IrqOp = ⊥
 IsDueOp image entries cell (HvcOp code a b) = ⊥
 

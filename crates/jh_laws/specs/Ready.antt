@@ -16,12 +16,12 @@ use Rattle.jh_history.specs.Calls.{is_named}
 use Rattle.jh_history.specs.Phases.{state_word, reply_word, is_down, configs_of}
 use Rattle.jh_history.specs.Due.{due_at}
 use Rattle.jh_history.specs.Sound.{IsCalm}
-use Rattle.jh_laws.specs.Held.{AreGrantedTo, IsReadBy}
+use Rattle.jh_laws.specs.Ends.{IsAnswered, IsReadBy}
 
 -- the cell's operation is due: an await where the access is a violation or reads the value that it waits for, an
 -- interrupt never yet, any other always
 abbrev pub IsDueIn : Image → Facts → ℕ → Op → Type 0
-IsDueIn image f id (AwaitOp width at value) = AreGrantedTo image f.cells id ToRead at width → IsReadBy image f id ToRead at width value
+IsDueIn image f id (AwaitOp width at value) = IsAnswered image f.cells id ToRead at width → IsReadBy image f id ToRead at width value
 IsDueIn image f id IrqOp = ⊥
 IsDueIn image f id _ = Unit {0}
 

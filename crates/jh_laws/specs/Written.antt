@@ -1,5 +1,6 @@
 -- Which bytes an entry writes, whichever cell makes it.
 use Rattle.std.specs.Prelude.{◌≡◌, ◌<◌, ◌+◌, ◌/◌, ◌%◌, ◌^◌, ◌⊎◌, ℕ, List, [], ◌∷◌, ◌++◌, Some, IsTrue}
+use Rattle.jh_cellcfg.specs.declared.live.Live.{Live}
 use Rattle.jh_script.specs.declared.image.Image.{Image}
 use Rattle.jh_history.specs.declared.place.Place.{Place}
 use Rattle.jh_history.specs.declared.place.Place.TheVariants.{Page}
@@ -11,20 +12,22 @@ use Rattle.jh_history.specs.declared.entry.Act.TheVariants.{Write}
 use Rattle.jh_history.specs.Facts.{Facts}
 use Rattle.jh_history.specs.History.{facts}
 use Rattle.jh_history.specs.Pages.{page_after, page_write_by}
-use Rattle.jh_laws.specs.Held.{IsGrantedTo}
+use Rattle.jh_laws.specs.Ends.{AreItsPlaces}
 
--- the byte is that of the value which the cell's write puts at the place: byte k, of 256 ^ k, at the place that the
--- cell is granted at the k-th address
-pub record IsByteBy (image : Image) (f : Facts) (id at width value : ℕ) (place : Place) (byte : ℕ) : Type 0 where
+-- the byte is that of the value which the write of the cell puts at the place: byte k, of 256 ^ k, at the place of the
+-- k-th byte of the access
+pub record IsByteBy (image : Image) (cells : List Live) (id at width value : ℕ) (place : Place) (byte : ℕ) : Type 0 where
   pub index : ℕ
   pub within : index < width
-  pub granted : IsGrantedTo image f.cells id ToWrite (at + index) place
+  pub places : ℕ → Place
+  pub are : AreItsPlaces image cells id ToWrite at width places
+  pub there : place ≡ places index
   pub is : byte ≡ value / 256 ^ index % 256
 
 -- the cell's act puts the byte at the place: it is a write that succeeded
-abbrev pub Puts : Image → Facts → ℕ → Act → Place → ℕ → Type 0
-Puts image f id (Write width at value ok) place byte = IsTrue ok × IsByteBy image f id at width value place byte
-Puts image f id _ place byte = ⊥
+abbrev pub Puts : Image → List Live → ℕ → Act → Place → ℕ → Type 0
+Puts image cells id (Write width at value ok) place byte = IsTrue ok × IsByteBy image cells id at width value place byte
+Puts image cells id _ place byte = ⊥
 
 -- the hypervisor's change of a page puts the byte at the place, which is one of the page
 pub record IsByteOfPage (f : Facts) (write : PageWrite) (place : Place) (byte : ℕ) : Type 0 where
@@ -36,7 +39,7 @@ pub record IsByteOfPage (f : Facts) (write : PageWrite) (place : Place) (byte : 
 -- the entry writes the byte at the place: by its own act, or by the change of a page that goes with it
 abbrev pub WritesByte : Image → Facts → Entry → Place → ℕ → Type 0
 WritesByte image f entry place byte =
-    Puts image f entry.cell entry.act place byte
+    Puts image f.cells entry.cell entry.act place byte
     ⊎ ((write : PageWrite) × (page_write_by image f entry entry.act ≡ Some write) × IsByteOfPage f write place byte)
 
 -- no entry of the rest writes the place, each taken where those before it have led

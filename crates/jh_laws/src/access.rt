@@ -9,9 +9,10 @@ ghost use Rattle.jh_laws.specs.Journals.{Moment, cell_of};
 ghost use Rattle.jh_laws.specs.Grants.{IsGranted};
 ghost use Rattle.jh_laws.specs.Outcomes.{HasItsOutcome};
 
-/// Each entry is an access. It succeeds exactly where each of its bytes is granted, and a value that it
-/// reads is the number of the bytes at the places granted, the lowest first. A violation is what any
-/// other access is.
+/// Each entry is an access. It succeeds exactly where each of its bytes is granted, or a subpage region of
+/// root answers it, or configuration space, and a value that it reads is the number of the bytes at its
+/// places, the lowest first, or in configuration space the number whose bits are all set. A violation is
+/// what any other access is.
 pub fn accesses_go_by_grants()
     ensures { (m : Moment) → HasItsOutcome m.image m.before (cell_of m) m.entry.act }
 {}

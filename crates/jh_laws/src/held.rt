@@ -12,7 +12,8 @@ ghost use Rattle.jh_history.specs.Pages.{page_write_by};
 ghost use Rattle.jh_history.specs.Grants.{granted};
 ghost use Rattle.jh_laws.specs.Moments.{AdmittedJournal, AdmittedMoment, facts_of, facts_before, facts_behind, cells_of};
 ghost use Rattle.jh_laws.specs.Grants.{IsGranted};
-ghost use Rattle.jh_laws.specs.Held.{IsGrantedTo, EndsAsGranted, IsHeld, IsOwnOrLinked};
+ghost use Rattle.jh_laws.specs.Ends.{EndsAsGranted};
+ghost use Rattle.jh_laws.specs.Held.{IsGrantedTo, IsHeld, IsOwnOrLinked};
 
 /// The place that a live cell is granted at an address.
 pub fn cells_are_granted_their_places()
@@ -34,8 +35,10 @@ pub fn root_is_granted_the_rest()
         (IsGrantedTo j.image (facts_of j).cells cell.id access at place ↔ IsGranted cell access at place) }
 {}
 
-/// An access succeeds exactly where its cell is granted each of its bytes, and a value that it reads is the number
-/// of the bytes at the places granted, the lowest first.
+/// An access succeeds exactly where its cell is granted each of its bytes, or a subpage region of the cell answers it,
+/// or configuration space, each by its own conditions and in this order. A value that it reads is the number of the
+/// bytes at the places granted, or at those of the region, the lowest first; in configuration space it is the number
+/// whose bits are all set.
 pub fn accesses_end_as_granted()
     ensures { (m : AdmittedMoment) → EndsAsGranted m.image (facts_before m) m.entry.cell m.entry.act }
 {}

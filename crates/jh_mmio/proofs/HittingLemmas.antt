@@ -1,18 +1,19 @@
 -- What answers, by the region or the window that is found.
 use Rattle.std.proofs.Common.{◌≡◌, ℕ, ◌<◌, Bool, true, false, ◌&&◌, not, cond, ltb, List, Option, Some, None, length, get_or, refl, sym, ◌∙◌, ap, subst, arith, IsTrue}
-use Rattle.std.specs.Prelude.{position, slice_get}
+use Rattle.std.specs.Prelude.{find, position, slice_get}
 use Rattle.std.specs.List.{position_or_len}
 use Rattle.std.specs.Option.{option_map_or}
-use Rattle.std.proofs.lemmas.Bool.{lt-ltb, le-ltb, and_parts, false_from_ne_true, both_ways}
+use Rattle.std.proofs.lemmas.Bool.{lt-ltb, le-ltb, and_parts, and_from, not-true, false_from_ne_true, both_ways}
 use Rattle.std.proofs.lemmas.Option.{none-some, same_Some, slice_get-get_or}
 use Rattle.std.proofs.lemmas.List.Sums.{position_or_len_is}
+use Rattle.jh_num.proofs.Lists.{IsFound-from_find, find-None}
 use Rattle.jh_num.specs.declared.range.Range.{Range}
 use Rattle.jh_cellcfg.specs.declared.region.Region.{Region}
 use Rattle.jh_cellcfg.specs.Regions.{has_address, has_size, is_page_mapped, virt_end}
 use Rattle.jh_mmio.specs.declared.hitting.Window.{Window}
 use Rattle.jh_mmio.specs.declared.hitting.Hitting.TheVariants.{Subpage, Nothing}
-use Rattle.jh_mmio.specs.Index.{IsNumberAt}
-use Rattle.jh_mmio.specs.Dispatch.{number_told, lies_between, is_at_closed, takes_all, has_right, lets_through, by_subpage, by_ecam, by_window, window_has, behind_regions, hitting}
+use Rattle.jh_mmio.specs.Index.{IsNumberAt, IsRegionAt}
+use Rattle.jh_mmio.specs.Dispatch.{number_told, lies_between, is_at_closed, takes_all, has_whole, unless_closed, has_right, lets_through, by_subpage, by_ecam, by_window, window_has, behind_regions, hitting}
 use Rattle.jh_mmio.proofs.AccessLemmas.{lies_parts}
 use Rattle.jh_mmio.proofs.IndexLemmas.{has_address-from}
 
@@ -61,6 +62,59 @@ pub subpage_none : (regions : List Region) (closed : ℕ → Bool) (at n : ℕ) 
 subpage_none regions closed at n d some is =
     position_nowhere (takes_all closed at n) regions d
     (λ j lt. false_from_ne_true (takes_all closed at n (get_or regions j d)) (λ h. none-some j (number_taken regions closed at n None some is j d lt h)))
+
+-- the one region that can have the address decides whether a subpage region has the access
+whole_parts : (closed : ℕ → Bool) (at n : ℕ) (r : Region) → takes_all closed at n r ≡ true → (has_whole at n r ≡ true) × (is_at_closed closed at n r ≡ false)
+whole_parts closed at n r h =
+    let whole = and_parts (has_size r && not (is_page_mapped r)) (lies_between r.virt_start (virt_end r) at n && not (is_at_closed closed at n r)) h in
+    let lies = and_parts (lies_between r.virt_start (virt_end r) at n) (not (is_at_closed closed at n r)) whole.1 in
+    (and_from (has_size r && not (is_page_mapped r)) (lies_between r.virt_start (virt_end r) at n) whole.0 lies.0, not-true (is_at_closed closed at n r) lies.1)
+
+whole_from : (closed : ℕ → Bool) (at n : ℕ) (r : Region) → has_whole at n r ≡ true → is_at_closed closed at n r ≡ false → takes_all closed at n r ≡ true
+whole_from closed at n r h open_is =
+    let whole = and_parts (has_size r && not (is_page_mapped r)) (lies_between r.virt_start (virt_end r) at n) h in
+    and_from (has_size r && not (is_page_mapped r)) (lies_between r.virt_start (virt_end r) at n && not (is_at_closed closed at n r)) whole.0
+    (and_from (lies_between r.virt_start (virt_end r) at n) (not (is_at_closed closed at n r)) whole.1 (ap not open_is))
+
+pub whole-has : (at n : ℕ) (r : Region) → 0 < n → has_whole at n r ≡ true → IsTrue (has_address r at)
+whole-has at n r some h =
+    let whole = and_parts (has_size r && not (is_page_mapped r)) (lies_between r.virt_start (virt_end r) at n) h in
+    let parts = lies_parts r.virt_start (virt_end r) at n some whole.1 in
+    has_address-from r at parts.0 (omega arith)
+
+found_is : (regions : List Region) (closed : ℕ → Bool) (at n : ℕ) (o : Option Region) (s : Region) → 0 < n → IsRegionAt regions at o → find (takes_all closed at n) regions ≡ Some s → o ≡ Some s
+found_is regions closed at n o s some is e =
+    let found = IsFound-from_find (takes_all closed at n) regions s e in
+    is.only s found.held (takes_all-has closed at n s some found.passes)
+
+found_by : (regions : List Region) (closed : ℕ → Bool) (at n : ℕ) (r : Region) (f : Option Region) (b : Bool) → 0 < n → IsRegionAt regions at (Some r) → has_whole at n r ≡ true → find (takes_all closed at n) regions ≡ f → is_at_closed closed at n r ≡ b → f ≡ cond b None (Some r)
+found_by regions closed at n r None true some is whole e closed_is = refl
+found_by regions closed at n r None false some is whole e closed_is = absurd (both_ways (takes_all closed at n r) (find-None (takes_all closed at n) regions r e is.own) (whole_from closed at n r whole closed_is))
+found_by regions closed at n r (Some s) b some is whole e closed_is =
+    let same : r ≡ s = same_Some r s (found_is regions closed at n (Some r) s some is e) in
+    let open_is : is_at_closed closed at n r ≡ false = ap (is_at_closed closed at n) same ∙ (whole_parts closed at n s (IsFound-from_find (takes_all closed at n) regions s e).passes).1 in
+    ap Some (sym same) ∙ sym (ap (λ c. cond c None (Some r)) (sym closed_is ∙ open_is))
+
+pub whole_found : (regions : List Region) (at n : ℕ) (r : Region) → 0 < n → IsRegionAt regions at (Some r) → has_whole at n r ≡ true
+    → (closed : ℕ → Bool) → find (takes_all closed at n) regions ≡ unless_closed closed at n (Some r)
+whole_found regions at n r some is whole closed = found_by regions closed at n r (find (takes_all closed at n) regions) (is_at_closed closed at n r) some is whole refl refl
+
+other_by : (regions : List Region) (closed : ℕ → Bool) (at n : ℕ) (r : Region) (f : Option Region) → 0 < n → IsRegionAt regions at (Some r) → has_whole at n r ≡ false → find (takes_all closed at n) regions ≡ f → f ≡ None
+other_by regions closed at n r None some is lacks e = refl
+other_by regions closed at n r (Some s) some is lacks e =
+    let same : r ≡ s = same_Some r s (found_is regions closed at n (Some r) s some is e) in
+    absurd (both_ways (has_whole at n r) lacks (ap (has_whole at n) same ∙ (whole_parts closed at n s (IsFound-from_find (takes_all closed at n) regions s e).passes).0))
+
+pub whole_other : (regions : List Region) (at n : ℕ) (r : Region) → 0 < n → IsRegionAt regions at (Some r) → has_whole at n r ≡ false
+    → (closed : ℕ → Bool) → find (takes_all closed at n) regions ≡ None
+whole_other regions at n r some is lacks closed = other_by regions closed at n r (find (takes_all closed at n) regions) some is lacks refl
+
+none_by : (regions : List Region) (closed : ℕ → Bool) (at n : ℕ) (f : Option Region) → 0 < n → IsRegionAt regions at None → find (takes_all closed at n) regions ≡ f → f ≡ None
+none_by regions closed at n None some is e = refl
+none_by regions closed at n (Some s) some is e = absurd (none-some s (found_is regions closed at n None s some is e))
+
+pub whole_none : (regions : List Region) (at n : ℕ) → 0 < n → IsRegionAt regions at None → (closed : ℕ → Bool) → find (takes_all closed at n) regions ≡ None
+whole_none regions at n some is closed = none_by regions closed at n (find (takes_all closed at n) regions) some is refl
 
 -- behind the regions, by the window that is found
 pub behind_window : (ecam : Range) (windows : List Window) (at n : ℕ) (first : Option ℕ) → lies_between ecam.start ecam.end at n ≡ false → first ≡ position (window_has at n) windows → option_map_or (by_window at n) first Nothing ≡ behind_regions ecam windows at n

@@ -1,4 +1,4 @@
 mod IndexLemmas
-mod AccessLemmas
+pub mod AccessLemmas
 mod HittingLemmas
 mod LawLemmas

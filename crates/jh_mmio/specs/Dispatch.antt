@@ -12,7 +12,7 @@
 -- A case that holds and whose tests fail ends the search: nothing answers. Closed places are those that
 -- other cells hold; only root has some. An answer names the region or the window by its number, in 32
 -- bits; those that have no number of 32 bits share the last one.
-use Rattle.std.specs.Prelude.{◌≡◌, ℕ, ◌+◌, ◌-◌, ◌%◌, Bool, true, false, ◌&&◌, ◌||◌, not, ◌==◌, nat_lt, nat_le, min, if◌then◌else◌, List, Some, position, slice_get}
+use Rattle.std.specs.Prelude.{◌≡◌, ℕ, ◌+◌, ◌-◌, ◌%◌, Bool, true, false, ◌&&◌, ◌||◌, not, ◌==◌, nat_lt, nat_le, min, if◌then◌else◌, List, Option, Some, None, position, slice_get}
 use Rattle.std.specs.List.{list_all, list_any, range_with_len}
 use Rattle.std.specs.Option.{option_map_or}
 use Rattle.jh_num.specs.declared.range.Range.{Range}
@@ -39,6 +39,15 @@ abbrev pub takes_all : (ℕ → Bool) → ℕ → ℕ → Region → Bool
 takes_all closed at width r =
     (has_size r && not (is_page_mapped r)) && (lies_between r.virt_start (virt_end r) at width && not (is_at_closed closed at width r))
 
+-- the region is a subpage region that has all bytes of the access
+abbrev pub has_whole : ℕ → ℕ → Region → Bool
+has_whole at width r = (has_size r && not (is_page_mapped r)) && lies_between r.virt_start (virt_end r) at width
+
+-- the region, where no byte of the access is at a closed place of it
+abbrev pub unless_closed : (ℕ → Bool) → ℕ → ℕ → Option Region → Option Region
+unless_closed closed at width None = None
+unless_closed closed at width (Some r) = if is_at_closed closed at width r then None else Some r
+
 -- the region has the right to read, or to write
 abbrev pub has_right : Bool → Region → Bool
 has_right false r = has_flags 0x1 r
@@ -62,9 +71,12 @@ abbrev pub by_subpage : List Region → ℕ → ℕ → Bool → ℕ → Hitting
 by_subpage regions at width write k =
     if option_map_or (lets_through at width write) (slice_get regions k) false then Subpage (number_told k) else Nothing
 
--- the answer of configuration space
+-- the answer of configuration space, whose window begins at the start
+abbrev pub by_ecam_at : ℕ → ℕ → ℕ → Hitting
+by_ecam_at start at width = if (width == 1 || width == 2 || width == 4) && ((at - start) % width == 0) then Ecam else Nothing
+
 abbrev pub by_ecam : Range → ℕ → ℕ → Hitting
-by_ecam ecam at width = if (width == 1 || width == 2 || width == 4) && ((at - ecam.start) % width == 0) then Ecam else Nothing
+by_ecam ecam at width = by_ecam_at ecam.start at width
 
 -- the answer of the window with the number
 abbrev pub by_window : ℕ → ℕ → ℕ → Hitting
@@ -73,12 +85,15 @@ by_window at width k = if width == 4 && (at % 4 == 0) then Bar (number_told k) e
 abbrev pub window_has : ℕ → ℕ → Window → Bool
 window_has at width w = lies_between w.start (w.start + w.size) at width
 
--- what answers where no subpage region has the access
-abbrev pub behind_regions : Range → List Window → ℕ → ℕ → Hitting
-behind_regions ecam windows at width =
-    if lies_between ecam.start ecam.end at width
-    then by_ecam ecam at width
+-- what answers where no subpage region has the access; the ECAM window begins at the start, and ends before the end
+abbrev pub behind_between : ℕ → ℕ → List Window → ℕ → ℕ → Hitting
+behind_between start end windows at width =
+    if lies_between start end at width
+    then by_ecam_at start at width
     else option_map_or (by_window at width) (position (window_has at width) windows) Nothing
+
+abbrev pub behind_regions : Range → List Window → ℕ → ℕ → Hitting
+behind_regions ecam windows at width = behind_between ecam.start ecam.end windows at width
 
 -- what answers the access; `write` tells a write from a read
 unfoldable pub hitting : List Region → (ℕ → Bool) → Range → List Window → ℕ → ℕ → Bool → Hitting

@@ -1,10 +1,10 @@
 //! The cases in which a device answers.
-ghost use Rattle.std.specs.Prelude.{◌≡◌, ℕ, ◌+◌, ◌-◌, ◌<◌, ◌≤◌, ◌^◌, true, position, All, IfSome, length};
+ghost use Rattle.std.specs.Prelude.{◌≡◌, ℕ, ◌+◌, ◌-◌, ◌<◌, ◌≤◌, ◌^◌, true, position, All, IfSome, IsTrue, length};
 ghost use Rattle.std.specs.Option.{option_map_or};
 ghost use Rattle.jh_num.specs.Bytes.{has_byte};
 ghost use Rattle.jh_cellcfg.specs.declared.region.Region.{Region as TheRegion};
-ghost use Rattle.jh_cellcfg.specs.Regions.{virt_end, IsInRange};
-ghost use Rattle.jh_mmio.specs.Dispatch.{lies_between, is_at_closed, takes_all as takes_all_lem, lets_through as lets_through_lem, number_told as number_told_lem, by_subpage, by_ecam as by_ecam_lem, by_window as by_window_lem, window_has, behind_regions, hitting};
+ghost use Rattle.jh_cellcfg.specs.Regions.{virt_end, has_address, IsInRange};
+ghost use Rattle.jh_mmio.specs.Dispatch.{lies_between, is_at_closed, takes_all as takes_all_lem, has_whole as has_whole_lem, lets_through as lets_through_lem, number_told as number_told_lem, by_subpage, by_ecam as by_ecam_lem, by_window as by_window_lem, window_has, behind_regions, hitting};
 
 use crate::hitting::{Hitting, Window};
 use jh_cellcfg::Region;
@@ -39,6 +39,17 @@ fn meets_closed(region: &Region, closed: &ByteSet, at: u64, width: u8) -> bool
     closed.meets(Range { start, end })
 }
 
+/// Whether it is a subpage region that has all bytes of the access.
+pub fn has_whole(region: &Region, at: u64, width: u8) -> bool
+    requires { 0 < width }
+    ensures whole { result ≡ has_whole_lem at width region.now }
+    ensures first { IsTrue result → IsTrue (has_address region.now at) }
+{
+    region.size > 0
+        && !region.is_page_mapped()
+        && lies_in(region.virt_start, region.size, at, width)
+}
+
 /// Whether the access is the region's: it is a subpage region and has all its bytes, none at a closed place.
 pub(crate) fn takes_all(region: &Region, closed: &ByteSet, at: u64, width: u8) -> bool
     requires some { 0 < width }
@@ -52,7 +63,7 @@ pub(crate) fn takes_all(region: &Region, closed: &ByteSet, at: u64, width: u8) -
 }
 
 /// Whether the region lets an access that is its own through.
-fn lets_through(region: &Region, at: u64, width: u8, write: bool) -> bool
+pub fn lets_through(region: &Region, at: u64, width: u8, write: bool) -> bool
     requires { 0 < width }
     ensures { result ≡ lets_through_lem at width write region.now }
 {
@@ -116,7 +127,7 @@ fn by_window(number: usize, at: u64, width: u8) -> Hitting
 }
 
 /// What answers where no subpage region has the access.
-fn behind(ecam: Range, windows: &[Window], at: u64, width: u8) -> Hitting
+pub fn behind(ecam: Range, windows: &[Window], at: u64, width: u8) -> Hitting
     requires some { 0 < width }
     ensures { result ≡ behind_regions ecam windows.now at width }
 {

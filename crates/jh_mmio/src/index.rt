@@ -1,12 +1,12 @@
 //! An index of regions, by which the one that may have an address is found by halving.
-ghost use Rattle.std.specs.Prelude.{◌≡◌, ℕ, ◌<◌, ◌≤◌, All, AllPairs, IfOk, position};
+ghost use Rattle.std.specs.Prelude.{◌≡◌, ℕ, ◌<◌, ◌≤◌, Bool, All, AllPairs, Contains, IfOk, IfSome, IsTrue, find, position};
 ghost use Rattle.jh_num.specs.Bytes.{has_byte};
 ghost use Rattle.jh_cellcfg.specs.declared.region.Region.{Region as TheRegion};
-ghost use Rattle.jh_cellcfg.specs.Regions.{IsInRange};
-ghost use Rattle.jh_mmio.specs.Dispatch.{takes_all as takes_all_lem, hitting};
+ghost use Rattle.jh_cellcfg.specs.Regions.{has_address, IsInRange};
+ghost use Rattle.jh_mmio.specs.Dispatch.{takes_all as takes_all_lem, unless_closed, hitting};
 ghost use Rattle.jh_mmio.specs.Index.{SharesNoAddress, IsRegionAt, IsNumberAt, AreNumbers, IsOrder, size_at, start_at};
 
-use crate::cases::{by_first, takes_all};
+use crate::cases::{by_first, has_whole, takes_all};
 use crate::hitting::{Hitting, Window};
 use jh_cellcfg::Region;
 use jh_num::{ByteSet, NoMemory, Range};
@@ -104,6 +104,25 @@ impl RegionIndex {
         let regions = self.regions.as_slice();
         let number = number_at(regions, self.order.as_slice(), at)?;
         regions.get(number).copied()
+    }
+
+    /// The subpage region that has the whole access: no other region has it, whichever places are closed.
+    pub fn subpage(&self, at: u64, width: u8) -> Option<Region>
+        requires { 0 < width }
+        ensures found { (closed : ℕ → Bool) → find (takes_all_lem closed at width) self.now ≡ unless_closed closed at width result }
+        ensures own { IfSome result (Contains self.now) }
+        ensures first { IfSome result (λ r. IsTrue (has_address r at)) }
+    {
+        match self.at(at) {
+            Some(region) => {
+                if has_whole(&region, at, width) {
+                    Some(region)
+                } else {
+                    None
+                }
+            }
+            None => None,
+        }
     }
 
     /// The number of the first subpage region that has the access, which is the only one.

@@ -1,13 +1,10 @@
 -- Which entries a text may hold: those whose numbers are within their ranges.
-use Rattle.std.specs.Prelude.{ℕ, ◌^◌, ◌<◌, Bool, ◌||◌, ◌==◌, IsTrue, IfSome, FitsSigned}
+use Rattle.std.specs.Prelude.{ℕ, ◌^◌, ◌<◌, IsTrue, IfSome, FitsSigned}
 use Rattle.std.specs.Int.{w64}
+pub use Rattle.jh_script.specs.Operations.{is_width}
 use Rattle.jh_history.specs.declared.entry.Entry.{Entry}
 use Rattle.jh_history.specs.declared.entry.Act.{Act}
 use Rattle.jh_history.specs.declared.entry.Act.TheVariants.{Read, Write, Fetch, Await, Irq, Hvc, Begin, Stop, Decide, Settle, Commit, Note, Noted, Finish}
-
--- how many bytes an access may have
-abbrev pub is_width : ℕ → Bool
-is_width width = (width == 1) || (width == 2) || (width == 4) || (width == 8)
 
 -- addresses, codes and arguments are below 2 ^ 64, ids and devices below 2 ^ 32, a value has as many bytes as its
 -- access, an instruction four, and an answer is one of 64 bits with a sign

@@ -8,8 +8,9 @@ ghost use Rattle.jh_text.specs.Ranges.{is_width, IsReadableAct, IsReadable};
 ghost use Rattle.jh_text.specs.Reading.{read_of, attempt_of, write_of, await_of, fetch_of, irq_of, call_of, decide_of, settle_of, note_of, noted_of, finish_of, named_of, act_of, entry_of};
 
 use crate::outcomes::{read_decision, read_got, read_heard, read_ok, read_settled};
-use crate::words::{answer, decimal, hexadecimal, is, max_of_width, split_once, width};
+use crate::words::{answer, decimal, hexadecimal, is, split_once, width};
 use jh_history::{Act, Entry};
+use jh_script::max_of_width;
 
 #[tactic(auto, unfolding(crate::specs::Reading::entry_of))]
 pub(crate) fn entry(line: &[u8]) -> Option<Entry>

@@ -106,16 +106,3 @@ pub(crate) fn width(word: &[u8]) -> Option<u8>
         None
     }
 }
-
-/// The largest value of so many bytes.
-pub(crate) fn max_of_width(width: u8) -> u64
-    requires { IsTrue (is_width width) }
-    ensures { result ≡ 256 ^ width - 1 }
-{
-    match width {
-        1 => 0xff,
-        2 => 0xffff,
-        4 => 0xffff_ffff,
-        _ => u64::MAX,
-    }
-}

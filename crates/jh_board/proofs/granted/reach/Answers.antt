@@ -1,14 +1,17 @@
--- What the regions give, where no place of it is kept.
-use Rattle.jh_board.proofs.GrantedLemmas.{reach-shut, reach-free, reach-nothing}
+-- Memory, or what answers behind it.
+use Rattle.std.proofs.Common.{ap, sym, ◌∙◌}
+use Rattle.jh_history.specs.declared.access.Reach.{Reach}
+use Rattle.jh_history.specs.Access.{memory_or_nothing, or_behind}
+use Rattle.jh_history.specs.Grants.{behind_in}
 use Rattle.jh_board.proofs.granted.reach.Goals as goal
 
-pub returns-then-keeps : goal.returns-then-keeps
-returns-then-keeps c =
-    reach-shut c.args.image.now c.args.cells.now.lives c.args.cell c.args.wanted.now.access c.args.wanted.now.at c.args.wanted.now.width c.reach.result c.in-Memory.places c.keeps.result c.reach.ensures c.in-Memory.is c.keeps.ensures c.if-keeps.true
+pub returns-in-Some : goal.returns-in-Some
+returns-in-Some c =
+    let wanted = c.args.wanted.now in
+    ap (λ (r : Reach). or_behind r (behind_in c.args.image.now c.args.cells.now.lives c.args.cell wanted.access wanted.at wanted.width)) (sym (ap memory_or_nothing c.in-Some.is) ∙ c.memory.ensures)
 
-pub returns-else-keeps : goal.returns-else-keeps
-returns-else-keeps c =
-    reach-free c.args.image.now c.args.cells.now.lives c.args.cell c.args.wanted.now.access c.args.wanted.now.at c.args.wanted.now.width c.reach.result c.in-Memory.places c.keeps.result c.reach.ensures c.in-Memory.is c.keeps.ensures c.if-keeps.false
-
-pub returns-in-Nothing : goal.returns-in-Nothing
-returns-in-Nothing c = reach-nothing c.args.image.now c.args.cells.now.lives c.args.cell c.args.wanted.now.access c.args.wanted.now.at c.args.wanted.now.width c.reach.result c.reach.ensures c.in-Nothing.is
+pub returns-in-None : goal.returns-in-None
+returns-in-None c =
+    let wanted = c.args.wanted.now in
+    c.behind.ensures
+    ∙ ap (λ (r : Reach). or_behind r (behind_in c.args.image.now c.args.cells.now.lives c.args.cell wanted.access wanted.at wanted.width)) (sym (ap memory_or_nothing c.in-None.is) ∙ c.memory.ensures)

@@ -8,18 +8,18 @@ use Rattle.jh_board.proofs.steps.prepare.Goals as goal
 pub returns-in_err-make_ready-in-Some-clause-means : goal.returns-in_err-make_ready-in-Some-clause-means
 returns-in_err-make_ready-in-Some-clause-means c = λ f means.
     let image = c.args.image.now in
-    let known = c.requires.facts in
+    let known = c.requires.next.facts in
     let P : Option CellConfig → Type 0 = IsFree known in
-    let free = subst P c.in-Some.is (c.in_ok-config.ensures.free known c.requires.means c.requires.due) in
-    c.make_ready.ensures.means image f (free-same image c.args.held.now known f c.in-Some.config c.requires.means means free) means
+    let free = subst P c.in-Some.is (c.in_ok-config.ensures.free known c.requires.next.means c.requires.next.due) in
+    c.make_ready.ensures.means image f (free-same image c.args.held.now known f c.in-Some.config c.requires.next.means means free) means
 
 pub returns-in_ok-make_ready-in-Some-clause-means : goal.returns-in_ok-make_ready-in-Some-clause-means
 returns-in_ok-make_ready-in-Some-clause-means c = λ f means.
     let image = c.args.image.now in
-    let known = c.requires.facts in
+    let known = c.requires.next.facts in
     let P : Option CellConfig → Type 0 = IsFree known in
-    let free = subst P c.in-Some.is (c.in_ok-config.ensures.free known c.requires.means c.requires.due) in
-    c.make_ready.ensures.means image f (free-same image c.args.held.now known f c.in-Some.config c.requires.means means free) means
+    let free = subst P c.in-Some.is (c.in_ok-config.ensures.free known c.requires.next.means c.requires.next.due) in
+    c.make_ready.ensures.means image f (free-same image c.args.held.now known f c.in-Some.config c.requires.next.means means free) means
 
 pub returns-in_ok-make_ready-in-Some-clause-ok : goal.returns-in_ok-make_ready-in-Some-clause-ok
 returns-in_ok-make_ready-in-Some-clause-ok c = λ f means due.

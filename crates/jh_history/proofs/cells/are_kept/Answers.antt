@@ -1,5 +1,5 @@
 -- The places of both runs.
-use Rattle.std.proofs.Common.{◌≡◌, ◌||◌, Bool, List, ap, sym, refl, ◌∙◌}
+use Rattle.std.proofs.Common.{Bool, List, ap, sym, refl, ◌∙◌}
 use Rattle.std.specs.List.{list_any}
 use Rattle.std.proofs.lemmas.List.Folds.{list_any-append}
 use Rattle.jh_history.specs.declared.place.Place.{Place}

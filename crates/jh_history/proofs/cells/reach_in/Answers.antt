@@ -1,24 +1,17 @@
--- What the regions give, unless a place is kept.
-use Rattle.std.proofs.Common.{ap, sym, refl, ◌∙◌}
-use Rattle.jh_history.specs.Grants.{is_kept}
-use Rattle.jh_history.specs.Lives.{regions_in}
-use Rattle.jh_history.proofs.GrantedLemmas.{unless_kept, reach_granted}
+-- Memory, or what answers behind it.
+use Rattle.std.proofs.Common.{ap, sym, ◌∙◌}
+use Rattle.jh_history.specs.declared.access.Reach.{Reach}
+use Rattle.jh_history.specs.Access.{memory_or_nothing, or_behind}
+use Rattle.jh_history.specs.Grants.{behind_in}
 use Rattle.jh_history.proofs.cells.reach_in.Goals as goal
 
-pub returns-in-Nothing : goal.returns-in-Nothing
-returns-in-Nothing c =
-    let kept = is_kept c.args.image.now c.args.cells.now c.args.cell in
+pub returns-in-Some : goal.returns-in-Some
+returns-in-Some c =
     let wanted = c.args.wanted.now in
-    sym (reach_granted c.args.cell (regions_in c.args.image.now c.args.cells.now c.args.cell) kept wanted.access wanted.at wanted.width ∙ ap (unless_kept kept) (sym c.reach.ensures ∙ c.in-Nothing.is))
+    ap (λ (r : Reach). or_behind r (behind_in c.args.image.now c.args.cells.now c.args.cell wanted.access wanted.at wanted.width)) (sym (ap memory_or_nothing c.in-Some.is) ∙ c.memory_in.ensures)
 
-pub returns-then-are_kept : goal.returns-then-are_kept
-returns-then-are_kept c =
-    let kept = is_kept c.args.image.now c.args.cells.now c.args.cell in
+pub returns-in-None : goal.returns-in-None
+returns-in-None c =
     let wanted = c.args.wanted.now in
-    sym (reach_granted c.args.cell (regions_in c.args.image.now c.args.cells.now c.args.cell) kept wanted.access wanted.at wanted.width ∙ ap (unless_kept kept) (sym c.reach.ensures ∙ c.in-Memory.is) ∙ rw (← c.are_kept.ensures, c.if-are_kept.true) refl)
-
-pub returns-else-are_kept : goal.returns-else-are_kept
-returns-else-are_kept c =
-    let kept = is_kept c.args.image.now c.args.cells.now c.args.cell in
-    let wanted = c.args.wanted.now in
-    sym (reach_granted c.args.cell (regions_in c.args.image.now c.args.cells.now c.args.cell) kept wanted.access wanted.at wanted.width ∙ ap (unless_kept kept) (sym c.reach.ensures ∙ c.in-Memory.is) ∙ rw (← c.are_kept.ensures, c.if-are_kept.false) refl)
+    c.behind_in.ensures
+    ∙ ap (λ (r : Reach). or_behind r (behind_in c.args.image.now c.args.cells.now c.args.cell wanted.access wanted.at wanted.width)) (sym (ap memory_or_nothing c.in-None.is) ∙ c.memory_in.ensures)

@@ -1,5 +1,5 @@
 -- Which of the CPUs so far may be given away.
-use Rattle.std.proofs.Common.{◌≡◌, ℕ, ◌<◌, ◌≤◌, false, Some, length, get_or}
+use Rattle.std.proofs.Common.{◌≡◌, ℕ, ◌<◌, false, Some, length, get_or}
 use Rattle.std.specs.Prelude.{slice_get}
 use Rattle.jh_history.specs.Facts.{Facts}
 use Rattle.jh_history.specs.Phases.{may_give}

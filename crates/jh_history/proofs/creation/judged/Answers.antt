@@ -1,19 +1,19 @@
 -- A configuration that was read.
-use Rattle.std.proofs.Common.{◌≡◌, ℕ, Bool, List, false, get_or, ap, sym, ◌∙◌}
+use Rattle.std.proofs.Common.{ℕ, Bool, List, false, get_or, ap, sym, ◌∙◌}
 use Rattle.jh_cellcfg.specs.declared.config.CellConfig.{CellConfig}
 use Rattle.jh_history.specs.Phases.{configs_of, may_give, unless_refused}
 use Rattle.jh_history.specs.ReadView.{refusal_by}
 use Rattle.jh_history.proofs.FactsLemmas.{same_function}
 use Rattle.jh_history.proofs.creation.judged.Goals as goal
 
-pub returns-else-cells-eq15-clause-told : goal.returns-else-cells-eq15-clause-told
-returns-else-cells-eq15-clause-told c = λ f e h.
+pub returns-in_ok-refusal-in-Comes-clause-told : goal.returns-in_ok-refusal-in-Comes-clause-told
+returns-in_ok-refusal-in-Comes-clause-told c = λ f e h.
     let image = c.args.image.now in
     let config = c.in-Comes.config in
     let may : ℕ → Bool = λ cpu. get_or c.given-may.result cpu false in
     rw c.in-Comes.is
     (c.unless_refused.ensures
     ∙ ap (unless_refused config)
-    (c.refusal_by-refusal.ensures
+    (c.in_ok-refusal-in-Comes.ensures
     ∙ ap (λ (cells : List CellConfig). refusal_by image cells may config) (sym e)
     ∙ ap (λ (m : ℕ → Bool). refusal_by image (configs_of f.cells) m config) (same_function may (may_give image f c.args.caller) (c.given-may.ensures f h))))

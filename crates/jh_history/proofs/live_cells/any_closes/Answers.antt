@@ -1,7 +1,6 @@
 -- One cell more.
-use Rattle.std.proofs.Common.{◌≡◌, ℕ, ◌<◌, Bool, true, false, List, length, get_or, ap, sym, ◌∙◌, arith}
+use Rattle.std.proofs.Common.{◌≡◌, ◌<◌, Bool, true, false, List, length, get_or, ap, sym, ◌∙◌, arith}
 use Rattle.std.specs.List.{list_any}
-use Rattle.jh_num.proofs.Lists.{read_again}
 use Rattle.jh_cellcfg.specs.declared.live.Live.{Live}
 use Rattle.jh_cellcfg.specs.declared.region.Region.{Region}
 use Rattle.jh_shape.specs.Shapes.{takes}

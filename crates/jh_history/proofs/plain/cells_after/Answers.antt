@@ -1,6 +1,5 @@
 -- A Commit, and other acts.
-use Rattle.std.proofs.Common.{sym, ◌∙◌}
-use Rattle.jh_history.proofs.PlainStepLemmas.{commit-some, commit-none, commit-other}
+use Rattle.jh_history.proofs.PlainStepLemmas.{commit-other}
 use Rattle.jh_history.proofs.plain.cells_after.Goals as goal
 
 pub returns-in_default : goal.returns-in_default

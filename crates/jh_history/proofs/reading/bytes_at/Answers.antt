@@ -1,6 +1,5 @@
 -- One byte more, and one that may not be read.
-use Rattle.std.proofs.Common.{◌≡◌, ℕ, ◌+◌, ◌++◌, List, [], ◌∷◌, Option, Some, None, ap, sym, ◌∙◌, arith}
-use Rattle.jh_history.specs.ReadView.{bytes_by}
+use Rattle.std.proofs.Common.{◌≡◌, ℕ, ◌+◌, Option, Some, None, ap, sym, ◌∙◌, arith}
 use Rattle.jh_history.proofs.ReadLemmas.{bytes_by-more, bytes_by-missing}
 use Rattle.jh_history.proofs.reading.bytes_at.Goals as goal
 

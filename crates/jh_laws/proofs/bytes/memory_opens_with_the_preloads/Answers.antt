@@ -1,5 +1,5 @@
 -- By the list of preloads, which are apart.
-use Rattle.jh_laws.proofs.ByteLemmas.{opening-byte, opening-zero}
+use Rattle.jh_laws.proofs.ByteLemmas.{opening-byte, opening-page, opening-zero}
 use Rattle.jh_laws.proofs.bytes.memory_opens_with_the_preloads.Goals as goal
 
 pub returns-clause-put : goal.returns-clause-put
@@ -7,3 +7,6 @@ returns-clause-put c = λ image preload k admitted built held lt. opening-byte i
 
 pub returns-clause-zero : goal.returns-clause-zero
 returns-clause-zero c = λ image place admitted built none. opening-zero image place none
+
+pub returns-clause-pages : goal.returns-clause-pages
+returns-clause-pages c = opening-page

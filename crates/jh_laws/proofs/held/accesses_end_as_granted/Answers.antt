@@ -1,5 +1,5 @@
 -- By the operation that the CPU is at.
-use Rattle.jh_laws.proofs.HeldLemmas.{ends-at}
+use Rattle.jh_laws.proofs.EndsLemmas.{ends-at}
 use Rattle.jh_laws.proofs.held.accesses_end_as_granted.Goals as goal
 
 pub returns : goal.returns

@@ -1,12 +1,12 @@
 -- One entry more.
-use Rattle.std.proofs.Common.{◌≡◌, ◌<◌, List, Some, None, get_or, sym, ap, subst, ◌∙◌, length, take, arith}
+use Rattle.std.proofs.Common.{◌≡◌, ◌<◌, List, Some, None, get_or, sym, subst, length, take, arith}
 use Rattle.std.proofs.lemmas.List.{take_all}
 use Rattle.jh_script.specs.declared.image.Image.{Image}
 use Rattle.jh_history.specs.declared.entry.Entry.{Entry}
 use Rattle.jh_history.specs.declared.entry.Act.TheVariants.{Read}
 use Rattle.jh_history.specs.Facts.{Facts}
 use Rattle.jh_history.specs.Due.{due_at}
-use Rattle.jh_history.specs.History.{facts, after}
+use Rattle.jh_history.specs.History.{facts}
 use Rattle.jh_history.specs.Sound.{IsSound}
 use Rattle.jh_history.specs.PlainView.{Stands}
 use Rattle.jh_history.proofs.FactsLemmas.{facts-nil, facts-next}

@@ -5,12 +5,11 @@ use Rattle.jh_check.specs.Clean.{IsSoundBitmap, IsSoundCpuSet}
 use Rattle.jh_script.specs.declared.image.Image.{Image}
 use Rattle.jh_history.specs.History.{after}
 use Rattle.jh_history.specs.Sound.{IsSound}
-use Rattle.std.specs.Option.{option_copied}
 use Rattle.jh_cellcfg.specs.declared.config.CellConfig.{CellConfig}
 use Rattle.jh_cellcfg.specs.declared.live.Live.{Live}
 use Rattle.jh_history.specs.declared.call.OpenCall.{OpenCall}
 use Rattle.jh_history.specs.Calls.{call_by}
-use Rattle.jh_history.specs.Commits.{cells_by, created_by}
+use Rattle.jh_history.specs.Commits.{cells_by}
 use Rattle.jh_history.specs.Phases.{configs_of}
 use Rattle.jh_history.specs.PlainView.{PlainView, IsFit}
 use Rattle.jh_history.proofs.PlainStepLemmas.{fit-after}

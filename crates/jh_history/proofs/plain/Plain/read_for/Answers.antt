@@ -1,5 +1,5 @@
 -- What a create reads.
-use Rattle.std.proofs.Common.{◌≡◌, subst, ap, ◌∙◌}
+use Rattle.std.proofs.Common.{subst, ap, ◌∙◌}
 use Rattle.jh_history.specs.Configs.{config_read}
 use Rattle.jh_history.specs.PlainView.{PlainView, IsFit}
 use Rattle.jh_history.proofs.PlainReadLemmas.{read_in, plain-reads}

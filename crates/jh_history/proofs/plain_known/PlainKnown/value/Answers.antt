@@ -1,5 +1,5 @@
 -- What is kept stands for the facts.
-use Rattle.std.proofs.Common.{ℕ, List, map, ap, sym, ◌∙◌}
+use Rattle.std.proofs.Common.{ℕ, map, ap, sym, ◌∙◌}
 use Rattle.jh_num.specs.Memory.{spelled}
 use Rattle.jh_script.specs.declared.image.Image.{Image}
 use Rattle.jh_history.specs.declared.place.Place.{Place}

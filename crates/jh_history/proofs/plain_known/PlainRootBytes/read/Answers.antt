@@ -1,24 +1,24 @@
 -- What an access of one byte reaches.
 use Rattle.std.proofs.Common.{◌≡◌, ℕ, ◌<◌, ◌^◌, Some, length, ap, sym, subst, ◌∙◌, arith}
 use Rattle.jh_history.specs.declared.access.Access.TheVariants.{Read}
-use Rattle.jh_history.specs.Access.{read_of, reach_by}
+use Rattle.jh_history.specs.Access.{memory_or_nothing, read_of, reach_by}
 use Rattle.jh_history.specs.Grants.{granted_in}
 use Rattle.jh_history.specs.PlainView.{PlainView, last_byte}
 use Rattle.jh_history.proofs.ReadLemmas.{one-place}
 use Rattle.jh_history.proofs.plain_known.PlainRootBytes.read.Goals as goal
 
-pub returns-in-Nothing : goal.returns-in-Nothing
-returns-in-Nothing c = rw (← c.self.view_is) (ap (read_of (last_byte c.self.inside.image.now c.self.inside.bytes.items)) (sym c.in-Nothing.is ∙ c.reach_in.ensures))
+pub returns-in-None : goal.returns-in-None
+returns-in-None c = rw (← c.self.view_is) (ap (read_of (last_byte c.self.inside.image.now c.self.inside.bytes.items) 1) (sym (ap memory_or_nothing c.in-None.is) ∙ c.memory_in.ensures))
 
-pub returns-in-Memory : goal.returns-in-Memory
-returns-in-Memory c =
+pub returns-in-Some : goal.returns-in-Some
+returns-in-Some c =
     let p = c.args.self.now in
     ap Some c.value_of.ensures.value
-    ∙ ap (read_of (last_byte p.image p.bytes)) (sym c.in-Memory.is ∙ c.reach_in.ensures ∙ ap (λ (v : PlainView). reach_by (granted_in v.image v.cells v.image.system.root.id Read) c.args.at 1) c.self.view_is)
+    ∙ ap (read_of (last_byte p.image p.bytes) 1) (sym (ap memory_or_nothing c.in-Some.is) ∙ c.memory_in.ensures ∙ ap (λ (v : PlainView). reach_by (granted_in v.image v.cells v.image.system.root.id Read) c.args.at 1) c.self.view_is)
 
 pub overflow_cast-result : goal.overflow_cast-result
 overflow_cast-result c =
     let image = c.self.inside.image.now in
-    let one : length c.in-Memory.places ≡ 1 = one-place (granted_in image c.self.inside.cells image.system.root.id Read) c.args.at c.in-Memory.places (sym c.reach_in.ensures ∙ c.in-Memory.is) in
+    let one : length c.in-Some.places ≡ 1 = one-place (granted_in image c.self.inside.cells image.system.root.id Read) c.args.at c.in-Some.places (sym c.memory_in.ensures ∙ ap memory_or_nothing c.in-Some.is) in
     let fits : c.value_of.result < 256 ^ 1 = subst (λ (n : ℕ). c.value_of.result < 256 ^ n) one c.value_of.ensures.fits in
     omega arith

@@ -1,9 +1,10 @@
 -- A locked cell, and what was read.
 use Rattle.std.proofs.Common.{◌≡◌, ℕ, true, false, ap, sym, refl, subst, ◌∙◌}
-use Rattle.std.specs.Prelude.{slice_get, option_map}
+use Rattle.std.specs.Prelude.{Option, slice_get, option_map, IfSome}
 use Rattle.std.specs.List.{list_any}
 use Rattle.jh_cellcfg.specs.declared.live.Live.{Live}
 use Rattle.jh_script.specs.declared.image.Image.{Image}
+use Rattle.jh_history.specs.declared.call.Creation.{Creation}
 use Rattle.jh_history.specs.declared.place.Place.{Place}
 use Rattle.jh_history.specs.Admitted.{IsAdmitted}
 use Rattle.jh_history.specs.declared.access.Access.TheVariants.{Read}
@@ -18,7 +19,7 @@ use Rattle.jh_board.specs.Means.{Means}
 use Rattle.jh_board.specs.Pages.{byte_of}
 use Rattle.jh_board.specs.StateView.{StateView}
 use Rattle.jh_board.proofs.RootReadLemmas.{read_held, held-reads}
-use Rattle.jh_board.proofs.state.StateKnown.creation.Goals as goal
+use Rattle.jh_board.proofs.state.State.creation.Goals as goal
 
 pub returns-then-is_any_locked : goal.returns-then-is_any_locked
 unfolding creation_of
@@ -46,7 +47,8 @@ returns-in-Some c = λ i f h.
     let Q : Image → Type 0 = λ x. (a : ℕ) → read_held s.image s.held a ≡ option_map f.byte (granted x f x.system.root.id Read a) in
     let means : Means s.image s.held f = subst (λ (x : Image). Means x s.held f) h.0 h.1 in
     let reads = subst Q (sym h.0) (λ a. held-reads s.image s.held f a admitted means) in
+    let P : Option Creation → Type 0 = λ told. IfSome told (λ creation. creation ≡ creation_by c.image.result.now f c.args.caller (as_read c.in_ok-read.read)) in
     rw locked
-    (c.in-Some.ensures.told f cells (λ n lt. ap (λ (s : StateView). slice_get s.held.cpus n) c.self.view_is ∙ h.1.cpus n lt)
+    (subst P c.in-Some.is (c.in_ok-creation.ensures.told f cells (λ n lt. ap (λ (s : StateView). slice_get s.held.cpus n) c.self.view_is ∙ h.1.cpus n lt))
     ∙ ap (λ (x : Image). creation_by x f c.args.caller (as_read c.in_ok-read.read)) (c.image.ensures.image ∙ image)
     ∙ ap (λ (read : ReadCell). creation_by i f c.args.caller read) (c.in_ok-read.ensures ∙ read_by-is i f (read_held s.image s.held) c.args.at reads))

@@ -1,12 +1,12 @@
 -- A locked cell, and what was read.
-use Rattle.std.proofs.Common.{◌≡◌, ℕ, Bool, true, false, List, ap, sym, subst, refl, ◌∙◌}
-use Rattle.std.specs.Prelude.{slice_get}
+use Rattle.std.proofs.Common.{◌≡◌, ℕ, true, false, List, ap, sym, subst, refl, ◌∙◌}
+use Rattle.std.specs.Prelude.{Option, slice_get, IfSome}
 use Rattle.std.specs.List.{list_any}
 use Rattle.jh_cellcfg.specs.declared.live.Live.{Live}
 use Rattle.jh_script.specs.declared.image.Image.{Image}
-use Rattle.jh_cpu.specs.declared.cpu.Cpu.{Cpu}
+use Rattle.jh_history.specs.declared.call.Creation.{Creation}
 use Rattle.jh_history.specs.declared.place.Place.{Place}
-use Rattle.jh_history.specs.Configs.{ReadCell, read_at}
+use Rattle.jh_history.specs.Configs.{ReadCell}
 use Rattle.jh_history.specs.LiveView.{is_locked_by}
 use Rattle.jh_history.specs.Phases.{configs_of, is_locked, creation_of, creation_by}
 use Rattle.jh_history.specs.PlainView.{PlainView, IsFit, last_byte}
@@ -14,7 +14,7 @@ use Rattle.jh_history.specs.ReadView.{as_read}
 use Rattle.jh_history.proofs.FactsLemmas.{same_function}
 use Rattle.jh_history.proofs.PlainReadLemmas.{read_in, plain-reads}
 use Rattle.jh_history.proofs.ReadLemmas.{read_by-is}
-use Rattle.jh_history.proofs.plain_known.PlainKnown.creation.Goals as goal
+use Rattle.jh_history.proofs.plain.Plain.creation.Goals as goal
 
 pub returns-then-is_any_locked : goal.returns-then-is_any_locked
 unfolding creation_of
@@ -38,7 +38,8 @@ returns-in-Some c = λ i f h.
     ap (λ (b : Place → ℕ). list_any (λ (live : Live). is_locked_by b live.config) f.cells) (sym byte) ∙ sym (c.is_any_locked.ensures f.cells cells) ∙ c.if-is_any_locked.false in
     let fit : IsFit p.image p.cells = subst (λ (v : PlainView). IsFit v.image v.cells) c.self.view_is c.self.invariant in
     let image : c.self.inside.image.now ≡ i = ap (λ (v : PlainView). v.image) c.self.view_is ∙ sym h.0.same in
+    let P : Option Creation → Type 0 = λ told. IfSome told (λ creation. creation ≡ creation_by c.self.inside.image.now f c.args.caller (as_read c.in_ok-read.read)) in
     rw locked
-    (c.in-Some.ensures.told f cells_too (λ n lt. ap (λ (v : PlainView). slice_get v.cpus n) c.self.view_is ∙ h.0.cpus n lt)
+    (subst P c.in-Some.is (c.in_ok-creation.ensures.told f cells_too (λ n lt. ap (λ (v : PlainView). slice_get v.cpus n) c.self.view_is ∙ h.0.cpus n lt))
     ∙ ap (λ (x : Image). creation_by x f c.args.caller (as_read c.in_ok-read.read)) image
     ∙ ap (λ (read : ReadCell). creation_by i f c.args.caller read) (c.in_ok-read.ensures ∙ read_by-is i f (read_in p) c.args.at (λ a. plain-reads p i f a fit h.0)))

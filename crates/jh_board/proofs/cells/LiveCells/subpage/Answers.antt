@@ -1,0 +1,26 @@
+-- The index is that of the cell's regions.
+use Rattle.std.proofs.Common.{◌≡◌, ℕ, Bool, Some, get_or, List, ap, sym, subst, ◌∙◌}
+use Rattle.std.specs.Prelude.{find}
+use Rattle.jh_cellcfg.specs.declared.region.Region.{Region}
+use Rattle.jh_mmio.specs.Dispatch.{takes_all, unless_closed}
+use Rattle.jh_board.specs.Closed.{IsIndexOf}
+use Rattle.jh_board.proofs.CellsLemmas.{regions-some, regions-within, all_regions}
+use Rattle.jh_board.proofs.IndexLemmas.{sized-in_range}
+use Rattle.jh_board.proofs.cells.LiveCells.subpage.Goals as goal
+use Rattle.jh_board.proofs.cells.LiveCells.subpage.Goals.{After-subpage}
+
+index : (c : After-subpage) → IsIndexOf c.self.inside.cells.lives c.args.id (Some c.in-Some.index)
+index c = subst (IsIndexOf c.self.inside.cells.lives c.args.id) c.in-Some.is c.index_of.ensures.found
+
+own : (c : After-subpage) → c.index.result.now ≡ get_or (all_regions c.self.inside.cells.lives) c.in-Some.index c.index.result.now
+own c = c.index.ensures ∙ ap (λ (l : List (List Region)). get_or l c.in-Some.index c.index.result.now) c.self.invariant.indexes
+
+pub returns-in-Some-clause-found : goal.returns-in-Some-clause-found
+returns-in-Some-clause-found c =
+    rw (← c.self.view_is)
+    (subst (λ (rs : List Region). (closed : ℕ → Bool) → find (takes_all closed c.args.at c.args.width) rs ≡ unless_closed closed c.args.at c.args.width c.subpage.result)
+    (sym (regions-some c.self.inside.cells.lives c.args.id c.in-Some.index c.index.result.now (index c) (own c))) c.subpage.ensures.found)
+
+pub returns-in-Some-clause-within : goal.returns-in-Some-clause-within
+returns-in-Some-clause-within c =
+    sized-in_range c.args.at c.subpage.result (regions-within c.self.inside.cells.lives c.args.id c.in-Some.index c.index.result.now c.subpage.result (index c) (own c) c.self.invariant.within c.subpage.ensures.own) c.subpage.ensures.first

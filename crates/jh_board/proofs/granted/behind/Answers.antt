@@ -1,0 +1,43 @@
+-- What answers within the addresses, and what does past them.
+use Rattle.std.proofs.Common.{◌≡◌, ℕ, ◌+◌, ◌<◌, Option, ap, sym, ◌∙◌, inl, inr, arith}
+use Rattle.std.proofs.lemmas.Bool.{cases_lt, false≢true}
+use Rattle.jh_num.specs.declared.address.TheConstants.{ADDRESS_END}
+use Rattle.jh_cellcfg.specs.declared.region.Region.{Region}
+use Rattle.jh_script.specs.declared.image.Image.{Image}
+use Rattle.jh_history.specs.Behind.{answer_to, ecam_start, ecam_end}
+use Rattle.jh_history.specs.Grants.{is_kept}
+use Rattle.jh_history.specs.Lives.{regions_in}
+use Rattle.jh_history.proofs.BehindLemmas.{answer-within, answer-beyond, answer-no_bytes}
+use Rattle.jh_board.proofs.granted.behind.Goals as goal
+
+pub returns-then-is_within : goal.returns-then-is_within
+returns-then-is_within c =
+    let image = c.args.image.now in
+    let cells = c.args.cells.now.lives in
+    let cell = c.args.cell in
+    let wanted = c.args.wanted.now in
+    let within = c.is_within.ensures.0 c.if-is_within.true in
+    let region = c.open_whole-region.result in
+    let end = c.ecam_of.result.end in
+    c.answer_of.ensures
+    ∙ ap (λ (s : ℕ). answer_to cell region s end wanted.access wanted.at wanted.width) c.ecam_of.ensures.start
+    ∙ ap (λ (e : ℕ). answer_to cell region (ecam_start c.image.result.now.system) e wanted.access wanted.at wanted.width) c.ecam_of.ensures.end
+    ∙ ap (λ (i : Image). answer_to cell region (ecam_start i.system) (ecam_end i.system) wanted.access wanted.at wanted.width) c.image.ensures.image
+    ∙ ap (λ (o : Option Region). answer_to cell o (ecam_start image.system) (ecam_end image.system) wanted.access wanted.at wanted.width) c.open_whole-region.ensures.found
+    ∙ sym (answer-within cell (regions_in image cells cell) (is_kept image cells cell) image.system wanted.access wanted.at wanted.width within.1)
+
+pub returns-else-is_within : goal.returns-else-is_within
+returns-else-is_within c =
+    let image = c.args.image.now in
+    let cells = c.args.cells.now.lives in
+    let cell = c.args.cell in
+    let wanted = c.args.wanted.now in
+    let regions = regions_in image cells cell in
+    let kept = is_kept image cells cell in
+    sym (elim (cases_lt ADDRESS_END (wanted.at + wanted.width)) [
+      | inl beyond ↦ answer-beyond cell regions kept image.system wanted.access wanted.at wanted.width beyond
+      | inr within ↦ elim (cases_lt 0 wanted.width) [
+        | inl some ↦ absurd (false≢true (sym c.if-is_within.false ∙ c.is_within.ensures.1 (some, within)))
+        | inr none ↦ answer-no_bytes cell regions kept image.system wanted.access wanted.at wanted.width (omega arith)
+      ]
+    ])

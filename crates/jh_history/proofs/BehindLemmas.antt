@@ -1,0 +1,118 @@
+-- What answers an access where no memory does.
+use Rattle.std.proofs.Common.{◌≡◌, ℕ, zero, suc, ◌+◌, ◌-◌, ◌<◌, ◌≤◌, Bool, true, false, ◌&&◌, ◌||◌, not, cond, leb, List, [], Option, Some, None, refl, ap, sym, ◌∙◌, subst, arith}
+use Rattle.std.specs.Prelude.{find}
+use Rattle.std.specs.List.{list_any, range_with_len}
+use Rattle.std.proofs.lemmas.Bool.{and_parts, not-true, ltb-true, lt-leb, le-leb}
+use Rattle.jh_num.specs.declared.address.TheConstants.{ADDRESS_END}
+use Rattle.jh_cellcfg.specs.declared.config.SystemConfig.{SystemConfig}
+use Rattle.jh_cellcfg.specs.declared.live.Live.{Live}
+use Rattle.jh_cellcfg.specs.declared.region.Region.{Region}
+use Rattle.jh_cellcfg.specs.Regions.{has_size, is_page_mapped, is_comm, place_in, virt_end}
+use Rattle.jh_mmio.specs.Dispatch.{lies_between, is_at_closed, takes_all, has_whole, has_right, unless_closed}
+use Rattle.jh_script.specs.declared.image.Image.{Image}
+use Rattle.jh_history.specs.declared.place.Place.{Place}
+use Rattle.jh_history.specs.declared.place.Place.TheVariants.{Physical, Page}
+use Rattle.jh_history.specs.declared.access.Access.{Access}
+use Rattle.jh_history.specs.declared.access.Access.TheVariants.{Read, Write, Fetch}
+use Rattle.jh_history.specs.declared.access.Reach.{Reach}
+use Rattle.jh_history.specs.declared.access.Reach.TheVariants.{Subpage, Nothing}
+use Rattle.jh_history.specs.Places.{places_in_row}
+use Rattle.jh_history.specs.Access.{place_in_cell}
+use Rattle.jh_history.specs.Behind.{ecam_start, ecam_end, answer_by, answer_to, answer}
+use Rattle.jh_history.specs.Grants.{is_kept}
+
+-- ---- a region that has an access
+
+pub takes_all-size : (closed : ℕ → Bool) (at n : ℕ) (r : Region) → takes_all closed at n r ≡ true → 0 < r.size
+takes_all-size closed at n r h =
+    let whole = and_parts (has_size r && not (is_page_mapped r)) (lies_between r.virt_start (virt_end r) at n && not (is_at_closed closed at n r)) h in
+    ltb-true 0 r.size (and_parts (has_size r) (not (is_page_mapped r)) whole.0).0
+
+pub takes_all-subpage : (closed : ℕ → Bool) (at n : ℕ) (r : Region) → takes_all closed at n r ≡ true → is_page_mapped r ≡ false
+takes_all-subpage closed at n r h =
+    let whole = and_parts (has_size r && not (is_page_mapped r)) (lies_between r.virt_start (virt_end r) at n && not (is_at_closed closed at n r)) h in
+    not-true (is_page_mapped r) (and_parts (has_size r) (not (is_page_mapped r)) whole.0).1
+
+-- where it has all of it, it takes it unless a byte is at a closed place
+pub whole_takes : (closed : ℕ → Bool) (at n : ℕ) (r : Region) → has_whole at n r ≡ true → takes_all closed at n r ≡ not (is_at_closed closed at n r)
+whole_takes closed at n r h =
+    let parts = and_parts (has_size r && not (is_page_mapped r)) (lies_between r.virt_start (virt_end r) at n) h in
+    ap (λ (b : Bool). b && (lies_between r.virt_start (virt_end r) at n && not (is_at_closed closed at n r))) parts.0
+    ∙ ap (λ (b : Bool). b && not (is_at_closed closed at n r)) parts.1
+
+-- ---- its places, and what is kept of them
+
+row_kept : (kept : Place → Bool) (p n : ℕ) → list_any kept (places_in_row (Physical p) n) ≡ list_any (λ q. kept (Physical q)) (range_with_len p n)
+row_kept kept p zero = refl
+row_kept kept p (suc n) = ap (λ (b : Bool). kept (Physical p) || b) (row_kept kept (p + 1) n)
+
+any_same : (f g : ℕ → Bool) (a b n : ℕ) → ((k : ℕ) → f (a + k) ≡ g (b + k)) → list_any f (range_with_len a n) ≡ list_any g (range_with_len b n)
+any_same f g a b zero h = refl
+any_same f g a b (suc n) h =
+    let first : a ≡ a + 0 = omega arith in
+    let second : b + 0 ≡ b = omega arith in
+    ap (λ (c : Bool). c || list_any f (range_with_len (a + 1) n)) (ap f first ∙ h 0 ∙ ap g second)
+    ∙ ap (λ (c : Bool). g b || c) (any_same f g (a + 1) (b + 1) n (λ k.
+    let left : (a + 1) + k ≡ a + (k + 1) = omega arith in
+    let right : b + (k + 1) ≡ (b + 1) + k = omega arith in
+    ap f left ∙ h (k + 1) ∙ ap g right))
+
+row_open : (kept : Place → Bool) (id offset n : ℕ) → ((k : ℕ) → kept (Page id k) ≡ false) → list_any kept (places_in_row (Page id offset) n) ≡ false
+row_open kept id offset zero h = refl
+row_open kept id offset (suc n) h = ap (λ (b : Bool). b || list_any kept (places_in_row (Page id (offset + 1)) n)) (h offset) ∙ row_open kept id (offset + 1) n h
+
+kept_by : (kept : Place → Bool) (id at n : ℕ) (r : Region) (comm : Bool) → r.virt_start ≤ at → ((k : ℕ) → kept (Page id k) ≡ false)
+    → list_any kept (places_in_row (cond comm (Page id (at - r.virt_start)) (Physical (place_in r at))) n) ≡ not comm && list_any (λ a. kept (Physical (place_in r a))) (range_with_len at n)
+kept_by kept id at n r true low pages = row_open kept id (at - r.virt_start) n pages
+kept_by kept id at n r false low pages =
+    row_kept kept (place_in r at) n
+    ∙ any_same (λ q. kept (Physical q)) (λ a. kept (Physical (place_in r a))) (place_in r at) at n (λ k.
+    let e : place_in r at + k ≡ place_in r (at + k) = omega arith in
+    ap (λ q. kept (Physical q)) e)
+
+-- a cell is kept from one of the places of an access where one of its bytes is at a place that it is kept from
+pub kept-row : (image : Image) (cells : List Live) (id at n : ℕ) (r : Region) → r.virt_start ≤ at
+    → list_any (is_kept image cells id) (places_in_row (place_in_cell id r at) n) ≡ is_at_closed (λ p. is_kept image cells id (Physical p)) at n r
+kept-row image cells id at n r low = kept_by (is_kept image cells id) id at n r (is_comm r) low (λ k. refl)
+
+-- so the region that has all of the access is that which takes it, unless the cell is kept from one
+pub unless-kept : (image : Image) (cells : List Live) (id at n : ℕ) (r : Region) (b : Bool) → r.virt_start ≤ at → b ≡ list_any (is_kept image cells id) (places_in_row (place_in_cell id r at) n)
+    → unless_closed (λ p. is_kept image cells id (Physical p)) at n (Some r) ≡ cond b None (Some r)
+unless-kept image cells id at n r b low is = ap (λ (c : Bool). cond c None (Some r)) (sym (kept-row image cells id at n r low) ∙ sym is)
+
+-- ---- what answers
+
+pub answer-within : (id : ℕ) (regions : List Region) (kept : Place → Bool) (system : SystemConfig) (access : Access) (at width : ℕ) → at + width ≤ ADDRESS_END
+    → answer id regions kept system access at width ≡ answer_to id (find (takes_all (λ p. kept (Physical p)) at width) regions) (ecam_start system) (ecam_end system) access at width
+unfolding answer
+answer-within id regions kept system access at width h =
+    ap (λ (b : Bool). cond b (answer_to id (find (takes_all (λ p. kept (Physical p)) at width) regions) (ecam_start system) (ecam_end system) access at width) Nothing) (le-leb (at + width) ADDRESS_END h)
+
+pub answer-beyond : (id : ℕ) (regions : List Region) (kept : Place → Bool) (system : SystemConfig) (access : Access) (at width : ℕ) → ADDRESS_END < at + width → answer id regions kept system access at width ≡ Nothing
+unfolding answer
+answer-beyond id regions kept system access at width h =
+    ap (λ (b : Bool). cond b (answer_to id (find (takes_all (λ p. kept (Physical p)) at width) regions) (ecam_start system) (ecam_end system) access at width) Nothing) (lt-leb (at + width) ADDRESS_END h)
+
+no_bytes_through : (b : Bool) (found : Reach) → cond (b && false) found Nothing ≡ Nothing
+no_bytes_through true found = refl
+no_bytes_through false found = refl
+
+no_bytes_by : (id : ℕ) (o : Option Region) (start end : ℕ) (write : Bool) (at : ℕ) → answer_by id o start end write at 0 ≡ Nothing
+no_bytes_by id None start end write at = refl
+no_bytes_by id (Some r) start end write at = no_bytes_through (has_right write r) (Subpage [])
+
+no_bytes_to : (id : ℕ) (o : Option Region) (start end : ℕ) (access : Access) (at : ℕ) → answer_to id o start end access at 0 ≡ Nothing
+no_bytes_to id o start end Read at = no_bytes_by id o start end false at
+no_bytes_to id o start end Write at = no_bytes_by id o start end true at
+no_bytes_to id o start end Fetch at = refl
+
+no_bytes_within : (id : ℕ) (o : Option Region) (start end : ℕ) (access : Access) (at : ℕ) (b : Bool) → cond b (answer_to id o start end access at 0) Nothing ≡ Nothing
+no_bytes_within id o start end access at true = no_bytes_to id o start end access at
+no_bytes_within id o start end access at false = refl
+
+-- an access of no bytes is answered by nothing
+pub answer-no_bytes : (id : ℕ) (regions : List Region) (kept : Place → Bool) (system : SystemConfig) (access : Access) (at width : ℕ) → width ≡ 0 → answer id regions kept system access at width ≡ Nothing
+unfolding answer
+answer-no_bytes id regions kept system access at width none =
+    let P : ℕ → Type 0 = λ n. cond (leb (at + n) ADDRESS_END) (answer_to id (find (takes_all (λ p. kept (Physical p)) at n) regions) (ecam_start system) (ecam_end system) access at n) Nothing ≡ Nothing in
+    subst P (sym none) (no_bytes_within id (find (takes_all (λ p. kept (Physical p)) at 0) regions) (ecam_start system) (ecam_end system) access at (leb (at + 0) ADDRESS_END))

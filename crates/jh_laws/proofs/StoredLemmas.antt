@@ -1,0 +1,142 @@
+-- What a write of a live cell stores: the bytes of its value at its places, or nothing.
+use Rattle.std.proofs.Common.{◌≡◌, ◌≢◌, ℕ, zero, suc, ◌+◌, ◌-◌, ◌<◌, ◌≤◌, List, [], ◌∷◌, length, get_or, Option, Some, None, refl, sym, ap, subst, ◌∙◌, inl, inr, ⊎_elim, arith}
+use Rattle.std.specs.Prelude.{◌⊎◌, Contains}
+use Rattle.std.proofs.lemmas.Bool.{cases_lt}
+use Rattle.jh_num.specs.declared.address.TheConstants.{ADDRESS_END}
+use Rattle.jh_num.proofs.MemoryLemmas.{listed}
+use Rattle.jh_cellcfg.specs.declared.config.CellConfig.{CellConfig}
+use Rattle.jh_cellcfg.specs.declared.live.Live.{Live}
+use Rattle.jh_cellcfg.specs.declared.region.Region.{Region}
+use Rattle.jh_script.specs.declared.image.Image.{Image}
+use Rattle.jh_history.specs.declared.place.Place.{Place}
+use Rattle.jh_history.specs.declared.access.Access.TheVariants.{Write as ToWrite}
+use Rattle.jh_history.specs.declared.access.Reach.{Reach}
+use Rattle.jh_history.specs.Places.{written}
+use Rattle.jh_history.specs.Access.{place_in_cell, write_of, or_behind}
+use Rattle.jh_history.specs.Facts.{Facts}
+use Rattle.jh_history.specs.Grants.{is_kept, granted, behind_in, reach}
+use Rattle.jh_history.specs.Lives.{regions_in}
+use Rattle.jh_history.proofs.AccessLemmas.{reach_by-within, reach_by-beyond}
+use Rattle.jh_history.proofs.BehindLemmas.{answer-beyond}
+use Rattle.jh_history.specs.Phases.{configs_of}
+use Rattle.jh_history.specs.Sound.{AreSoundCells}
+use Rattle.jh_laws.specs.Grants.{place_behind}
+use Rattle.jh_laws.specs.Held.{IsLive, IsLeft, IsGrantedTo}
+use Rattle.jh_laws.specs.Ends.{IsAnswered, AreItsPlaces, GivesPlaces}
+use Rattle.jh_laws.proofs.ReachedLemmas.{Way, OnMemory, OnRegion, OnWindow, OnNothing, way, places-of_memory, places-of_region, region-places}
+use Rattle.jh_laws.proofs.EndsLemmas.{granted_places, picked_place, window-places}
+
+-- ---- a list of places by their index
+
+length_listed : (place : ℕ → Place) (n : ℕ) → length (listed place n) ≡ n
+length_listed place zero = refl
+length_listed place (suc n) = ap suc (length_listed (λ k. place (k + 1)) n)
+
+get_listed : (place : ℕ → Place) (n k : ℕ) (d : Place) → k < n → get_or (listed place n) k d ≡ place k
+get_listed place zero k d lt = absurd (omega arith)
+get_listed place (suc n) zero d lt = refl
+get_listed place (suc n) (suc k) d lt = let e : k + 1 ≡ suc k = omega arith in get_listed (λ i. place (i + 1)) n k d (omega arith) ∙ ap place e
+
+pub listed-at : (place : ℕ → Place) (n : ℕ) (q : Place) → Contains (listed place n) q → (k : ℕ) × (k < n) × (q ≡ place k)
+listed-at place n q held =
+    let long : length (listed place n) ≡ n = length_listed place n in
+    let within : held.0 < length (listed place n) = held.1 in
+    let lt : held.0 < n = omega arith in
+    (held.0, lt, sym held.2 ∙ get_listed place n held.0 q lt)
+
+-- ---- what is stored
+
+-- where an access has places, something answers it
+pub places-answered : (image : Image) (cells : List Live) (id at width : ℕ) (place : ℕ → Place) → AreItsPlaces image cells id ToWrite at width place → IsAnswered image cells id ToWrite at width
+places-answered image cells id at width place are =
+    ⊎_elim (λ each. inl (λ k lt. (place k, each k lt))) (λ (by : GivesPlaces image cells id ToWrite at width place). inr (inl (by.region, by.answers))) are
+
+stored_on : (image : Image) (f : Facts) (id at width : ℕ) (place : ℕ → Place) (value : ℕ) → AreSoundCells image.system (configs_of f.cells) → 0 < width → Way image f id ToWrite at width → AreItsPlaces image f.cells id ToWrite at width place
+    → write_of f.byte (reach image f id ToWrite at width) value ≡ written f.byte (listed place width) value
+stored_on image f id at width place value sound some (OnMemory ps granted is) are =
+    ap (λ (r : Reach). write_of f.byte r value) is ∙ ap (λ (qs : List Place). written f.byte qs value) (places-of_memory image f id ToWrite at width ps place sound some granted is are)
+stored_on image f id at width place value sound some (OnRegion r answers is) are =
+    ap (λ (r : Reach). write_of f.byte r value) is ∙ ap (λ (qs : List Place). written f.byte qs value) (places-of_region image f id ToWrite at width r place sound some answers are)
+stored_on image f id at width place value sound some (OnWindow window is) are = absurd (window-places image f.cells id ToWrite at width place window are)
+stored_on image f id at width place value sound some (OnNothing none is) are = absurd (none (places-answered image f.cells id at width place are))
+
+-- a write stores its value at the places of the access
+pub write-stored : (image : Image) (f : Facts) (id at width : ℕ) (place : ℕ → Place) (value : ℕ) → AreSoundCells image.system (configs_of f.cells) → 0 < width → AreItsPlaces image f.cells id ToWrite at width place
+    → write_of f.byte (reach image f id ToWrite at width) value ≡ written f.byte (listed place width) value
+write-stored image f id at width place value sound some are = stored_on image f id at width place value sound some (way image f id ToWrite at width sound some) are
+
+abbrev pub Placed : Image → Facts → ℕ → ℕ → ℕ → Type 0
+Placed image f id at width =
+    ((place : ℕ → Place) × AreItsPlaces image f.cells id ToWrite at width place × ((value : ℕ) → write_of f.byte (reach image f id ToWrite at width) value ≡ written f.byte (listed place width) value))
+    ⊎ ((value : ℕ) → write_of f.byte (reach image f id ToWrite at width) value ≡ f.byte)
+
+stored_at : (image : Image) (f : Facts) (id at width : ℕ) (place : ℕ → Place) → AreSoundCells image.system (configs_of f.cells) → 0 < width → AreItsPlaces image f.cells id ToWrite at width place → Placed image f id at width
+stored_at image f id at width place sound some are = inl (place, are, λ value. write-stored image f id at width place value sound some are)
+
+placed_on : (image : Image) (f : Facts) (id at width : ℕ) → AreSoundCells image.system (configs_of f.cells) → 0 < width → Way image f id ToWrite at width → Placed image f id at width
+placed_on image f id at width sound some (OnMemory ps granted_all is) = stored_at image f id at width (λ k. picked_place (granted image f id ToWrite (at + k))) sound some (inl (granted_places image f id ToWrite at width sound granted_all))
+placed_on image f id at width sound some (OnRegion r answers is) = stored_at image f id at width (λ k. place_in_cell id r (at + k)) sound some (region-places image f.cells id ToWrite at width r answers)
+placed_on image f id at width sound some (OnWindow window is) = inr (λ value. ap (λ (r : Reach). write_of f.byte r value) is)
+placed_on image f id at width sound some (OnNothing none is) = inr (λ value. ap (λ (r : Reach). write_of f.byte r value) is)
+
+-- a write of no bytes stores nothing
+no_bytes : (image : Image) (f : Facts) (id at value : ℕ) → write_of f.byte (reach image f id ToWrite at 0) value ≡ f.byte
+no_bytes image f id at value = elim (cases_lt ADDRESS_END (at + 0)) [
+  | inl beyond ↦
+      ap (λ (r : Reach). write_of f.byte (or_behind r (behind_in image f.cells id ToWrite at 0)) value) (reach_by-beyond (granted image f id ToWrite) at 0 beyond)
+      ∙ ap (λ (r : Reach). write_of f.byte r value) (answer-beyond id (regions_in image f.cells id) (is_kept image f.cells id) image.system ToWrite at 0 beyond)
+  | inr within ↦ ap (λ (r : Reach). write_of f.byte (or_behind r (behind_in image f.cells id ToWrite at 0)) value) (reach_by-within (granted image f id ToWrite) at 0 within)
+]
+
+-- the access has places, at which the value is stored, or nothing is
+pub placed : (image : Image) (f : Facts) (id at width : ℕ) → AreSoundCells image.system (configs_of f.cells) → Placed image f id at width
+placed image f id at zero sound = inr (λ value. no_bytes image f id at value)
+placed image f id at (suc n) sound = let some : 0 < suc n = omega arith in placed_on image f id at (suc n) sound some (way image f id ToWrite at (suc n) sound some)
+
+-- ---- the places are given by the cell's own regions
+
+-- a region of the live cell with the id gives the address the place, which is left to the cell
+pub record IsGivenTo (image : Image) (cells : List Live) (id at : ℕ) (place : Place) : Type 0 where
+  pub cell : CellConfig
+  pub live : IsLive image cells cell
+  pub named : cell.id ≡ id
+  pub region : Region
+  pub held : Contains cell.memory_regions region
+  pub first : region.virt_start ≤ at
+  pub last : at < region.virt_start + region.size
+  pub given : place ≡ place_behind cell region (at - region.virt_start)
+  pub left : IsLeft image cells cell place
+
+pub granted-given : (image : Image) (cells : List Live) (id at : ℕ) (place : Place) → IsGrantedTo image cells id ToWrite at place → IsGivenTo image cells id at place
+granted-given image cells id at place h = record {
+  cell = h.cell;
+  live = h.live;
+  named = h.named;
+  region = h.given.region;
+  held = h.given.held;
+  first = h.given.first;
+  last = h.given.last;
+  given = h.given.given;
+  left = h.left;
+}
+
+region_given : (image : Image) (cells : List Live) (id at width : ℕ) (place : ℕ → Place) (k : ℕ) → k < width → GivesPlaces image cells id ToWrite at width place → IsGivenTo image cells id (at + k) (place k)
+region_given image cells id at width place k lt by =
+    let has = by.answers.has in
+    let first : by.region.virt_start ≤ at = has.first in
+    let last : at + width ≤ by.region.virt_start + by.region.size = has.last in
+    let P : Place → Type 0 = IsLeft image cells has.cell in
+    record {
+      cell = has.cell;
+      live = has.live;
+      named = has.named;
+      region = by.region;
+      held = has.held;
+      first = omega arith;
+      last = omega arith;
+      given = by.given k lt;
+      left = subst P (sym (by.given k lt)) (has.left k lt);
+    }
+
+pub places-given : (image : Image) (cells : List Live) (id at width : ℕ) (place : ℕ → Place) → AreItsPlaces image cells id ToWrite at width place → (k : ℕ) → k < width → IsGivenTo image cells id (at + k) (place k)
+places-given image cells id at width place are k lt = ⊎_elim (λ each. granted-given image cells id (at + k) (place k) (each k lt)) (λ by. region_given image cells id at width place k lt by) are

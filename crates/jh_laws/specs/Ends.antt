@@ -1,0 +1,107 @@
+-- How the accesses of live cells end: by memory that the cell is granted, by a subpage region of its own, by the ECAM
+-- window, or as violations.
+use Rattle.std.specs.Prelude.{◌≡◌, ◌≢◌, ◌<◌, ◌≤◌, ◌+◌, ◌-◌, ◌*◌, ◌%◌, ◌^◌, ◌⊎◌, ◌↔◌, ℕ, Bool, false, List, Contains, Option, Some, IsSome, IsTrue}
+use Rattle.jh_num.specs.Memory.{little_endian}
+use Rattle.jh_cellcfg.specs.declared.config.CellConfig.{CellConfig}
+use Rattle.jh_cellcfg.specs.declared.config.SystemConfig.{SystemConfig}
+use Rattle.jh_cellcfg.specs.declared.live.Live.{Live}
+use Rattle.jh_cellcfg.specs.declared.region.Region.{Region}
+use Rattle.jh_cellcfg.specs.Regions.{is_page_mapped, allows_width, allows_unaligned}
+use Rattle.jh_script.specs.declared.image.Image.{Image}
+use Rattle.jh_history.specs.declared.place.Place.{Place}
+use Rattle.jh_history.specs.declared.access.Access.{Access}
+use Rattle.jh_history.specs.declared.access.Access.TheVariants.{Read as ToRead, Write as ToWrite, Fetch as ToFetch}
+use Rattle.jh_history.specs.declared.entry.Act.{Act}
+use Rattle.jh_history.specs.declared.entry.Act.TheVariants.{Read, Write, Fetch, Await}
+use Rattle.jh_history.specs.Facts.{Facts}
+use Rattle.jh_laws.specs.Grants.{may, place_behind}
+use Rattle.jh_laws.specs.Held.{IsLive, IsLeft, IsGrantedTo, AreGrantedTo}
+
+-- the region has the access of the live cell with the id: it is one of the cell's own, a subpage region, and has each
+-- of the addresses, and each place that it gives them is left to the cell
+pub record HasAccess (image : Image) (cells : List Live) (id at width : ℕ) (region : Region) : Type 0 where
+  pub cell : CellConfig
+  pub live : IsLive image cells cell
+  pub named : cell.id ≡ id
+  pub held : Contains cell.memory_regions region
+  pub part : is_page_mapped region ≡ false
+  pub first : region.virt_start ≤ at
+  pub last : at + width ≤ region.virt_start + region.size
+  pub left : (k : ℕ) → k < width → IsLeft image cells cell (place_behind cell region ((at + k) - region.virt_start))
+
+-- a region lets an access through that it has: it may be accessed so, in this width, and at this address
+pub record LetsThrough (access : Access) (at width : ℕ) (region : Region) : Type 0 where
+  pub right : IsTrue (may access region)
+  pub wide : IsTrue (allows_width width region)
+  pub aligned : (at % width ≡ 0) ⊎ IsTrue (allows_unaligned region)
+
+-- no memory answers the access, and something else may: it is no fetch, ends within the addresses, and some byte of it
+-- isn't granted
+pub record IsBehindMemory (image : Image) (cells : List Live) (id : ℕ) (access : Access) (at width : ℕ) : Type 0 where
+  pub no_fetch : access ≢ ToFetch
+  pub below : at + width ≤ 2 ^ 39
+  pub lacks : AreGrantedTo image cells id access at width → ⊥
+
+-- the subpage region answers the access
+pub record IsAnsweredBy (image : Image) (cells : List Live) (id : ℕ) (access : Access) (at width : ℕ) (region : Region) : Type 0 where
+  pub behind : IsBehindMemory image cells id access at width
+  pub has : HasAccess image cells id at width region
+  pub through : LetsThrough access at width region
+
+-- the access lies in the ECAM window of the system, which has 1 MiB for each bus
+pub record IsInWindow (system : SystemConfig) (at width : ℕ) : Type 0 where
+  pub some : system.pci_mmconfig_base ≢ 0
+  pub first : system.pci_mmconfig_base ≤ at
+  pub last : at + width ≤ system.pci_mmconfig_base + (system.pci_mmconfig_end_bus + 1) * 2 ^ 20
+
+-- configuration space answers the access: no subpage region has it, and its width is 1, 2 or 4 and divides the offset
+-- from the window's start
+pub record IsAnsweredByWindow (image : Image) (cells : List Live) (id : ℕ) (access : Access) (at width : ℕ) : Type 0 where
+  pub behind : IsBehindMemory image cells id access at width
+  pub none : (region : Region) → HasAccess image cells id at width region → ⊥
+  pub within : IsInWindow image.system at width
+  pub wide : (width ≡ 1) ⊎ (width ≡ 2) ⊎ (width ≡ 4)
+  pub aligned : (at - image.system.pci_mmconfig_base) % width ≡ 0
+
+-- the access succeeds: each of its bytes is granted, or a subpage region answers it, or configuration space
+abbrev pub IsAnswered : Image → List Live → ℕ → Access → ℕ → ℕ → Type 0
+IsAnswered image cells id access at width =
+    AreGrantedTo image cells id access at width
+    ⊎ ((region : Region) × IsAnsweredBy image cells id access at width region)
+    ⊎ IsAnsweredByWindow image cells id access at width
+
+-- the region, which answers the access of its cell, gives its bytes these places
+pub record GivesPlaces (image : Image) (cells : List Live) (id : ℕ) (access : Access) (at width : ℕ) (place : ℕ → Place) : Type 0 where
+  pub region : Region
+  pub answers : IsAnsweredBy image cells id access at width region
+  pub given : (k : ℕ) → k < width → place k ≡ place_behind answers.has.cell region ((at + k) - region.virt_start)
+
+-- these are the places of the bytes of the access, in order: each is granted, or given by the region that answers
+abbrev pub AreItsPlaces : Image → List Live → ℕ → Access → ℕ → ℕ → (ℕ → Place) → Type 0
+AreItsPlaces image cells id access at width place =
+    ((k : ℕ) → k < width → IsGrantedTo image cells id access (at + k) (place k))
+    ⊎ GivesPlaces image cells id access at width place
+
+-- the value is what the access reads: the number of the bytes at its places, the lowest first, or in configuration space,
+-- where no function is present yet, the number whose bits are all set
+pub record IsReadBy (image : Image) (f : Facts) (id : ℕ) (access : Access) (at width value : ℕ) : Type 0 where
+  pub bytes : (place : ℕ → Place) → AreItsPlaces image f.cells id access at width place → value ≡ little_endian width (λ k. f.byte (place k))
+  pub ones : IsAnsweredByWindow image f.cells id access at width → value ≡ 256 ^ width - 1
+
+-- what a reading access got: a value exactly where something answers it, and then what is read there
+pub record IsGotBy (image : Image) (f : Facts) (id : ℕ) (access : Access) (at width : ℕ) (got : Option ℕ) : Type 0 where
+  pub answered : IsSome got ↔ IsAnswered image f.cells id access at width
+  pub reads : (value : ℕ) → got ≡ Some value → IsReadBy image f id access at width value
+
+-- an await is made at the value that it waits for, and succeeds exactly where something answers it
+pub record IsAwaitedBy (image : Image) (f : Facts) (id at width value : ℕ) (ok : Bool) : Type 0 where
+  pub answered : IsTrue ok ↔ IsAnswered image f.cells id ToRead at width
+  pub reads : IsTrue ok → IsReadBy image f id ToRead at width value
+
+-- an access of the cell has the outcome that it has where these facts hold
+abbrev pub EndsAsGranted : Image → Facts → ℕ → Act → Type 0
+EndsAsGranted image f id (Read width at got) = IsGotBy image f id ToRead at width got
+EndsAsGranted image f id (Fetch at got) = IsGotBy image f id ToFetch at 4 got
+EndsAsGranted image f id (Write width at value ok) = IsTrue ok ↔ IsAnswered image f.cells id ToWrite at width
+EndsAsGranted image f id (Await width at value ok) = IsAwaitedBy image f id at width value ok
+EndsAsGranted image f id _ = Unit {0}
