@@ -3,7 +3,7 @@
 
 use jh_cli::{Status, jailhouse};
 use jh_num::NoMemory;
-use jh_outside::{DirFiles, StdSink};
+use jh_outside::{DirFiles, NoGate, StdSink};
 use std::io::ErrorKind;
 use std::process::ExitCode;
 use std::{env, rt};
@@ -22,7 +22,14 @@ fn main(rt: HostRuntime) -> ExitCode {
     let mut files = DirFiles::new(rt.alloc(), &rt);
     let mut out = StdSink::new(rt.stdout());
     let status = match words(&rt) {
-        Ok(words) => jailhouse(rt.alloc(), words.as_slice(), &mut files, &mut out),
+        Ok(words) => jailhouse(
+            &rt,
+            rt.alloc(),
+            words.as_slice(),
+            &mut files,
+            &mut out,
+            &NoGate,
+        ),
         Err(NoMemory) => Status::NoMemory,
     };
     ExitCode::from(status.number())

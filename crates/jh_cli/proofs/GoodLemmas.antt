@@ -25,7 +25,7 @@ use Rattle.jh_script.specs.Programs.{unless}
 use Rattle.jh_script.specs.Schedules.{has_cpu, cpu_of, items_of, first_refusal, cpus_of, schedule_of}
 use Rattle.jh_script.specs.Words.{words, spaces}
 use Rattle.jh_history.specs.declared.entry.Entry.{Entry}
-use Rattle.jh_history.specs.Items.{played}
+use Rattle.jh_history.specs.Items.{items, played}
 use Rattle.jh_text.specs.declared.fault.JournalFault.{JournalFault}
 use Rattle.jh_text.specs.declared.fault.JournalFault.TheVariants as journals
 use Rattle.jh_text.specs.Faults.{IsFirstBadLine, IsJournalText, IsTooLong, IsFault}
@@ -36,20 +36,26 @@ use Rattle.jh_image.specs.declared.fault.ImageCause.TheVariants.{ReadFault as Ca
 use Rattle.jh_image.specs.Causes.{Stops}
 use Rattle.jh_image.specs.Images.{IsImage}
 use Rattle.jh_image.specs.Laws.{AreTold as AreAllTold}
+use Rattle.jh_run.specs.Maps.{Maps}
+use Rattle.jh_run.specs.Soak.{soak_board}
 use Rattle.jh_cli.specs.declared.status.Status.{Status}
-use Rattle.jh_cli.specs.declared.status.Status.TheVariants.{Good, Found, ReadFault, WriteFault, NoMemory}
+use Rattle.jh_cli.specs.declared.status.Status.TheVariants.{Good, Found, ReadFault, WriteFault, NoMemory, Full}
 use Rattle.jh_cli.specs.Limits.{most_of_a_file, most_of_a_journal, journal_limit}
 use Rattle.jh_cli.specs.Lines.{number_of, fault_line}
-use Rattle.jh_cli.specs.Words.{Asked, CheckOf, PackOf, PlayOf, AuditOf}
+use Rattle.jh_cli.specs.Words.{Asked, CheckOf, PackOf, PlayOf, RunOf, MapOf, AuditOf, SoakOf}
 use Rattle.jh_cli.specs.Reading.{Said, Contents, StopsAt, ReadsAt}
 use Rattle.jh_cli.specs.Check.{IsCellFile, CellRefusal, IsSystemFile, SystemRefusal, StopsAmong, ChecksCells, Checks, checked_status}
 use Rattle.jh_cli.specs.Pack.{IsSpecFile, SpecRefusal, Packs, packed}
 use Rattle.jh_cli.specs.Boards.{stopped, EndsAt}
 use Rattle.jh_cli.specs.Play.{AreCpus, IsSchedule, ScheduleRefusal, IsPlayed, played_status, PlaysBy, Plays}
+use Rattle.jh_cli.specs.Run.{Runs}
+use Rattle.jh_cli.specs.Map.{mapped_said, IsMapped, MapsBy, MapsOf}
+use Rattle.jh_cli.specs.Soak.{AreRounds, Soaks}
 use Rattle.jh_cli.specs.Audit.{IsJournalFile, JournalRefusal, IsAudited, AuditsBy, Audits, verdict_status}
 use Rattle.jh_cli.specs.Outcome.{Outcome, Sent}
 use Rattle.jh_cli.specs.Stopped.{IsCounted}
-use Rattle.jh_cli.specs.Complete.{IsBoardTold, Holds, HoldCells, AreGoodToCheck, IsGoodToPack, AreGoodToPlay, AreGoodToAudit, AreGood, IsAnswer}
+use Rattle.jh_cli.specs.Complete.{IsBoardTold, Holds, HoldCells, AreGoodToCheck, IsGoodToPack, AreGoodToPlay, AreGoodToRun, AreGoodToAudit, AreGood, IsAnswer}
+use Rattle.jh_cli.proofs.StatusLemmas.{run_ends}
 use Rattle.jh_cli.proofs.ToldLemmas.{all_told, each_is_told, is_image, stops}
 
 -- ---- the laws of the layers below
@@ -270,6 +276,48 @@ audit_unrefused unrefused no_bad not_long contents board journal said good (inl 
 audit_unrefused unrefused no_bad not_long contents board journal said good (inr (image, is, admitted, audits)) =
     audits_unrefused no_bad not_long contents journal image good.entries said good.held audits
 
+-- ---- map
+
+-- what the maps after the items end with
+abbrev IsMapOf : Image → List ℕ → Status → Type 0
+IsMapOf image cpus status = status ≡ played_status (items image journal_limit cpus []).full
+
+mapped_status : (image : Image) (cpus : List ℕ) (found : Option (List ℕ)) → Maps image journal_limit cpus found → IsMapOf image cpus (mapped_said found).status
+mapped_status image cpus (Some text) is = ap played_status (sym is.0)
+mapped_status image cpus None is = ap played_status (sym is.0)
+
+mapped_unrefused : (image : Image) (cpus other : List ℕ) (said : Said) → cpus ≡ other → IsMapped image other said → IsAnswered (IsMapOf image cpus) said
+mapped_unrefused image cpus other said same (found, is, told) =
+    inl (ap (λ (s : Said). s.status) told ∙ mapped_status image other found is ∙ ap (λ (xs : List ℕ). played_status (items image journal_limit xs []).full) (sym same))
+
+maps_unrefused : (contents : Contents) (schedule : List ℕ) (image : Image) (cpus : List ℕ) (said : Said) → Holds most_of_a_file contents schedule (IsSchedule image) cpus
+    → MapsBy contents schedule image said → IsAnswered (IsMapOf image cpus) said
+maps_unrefused contents schedule image cpus said held h =
+    reads_unrefused (IsMapOf image cpus) most_of_a_file contents schedule (ScheduleRefusal image) (IsSchedule image) (IsMapped image) cpus said (schedule_sound image cpus) held
+    (λ bytes other form form_other is. mapped_unrefused image cpus other said (one_schedule image bytes cpus other form form_other) is) h
+
+map_unrefused : OneImage → BoardsAreUnrefused → (contents : Contents) (board schedule : List ℕ) (said : Said) (good : AreGoodToPlay contents board schedule) → MapsOf contents board schedule said
+    → IsAnswered (IsMapOf good.image good.items) said
+map_unrefused one_image unrefused contents board schedule said good (inl ends) = board_unrefused unrefused (IsMapOf good.image good.items) contents board good.image said good.told good.is ends
+map_unrefused one_image unrefused contents board schedule said good (inr (image, is, admitted, maps)) =
+    let same : image ≡ good.image =
+    one_image (all_told contents) board image good.image (each_is_told contents) (is_image contents board good.told image is) (is_image contents board good.told good.image good.is) in
+    maps_unrefused contents schedule good.image good.items said good.held (subst (λ (i : Image). MapsBy contents schedule i said) same maps)
+
+-- ---- run and soak
+
+-- a run ends with nothing due, or at its limit
+abbrev IsRunEnd : Status → Type 0
+IsRunEnd status = (status ≡ Good) ⊎ (status ≡ Full)
+
+run_unrefused : BoardsAreUnrefused → (contents : Contents) (board : List ℕ) (said : Said) → AreGoodToRun contents board → Runs contents board said → IsAnswered IsRunEnd said
+run_unrefused unrefused contents board said good (inl ends) = board_unrefused unrefused IsRunEnd contents board good.image said good.told good.is ends
+run_unrefused unrefused contents board said good (inr (image, is, admitted, ran)) = inl (run_ends image ran.entries said.status ran.run.ends)
+
+soak_unrefused : (word : List ℕ) (said : Said) (rounds : ℕ) → AreRounds word rounds → Soaks word said → IsAnswered IsRunEnd said
+soak_unrefused word said rounds are (inl none) = absurd (none.0 rounds are)
+soak_unrefused word said rounds are (inr (n, others, soaked)) = inl (run_ends (soak_board n) soaked.entries said.status soaked.run.ends)
+
 -- ---- all of them
 
 pub good_answered : CellsAreFaultless → SystemsAreFaultless → NoBadLine → NotLong → OneImage → BoardsAreUnrefused
@@ -278,6 +326,9 @@ good_answered cells systems no_bad not_long one_image unrefused contents None sa
 good_answered cells systems no_bad not_long one_image unrefused contents (Some (CheckOf system names)) said good h = check_unrefused cells systems contents system names said good h
 good_answered cells systems no_bad not_long one_image unrefused contents (Some (PackOf spec)) said good h = pack_unrefused contents spec said good h
 good_answered cells systems no_bad not_long one_image unrefused contents (Some (PlayOf board schedule)) said good h = play_unrefused one_image unrefused contents board schedule said good h
+good_answered cells systems no_bad not_long one_image unrefused contents (Some (RunOf board)) said good h = run_unrefused unrefused contents board said good h
+good_answered cells systems no_bad not_long one_image unrefused contents (Some (MapOf board schedule)) said good h = map_unrefused one_image unrefused contents board schedule said good h
+good_answered cells systems no_bad not_long one_image unrefused contents (Some (SoakOf rounds)) said good h = soak_unrefused rounds said good.0 good.1 h
 good_answered cells systems no_bad not_long one_image unrefused contents (Some (AuditOf board journal)) said good h = audit_unrefused unrefused no_bad not_long contents board journal said good h
 
 -- ---- the status

@@ -1,4 +1,5 @@
 pub mod BoardLemmas
+pub mod CallLemmas
 pub mod CellLemmas
 pub mod CpuLemmas
 pub mod GoodLemmas
@@ -7,6 +8,9 @@ mod OneLemmas
 pub mod OrderLemmas
 mod OutcomeLemmas
 pub mod PlayedLemmas
+pub mod RoundsLemmas
+pub mod RunLemmas
 pub mod StatusLemmas
 pub mod StopLemmas
 mod ToldLemmas
+pub mod WaitLemmas

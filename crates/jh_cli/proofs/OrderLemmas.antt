@@ -17,7 +17,7 @@ use Rattle.jh_cli.specs.declared.status.Status.TheVariants as status
 use Rattle.jh_cli.specs.Reading.{Contents, Said}
 use Rattle.jh_cli.specs.Boards.{stopped}
 use Rattle.jh_cli.specs.Stopped.{OnEnded, OnTold}
-use Rattle.jh_cli.specs.Words.{Asked, CheckOf, PackOf, PlayOf, AuditOf}
+use Rattle.jh_cli.specs.Words.{Asked, CheckOf, PackOf, PlayOf, RunOf, MapOf, AuditOf, SoakOf}
 use Rattle.jh_cli.specs.Order.{IsStop, ask_for, StopsIn, ReadsIn, ReadsBoard, the_board_alone, what_it_lists, IsReadFor}
 use Rattle.jh_cli.proofs.StopLemmas.{on_stop, on_told}
 use Rattle.jh_cli.proofs.BoardLemmas.{nothing}
@@ -149,4 +149,7 @@ module _ {S : Type 0} (one : S → Ask → S → Type 0) (failed : S → List �
   call_keeps contents (Some (CheckOf system cells)) s t said reads read = all_keep (system ∷ cells) s t said read reads
   call_keeps contents (Some (PackOf spec)) s t said reads read = all_keep (spec ∷ []) s t said read reads
   call_keeps contents (Some (PlayOf board schedule)) s t said reads read = board_keeps contents board (schedule ∷ []) s t said read reads
+  call_keeps contents (Some (RunOf board)) s t said reads read = board_keeps contents board [] s t said read reads
+  call_keeps contents (Some (MapOf board schedule)) s t said reads read = board_keeps contents board (schedule ∷ []) s t said read reads
+  call_keeps contents (Some (SoakOf rounds)) s t said reads read = keep s t [] reads tt
   call_keeps contents (Some (AuditOf board journal)) s t said reads read = board_keeps contents board (journal ∷ []) s t said read reads

@@ -1,19 +1,24 @@
 -- Words have one outcome.
-use Rattle.std.proofs.Common.{◌≡◌, ◌≢◌, ℕ, List, Option, None, Some, inl, inr, sym, ◌∙◌, ap, subst}
+use Rattle.std.proofs.Common.{◌≡◌, ◌≢◌, ℕ, List, [], Option, None, Some, inl, inr, refl, sym, ◌∙◌, ap, subst}
+use Rattle.std.proofs.lemmas.Bool.{false≢true}
 use Rattle.jh_spec.specs.declared.spec.Spec.{Spec}
 use Rattle.jh_script.specs.declared.image.Image.{Image}
+use Rattle.jh_history.specs.declared.entry.Entry.{Entry}
+use Rattle.jh_history.specs.Items.{items}
 use Rattle.jh_image.specs.declared.fault.ImageCause.{ImageCause}
 use Rattle.jh_image.specs.declared.fault.ImageCause.TheVariants.{ReadFault as CantBeRead}
 use Rattle.jh_image.specs.Causes.{Stops}
 use Rattle.jh_image.specs.Laws.{AreTold as AreAllTold}
+use Rattle.jh_run.specs.Maps.{IsMapsText, Maps}
 use Rattle.jh_cli.specs.declared.status.Status.TheVariants.{Good, ReadFault}
-use Rattle.jh_cli.specs.Limits.{most_of_a_file, most_of_a_journal}
-use Rattle.jh_cli.specs.Words.{Asked, CheckOf, PackOf, PlayOf, AuditOf}
+use Rattle.jh_cli.specs.Limits.{most_of_a_file, most_of_a_journal, journal_limit}
+use Rattle.jh_cli.specs.Words.{Asked, CheckOf, PackOf, PlayOf, RunOf, MapOf, AuditOf, SoakOf, IsSerial}
 use Rattle.jh_cli.specs.Reading.{Said, Contents}
 use Rattle.jh_cli.specs.Check.{IsSystemFile, SystemRefusal, ChecksCells}
 use Rattle.jh_cli.specs.Pack.{IsSpecFile, SpecRefusal, packed}
 use Rattle.jh_cli.specs.Boards.{stopped, EndsAt, Opens}
 use Rattle.jh_cli.specs.Play.{IsSchedule, ScheduleRefusal, IsPlayed, PlaysBy}
+use Rattle.jh_cli.specs.Map.{mapped_said, IsMapped, MapsBy}
 use Rattle.jh_cli.specs.Audit.{IsJournalFile, JournalRefusal, IsAudited, AuditsBy}
 use Rattle.jh_cli.specs.Outcome.{Outcome}
 use Rattle.jh_cli.specs.Complete.{IsBoardTold, AreFilesTold}
@@ -51,22 +56,43 @@ one_opening one_cause one_image unrefused contents board next one other told res
     let same : h.0 ≡ k.0 = one_image (all_told contents) board h.0 k.0 (each_is_told contents) (is_image contents board told h.0 h.1) (is_image contents board told k.0 k.1) in
     rest k.0 (subst (λ (i : Image). next i one) same h.3) k.3
 
+-- ---- map
+
+abbrev pub OneMaps : Type 0
+OneMaps = (image : Image) (entries : List Entry) (one other : List ℕ) → IsMapsText image entries one → IsMapsText image entries other → one ≡ other
+
+-- the limit stops the items or it doesn't
+same_found : OneMaps → (image : Image) (cpus : List ℕ) (one other : Option (List ℕ)) → Maps image journal_limit cpus one → Maps image journal_limit cpus other → one ≡ other
+same_found one_maps image cpus None None h k = refl
+same_found one_maps image cpus None (Some text) h k = absurd (false≢true (sym k.0 ∙ h.0))
+same_found one_maps image cpus (Some text) None h k = absurd (false≢true (sym h.0 ∙ k.0))
+same_found one_maps image cpus (Some text) (Some more) h k = ap Some (one_maps image (items image journal_limit cpus []).entries text more h.2 k.2)
+
+one_mapped : OneMaps → (image : Image) (cpus : List ℕ) (one other : Said) → IsMapped image cpus one → IsMapped image cpus other → one ≡ other
+one_mapped one_maps image cpus one other (found, is, told) (more, also, said) = told ∙ ap mapped_said (same_found one_maps image cpus found more is also) ∙ sym said
+
 -- ---- all of them
 
-pub one_outcome : CellsAreFaultless → SystemsAreFaultless → OneCell → OneSystem → NoBadLine → NotLong → OneJournal → NotBoth → OneLine → OneImage → BoardsAreUnrefused → OneCause
-    → (contents : Contents) (asked : Option Asked) (one other : Said) → AreFilesTold contents asked → Outcome contents asked one → Outcome contents asked other → IsRead one → IsRead other → one ≡ other
-one_outcome cells systems one_cell one_system no_bad not_long one_journal not_both one_line one_image unrefused one_cause contents None one other told h k read also = h ∙ sym k
-one_outcome cells systems one_cell one_system no_bad not_long one_journal not_both one_line one_image unrefused one_cause contents (Some (CheckOf system names)) one other told h k read also =
+pub one_outcome : CellsAreFaultless → SystemsAreFaultless → OneCell → OneSystem → NoBadLine → NotLong → OneJournal → NotBoth → OneLine → OneImage → BoardsAreUnrefused → OneCause → OneMaps
+    → (contents : Contents) (asked : Option Asked) (one other : Said) → IsSerial asked → AreFilesTold contents asked → Outcome contents asked one → Outcome contents asked other → IsRead one → IsRead other → one ≡ other
+one_outcome cells systems one_cell one_system no_bad not_long one_journal not_both one_line one_image unrefused one_cause one_maps contents None one other serial told h k read also = h ∙ sym k
+one_outcome cells systems one_cell one_system no_bad not_long one_journal not_both one_line one_image unrefused one_cause one_maps contents (Some (CheckOf system names)) one other serial told h k read also =
     one_reading most_of_a_file contents system told.0 SystemRefusal IsSystemFile system_words (system_values one_system) (λ bytes s words form why. system_sound systems s bytes words form.within form why)
     (ChecksCells contents names) one other (λ s a b. one_check cells one_cell contents names s one other told.1 a b) h k read also
-one_outcome cells systems one_cell one_system no_bad not_long one_journal not_both one_line one_image unrefused one_cause contents (Some (PackOf name)) one other told h k read also =
+one_outcome cells systems one_cell one_system no_bad not_long one_journal not_both one_line one_image unrefused one_cause one_maps contents (Some (PackOf name)) one other serial told h k read also =
     one_reading most_of_a_file contents name told.0 SpecRefusal IsSpecFile spec_words spec_values (λ bytes s words form why. spec_sound s bytes words form.0 form why)
     (λ (spec : Spec) (s : Said). s ≡ record { status = Good; text = packed spec }) one other (λ s a b r q. a ∙ sym b) h k read also
-one_outcome cells systems one_cell one_system no_bad not_long one_journal not_both one_line one_image unrefused one_cause contents (Some (PlayOf board schedule)) one other told h k read also =
+one_outcome cells systems one_cell one_system no_bad not_long one_journal not_both one_line one_image unrefused one_cause one_maps contents (Some (PlayOf board schedule)) one other serial told h k read also =
     one_opening one_cause one_image unrefused contents board (PlaysBy contents schedule) one other told.0
     (λ image a b. one_reading most_of_a_file contents schedule told.1.0 (ScheduleRefusal image) (IsSchedule image) (schedule_words image) (one_schedule image) (λ bytes s words form why. schedule_sound image s bytes words form.within form why)
     (IsPlayed image) one other (λ s x y r q. x.told ∙ sym y.told) a b read also) h k read also
-one_outcome cells systems one_cell one_system no_bad not_long one_journal not_both one_line one_image unrefused one_cause contents (Some (AuditOf board journal)) one other told h k read also =
+one_outcome cells systems one_cell one_system no_bad not_long one_journal not_both one_line one_image unrefused one_cause one_maps contents (Some (RunOf board)) one other serial told h k read also = absurd serial
+one_outcome cells systems one_cell one_system no_bad not_long one_journal not_both one_line one_image unrefused one_cause one_maps contents (Some (SoakOf rounds)) one other serial told h k read also = absurd serial
+one_outcome cells systems one_cell one_system no_bad not_long one_journal not_both one_line one_image unrefused one_cause one_maps contents (Some (MapOf board schedule)) one other serial told h k read also =
+    one_opening one_cause one_image unrefused contents board (MapsBy contents schedule) one other told.0
+    (λ image a b. one_reading most_of_a_file contents schedule told.1.0 (ScheduleRefusal image) (IsSchedule image) (schedule_words image) (one_schedule image) (λ bytes s words form why. schedule_sound image s bytes words form.within form why)
+    (IsMapped image) one other (λ s x y r q. one_mapped one_maps image s one other x y) a b read also) h k read also
+one_outcome cells systems one_cell one_system no_bad not_long one_journal not_both one_line one_image unrefused one_cause one_maps contents (Some (AuditOf board journal)) one other serial told h k read also =
     one_opening one_cause one_image unrefused contents board (AuditsBy contents journal) one other told.0
     (λ image a b. one_reading most_of_a_journal contents journal told.1.0 JournalRefusal IsJournalFile (journal_words not_both one_line) (λ bytes x y f g. one_journal bytes x y f.told g.told)
     (λ bytes s words form why. journal_sound no_bad not_long s bytes words form.within form why)

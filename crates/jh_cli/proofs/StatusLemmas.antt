@@ -1,5 +1,5 @@
 -- No outcome has the status of a sink that failed.
-use Rattle.std.proofs.Common.{◌≡◌, ◌≢◌, ℕ, List, Bool, true, false, cond, Option, Some, None, sym, ◌∙◌, ap, arith, inl, inr}
+use Rattle.std.proofs.Common.{◌≡◌, ◌≢◌, ℕ, ◌⊎◌, List, Bool, true, false, cond, Option, Some, None, refl, sym, ◌∙◌, ap, arith, inl, inr}
 use Rattle.jh_cellcfg.specs.declared.config.SystemConfig.{SystemConfig}
 use Rattle.jh_script.specs.declared.image.Image.{Image}
 use Rattle.jh_history.specs.declared.entry.Entry.{Entry}
@@ -7,20 +7,24 @@ use Rattle.jh_history.specs.Items.{played}
 use Rattle.jh_image.specs.declared.fault.ImageCause.{ImageCause}
 use Rattle.jh_image.specs.declared.fault.ImageCause.TheVariants.{ReadFault as CantBeRead, Oversize, Json, Member, System, Findings, PoolSmall, Preload as BadPreload, Program as BadProgram, NotBuilt}
 use Rattle.jh_spec.specs.declared.spec.Spec.{Spec}
+use Rattle.jh_run.specs.Soak.{soak_board}
 use Rattle.jh_audit.specs.declared.verdict.Verdict.{Verdict}
 use Rattle.jh_audit.specs.declared.verdict.Verdict.TheVariants.{Legal, Illegal}
 use Rattle.jh_check.specs.Lists.{is_any, capped}
 use Rattle.jh_check.specs.Findings.{findings}
 use Rattle.jh_cli.specs.declared.status.Status.{Status}
-use Rattle.jh_cli.specs.declared.status.Status.TheVariants.{Good, Found, Usage, Refused, ReadFault, WriteFault}
+use Rattle.jh_cli.specs.declared.status.Status.TheVariants.{Good, Found, Usage, Refused, ReadFault, WriteFault, NoMemory, Full}
 use Rattle.jh_cli.specs.Lines.{number_of}
-use Rattle.jh_cli.specs.Words.{Asked, CheckOf, PackOf, PlayOf, AuditOf}
+use Rattle.jh_cli.specs.Words.{Asked, CheckOf, PackOf, PlayOf, RunOf, MapOf, AuditOf, SoakOf}
 use Rattle.jh_cli.specs.Reading.{Said, Contents, StopsAt, ReadsAt}
 use Rattle.jh_cli.specs.Check.{IsSystemFile, SystemRefusal, CellRefusal, ChecksCells, checked_status}
 use Rattle.jh_cli.specs.Pack.{IsSpecFile, SpecRefusal, packed}
 use Rattle.jh_cli.specs.Boards.{stopped, Opens}
 use Rattle.jh_cli.specs.Play.{ScheduleRefusal, IsSchedule, IsPlayed, played_status, PlaysBy}
+use Rattle.jh_cli.specs.Run.{EndsRun, IsRan}
+use Rattle.jh_cli.specs.Map.{IsMapped, mapped_said, MapsBy}
 use Rattle.jh_cli.specs.Audit.{JournalRefusal, IsJournalFile, IsAudited, AuditsBy, verdict_status}
+use Rattle.jh_cli.specs.Soak.{Soaks}
 use Rattle.jh_cli.specs.Limits.{most_of_a_file, most_of_a_journal, journal_limit}
 use Rattle.jh_cli.specs.Outcome.{Outcome}
 
@@ -57,6 +61,32 @@ played_ends_other : (image : Image) (cpus : List ℕ) (said : Said) → IsPlayed
 played_ends_other image cpus said is =
     other said (played_status (played image journal_limit cpus).full) (ap (λ (s : Said). s.status) is.told) (played_other (played image journal_limit cpus).full)
 
+mapped_other : (found : Option (List ℕ)) → number_of (mapped_said found).status ≢ 5
+mapped_other (Some text) = omega arith
+mapped_other None = omega arith
+
+map_ends_other : (image : Image) (cpus : List ℕ) (said : Said) → IsMapped image cpus said → IsOther said
+map_ends_other image cpus said (found, is, told) = other said (mapped_said found).status (ap (λ (s : Said). s.status) told) (mapped_other found)
+
+-- a run ends with one of two statuses
+pub run_ends : (image : Image) (entries : List Entry) (status : Status) → EndsRun image entries status → (status ≡ Good) ⊎ (status ≡ Full)
+run_ends image entries Good h = inl refl
+run_ends image entries Full h = inr refl
+run_ends image entries Found h = absurd h
+run_ends image entries Usage h = absurd h
+run_ends image entries Refused h = absurd h
+run_ends image entries ReadFault h = absurd h
+run_ends image entries WriteFault h = absurd h
+run_ends image entries NoMemory h = absurd h
+
+run_other : (said : Said) → (said.status ≡ Good) ⊎ (said.status ≡ Full) → IsOther said
+run_other said (inl is) = other said Good is (omega arith)
+run_other said (inr is) = other said Full is (omega arith)
+
+soak_other : (word : List ℕ) (said : Said) → Soaks word said → IsOther said
+soak_other word said (inl none) = other said Refused (ap (λ (s : Said). s.status) none.1) (omega arith)
+soak_other word said (inr (rounds, are, soaked)) = run_other said (run_ends (soak_board rounds) soaked.entries said.status soaked.run.ends)
+
 audited_other : (verdict : Verdict) → number_of (verdict_status verdict) ≢ 5
 audited_other (Legal quiet) = omega arith
 audited_other (Illegal line expected) = omega arith
@@ -90,6 +120,12 @@ outcome_other contents (Some (PackOf name)) said h =
 outcome_other contents (Some (PlayOf board schedule)) said h =
     opens_other contents board (PlaysBy contents schedule) said
     (λ image reads. reads_other most_of_a_file contents schedule (ScheduleRefusal image) (IsSchedule image) (IsPlayed image) said (λ cpus is. played_ends_other image cpus said is) reads) h
+outcome_other contents (Some (RunOf board)) said h =
+    opens_other contents board IsRan said (λ image ran. run_other said (run_ends image ran.entries said.status ran.run.ends)) h
+outcome_other contents (Some (MapOf board schedule)) said h =
+    opens_other contents board (MapsBy contents schedule) said
+    (λ image reads. reads_other most_of_a_file contents schedule (ScheduleRefusal image) (IsSchedule image) (IsMapped image) said (λ cpus is. map_ends_other image cpus said is) reads) h
+outcome_other contents (Some (SoakOf rounds)) said h = soak_other rounds said h
 outcome_other contents (Some (AuditOf board journal)) said h =
     opens_other contents board (AuditsBy contents journal) said
     (λ image reads. reads_other most_of_a_journal contents journal JournalRefusal IsJournalFile (IsAudited image) said (λ entries is. audit_ends_other image entries said is) reads) h

@@ -6,20 +6,21 @@ use Rattle.jh_cellcfg.specs.declared.config.CellConfig.{CellConfig}
 use Rattle.jh_cellcfg.specs.declared.config.SystemConfig.{SystemConfig}
 use Rattle.jh_script.specs.declared.image.Image.{Image}
 use Rattle.jh_history.specs.declared.entry.Entry.{Entry}
-use Rattle.jh_history.specs.Items.{played}
+use Rattle.jh_history.specs.Items.{items, played}
 use Rattle.jh_spec.specs.declared.spec.Spec.{Spec}
 use Rattle.jh_image.specs.declared.board.Listing.{Listing}
 use Rattle.jh_image.specs.Files.{Lists}
 use Rattle.jh_image.specs.Images.{IsImage}
 use Rattle.jh_image.specs.Order.{board_files}
-use Rattle.jh_cli.specs.Words.{Asked, CheckOf, PackOf, PlayOf, AuditOf}
+use Rattle.jh_cli.specs.Words.{Asked, CheckOf, PackOf, PlayOf, RunOf, MapOf, AuditOf, SoakOf}
 use Rattle.jh_cli.specs.Reading.{Contents}
 use Rattle.jh_cli.specs.Check.{IsCellFile, IsSystemFile}
 use Rattle.jh_cli.specs.Pack.{IsSpecFile}
 use Rattle.jh_cli.specs.Play.{IsSchedule, played_status}
 use Rattle.jh_cli.specs.Audit.{IsJournalFile}
+use Rattle.jh_cli.specs.Soak.{AreRounds}
 use Rattle.jh_cli.specs.declared.status.Status.{Status}
-use Rattle.jh_cli.specs.declared.status.Status.TheVariants.{Good, Found}
+use Rattle.jh_cli.specs.declared.status.Status.TheVariants.{Good, Found, Full}
 use Rattle.jh_cli.specs.Limits.{most_of_a_file, most_of_a_journal, journal_limit}
 
 module _ {A : Type 0} where
@@ -51,7 +52,10 @@ AreFilesTold contents None = ⊤
 AreFilesTold contents (Some (CheckOf system cells)) = AreTold contents (system ∷ cells)
 AreFilesTold contents (Some (PackOf spec)) = AreTold contents (spec ∷ [])
 AreFilesTold contents (Some (PlayOf board schedule)) = IsBoardTold contents board × AreTold contents (schedule ∷ [])
+AreFilesTold contents (Some (RunOf board)) = IsBoardTold contents board
+AreFilesTold contents (Some (MapOf board schedule)) = IsBoardTold contents board × AreTold contents (schedule ∷ [])
 AreFilesTold contents (Some (AuditOf board journal)) = IsBoardTold contents board × AreTold contents (journal ∷ [])
+AreFilesTold contents (Some (SoakOf rounds)) = ⊤
 
 -- the files of a check hold a system and a cell each, whatever the check finds in them
 pub record AreGoodToCheck (contents : Contents) (system : List ℕ) (cells : List (List ℕ)) : Type 0 where
@@ -73,6 +77,12 @@ pub record AreGoodToPlay (contents : Contents) (board schedule : List ℕ) : Typ
   pub items : List ℕ
   pub held : Holds most_of_a_file contents schedule (IsSchedule image) items
 
+-- the board's files make an image
+pub record AreGoodToRun (contents : Contents) (board : List ℕ) : Type 0 where
+  pub told : IsBoardTold contents board
+  pub image : Image
+  pub is : IsImage contents board image
+
 -- the board's files make an image, and the journal's holds a journal, whether it is legal or not
 pub record AreGoodToAudit (contents : Contents) (board journal : List ℕ) : Type 0 where
   pub told : IsBoardTold contents board
@@ -87,13 +97,20 @@ AreGood contents None = ⊥
 AreGood contents (Some (CheckOf system cells)) = AreGoodToCheck contents system cells
 AreGood contents (Some (PackOf spec)) = IsGoodToPack contents spec
 AreGood contents (Some (PlayOf board schedule)) = AreGoodToPlay contents board schedule
+AreGood contents (Some (RunOf board)) = AreGoodToRun contents board
+AreGood contents (Some (MapOf board schedule)) = AreGoodToPlay contents board schedule
 AreGood contents (Some (AuditOf board journal)) = AreGoodToAudit contents board journal
+AreGood contents (Some (SoakOf rounds)) = (n : ℕ) × AreRounds rounds n
 
 -- what a call with good words and files ends with: a check with whether something is found, a play with whether the
--- journal stopped at its limit, an audit with whether the journal is legal
+-- journal stopped at its limit, a map with whether that of the schedule alone did, an audit with whether the journal is
+-- legal; a run or a soak ends with `Good` or `Full`, which its outcome parts
 abbrev pub IsAnswer : (contents : Contents) (asked : Option Asked) → AreGood contents asked → Status → Type 0
 IsAnswer contents None good status = ⊥
 IsAnswer contents (Some (CheckOf system cells)) good status = (status ≡ Good) ⊎ (status ≡ Found)
 IsAnswer contents (Some (PackOf spec)) good status = status ≡ Good
 IsAnswer contents (Some (PlayOf board schedule)) good status = status ≡ played_status (played good.image journal_limit good.items).full
+IsAnswer contents (Some (RunOf board)) good status = (status ≡ Good) ⊎ (status ≡ Full)
+IsAnswer contents (Some (MapOf board schedule)) good status = status ≡ played_status (items good.image journal_limit good.items []).full
 IsAnswer contents (Some (AuditOf board journal)) good status = (status ≡ Good) ⊎ (status ≡ Found)
+IsAnswer contents (Some (SoakOf rounds)) good status = (status ≡ Good) ⊎ (status ≡ Full)

@@ -6,7 +6,10 @@ pub mod Check
 pub mod Pack
 pub mod Boards
 pub mod Play
+pub mod Run
+pub mod Map
 pub mod Audit
+pub mod Soak
 pub mod Stopped
 pub mod Order
 pub mod Outcome

@@ -18,6 +18,10 @@ number_of Full = 7
 abbrev pub usage_line : List ℕ
 usage_line = codes "usage: jailhouse check SYSTEM CELL... | pack SPEC | play BOARD SCHEDULE | run BOARD | map BOARD SCHEDULE | tables BOARD SCHEDULE | audit BOARD JOURNAL | soak N" ++ 10 ∷ []
 
+-- the word that is to tell a number of rounds tells none
+abbrev pub rounds_line : List ℕ
+rounds_line = codes "refused: N" ++ 10 ∷ []
+
 -- a file could not be read
 abbrev pub fault_line : List ℕ → List ℕ
 fault_line name = codes "read fault: " ++ name ++ 10 ∷ []

@@ -5,7 +5,7 @@ use Rattle.jh_image.specs.declared.board.Listing.{Listing}
 use Rattle.jh_image.specs.Files.{Lists}
 use Rattle.jh_image.specs.Order.{board_files}
 use Rattle.jh_cli.specs.Reading.{Contents, Said}
-use Rattle.jh_cli.specs.Words.{Asked, CheckOf, PackOf, PlayOf, AuditOf}
+use Rattle.jh_cli.specs.Words.{Asked, CheckOf, PackOf, PlayOf, RunOf, MapOf, AuditOf, SoakOf}
 use Rattle.jh_cli.specs.declared.status.Status.{Status}
 use Rattle.jh_cli.specs.declared.status.Status.TheVariants.{Refused, ReadFault}
 
@@ -39,7 +39,10 @@ module _ {S : Type 0} where
   ReadsFor one failed contents (CheckOf system cells) s t said = ReadsIn one failed (system ∷ cells) s t said
   ReadsFor one failed contents (PackOf spec) s t said = ReadsIn one failed (spec ∷ []) s t said
   ReadsFor one failed contents (PlayOf board schedule) s t said = ReadsBoard one failed contents board (schedule ∷ []) s t said
+  ReadsFor one failed contents (RunOf board) s t said = ReadsBoard one failed contents board [] s t said
+  ReadsFor one failed contents (MapOf board schedule) s t said = ReadsBoard one failed contents board (schedule ∷ []) s t said
   ReadsFor one failed contents (AuditOf board journal) s t said = ReadsBoard one failed contents board (journal ∷ []) s t said
+  ReadsFor one failed contents (SoakOf rounds) s t said = Asks one failed s [] t
 
   -- what a call with these words reads; without a command nothing
   abbrev pub IsReadFor : (S → Ask → S → Type 0) → (S → List ℕ) → Contents → Option Asked → S → S → Said → Type 0

@@ -3,14 +3,17 @@ use Rattle.std.specs.Prelude.{ℕ, Bool, true, not, ◌==◌, nat_le, if◌then�
 use Rattle.std.specs.List.{list_all}
 use Rattle.std.specs.Cmp.Lexicographic.{pointwise}
 use Rattle.jh_cli.specs.declared.command.Command.{Command}
-use Rattle.jh_cli.specs.declared.command.Command.TheVariants.{Check, Pack, Play, Audit}
+use Rattle.jh_cli.specs.declared.command.Command.TheVariants.{Check, Pack, Play, Run, Map, Audit, Soak}
 
--- what a command asks for, with the names of its files
+-- what a command asks for, with the names of its files, or with the word that tells how many rounds are run
 pub data Asked : Type 0 where
   CheckOf : List ℕ → List (List ℕ) → Asked
   PackOf : List ℕ → Asked
   PlayOf : List ℕ → List ℕ → Asked
+  RunOf : List ℕ → Asked
+  MapOf : List ℕ → List ℕ → Asked
   AuditOf : List ℕ → List ℕ → Asked
+  SoakOf : List ℕ → Asked
 
 -- a word that begins with `-` is no operand
 abbrev pub is_operand : List ℕ → Bool
@@ -39,6 +42,19 @@ play_of (board ∷ []) = None
 play_of (board ∷ schedule ∷ []) = Some (PlayOf board schedule)
 play_of (board ∷ schedule ∷ other ∷ more) = None
 
+-- `run` has a board
+abbrev pub run_of : List (List ℕ) → Option Asked
+run_of [] = None
+run_of (board ∷ []) = Some (RunOf board)
+run_of (board ∷ other ∷ more) = None
+
+-- `map` has a board and a schedule
+abbrev pub map_of : List (List ℕ) → Option Asked
+map_of [] = None
+map_of (board ∷ []) = None
+map_of (board ∷ schedule ∷ []) = Some (MapOf board schedule)
+map_of (board ∷ schedule ∷ other ∷ more) = None
+
 -- `audit` has a board and a journal
 abbrev pub audit_of : List (List ℕ) → Option Asked
 audit_of [] = None
@@ -46,14 +62,23 @@ audit_of (board ∷ []) = None
 audit_of (board ∷ journal ∷ []) = Some (AuditOf board journal)
 audit_of (board ∷ journal ∷ other ∷ more) = None
 
+-- `soak` has a number of rounds
+abbrev pub soak_of : List (List ℕ) → Option Asked
+soak_of [] = None
+soak_of (rounds ∷ []) = Some (SoakOf rounds)
+soak_of (rounds ∷ other ∷ more) = None
+
 -- the command of this word with these operands; those that aren't built yet have none
 abbrev pub asked_for : List ℕ → List (List ℕ) → Option Asked
 asked_for word operands =
     if is_word word (codes "check") then check_of operands
     else (if is_word word (codes "pack") then pack_of operands
     else (if is_word word (codes "play") then play_of operands
+    else (if is_word word (codes "run") then run_of operands
+    else (if is_word word (codes "map") then map_of operands
     else (if is_word word (codes "audit") then audit_of operands
-    else None)))
+    else (if is_word word (codes "soak") then soak_of operands
+    else None))))))
 
 -- the command of the words: the program's name, the command's word letter for letter, and its operands
 abbrev pub command_of : List (List ℕ) → Option Asked
@@ -66,7 +91,16 @@ abbrev pub asked_by : Command → Asked
 asked_by (Check system cells) = CheckOf system.now (map string_bytes cells.now)
 asked_by (Pack spec) = PackOf spec.now
 asked_by (Play board schedule) = PlayOf board.now schedule.now
+asked_by (Run board) = RunOf board.now
+asked_by (Map board schedule) = MapOf board.now schedule.now
 asked_by (Audit board journal) = AuditOf board.now journal.now
+asked_by (Soak rounds) = SoakOf rounds.now
+
+-- the words have no command, or one that starts no thread and waits for none
+abbrev pub IsSerial : Option Asked → Type 0
+IsSerial (Some (RunOf board)) = ⊥
+IsSerial (Some (SoakOf rounds)) = ⊥
+IsSerial _ = ⊤
 
 -- it has at most 15 cells
 abbrev pub HasFewCells : Command → Type 0

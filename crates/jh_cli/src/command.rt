@@ -2,12 +2,12 @@
 ghost use Rattle.std.specs.Prelude.{◌≡◌, ◌==◌, IfSome, None, map, string_bytes, not, slice_get, Bool};
 ghost use Rattle.std.specs.List.{list_all};
 ghost use Rattle.std.specs.Option.{option_map};
-ghost use Rattle.jh_cli.specs.Words.{is_operand as is_operand_lem, check_of as check_of_lem, pack_of as pack_of_lem, play_of as play_of_lem, audit_of as audit_of_lem, asked_for as asked_for_lem, command_of as command_of_lem, asked_by, HasFewCells};
+ghost use Rattle.jh_cli.specs.Words.{is_operand as is_operand_lem, check_of as check_of_lem, pack_of as pack_of_lem, play_of as play_of_lem, run_of as run_of_lem, map_of as map_of_lem, audit_of as audit_of_lem, soak_of as soak_of_lem, asked_for as asked_for_lem, command_of as command_of_lem, asked_by, HasFewCells};
 
 /// How many cells are checked at most.
 const MOST_CELLS: usize = 15;
 
-/// A command with the names of its files.
+/// A command with its operands.
 #[derive(Clone, Copy)]
 pub enum Command<'a> {
     /// Checks a system and up to 15 cells.
@@ -24,10 +24,23 @@ pub enum Command<'a> {
         board: &'a str,
         schedule: &'a str,
     },
+    /// Runs a board, with a worker for each of its CPUs.
+    Run {
+        board: &'a str,
+    },
+    /// Tells the maps of a board's cells after a schedule.
+    Map {
+        board: &'a str,
+        schedule: &'a str,
+    },
     /// Judges a journal by a board.
     Audit {
         board: &'a str,
         journal: &'a str,
+    },
+    /// Runs a board of so many rounds, and tells what its journal comes to.
+    Soak {
+        rounds: &'a str,
     },
 }
 
@@ -88,6 +101,31 @@ fn play_of(operands: &[String]) -> Option<Command<'_>>
     }
 }
 
+fn run_of(operands: &[String]) -> Option<Command<'_>>
+    ensures command { option_map asked_by result ≡ run_of_lem (map string_bytes operands.now) }
+    ensures few { IfSome result HasFewCells }
+{
+    match operands {
+        [board] => Some(Command::Run {
+            board: board.as_str(),
+        }),
+        _ => None,
+    }
+}
+
+fn map_of(operands: &[String]) -> Option<Command<'_>>
+    ensures command { option_map asked_by result ≡ map_of_lem (map string_bytes operands.now) }
+    ensures few { IfSome result HasFewCells }
+{
+    match operands {
+        [board, schedule] => Some(Command::Map {
+            board: board.as_str(),
+            schedule: schedule.as_str(),
+        }),
+        _ => None,
+    }
+}
+
 fn audit_of(operands: &[String]) -> Option<Command<'_>>
     ensures command { option_map asked_by result ≡ audit_of_lem (map string_bytes operands.now) }
     ensures few { IfSome result HasFewCells }
@@ -96,6 +134,18 @@ fn audit_of(operands: &[String]) -> Option<Command<'_>>
         [board, journal] => Some(Command::Audit {
             board: board.as_str(),
             journal: journal.as_str(),
+        }),
+        _ => None,
+    }
+}
+
+fn soak_of(operands: &[String]) -> Option<Command<'_>>
+    ensures command { option_map asked_by result ≡ soak_of_lem (map string_bytes operands.now) }
+    ensures few { IfSome result HasFewCells }
+{
+    match operands {
+        [rounds] => Some(Command::Soak {
+            rounds: rounds.as_str(),
         }),
         _ => None,
     }
@@ -112,8 +162,14 @@ fn asked_for<'a>(word: &str, operands: &'a [String]) -> Option<Command<'a>>
         pack_of(operands)
     } else if word == "play" {
         play_of(operands)
+    } else if word == "run" {
+        run_of(operands)
+    } else if word == "map" {
+        map_of(operands)
     } else if word == "audit" {
         audit_of(operands)
+    } else if word == "soak" {
+        soak_of(operands)
     } else {
         None
     }

@@ -1,6 +1,6 @@
 //! What holds of all files, whoever reads them. Each function does nothing; its contract is the law.
 ghost use Rattle.std.specs.Prelude.{◌≡◌, ◌≢◌, ◌⊎◌, Option};
-ghost use Rattle.jh_cli.specs.Words.{Asked};
+ghost use Rattle.jh_cli.specs.Words.{Asked, IsSerial};
 ghost use Rattle.jh_cli.specs.Reading.{Said, Contents};
 ghost use Rattle.jh_cli.specs.Outcome.{Outcome};
 ghost use Rattle.jh_cli.specs.Complete.{AreFilesTold, AreGood, IsAnswer};
@@ -10,6 +10,7 @@ use jh_cellcfg::{one_spelling, spelling_has_no_fault};
 use jh_image::{
     boards_have_one_cause, boards_make_one_image, boards_that_make_an_image_are_not_refused,
 };
+use jh_run::maps_have_one_text;
 use jh_syscfg::{one_system_spelling, system_has_no_fault};
 use jh_text::{one_answer, texts_go_both_ways};
 
@@ -25,10 +26,10 @@ pub fn good_inputs_are_answered()
     boards_that_make_an_image_are_not_refused();
 }
 
-/// Where the files tell what they hold, words have one outcome besides that a file could not be read: one status and
-/// one text.
+/// Where the files tell what they hold, words whose command isn't `run` or `soak` have one outcome besides that a file
+/// could not be read: one status and one text. Of those two the outcome is that of some order of the threads' turns.
 pub fn words_have_one_outcome()
-    ensures { (contents : Contents) (asked : Option Asked) (one other : Said) → AreFilesTold contents asked → Outcome contents asked one → Outcome contents asked other
+    ensures { (contents : Contents) (asked : Option Asked) (one other : Said) → IsSerial asked → AreFilesTold contents asked → Outcome contents asked one → Outcome contents asked other
         → one.status ≢ Status.ReadFault → other.status ≢ Status.ReadFault → one ≡ other }
 {
     spelling_has_no_fault();
@@ -40,4 +41,5 @@ pub fn words_have_one_outcome()
     boards_make_one_image();
     boards_that_make_an_image_are_not_refused();
     boards_have_one_cause();
+    maps_have_one_text();
 }

@@ -1,6 +1,6 @@
 //! The lines that tell how a call ended, each with its line feed.
 ghost use Rattle.std.specs.Prelude.{◌≡◌, IfOk};
-ghost use Rattle.jh_cli.specs.Lines.{usage_line as usage_line_lem, fault_line as fault_line_lem, refusal_line as refusal_line_lem};
+ghost use Rattle.jh_cli.specs.Lines.{usage_line as usage_line_lem, rounds_line as rounds_line_lem, fault_line as fault_line_lem, refusal_line as refusal_line_lem};
 
 use jh_num::NoMemory;
 use std::alloc::Global;
@@ -14,6 +14,15 @@ pub fn usage_line(alloc: Global) -> Result<Vec<u8>, NoMemory>
         b"usage: jailhouse check SYSTEM CELL... | pack SPEC | play BOARD SCHEDULE | run BOARD | map BOARD SCHEDULE | tables BOARD SCHEDULE | audit BOARD JOURNAL | soak N",
     )?;
     text.push(b'\n')?;
+    Ok(text)
+}
+
+/// The word that is to tell a number of rounds tells none.
+pub fn rounds_line(alloc: Global) -> Result<Vec<u8>, NoMemory>
+    ensures { IfOk result (λ text. text.items ≡ rounds_line_lem) }
+{
+    let mut text = Vec::new(alloc);
+    text.extend_from_slice(b"refused: N\n")?;
     Ok(text)
 }
 

@@ -19,8 +19,8 @@ use jh_script::Image;
 use jh_text::print_journal;
 use std::alloc::Global;
 
-/// The status of a play, by how it ended.
-fn status_of(ended: Ended) -> Status
+/// The status of a play or a run, by how it ended.
+pub fn status_of(ended: Ended) -> Status
     ensures { result ≡ played_status (is_full ended) }
 {
     match ended {

@@ -2,10 +2,14 @@
 
 use crate::{Status, jailhouse};
 use jh_num::NoMemory;
-use jh_outside::{Files, MemFiles, MemSink, Sink};
+use jh_outside::{Files, Gate, MemFiles, MemSink, NoGate, Sink};
 use std::alloc::Global;
 use std::process::Abort;
+use std::sync::Wait;
+use std::sync::atomic::{AtomicU64, Ordering};
 use std::test::Fail;
+use std::thread;
+use std::thread::Threads;
 
 const BOARD: &str =
     "{\"system\":\"s.sys\",\"programs\":[{\"cell\":\"root\",\"cpu\":0,\"file\":\"p.txt\"}]}";
@@ -20,6 +24,11 @@ const USAGE: &str =
 
 /// A system whose root has memory from 0x40000000 to 0x7fc00000, and CPU 0.
 fn system(alloc: Global) -> Result<Vec<u8>, NoMemory> {
+    system_of(alloc, 1)
+}
+
+/// The same with the CPUs of these bits.
+fn system_of(alloc: Global, cpus: u64) -> Result<Vec<u8>, NoMemory> {
     let mut bytes = Vec::new(alloc);
     bytes.extend_from_slice(b"JHSYST\x0d\x00\x00\x00\x00\x00")?;
     bytes.extend_from_slice(&0x7fc0_0000u64.to_le_bytes())?;
@@ -31,7 +40,7 @@ fn system(alloc: Global) -> Result<Vec<u8>, NoMemory> {
     bytes.extend_from_slice(&8u32.to_le_bytes())?;
     bytes.extend_from_slice(&1u32.to_le_bytes())?;
     bytes.extend_from_slice(&[0; 76])?;
-    bytes.extend_from_slice(&1u64.to_le_bytes())?;
+    bytes.extend_from_slice(&cpus.to_le_bytes())?;
     for number in [0x4000_0000u64, 0x4000_0000, 0x3fc0_0000, 0xf] {
         bytes.extend_from_slice(&number.to_le_bytes())?;
     }
@@ -57,8 +66,8 @@ fn words(alloc: Global, texts: &[&str]) -> Result<Vec<String>, NoMemory> {
 }
 
 /// Calls with these words, and compares the status and the text.
-fn ends(
-    rt: &impl Abort,
+fn ends<R: Abort + Threads + Wait + Sync>(
+    rt: &R,
     alloc: Global,
     files: &mut MemFiles,
     texts: &[&str],
@@ -66,15 +75,22 @@ fn ends(
     text: &str,
 ) -> Result<(), NoMemory> {
     let mut out = MemSink::new(alloc, 4096)?;
-    let got = jailhouse(alloc, words(alloc, texts)?.as_slice(), files, &mut out);
+    let got = jailhouse(
+        rt,
+        alloc,
+        words(alloc, texts)?.as_slice(),
+        files,
+        &mut out,
+        &NoGate,
+    );
     assert_eq!(rt; got, status);
     assert_eq!(rt; out.bytes(), text.as_bytes());
     Ok(())
 }
 
 /// Plays this program, and compares how that ends.
-fn plays(
-    rt: &impl Abort,
+fn plays<R: Abort + Threads + Wait + Sync>(
+    rt: &R,
     alloc: Global,
     program: &str,
     status: Status,
@@ -85,7 +101,12 @@ fn plays(
 }
 
 /// Plays with the read of this number failing, and compares the line that is told.
-fn fails(rt: &impl Abort, alloc: Global, number: u64, line: &str) -> Result<(), NoMemory> {
+fn fails<R: Abort + Threads + Wait + Sync>(
+    rt: &R,
+    alloc: Global,
+    number: u64,
+    line: &str,
+) -> Result<(), NoMemory> {
     let mut files = files(alloc, PROGRAM)?;
     files.fail(number)?;
     ends(rt, alloc, &mut files, &PLAY, Status::ReadFault, line)?;
@@ -94,10 +115,22 @@ fn fails(rt: &impl Abort, alloc: Global, number: u64, line: &str) -> Result<(), 
 }
 
 /// Plays into a sink with this much room, and compares what stands in it then.
-fn fills(rt: &impl Abort, alloc: Global, room: usize, status: Status) -> Result<(), NoMemory> {
+fn fills<R: Abort + Threads + Wait + Sync>(
+    rt: &R,
+    alloc: Global,
+    room: usize,
+    status: Status,
+) -> Result<(), NoMemory> {
     let mut files = files(alloc, PROGRAM)?;
     let mut out = MemSink::new(alloc, room)?;
-    let got = jailhouse(alloc, words(alloc, &PLAY)?.as_slice(), &mut files, &mut out);
+    let got = jailhouse(
+        rt,
+        alloc,
+        words(alloc, &PLAY)?.as_slice(),
+        &mut files,
+        &mut out,
+        &NoGate,
+    );
     assert_eq!(rt; got, status);
     assert!(rt; JOURNAL.as_bytes().starts_with(out.bytes()));
     assert_eq!(rt; out.bytes().len(), room);
@@ -105,15 +138,22 @@ fn fills(rt: &impl Abort, alloc: Global, room: usize, status: Status) -> Result<
 }
 
 /// Calls with these words, and lets memory be wanted: then nothing stands in the sink, and else this text.
-fn ends_or_wants_memory(
-    rt: &impl Abort,
+fn ends_or_wants_memory<R: Abort + Threads + Wait + Sync>(
+    rt: &R,
     alloc: Global,
     files: &mut MemFiles,
     texts: &[&str],
     text: &str,
 ) -> Result<(), NoMemory> {
     let mut out = MemSink::new(alloc, 4096)?;
-    let got = jailhouse(alloc, words(alloc, texts)?.as_slice(), files, &mut out);
+    let got = jailhouse(
+        rt,
+        alloc,
+        words(alloc, texts)?.as_slice(),
+        files,
+        &mut out,
+        &NoGate,
+    );
     let wanted = if got == Status::NoMemory { "" } else { text };
     assert!(rt; matches!(got, Status::Good | Status::NoMemory));
     assert_eq!(rt; out.bytes(), wanted.as_bytes());
@@ -144,6 +184,9 @@ fn words_without_a_command_give_the_usage_line(rt: HostRuntime) -> Result<(), Fa
         ["jailhouse", "check", "s.sys", "-c"].as_slice(),
         ["jailhouse", "audit", "b.json"].as_slice(),
         ["jailhouse", "pack"].as_slice(),
+        ["jailhouse", "map", "b.json"].as_slice(),
+        ["jailhouse", "run", "b.json", "s.txt"].as_slice(),
+        ["jailhouse", "soak", "-1"].as_slice(),
     ] {
         ends(&rt, rt.alloc(), &mut files, texts, Status::Usage, USAGE)?;
     }
@@ -151,8 +194,8 @@ fn words_without_a_command_give_the_usage_line(rt: HostRuntime) -> Result<(), Fa
 }
 
 /// Checks the system of these bytes alone, and compares how that ends.
-fn checks(
-    rt: &impl Abort,
+fn checks<R: Abort + Threads + Wait + Sync>(
+    rt: &R,
     alloc: Global,
     system: &[u8],
     status: Status,
@@ -188,8 +231,8 @@ fn a_check_tells_findings_and_their_number(rt: HostRuntime) -> Result<(), Fail> 
 }
 
 /// Packs this SPEC, and compares how that ends.
-fn packs(
-    rt: &impl Abort,
+fn packs<R: Abort + Threads + Wait + Sync>(
+    rt: &R,
     alloc: Global,
     spec: &str,
     status: Status,
@@ -199,7 +242,7 @@ fn packs(
     files.add("s.json", spec.as_bytes())?;
     let mut out = MemSink::new(alloc, 4096)?;
     let words = words(alloc, &PACK)?;
-    let got = jailhouse(alloc, words.as_slice(), &mut files, &mut out);
+    let got = jailhouse(rt, alloc, words.as_slice(), &mut files, &mut out, &NoGate);
     assert_eq!(rt; got, status);
     assert_eq!(rt; out.bytes(), text);
     Ok(())
@@ -240,7 +283,14 @@ fn a_pack_names_a_read_that_failed_and_fills_a_sink(rt: HostRuntime) -> Result<(
     let line = "read fault: s.json\n";
     ends(&rt, alloc, &mut files, &PACK, Status::ReadFault, line)?;
     let mut out = MemSink::new(alloc, 100)?;
-    let got = jailhouse(alloc, words(alloc, &PACK)?.as_slice(), &mut files, &mut out);
+    let got = jailhouse(
+        &rt,
+        alloc,
+        words(alloc, &PACK)?.as_slice(),
+        &mut files,
+        &mut out,
+        &NoGate,
+    );
     assert_eq!(rt; got, Status::WriteFault);
     assert_eq!(rt; out.bytes().len(), 100);
     assert!(rt; system(alloc)?.as_slice().starts_with(out.bytes()));
@@ -276,8 +326,8 @@ fn programs_are_played_or_refused(rt: HostRuntime) -> Result<(), Fail> {
 }
 
 /// Plays by this schedule, and compares how that ends.
-fn plays_by(
-    rt: &impl Abort,
+fn plays_by<R: Abort + Threads + Wait + Sync>(
+    rt: &R,
     alloc: Global,
     schedule: &str,
     status: Status,
@@ -305,8 +355,8 @@ fn schedules_are_followed_or_refused(rt: HostRuntime) -> Result<(), Fail> {
 const AUDIT: [&str; 4] = ["jailhouse", "audit", "b.json", "j.txt"];
 
 /// Audits this journal, and compares how that ends.
-fn audits(
-    rt: &impl Abort,
+fn audits<R: Abort + Threads + Wait + Sync>(
+    rt: &R,
     alloc: Global,
     journal: &str,
     status: Status,
@@ -414,5 +464,154 @@ fn without_memory_nothing_is_written(rt: HostRuntime) -> Result<(), Fail> {
     ends_or_wants_memory(&rt, alloc, &mut files, &AUDIT, "legal 2 quiet\n")?;
     let check = ["jailhouse", "check", "s.sys"];
     ends_or_wants_memory(&rt, alloc, &mut files, &check, "findings 0\n")?;
+    Ok(())
+}
+
+#[test]
+fn a_map_tells_what_root_is_granted(rt: HostRuntime) -> Result<(), Fail> {
+    let mut files = files(rt.alloc(), PROGRAM)?;
+    let map = ["jailhouse", "map", "b.json", "s.txt"];
+    let text = "cell 0 root\n0x40000000-0x7fc00000 phys 0x40000000 rwx page\n";
+    ends(&rt, rt.alloc(), &mut files, &map, Status::Good, text)?;
+    Ok(())
+}
+
+const RUN: [&str; 3] = ["jailhouse", "run", "b.json"];
+
+#[test]
+fn a_run_reads_back_what_it_wrote(rt: HostRuntime) -> Result<(), Fail> {
+    let mut files = files(rt.alloc(), PROGRAM)?;
+    ends(&rt, rt.alloc(), &mut files, &RUN, Status::Good, JOURNAL)?;
+    Ok(())
+}
+
+#[test]
+fn a_run_names_a_missing_program(rt: HostRuntime) -> Result<(), Fail> {
+    let mut files = MemFiles::new(rt.alloc());
+    files.add("b.json", BOARD.as_bytes())?;
+    files.add("s.sys", system(rt.alloc())?.as_slice())?;
+    let line = "read fault: p.txt\n";
+    ends(&rt, rt.alloc(), &mut files, &RUN, Status::ReadFault, line)?;
+    Ok(())
+}
+
+const SOAKED: &str = "entries 603 reads 258 writes 292 stops 13 sum 32642\n";
+
+#[test]
+fn a_soak_tells_what_its_journal_comes_to(rt: HostRuntime) -> Result<(), Fail> {
+    let mut files = MemFiles::new(rt.alloc());
+    let soak = ["jailhouse", "soak", "1"];
+    ends(&rt, rt.alloc(), &mut files, &soak, Status::Good, SOAKED)?;
+    Ok(())
+}
+
+/// Soaks as many rounds as the word tells, which are refused.
+fn refuses_rounds<R: Abort + Threads + Wait + Sync>(
+    rt: &R,
+    alloc: Global,
+    word: &str,
+) -> Result<(), NoMemory> {
+    let mut files = MemFiles::new(alloc);
+    let soak = ["jailhouse", "soak", word];
+    ends(
+        rt,
+        alloc,
+        &mut files,
+        &soak,
+        Status::Refused,
+        "refused: N\n",
+    )
+}
+
+#[test]
+fn rounds_are_1_to_400_in_decimal(rt: HostRuntime) -> Result<(), Fail> {
+    for word in ["0", "401", "01", "+1", "1 ", "0x1", "", "4294967297"] {
+        refuses_rounds(&rt, rt.alloc(), word)?;
+    }
+    Ok(())
+}
+
+/// The worker of CPU 0 waits before its first turn until that of CPU 1 comes to its second, and that one waits
+/// before its second turn until CPU 0's comes to its second.
+#[derive(Drop)]
+struct Meeting {
+    zero: AtomicU64,
+    one: AtomicU64,
+    met: AtomicU64,
+}
+
+impl Meeting {
+    fn new() -> Meeting {
+        Meeting {
+            zero: AtomicU64::new(0),
+            one: AtomicU64::new(0),
+            met: AtomicU64::new(0),
+        }
+    }
+
+    /// Looks until the worker's second turn has begun.
+    fn await_second(&self, begun: &AtomicU64) {
+        for _ in 0..100_000_000u64 {
+            if begun.load(Ordering::SeqCst) > 0 {
+                self.met.fetch_add(1, Ordering::SeqCst);
+                return;
+            }
+            thread::yield_now();
+        }
+    }
+}
+
+impl Gate for Meeting {
+    fn pass(&self, cpu: u8, turn: u64) {
+        match (cpu, turn) {
+            (0, 0) => self.await_second(&self.one),
+            (1, 1) => {
+                self.one.store(1, Ordering::SeqCst);
+                self.await_second(&self.zero);
+            }
+            (0, 1) => self.zero.store(1, Ordering::SeqCst),
+            _ => {}
+        }
+    }
+}
+
+/// Calls with these words behind a gate at which the workers of CPUs 0 and 1 wait for one another.
+fn meets<R: Abort + Threads + Wait + Sync>(
+    rt: &R,
+    alloc: Global,
+    files: &mut MemFiles,
+    texts: &[&str],
+    text: &str,
+) -> Result<(), NoMemory> {
+    let mut out = MemSink::new(alloc, 4096)?;
+    let gate = Meeting::new();
+    let words = words(alloc, texts)?;
+    let got = jailhouse(rt, alloc, words.as_slice(), files, &mut out, &gate);
+    assert_eq!(rt; got, Status::Good);
+    assert_eq!(rt; out.bytes(), text.as_bytes());
+    assert_eq!(rt; gate.met.load(Ordering::SeqCst), 2);
+    Ok(())
+}
+
+#[test]
+fn workers_of_a_run_wait_for_one_another(rt: HostRuntime) -> Result<(), Fail> {
+    let alloc = rt.alloc();
+    let mut files = files(alloc, "read 4 0x40000000\n")?;
+    files.add("s.sys", system_of(alloc, 3)?.as_slice())?;
+    meets(
+        &rt,
+        alloc,
+        &mut files,
+        &RUN,
+        "0 0 read 4 0x40000000 = 0x0\n",
+    )?;
+    Ok(())
+}
+
+#[test]
+fn workers_of_a_soak_wait_for_one_another(rt: HostRuntime) -> Result<(), Fail> {
+    let mut files = MemFiles::new(rt.alloc());
+    let soak = ["jailhouse", "soak", "1"];
+    meets(&rt, rt.alloc(), &mut files, &soak, SOAKED)?;
     Ok(())
 }

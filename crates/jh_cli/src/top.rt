@@ -1,30 +1,61 @@
-//! The top call.
+//! The top calls.
 ghost use Rattle.std.specs.Prelude.{map, string_bytes};
-ghost use Rattle.jh_cli.specs.Words.{command_of};
+ghost use Rattle.jh_cli.specs.Words.{command_of as command_of_lem, IsSerial};
 ghost use Rattle.jh_cli.specs.Call.{IsCall};
 
+use crate::command::{Command, command_of};
 use crate::laws::good_inputs_are_answered;
-use crate::send::send;
+use crate::run::run;
+use crate::send::finish;
+use crate::soak::soak;
 use crate::status::Status;
 use crate::tell::tell;
-use jh_num::NoMemory;
-use jh_outside::{Files, Sink};
+use jh_outside::{Files, Gate, Sink};
 use std::alloc::Global;
+use std::sync::Wait;
+use std::thread::Threads;
 
-/// Does all that the program does with these words: reads the files that they name, and appends the
-/// text to the sink. The whole text is made before the first write.
-pub fn jailhouse<F: Files, K: Sink>(
+/// Does all that the program does with these words, whose command isn't `run` or `soak`: reads the files that they
+/// name, and appends the text to the sink. The whole text is made before the first write. It starts no thread and waits
+/// for none.
+pub fn serial<F: Files, K: Sink>(
     alloc: Global,
     words: &[String],
     files: &mut F,
     out: &mut K,
 ) -> Status
+    requires { IsSerial (command_of_lem (map string_bytes words.now)) }
     // the status and the text are those that the words ask for, and each failure comes only where its count rose
-    ensures { IsCall F.contents F.failed F.faults F.asks K.written K.faults (command_of (map string_bytes words.now)) files.old files.new out.old out.new result }
+    ensures { IsCall F.contents F.failed F.faults F.asks K.written K.faults (command_of_lem (map string_bytes words.now)) files.old files.new out.old out.new result }
 {
     good_inputs_are_answered();
-    match tell(alloc, words, files) {
-        Ok(told) => send(out, &told),
-        Err(NoMemory) => Status::NoMemory,
+    let told = tell(alloc, words, files);
+    finish(out, told)
+}
+
+/// Does all that the program does with these words. With `run` and `soak` it has a worker for each CPU of the board,
+/// in a thread of its own where one can be had, which passes the gate before each of its turns; it waits for them, and
+/// may wait for ever.
+pub fn jailhouse<R: Threads + Wait + Sync, F: Files, K: Sink, G: Gate + Sync>(
+    rt: &R,
+    alloc: Global,
+    words: &[String],
+    files: &mut F,
+    out: &mut K,
+    gate: &G,
+) -> Status
+    ensures { IsCall F.contents F.failed F.faults F.asks K.written K.faults (command_of_lem (map string_bytes words.now)) files.old files.new out.old out.new result }
+{
+    good_inputs_are_answered();
+    match command_of(words) {
+        Some(Command::Run { board }) => {
+            let told = run(rt, alloc, files, board, gate);
+            finish(out, told)
+        }
+        Some(Command::Soak { rounds }) => {
+            let told = soak(rt, alloc, rounds, gate);
+            finish(out, told)
+        }
+        _ => serial(alloc, words, files, out),
     }
 }

@@ -1,14 +1,15 @@
 -- The entries of a legal journal are ones that a text may hold.
-use Rattle.std.proofs.Common.{◌≡◌, ◌≢◌, ℕ, zero, suc, ◌+◌, ◌*◌, ◌/◌, ◌%◌, ◌^◌, ◌<◌, ◌≤◌, Bool, true, false, is_some, List, [], ◌∷◌, ◌++◌, length, slice_get, slice_index, Option, Some, None, ◌↔◌, ◌⊎◌, inl, inr, refl, sym, ap, subst, ◌∙◌, arith, append_assoc, mod-lt, mul-le-mul_right, suc-mul}
+use Rattle.std.proofs.Common.{◌≡◌, ◌≢◌, ℕ, zero, suc, ◌+◌, ◌-◌, ◌*◌, ◌/◌, ◌%◌, ◌^◌, ◌<◌, ◌≤◌, Bool, true, false, is_some, List, [], ◌∷◌, ◌++◌, length, slice_get, slice_index, Option, Some, None, ◌↔◌, ◌⊎◌, inl, inr, refl, sym, ap, subst, ◌∙◌, arith, append_assoc, mod-lt, mul-le-mul_right, suc-mul}
 use native.Mathlib.Nat.{pow-succ'}
 use Rattle.std.specs.Prelude.{All, Contains, IsTrue, IsSome, IfSome, find}
 use Rattle.std.specs.List.{AllByRecursion}
 use Rattle.std.specs.Option.{option_map_or}
-use Rattle.std.proofs.lemmas.Bool.{false≢true}
+use Rattle.std.proofs.lemmas.Bool.{cases_lt}
 use Rattle.std.proofs.lemmas.Option.{same_Some, slice_get_within, get_or_from_slice_get}
 use Rattle.jh_num.specs.Memory.{little_endian}
 use Rattle.jh_num.proofs.Lists.{Contains-head, Contains-tail, Contains-cases, All-from_find}
 use Rattle.jh_cellcfg.specs.Cells.{name_of}
+use Rattle.jh_cellcfg.specs.declared.config.CellConfig.{CellConfig}
 use Rattle.jh_script.specs.declared.image.Image.{Image}
 use Rattle.jh_script.specs.declared.image.Program.{Program}
 use Rattle.jh_script.specs.declared.image.Preload.{Preload}
@@ -16,7 +17,7 @@ use Rattle.jh_script.specs.declared.op.Op.{Op}
 use Rattle.jh_script.specs.declared.op.Op.TheVariants.{Read as ReadOp, Write as WriteOp, Fetch as FetchOp, Await as AwaitOp}
 use Rattle.jh_script.specs.Operations.{IsPlain}
 use Rattle.jh_history.specs.declared.place.Place.{Place}
-use Rattle.jh_history.specs.declared.place.Place.TheVariants.{Physical}
+use Rattle.jh_history.specs.declared.place.Place.TheVariants.{Physical, Page}
 use Rattle.jh_history.specs.declared.access.Access.{Access}
 use Rattle.jh_history.specs.declared.access.Access.TheVariants.{Read as ToRead, Write as ToWrite, Fetch as ToFetch}
 use Rattle.jh_history.specs.declared.entry.Entry.{Entry}
@@ -27,10 +28,12 @@ use Rattle.jh_history.specs.Alone.{IsAlone}
 use Rattle.jh_history.specs.Due.{due, IsLegal}
 use Rattle.jh_history.specs.History.{facts}
 use Rattle.jh_history.specs.Lives.{is_on_board, is_program_of, program_of}
-use Rattle.jh_laws.specs.Grants.{IsGranted, AreGranted}
+use Rattle.jh_laws.specs.Ends.{IsAnswered, IsReadBy, IsGotBy}
+use Rattle.jh_laws.specs.Grants.{place_behind}
+use Rattle.jh_laws.specs.Held.{IsGrantedTo}
 use Rattle.jh_laws.specs.Journals.{LegalJournal, Moment, byte_at, byte_before, byte_behind, cpu_at}
 use Rattle.jh_laws.specs.Operations.{IsReady, IsOwn, op_of}
-use Rattle.jh_laws.specs.Outcomes.{HasItsOutcome, IsGot}
+use Rattle.jh_laws.specs.Outcomes.{HasItsOutcome}
 use Rattle.jh_laws.specs.Writes.{Writes, WritesNot}
 use Rattle.jh_text.specs.Ranges.{IsReadable, IsReadableAct}
 use Rattle.jh_run.specs.Typed.{IsTypedOp, HasTypedNumbers}
@@ -42,11 +45,11 @@ pub record JournalLaws : Type 0 where
   pub due_each : (image : Image) (entries before rest : List Entry) (entry : Entry) → IsLegal image entries → entries ≡ before ++ entry ∷ rest → due image before entry.cpu ≡ Some entry
   pub ready : (j : LegalJournal) (cpu : ℕ) → IsSome (due j.image j.entries cpu) ↔ IsReady j.image j.entries j.image.system.root cpu
   pub own : (j : LegalJournal) (cpu : ℕ) (entry : Entry) → due j.image j.entries cpu ≡ Some entry → IsOwn j.image j.entries j.image.system.root cpu entry
-  pub granted : (image : Image) (access : Access) (at : ℕ) (place : Place) → IsAdmitted image → IsGranted image.system.root access at place → place ≡ Physical at
   pub put : (image : Image) (preload : Preload) (k : ℕ) → IsAdmitted image → IsBuilt image → Contains image.preloads preload → k < length preload.bytes → byte_at image [] (Physical (preload.at + k)) ≡ slice_index preload.bytes k
   pub nothing_put : (image : Image) (place : ℕ) → IsAdmitted image → IsBuilt image → ((preload : Preload) (k : ℕ) → Contains image.preloads preload → k < length preload.bytes → place ≢ preload.at + k) → byte_at image [] (Physical place) ≡ 0
-  pub written : (m : Moment) (place : Place) (byte : ℕ) → Writes m.image.system.root m.entry.act place byte → byte_behind m place ≡ byte
-  pub others : (m : Moment) (place : Place) → WritesNot m.image.system.root place m.entry → byte_behind m place ≡ byte_before m place
+  pub pages : (image : Image) (cell offset : ℕ) → byte_at image [] (Page cell offset) ≡ 0
+  pub written : (m : Moment) (place : Place) (byte : ℕ) → Writes m.image m.image.system.root m.entry.act place byte → byte_behind m place ≡ byte
+  pub others : (m : Moment) (place : Place) → WritesNot m.image m.image.system.root place m.entry → byte_behind m place ≡ byte_before m place
 
 -- ---- the operations of programs
 
@@ -65,7 +68,7 @@ program-ops Q image name cpu all = found-ops Q image.programs (is_program_of nam
 -- ---- bytes
 
 abbrev BytesFit : Image → List Entry → Type 0
-BytesFit image entries = (p : ℕ) → byte_at image entries (Physical p) < 256
+BytesFit image entries = (place : Place) → byte_at image entries place < 256
 
 one_or_not : (a b : ℕ) → (a ≡ b) ⊎ (a ≢ b)
 one_or_not zero zero = inl refl
@@ -124,7 +127,8 @@ contained : {X : Type 0} (P : X → Type 0) (xs : List X) (x : X) → All P xs �
 contained P xs x all held = subst P held.2 (all held.0 x held.1)
 
 opening-fits : (laws : JournalLaws) (image : Image) → IsAdmitted image → IsBuilt image → HasTypedNumbers image → BytesFit image []
-opening-fits laws image admitted built typed p = elim (covered p image.preloads) [
+opening-fits laws image admitted built typed (Page cell offset) = subst (λ b. b < 256) (sym (laws.pages image cell offset)) (omega arith)
+opening-fits laws image admitted built typed (Physical p) = elim (covered p image.preloads) [
   | inl h ↦
       let byte : byte_at image [] (Physical p) ≡ slice_index h.preload.bytes h.offset
       = ap (λ n. byte_at image [] (Physical n)) h.is ∙ laws.put image h.preload h.offset admitted built h.held h.within in
@@ -133,39 +137,21 @@ opening-fits laws image admitted built typed p = elim (covered p image.preloads)
   | inr none ↦ subst (λ b. b < 256) (sym (laws.nothing_put image p admitted built none)) (omega arith)
 ]
 
--- the entry leaves bytes
-unwritten-fits : (laws : JournalLaws) (m : Moment) (p : ℕ) → byte_before m (Physical p) < 256 → WritesNot m.image.system.root (Physical p) m.entry → byte_behind m (Physical p) < 256
-unwritten-fits laws m p before none = subst (λ b. b < 256) (sym (laws.others m (Physical p) none)) before
+-- what an act writes is below 256
+written-fits : (image : Image) (cell : CellConfig) (act : Act) (place : Place) (byte : ℕ) → Writes image cell act place byte → byte < 256
+written-fits image cell (Write width at value ok) place byte w = subst (λ b. b < 256) (sym w.1.is) (mod-lt (value / 256 ^ w.1.index) (omega arith))
+written-fits image cell _ place byte w = absurd w
 
-same-place : (p q : ℕ) → Physical p ≡ Physical q → p ≡ q
-same-place p q e = cc
-
--- a write that succeeds puts bytes at the addresses that it is granted, and nowhere else
-write-fits : (laws : JournalLaws) (m : Moment) (width at value : ℕ) (ok : Bool) (p : ℕ) → m.entry.act ≡ Write width at value ok → (IsTrue ok ↔ AreGranted m.image.system.root ToWrite at width)
-    → byte_before m (Physical p) < 256 → byte_behind m (Physical p) < 256
-write-fits laws m width at value false p e outcome before =
-    unwritten-fits laws m p before (λ byte w. absurd (false≢true (subst (λ act. Writes m.image.system.root act (Physical p) byte) e w).0))
-write-fits laws m width at value true p e outcome before = elim (at_or_not p at width) [
-  | inl h ↦
+-- a byte that weren't below 256 behind the entry would be one that the entry doesn't write, so it was that before
+fits-behind : (laws : JournalLaws) (m : Moment) → BytesFit m.image m.before → (place : Place) → byte_behind m place < 256
+fits-behind laws m fits place = elim (cases_lt (byte_behind m place) 256) [
+  | inl small ↦ small
+  | inr large ↦
       let root = m.image.system.root in
-      let given = outcome.0 refl h.0 h.1 in
-      let here : given.0 ≡ Physical p = laws.granted m.image ToWrite (at + h.0) given.0 m.admitted given.1 ∙ ap Physical (sym h.2) in
-      let byte = value / 256 ^ h.0 % 256 in
-      let writes : Writes root (Write width at value true) (Physical p) byte
-      = (refl, record { index = h.0; within = h.1; granted = subst (IsGranted root ToWrite (at + h.0)) here given.1; is = refl }) in
-      subst (λ b. b < 256) (sym (laws.written m (Physical p) byte (subst (λ act. Writes root act (Physical p) byte) (sym e) writes))) (mod-lt (value / 256 ^ h.0) (omega arith))
-  | inr none ↦
-      unwritten-fits laws m p before (λ byte w.
-      let written = (subst (λ act. Writes m.image.system.root act (Physical p) byte) e w).1 in
-      none written.index written.within (same-place p (at + written.index) (laws.granted m.image ToWrite (at + written.index) (Physical p) m.admitted written.granted)))
+      let none : WritesNot m.image root place m.entry
+      = λ byte w. absurd (omega (arith, large, laws.written m place byte w, written-fits m.image root m.entry.act place byte w)) in
+      subst (λ b. b < 256) (sym (laws.others m place none)) (fits place)
 ]
-
-fits-behind : (laws : JournalLaws) (m : Moment) (act : Act) → m.entry.act ≡ act → HasItsOutcome m.image m.before m.image.system.root act → BytesFit m.image m.before → (p : ℕ) → byte_behind m (Physical p) < 256
-fits-behind laws m (Write width at value ok) e outcome fits p = write-fits laws m width at value ok p e outcome (fits p)
-fits-behind laws m (Read width at got) e outcome fits p = unwritten-fits laws m p (fits p) (λ byte w. absurd (subst (λ act. Writes m.image.system.root act (Physical p) byte) e w))
-fits-behind laws m (Fetch at got) e outcome fits p = unwritten-fits laws m p (fits p) (λ byte w. absurd (subst (λ act. Writes m.image.system.root act (Physical p) byte) e w))
-fits-behind laws m (Await width at value ok) e outcome fits p = unwritten-fits laws m p (fits p) (λ byte w. absurd (subst (λ act. Writes m.image.system.root act (Physical p) byte) e w))
-fits-behind laws m _ e outcome fits p = absurd outcome
 
 -- ---- the value of an access
 
@@ -177,40 +163,63 @@ little_endian-fits zero byte small = omega arith
 little_endian-fits (suc n) byte small =
     rw (pow-succ' 256 n) (one-more (little_endian n byte) (byte n) (256 ^ n) (little_endian-fits n byte small) (small n))
 
-got-fits : (laws : JournalLaws) (image : Image) (before : List Entry) (access : Access) (at width : ℕ) (got : Option ℕ) → IsAdmitted image → BytesFit image before
-    → IsGot image before image.system.root access at width got → IfSome got (λ value. value < 256 ^ width)
-got-fits laws image before access at width None admitted fits outcome = tt
-got-fits laws image before access at width (Some value) admitted fits outcome =
-    let root = image.system.root in
-    let given = outcome.granted.0 refl in
-    let place : ℕ → Place = λ k. Physical (at + k) in
-    let each : (k : ℕ) → k < width → IsGranted root access (at + k) (place k)
-    = λ k lt. subst (IsGranted root access (at + k)) (laws.granted image access (at + k) (given k lt).0 admitted (given k lt).1) (given k lt).1 in
-    let read : value ≡ little_endian width (λ k. byte_at image before (place k)) = outcome.reads value refl place each in
-    subst (λ v. v < 256 ^ width) (sym read) (little_endian-fits width (λ k. byte_at image before (place k)) (λ k. fits (at + k)))
+power-positive : (n : ℕ) → 0 < 256 ^ n
+power-positive zero = omega arith
+power-positive (suc n) = rw (pow-succ' 256 n) (omega (arith, power-positive n))
+
+-- a place for each number below the width, of those that there are
+abbrev chosen : {P : ℕ → Place → Type 0} (width : ℕ) → ((k : ℕ) → k < width → (place : Place) × P k place) → (k : ℕ) → (k < width) ⊎ (width ≤ k) → Place
+chosen width given k (inl lt) = (given k lt).0
+chosen width given k (inr past) = Physical 0
+
+chosen-is : {P : ℕ → Place → Type 0} (width : ℕ) (given : (k : ℕ) → k < width → (place : Place) × P k place) (k : ℕ) (found : (k < width) ⊎ (width ≤ k)) → k < width → P k (chosen {P = P} width given k found)
+chosen-is width given k (inl lt) h = (given k lt).1
+chosen-is width given k (inr past) h = absurd (omega (arith, past, h))
+
+spelled-fits : (image : Image) (before : List Entry) (width value : ℕ) (place : ℕ → Place) → BytesFit image before → value ≡ little_endian width (λ k. byte_at image before (place k)) → value < 256 ^ width
+spelled-fits image before width value place fits read =
+    subst (λ v. v < 256 ^ width) (sym read) (little_endian-fits width (λ k. byte_at image before (place k)) (λ k. fits (place k)))
+
+-- by what answers it
+read-fits : (image : Image) (before : List Entry) (id : ℕ) (access : Access) (at width value : ℕ) → BytesFit image before → IsAnswered image (facts image before).cells id access at width
+    → IsReadBy image (facts image before) id access at width value → value < 256 ^ width
+read-fits image before id access at width value fits (inl granted) read =
+    let P : ℕ → Place → Type 0 = λ k place. IsGrantedTo image (facts image before).cells id access (at + k) place in
+    let place : ℕ → Place = λ k. chosen {P = P} width granted k (cases_lt k width) in
+    spelled-fits image before width value place fits (read.bytes place (inl (λ k lt. chosen-is {P = P} width granted k (cases_lt k width) lt)))
+read-fits image before id access at width value fits (inr (inl answered)) read =
+    let region = answered.0 in
+    let place : ℕ → Place = λ k. place_behind answered.1.has.cell region ((at + k) - region.virt_start) in
+    spelled-fits image before width value place fits (read.bytes place (inr (record { region = region; answers = answered.1; given = λ k lt. refl })))
+read-fits image before id access at width value fits (inr (inr window)) read = omega (arith, read.ones window, power-positive width)
+
+got-fits : (image : Image) (before : List Entry) (id : ℕ) (access : Access) (at width : ℕ) (got : Option ℕ) → BytesFit image before
+    → IsGotBy image (facts image before) id access at width got → IfSome got (λ value. value < 256 ^ width)
+got-fits image before id access at width None fits outcome = tt
+got-fits image before id access at width (Some value) fits outcome = read-fits image before id access at width value fits (outcome.answered.0 refl) (outcome.reads value refl)
 
 -- ---- entries
 
 same-op : (a b : Op) → Some a ≡ Some b → a ≡ b
 same-op a b e = same_Some a b e
 
-readable-act : (laws : JournalLaws) (image : Image) (before : List Entry) (act : Act) (op : Op) → IsAdmitted image → BytesFit image before → HasItsOutcome image before image.system.root act
+readable-act : (image : Image) (before : List Entry) (act : Act) (op : Op) → BytesFit image before → HasItsOutcome image before image.system.root act
     → op_of act ≡ Some op → IsPlain op → IsTypedOp op → IsReadableAct act
-readable-act laws image before (Read width at got) op admitted fits outcome e plain typed =
+readable-act image before (Read width at got) op fits outcome e plain typed =
     let same : op ≡ ReadOp width at = sym (same-op (ReadOp width at) op e) in
-    (subst IsPlain same plain, subst IsTypedOp same typed, got-fits laws image before ToRead at width got admitted fits outcome)
-readable-act laws image before (Write width at value ok) op admitted fits outcome e plain typed =
+    (subst IsPlain same plain, subst IsTypedOp same typed, got-fits image before image.system.root.id ToRead at width got fits outcome)
+readable-act image before (Write width at value ok) op fits outcome e plain typed =
     let same : op ≡ WriteOp width at value = sym (same-op (WriteOp width at value) op e) in
     let limits : IsPlain (WriteOp width at value) = subst IsPlain same plain in
     (limits.0, subst IsTypedOp same typed, limits.1)
-readable-act laws image before (Fetch at got) op admitted fits outcome e plain typed =
+readable-act image before (Fetch at got) op fits outcome e plain typed =
     let same : op ≡ FetchOp at = sym (same-op (FetchOp at) op e) in
-    (subst IsTypedOp same typed, got-fits laws image before ToFetch at 4 got admitted fits outcome)
-readable-act laws image before (Await width at value ok) op admitted fits outcome e plain typed =
+    (subst IsTypedOp same typed, got-fits image before image.system.root.id ToFetch at 4 got fits outcome)
+readable-act image before (Await width at value ok) op fits outcome e plain typed =
     let same : op ≡ AwaitOp width at value = sym (same-op (AwaitOp width at value) op e) in
     let limits : IsPlain (AwaitOp width at value) = subst IsPlain same plain in
     (limits.0, subst IsTypedOp same typed, limits.1)
-readable-act laws image before _ op admitted fits outcome e plain typed = absurd outcome
+readable-act image before _ op fits outcome e plain typed = absurd outcome
 
 -- what is known of the image
 pub record IsFitImage (image : Image) : Type 0 where
@@ -238,8 +247,8 @@ made laws image fit before rest entry legal =
       cell = own.cell_is ∙ (laws.alone image before fit.silent early).owners entry.cpu;
     }
 
-readable-entry : (laws : JournalLaws) (image : Image) → IsFitImage image → (before : List Entry) (entry : Entry) → Made image before entry → BytesFit image before → IsReadable entry
-readable-entry laws image fit before entry m fits =
+readable-entry : (image : Image) → IsFitImage image → (before : List Entry) (entry : Entry) → Made image before entry → BytesFit image before → IsReadable entry
+readable-entry image fit before entry m fits =
     let name = name_of image.system.root in
     let position = (cpu_at image before entry.cpu).position in
     let plain_all : All (λ (p : Program). All IsPlain p.ops) image.programs = λ k d lt. (fit.admitted.programs k d lt).plain in
@@ -248,7 +257,7 @@ readable-entry laws image fit before entry m fits =
     record {
       cpu = fit.few entry.cpu m.ready.board;
       cell = subst (λ id. id < 2 ^ 32) (sym m.cell) fit.typed.root;
-      act = readable-act laws image before entry.act m.ready.op fit.admitted fits m.own.outcome (m.own.operation ∙ m.ready.at) plain typed;
+      act = readable-act image before entry.act m.ready.op fits m.own.outcome (m.own.operation ∙ m.ready.at) plain typed;
     }
 
 readable-from : (laws : JournalLaws) (image : Image) → IsFitImage image → (rest before : List Entry) → IsLegal image (before ++ rest) → BytesFit image before → AllByRecursion IsReadable rest
@@ -256,8 +265,8 @@ readable-from laws image fit [] before legal fits = tt
 readable-from laws image fit (entry ∷ rest) before legal fits =
     let m = made laws image fit before rest entry legal in
     let moment : Moment = record { image = image; before = before; entry = entry; rest = rest; admitted = fit.admitted; built = fit.built; silent = fit.silent; legal = legal } in
-    let behind : BytesFit image (before ++ entry ∷ []) = fits-behind laws moment entry.act refl m.own.outcome fits in (
-      readable-entry laws image fit before entry m fits,
+    let behind : BytesFit image (before ++ entry ∷ []) = fits-behind laws moment fits in (
+      readable-entry image fit before entry m fits,
       readable-from laws image fit rest (before ++ entry ∷ []) (subst (IsLegal image) (sym (append_assoc before (entry ∷ []) rest)) legal) behind,
     )
 

@@ -3,3 +3,14 @@ pub mod RanLemmas
 pub mod EndLemmas
 pub mod LegalTexts
 pub mod MapsLemmas
+pub mod TurnLemmas
+pub mod PortLemmas
+pub mod WholeLemmas
+pub mod SpreadLemmas
+pub mod CallerLemmas
+pub mod SoakLemmas
+pub mod SoakClean
+pub mod SoakTables
+pub mod SoakPrograms
+pub mod SoakPreloads
+pub mod SoakAdmitted

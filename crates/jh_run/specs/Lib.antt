@@ -3,3 +3,10 @@ pub mod Maps
 pub mod Plays
 pub mod Ran
 pub mod Typed
+pub mod Origins
+pub mod Turns
+pub mod Running
+pub mod Drives
+pub mod Workers
+pub mod Summaries
+pub mod Soak

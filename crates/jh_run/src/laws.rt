@@ -15,7 +15,6 @@ use jh_history::{admitted_roots_are_sound, root_lives_alone};
 use jh_laws::{
     beginnings_are_legal, due_entries_are_their_cpus_own, entries_write_their_bytes,
     legal_entries_are_due, memory_opens_with_the_preloads, ready_cpus_have_an_entry_due,
-    root_is_granted_its_addresses,
 };
 use jh_map::maps_of_one_cell_are_equal;
 use jh_script::Image;
@@ -36,7 +35,6 @@ pub fn legal_journals_are_readable(image: &Image)
     legal_entries_are_due();
     ready_cpus_have_an_entry_due();
     due_entries_are_their_cpus_own();
-    root_is_granted_its_addresses();
     memory_opens_with_the_preloads();
     entries_write_their_bytes();
 }

@@ -2,14 +2,17 @@
 ghost use Rattle.std.specs.Prelude.{IfOk};
 ghost use Rattle.jh_history.specs.Admitted.{IsAdmitted, IsBuilt};
 
-use crate::{Ended, follow, play};
+use crate::{Ended, Summary, follow, play, run, soak_image, summary_of};
 use jh_cellcfg::{CellConfig, Console, Region, SystemConfig};
 use jh_history::{Act, Entry, admit, is_built, is_on_board};
 use jh_num::{NoMemory, Seq};
+use jh_outside::{Gate, NoGate};
 use jh_script::{Image, Op, Program};
 use std::alloc::Global;
 use std::process::Abort;
+use std::sync::atomic::{AtomicU64, Ordering};
 use std::test::Fail;
+use std::thread;
 
 /// The one page of root's memory.
 const BASE: u64 = 0x4000_0000;
@@ -116,6 +119,27 @@ fn write(value: u64) -> Op {
         width: 1,
         at: BASE,
         value,
+    }
+}
+
+fn wait(value: u64) -> Op {
+    Op::Await {
+        width: 1,
+        at: BASE,
+        value,
+    }
+}
+
+fn waited(cpu: u8, value: u64) -> Entry {
+    Entry {
+        cpu,
+        cell: 0,
+        act: Act::Await {
+            width: 1,
+            at: BASE,
+            value,
+            ok: true,
+        },
     }
 }
 
@@ -229,5 +253,103 @@ fn play_stops_at_a_full_journal(rt: HostRuntime) -> Result<(), Fail> {
     plays(&rt, alloc, image, &[], 1, Ended::Full, &entries)?;
     let image = ready(&rt, alloc, &[read(1)], &[])?;
     plays(&rt, alloc, image, &[], 1, Ended::Quiet, &entries)?;
+    Ok(())
+}
+
+/// The worker of CPU 0 waits before its first turn until that of CPU 3 comes to its second, and that one waits
+/// before its second turn until CPU 0's comes to its second.
+#[derive(Drop)]
+struct Meeting {
+    zero: AtomicU64,
+    three: AtomicU64,
+    met: AtomicU64,
+}
+
+impl Meeting {
+    fn new() -> Meeting {
+        Meeting {
+            zero: AtomicU64::new(0),
+            three: AtomicU64::new(0),
+            met: AtomicU64::new(0),
+        }
+    }
+
+    /// Looks until the worker's second turn has begun.
+    fn await_second(&self, begun: &AtomicU64) {
+        for _ in 0..100_000_000u64 {
+            if begun.load(Ordering::SeqCst) > 0 {
+                self.met.fetch_add(1, Ordering::SeqCst);
+                return;
+            }
+            thread::yield_now();
+        }
+    }
+}
+
+impl Gate for Meeting {
+    fn pass(&self, cpu: u8, turn: u64) {
+        match (cpu, turn) {
+            (0, 0) => self.await_second(&self.three),
+            (3, 1) => {
+                self.three.store(1, Ordering::SeqCst);
+                self.await_second(&self.zero);
+            }
+            (0, 1) => self.zero.store(1, Ordering::SeqCst),
+            _ => {}
+        }
+    }
+}
+
+#[test]
+fn workers_of_two_cpus_wait_for_one_another(rt: HostRuntime) -> Result<(), Fail> {
+    let alloc = rt.alloc();
+    let image = ready(&rt, alloc, &[read(1)], &[])?;
+    let meeting = Meeting::new();
+    let (board, ended) = run(&rt, alloc, image, &meeting, AMPLE)?;
+    assert_eq!(rt; ended, Ended::Quiet);
+    assert_eq!(rt; board.journal().as_slice(), [got(0, 1, 0)].as_slice());
+    assert_eq!(rt; meeting.met.load(Ordering::SeqCst), 2);
+    Ok(())
+}
+
+#[test]
+fn a_run_stops_at_a_full_journal(rt: HostRuntime) -> Result<(), Fail> {
+    let alloc = rt.alloc();
+    let image = ready(&rt, alloc, &[read(1), read(2)], &[])?;
+    let (board, ended) = run(&rt, alloc, image, &NoGate, 1)?;
+    assert_eq!(rt; ended, Ended::Full);
+    assert_eq!(rt; board.journal().as_slice(), [got(0, 1, 0)].as_slice());
+    Ok(())
+}
+
+#[test]
+fn cpus_that_await_one_another_have_one_order(rt: HostRuntime) -> Result<(), Fail> {
+    let alloc = rt.alloc();
+    let zero = [wait(2), write(3)];
+    let three = [write(2), wait(3)];
+    let image = ready(&rt, alloc, &zero, &three)?;
+    let (board, ended) = run(&rt, alloc, image, &NoGate, AMPLE)?;
+    assert_eq!(rt; ended, Ended::Quiet);
+    let entries = [wrote(3, 2), waited(0, 2), wrote(0, 3), waited(3, 3)];
+    assert_eq!(rt; board.journal().as_slice(), entries.as_slice());
+    Ok(())
+}
+
+#[test]
+fn a_soak_of_one_round(rt: HostRuntime) -> Result<(), Fail> {
+    let alloc = rt.alloc();
+    let image = soak_image(alloc, 1)?;
+    assert!(rt; admit(alloc, &image)?);
+    assert!(rt; is_built(&image));
+    let (board, ended) = run(&rt, alloc, image, &NoGate, 262_144)?;
+    assert_eq!(rt; ended, Ended::Quiet);
+    let summary = Summary {
+        entries: 603,
+        reads: 258,
+        writes: 292,
+        stops: 13,
+        sum: 32_642,
+    };
+    assert_eq!(rt; summary_of(board.journal()), summary);
     Ok(())
 }

@@ -24,3 +24,9 @@ returns-in-Audit-clause-ends g c = rw c.in-Audit.is c.audit.ensures.ends
 
 pub returns-in-Audit-clause-asked : goal.returns-in-Audit-clause-asked
 returns-in-Audit-clause-asked g c = rw c.in-Audit.is c.audit.ensures.asked
+
+pub returns-in-Map-clause-ends : goal.returns-in-Map-clause-ends
+returns-in-Map-clause-ends g c = rw c.in-Map.is c.map.ensures.ends
+
+pub returns-in-Map-clause-asked : goal.returns-in-Map-clause-asked
+returns-in-Map-clause-asked g c = rw c.in-Map.is c.map.ensures.asked

@@ -1,31 +1,42 @@
--- What is told is sent, and for want of memory nothing is.
-use Rattle.std.proofs.Common.{inr}
+-- What a run or a soak tells is sent.
+use Rattle.std.proofs.Common.{◌≡◌, [], Option, Some, subst}
 use Rattle.std.specs.Prelude.{map, string_bytes}
-use Rattle.jh_cli.specs.Words.{command_of}
-use Rattle.jh_cli.specs.Stopped.{said_of}
-use Rattle.jh_cli.proofs.GoodLemmas.{answered_or_rose, unread, said_read}
-use Rattle.jh_cli.specs.Complete.{IsAnswer}
-use Rattle.jh_cli.proofs.OrderLemmas.{call_keeps}
-use Rattle.jh_cli.proofs.StatusLemmas.{outcome_other}
+use Rattle.jh_outside.specs.Trail.{Asks, no_ask}
+use Rattle.jh_cli.specs.Call.{IsCall}
+use Rattle.jh_cli.specs.Soak.{Soaks}
+use Rattle.jh_cli.specs.Stopped.{IsCounted}
+use Rattle.jh_cli.specs.Words.{Asked, RunOf, SoakOf, command_of}
+use Rattle.jh_cli.proofs.CallLemmas.{finished_call}
+use Rattle.jh_cli.proofs.RunLemmas.{soak_counted}
+use Rattle.jh_cli.proofs.StopLemmas.{on_told}
 use Rattle.jh_cli.proofs.top.jailhouse.Goals as goal
 
-pub returns-in-Ok : goal.returns-in-Ok
-returns-in-Ok g c =
-    let contents = g.F.Files.contents c.args.files.now in
-    let asked = command_of (map string_bytes c.args.words.now) in
-    let said = said_of c.in-Ok.told in
-    let told = c.in-Ok.ensures in
-    let old = g.F.Files.faults c.args.files.now in
-    let new = g.F.Files.faults c.tell.new.files in
-    let failed = g.F.Files.failed c.tell.new.files in
-    let before = g.K.Sink.written c.args.out.now in
-    let after = g.K.Sink.written c.send.new.out in
-    record {
-      ends = inr (said, record { outcome = told.outcome; read = told.asked; counted = told.counted }, c.send.ensures.sent);
-      read_fault = unread old new failed before after said c.send.result told.counted c.send.ensures.sent;
-      write_fault = λ is. c.send.ensures.fault is (outcome_other contents asked said told.outcome);
-      unfailed = λ read written wanted. call_keeps g.F.Files.asks g.F.Files.failed contents asked c.args.files.now c.tell.new.files said told.asked (said_read before after said c.send.result c.send.ensures.sent read written);
-      complete = λ good. answered_or_rose (IsAnswer contents asked good) old new (g.K.Sink.faults c.args.out.now) (g.K.Sink.faults c.send.new.out) failed before after said c.send.result
-          (c.good_inputs_are_answered.ensures contents asked said good told.outcome) told.counted c.send.ensures.sent
-          (λ is. c.send.ensures.fault is (outcome_other contents asked said told.outcome));
-    }
+pub returns-in-Some-Run : goal.returns-in-Some-Run
+returns-in-Some-Run g c =
+    let board = c.in-Some-Run.board.now in
+    let is : Some (RunOf board) ≡ command_of (map string_bytes c.args.words.now) = rw c.in-Some-Run.field-0-is at c.in-Some-Run.ensures.command in
+    subst
+    (λ (asked : Option Asked). IsCall g.F.Files.contents g.F.Files.failed g.F.Files.faults g.F.Files.asks g.K.Sink.written g.K.Sink.faults asked c.args.files.now c.run-told.new.files c.args.out.now c.finish.new.out c.finish.result)
+    is
+    (finished_call g.F.Files.contents g.F.Files.failed g.F.Files.faults g.F.Files.asks g.K.Sink.written g.K.Sink.faults c.good_inputs_are_answered.ensures
+    (Some (RunOf board)) c.args.files.now c.run-told.new.files c.args.out.now c.finish.new.out c.run-told.result c.finish.result
+    c.run-told.ensures.ends c.run-told.ensures.counted c.run-told.ensures.asked c.finish.ensures.sent c.finish.ensures.fault c.finish.ensures.memory)
+
+pub returns-in-Some-Soak : goal.returns-in-Some-Soak
+returns-in-Some-Soak g c =
+    let word = c.in-Some-Soak.rounds.now in
+    let is : Some (SoakOf word) ≡ command_of (map string_bytes c.args.words.now) = rw c.in-Some-Soak.field-0-is at c.in-Some-Soak.ensures.command in
+    let files = c.args.files.now in
+    let count = g.F.Files.faults files in
+    let failed = g.F.Files.failed files in
+    let told = c.soak-told.result in
+    let end = c.finish-in-Some-Soak in
+    subst
+    (λ (asked : Option Asked). IsCall g.F.Files.contents g.F.Files.failed g.F.Files.faults g.F.Files.asks g.K.Sink.written g.K.Sink.faults asked files files c.args.out.now end.new.out end.result)
+    is
+    (finished_call g.F.Files.contents g.F.Files.failed g.F.Files.faults g.F.Files.asks g.K.Sink.written g.K.Sink.faults c.good_inputs_are_answered.ensures
+    (Some (SoakOf word)) files files c.args.out.now end.new.out told end.result
+    c.soak-told.ensures
+    (on_told (Soaks word) (IsCounted count count failed) told (soak_counted count count failed word) c.soak-told.ensures)
+    (on_told (Soaks word) (λ said. Asks g.F.Files.asks g.F.Files.failed files [] files) told (λ said soaked. no_ask files) c.soak-told.ensures)
+    end.ensures.sent end.ensures.fault end.ensures.memory)

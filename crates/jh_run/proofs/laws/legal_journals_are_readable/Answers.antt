@@ -11,9 +11,9 @@ returns-clause-entries c = λ admitted built silent typed entries legal.
       due_each = c.legal_entries_are_due.ensures.due;
       ready = c.ready_cpus_have_an_entry_due.ensures.ready;
       own = c.due_entries_are_their_cpus_own.ensures.own;
-      granted = c.root_is_granted_its_addresses.ensures;
       put = c.memory_opens_with_the_preloads.ensures.put;
       nothing_put = c.memory_opens_with_the_preloads.ensures.zero;
+      pages = c.memory_opens_with_the_preloads.ensures.pages;
       written = c.entries_write_their_bytes.ensures.written;
       others = c.entries_write_their_bytes.ensures.others;
     })
@@ -31,9 +31,9 @@ returns-clause-text c = λ admitted built silent typed entries legal within. rec
         due_each = c.legal_entries_are_due.ensures.due;
         ready = c.ready_cpus_have_an_entry_due.ensures.ready;
         own = c.due_entries_are_their_cpus_own.ensures.own;
-        granted = c.root_is_granted_its_addresses.ensures;
         put = c.memory_opens_with_the_preloads.ensures.put;
         nothing_put = c.memory_opens_with_the_preloads.ensures.zero;
+        pages = c.memory_opens_with_the_preloads.ensures.pages;
         written = c.entries_write_their_bytes.ensures.written;
         others = c.entries_write_their_bytes.ensures.others;
       })

@@ -1,0 +1,21 @@
+-- The board is read, and what is asked of its image is done.
+use Rattle.std.proofs.Common.{[], ◌∷◌}
+use Rattle.jh_cli.specs.Map.{MapsBy}
+use Rattle.jh_cli.proofs.BoardLemmas.{opens}
+use Rattle.jh_cli.proofs.OrderLemmas.{board_behind}
+use Rattle.jh_cli.proofs.StopLemmas.{counted_behind}
+use Rattle.jh_cli.proofs.map.map.Goals as goal
+
+pub returns-clause-ends : goal.returns-clause-ends
+returns-clause-ends g c =
+    let contents = g.F.Files.contents c.args.files.now in
+    let rest = rw c.open.ensures.kept at c.map_by.ensures.ends in
+    opens contents c.args.board.now (MapsBy contents c.args.items.now) c.in_ok-image.image c.in_ok-image.ensures.image c.in_ok-image.ensures.admitted c.map_by.result rest
+
+pub returns-clause-counted : goal.returns-clause-counted
+returns-clause-counted g c =
+    counted_behind (g.F.Files.faults c.args.files.now) (g.F.Files.faults c.open.new.files) (g.F.Files.faults c.map_by.new.files) (g.F.Files.failed c.map_by.new.files) c.open.ensures.never_falls c.map_by.result c.map_by.ensures.counted
+
+pub returns-clause-asked : goal.returns-clause-asked
+returns-clause-asked g c =
+    board_behind g.F.Files.asks g.F.Files.failed (g.F.Files.contents c.args.files.now) c.args.board.now (c.args.items.now ∷ []) c.args.files.now c.open.new.files c.map_by.new.files c.in_ok-image.ensures.asked c.map_by.result c.map_by.ensures.asked

@@ -1,0 +1,22 @@
+-- The board is read, and the journal of its run told.
+use Rattle.std.proofs.Common.{[], Ok, inl}
+use Rattle.jh_outside.specs.Trail.{no_ask}
+use Rattle.jh_cli.specs.Run.{IsRan}
+use Rattle.jh_cli.specs.Stopped.{said_of}
+use Rattle.jh_cli.proofs.BoardLemmas.{opens}
+use Rattle.jh_cli.proofs.OrderLemmas.{board_behind}
+use Rattle.jh_cli.proofs.RunLemmas.{ran_counted}
+use Rattle.jh_cli.proofs.run.run.Goals as goal
+
+pub returns-clause-ends : goal.returns-clause-ends
+returns-clause-ends g c =
+    opens (g.F.Files.contents c.args.files.now) c.args.board.now IsRan c.in_ok-image.image c.in_ok-image.ensures.image c.in_ok-image.ensures.admitted (Ok c.in_ok-render.field-0) c.in_ok-render.ensures
+
+pub returns-clause-counted : goal.returns-clause-counted
+returns-clause-counted g c =
+    ran_counted (g.F.Files.faults c.args.files.now) (g.F.Files.faults c.open.new.files) (g.F.Files.failed c.open.new.files) c.in_ok-image.image (said_of c.in_ok-render.field-0) c.in_ok-render.ensures
+
+pub returns-clause-asked : goal.returns-clause-asked
+returns-clause-asked g c =
+    let files = c.open.new.files in
+    board_behind g.F.Files.asks g.F.Files.failed (g.F.Files.contents c.args.files.now) c.args.board.now [] c.args.files.now files files c.in_ok-image.ensures.asked (Ok c.in_ok-render.field-0) (inl (no_ask files))

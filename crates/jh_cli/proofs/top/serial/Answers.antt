@@ -1,0 +1,11 @@
+-- What is told is sent, and for want of memory nothing is.
+use Rattle.std.specs.Prelude.{map, string_bytes}
+use Rattle.jh_cli.specs.Words.{command_of}
+use Rattle.jh_cli.proofs.CallLemmas.{finished_call}
+use Rattle.jh_cli.proofs.top.serial.Goals as goal
+
+pub returns : goal.returns
+returns g c =
+    finished_call g.F.Files.contents g.F.Files.failed g.F.Files.faults g.F.Files.asks g.K.Sink.written g.K.Sink.faults c.good_inputs_are_answered.ensures
+    (command_of (map string_bytes c.args.words.now)) c.args.files.now c.tell-told.new.files c.args.out.now c.finish.new.out c.tell-told.result c.finish.result
+    c.tell-told.ensures.outcome c.tell-told.ensures.counted c.tell-told.ensures.asked c.finish.ensures.sent c.finish.ensures.fault c.finish.ensures.memory

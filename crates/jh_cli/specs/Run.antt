@@ -1,0 +1,33 @@
+-- What `run` ends with. Threads take their turns in any order, so it is one of several texts.
+use Rattle.std.specs.Prelude.{◌≡◌, ℕ, List, length}
+use Rattle.jh_script.specs.declared.image.Image.{Image}
+use Rattle.jh_history.specs.declared.entry.Entry.{Entry}
+use Rattle.jh_history.specs.Due.{IsLegal, IsQuiet}
+use Rattle.jh_text.specs.Text.{journal_text}
+use Rattle.jh_cli.specs.Reading.{Said, Contents}
+use Rattle.jh_cli.specs.Boards.{Opens}
+use Rattle.jh_cli.specs.declared.status.Status.{Status}
+use Rattle.jh_cli.specs.declared.status.Status.TheVariants.{Good, Full}
+use Rattle.jh_cli.specs.Limits.{journal_limit}
+
+-- nothing is due after the journal of a run that ends with `Good`; one that ends with `Full` is at its limit, and
+-- something is due
+abbrev pub EndsRun : Image → List Entry → Status → Type 0
+EndsRun image entries Good = IsQuiet image entries
+EndsRun image entries Full = (length entries ≡ journal_limit) × ¬ IsQuiet image entries
+EndsRun image entries _ = ⊥
+
+-- a run of the image may make these entries, and end with this status
+pub record IsRun (image : Image) (entries : List Entry) (status : Status) : Type 0 where
+  pub legal : IsLegal image entries
+  pub ends : EndsRun image entries status
+
+-- the text of a journal that a run of the image may make
+pub record IsRan (image : Image) (said : Said) : Type 0 where
+  pub entries : List Entry
+  pub run : IsRun image entries said.status
+  pub told : said.text ≡ journal_text entries
+
+-- what a run of the board ends with: the board's files are read, and the first that stops the call ends it
+abbrev pub Runs : Contents → List ℕ → Said → Type 0
+Runs contents board = Opens contents board IsRan

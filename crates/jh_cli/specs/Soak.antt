@@ -1,0 +1,41 @@
+-- What `soak` ends with.
+use Rattle.std.specs.Prelude.{◌≡◌, ◌≤◌, ◌⊎◌, ℕ, List, [], ◌∷◌, ◌++◌, Option, Some, None, codes, decimal}
+use Rattle.jh_history.specs.declared.entry.Entry.{Entry}
+use Rattle.jh_run.specs.declared.summary.Summary.{Summary}
+use Rattle.jh_run.specs.Summaries.{summary_of}
+use Rattle.jh_run.specs.Soak.{soak_board}
+use Rattle.jh_cli.specs.Lines.{rounds_line}
+use Rattle.jh_cli.specs.Reading.{Said}
+use Rattle.jh_cli.specs.Run.{IsRun}
+use Rattle.jh_cli.specs.declared.status.Status.TheVariants.{Refused}
+
+-- the word is the number of rounds in decimal, of which there may be 1 to 400
+pub record AreRounds (word : List ℕ) (rounds : ℕ) : Type 0 where
+  pub least : 1 ≤ rounds
+  pub most : rounds ≤ 400
+  pub written : word ≡ decimal rounds
+
+-- the number that was found in the word, or none where it tells none
+abbrev pub TellsRounds : List ℕ → Option ℕ → Type 0
+TellsRounds word (Some rounds) = AreRounds word rounds
+TellsRounds word None = (rounds : ℕ) → AreRounds word rounds → ⊥
+
+-- the line that tells what a journal comes to
+abbrev pub summary_line : Summary → List ℕ
+summary_line summary =
+    codes "entries " ++ (decimal summary.entries ++ (codes " reads " ++ (decimal summary.reads ++ (codes " writes " ++ (decimal summary.writes
+    ++ (codes " stops " ++ (decimal summary.stops ++ (codes " sum " ++ (decimal summary.sum ++ 10 ∷ [])))))))))
+
+-- the summary of a journal that a run of the board of so many rounds may make
+pub record IsSoaked (rounds : ℕ) (said : Said) : Type 0 where
+  pub entries : List Entry
+  pub run : IsRun (soak_board rounds) entries said.status
+  pub told : said.text ≡ summary_line (summary_of entries)
+
+-- the word that tells no number of rounds is refused
+abbrev pub AreNoRounds : List ℕ → Said → Type 0
+AreNoRounds word said = TellsRounds word None × (said ≡ record { status = Refused; text = rounds_line })
+
+-- what a soak of so many rounds as the word tells ends with; no file is read for it
+abbrev pub Soaks : List ℕ → Said → Type 0
+Soaks word said = AreNoRounds word said ⊎ ((rounds : ℕ) × AreRounds word rounds × IsSoaked rounds said)

@@ -1,0 +1,54 @@
+//! Running a board, with a worker for each of its CPUs.
+ghost use Rattle.std.specs.Prelude.{◌≡◌, IfOk, []};
+ghost use Rattle.jh_history.specs.Admitted.{IsAdmitted, IsBuilt};
+ghost use Rattle.jh_cli.specs.Order.{ReadsBoard};
+ghost use Rattle.jh_cli.specs.Run.{IsRan, Runs};
+ghost use Rattle.jh_cli.specs.Stopped.{said_of, OnTold, IsCounted};
+
+use crate::boards::open;
+use crate::limits::JOURNAL_LIMIT;
+use crate::play::status_of;
+use crate::told::{Stop, Told};
+use jh_num::NoMemory;
+use jh_outside::{Files, Gate};
+use jh_run::run as run_board;
+use jh_script::Image;
+use jh_text::print_journal;
+use std::alloc::Global;
+use std::sync::Wait;
+use std::thread::Threads;
+
+/// Runs the image, and tells its journal.
+fn render<R: Threads + Wait + Sync, G: Gate + Sync>(
+    rt: &R,
+    alloc: Global,
+    image: Image,
+    gate: &G,
+) -> Result<Told, NoMemory>
+    requires admitted { IsAdmitted image }
+    requires built { IsBuilt image }
+    ensures { IfOk result (λ told. IsRan image (said_of told)) }
+{
+    let (board, ended) = run_board(rt, alloc, image, gate, JOURNAL_LIMIT)?;
+    let text = print_journal(alloc, board.journal())?;
+    Ok(Told {
+        status: status_of(ended),
+        text,
+    })
+}
+
+/// Reads the board, and runs it. It waits for the workers, and may wait for ever.
+pub fn run<R: Threads + Wait + Sync, F: Files, G: Gate + Sync>(
+    rt: &R,
+    alloc: Global,
+    files: &mut F,
+    board: &str,
+    gate: &G,
+) -> Result<Told, Stop>
+    ensures ends { OnTold result (Runs (F.contents files.old) board.now) }
+    ensures counted { OnTold result (IsCounted (F.faults files.old) (F.faults files.new) (F.failed files.new)) }
+    ensures asked { OnTold result (ReadsBoard F.asks F.failed (F.contents files.old) board.now [] files.old files.new) }
+{
+    let image = open(alloc, files, board)?;
+    Ok(render(rt, alloc, image, gate)?)
+}

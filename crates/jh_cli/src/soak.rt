@@ -1,0 +1,95 @@
+//! Running the board of so many rounds.
+ghost use Rattle.std.specs.Prelude.{◌≡◌, ◌≤◌, ◌&&◌, nat_le, Some, None, if◌then◌else◌, IfOk};
+ghost use Rattle.jh_cli.specs.Soak.{TellsRounds, summary_line as summary_line_lem, IsSoaked, Soaks};
+ghost use Rattle.jh_cli.specs.Stopped.{said_of, OnTold};
+
+use crate::limits::JOURNAL_LIMIT;
+use crate::lines::rounds_line;
+use crate::play::status_of;
+use crate::status::Status;
+use crate::told::{Stop, Told};
+use jh_num::NoMemory;
+use jh_outside::Gate;
+use jh_run::{MAX_ROUNDS, Summary, run, soak_image, summary_of};
+use std::alloc::Global;
+use std::sync::Wait;
+use std::thread::Threads;
+
+/// The number of rounds that the word tells, if it does: 1 to [`MAX_ROUNDS`] in decimal, without a sign or a leading
+/// zero.
+fn read_rounds(alloc: Global, word: &str) -> Result<Option<u32>, NoMemory>
+    ensures { IfOk result (TellsRounds word.now) }
+{
+    let Ok(rounds) = word.parse::<u32>() else {
+        return Ok(None);
+    };
+    let written = format!(in alloc; "{rounds}")?;
+    let plain = written.as_str() == word;
+    Ok(rounds_if(plain, rounds))
+}
+
+/// The rounds, if they are as the word has them and there may be so many.
+fn rounds_if(plain: bool, rounds: u32) -> Option<u32>
+    ensures { result ≡ (if plain && (nat_le 1 rounds && nat_le rounds 400) then Some rounds else None) }
+{
+    if plain && 1 <= rounds && rounds <= MAX_ROUNDS {
+        Some(rounds)
+    } else {
+        None
+    }
+}
+
+/// The line that tells what a journal comes to.
+fn summary_line(alloc: Global, summary: &Summary) -> Result<Vec<u8>, NoMemory>
+    ensures { IfOk result (λ text. text.items ≡ summary_line_lem summary.now) }
+{
+    let Summary {
+        entries,
+        reads,
+        writes,
+        stops,
+        sum,
+    } = *summary;
+    let text = format!(in alloc;
+        "entries {entries} reads {reads} writes {writes} stops {stops} sum {sum}\n"
+    )?;
+    Ok(text.into_bytes())
+}
+
+/// Runs the board of so many rounds, and tells what its journal comes to.
+fn render<R: Threads + Wait + Sync, G: Gate + Sync>(
+    rt: &R,
+    alloc: Global,
+    rounds: u32,
+    gate: &G,
+) -> Result<Told, NoMemory>
+    requires least { 1 ≤ rounds }
+    requires most { rounds ≤ 400 }
+    ensures { IfOk result (λ told. IsSoaked rounds (said_of told)) }
+{
+    let image = soak_image(alloc, rounds)?;
+    let (board, ended) = run(rt, alloc, image, gate, JOURNAL_LIMIT)?;
+    let summary = summary_of(board.journal());
+    Ok(Told {
+        status: status_of(ended),
+        text: summary_line(alloc, &summary)?,
+    })
+}
+
+/// Runs the board of as many rounds as the word tells. It waits for the workers, and may wait for ever.
+pub fn soak<R: Threads + Wait + Sync, G: Gate + Sync>(
+    rt: &R,
+    alloc: Global,
+    word: &str,
+    gate: &G,
+) -> Result<Told, Stop>
+    ensures { OnTold result (Soaks word.now) }
+{
+    match read_rounds(alloc, word)? {
+        Some(rounds) => Ok(render(rt, alloc, rounds, gate)?),
+        None => Ok(Told {
+            status: Status::Refused,
+            text: rounds_line(alloc)?,
+        }),
+    }
+}

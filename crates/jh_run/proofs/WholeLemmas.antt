@@ -1,0 +1,76 @@
+-- What a beginning of the last journal tells, that journal tells too.
+use Rattle.std.proofs.Common.{◌≡◌, ℕ, ◌+◌, ◌≤◌, List, [], ◌∷◌, ◌++◌, refl, sym, ◌∙◌, ap, subst, length, arith, append-nil, length-append}
+use Rattle.std.specs.Prelude.{◌↔◌, Result, IfOk}
+use Rattle.std.proofs.lemmas.List.{nil_from_length}
+use mathlib.Core.List.{IsPrefix}
+use Rattle.jh_script.specs.declared.image.Image.{Image}
+use Rattle.jh_history.specs.declared.entry.Entry.{Entry}
+use Rattle.jh_history.specs.Due.{IsLegal, IsQuiet}
+use Rattle.jh_board.specs.BoardView.{BoardView}
+use Rattle.jh_run.specs.Origins.{Origin}
+use Rattle.jh_run.specs.Plays.{IsBoardOf}
+use Rattle.jh_run.proofs.TurnLemmas.{board_origin}
+use Rattle.jh_run.specs.Drives.{Tells, end_stop}
+use Rattle.jh_run.specs.declared.ended.Ended.{Ended}
+use Rattle.jh_run.specs.declared.ended.Ended.TheVariants.{Quiet as EndedQuiet, Full as EndedFull}
+use Rattle.jh_run.specs.declared.driving.Stop.{Stop}
+use Rattle.jh_run.specs.declared.driving.Stop.TheVariants.{Quiet, Halted}
+use Rattle.jh_run.specs.declared.run_turn.Halt.TheVariants.{Full, NoMemory}
+
+-- the law that nothing legal extends a quiet journal, as it is stated
+abbrev pub QuietEnds : Type 0
+QuietEnds = (image : Image) (before rest : List Entry) (entry : Entry) → IsQuiet image before → IsLegal image (before ++ entry ∷ rest) → ⊥
+
+whole_quiet : QuietEnds → (image : Image) (seen rest all : List Entry) → seen ++ rest ≡ all → IsLegal image all → IsQuiet image seen → IsQuiet image all
+whole_quiet ends image seen [] all e legal quiet = let P : List Entry → Type 0 = IsQuiet image in subst P (sym (append-nil seen) ∙ e) quiet
+whole_quiet ends image seen (entry ∷ rest) all e legal quiet = let P : List Entry → Type 0 = IsLegal image in absurd (ends image seen rest entry quiet (subst P (sym e) legal))
+
+whole_same : (seen rest all : List Entry) → seen ++ rest ≡ all → length all ≤ length seen → seen ≡ all
+whole_same seen rest all e le =
+    let none : rest ≡ [] = nil_from_length rest (omega (arith, length-append seen rest, ap length e)) in
+    sym (append-nil seen) ∙ (ap (λ (w : List Entry). seen ++ w) (sym none) ∙ e)
+
+pub Tells-whole : QuietEnds → (origin : Origin) (stop : Stop) (seen all : List Entry) → IsPrefix seen all → IsLegal origin.image all → length all ≤ origin.limit → Tells origin stop seen → Tells origin stop all
+Tells-whole ends origin Quiet seen all p legal few h = whole_quiet ends origin.image seen p.0 all p.1 legal h
+Tells-whole ends origin (Halted Full) seen all p legal few h =
+    let count : length seen ≡ origin.limit = h.0 in
+    let P : List Entry → Type 0 = λ es. Tells origin (Halted Full) es in
+    subst P (whole_same seen p.0 all p.1 (omega arith)) h
+Tells-whole ends origin (Halted NoMemory) seen all p legal few h = tt
+
+-- a board of that origin is one of the image with the limit
+pub board_of : (origin : Origin) (board : BoardView) → board_origin board ≡ origin → IsBoardOf origin.image origin.limit board
+board_of origin board e =
+    let P : Origin → Type 0 = λ o. IsBoardOf o.image o.limit board in
+    subst P e refl
+
+pub board_legal : (origin : Origin) (board : BoardView) → board_origin board ≡ origin → IsLegal board.image board.entries → IsLegal origin.image board.entries
+board_legal origin board e legal = let P : Origin → Type 0 = λ o. IsLegal o.image board.entries in subst P e legal
+
+-- what a board's journal begins with tells of it, it tells of the whole journal
+pub board_tells : QuietEnds → (origin : Origin) (board : BoardView) (stop : Stop) (seen : List Entry) → board_origin board ≡ origin → IsLegal board.image board.entries → length board.entries ≤ board.limit → IsPrefix seen board.entries → Tells origin stop seen → Tells origin stop board.entries
+board_tells ends origin board stop seen e legal within begins tells =
+    let P : Origin → Type 0 = λ o. length board.entries ≤ o.limit in
+    Tells-whole ends origin stop seen board.entries begins (board_legal origin board e legal) (subst P e within) tells
+
+-- a run that ended quiet, and one that ended full
+abbrev pub QuietExactly : Ended → Image → List Entry → Type 0
+QuietExactly ended image entries = (ended ≡ EndedQuiet) ↔ IsQuiet image entries
+
+abbrev pub FullExactly : Ended → Image → ℕ → List Entry → Type 0
+FullExactly ended image limit entries = (ended ≡ EndedFull) ↔ ((length entries ≡ limit) × ¬ IsQuiet image entries)
+
+pub quiet_exactly : (origin : Origin) (ended : Ended) (entries : List Entry) → Tells origin (end_stop ended) entries → QuietExactly ended origin.image entries
+quiet_exactly origin EndedQuiet entries quiet = (λ e. quiet, λ h. refl)
+quiet_exactly origin EndedFull entries full = (λ e. absurd (cc e), λ quiet. absurd (full.1 quiet))
+
+pub full_exactly : (origin : Origin) (ended : Ended) (entries : List Entry) → Tells origin (end_stop ended) entries → FullExactly ended origin.image origin.limit entries
+full_exactly origin EndedQuiet entries quiet = (λ e. absurd (cc e), λ h. absurd (h.1 quiet))
+full_exactly origin EndedFull entries full = (λ e. full, λ h. refl)
+
+-- what a run tells of one origin it tells of the same origin
+pub quiet_of : {X : Type 0} (one other : Origin) (result : Result (BoardView × Ended) X) → one ≡ other → IfOk result (λ r. QuietExactly r.1 one.image r.0.entries) → IfOk result (λ r. QuietExactly r.1 other.image r.0.entries)
+quiet_of one other result e h = let P : Origin → Type 0 = λ o. IfOk result (λ r. QuietExactly r.1 o.image r.0.entries) in subst P e h
+
+pub full_of : {X : Type 0} (one other : Origin) (result : Result (BoardView × Ended) X) → one ≡ other → IfOk result (λ r. FullExactly r.1 one.image one.limit r.0.entries) → IfOk result (λ r. FullExactly r.1 other.image other.limit r.0.entries)
+full_of one other result e h = let P : Origin → Type 0 = λ o. IfOk result (λ r. FullExactly r.1 o.image o.limit r.0.entries) in subst P e h

@@ -1,0 +1,10 @@
+-- What the port has seen is the history just behind the turn.
+use Rattle.jh_turn.specs.Ports.{opened_value, port_caller, seen_by}
+use Rattle.jh_run.specs.Running.{origin_of}
+use Rattle.jh_run.proofs.TurnLemmas.{turn_tells}
+use Rattle.jh_run.proofs.driving.drive_port.Goals as goal
+
+pub returns-clause-shows : goal.returns-clause-shows
+returns-clause-shows g c =
+    let turn = c.turn-turn.ensures.turn in
+    rw c.stop_by.ensures (turn_tells (origin_of (opened_value c.args.shared.now)) (port_caller c.args.port.now) _ (seen_by c.turn-turn.new.port) c.turn-turn.result turn.answered)

@@ -1,0 +1,35 @@
+-- A running board as what callers take turns on: its meaning for the lock.
+use Rattle.std.specs.Prelude.{◌≡◌, ◌<◌, ℕ, List, [], ◌∷◌, ◌++◌, length, Some, None, IsTrue}
+use Rattle.jh_script.specs.declared.image.Image.{Image}
+use Rattle.jh_history.specs.declared.entry.Entry.{Entry}
+use Rattle.jh_history.specs.Lives.{is_on_board}
+use Rattle.jh_history.specs.Due.{due, IsQuiet}
+use Rattle.jh_run.specs.Origins.{Origin}
+use Rattle.jh_run.specs.declared.run_turn.Halt.TheVariants.{Full, NoMemory}
+use Rattle.jh_run.specs.declared.run_turn.RunTurn.{RunTurn}
+use Rattle.jh_run.specs.declared.run_turn.RunTurn.TheVariants.{Made, Edited, NotNow, Done, Halted}
+use Rattle.jh_run.specs.declared.running.Running.{Running}
+
+-- an entry is its CPU's
+abbrev pub whose_entry : Entry → ℕ
+whose_entry entry = entry.cpu
+
+-- what no turn changes
+abbrev pub origin_of : Running → Origin
+origin_of running = record { image = running.board.image; limit = running.board.limit }
+
+-- the CPUs of the board are served
+abbrev pub Serves : Origin → ℕ → Type 0
+Serves origin cpu = IsTrue (is_on_board origin.image cpu)
+
+abbrev pub entries_of : Running → List Entry
+entries_of running = running.board.entries
+
+-- at these entries a turn of the CPU may answer so, and leave those; no table is edited yet
+abbrev pub Answers : Origin → ℕ → List Entry → List Entry → RunTurn → Type 0
+Answers origin cpu before after (Made entry) = (due origin.image before cpu ≡ Some entry) × (length before < origin.limit) × (after ≡ before ++ entry ∷ [])
+Answers origin cpu before after (Edited left) = ⊥
+Answers origin cpu before after NotNow = (due origin.image before cpu ≡ None) × ¬ IsQuiet origin.image before × (after ≡ before)
+Answers origin cpu before after Done = IsQuiet origin.image before × (after ≡ before)
+Answers origin cpu before after (Halted Full) = (length before ≡ origin.limit) × ¬ IsQuiet origin.image before × (after ≡ before)
+Answers origin cpu before after (Halted NoMemory) = after ≡ before

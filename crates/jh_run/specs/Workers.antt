@@ -1,0 +1,13 @@
+-- Ports that workers had.
+use Rattle.std.specs.Prelude.{◌≡◌, ℕ, List, All, Contains, map}
+use Rattle.jh_history.specs.declared.entry.Entry.{Entry}
+use Rattle.jh_turn.specs.declared.turner.Turner.{Ghosts}
+use Rattle.jh_turn.specs.declared.shared.Shared.{Shared}
+use Rattle.jh_turn.specs.declared.shared.Port.{Port}
+use Rattle.jh_turn.specs.Ports.{port_caller, IsPortOf}
+
+module _ {T E A : Type 0} {G : Ghosts T E A} where
+  -- ports of the object, among which each caller of those before has its own again
+  pub record AreBack (shared : Shared T E A) (before after : List (Port T E A G)) : Type 0 where
+    pub own : All (IsPortOf shared) after
+    pub each : (who : ℕ) → Contains (map port_caller before) who → Contains (map port_caller after) who

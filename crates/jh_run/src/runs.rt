@@ -1,0 +1,114 @@
+//! A run of a board, from its opening to its last entry.
+ghost use Rattle.std.specs.Prelude.{◌≡◌, ◌≢◌, ◌<◌, ◌↔◌, length, All, AllPairs, IsTrue, IfOk};
+ghost use Rattle.jh_history.specs.Admitted.{IsAdmitted, IsBuilt};
+ghost use Rattle.jh_history.specs.Due.{IsLegal, IsQuiet};
+ghost use Rattle.jh_history.specs.Lives.{is_on_board};
+ghost use Rattle.jh_turn.specs.Ports.{AreAllPorts, opened_value};
+ghost use Rattle.jh_run.specs.Drives.{SomeShows, stop_of, end_stop};
+ghost use Rattle.jh_run.specs.Plays.{IsBoardOf};
+ghost use Rattle.jh_run.specs.Running.{origin_of};
+
+use crate::ended::Ended;
+use crate::run_turn::Halt;
+use crate::running::Running;
+use crate::schedule::{cpus_of, opened};
+use crate::workers::{Driven, drive_all};
+use jh_board::Board;
+use jh_check::{nothing_is_found_in_what_is_clean, sound_bitmaps_name_few_cpus};
+use jh_laws::{nothing_extends_a_quiet_journal, rounds_are_of_the_boards_cpus};
+use jh_num::NoMemory;
+use jh_outside::Gate;
+use jh_script::Image;
+use jh_turn::{Port, Shared};
+use std::alloc::Global;
+use std::sync::Wait;
+use std::thread::Threads;
+
+/// The callers of a board's lock: its CPUs in rising order.
+fn callers_of(alloc: Global, image: &Image) -> Result<Vec<u8>, NoMemory>
+    requires { IsAdmitted image.now }
+    ensures some { IfOk result (λ callers. 0 < length callers.items) }
+    ensures differ { IfOk result (λ callers. AllPairs (λ a b. a ≢ b) callers.items) }
+    ensures served { IfOk result (λ callers. All (λ cpu. IsTrue (is_on_board image.now cpu)) callers.items) }
+{
+    rounds_are_of_the_boards_cpus();
+    nothing_is_found_in_what_is_clean(&image.system, &[]);
+    sound_bitmaps_name_few_cpus(image.system.root.cpu_set.as_slice());
+    let callers = cpus_of(alloc, image)?;
+    Ok(callers)
+}
+
+/// The image's board behind a lock, with a port for each of its CPUs.
+fn open_run(
+    alloc: Global,
+    image: Image,
+    limit: u32,
+) -> Result<(Shared<Running>, Vec<Port<Running>>), NoMemory>
+    requires admitted { IsAdmitted image }
+    requires built { IsBuilt image }
+    ensures origin { IfOk result (λ r. origin_of (opened_value r.0) ≡ record { image = image; limit = limit }) }
+    ensures ports { IfOk result (λ r. AreAllPorts r.0 r.1.items) }
+    ensures some { IfOk result (λ r. 0 < length r.1.items) }
+{
+    let callers = callers_of(alloc, &image)?;
+    let board = opened(alloc, image, limit)?;
+    let running = Running {
+        board,
+        halted: None,
+    };
+    match Shared::open(alloc, running, callers.as_slice()) {
+        Ok(opened) => Ok(opened),
+        Err(_) => Err(NoMemory),
+    }
+}
+
+/// How a run ended whose board was halted so, if it was.
+fn ended_by(halted: Option<Halt>) -> Result<Ended, NoMemory>
+    ensures { IfOk result (λ ended. stop_of halted ≡ end_stop ended) }
+{
+    match halted {
+        None => Ok(Ended::Quiet),
+        Some(Halt::Full) => Ok(Ended::Full),
+        Some(Halt::NoMemory) => Err(NoMemory),
+    }
+}
+
+/// The board once all ports are back, and how the run ended. What one port has seen when the workers stopped
+/// tells it, and nothing came behind that.
+fn end_run(shared: Shared<Running>, driven: Driven) -> Result<(Board, Ended), NoMemory>
+    requires ports { AreAllPorts shared driven.ports.items }
+    requires shows { SomeShows (origin_of (opened_value shared)) (stop_of driven.halted) driven.ports.items }
+    ensures board { IfOk result (λ r. IsBoardOf (origin_of (opened_value shared)).image (origin_of (opened_value shared)).limit r.0) }
+    ensures legal { IfOk result (λ r. IsLegal (origin_of (opened_value shared)).image r.0.entries) }
+    ensures quiet { IfOk result (λ r. (r.1 ≡ Ended.Quiet) ↔ IsQuiet (origin_of (opened_value shared)).image r.0.entries) }
+    ensures full { IfOk result (λ r. (r.1 ≡ Ended.Full) ↔ ((length r.0.entries ≡ (origin_of (opened_value shared)).limit) × ¬ IsQuiet (origin_of (opened_value shared)).image r.0.entries)) }
+{
+    nothing_extends_a_quiet_journal();
+    let Driven { ports, halted } = driven;
+    let Running { board, halted: _ } = shared.close(ports);
+    let _ = board.journal();
+    let ended = ended_by(halted)?;
+    Ok((board, ended))
+}
+
+/// A worker for each CPU of the image's board, each in a thread of its own where one can be had, until
+/// nothing is due to any CPU or the journal is full. Each worker passes the gate before each of its turns.
+/// It waits for the workers, and may wait for ever.
+pub fn run<R: Threads + Wait + Sync, G: Gate + Sync>(
+    rt: &R,
+    alloc: Global,
+    image: Image,
+    gate: &G,
+    limit: u32,
+) -> Result<(Board, Ended), NoMemory>
+    requires admitted { IsAdmitted image }
+    requires built { IsBuilt image }
+    ensures board { IfOk result (λ r. IsBoardOf image limit r.0) }
+    ensures legal { IfOk result (λ r. IsLegal image r.0.entries) }
+    ensures quiet { IfOk result (λ r. (r.1 ≡ Ended.Quiet) ↔ IsQuiet image r.0.entries) }
+    ensures full { IfOk result (λ r. (r.1 ≡ Ended.Full) ↔ ((length r.0.entries ≡ limit) × ¬ IsQuiet image r.0.entries)) }
+{
+    let (shared, ports) = open_run(alloc, image, limit)?;
+    let driven = drive_all(rt, alloc, &shared, ports, gate)?;
+    end_run(shared, driven)
+}

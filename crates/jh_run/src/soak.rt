@@ -1,0 +1,324 @@
+//! The board of `soak`.
+ghost use Rattle.std.specs.Prelude.{◌≡◌, ◌+◌, ◌*◌, ◌^◌, ◌<◌, ◌≤◌, ◌∷◌, [], ◌++◌, IsTrue, IfOk, OnOk};
+ghost use Rattle.jh_cellcfg.specs.Limits.{is_name};
+ghost use Rattle.jh_history.specs.Admitted.{IsAdmitted, IsBuilt};
+ghost use Rattle.jh_run.specs.Soak.{region as region_lem, plain_cell as plain_cell_lem, loadable_cell as loadable_cell_lem, soak_system as soak_system_lem, cell_a, cell_b, number_writes, number_reads, round_ops, rounds_ops, beside_ops as beside_ops_lem, ops_a as ops_a_lem, ops_b as ops_b_lem, answer_ops, program as program_lem, programs_of, preload as preload_lem, soak_board};
+
+use jh_cellcfg::{CellConfig, Console, Region, SystemConfig, write_cell};
+use jh_num::{NoMemory, Seq};
+use jh_script::{Image, Op, Preload, Program};
+use std::alloc::Global;
+
+/// How many rounds there may be.
+pub const MAX_ROUNDS: u32 = 400;
+
+/// Where the configurations of the cells are loaded.
+const PLACE_A: u64 = 0x4800_0000;
+
+const PLACE_B: u64 = 0x4801_0000;
+
+/// The cells' names, with zero bytes behind them.
+const NAME: [u8; 32] = *b"soak\0\0\0\0\0\0\0\0\0\0\0\0\0\0\0\0\0\0\0\0\0\0\0\0\0\0\0\0";
+
+const NAME_A: [u8; 32] = *b"a\0\0\0\0\0\0\0\0\0\0\0\0\0\0\0\0\0\0\0\0\0\0\0\0\0\0\0\0\0\0\0";
+
+const NAME_B: [u8; 32] = *b"b\0\0\0\0\0\0\0\0\0\0\0\0\0\0\0\0\0\0\0\0\0\0\0\0\0\0\0\0\0\0\0";
+
+/// The words of the communication page that hold the message and the reply.
+const MESSAGE: u64 = 0x8000_000c;
+
+const REPLY: u64 = 0x8000_0010;
+
+fn region(phys_start: u64, virt_start: u64, size: u64, flags: u64) -> Region
+    ensures { result ≡ region_lem phys_start virt_start size flags }
+{
+    Region {
+        phys_start,
+        virt_start,
+        size,
+        flags,
+    }
+}
+
+/// A cell with CPUs below 8, in which all else is 0.
+fn plain_cell(
+    alloc: Global,
+    name: [u8; 32],
+    id: u32,
+    cpus: u8,
+    regions: &[Region],
+) -> Result<CellConfig, NoMemory>
+    ensures { IfOk result (λ cell. cell ≡ plain_cell_lem name id cpus regions.now) }
+{
+    Ok(CellConfig {
+        name,
+        id,
+        flags: 0,
+        vpci_irq_base: 0,
+        cpu_reset_address: 0,
+        msg_reply_timeout: 0,
+        console: [0; 32],
+        cpu_set: Seq::from_vec(Vec::from_slice(alloc, &[cpus, 0, 0, 0, 0, 0, 0, 0])?),
+        memory_regions: Seq::from_vec(Vec::from_slice(alloc, regions)?),
+        cache_regions: Seq::new(alloc),
+        irqchips: Seq::new(alloc),
+        pio_regions: Seq::new(alloc),
+        pci_devices: Seq::new(alloc),
+        pci_caps: Seq::new(alloc),
+        stream_ids: Seq::new(alloc),
+    })
+}
+
+/// Root with CPUs 0 to 3 over its memory, without devices.
+#[tactic(auto, unfolding(crate::specs::Soak::soak_system))]
+fn soak_system(alloc: Global) -> Result<SystemConfig, NoMemory>
+    ensures { IfOk result (λ system. system ≡ soak_system_lem) }
+{
+    let memory = region(0x4000_0000, 0x4000_0000, 0x3fc0_0000, 0xf);
+    Ok(SystemConfig {
+        flags: 0,
+        hypervisor_memory: region(0x7fc0_0000, 0, 0x40_0000, 0),
+        debug_console: Console {
+            address: 0,
+            size: 0,
+            kind: 0,
+            flags: 0,
+            divider: 0,
+            gate_nr: 0,
+            clock_reg: 0,
+        },
+        pci_mmconfig_base: 0,
+        pci_mmconfig_end_bus: 0,
+        pci_is_virtual: 0,
+        pci_domain: 0,
+        root_head: [0; 8],
+        root: plain_cell(alloc, NAME, 0, 0xf, &[memory])?,
+    })
+}
+
+/// The configuration of a cell with memory at address 0, which root may load, and a communication region, at
+/// its place in memory.
+fn loaded_cell(
+    alloc: Global,
+    at: u64,
+    name: [u8; 32],
+    id: u32,
+    cpus: u8,
+    place: u64,
+) -> Result<Preload, NoMemory>
+    requires { IsTrue (is_name name) }
+    ensures { IfOk result (λ preload. preload ≡ preload_lem at (loadable_cell_lem name id cpus place)) }
+{
+    let memory = region(place, 0, 0x1_0000, 0x4f);
+    let communication = region(0, 0x8000_0000, 0x1000, 0x23);
+    let cell = plain_cell(alloc, name, id, cpus, &[memory, communication])?;
+    let bytes = Seq::from_vec(write_cell(alloc, &cell)?);
+    Ok(Preload { at, bytes })
+}
+
+/// Puts these operations behind the others.
+fn push_all(ops: &mut Seq<Op>, more: &[Op]) -> Result<(), NoMemory>
+    ensures { OnOk result (ops.new ≡ ops.old ++ more.now) }
+{
+    for op in more {
+        ops.push(*op)?;
+    }
+    Ok(())
+}
+
+/// Writes of so many numbers, from the first one on, each at its own place behind the base.
+fn push_writes(ops: &mut Seq<Op>, base: u64, first: u64, count: u64) -> Result<(), NoMemory>
+    requires { base + 8 * (first + count) < 2 ^ 64 }
+    ensures { OnOk result (ops.new ≡ ops.old ++ number_writes base first count) }
+{
+    for i in 0..count {
+        let value = first + i;
+        let at = base + 8 * value;
+        ops.push(Op::Write {
+            width: 8,
+            at,
+            value,
+        })?;
+    }
+    Ok(())
+}
+
+/// Reads of so many places behind the base.
+fn push_reads(ops: &mut Seq<Op>, base: u64, count: u64) -> Result<(), NoMemory>
+    requires { base + 8 * count < 2 ^ 64 }
+    ensures { OnOk result (ops.new ≡ ops.old ++ number_reads base count) }
+{
+    for i in 0..count {
+        let at = base + 8 * i;
+        ops.push(Op::Read { width: 8, at })?;
+    }
+    Ok(())
+}
+
+/// One round of root's first CPU: it creates both cells, loads the number into the first one, starts both,
+/// destroys them, and reads what the first one wrote.
+fn push_round(ops: &mut Seq<Op>, number: u64) -> Result<(), NoMemory>
+    ensures { OnOk result (ops.new ≡ ops.old ++ round_ops number) }
+{
+    push_all(
+        ops,
+        &[
+            Op::Hvc {
+                code: 1,
+                a: PLACE_A,
+                b: 0,
+            },
+            Op::Hvc {
+                code: 1,
+                a: PLACE_B,
+                b: 0,
+            },
+            Op::Hvc {
+                code: 3,
+                a: 1,
+                b: 0,
+            },
+            Op::Write {
+                width: 8,
+                at: 0x5000_0000,
+                value: number,
+            },
+            Op::Hvc {
+                code: 2,
+                a: 1,
+                b: 0,
+            },
+            Op::Hvc {
+                code: 2,
+                a: 2,
+                b: 0,
+            },
+            Op::Hvc {
+                code: 4,
+                a: 1,
+                b: 0,
+            },
+            Op::Hvc {
+                code: 4,
+                a: 2,
+                b: 0,
+            },
+            Op::Read {
+                width: 8,
+                at: 0x5000_0008,
+            },
+        ],
+    )
+}
+
+/// The rounds of root's first CPU.
+fn rounds(alloc: Global, n: u32) -> Result<Seq<Op>, NoMemory>
+    requires { n ≤ 400 }
+    ensures { IfOk result (λ ops. ops ≡ rounds_ops n) }
+{
+    let mut ops = Seq::new(alloc);
+    for r in 0..n {
+        push_round(&mut ops, u64::from(r) + 1)?;
+    }
+    Ok(ops)
+}
+
+/// What root's second CPU does beside them.
+#[tactic(auto, unfolding(crate::specs::Soak::beside_ops))]
+fn beside_ops(alloc: Global) -> Result<Seq<Op>, NoMemory>
+    ensures { IfOk result (λ ops. ops ≡ beside_ops_lem) }
+{
+    let mut ops = Seq::new(alloc);
+    push_writes(&mut ops, 0x4000_0000, 0, 256)?;
+    push_reads(&mut ops, 0x4000_0000, 256)?;
+    Ok(ops)
+}
+
+/// The wait for a message, and the reply.
+fn push_answer(ops: &mut Seq<Op>, message: u64, reply: u64) -> Result<(), NoMemory>
+    ensures { OnOk result (ops.new ≡ ops.old ++ answer_ops message reply) }
+{
+    let heard = Op::Await {
+        width: 4,
+        at: MESSAGE,
+        value: message,
+    };
+    let answered = Op::Write {
+        width: 4,
+        at: REPLY,
+        value: reply,
+    };
+    push_all(ops, &[heard, answered])
+}
+
+/// The first cell reads what was loaded, writes numbers, and agrees to shut down.
+#[tactic(auto, unfolding(crate::specs::Soak::ops_a))]
+fn ops_a(alloc: Global) -> Result<Seq<Op>, NoMemory>
+    ensures { IfOk result (λ ops. ops ≡ ops_a_lem) }
+{
+    let mut ops = Seq::new(alloc);
+    ops.push(Op::Read { width: 8, at: 0 })?;
+    push_writes(&mut ops, 0, 1, 16)?;
+    push_answer(&mut ops, 1, 3)?;
+    Ok(ops)
+}
+
+/// The second cell does too, and hears first that the first one was destroyed.
+#[tactic(auto, unfolding(crate::specs::Soak::ops_b))]
+fn ops_b(alloc: Global) -> Result<Seq<Op>, NoMemory>
+    ensures { IfOk result (λ ops. ops ≡ ops_b_lem) }
+{
+    let mut ops = Seq::new(alloc);
+    push_writes(&mut ops, 0, 1, 16)?;
+    push_answer(&mut ops, 2, 4)?;
+    push_answer(&mut ops, 1, 3)?;
+    Ok(ops)
+}
+
+fn program(alloc: Global, cell: &[u8], cpu: u8, ops: Seq<Op>) -> Result<Program, NoMemory>
+    ensures { IfOk result (λ program. program ≡ program_lem cell.now cpu ops) }
+{
+    let cell = Seq::from_vec(Vec::from_slice(alloc, cell)?);
+    Ok(Program { cell, cpu, ops })
+}
+
+/// Both cells' configurations in root's memory.
+#[tactic(auto, unfolding(crate::specs::Soak::cell_a, crate::specs::Soak::cell_b))]
+fn preloads(alloc: Global) -> Result<Seq<Preload>, NoMemory>
+    ensures { IfOk result (λ preloads. preloads ≡ preload_lem 0x48000000 cell_a ∷ preload_lem 0x48010000 cell_b ∷ []) }
+{
+    let mut preloads = Seq::new(alloc);
+    preloads.push(loaded_cell(alloc, PLACE_A, NAME_A, 1, 0x4, 0x5000_0000)?)?;
+    preloads.push(loaded_cell(alloc, PLACE_B, NAME_B, 2, 0x8, 0x6000_0000)?)?;
+    Ok(preloads)
+}
+
+/// The programs of the four CPUs.
+#[tactic(auto, unfolding(crate::specs::Soak::programs_of))]
+fn programs(alloc: Global, n: u32) -> Result<Seq<Program>, NoMemory>
+    requires { n ≤ 400 }
+    ensures { IfOk result (λ programs. programs ≡ programs_of n) }
+{
+    let mut programs = Seq::new(alloc);
+    programs.push(program(alloc, b"soak", 0, rounds(alloc, n)?)?)?;
+    programs.push(program(alloc, b"soak", 1, beside_ops(alloc)?)?)?;
+    programs.push(program(alloc, b"a", 2, ops_a(alloc)?)?)?;
+    programs.push(program(alloc, b"b", 3, ops_b(alloc)?)?)?;
+    Ok(programs)
+}
+
+/// The board of so many rounds, 1 to [`MAX_ROUNDS`]: root creates, loads, starts and destroys two cells in each of
+/// them, while its second CPU and the cells' own read and write.
+#[tactic(auto, unfolding(crate::specs::Soak::soak_board))]
+pub fn soak_image(alloc: Global, n: u32) -> Result<Image, NoMemory>
+    requires { (1 ≤ n) × (n ≤ 400) }
+    ensures image { IfOk result (λ image. image ≡ soak_board n) }
+    ensures admitted { IfOk result IsAdmitted }
+    ensures built { IfOk result IsBuilt }
+{
+    Ok(Image {
+        system: soak_system(alloc)?,
+        preloads: preloads(alloc)?,
+        programs: programs(alloc, n)?,
+    })
+}
