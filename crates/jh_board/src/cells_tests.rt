@@ -5,12 +5,12 @@ ghost use Rattle.jh_mmio.specs.Index.{SharesNoAddress};
 ghost use Rattle.jh_board.specs.Closed.{AreInRange};
 
 use crate::cells::LiveCells;
-use crate::granted::reach;
+use crate::granted::memory;
 use crate::indexed::IndexedImage;
 use crate::memory::Memory;
 use crate::tests::{BASE, Case, ready, region};
 use jh_cellcfg::{CellConfig, Region};
-use jh_history::{Access, PageChange, PageWrite, Place, Places, Reach, Run, Wanted};
+use jh_history::{Access, PageChange, PageWrite, Place, Places, Run, Wanted};
 use jh_num::{NoMemory, Range, Seq};
 use std::alloc::Global;
 use std::process::Abort;
@@ -169,7 +169,7 @@ fn reads(image: &IndexedImage, cells: &LiveCells, cell: u32, number: u64) -> boo
         at: BASE + number * 0x1000,
         width: 1,
     };
-    matches!(reach(image, cells, cell, &wanted), Reach::Memory(_))
+    memory(image, cells, cell, &wanted).is_some()
 }
 
 /// Whether root, cell 1 and cell 2 reach page 1 where cells have their pages with these flags.

@@ -2,13 +2,15 @@
 ghost use Rattle.std.specs.Prelude.{◌≡◌, ℕ, ◌+◌, ◌%◌, ◌<◌, ◌≤◌, ◌^◌, ◌++◌, OnOk, OnErr, IfSome, length, map, List, All};
 ghost use Rattle.jh_num.specs.Memory.{spelled, stored};
 ghost use Rattle.jh_history.specs.declared.place.Place.{Place as ThePlace};
+ghost use Rattle.jh_history.specs.Access.{with_slot};
 ghost use Rattle.jh_history.specs.Pages.{with_page};
 ghost use Rattle.jh_history.specs.Places.{places_in_row, places_of_run, IsRun, with_byte, written, over};
-ghost use Rattle.jh_board.specs.Pages.{byte_at, byte_of, HoldsComm, HoldsPlace, MayHold};
+ghost use Rattle.jh_board.specs.Pages.{byte_at, byte_of, HoldsComm, HoldsPlace, HoldsSlot, MayHold};
 
 use crate::comm_pages::CommPages;
 use crate::physical::{Physical, Piece};
-use jh_history::{Bytes, PageWrite, Place, Places, Run, value_of};
+use jh_history::{Bytes, PageWrite, Place, Places, Run, slot_places, value_of};
+use jh_ivshmem::Slot;
 use jh_num::NoMemory;
 use std::alloc::Global;
 use std::marker::Model;
@@ -171,6 +173,26 @@ impl Memory {
                 Ok(())
             }
         }
+    }
+
+    /// Holds the page of physical memory that has the place, which is that of a state table. No byte changes.
+    pub fn hold_table(&mut self, place: u64) -> Result<(), NoMemory>
+        ensures bytes { (q : ThePlace) → byte_of self.new q ≡ byte_of self.old q }
+        ensures held { OnOk result (HoldsPlace self.new (Place.Physical place)) }
+        ensures others { (q : ThePlace) → HoldsPlace self.old q → HoldsPlace self.new q }
+        ensures comms { self.new.comms ≡ self.old.comms }
+    {
+        self.physical.hold(place)
+    }
+
+    /// Writes the word of a state table, the page of which is held. It takes no memory.
+    pub fn write_slot(&mut self, slot: &Slot)
+        requires small { slot.now.place + 4 < 2 ^ 64 }
+        requires held { HoldsSlot self.old slot.now }
+        ensures bytes { (q : ThePlace) → byte_of self.new q ≡ with_slot slot.now (byte_of self.old) q }
+        ensures held { (q : ThePlace) → HoldsPlace self.old q → HoldsPlace self.new q }
+    {
+        self.write_places(&slot_places(slot), u64::from(slot.value));
     }
 
     /// Puts the bytes into physical memory from `at` on.

@@ -1,9 +1,10 @@
--- What the slow plain program keeps of a journal: CPUs, the live cells, the open call, and the bytes that were
--- written.
+-- What the slow plain program keeps of a journal: CPUs, the live cells, the endpoints of their devices, the open call,
+-- and the bytes that were written.
 use Rattle.std.specs.Prelude.{◌≡◌, ℕ, ◌<◌, ◌≤◌, ◌==◌, List, length, fold, slice_get, if◌then◌else◌, Option, Some}
 use Rattle.jh_num.specs.Memory.{stored}
 use Rattle.jh_cellcfg.specs.declared.live.Live.{Live}
 use Rattle.jh_cpu.specs.declared.cpu.Cpu.{Cpu}
+use Rattle.jh_ivshmem.specs.declared.endpoint.Endpoint.{Endpoint}
 use Rattle.jh_script.specs.declared.image.Image.{Image}
 use Rattle.jh_history.specs.declared.call.OpenCall.{OpenCall}
 use Rattle.jh_history.specs.declared.entry.Entry.{Entry}
@@ -12,7 +13,7 @@ use Rattle.jh_history.specs.declared.place.Place.TheVariants.{Physical, Page}
 use Rattle.jh_history.specs.declared.written.WrittenByte.{WrittenByte}
 use Rattle.jh_history.specs.Places.{is_same}
 use Rattle.jh_history.specs.Facts.{Facts}
-use Rattle.jh_history.specs.Bytes.{opening_byte}
+use Rattle.jh_history.specs.Bytes.{loaded_byte}
 use Rattle.jh_history.specs.Admitted.{IsAdmitted}
 use Rattle.jh_history.specs.Phases.{configs_of}
 use Rattle.jh_history.specs.Due.{due_at}
@@ -22,6 +23,7 @@ pub record PlainView : Type 0 where
   pub image : Image
   pub cpus : List Cpu
   pub cells : List Live
+  pub endpoints : List Endpoint
   pub call : Option OpenCall
   pub bytes : List WrittenByte
 
@@ -31,7 +33,7 @@ overwritten q b one = if is_same q one.place then one.byte else b
 
 -- the byte of the place after those that were written, the newest last
 abbrev pub last_byte : Image → List WrittenByte → Place → ℕ
-last_byte image bytes q = fold (overwritten q) (opening_byte image q) bytes
+last_byte image bytes q = fold (overwritten q) (loaded_byte image q) bytes
 
 -- the bytes, with the list's from the offset on in the page of the cell
 abbrev pub put_in_page : ℕ → ℕ → List ℕ → (Place → ℕ) → Place → ℕ
@@ -49,11 +51,12 @@ pub record IsFit (image : Image) (cells : List Live) : Type 0 where
 pub record Stands (plain : PlainView) (image : Image) (facts : Facts) : Type 0 where
   pub same : image ≡ plain.image
   pub cells : facts.cells ≡ plain.cells
+  pub endpoints : facts.endpoints ≡ plain.endpoints
   pub call : facts.call ≡ plain.call
   pub cpus : (i : ℕ) → i < 16 → slice_get plain.cpus i ≡ Some (facts.cpu i)
   pub bytes : (q : Place) → facts.byte q ≡ last_byte image plain.bytes q
 
--- all but the bytes stay
+-- all but the bytes and the endpoints stay
 pub record IsSameBut (old new : PlainView) : Type 0 where
   pub image : new.image ≡ old.image
   pub cpus : new.cpus ≡ old.cpus

@@ -1,6 +1,6 @@
 //! The plain definition at an empty journal, and images that may not be opened.
 
-use crate::{Act, Entry, Journal, admit, due, is_built, is_on_board, quiet};
+use crate::{Act, Entry, Journal, admit, due, is_on_board, quiet};
 use jh_cellcfg::{CellConfig, Console, Region, SystemConfig};
 use jh_num::{NoMemory, Seq};
 use jh_script::{Image, Op, Preload, Program};
@@ -118,7 +118,7 @@ fn what_is_due_is_told(rt: HostRuntime) -> Result<(), Fail> {
         let image = image(rt.alloc(), region(BASE, 0x1000, 1), BASE, ops)?;
         let journal = Journal::new(rt.alloc());
         assert!(rt; admit(rt.alloc(), &image)?);
-        assert!(rt; is_built(&image) && is_on_board(&image, 0));
+        assert!(rt; is_on_board(&image, 0));
         assert_eq!(rt; due(rt.alloc(), &image, &journal, 0)?, want);
         assert_eq!(rt; quiet(rt.alloc(), &image, &journal)?, want.is_none());
     }
@@ -189,26 +189,6 @@ fn images_are_admitted_by_their_preload_and_their_operations(rt: HostRuntime) ->
     ] {
         let image = image(rt.alloc(), region(BASE, 0x1000, 3), at, &[op])?;
         assert_eq!(rt; admit(rt.alloc(), &image)?, want);
-    }
-    Ok(())
-}
-
-#[test]
-fn images_with_registers_and_calls_are_built(rt: HostRuntime) -> Result<(), Fail> {
-    let call = Op::Hvc {
-        code: 0,
-        a: 0,
-        b: 0,
-    };
-    for (start, size, op) in [
-        (BASE, 0x1000, READ),
-        (BASE, 0x800, READ),
-        (BASE + 0x800, 0x1000, READ),
-        (BASE, 0x1000, Op::Irq),
-        (BASE, 0x1000, call),
-    ] {
-        let image = image(rt.alloc(), region(start, size, 3), BASE, &[op])?;
-        assert!(rt; is_built(&image));
     }
     Ok(())
 }

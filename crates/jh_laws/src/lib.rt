@@ -1,7 +1,7 @@
 //! The laws that every journal obeys, in the words of the subject: what a reader may believe without the
 //! fold over the entries. Each function does nothing; its contract is the law. Those of `access`, `bytes`,
-//! `cpus` and `due` are over the journals of images that are built, so that what is built later adds cases
-//! to them; all others are over all admitted images. What a proof entry by entry stands on is that a legal
+//! `cpus` and `due` are over the journals of images in which root lives alone and has no device; all others are
+//! over all admitted images. What a proof entry by entry stands on is that a legal
 //! journal is sound (`legal_journals_are_sound`).
 #![tactic(auto)]
 

@@ -23,7 +23,7 @@ use Rattle.jh_history.specs.declared.access.Access.TheVariants.{Read as ToRead, 
 use Rattle.jh_history.specs.declared.entry.Entry.{Entry}
 use Rattle.jh_history.specs.declared.entry.Act.{Act}
 use Rattle.jh_history.specs.declared.entry.Act.TheVariants.{Read, Write, Fetch, Await}
-use Rattle.jh_history.specs.Admitted.{HasNoCall, IsAdmitted, IsBuilt}
+use Rattle.jh_history.specs.Admitted.{HasNoCall, IsAdmitted}
 use Rattle.jh_history.specs.Alone.{IsAlone}
 use Rattle.jh_history.specs.Due.{due, IsLegal}
 use Rattle.jh_history.specs.History.{facts}
@@ -31,7 +31,7 @@ use Rattle.jh_history.specs.Lives.{is_on_board, is_program_of, program_of}
 use Rattle.jh_laws.specs.Ends.{IsAnswered, IsReadBy, IsGotBy}
 use Rattle.jh_laws.specs.Grants.{place_behind}
 use Rattle.jh_laws.specs.Held.{IsGrantedTo}
-use Rattle.jh_laws.specs.Journals.{LegalJournal, Moment, byte_at, byte_before, byte_behind, cpu_at}
+use Rattle.jh_laws.specs.Journals.{HasNoDevice, LegalJournal, Moment, byte_at, byte_before, byte_behind, cpu_at}
 use Rattle.jh_laws.specs.Operations.{IsReady, IsOwn, op_of}
 use Rattle.jh_laws.specs.Outcomes.{HasItsOutcome}
 use Rattle.jh_laws.specs.Writes.{Writes, WritesNot}
@@ -45,8 +45,8 @@ pub record JournalLaws : Type 0 where
   pub due_each : (image : Image) (entries before rest : List Entry) (entry : Entry) → IsLegal image entries → entries ≡ before ++ entry ∷ rest → due image before entry.cpu ≡ Some entry
   pub ready : (j : LegalJournal) (cpu : ℕ) → IsSome (due j.image j.entries cpu) ↔ IsReady j.image j.entries j.image.system.root cpu
   pub own : (j : LegalJournal) (cpu : ℕ) (entry : Entry) → due j.image j.entries cpu ≡ Some entry → IsOwn j.image j.entries j.image.system.root cpu entry
-  pub put : (image : Image) (preload : Preload) (k : ℕ) → IsAdmitted image → IsBuilt image → Contains image.preloads preload → k < length preload.bytes → byte_at image [] (Physical (preload.at + k)) ≡ slice_index preload.bytes k
-  pub nothing_put : (image : Image) (place : ℕ) → IsAdmitted image → IsBuilt image → ((preload : Preload) (k : ℕ) → Contains image.preloads preload → k < length preload.bytes → place ≢ preload.at + k) → byte_at image [] (Physical place) ≡ 0
+  pub put : (image : Image) (preload : Preload) (k : ℕ) → IsAdmitted image → HasNoDevice image → Contains image.preloads preload → k < length preload.bytes → byte_at image [] (Physical (preload.at + k)) ≡ slice_index preload.bytes k
+  pub nothing_put : (image : Image) (place : ℕ) → IsAdmitted image → HasNoDevice image → ((preload : Preload) (k : ℕ) → Contains image.preloads preload → k < length preload.bytes → place ≢ preload.at + k) → byte_at image [] (Physical place) ≡ 0
   pub pages : (image : Image) (cell offset : ℕ) → byte_at image [] (Page cell offset) ≡ 0
   pub written : (m : Moment) (place : Place) (byte : ℕ) → Writes m.image m.image.system.root m.entry.act place byte → byte_behind m place ≡ byte
   pub others : (m : Moment) (place : Place) → WritesNot m.image m.image.system.root place m.entry → byte_behind m place ≡ byte_before m place
@@ -126,7 +126,7 @@ covered p (q ∷ qs) = elim (at_or_not p q.at (length q.bytes)) [
 contained : {X : Type 0} (P : X → Type 0) (xs : List X) (x : X) → All P xs → Contains xs x → P x
 contained P xs x all held = subst P held.2 (all held.0 x held.1)
 
-opening-fits : (laws : JournalLaws) (image : Image) → IsAdmitted image → IsBuilt image → HasTypedNumbers image → BytesFit image []
+opening-fits : (laws : JournalLaws) (image : Image) → IsAdmitted image → HasNoDevice image → HasTypedNumbers image → BytesFit image []
 opening-fits laws image admitted built typed (Page cell offset) = subst (λ b. b < 256) (sym (laws.pages image cell offset)) (omega arith)
 opening-fits laws image admitted built typed (Physical p) = elim (covered p image.preloads) [
   | inl h ↦
@@ -225,7 +225,7 @@ readable-act image before _ op fits outcome e plain typed = absurd outcome
 pub record IsFitImage (image : Image) : Type 0 where
   pub few : (cpu : ℕ) → IsTrue (is_on_board image cpu) → cpu < 16
   pub admitted : IsAdmitted image
-  pub built : IsBuilt image
+  pub bare : HasNoDevice image
   pub silent : HasNoCall image
   pub typed : HasTypedNumbers image
 
@@ -238,7 +238,7 @@ record Made (image : Image) (before : List Entry) (entry : Entry) : Type 0 where
 made : (laws : JournalLaws) (image : Image) → IsFitImage image → (before rest : List Entry) (entry : Entry) → IsLegal image (before ++ entry ∷ rest) → Made image before entry
 made laws image fit before rest entry legal =
     let early : IsLegal image before = laws.begins image before (entry ∷ rest) legal in
-    let j : LegalJournal = record { image = image; entries = before; admitted = fit.admitted; built = fit.built; silent = fit.silent; legal = early } in
+    let j : LegalJournal = record { image = image; entries = before; admitted = fit.admitted; bare = fit.bare; silent = fit.silent; legal = early } in
     let due_here : due image before entry.cpu ≡ Some entry = laws.due_each image (before ++ entry ∷ rest) before rest entry legal refl in
     let own = laws.own j entry.cpu entry due_here in
     record {
@@ -264,11 +264,11 @@ readable-from : (laws : JournalLaws) (image : Image) → IsFitImage image → (r
 readable-from laws image fit [] before legal fits = tt
 readable-from laws image fit (entry ∷ rest) before legal fits =
     let m = made laws image fit before rest entry legal in
-    let moment : Moment = record { image = image; before = before; entry = entry; rest = rest; admitted = fit.admitted; built = fit.built; silent = fit.silent; legal = legal } in
+    let moment : Moment = record { image = image; before = before; entry = entry; rest = rest; admitted = fit.admitted; bare = fit.bare; silent = fit.silent; legal = legal } in
     let behind : BytesFit image (before ++ entry ∷ []) = fits-behind laws moment fits in (
       readable-entry image fit before entry m fits,
       readable-from laws image fit rest (before ++ entry ∷ []) (subst (IsLegal image) (sym (append_assoc before (entry ∷ []) rest)) legal) behind,
     )
 
 pub readable : (laws : JournalLaws) (image : Image) → IsFitImage image → (entries : List Entry) → IsLegal image entries → AllByRecursion IsReadable entries
-readable laws image fit entries legal = readable-from laws image fit entries [] legal (opening-fits laws image fit.admitted fit.built fit.typed)
+readable laws image fit entries legal = readable-from laws image fit entries [] legal (opening-fits laws image fit.admitted fit.bare fit.typed)
