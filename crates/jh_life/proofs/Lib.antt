@@ -3,3 +3,4 @@ pub mod MarkLemmas
 pub mod PageLemmas
 pub mod VerdictLemmas
 pub mod ChangeLemmas
+pub mod OrderLemmas

@@ -1,6 +1,6 @@
 -- What befalls the cells besides root, told by their ids.
-use Rattle.std.specs.Prelude.{◌≡◌, ℕ, Bool, not, ◌==◌, List, [], ◌∷◌, ◌++◌, map, filter, Option, Some, None, option_map, if◌then◌else◌}
-use Rattle.std.specs.List.{find}
+use Rattle.std.specs.Prelude.{◌≡◌, ℕ, Bool, false, not, ◌==◌, List, [], ◌∷◌, ◌++◌, map, filter, Option, Some, None, option_map, if◌then◌else◌}
+use Rattle.std.specs.List.{find, list_any}
 use Rattle.jh_cellcfg.specs.declared.config.CellConfig.{CellConfig}
 use Rattle.jh_cellcfg.specs.declared.live.Live.{Live}
 use Rattle.jh_cellcfg.specs.Lives.{has_id}
@@ -38,3 +38,20 @@ AreNew lives [] = Unit {0}
 AreNew lives (Created config ∷ changes) = (find (has_id config.id) lives ≡ None) × AreNew (after lives (Created config)) changes
 AreNew lives (Dropped id ∷ changes) = AreNew (after lives (Dropped id)) changes
 AreNew lives (Marked id on ∷ changes) = AreNew (after lives (Marked id on)) changes
+
+-- the change drops the cell with the id
+abbrev pub drops : ℕ → Change → Bool
+drops id (Created config) = false
+drops id (Dropped gone) = gone == id
+drops id (Marked set on) = false
+
+-- none of the changes drops the cell
+abbrev pub is_kept : List Change → CellConfig → Bool
+is_kept changes config = not (list_any (drops config.id) changes)
+
+-- the cells that are created and not dropped later, in order of creation
+abbrev pub lasting : List Change → List CellConfig
+lasting [] = []
+lasting (Created config ∷ changes) = if is_kept changes config then config ∷ lasting changes else lasting changes
+lasting (Dropped id ∷ changes) = lasting changes
+lasting (Marked id on ∷ changes) = lasting changes

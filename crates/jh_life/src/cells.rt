@@ -70,6 +70,13 @@ fn make_room<T>(list: &mut Vec<T>) -> Result<(), NoMemory>
 }
 
 impl Cells {
+    /// The system.
+    pub(crate) fn system(&self) -> &SystemConfig
+        ensures { result.now ≡ self.now.system }
+    {
+        &self.system
+    }
+
     /// Root alone. It takes memory for a copy of the system's configuration.
     pub fn open(alloc: Global, system: &SystemConfig) -> Result<Self, NoMemory>
         ensures system { IfOk result (λ cells. cells.system ≡ system.now) }

@@ -1,15 +1,18 @@
 //! What holds of the live cells, whatever befalls them: each law is the contract of a function that does nothing.
-ghost use Rattle.std.specs.Prelude.{◌≡◌, ℕ, Bool, List, [], remove, slice_get, slice_set, fold, map, Some, None};
+ghost use Rattle.std.specs.Prelude.{◌≡◌, ◌↔◌, ◌++◌, ◌∷◌, false, ℕ, Bool, List, [], remove, slice_get, slice_set, fold, map, Some, None};
 ghost use Rattle.std.specs.List.{find};
 ghost use Rattle.jh_cellcfg.specs.declared.live.Live.{Live};
 ghost use Rattle.jh_cellcfg.specs.Lives.{has_id};
 ghost use Rattle.jh_life.specs.Seen.{Seen};
 ghost use Rattle.jh_life.specs.Lives.{configs_of, marks_of};
-ghost use Rattle.jh_life.specs.Changes.{Change, marked, without, after, told, AreNew};
-ghost use Rattle.jh_life.specs.Verdict.{verdict_of_create};
+ghost use Rattle.jh_life.specs.Changes.{Change, marked, without, after, told, lasting, AreNew};
+ghost use Rattle.jh_check.specs.Refusals.{IsAccepted};
+ghost use Rattle.jh_shape.specs.Pages.{pages_of};
+ghost use Rattle.jh_life.specs.Verdict.{may_have, verdict_of_create};
 
 use crate::cells::{Cells, live_cells_differ};
 use jh_cellcfg::CellConfig;
+use jh_check::nothing_is_refused_that_is_accepted;
 
 /// The cell that is dropped at a place is the one with its id, and the others stay with their marks.
 pub fn a_place_is_dropped_by_its_id(cells: &Cells)
@@ -25,6 +28,11 @@ pub fn a_place_is_marked_by_its_id(cells: &Cells)
     live_cells_differ(cells);
 }
 
+/// The cells are listed in order of creation: those that were created and not dropped since, and no other.
+pub fn cells_are_listed_in_order_of_creation()
+    ensures { (changes : List Change) → configs_of (fold after [] changes) ≡ lasting changes }
+{}
+
 /// Which cell with an id lives, and whether it is loadable, goes by the changes of that id alone: it lives since it was
 /// last created, and is loadable as it was last set since.
 pub fn a_cell_is_as_it_was_last_set()
@@ -35,3 +43,11 @@ pub fn a_cell_is_as_it_was_last_set()
 pub fn a_verdict_goes_by_the_listed_cells(_new: &CellConfig)
     ensures { (one other : Seen) (locked : Bool) (owned caller pool : ℕ) → one.system ≡ other.system → configs_of one.lives ≡ configs_of other.lives → verdict_of_create one locked _new.now owned caller pool ≡ verdict_of_create other locked _new.now owned caller pool }
 {}
+
+/// A new cell isn't refused exactly where no cell is locked, nothing of what it would be refused for holds, and the
+/// pages of all cells with it are there.
+pub fn a_cell_is_let_in_where_nothing_holds(cells: &Cells, new: &CellConfig)
+    ensures { (locked : Bool) (owned caller pool : ℕ) → (verdict_of_create cells.now locked new.now owned caller pool ≡ None) ↔ ((locked ≡ false) × IsAccepted cells.now.system (configs_of cells.now.lives) new.now (may_have owned caller) (pages_of cells.now.system.root.memory_regions (configs_of cells.now.lives ++ new.now ∷ [])) pool) }
+{
+    nothing_is_refused_that_is_accepted(cells.system(), cells.list(), new);
+}

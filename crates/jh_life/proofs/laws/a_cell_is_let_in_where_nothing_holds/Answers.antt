@@ -1,0 +1,32 @@
+use Rattle.std.proofs.Common.{◌≡◌, ℕ, Bool, true, false, List, [], ◌∷◌, ◌++◌, Some, None, refl, sym, subst}
+use Rattle.std.specs.Prelude.{Option, ℤ, ◌↔◌, if◌then◌else◌}
+use Rattle.std.proofs.lemmas.Bool.{false≢true}
+use Rattle.std.proofs.lemmas.Option.{none-some}
+use Rattle.jh_num.specs.declared.error.TheConstants.{EPERM}
+use Rattle.jh_cellcfg.specs.declared.config.CellConfig.{CellConfig}
+use Rattle.jh_cellcfg.specs.declared.config.SystemConfig.{SystemConfig}
+use Rattle.jh_check.specs.Refusals.{refusal_of, IsAccepted}
+use Rattle.jh_shape.specs.Pages.{pages_of}
+use Rattle.jh_life.specs.Lives.{configs_of}
+use Rattle.jh_life.specs.Verdict.{may_have}
+use Rattle.jh_life.proofs.laws.a_cell_is_let_in_where_nothing_holds.Goals as goal
+
+-- what is refused for a lock, or else for what is told
+let-in : (locked : Bool) (refusal : Option ℤ) (P : Type 0) → ((refusal ≡ None) ↔ P) → ((if locked then Some EPERM else refusal) ≡ None) ↔ ((locked ≡ false) × P)
+let-in true refusal P same = (λ e. absurd (none-some EPERM (sym e)), λ both. absurd (false≢true (sym both.0)))
+let-in false refusal P same = (λ e. (refl, same.0 e), λ both. same.1 both.1)
+
+-- nothing of a refusal holds exactly where the cell is accepted
+abbrev IsTold : CellConfig → ℕ → ℕ → ℕ → ℕ → SystemConfig → List CellConfig → Type 0
+IsTold new owned caller pages pool system live = (refusal_of system live new (may_have owned caller) pages pool ≡ None) ↔ IsAccepted system live new (may_have owned caller) pages pool
+
+pub returns : goal.returns
+returns c = λ locked owned caller pool.
+    let seen = c.args.cells.now in
+    let new = c.args.new.now in
+    let live = configs_of seen.lives in
+    let pages : ℕ = pages_of seen.system.root.memory_regions (live ++ new ∷ []) in
+    let-in locked (refusal_of seen.system live new (may_have owned caller) pages pool) (IsAccepted seen.system live new (may_have owned caller) pages pool)
+    (subst (λ (s : SystemConfig). IsTold new owned caller pages pool s live) c.system.ensures
+    (subst (λ (l : List CellConfig). IsTold new owned caller pages pool c.system.result.now l) c.list.ensures.value
+    (c.nothing_is_refused_that_is_accepted.ensures (may_have owned caller) pages pool)))
