@@ -1,5 +1,5 @@
 //! Memory as bytes at places.
-ghost use Rattle.std.specs.Prelude.{◌≡◌, ◌≢◌, ℕ, ◌+◌, ◌-◌, ◌*◌, ◌%◌, ◌/◌, ◌^◌, ◌≤◌, ◌<◌, ◌⊎◌, true, false, not, map, length, slice_index, slice_range, IfOk, OnOk, OnErr, IsOk, if◌then◌else◌};
+ghost use Rattle.std.specs.Prelude.{◌≡◌, ◌≢◌, ℕ, ◌+◌, ◌-◌, ◌*◌, ◌%◌, ◌/◌, ◌^◌, ◌≤◌, ◌<◌, ◌⊎◌, true, false, None, not, map, length, slice_index, slice_range, IfOk, OnOk, OnErr, IsOk, if◌then◌else◌};
 ghost use Rattle.std.specs.List.{range_with_len};
 ghost use Rattle.jh_num.specs.declared.address.TheConstants.{ADDRESS_END};
 ghost use Rattle.jh_num.specs.Memory.{spelled, stored};
@@ -35,7 +35,8 @@ impl Frames {
     ghost use Rattle.std.specs.Borrow.{sem};
     ghost use Rattle.jh_frames.specs.Lending.{LendsPage};
 
-    /// Memory of zeros. It takes the hypervisor's range, of `size` bytes from `base` on.
+    /// Memory of zeros. It takes the hypervisor's range, of `size` bytes from `base` on; no page of a guest is
+    /// held.
     pub fn open(alloc: Global, base: u64, size: u64) -> Result<Self, NoMemory>
         requires aligned { base % 4096 ≡ 0 }
         requires whole { size % 4096 ≡ 0 }
@@ -43,6 +44,7 @@ impl Frames {
         ensures base { IfOk result (λ frames. frames.own.base ≡ base) }
         ensures size { IfOk result (λ frames. length frames.own.bytes ≡ size) }
         ensures zero { IfOk result (λ frames. (q : ℕ) → byte_at frames q ≡ 0) }
+        ensures guest { IfOk result (λ frames. (number : ℕ) → page_at frames.guest.pages number ≡ None) }
     {
         let own = Own::open(alloc, base, size)?;
         Ok(Frames {
@@ -242,6 +244,8 @@ impl Frames {
         ensures own { self.new.own ≡ self.old.own }
         ensures kept { (q : ℕ) → holds self.old q ≡ true → holds self.new q ≡ true }
         ensures spare { self.old.guest.spare ≤ self.new.guest.spare + missing_from self.old first count }
+        ensures below { (number : ℕ) → number < first → page_at self.new.guest.pages number ≡ page_at self.old.guest.pages number }
+        ensures above { (number : ℕ) → first + count ≤ number → page_at self.new.guest.pages number ≡ page_at self.old.guest.pages number }
     {
         for number in first..first + count {
             self.hold_page(number);
@@ -258,6 +262,8 @@ impl Frames {
         ensures kept { (q : ℕ) → holds self.old q ≡ true → holds self.new q ≡ true }
         ensures succeeds { missing self.old at count ≤ self.old.guest.spare → IsOk result }
         ensures spare { self.old.guest.spare ≤ self.new.guest.spare + missing self.old at count }
+        ensures below { (q : ℕ) → q / 4096 < at / 4096 → holds self.new q ≡ holds self.old q }
+        ensures above { (q : ℕ) → at / 4096 + pages_in at count ≤ q / 4096 → holds self.new q ≡ holds self.old q }
     {
         let _ = self.holds(at);
         let first = at / PAGE_SIZE;
@@ -290,7 +296,7 @@ impl Frames {
     }
 
     /// Writes the bytes from the place on, all of them, or none where a page wants memory. A page that is
-    /// held or the hypervisor's doesn't.
+    /// held or the hypervisor's doesn't. No page but theirs comes to be held.
     pub fn write(&mut self, at: u64, bytes: &[u8]) -> Result<(), NoMemory>
         requires { at + length bytes.now ≤ ADDRESS_END }
         ensures bytes { OnOk result ((q : ℕ) → byte_at self.new q ≡ stored (byte_at self.old) at bytes.now q) }
@@ -301,6 +307,8 @@ impl Frames {
         ensures kept { (q : ℕ) → holds self.old q ≡ true → holds self.new q ≡ true }
         ensures succeeds { missing self.old at (length bytes.now) ≤ self.old.guest.spare → IsOk result }
         ensures spare { self.old.guest.spare ≤ self.new.guest.spare + missing self.old at (length bytes.now) }
+        ensures below { (q : ℕ) → q / 4096 < at / 4096 → holds self.new q ≡ holds self.old q }
+        ensures above { (q : ℕ) → at / 4096 + pages_in at (length bytes.now) ≤ q / 4096 → holds self.new q ≡ holds self.old q }
     {
         if self.write_held(at, bytes) {
             return Ok(());

@@ -66,3 +66,6 @@ pub opened_free : (base n k capacity page : ℕ) (free : List ℕ) → base % 40
 opened_free base n k capacity page free aligned e opens is =
     let at : base + 4096 * (page / 4096 - base / 4096) ≡ page = omega (arith, is.aligned, is.above, is.below) in
     any-from_often page free (subst (λ z. 0 < often z free) at (opens.all (page / 4096 - base / 4096) (omega (arith, is.aligned, is.above, is.below)) (omega arith)))
+
+pub opened_used : (base n k capacity : ℕ) (free : List ℕ) → k ≡ n → Opens base n k free capacity → n - length free ≡ 0
+opened_used base n k capacity free e opens = let len : length free ≡ k = opens.len in omega arith

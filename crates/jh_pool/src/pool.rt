@@ -34,6 +34,7 @@ impl Pool {
         ensures base { IfOk result (λ pool. pool.base ≡ base) }
         ensures size { IfOk result (λ pool. pool.size ≡ pages) }
         ensures free { IfOk result (λ pool. (page : ℕ) → IsPageOf pool page → is_free pool page ≡ true) }
+        ensures used { IfOk result (λ pool. used_of pool ≡ 0) }
     {
         let mut free = Vec::with_capacity(alloc, pages as usize)?;
         for k in 0..pages {
@@ -46,7 +47,7 @@ impl Pool {
         })
     }
 
-    /// Takes a page that nobody has; `None` where each is taken.
+    /// Takes a page that nobody has; `None` where each is taken. Which of the free pages it is isn't said.
     pub fn take(&mut self) -> Option<u64>
         ensures none { IsNone result ↔ (used_of self.old ≡ self.old.size) }
         ensures unchanged { IfNone result (self.new ≡ self.old) }

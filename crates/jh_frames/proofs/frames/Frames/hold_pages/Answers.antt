@@ -25,4 +25,6 @@ loop-number-preserved c =
       kept = λ q h. c.hold_page.ensures.kept q (c.loop-number.invariant.kept q h);
       rest = omega (arith, next, one, c.loop-number.invariant.rest, c.hold_page.ensures.spare);
       spare = omega (arith, next, one, c.loop-number.invariant.spare, c.hold_page.ensures.spare);
+      below = λ k lt. c.hold_page.ensures.others k (omega arith) ∙ c.loop-number.invariant.below k lt;
+      above = λ k le. c.hold_page.ensures.others k (omega arith) ∙ c.loop-number.invariant.above k (omega arith);
     }
