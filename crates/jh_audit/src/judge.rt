@@ -1,7 +1,7 @@
 //! The audit.
 ghost use Rattle.std.specs.Prelude.{◌≡◌, ℕ, ◌+◌, ◌<◌, ◌≤◌, ◌∷◌, ◌++◌, [], length, take, Some, IfOk, OnErr, IsTrue, ◌↔◌};
 ghost use Rattle.jh_history.specs.Due.{due};
-ghost use Rattle.jh_history.specs.Admitted.{IsAdmitted, IsBuilt};
+ghost use Rattle.jh_history.specs.Admitted.{IsAdmitted};
 ghost use Rattle.jh_audit.specs.Judges.{Judges, Tries};
 
 use crate::verdict::Verdict;
@@ -57,7 +57,6 @@ fn is_same_act(one: Act, other: Act) -> bool
 /// Judges the journal by the image: makes each entry anew, and compares.
 pub fn audit(alloc: Global, image: Image, journal: &Journal) -> Result<Verdict, NoMemory>
     requires admitted { IsAdmitted image }
-    requires built { IsBuilt image }
     requires few { length journal.now.entries ≤ AUDIT_LIMIT }
     // legal exactly where each entry is the one due; else the first that isn't, and what was due there
     ensures { IfOk result (Judges image journal.now.entries) }

@@ -1,5 +1,5 @@
 //! The plain definition run beside an audit.
-ghost use Rattle.jh_history.specs.Admitted.{IsAdmitted, IsBuilt};
+ghost use Rattle.jh_history.specs.Admitted.{IsAdmitted};
 
 use jh_history::{Entry, Journal, due, is_on_board, quiet};
 use jh_num::NoMemory;
@@ -20,7 +20,7 @@ pub struct Plain {
 
 impl Model for Plain {
     ghost use Rattle.std.specs.Prelude.{◌≤◌, length};
-    ghost use Rattle.jh_history.specs.Admitted.{IsAdmitted, IsBuilt};
+    ghost use Rattle.jh_history.specs.Admitted.{IsAdmitted};
     ghost use Rattle.jh_history.specs.Due.{IsLegal};
     ghost use Rattle.jh_history.specs.PastView.{PastView};
 
@@ -28,13 +28,12 @@ impl Model for Plain {
 
     ghost view = { λ p. record { image = p.image; entries = p.journal.entries } };
 
-    ghost invariant = { λ p. IsAdmitted p.image × IsBuilt p.image × IsLegal p.image p.journal.entries × (length p.journal.entries ≤ 64) };
+    ghost invariant = { λ p. IsAdmitted p.image × IsLegal p.image p.journal.entries × (length p.journal.entries ≤ 64) };
 }
 
 impl Plain {
     pub fn open(alloc: Global, image: Image) -> Self
         requires admitted { IsAdmitted image }
-        requires built { IsBuilt image }
     {
         Plain {
             alloc,

@@ -1,12 +1,12 @@
 //! Journals of a program of two lines, judged.
 
 ghost use Rattle.std.specs.Prelude.{IfOk};
-ghost use Rattle.jh_history.specs.Admitted.{IsAdmitted, IsBuilt};
+ghost use Rattle.jh_history.specs.Admitted.{IsAdmitted};
 
 use crate::plain::{LIMIT, Plain};
 use crate::{AUDIT_LIMIT, Verdict, audit};
 use jh_board::{Board, TurnFault};
-use jh_history::{Act, Entry, Journal, admit, is_built};
+use jh_history::{Act, Entry, Journal, admit};
 use jh_num::{NoMemory, Seq, Steps};
 use jh_script::{Image, Program, read_program};
 use jh_syscfg::read_system;
@@ -76,12 +76,10 @@ fn image(alloc: Global, zero: &str, one: &str) -> Result<Image, Fail> {
 /// The same image, which may be opened.
 fn ready(rt: &impl Abort, alloc: Global, zero: &str, one: &str) -> Result<Image, Fail>
     ensures admitted { IfOk result IsAdmitted }
-    ensures built { IfOk result IsBuilt }
 {
     let image = image(alloc, zero, one)?;
     let admitted = admit(alloc, &image)?;
     assert!(rt; admitted);
-    assert!(rt; is_built(&image));
     Ok(image)
 }
 

@@ -1,6 +1,6 @@
 -- What an entry writes is held, the cell that it makes may live, and what is held after it stands for the facts after it.
-use Rattle.std.proofs.Common.{◌≡◌, ℕ, ◌<◌, List, [], ◌∷◌, Bool, true, false, cond, Option, Some, None, refl, sym, ◌∙◌, ap, subst, length, map, inl, inr}
-use Rattle.std.specs.Prelude.{slice_get, All, IfSome, filter}
+use Rattle.std.proofs.Common.{◌≡◌, ℕ, ◌<◌, List, [], ◌∷◌, Bool, true, false, cond, Option, Some, None, Result, Ok, Err, refl, sym, ◌∙◌, ap, subst, length, map, inl, inr}
+use Rattle.std.specs.Prelude.{slice_get, All, IfSome, OnErr, filter}
 use Rattle.std.specs.List.{AllByRecursion}
 use Rattle.std.proofs.lemmas.Option.{none-some, same_Some}
 use Rattle.std.proofs.lemmas.List.Elements.{All-weaker, All-contains, All-map, All-push, All-from_recursion, recursion_from_All}
@@ -9,9 +9,10 @@ use Rattle.jh_cellcfg.specs.declared.live.Live.{Live}
 use Rattle.jh_cellcfg.specs.Lives.{has_id}
 use Rattle.jh_call.specs.declared.call.Call.{Call}
 use Rattle.jh_call.specs.declared.call.Call.TheVariants.{Create, Start, Loadable, Destroy, Info, State, CpuInfo, Unknown}
+use Rattle.jh_ivshmem.specs.Seen.{Seen}
 use Rattle.jh_script.specs.declared.image.Image.{Image}
 use Rattle.jh_history.specs.declared.access.Reach.{Reach}
-use Rattle.jh_history.specs.declared.access.Reach.TheVariants.{Memory, Subpage, Config, Nothing}
+use Rattle.jh_history.specs.declared.access.Reach.TheVariants.{Memory, Subpage, Config, Window, Nothing}
 use Rattle.jh_history.specs.declared.call.OpenCall.{OpenCall}
 use Rattle.jh_history.specs.declared.call.Phase.{Phase}
 use Rattle.jh_history.specs.declared.call.Phase.TheVariants.{ToDecide, ToSettle, ToCreate, ToCommit, ToNote, ToNoted, ToFinish}
@@ -23,19 +24,26 @@ use Rattle.jh_history.specs.declared.entry.Act.TheVariants.{Read, Write, Fetch, 
 use Rattle.jh_history.specs.Facts.{Facts}
 use Rattle.jh_history.specs.Bytes.{byte_after}
 use Rattle.jh_history.specs.Cpus.{cpu_after}
-use Rattle.jh_history.specs.History.{after, call_after}
+use Rattle.jh_history.specs.Devices.{specs_of}
+use Rattle.jh_history.specs.Endpoints.{endpoints_after, changing_by}
+use Rattle.jh_history.specs.History.{after, coming_of, call_after}
 use Rattle.jh_history.specs.Calls.{call_by}
 use Rattle.jh_history.specs.Commits.{marked, is_other, committed_cells, cells_by, created, created_at, created_by}
 use Rattle.jh_history.specs.DueFacts.{NamesCpu, MayLive, IsLive, HasPage, IsOfCells, ReachesCells, WritesCells}
 use Rattle.jh_board.specs.declared.held.Held.{Held}
 use Rattle.jh_board.specs.Pages.{byte_of, HoldsComm, MayHold, MemoryView}
-use Rattle.jh_board.specs.Means.{Means, HoldsPageOf, IsReady, IsReadyIn, IsReadyFor}
+use Rattle.jh_board.specs.Means.{Means, HoldsPageOf, HoldsWords, IsReady, IsReadyIn, IsReadyFor}
 use Rattle.jh_board.specs.Steps.{IsFree, MayWrite, MayWriteOf, MayJoin, IsPrepared}
-use Rattle.jh_board.proofs.KeptLemmas.{KeepsPages, ready-kept}
+use Rattle.jh_board.proofs.KeptLemmas.{KeepsPages, comms-kept, words-kept, all-words-kept}
+use Rattle.jh_board.proofs.MadeLemmas.{ready-written}
 
 pub if-some : {X : Type 0} (o : Option X) (P : X → Type 0) → ((x : X) → o ≡ Some x → P x) → IfSome o P
 if-some None P h = tt
 if-some (Some x) P h = h x refl
+
+pub on-err : {T E : Type 0} (r : Result T E) (P : Type 0) → P → OnErr r P
+on-err (Ok value) P h = tt
+on-err (Err fault) P h = h
 
 -- facts that what is held stands for have one open call
 pub free-same : (image : Image) (held : Held) (f g : Facts) (config : CellConfig) → Means image held f → Means image held g → IsFree f (Some config) → IsFree g (Some config)
@@ -55,7 +63,8 @@ may-place memory cells pages (Page id offset) h = (live-page memory cells id pag
 may-reach : (memory : MemoryView) (cells : List Live) → All (λ (live : Live). HoldsComm memory.comms live.config.id) cells → (found : Reach) → ReachesCells cells found → MayWrite memory found
 may-reach memory cells pages (Memory places) h = All-weaker (IsOfCells cells) (MayHold memory) (may-place memory cells pages) places h
 may-reach memory cells pages (Subpage places) h = All-weaker (IsOfCells cells) (MayHold memory) (may-place memory cells pages) places h
-may-reach memory cells pages (Config at) h = tt
+may-reach memory cells pages (Config bytes) h = tt
+may-reach memory cells pages (Window register) h = tt
 may-reach memory cells pages Nothing h = tt
 
 -- what the act writes may be written
@@ -77,7 +86,7 @@ may-write memory cells pages (Finish answer) found h = tt
 
 -- ---- the cell that comes
 
-created-phase : (call : Call) (phase : Phase) (config : CellConfig) → created call phase ≡ Some config → phase ≡ ToCreate config
+pub created-phase : (call : Call) (phase : Phase) (config : CellConfig) → created call phase ≡ Some config → phase ≡ ToCreate config
 created-phase (Create at) ToDecide config h = absurd (none-some config h)
 created-phase (Create at) (ToSettle waited) config h = absurd (none-some config h)
 created-phase (Create at) (ToCreate made) config h = ap ToCreate (same_Some made config h)
@@ -147,6 +156,10 @@ may-join image held f o config means is phase may few =
       regions = ready.regions;
     }
 
+-- so it may where devices have changed
+pub join-kept : (old new : Held) (act : Act) → new.call ≡ old.call → new.cells ≡ old.cells → new.index ≡ old.index → IfSome (created_by old.call act) (MayJoin old.cells old.index) → IfSome (created_by new.call act) (MayJoin new.cells new.index)
+join-kept old new act call cells index h = rw (call, cells, index) h
+
 -- ---- what is true of each cell after the entry
 
 cond-holds : (Q : Live → Type 0) (b : Bool) (x y : Live) → Q x → Q y → Q (cond b x y)
@@ -215,17 +228,20 @@ all-made P call cells (Finish answer) h made = h
 pub record IsCalled (mid new : Held) (entry : Entry) (coming : Option CellConfig) : Type 0 where
   pub memory : new.memory ≡ mid.memory
   pub cpus : new.cpus ≡ mid.cpus
+  pub endpoints : new.endpoints ≡ mid.endpoints
   pub system : new.cells.system ≡ mid.cells.system
   pub lives : new.cells.lives ≡ cells_by mid.call mid.cells.lives entry.act
   pub named : IfSome (created_by mid.call entry.act) NamesCpu
   pub call : new.call ≡ call_by mid.cells.lives coming mid.call entry entry.act
   pub ready : IsReady mid new.call → IsReady new new.call
 
--- and the steps before it, memory and CPUs
+-- and the steps before it, memory, devices and CPUs
 pub record IsWritten (image : Image) (old mid : Held) (f : Facts) (entry : Entry) : Type 0 where
   pub bytes : (q : Place) → byte_of mid.memory q ≡ byte_after image f entry q
   pub pages : KeepsPages old.memory mid.memory
   pub cpus : (i : ℕ) → i < 16 → slice_get mid.cpus i ≡ Some (cpu_after image f entry i)
+  pub endpoints : mid.endpoints.list ≡ endpoints_after image f entry
+  pub spare : changing_by f.cells f.call entry.act ≡ None → mid.endpoints.spare ≡ old.endpoints.spare
   pub cells : mid.cells ≡ old.cells
   pub call : mid.call ≡ old.call
   pub index : mid.index ≡ old.index
@@ -239,7 +255,7 @@ Means-made image old mid new f entry coming prepared written called =
     let call : mid.call ≡ f.call = written.call ∙ means.call in
     let lives : mid.cells.lives ≡ f.cells = rw written.cells means.cells in
     let after-call : new.call ≡ call_after image f entry = called.call ∙ ap (λ (c : Option OpenCall). call_by mid.cells.lives coming c entry act) call ∙ ap (λ (cs : List Live). call_by cs coming f.call entry act) lives ∙ prepared.read in
-    let pages : KeepsPages old.memory new.memory = λ cell held. rw called.memory (written.pages cell held) in
+    let pages : KeepsPages old.memory new.memory = λ q held. rw called.memory (written.pages q held) in
     let R : Option OpenCall → Type 0 = IsReady mid in
     let S : Option OpenCall → Type 0 = IsReady new in
     record {
@@ -247,12 +263,18 @@ Means-made image old mid new f entry coming prepared written called =
       cpus = λ i lt. rw called.cpus (written.cpus i lt);
       system = called.system ∙ rw written.cells means.system;
       cells = called.lives ∙ ap (λ (c : Option OpenCall). cells_by c mid.cells.lives act) call ∙ ap (λ (cs : List Live). cells_by f.call cs act) lives;
+      endpoints = ap (λ (es : Seen). es.list) called.endpoints ∙ written.endpoints;
       call = after-call;
       pages = all-made (λ (config : CellConfig). HoldsComm new.memory.comms config.id) f.call f.cells act
-          (All-weaker (HoldsPageOf old) (HoldsPageOf new) (λ live. pages live.config.id) f.cells means.pages)
+          (All-weaker (HoldsPageOf old) (HoldsPageOf new) (λ live. comms-kept old.memory new.memory live.config.id pages) f.cells means.pages)
           (if-some (created_by f.call act) (λ (config : CellConfig). HoldsComm new.memory.comms config.id) (λ config made.
           let coming = created-is f.call act config made in
-          pages config.id (ready-coming old f.call coming.begun config means.ready coming.is coming.phase).page));
+          comms-kept old.memory new.memory config.id pages (ready-coming old f.call coming.begun config means.ready coming.is coming.phase).page));
+      words = all-made (λ (config : CellConfig). HoldsWords new config) f.call f.cells act (all-words-kept old new f.cells pages means.words)
+          (if-some (created_by f.call act) (λ (config : CellConfig). HoldsWords new config) (λ config made.
+          let coming = created-is f.call act config made in
+          words-kept old.memory new.memory (specs_of config) pages (ready-coming old f.call coming.begun config means.ready coming.is coming.phase).words));
+      root_words = words-kept old.memory new.memory (specs_of image.system.root) pages means.root_words;
       named = all-made NamesCpu f.call f.cells act means.named (rw call at called.named);
-      ready = subst S after-call (called.ready (subst R (sym after-call) (ready-kept old mid (call_after image f entry) written.index written.cells written.pages prepared.ready)));
+      ready = subst S after-call (called.ready (subst R (sym after-call) (ready-written old mid f.cells (coming_of image f) f.call entry act written.index written.cells written.spare written.pages prepared.ready)));
     }

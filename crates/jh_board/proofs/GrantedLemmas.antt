@@ -17,6 +17,7 @@ use Rattle.jh_history.specs.declared.access.Reach.{Reach}
 use Rattle.jh_history.specs.declared.access.Reach.TheVariants.{Memory, Nothing}
 use Rattle.jh_history.specs.Places.{places_in_row}
 use Rattle.jh_history.specs.Access.{places_from, place_of, memory_or_nothing, reach_by}
+use Rattle.jh_history.specs.Devices.{list_in}
 use Rattle.jh_history.specs.Grants.{is_kept, unless, granted_in}
 use Rattle.jh_history.specs.Lives.{live_in, regions_in}
 use Rattle.jh_board.specs.Closed.{is_closed_by, live_regions}
@@ -175,6 +176,15 @@ regions-root image lives id own = ap (λ (b : Bool). option_map_or (λ (c : Cell
 
 pub regions-live : (image : Image) (lives : List Live) (id : ℕ) → (id ≡ image.system.root.id → ⊥) → regions_in image lives id ≡ live_regions lives id
 regions-live image lives id other = ap (λ (b : Bool). option_map_or (λ (c : CellConfig). c.memory_regions) (cond b (Some image.system.root) (live_in lives id)) []) (ne_eqb id image.system.root.id other)
+
+-- the devices of root, and those of another cell
+pub devices-root : (image : Image) (lives : List Live) (id : ℕ) → id ≡ image.system.root.id → list_in image lives id ≡ image.system.root.pci_devices
+devices-root image lives id own = ap (λ (b : Bool). option_map_or (λ (c : CellConfig). c.pci_devices) (cond b (Some image.system.root) (live_in lives id)) []) (eq-eqb id image.system.root.id own)
+
+pub devices-live : (image : Image) (lives : List Live) (id : ℕ) (found : Option CellConfig) → (id ≡ image.system.root.id → ⊥) → found ≡ live_in lives id → list_in image lives id ≡ option_map_or (λ (c : CellConfig). c.pci_devices) found []
+devices-live image lives id found other is =
+    ap (λ (b : Bool). option_map_or (λ (c : CellConfig). c.pci_devices) (cond b (Some image.system.root) (live_in lives id)) []) (ne_eqb id image.system.root.id other)
+    ∙ ap (λ (o : Option CellConfig). option_map_or (λ (c : CellConfig). c.pci_devices) o []) (sym is)
 
 -- the first run decides, or the second
 pub kept-low : (image : Image) (lives : List Live) (id : ℕ) (low high places : List Place) (a : Bool) → id ≡ image.system.root.id → places ≡ low ++ high

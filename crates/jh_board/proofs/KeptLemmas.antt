@@ -1,57 +1,81 @@
--- What a board holds still stands for the facts where nothing of it changes but its memory, which keeps its pages.
-use Rattle.std.proofs.Common.{◌≡◌, ℕ, List, Option, Some, None, ◌∙◌, ap}
+-- What a board holds still stands for the facts where nothing of it changes but its memory, which keeps its pages, and the
+-- room for more endpoints.
+use Rattle.std.proofs.Common.{◌≡◌, ℕ, ◌<◌, ◌≤◌, List, Option, Some, None, ◌∙◌, ap, arith}
 use Rattle.std.specs.Prelude.{slice_get, All}
 use Rattle.std.proofs.lemmas.List.Elements.{All-weaker}
 use Rattle.jh_cellcfg.specs.declared.config.CellConfig.{CellConfig}
 use Rattle.jh_cellcfg.specs.declared.live.Live.{Live}
 use Rattle.jh_cpu.specs.declared.cpu.Cpu.{Cpu}
+use Rattle.jh_ivshmem.specs.declared.spec.EndpointSpec.{EndpointSpec}
+use Rattle.jh_ivshmem.specs.Specs.{slot_of}
 use Rattle.jh_script.specs.declared.image.Image.{Image}
 use Rattle.jh_history.specs.declared.call.OpenCall.{OpenCall}
 use Rattle.jh_history.specs.declared.call.Phase.{Phase}
 use Rattle.jh_history.specs.declared.call.Phase.TheVariants.{ToDecide, ToSettle, ToCreate, ToCommit, ToNote, ToNoted, ToFinish}
 use Rattle.jh_history.specs.declared.place.Place.{Place}
+use Rattle.jh_history.specs.declared.place.Place.TheVariants.{Physical, Page}
+use Rattle.jh_history.specs.Devices.{specs_of}
+use Rattle.jh_history.specs.Places.{places_in_row}
 use Rattle.jh_history.specs.Facts.{Facts}
 use Rattle.jh_board.specs.declared.held.Held.{Held}
-use Rattle.jh_board.specs.Pages.{byte_of, HoldsComm, MemoryView}
-use Rattle.jh_board.specs.Means.{Means, HoldsPageOf, IsReadyFor, IsReadyIn, IsReady}
+use Rattle.jh_board.specs.Pages.{byte_of, HoldsComm, HoldsPlace, HoldsWord, MemoryView}
+use Rattle.jh_board.specs.Means.{Means, HoldsPageOf, HoldsWords, IsReadyFor, IsReadyIn, IsReady}
 
 -- the pages that are held stay so
 abbrev pub KeepsPages : MemoryView → MemoryView → Type 0
-KeepsPages old new = (cell : ℕ) → HoldsComm old.comms cell → HoldsComm new.comms cell
+KeepsPages old new = (q : Place) → HoldsPlace old q → HoldsPlace new q
 
-pub ready-for-kept : (old new : Held) (config : CellConfig) → new.index ≡ old.index → new.cells ≡ old.cells → KeepsPages old.memory new.memory → IsReadyFor old config → IsReadyFor new config
-ready-for-kept old new config index cells pages h = record {
+-- those of communication
+pub comms-kept : (old new : MemoryView) (cell : ℕ) → KeepsPages old new → HoldsComm old.comms cell → HoldsComm new.comms cell
+comms-kept old new cell pages h = let first : 0 < 4096 = omega arith in (pages (Page cell 0) (h, first)).0
+
+-- and those of the words of devices
+pub words-kept : (old new : MemoryView) (specs : List EndpointSpec) → KeepsPages old new → All (HoldsWord old) specs → All (HoldsWord new) specs
+words-kept old new specs pages h =
+    All-weaker (HoldsWord old) (HoldsWord new) (λ spec word. All-weaker (HoldsPlace old) (HoldsPlace new) pages (places_in_row (Physical (slot_of spec 0).place) 4) word) specs h
+
+pub ready-for-kept : (old new : Held) (config : CellConfig) → new.index ≡ old.index → new.cells ≡ old.cells → old.endpoints.spare ≤ new.endpoints.spare → KeepsPages old.memory new.memory → IsReadyFor old config → IsReadyFor new config
+ready-for-kept old new config index cells spare pages h = record {
   index = index ∙ h.index;
   cells = rw cells h.cells;
   regions = rw cells h.regions;
-  page = pages config.id h.page;
+  page = comms-kept old.memory new.memory config.id pages h.page;
+  endpoints = let room = h.endpoints in omega arith;
+  words = words-kept old.memory new.memory (specs_of config) pages h.words;
 }
 
-ready-in-kept : (old new : Held) (phase : Phase) → new.index ≡ old.index → new.cells ≡ old.cells → KeepsPages old.memory new.memory → IsReadyIn old phase → IsReadyIn new phase
-ready-in-kept old new ToDecide index cells pages h = tt
-ready-in-kept old new (ToSettle waited) index cells pages h = tt
-ready-in-kept old new (ToCreate config) index cells pages h = ready-for-kept old new config index cells pages h
-ready-in-kept old new ToCommit index cells pages h = tt
-ready-in-kept old new (ToNote id about answer) index cells pages h = tt
-ready-in-kept old new (ToNoted id about answer waited) index cells pages h = tt
-ready-in-kept old new (ToFinish answer) index cells pages h = tt
+ready-in-kept : (old new : Held) (phase : Phase) → new.index ≡ old.index → new.cells ≡ old.cells → old.endpoints.spare ≤ new.endpoints.spare → KeepsPages old.memory new.memory → IsReadyIn old phase → IsReadyIn new phase
+ready-in-kept old new ToDecide index cells spare pages h = tt
+ready-in-kept old new (ToSettle waited) index cells spare pages h = tt
+ready-in-kept old new (ToCreate config) index cells spare pages h = ready-for-kept old new config index cells spare pages h
+ready-in-kept old new ToCommit index cells spare pages h = tt
+ready-in-kept old new (ToNote id about answer) index cells spare pages h = tt
+ready-in-kept old new (ToNoted id about answer waited) index cells spare pages h = tt
+ready-in-kept old new (ToFinish answer) index cells spare pages h = tt
 
-pub ready-kept : (old new : Held) (call : Option OpenCall) → new.index ≡ old.index → new.cells ≡ old.cells → KeepsPages old.memory new.memory → IsReady old call → IsReady new call
-ready-kept old new None index cells pages h = tt
-ready-kept old new (Some o) index cells pages h = ready-in-kept old new o.phase index cells pages h
+pub ready-kept : (old new : Held) (call : Option OpenCall) → new.index ≡ old.index → new.cells ≡ old.cells → old.endpoints.spare ≤ new.endpoints.spare → KeepsPages old.memory new.memory → IsReady old call → IsReady new call
+ready-kept old new None index cells spare pages h = tt
+ready-kept old new (Some o) index cells spare pages h = ready-in-kept old new o.phase index cells spare pages h
 
 pub pages-kept : (old new : Held) (cells : List Live) → KeepsPages old.memory new.memory → All (HoldsPageOf old) cells → All (HoldsPageOf new) cells
-pages-kept old new cells pages h = All-weaker (HoldsPageOf old) (HoldsPageOf new) (λ live. pages live.config.id) cells h
+pages-kept old new cells pages h = All-weaker (HoldsPageOf old) (HoldsPageOf new) (λ live. comms-kept old.memory new.memory live.config.id pages) cells h
+
+pub all-words-kept : (old new : Held) (cells : List Live) → KeepsPages old.memory new.memory → All (λ (live : Live). HoldsWords old live.config) cells → All (λ (live : Live). HoldsWords new live.config) cells
+all-words-kept old new cells pages h =
+    All-weaker (λ (live : Live). HoldsWords old live.config) (λ (live : Live). HoldsWords new live.config) (λ live. words-kept old.memory new.memory (specs_of live.config) pages) cells h
 
 pub Means-kept : (image : Image) (old new : Held) (f : Facts) → ((q : Place) → byte_of new.memory q ≡ byte_of old.memory q) → KeepsPages old.memory new.memory → new.cpus ≡ old.cpus
-    → new.cells.system ≡ old.cells.system → new.cells.lives ≡ old.cells.lives → new.call ≡ old.call → IsReady new f.call → Means image old f → Means image new f
-Means-kept image old new f bytes pages cpus system lives call ready h = record {
+    → new.cells.system ≡ old.cells.system → new.cells.lives ≡ old.cells.lives → new.endpoints.list ≡ old.endpoints.list → new.call ≡ old.call → IsReady new f.call → Means image old f → Means image new f
+Means-kept image old new f bytes pages cpus system lives endpoints call ready h = record {
   bytes = λ q. bytes q ∙ h.bytes q;
   cpus = λ i lt. ap (λ (states : List Cpu). slice_get states i) cpus ∙ h.cpus i lt;
   system = system ∙ h.system;
   cells = lives ∙ h.cells;
+  endpoints = endpoints ∙ h.endpoints;
   call = call ∙ h.call;
   pages = pages-kept old new f.cells pages h.pages;
+  words = all-words-kept old new f.cells pages h.words;
+  root_words = words-kept old.memory new.memory (specs_of image.system.root) pages h.root_words;
   named = h.named;
   ready = ready;
 }

@@ -12,3 +12,6 @@ pub mod MadeLemmas
 pub mod AfterLemmas
 pub mod RootReadLemmas
 pub mod ToldLemmas
+pub mod DevicesLemmas
+pub mod ActedLemmas
+pub mod CommitLemmas

@@ -1,5 +1,5 @@
 -- What the entry's act does to the live cells and to the call that is open, put together.
-use Rattle.std.proofs.Common.{◌≡◌, ℕ, List, Option, Some, None, refl}
+use Rattle.std.proofs.Common.{◌≡◌, ℕ, ◌≤◌, List, Option, Some, None, refl, arith}
 use Rattle.std.specs.Option.{option_map_or}
 use Rattle.jh_cellcfg.specs.declared.config.CellConfig.{CellConfig}
 use Rattle.jh_cellcfg.specs.declared.live.Live.{Live}
@@ -13,6 +13,7 @@ use Rattle.jh_history.specs.declared.entry.Act.{Act}
 use Rattle.jh_history.specs.declared.entry.Act.TheVariants.{Read, Write, Fetch, Await, Irq, Hvc, Begin, Stop, Decide, Settle, Commit, Note, Noted, Finish}
 use Rattle.jh_history.specs.Commits.{committed_cells, cells_by, created, created_at, created_by}
 use Rattle.jh_history.specs.Calls.{call_by}
+use Rattle.jh_history.specs.Endpoints.{changing_at, changing_by}
 use Rattle.jh_board.specs.declared.held.Held.{Held}
 use Rattle.jh_board.specs.declared.steps.CellsChange.{CellsChange}
 use Rattle.jh_board.specs.declared.steps.CellsChange.TheVariants.{Keep}
@@ -91,19 +92,51 @@ ready-committed-call held cells coming None entry = tt
 ready-committed-call held cells coming (Some o) entry = ready-committed held o.call cells o.phase
 
 -- what is held stays ready for what the call goes on to do
-pub ready-made : (old new : Held) (cells : List Live) (coming : Option CellConfig) (call : Option OpenCall) (entry : Entry) (act : Act) → KeepsPages old.memory new.memory
+pub ready-made : (old new : Held) (cells : List Live) (coming : Option CellConfig) (call : Option OpenCall) (entry : Entry) (act : Act) → old.endpoints.spare ≤ new.endpoints.spare → KeepsPages old.memory new.memory
     → KeepsCells old new (created_by call act) (change_of_cells call act) → IsReady old (call_by cells coming call entry act) → IsReady new (call_by cells coming call entry act)
-ready-made old new cells coming call entry (Read width at got) pages same h = let kept = same (none-made call (Read width at got) (λ o. refl)) refl in ready-kept old new (call_by cells coming call entry (Read width at got)) kept.1 kept.0 pages h
-ready-made old new cells coming call entry (Write width at value ok) pages same h = let kept = same (none-made call (Write width at value ok) (λ o. refl)) refl in ready-kept old new (call_by cells coming call entry (Write width at value ok)) kept.1 kept.0 pages h
-ready-made old new cells coming call entry (Fetch at got) pages same h = let kept = same (none-made call (Fetch at got) (λ o. refl)) refl in ready-kept old new (call_by cells coming call entry (Fetch at got)) kept.1 kept.0 pages h
-ready-made old new cells coming call entry (Await width at value ok) pages same h = let kept = same (none-made call (Await width at value ok) (λ o. refl)) refl in ready-kept old new (call_by cells coming call entry (Await width at value ok)) kept.1 kept.0 pages h
-ready-made old new cells coming call entry (Irq device vector) pages same h = let kept = same (none-made call (Irq device vector) (λ o. refl)) refl in ready-kept old new (call_by cells coming call entry (Irq device vector)) kept.1 kept.0 pages h
-ready-made old new cells coming call entry (Hvc code a b answer) pages same h = let kept = same (none-made call (Hvc code a b answer) (λ o. refl)) refl in ready-kept old new (call_by cells coming call entry (Hvc code a b answer)) kept.1 kept.0 pages h
-ready-made old new cells coming call entry (Begin code a b) pages same h = let kept = same (none-made call (Begin code a b) (λ o. refl)) refl in ready-kept old new (call_by cells coming call entry (Begin code a b)) kept.1 kept.0 pages h
-ready-made old new cells coming call entry Stop pages same h = let kept = same (none-made call Stop (λ o. refl)) refl in ready-kept old new (call_by cells coming call entry Stop) kept.1 kept.0 pages h
-ready-made old new cells coming call entry (Decide refused) pages same h = let kept = same (none-made call (Decide refused) (λ o. refl)) refl in ready-kept old new (call_by cells coming call entry (Decide refused)) kept.1 kept.0 pages h
-ready-made old new cells coming call entry (Settle how) pages same h = let kept = same (none-made call (Settle how) (λ o. refl)) refl in ready-kept old new (call_by cells coming call entry (Settle how)) kept.1 kept.0 pages h
-ready-made old new cells coming call entry Commit pages same h = ready-committed-call new cells coming call entry
-ready-made old new cells coming call entry (Note id) pages same h = let kept = same (none-made call (Note id) (λ o. refl)) refl in ready-kept old new (call_by cells coming call entry (Note id)) kept.1 kept.0 pages h
-ready-made old new cells coming call entry (Noted id how) pages same h = let kept = same (none-made call (Noted id how) (λ o. refl)) refl in ready-kept old new (call_by cells coming call entry (Noted id how)) kept.1 kept.0 pages h
-ready-made old new cells coming call entry (Finish answer) pages same h = let kept = same (none-made call (Finish answer) (λ o. refl)) refl in ready-kept old new (call_by cells coming call entry (Finish answer)) kept.1 kept.0 pages h
+ready-made old new cells coming call entry (Read width at got) spare pages same h = let kept = same (none-made call (Read width at got) (λ o. refl)) refl in ready-kept old new (call_by cells coming call entry (Read width at got)) kept.1 kept.0 spare pages h
+ready-made old new cells coming call entry (Write width at value ok) spare pages same h = let kept = same (none-made call (Write width at value ok) (λ o. refl)) refl in ready-kept old new (call_by cells coming call entry (Write width at value ok)) kept.1 kept.0 spare pages h
+ready-made old new cells coming call entry (Fetch at got) spare pages same h = let kept = same (none-made call (Fetch at got) (λ o. refl)) refl in ready-kept old new (call_by cells coming call entry (Fetch at got)) kept.1 kept.0 spare pages h
+ready-made old new cells coming call entry (Await width at value ok) spare pages same h = let kept = same (none-made call (Await width at value ok) (λ o. refl)) refl in ready-kept old new (call_by cells coming call entry (Await width at value ok)) kept.1 kept.0 spare pages h
+ready-made old new cells coming call entry (Irq device vector) spare pages same h = let kept = same (none-made call (Irq device vector) (λ o. refl)) refl in ready-kept old new (call_by cells coming call entry (Irq device vector)) kept.1 kept.0 spare pages h
+ready-made old new cells coming call entry (Hvc code a b answer) spare pages same h = let kept = same (none-made call (Hvc code a b answer) (λ o. refl)) refl in ready-kept old new (call_by cells coming call entry (Hvc code a b answer)) kept.1 kept.0 spare pages h
+ready-made old new cells coming call entry (Begin code a b) spare pages same h = let kept = same (none-made call (Begin code a b) (λ o. refl)) refl in ready-kept old new (call_by cells coming call entry (Begin code a b)) kept.1 kept.0 spare pages h
+ready-made old new cells coming call entry Stop spare pages same h = let kept = same (none-made call Stop (λ o. refl)) refl in ready-kept old new (call_by cells coming call entry Stop) kept.1 kept.0 spare pages h
+ready-made old new cells coming call entry (Decide refused) spare pages same h = let kept = same (none-made call (Decide refused) (λ o. refl)) refl in ready-kept old new (call_by cells coming call entry (Decide refused)) kept.1 kept.0 spare pages h
+ready-made old new cells coming call entry (Settle how) spare pages same h = let kept = same (none-made call (Settle how) (λ o. refl)) refl in ready-kept old new (call_by cells coming call entry (Settle how)) kept.1 kept.0 spare pages h
+ready-made old new cells coming call entry Commit spare pages same h = ready-committed-call new cells coming call entry
+ready-made old new cells coming call entry (Note id) spare pages same h = let kept = same (none-made call (Note id) (λ o. refl)) refl in ready-kept old new (call_by cells coming call entry (Note id)) kept.1 kept.0 spare pages h
+ready-made old new cells coming call entry (Noted id how) spare pages same h = let kept = same (none-made call (Noted id how) (λ o. refl)) refl in ready-kept old new (call_by cells coming call entry (Noted id how)) kept.1 kept.0 spare pages h
+ready-made old new cells coming call entry (Finish answer) spare pages same h = let kept = same (none-made call (Finish answer) (λ o. refl)) refl in ready-kept old new (call_by cells coming call entry (Finish answer)) kept.1 kept.0 spare pages h
+
+not-changing : (cells : List Live) (call : Option OpenCall) (act : Act) → ((o : OpenCall) → changing_at cells o act ≡ None) → changing_by cells call act ≡ None
+not-changing cells None act h = refl
+not-changing cells (Some o) act h = h o
+
+-- the room for more endpoints stays, where no devices change
+abbrev pub KeepsRoom : Held → Held → Option CellConfig → Type 0
+KeepsRoom old new changing = changing ≡ None → new.endpoints.spare ≡ old.endpoints.spare
+
+ready_room : (old new : Held) (call changed : Option OpenCall) (cells : List Live) (act : Act) → new.index ≡ old.index → new.cells ≡ old.cells → KeepsRoom old new (changing_by cells call act) → KeepsPages old.memory new.memory
+    → ((o : OpenCall) → changing_at cells o act ≡ None) → IsReady old changed → IsReady new changed
+ready_room old new call changed cells act index same room pages none h =
+    let kept : new.endpoints.spare ≡ old.endpoints.spare = room (not-changing cells call act none) in
+    ready-kept old new changed index same (omega arith) pages h
+
+-- so it does after what the act does to memory and to devices
+pub ready-written : (old new : Held) (cells : List Live) (coming : Option CellConfig) (call : Option OpenCall) (entry : Entry) (act : Act) → new.index ≡ old.index → new.cells ≡ old.cells
+    → KeepsRoom old new (changing_by cells call act) → KeepsPages old.memory new.memory → IsReady old (call_by cells coming call entry act) → IsReady new (call_by cells coming call entry act)
+ready-written old new cells coming call entry (Read width at got) index same room pages h = ready_room old new call (call_by cells coming call entry (Read width at got)) cells (Read width at got) index same room pages (λ o. refl) h
+ready-written old new cells coming call entry (Write width at value ok) index same room pages h = ready_room old new call (call_by cells coming call entry (Write width at value ok)) cells (Write width at value ok) index same room pages (λ o. refl) h
+ready-written old new cells coming call entry (Fetch at got) index same room pages h = ready_room old new call (call_by cells coming call entry (Fetch at got)) cells (Fetch at got) index same room pages (λ o. refl) h
+ready-written old new cells coming call entry (Await width at value ok) index same room pages h = ready_room old new call (call_by cells coming call entry (Await width at value ok)) cells (Await width at value ok) index same room pages (λ o. refl) h
+ready-written old new cells coming call entry (Irq device vector) index same room pages h = ready_room old new call (call_by cells coming call entry (Irq device vector)) cells (Irq device vector) index same room pages (λ o. refl) h
+ready-written old new cells coming call entry (Hvc code a b answer) index same room pages h = ready_room old new call (call_by cells coming call entry (Hvc code a b answer)) cells (Hvc code a b answer) index same room pages (λ o. refl) h
+ready-written old new cells coming call entry (Begin code a b) index same room pages h = ready_room old new call (call_by cells coming call entry (Begin code a b)) cells (Begin code a b) index same room pages (λ o. refl) h
+ready-written old new cells coming call entry Stop index same room pages h = ready_room old new call (call_by cells coming call entry Stop) cells Stop index same room pages (λ o. refl) h
+ready-written old new cells coming call entry (Decide refused) index same room pages h = ready_room old new call (call_by cells coming call entry (Decide refused)) cells (Decide refused) index same room pages (λ o. refl) h
+ready-written old new cells coming call entry (Settle how) index same room pages h = ready_room old new call (call_by cells coming call entry (Settle how)) cells (Settle how) index same room pages (λ o. refl) h
+ready-written old new cells coming call entry Commit index same room pages h = ready-committed-call new cells coming call entry
+ready-written old new cells coming call entry (Note id) index same room pages h = ready_room old new call (call_by cells coming call entry (Note id)) cells (Note id) index same room pages (λ o. refl) h
+ready-written old new cells coming call entry (Noted id how) index same room pages h = ready_room old new call (call_by cells coming call entry (Noted id how)) cells (Noted id how) index same room pages (λ o. refl) h
+ready-written old new cells coming call entry (Finish answer) index same room pages h = ready_room old new call (call_by cells coming call entry (Finish answer)) cells (Finish answer) index same room pages (λ o. refl) h

@@ -11,13 +11,13 @@ use Rattle.jh_cpu.specs.declared.cpu.Cpu.{Cpu}
 use Rattle.jh_history.specs.Places.{is_physical}
 use Rattle.jh_history.specs.DueFacts.{NamesCpu}
 use Rattle.jh_history.specs.History.{facts, start}
-use Rattle.jh_history.specs.Bytes.{preloaded}
+use Rattle.jh_history.specs.Bytes.{preloaded, loaded_byte}
 use Rattle.jh_history.proofs.FactsLemmas.{facts-nil}
 use Rattle.jh_history.specs.declared.place.Place.{Place}
 use Rattle.jh_history.specs.declared.place.Place.TheVariants.{Physical, Page}
 use Rattle.jh_board.specs.declared.held.Held.{Held}
 use Rattle.jh_board.specs.Pages.{byte_at, byte_of, comm_byte, MayHold, MemoryView}
-use Rattle.jh_board.specs.Means.{Means, HoldsPageOf}
+use Rattle.jh_board.specs.Means.{Means, HoldsPageOf, HoldsWords}
 
 -- an element of equal elements
 pub slice_get-replicate : {X : Type 0} (n i : ℕ) (x : X) → i < n → slice_get (replicate n x) i ≡ Some x
@@ -25,23 +25,26 @@ slice_get-replicate n i x lt = slice_get-get_or (replicate n x) i x (rw (length-
 
 -- what is held at opening
 pub Means-opened : (image : Image) (held : Held) (cpu : Cpu) → ((q : Place) → byte_of held.memory q ≡ (start image).byte q) → held.cpus ≡ replicate 16 cpu → ((i : ℕ) → cpu ≡ (start image).cpu i)
-    → held.cells.system ≡ image.system → held.cells.lives ≡ [] → held.call ≡ None → Means image held (facts image [])
-Means-opened image held cpu bytes cpus same system alone closed = rw (facts-nil image) (record {
+    → held.cells.system ≡ image.system → held.cells.lives ≡ [] → held.endpoints.list ≡ (start image).endpoints → HoldsWords held image.system.root → held.call ≡ None → Means image held (facts image [])
+Means-opened image held cpu bytes cpus same system alone joined words closed = rw (facts-nil image) (record {
   bytes = bytes;
   cpus = λ i lt. ap (λ (states : List Cpu). slice_get states i) cpus ∙ slice_get-replicate 16 i cpu lt ∙ ap Some (same i);
   system = system;
   cells = alone;
+  endpoints = joined;
   call = closed;
   pages = All-from_recursion (HoldsPageOf held) [] tt;
+  words = All-from_recursion (λ (live : Live). HoldsWords held live.config) [] tt;
+  root_words = words;
   named = All-from_recursion (λ (live : Live). NamesCpu live.config) [] tt;
   ready = tt;
 })
 
--- memory at opening
-pub opened-bytes : (image : Image) (memory : MemoryView) → ((a : ℕ) → byte_at memory.physical a ≡ fold preloaded (λ _. 0) image.preloads a) → ((cell k : ℕ) → comm_byte memory.comms cell k ≡ 0)
-    → (q : Place) → byte_of memory q ≡ (start image).byte q
-opened-bytes image memory same none (Physical a) = same a
-opened-bytes image memory same none (Page cell offset) = none cell offset
+-- memory as the preloads put it
+pub loaded-bytes : (image : Image) (memory : MemoryView) → ((a : ℕ) → byte_at memory.physical a ≡ fold preloaded (λ _. 0) image.preloads a) → ((cell k : ℕ) → comm_byte memory.comms cell k ≡ 0)
+    → (q : Place) → byte_of memory q ≡ loaded_byte image q
+loaded-bytes image memory same none (Physical a) = same a
+loaded-bytes image memory same none (Page cell offset) = none cell offset
 
 -- places of physical memory can be written
 pub MayHold-physical : (memory : MemoryView) (q : Place) → is_physical q ≡ true → MayHold memory q

@@ -8,7 +8,7 @@ use Rattle.jh_cellcfg.specs.Regions.{IsInRange}
 use Rattle.jh_script.specs.declared.image.Image.{Image}
 use Rattle.jh_history.specs.declared.place.Place.{Place}
 use Rattle.jh_history.specs.declared.access.Access.TheVariants.{Read}
-use Rattle.jh_history.specs.Access.{reach_by, read_of}
+use Rattle.jh_history.specs.Access.{reach_by, memory_read}
 use Rattle.jh_history.specs.Admitted.{IsAdmitted}
 use Rattle.jh_history.specs.Facts.{Facts}
 use Rattle.jh_history.specs.Grants.{granted_in, granted, is_kept}
@@ -25,7 +25,7 @@ root-within image lives admitted = let own : eqb image.system.root.id image.syst
 
 -- the byte that root reads at the address, where it may
 abbrev pub read_held : Image → Held → ℕ → Option ℕ
-read_held image held at = read_of (byte_of held.memory) 1 (reach_by (granted_in image held.cells.lives image.system.root.id Read) at 1)
+read_held image held at = memory_read (byte_of held.memory) (reach_by (granted_in image held.cells.lives image.system.root.id Read) at 1)
 
 pub held-reads : (image : Image) (held : Held) (f : Facts) (at : ℕ) → IsAdmitted image → Means image held f → read_held image held at ≡ option_map f.byte (granted image f image.system.root.id Read at)
 held-reads image held f at admitted means =

@@ -1,15 +1,14 @@
 -- The regions of live cells, and what a map tells of grants.
-use Rattle.std.proofs.Common.{◌≡◌, ℕ, suc, ◌+◌, ◌-◌, ◌<◌, ◌≤◌, leb, ltb, Bool, true, false, cond, ◌&&◌, ◌||◌, not, eqb, List, [], ◌∷◌, length, get_or, map, Option, Some, None, Result, refl, sym, ap, subst, ◌∙◌, inl, inr, ◌⊎◌, ⊎_elim, arith}
-use Rattle.std.specs.Prelude.{All, AllPairs, Contains, IfOk, find, option_map, option_and_then, slice_get}
+use Rattle.std.proofs.Common.{◌≡◌, ℕ, suc, ◌+◌, ◌-◌, ◌<◌, leb, ltb, Bool, true, false, cond, ◌&&◌, ◌||◌, not, eqb, List, [], length, get_or, map, Option, Some, None, Result, refl, sym, ap, subst, ◌∙◌, ⊎_elim, arith}
+use Rattle.std.specs.Prelude.{AllPairs, Contains, IfOk, find, option_map, option_and_then}
 use Rattle.std.specs.Option.{option_map_or}
 use Rattle.std.proofs.lemmas.Bool.{and_parts, and_from, and_left, eq-eqb, ne_eqb, cases_Bool, cases_order, both_ways, false_from_ne_true, leb-true, ltb-true, le-leb, lt-ltb}
-use Rattle.std.proofs.lemmas.Option.{none-some, slice_get-get_or}
+use Rattle.std.proofs.lemmas.Option.{slice_get-get_or}
 use Rattle.std.proofs.lemmas.List.{get_or_default}
 use Rattle.std.proofs.lemmas.List.Elements.{All-contains}
 use Rattle.jh_num.proofs.Lists.{IsFound, IsFound-from_find, find-None, find-nothing, find-unique}
 use Rattle.jh_num.specs.declared.no_memory.NoMemory.{NoMemory}
 use Rattle.jh_num.specs.declared.range.Range.{Range}
-use Rattle.jh_num.specs.declared.rights.Rights.{Rights}
 use Rattle.jh_num.specs.Bytes.{has_byte}
 use Rattle.jh_cellcfg.specs.declared.config.CellConfig.{CellConfig}
 use Rattle.jh_cellcfg.specs.declared.live.Live.{Live}
@@ -18,19 +17,19 @@ use Rattle.jh_cellcfg.specs.Regions.{has_address, has_flags, is_comm, is_page_ma
 use Rattle.jh_check.specs.Clean.{IsClean, SharesNoAddress}
 use Rattle.jh_check.specs.Laws.{IsNumbered}
 use Rattle.jh_map.specs.declared.run.Run.{Run}
-use Rattle.jh_map.specs.Maps.{is_granted, leads_to, IsIn, IsRunOf, IsRunIn, IsTold, IsMap}
+use Rattle.jh_map.specs.Maps.{is_granted, leads_to, IsIn, IsRunOf, IsRunIn, IsMap}
 use Rattle.jh_script.specs.declared.image.Image.{Image}
 use Rattle.jh_history.specs.declared.access.Access.{Access}
 use Rattle.jh_history.specs.declared.access.Access.TheVariants.{Read, Write, Fetch}
 use Rattle.jh_history.specs.declared.place.Place.{Place}
 use Rattle.jh_history.specs.declared.place.Place.TheVariants.{Physical, Page}
 use Rattle.jh_history.specs.Access.{right_of, gives, place_in_cell, region_of, place_of}
-use Rattle.jh_history.specs.Grants.{is_kept, unless, granted_by}
+use Rattle.jh_history.specs.Grants.{unless, granted_by}
 use Rattle.jh_history.specs.Lives.{live_in, cell_in, regions_in}
 use Rattle.jh_history.specs.Phases.{configs_of}
 use Rattle.jh_history.proofs.LiveLemmas.{has_number, live_in-is}
 use Rattle.jh_board.specs.Closed.{AreInRange, is_closed_by}
-use Rattle.jh_board.specs.Maps.{is_kept_at, IsMapIn, is_right, is_told, place_told, told_grant}
+use Rattle.jh_board.specs.Maps.{is_kept_at, is_right, is_told, place_told, told_grant}
 
 -- ---- regions of live cells
 

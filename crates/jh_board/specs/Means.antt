@@ -1,4 +1,4 @@
--- What a board's memory, CPUs, live cells and open call stand for.
+-- What a board's memory, CPUs, live cells, devices and open call stand for.
 use Rattle.std.specs.Prelude.{◌≡◌, ℕ, ◌<◌, ◌≤◌, length, slice_get, Option, Some, None, All}
 use Rattle.jh_cellcfg.specs.declared.config.CellConfig.{CellConfig}
 use Rattle.jh_cellcfg.specs.declared.live.Live.{Live}
@@ -8,20 +8,28 @@ use Rattle.jh_history.specs.declared.call.Phase.{Phase}
 use Rattle.jh_history.specs.declared.call.Phase.TheVariants.{ToCreate}
 use Rattle.jh_history.specs.declared.place.Place.{Place}
 use Rattle.jh_history.specs.DueFacts.{NamesCpu}
+use Rattle.jh_history.specs.Devices.{specs_of}
 use Rattle.jh_history.specs.Facts.{Facts}
-use Rattle.jh_board.specs.Pages.{byte_of, HoldsComm}
+use Rattle.jh_board.specs.Pages.{byte_of, HoldsComm, HoldsWord}
 use Rattle.jh_board.specs.declared.held.Held.{Held}
 
 -- the communication page of the cell is held
 abbrev pub HoldsPageOf : Held → Live → Type 0
 HoldsPageOf held live = HoldsComm held.memory.comms live.config.id
 
--- what is held has all that the cell takes when it comes: the index of its regions, room for it, and its page
+-- the pages of the words of the cell's devices in their state tables are held
+abbrev pub HoldsWords : Held → CellConfig → Type 0
+HoldsWords held config = All (HoldsWord held.memory) (specs_of config)
+
+-- what is held has all that the cell takes when it comes: the index of its regions, room for it, its page, and for its
+-- devices room among the endpoints and the pages of their words
 pub record IsReadyFor (held : Held) (config : CellConfig) : Type 0 where
   pub index : held.index ≡ Some config.memory_regions
   pub cells : 0 < held.cells.cells
   pub regions : length config.memory_regions ≤ held.cells.regions
   pub page : HoldsComm held.memory.comms config.id
+  pub endpoints : length (specs_of config) ≤ held.endpoints.spare
+  pub words : HoldsWords held config
 
 abbrev pub IsReadyIn : Held → Phase → Type 0
 IsReadyIn held (ToCreate config) = IsReadyFor held config
@@ -38,7 +46,10 @@ pub record Means (image : Image) (held : Held) (facts : Facts) : Type 0 where
   pub cpus : (i : ℕ) → i < 16 → slice_get held.cpus i ≡ Some (facts.cpu i)
   pub system : held.cells.system ≡ image.system
   pub cells : held.cells.lives ≡ facts.cells
+  pub endpoints : held.endpoints.list ≡ facts.endpoints
   pub call : held.call ≡ facts.call
   pub pages : All (HoldsPageOf held) facts.cells
+  pub words : All (λ (live : Live). HoldsWords held live.config) facts.cells
+  pub root_words : HoldsWords held image.system.root
   pub named : All (λ (live : Live). NamesCpu live.config) facts.cells
   pub ready : IsReady held facts.call

@@ -1,5 +1,5 @@
 -- What an entry does to what a board holds, and what must hold before it is made.
-use Rattle.std.specs.Prelude.{◌≡◌, ℕ, ◌<◌, ◌≤◌, Bool, true, false, length, List, [], ◌∷◌, ◌++◌, map, filter, All, Option, Some, None, IfSome}
+use Rattle.std.specs.Prelude.{◌≡◌, ℕ, ◌+◌, ◌^◌, ◌<◌, ◌≤◌, Bool, true, false, length, List, [], ◌∷◌, ◌++◌, map, filter, All, Option, Some, None, IfSome}
 use Rattle.std.specs.Option.{option_map_or}
 use Rattle.jh_cellcfg.specs.declared.config.CellConfig.{CellConfig}
 use Rattle.jh_cellcfg.specs.declared.live.Live.{Live}
@@ -8,14 +8,23 @@ use Rattle.jh_check.specs.Clean.{IsSoundBitmap}
 use Rattle.jh_check.specs.Refusals.{is_known}
 use Rattle.jh_call.specs.declared.call.Call.{Call}
 use Rattle.jh_call.specs.declared.call.Call.TheVariants.{Create, Start, Loadable, Destroy}
+use Rattle.jh_ivshmem.specs.declared.endpoint.Endpoint.{Endpoint}
+use Rattle.jh_ivshmem.specs.declared.spec.Slot.{Slot}
+use Rattle.jh_ivshmem.specs.Links.{pending_of, taken_of}
 use Rattle.jh_script.specs.declared.image.Image.{Image}
 use Rattle.jh_history.specs.declared.access.Reach.{Reach}
-use Rattle.jh_history.specs.declared.access.Reach.TheVariants.{Memory, Subpage, Config, Nothing}
+use Rattle.jh_history.specs.declared.access.Reach.TheVariants.{Memory, Subpage, Config, Window, Nothing}
 use Rattle.jh_history.specs.declared.call.OpenCall.{OpenCall}
 use Rattle.jh_history.specs.declared.entry.Entry.{Entry}
 use Rattle.jh_history.specs.declared.entry.Act.{Act}
-use Rattle.jh_history.specs.declared.entry.Act.TheVariants.{Write, Decide, Commit}
+use Rattle.jh_history.specs.declared.entry.Act.TheVariants.{Write, Irq, Decide, Commit}
+use Rattle.jh_history.specs.declared.device_change.DeviceChange.TheVariants.{Join}
+use Rattle.jh_history.specs.declared.place.Place.{Place}
 use Rattle.jh_history.specs.Admitted.{IsAdmitted}
+use Rattle.jh_history.specs.Access.{slot_of_reach}
+use Rattle.jh_history.specs.Devices.{Devices, devices_in, specs_of}
+use Rattle.jh_history.specs.Endpoints.{endpoints_put, change_by, changing_by, MayChange}
+use Rattle.jh_history.specs.Places.{written}
 use Rattle.jh_history.specs.Phases.{configs_of}
 use Rattle.jh_history.specs.Calls.{call_by}
 use Rattle.jh_history.specs.Commits.{marked, is_other}
@@ -29,8 +38,8 @@ use Rattle.jh_board.specs.declared.steps.CellsChange.TheVariants.{Keep, Mark, Re
 use Rattle.jh_board.specs.declared.held.Held.{Held}
 use Rattle.jh_board.specs.Closed.{AreInRange}
 use Rattle.jh_board.specs.LiveView.{LiveView}
-use Rattle.jh_board.specs.Means.{Means, IsReady, IsReadyFor}
-use Rattle.jh_board.specs.Pages.{MemoryView, MayHold}
+use Rattle.jh_board.specs.Means.{Means, HoldsWords, IsReady, IsReadyFor}
+use Rattle.jh_board.specs.Pages.{MemoryView, MayHold, HoldsPlace, HoldsSlot}
 
 -- a Decide that goes on
 abbrev pub goes_on : Act → Bool
@@ -63,13 +72,68 @@ changed_cells (Remove id) cells = filter (is_other id) cells
 abbrev pub MayWrite : MemoryView → Reach → Type 0
 MayWrite memory (Memory places) = All (MayHold memory) places
 MayWrite memory (Subpage places) = All (MayHold memory) places
-MayWrite memory (Config at) = Unit {0}
+MayWrite memory (Config bytes) = Unit {0}
+MayWrite memory (Window register) = Unit {0}
 MayWrite memory Nothing = Unit {0}
 
 -- so may what the act writes, where it is a write
 abbrev pub MayWriteOf : MemoryView → Act → Reach → Type 0
 MayWriteOf memory (Write width at value ok) found = MayWrite memory found
 MayWriteOf memory act found = Unit {0}
+
+-- ---- devices
+
+-- the devices of the cell, by what is held
+abbrev pub devices_held : Image → Held → ℕ → Devices
+devices_held image held id = devices_in image held.cells.lives held.endpoints.list id
+
+-- the bytes after the value is written where it reaches memory
+abbrev pub memory_written : (Place → ℕ) → Reach → ℕ → Place → ℕ
+memory_written byte (Memory places) value = written byte places value
+memory_written byte (Subpage places) value = written byte places value
+memory_written byte _ value = byte
+
+-- those after what the act writes to memory
+abbrev pub memory_after : (Place → ℕ) → Act → Reach → Place → ℕ
+memory_after byte (Write width at value true) found = memory_written byte found value
+memory_after byte act found = byte
+
+-- the word of a state table that the act writes
+abbrev pub slot_after : Devices → Act → Reach → Option Slot
+slot_after devices (Write width at value true) found = slot_of_reach devices found value
+slot_after devices act found = None
+
+-- the endpoints after what the act of the cell does to them itself
+abbrev pub endpoints_acted_by : Devices → Act → Reach → List Endpoint
+endpoints_acted_by devices (Write width at value true) found = endpoints_put devices found value
+endpoints_acted_by devices (Irq device vector) found = taken_of devices.cell (pending_of devices.cell devices.endpoints) devices.endpoints
+endpoints_acted_by devices act found = devices.endpoints
+
+-- the pages of the word that the act writes are held
+abbrev pub MayPut : MemoryView → Option Slot → Type 0
+MayPut memory slot = IfSome slot (λ (s : Slot). (s.place + 4 < 2 ^ 64) × HoldsSlot memory s)
+
+abbrev pub MayWriteSlot : Image → Held → ℕ → Act → Reach → Type 0
+MayWriteSlot image held id act found = MayPut held.memory (slot_after (devices_held image held id) act found)
+
+-- what is held has all that a Commit needs for the devices of its cell
+pub record MayCommitDevices (held : Held) (config : CellConfig) : Type 0 where
+  pub may : MayChange (change_by held.call) held.endpoints.list config
+  pub room : change_by held.call ≡ Join → length (specs_of config) ≤ held.endpoints.spare
+  pub words : HoldsWords held config
+
+abbrev pub MayCommit : Held → Act → Type 0
+MayCommit held act = IfSome (changing_by held.cells.lives held.call act) (MayCommitDevices held)
+
+-- all but memory and endpoints stays, and the pages that are held stay held
+pub record IsSameButDevices (old new : Held) : Type 0 where
+  pub cpus : new.cpus ≡ old.cpus
+  pub cells : new.cells ≡ old.cells
+  pub call : new.call ≡ old.call
+  pub index : new.index ≡ old.index
+  pub pages : (q : Place) → HoldsPlace old.memory q → HoldsPlace new.memory q
+
+-- ---- cells
 
 -- the cells with the one that comes, last and not loadable
 abbrev pub joined_cells : List Live → CellConfig → List Live

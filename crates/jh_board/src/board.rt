@@ -2,8 +2,9 @@
 ghost use Rattle.std.specs.Prelude.{◌≡◌, ℕ, ◌+◌, ◌<◌, ◌≤◌, ◌↔◌, [], ◌∷◌, ◌++◌, length, Some, None, IsSome, IfSome, IsTrue, IfOk, IfErr, OnErr, option_copied, slice_get};
 ghost use Rattle.jh_history.specs.Lives.{is_on_board};
 ghost use Rattle.jh_history.specs.Due.{due, IsLegal, IsQuiet};
-ghost use Rattle.jh_history.specs.History.{facts, start};
-ghost use Rattle.jh_history.specs.Admitted.{IsAdmitted, IsBuilt, pool_pages};
+ghost use Rattle.jh_history.specs.Bytes.{loaded_byte};
+ghost use Rattle.jh_history.specs.History.{facts};
+ghost use Rattle.jh_history.specs.Admitted.{IsAdmitted, pool_pages};
 ghost use Rattle.jh_history.specs.Phases.{configs_of};
 ghost use Rattle.jh_shape.specs.Pages.{pages_of};
 ghost use Rattle.jh_history.specs.declared.place.Place.{Place as ThePlace};
@@ -13,6 +14,7 @@ ghost use Rattle.jh_board.specs.Means.{Means};
 ghost use Rattle.jh_board.specs.Turns.{Turns, Refuses, Advances};
 
 use crate::cells::LiveCells;
+use crate::devices::{change_devices, prepare_devices};
 use crate::held::Held;
 use crate::indexed::IndexedImage;
 use crate::memory::Memory;
@@ -22,7 +24,8 @@ use crate::told::{cell_at, map_of};
 use crate::turn::{Turn, TurnFault};
 use jh_cellcfg::CellConfig;
 use jh_cpu::Cpu;
-use jh_history::{Entry, Journal, legal_journals_are_sound};
+use jh_history::{DeviceChange, Entry, Journal, devices_may_change, legal_journals_are_sound};
+use jh_ivshmem::Endpoints;
 use jh_map::Run;
 use jh_num::{NoMemory, Seq, Steps};
 use jh_script::Image;
@@ -90,10 +93,10 @@ fn advance(
     }
 }
 
-/// The memory at opening.
+/// The memory as the preloads put it.
 fn load(alloc: Global, image: &Image) -> Result<Memory, NoMemory>
     requires { IsAdmitted image.now }
-    ensures { IfOk result (λ memory. (q : ThePlace) → byte_of memory q ≡ (start image.now).byte q) }
+    ensures { IfOk result (λ memory. (q : ThePlace) → byte_of memory q ≡ loaded_byte image.now q) }
 {
     let mut memory = Memory::new(alloc);
     for preload in image.preloads.as_slice() {
@@ -102,17 +105,23 @@ fn load(alloc: Global, image: &Image) -> Result<Memory, NoMemory>
     Ok(memory)
 }
 
-/// What is held at opening: the preloads, each CPU as root's, and no cell besides it.
+/// What is held at opening: the preloads, each CPU as root's, and no cell besides it, whose devices have joined their links.
 fn held_at_opening(alloc: Global, image: &Image) -> Result<Held, NoMemory>
     requires { IsAdmitted image.now }
     ensures { IfOk result (λ held. Means image.now held (facts image.now [])) }
 {
-    let memory = load(alloc, image)?;
+    devices_may_change();
+    let mut memory = load(alloc, image)?;
+    let mut endpoints = Endpoints::new(alloc);
+    let root = &image.system.root;
+    prepare_devices(&mut memory, &mut endpoints, root)?;
+    change_devices(&mut memory, &mut endpoints, DeviceChange::Join, root);
     let cells = LiveCells::new(alloc, &image.system)?;
     Ok(Held {
         memory,
         cpus: [Cpu::new(image.system.root.id); 16],
         cells,
+        endpoints,
         call: None,
         index: None,
         alloc,
@@ -132,7 +141,6 @@ impl Board {
     /// A board of the image, with an empty journal.
     pub fn open(alloc: Global, image: Image, limit: u32) -> Result<Self, Image>
         requires admitted { IsAdmitted image }
-        requires built { IsBuilt image }
         ensures ok { IfOk result (λ board. board ≡ record { image = image; limit = limit; entries = [] }) }
         ensures err { IfErr result (λ back. back ≡ image) }
     {
@@ -166,7 +174,6 @@ impl Board {
         ensures legal { IsLegal self.now.image self.now.entries }
         ensures within { length self.now.entries ≤ self.now.limit }
         ensures admitted { IsAdmitted self.now.image }
-        ensures built { IsBuilt self.now.image }
         ensures few { (cpu : ℕ) → IsTrue (is_on_board self.now.image cpu) → cpu < 16 }
     {
         self.image.has_few_cpus();

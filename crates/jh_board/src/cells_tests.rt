@@ -1,16 +1,18 @@
 //! Cells that come and go, what they close to root, and their communication pages.
-ghost use Rattle.std.specs.Prelude.{◌<◌, AllPairs, IfOk};
+ghost use Rattle.std.specs.Prelude.{◌≡◌, ◌<◌, ◌∷◌, true, false, length, AllPairs, IfOk};
 ghost use Rattle.jh_cellcfg.specs.Regions.{IsInRange};
+ghost use Rattle.jh_check.specs.Refusals.{is_known};
 ghost use Rattle.jh_mmio.specs.Index.{SharesNoAddress};
+ghost use Rattle.jh_life.specs.Lives.{configs_of};
 ghost use Rattle.jh_board.specs.Closed.{AreInRange};
 
 use crate::cells::LiveCells;
-use crate::granted::reach;
+use crate::granted::memory;
 use crate::indexed::IndexedImage;
 use crate::memory::Memory;
 use crate::tests::{BASE, Case, ready, region};
 use jh_cellcfg::{CellConfig, Region};
-use jh_history::{Access, PageChange, PageWrite, Place, Places, Reach, Run, Wanted};
+use jh_history::{Access, PageChange, PageWrite, Place, Places, Run, Wanted};
 use jh_num::{NoMemory, Range, Seq};
 use std::alloc::Global;
 use std::process::Abort;
@@ -63,6 +65,18 @@ fn cell(alloc: Global, id: u32, number: u64, flags: u64) -> Result<CellConfig, N
     })
 }
 
+/// Whether the cell may join those that live.
+fn may_join(alloc: Global, cells: &LiveCells, new: &CellConfig) -> Result<bool, NoMemory>
+    ensures few { IfOk result (λ may. may ≡ true → length cells.now.lives < 15) }
+    ensures unknown { IfOk result (λ may. may ≡ true → is_known (cells.now.system.root ∷ configs_of cells.now.lives) new.now ≡ false) }
+{
+    if cells.count() > 15 {
+        return Ok(false);
+    }
+    let refusal = cells.cells().verdict(alloc, false, new, 0, 0xffff, 0xffff)?;
+    Ok(refusal.is_none())
+}
+
 /// Creates the cell where it may join; tells whether it did.
 fn create(
     alloc: Global,
@@ -74,20 +88,12 @@ fn create(
     requires { number < 4 }
 {
     let new = cell(alloc, id, number, flags)?;
-    if cells.count() > 15 {
+    if !may_join(alloc, cells, &new)? {
         return Ok(false);
     }
-    match cells
-        .cells()
-        .verdict(alloc, false, &new, 0, 0xffff, 0xffff)?
-    {
-        Some(_) => Ok(false),
-        None => {
-            let index = cells.prepare(alloc, &new)?;
-            cells.add(new, index);
-            Ok(true)
-        }
-    }
+    let index = cells.prepare(alloc, &new)?;
+    cells.add(new, index);
+    Ok(true)
 }
 
 /// Which of the pages behind BASE are closed, the first as the lowest bit.
@@ -169,7 +175,7 @@ fn reads(image: &IndexedImage, cells: &LiveCells, cell: u32, number: u64) -> boo
         at: BASE + number * 0x1000,
         width: 1,
     };
-    matches!(reach(image, cells, cell, &wanted), Reach::Memory(_))
+    memory(image, cells, cell, &wanted).is_some()
 }
 
 /// Whether root, cell 1 and cell 2 reach page 1 where cells have their pages with these flags.

@@ -8,15 +8,18 @@ ghost use Rattle.jh_mmio.specs.Dispatch.{takes_all, unless_closed};
 ghost use Rattle.jh_history.specs.declared.place.Place.TheVariants.{Physical};
 ghost use Rattle.jh_history.specs.Access.{memory_or_nothing, reach_by};
 ghost use Rattle.jh_history.specs.Grants.{granted_in, is_kept as is_kept_lem, behind_in, reach_in};
+ghost use Rattle.jh_history.specs.Devices.{list_in};
 ghost use Rattle.jh_history.specs.Lives.{regions_in};
 ghost use Rattle.jh_history.specs.Places.{places_of_run, IsRun};
 
 use crate::cells::LiveCells;
 use crate::indexed::{IndexedImage, giving};
-use jh_cellcfg::Region;
+use jh_cellcfg::{PciDevice, Region};
 use jh_history::{
-    Access, Grants, Place, Places, Reach, Run, Wanted, answer_of, ecam_of, is_within, places_in,
+    Access, Devices, Grants, Place, Places, Reach, Run, Wanted, answer_of, ecam_of, is_within,
+    places_in,
 };
+use jh_ivshmem::Endpoints;
 use jh_num::Range;
 use std::marker::Model;
 
@@ -127,26 +130,53 @@ fn open_whole(image: &IndexedImage, cells: &LiveCells, cell: u32, wanted: &Wante
     }
 }
 
-/// What answers the cell's access where no memory does, where these cells live besides root.
-fn behind(image: &IndexedImage, cells: &LiveCells, cell: u32, wanted: &Wanted) -> Reach
+/// The devices of the configuration of the cell, where these cells live besides root.
+pub fn devices_of<'a>(image: &'a IndexedImage, cells: &'a LiveCells, cell: u32) -> &'a [PciDevice]
+    ensures { result.now ≡ list_in image.now cells.now.lives cell }
+{
+    if cell == image.root() {
+        return image.config().pci_devices.as_slice();
+    }
+    match cells.live(u64::from(cell)) {
+        Some(config) => config.pci_devices.as_slice(),
+        None => &[],
+    }
+}
+
+/// What answers the cell's access where no memory does, where these cells live besides root, and all have these
+/// endpoints.
+fn behind(
+    image: &IndexedImage,
+    cells: &LiveCells,
+    endpoints: &Endpoints,
+    cell: u32,
+    wanted: &Wanted,
+) -> Reach
     requires { wanted.now.width ≤ 8 }
-    ensures { result ≡ behind_in image.now cells.now.lives cell wanted.now.access wanted.now.at wanted.now.width }
+    ensures { result ≡ behind_in image.now cells.now.lives endpoints.now.list cell wanted.now.access wanted.now.at wanted.now.width }
 {
     if is_within(wanted) {
         let region = open_whole(image, cells, cell, wanted);
-        answer_of(cell, region, ecam_of(&image.image().system), wanted)
+        let devices = Devices::new(cell, devices_of(image, cells, cell), endpoints);
+        answer_of(&devices, region, ecam_of(&image.image().system), wanted)
     } else {
         Reach::Nothing
     }
 }
 
-/// What the cell's access reaches, where these cells live besides root.
-pub fn reach(image: &IndexedImage, cells: &LiveCells, cell: u32, wanted: &Wanted) -> Reach
+/// What the cell's access reaches, where these cells live besides root, and all have these endpoints.
+pub fn reach(
+    image: &IndexedImage,
+    cells: &LiveCells,
+    endpoints: &Endpoints,
+    cell: u32,
+    wanted: &Wanted,
+) -> Reach
     requires { wanted.now.width ≤ 8 }
-    ensures { result ≡ reach_in image.now cells.now.lives cell wanted.now.access wanted.now.at wanted.now.width }
+    ensures { result ≡ reach_in image.now cells.now.lives endpoints.now.list cell wanted.now.access wanted.now.at wanted.now.width }
 {
     match memory(image, cells, cell, wanted) {
         Some(places) => Reach::Memory(places),
-        None => behind(image, cells, cell, wanted),
+        None => behind(image, cells, endpoints, cell, wanted),
     }
 }

@@ -6,6 +6,7 @@ mod cells;
 mod closed;
 mod comm_pages;
 mod crossing;
+mod devices;
 mod granted;
 mod held;
 mod indexed;
@@ -24,6 +25,8 @@ pub use turn::{Turn, TurnFault};
 
 #[cfg(test)]
 mod cells_tests;
+#[cfg(test)]
+mod devices_tests;
 #[cfg(test)]
 mod plain;
 #[cfg(test)]

@@ -2,13 +2,15 @@
 ghost use Rattle.std.specs.Prelude.{◌≡◌, ℕ, ◌+◌, ◌%◌, ◌<◌, ◌≤◌, ◌^◌, ◌++◌, OnOk, OnErr, IfSome, length, map, List, All};
 ghost use Rattle.jh_num.specs.Memory.{spelled, stored};
 ghost use Rattle.jh_history.specs.declared.place.Place.{Place as ThePlace};
+ghost use Rattle.jh_history.specs.Access.{with_slot};
 ghost use Rattle.jh_history.specs.Pages.{with_page};
 ghost use Rattle.jh_history.specs.Places.{places_in_row, places_of_run, IsRun, with_byte, written, over};
-ghost use Rattle.jh_board.specs.Pages.{byte_at, byte_of, HoldsComm, HoldsPlace, MayHold};
+ghost use Rattle.jh_board.specs.Pages.{byte_at, byte_of, HoldsComm, HoldsPlace, HoldsSlot, MayHold};
 
 use crate::comm_pages::CommPages;
 use crate::physical::{Physical, Piece};
-use jh_history::{Bytes, PageWrite, Place, Places, Run, value_of};
+use jh_history::{Bytes, PageWrite, Place, Places, Run, slot_places, value_of};
+use jh_ivshmem::Slot;
 use jh_num::NoMemory;
 use std::alloc::Global;
 use std::marker::Model;
@@ -157,7 +159,7 @@ impl Memory {
         requires { All (MayHold self.old) places.now }
         ensures ok { OnOk result ((q : ThePlace) → byte_of self.new q ≡ written (byte_of self.old) places.now value q) }
         ensures err { OnErr result ((q : ThePlace) → byte_of self.new q ≡ byte_of self.old q) }
-        ensures held { (cell : ℕ) → HoldsComm self.old.comms cell → HoldsComm self.new.comms cell }
+        ensures held { (q : ThePlace) → HoldsPlace self.old q → HoldsPlace self.new q }
     {
         match piece_of(places) {
             Some(piece) => {
@@ -173,6 +175,26 @@ impl Memory {
         }
     }
 
+    /// Holds the pages of the word of a state table. No byte changes.
+    pub fn hold_slot(&mut self, slot: &Slot) -> Result<(), NoMemory>
+        requires { slot.now.place + 4 < 2 ^ 64 }
+        ensures bytes { (q : ThePlace) → byte_of self.new q ≡ byte_of self.old q }
+        ensures held { OnOk result (HoldsSlot self.new slot.now) }
+        ensures others { (q : ThePlace) → HoldsPlace self.old q → HoldsPlace self.new q }
+    {
+        self.hold_places(&slot_places(slot))
+    }
+
+    /// Writes the word of a state table, the pages of which are held. It takes no memory.
+    pub fn write_slot(&mut self, slot: &Slot)
+        requires small { slot.now.place + 4 < 2 ^ 64 }
+        requires held { HoldsSlot self.old slot.now }
+        ensures bytes { (q : ThePlace) → byte_of self.new q ≡ with_slot slot.now (byte_of self.old) q }
+        ensures held { (q : ThePlace) → HoldsPlace self.old q → HoldsPlace self.new q }
+    {
+        self.write_places(&slot_places(slot), u64::from(slot.value));
+    }
+
     /// Puts the bytes into physical memory from `at` on.
     pub fn store(&mut self, at: u64, bytes: &[u8]) -> Result<(), NoMemory>
         requires { at + length bytes.now < 2 ^ 64 }
@@ -186,7 +208,7 @@ impl Memory {
     pub fn hold_page(&mut self, cell: u32) -> Result<(), NoMemory>
         ensures bytes { (q : ThePlace) → byte_of self.new q ≡ byte_of self.old q }
         ensures held { OnOk result (HoldsComm self.new.comms cell) }
-        ensures others { (other : ℕ) → HoldsComm self.old.comms other → HoldsComm self.new.comms other }
+        ensures others { (q : ThePlace) → HoldsPlace self.old q → HoldsPlace self.new q }
     {
         self.comms.hold(cell)
     }
@@ -195,7 +217,7 @@ impl Memory {
     pub fn change_page(&mut self, write: &PageWrite)
         requires { HoldsComm self.old.comms write.now.cell }
         ensures bytes { (q : ThePlace) → byte_of self.new q ≡ with_page write.now (byte_of self.old) q }
-        ensures held { (other : ℕ) → HoldsComm self.old.comms other → HoldsComm self.new.comms other }
+        ensures held { (q : ThePlace) → HoldsPlace self.old q → HoldsPlace self.new q }
     {
         self.comms.change(write)
     }

@@ -69,6 +69,7 @@ impl Physical {
         requires { at % 4096 + length bytes.now ≤ 4096 }
         ensures ok { OnOk result ((q : ℕ) → byte_at self.new q ≡ stored (byte_at self.old) at bytes.now q) }
         ensures err { OnErr result ((q : ℕ) → byte_at self.new q ≡ byte_at self.old q) }
+        ensures held { (q : ℕ) → Holds self.old q → Holds self.new q }
     {
         let number = at / 4096;
         let offset = (at % 4096) as usize;

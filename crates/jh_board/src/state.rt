@@ -19,6 +19,7 @@ use jh_history::{
     Access, Creation, Entry, Known, OpenCall, Phase, Places, Reach, RootBytes, Wanted,
     is_any_locked, is_any_other_locked, is_due, judged, next_of, none_due, reach_of, read_config,
 };
+use jh_ivshmem::Endpoints;
 use jh_num::NoMemory;
 use jh_num::error::EPERM;
 use jh_script::Op;
@@ -88,11 +89,11 @@ impl<'a> State<'a> {
 
 impl<'a> RootBytes for State<'a> {
     ghost use Rattle.jh_history.specs.declared.access.Access.TheVariants.{Read};
-    ghost use Rattle.jh_history.specs.Access.{reach_by, read_of};
+    ghost use Rattle.jh_history.specs.Access.{reach_by, memory_read};
     ghost use Rattle.jh_history.specs.Grants.{granted_in};
     ghost use Rattle.jh_board.specs.Pages.{byte_of};
 
-    ghost readable = { λ s at. read_of (byte_of s.held.memory) 1 (reach_by (granted_in s.image s.held.cells.lives s.image.system.root.id Read) at 1) };
+    ghost readable = { λ s at. memory_read (byte_of s.held.memory) (reach_by (granted_in s.image s.held.cells.lives s.image.system.root.id Read) at 1) };
 
     fn read(&self, at: u64) -> Option<u8> {
         let wanted = Wanted {
@@ -161,6 +162,10 @@ impl<'a> Known for State<'a> {
         self.held.call.as_ref()
     }
 
+    fn endpoints(&self) -> &Endpoints {
+        &self.held.endpoints
+    }
+
     fn has_few_cpus(&self) {
         self.image.has_few_cpus();
     }
@@ -178,7 +183,13 @@ impl<'a> Known for State<'a> {
     }
 
     fn reach(&self, cell: u32, wanted: &Wanted) -> Reach {
-        reach(self.image, &self.held.cells, cell, wanted)
+        reach(
+            self.image,
+            &self.held.cells,
+            &self.held.endpoints,
+            cell,
+            wanted,
+        )
     }
 
     fn value(&self, places: &Places) -> u64 {

@@ -1,12 +1,14 @@
 //! What an entry does to what a board holds.
-ghost use Rattle.std.specs.Prelude.{◌≡◌, ℕ, ◌<◌, ◌≤◌, AllPairs, OnOk, OnErr, IfOk, IfSome, Some, None, option_copied};
+ghost use Rattle.std.specs.Prelude.{◌≡◌, ℕ, ◌<◌, ◌≤◌, All, AllPairs, OnOk, OnErr, IfOk, IfSome, Some, None, option_copied};
 ghost use Rattle.std.specs.Option.{option_map_or};
 ghost use Rattle.jh_cellcfg.specs.declared.config.CellConfig.{CellConfig as TheConfig};
+ghost use Rattle.jh_ivshmem.specs.Specs.{IsWithin};
 ghost use Rattle.jh_mmio.specs.Index.{SharesNoAddress};
 ghost use Rattle.jh_script.specs.declared.image.Image.{Image};
 ghost use Rattle.jh_history.specs.declared.place.Place.{Place as ThePlace};
-ghost use Rattle.jh_history.specs.Access.{write_of};
-ghost use Rattle.jh_history.specs.Bytes.{byte_written};
+ghost use Rattle.jh_history.specs.Access.{with_slot_if};
+ghost use Rattle.jh_history.specs.Devices.{specs_of};
+ghost use Rattle.jh_history.specs.Endpoints.{endpoints_changed, change_by, changing_by, specs_changing, with_words, HasGoodDevices};
 ghost use Rattle.jh_history.specs.Calls.{call_by};
 ghost use Rattle.jh_history.specs.Commits.{cells_by, created_by};
 ghost use Rattle.jh_history.specs.DueFacts.{NamesCpu};
@@ -14,13 +16,15 @@ ghost use Rattle.jh_history.specs.Facts.{Facts};
 ghost use Rattle.jh_history.specs.History.{after};
 ghost use Rattle.jh_history.specs.Pages.{with_page_write};
 ghost use Rattle.jh_history.specs.Due.{due_at};
-ghost use Rattle.jh_history.specs.Wants.{IsReachOfAct, IsReachOfEntry};
-ghost use Rattle.jh_board.specs.Pages.{byte_of, HoldsComm};
+ghost use Rattle.jh_history.specs.Wants.{IsReachOfEntry};
+ghost use Rattle.jh_board.specs.Pages.{byte_of, HoldsComm, HoldsPlace};
 ghost use Rattle.jh_board.specs.Found.{IsFound};
 ghost use Rattle.jh_board.specs.Means.{Means, IsReady, IsReadyFor};
-ghost use Rattle.jh_board.specs.Steps.{goes_on as goes_on_lem, create_of as create_of_lem, change_of_call as change_of_call_lem, change_of_cells as change_of_cells_lem, changed_cells, IsNext, IsRead, IsFree, WillBeReady, IsPrepared, MayWrite, MayWriteOf, MayJoin, joined_cells};
+ghost use Rattle.jh_board.specs.Steps.{goes_on as goes_on_lem, create_of as create_of_lem, change_of_call as change_of_call_lem, change_of_cells as change_of_cells_lem, changed_cells, IsNext, IsRead, IsFree, WillBeReady, IsPrepared, MayWrite, MayWriteOf, MayWriteSlot, MayCommit, MayJoin, IsSameButDevices, joined_cells, devices_held, memory_written, memory_after, slot_after, endpoints_acted_by};
 
 use crate::cells::LiveCells;
+use crate::devices::{change_devices, prepare_devices, write_slot_if};
+use crate::granted::devices_of;
 use crate::held::Held;
 use crate::indexed::IndexedImage;
 use crate::memory::Memory;
@@ -28,9 +32,10 @@ use crate::state::{FoundCreate, creation_by};
 use jh_call::Call;
 use jh_cellcfg::CellConfig;
 use jh_history::{
-    Act, Called, Creation, Entry, Known, OpenCall, PageWrite, Reach, a_cell_that_comes_may_live,
-    call_after, cpus_after, decides_are_of_the_open_call, few_cells_live, page_write,
-    pages_written_are_of_cells, places_reached_are_of_cells, sound_cells_name_a_cpu,
+    Act, Called, Creation, DeviceChange, Entry, Known, OpenCall, PageWrite, Reach,
+    a_cell_that_comes_may_live, call_after, changing_cell, cpus_after,
+    decides_are_of_the_open_call, devices_may_change, few_cells_live, page_write,
+    pages_written_are_of_cells, places_reached_are_of_cells, sound_cells_name_a_cpu, write_device,
 };
 use jh_mmio::RegionIndex;
 use jh_num::NoMemory;
@@ -113,6 +118,8 @@ fn coming_of(
     ensures ready { (f : Facts) → Means image.now held.now f → due_at image.now f entry.now.cpu ≡ Some entry.now → IfOk result (WillBeReady image.now f entry.now) }
     ensures free { (f : Facts) → Means image.now held.now f → due_at image.now f entry.now.cpu ≡ Some entry.now → IfOk result (IsFree f) }
     ensures apart { IfOk result (λ coming. IfSome coming (λ config. AllPairs SharesNoAddress config.memory_regions)) }
+    ensures devices { IfOk result (λ coming. IfSome coming HasGoodDevices) }
+    ensures tables { IfOk result (λ coming. IfSome coming (λ config. All IsWithin (specs_of config))) }
 {
     if !goes_on(&entry.act) {
         return Ok(None);
@@ -125,6 +132,7 @@ fn coming_of(
     };
     decides_are_of_the_open_call();
     a_cell_that_comes_may_live();
+    devices_may_change();
     match creation_by(image, held, found, begun.caller, at)? {
         Creation::Comes { config } => Ok(Some(config)),
         Creation::Refused { .. } => unreachable!(),
@@ -133,12 +141,15 @@ fn coming_of(
 
 /// Takes all memory that the cell needs when it comes.
 fn make_ready(held: &mut Held, config: &CellConfig) -> Result<(), NoMemory>
-    requires { AllPairs SharesNoAddress config.now.memory_regions }
+    requires apart { AllPairs SharesNoAddress config.now.memory_regions }
+    requires devices { HasGoodDevices config.now }
+    requires tables { All IsWithin (specs_of config.now) }
     ensures ready { OnOk result (IsReadyFor held.new config.now) }
     ensures means { (i : Image) (f : Facts) → IsFree f (Some config.now) → Means i held.old f → Means i held.new f }
 {
     let index = held.cells.prepare(held.alloc, config)?;
     held.memory.hold_page(config.id)?;
+    prepare_devices(&mut held.memory, &mut held.endpoints, config)?;
     held.index = Some(index);
     Ok(())
 }
@@ -164,25 +175,25 @@ fn prepare(
     }
 }
 
-/// Writes the value where it reaches.
+/// Writes the value where it reaches memory.
 fn make_write(memory: &mut Memory, reach: &Reach, value: u64) -> Result<(), NoMemory>
     requires { MayWrite memory.old reach.now }
-    ensures ok { OnOk result ((q : ThePlace) → byte_of memory.new q ≡ write_of (byte_of memory.old) reach.now value q) }
+    ensures ok { OnOk result ((q : ThePlace) → byte_of memory.new q ≡ memory_written (byte_of memory.old) reach.now value q) }
     ensures err { OnErr result ((q : ThePlace) → byte_of memory.new q ≡ byte_of memory.old q) }
-    ensures held { (cell : ℕ) → HoldsComm memory.old.comms cell → HoldsComm memory.new.comms cell }
+    ensures held { (q : ThePlace) → HoldsPlace memory.old q → HoldsPlace memory.new q }
 {
     match reach {
         Reach::Memory(places) | Reach::Subpage(places) => memory.write_value(places, value),
-        Reach::Config { .. } | Reach::Nothing => Ok(()),
+        Reach::Config(_) | Reach::Window(_) | Reach::Nothing => Ok(()),
     }
 }
 
-/// Writes what the act writes where it reaches.
+/// Writes what the act writes where it reaches memory.
 fn make_bytes(memory: &mut Memory, act: &Act, reach: &Reach) -> Result<(), NoMemory>
     requires { MayWriteOf memory.old act.now reach.now }
-    ensures ok { OnOk result ((i : Image) (f : Facts) (cell : ℕ) → ((q : ThePlace) → byte_of memory.old q ≡ f.byte q) → IsReachOfAct i f cell act.now reach.now → (q : ThePlace) → byte_of memory.new q ≡ byte_written i f cell act.now q) }
+    ensures ok { OnOk result ((q : ThePlace) → byte_of memory.new q ≡ memory_after (byte_of memory.old) act.now reach.now q) }
     ensures err { OnErr result ((q : ThePlace) → byte_of memory.new q ≡ byte_of memory.old q) }
-    ensures held { (cell : ℕ) → HoldsComm memory.old.comms cell → HoldsComm memory.new.comms cell }
+    ensures held { (q : ThePlace) → HoldsPlace memory.old q → HoldsPlace memory.new q }
 {
     match *act {
         Act::Write { value, ok, .. } => {
@@ -192,6 +203,45 @@ fn make_bytes(memory: &mut Memory, act: &Act, reach: &Reach) -> Result<(), NoMem
             Ok(())
         }
         _ => Ok(()),
+    }
+}
+
+/// Changes the cell's devices as its act does itself, with the word of a state table that a write of a state register
+/// writes. It takes no memory.
+fn make_devices(image: &IndexedImage, held: &mut Held, entry: &Entry, reach: &Reach)
+    requires { MayWriteSlot image.now held.old entry.now.cell entry.now.act reach.now }
+    ensures bytes { (q : ThePlace) → byte_of held.new.memory q ≡ with_slot_if (slot_after (devices_held image.now held.old entry.now.cell) entry.now.act reach.now) (byte_of held.old.memory) q }
+    ensures list { held.new.endpoints.list ≡ endpoints_acted_by (devices_held image.now held.old entry.now.cell) entry.now.act reach.now }
+    ensures spare { held.new.endpoints.spare ≡ held.old.endpoints.spare }
+    ensures others { IsSameButDevices held.old held.new }
+{
+    match entry.act {
+        Act::Write { value, ok, .. } => {
+            if !ok {
+                return;
+            }
+            let list = devices_of(image, &held.cells, entry.cell);
+            let slot = write_device(&mut held.endpoints, entry.cell, list, reach, value);
+            write_slot_if(&mut held.memory, slot);
+        }
+        Act::Irq { .. } => {
+            let _ = held.endpoints.take(entry.cell);
+        }
+        _ => {}
+    }
+}
+
+/// Changes the devices of the cell that a Commit is about, with their words of the state tables. It takes no memory.
+fn make_commit(held: &mut Held, act: &Act)
+    requires { MayCommit held.old act.now }
+    ensures bytes { (f : Facts) → f.cells ≡ held.old.cells.lives → f.call ≡ held.old.call → (q : ThePlace) → byte_of held.new.memory q ≡ with_words (specs_changing f act.now) (byte_of held.old.memory) q }
+    ensures list { (f : Facts) → f.cells ≡ held.old.cells.lives → f.call ≡ held.old.call → held.new.endpoints.list ≡ endpoints_changed (change_by f.call) (specs_changing f act.now) held.old.endpoints.list }
+    ensures spare { changing_by held.old.cells.lives held.old.call act.now ≡ None → held.new.endpoints.spare ≡ held.old.endpoints.spare }
+    ensures others { IsSameButDevices held.old held.new }
+{
+    let change = DeviceChange::by(held.call.as_ref());
+    if let Some(config) = changing_cell(held.cells.list(), held.call.as_ref(), act) {
+        change_devices(&mut held.memory, &mut held.endpoints, change, config);
     }
 }
 
@@ -224,7 +274,7 @@ fn make_cells(
 fn make_page(memory: &mut Memory, write: Option<PageWrite>)
     requires { IfSome write (λ write. HoldsComm memory.old.comms write.cell) }
     ensures bytes { (q : ThePlace) → byte_of memory.new q ≡ with_page_write write (byte_of memory.old) q }
-    ensures held { (cell : ℕ) → HoldsComm memory.old.comms cell → HoldsComm memory.new.comms cell }
+    ensures held { (q : ThePlace) → HoldsPlace memory.old q → HoldsPlace memory.new q }
 {
     if let Some(write) = &write {
         memory.change_page(write);
@@ -236,6 +286,7 @@ fn make_call(held: &mut Held, entry: &Entry, coming: Option<CellConfig>)
     requires { IfSome (created_by held.old.call entry.now.act) (MayJoin held.old.cells held.old.index) }
     ensures memory { held.new.memory ≡ held.old.memory }
     ensures cpus { held.new.cpus ≡ held.old.cpus }
+    ensures endpoints { held.new.endpoints ≡ held.old.endpoints }
     ensures system { held.new.cells.system ≡ held.old.cells.system }
     ensures lives { held.new.cells.lives ≡ cells_by held.old.call held.old.cells.lives entry.now.act }
     ensures named { IfSome (created_by held.old.call entry.now.act) NamesCpu }
@@ -267,9 +318,12 @@ pub fn make(
     places_reached_are_of_cells();
     pages_written_are_of_cells();
     a_cell_that_comes_may_live();
+    devices_may_change();
     few_cells_live();
     let coming = prepare(image, held, entry, found)?;
     make_bytes(&mut held.memory, &entry.act, reach)?;
+    make_devices(image, held, entry, reach);
+    make_commit(held, &entry.act);
     cpus_after(&mut held.cpus, image.image(), held.call.as_ref(), entry);
     let write = page_write(
         image.image(),

@@ -1,12 +1,12 @@
 //! Small boards, played and compared with the plain definition run to the end.
 ghost use Rattle.std.specs.Prelude.{IfOk};
-ghost use Rattle.jh_history.specs.Admitted.{IsAdmitted, IsBuilt};
+ghost use Rattle.jh_history.specs.Admitted.{IsAdmitted};
 
 use crate::memory::Memory;
 use crate::plain::{LIMIT, Plain};
 use crate::{Board, Turn, TurnFault};
 use jh_cellcfg::{CellConfig, Console, Region, SystemConfig};
-use jh_history::{Act, Entry, Place, Places, Run, admit, is_built, is_on_board};
+use jh_history::{Act, Entry, Place, Places, Run, admit, is_on_board};
 use jh_num::{NoMemory, Seq, Steps};
 use jh_script::{Image, Op, Preload, Program};
 use std::alloc::Global;
@@ -21,7 +21,7 @@ const NEXT: u64 = 0x4000_1000;
 /// Where a region of registers begins, and where the ECAM window does.
 const REGISTERS: u64 = 0x900_0040;
 
-const WINDOW: u64 = 0x3000_0000;
+pub(crate) const WINDOW: u64 = 0x3000_0000;
 
 /// The last page below 2^39.
 const LAST: u64 = 0x7f_ffff_f000;
@@ -106,7 +106,7 @@ pub(crate) struct Case<'a> {
     pub(crate) one: &'a [Op],
 }
 
-fn image(alloc: Global, case: Case) -> Result<Image, NoMemory> {
+pub(crate) fn image(alloc: Global, case: Case) -> Result<Image, NoMemory> {
     let mut programs = Seq::new(alloc);
     programs.push(program(alloc, 1, case.one)?)?;
     programs.push(program(alloc, 0, case.zero)?)?;
@@ -122,12 +122,10 @@ fn image(alloc: Global, case: Case) -> Result<Image, NoMemory> {
 /// The image of the case, which may be opened.
 pub(crate) fn ready(rt: &impl Abort, alloc: Global, case: Case) -> Result<Image, NoMemory>
     ensures admitted { IfOk result IsAdmitted }
-    ensures built { IfOk result IsBuilt }
 {
     let image = image(alloc, case)?;
     let admitted = admit(alloc, &image)?;
     assert!(rt; admitted);
-    assert!(rt; is_built(&image));
     Ok(image)
 }
 
@@ -177,7 +175,7 @@ fn turn(rt: &impl Abort, board: &mut Board, cpu: u8) -> Result<Turn, TurnFault> 
 }
 
 /// One turn of each of the CPUs, none of which the limit refuses.
-fn turns(rt: &impl Abort, board: &mut Board, cpus: &[u8]) -> Result<(), NoMemory> {
+pub(crate) fn turns(rt: &impl Abort, board: &mut Board, cpus: &[u8]) -> Result<(), NoMemory> {
     for cpu in cpus {
         match turn(rt, board, *cpu) {
             Ok(_) => {}
@@ -190,11 +188,11 @@ fn turns(rt: &impl Abort, board: &mut Board, cpus: &[u8]) -> Result<(), NoMemory
     Ok(())
 }
 
-fn read(width: u8, at: u64) -> Op {
+pub(crate) fn read(width: u8, at: u64) -> Op {
     Op::Read { width, at }
 }
 
-fn write(width: u8, at: u64, value: u64) -> Op {
+pub(crate) fn write(width: u8, at: u64, value: u64) -> Op {
     Op::Write { width, at, value }
 }
 
@@ -202,15 +200,15 @@ fn wait(width: u8, at: u64, value: u64) -> Op {
     Op::Await { width, at, value }
 }
 
-fn entry(cpu: u8, act: Act) -> Entry {
+pub(crate) fn entry(cpu: u8, act: Act) -> Entry {
     Entry { cpu, cell: 0, act }
 }
 
-fn got(cpu: u8, width: u8, at: u64, got: Option<u64>) -> Entry {
+pub(crate) fn got(cpu: u8, width: u8, at: u64, got: Option<u64>) -> Entry {
     entry(cpu, Act::Read { width, at, got })
 }
 
-fn wrote(cpu: u8, width: u8, at: u64, value: u64, ok: bool) -> Entry {
+pub(crate) fn wrote(cpu: u8, width: u8, at: u64, value: u64, ok: bool) -> Entry {
     entry(
         cpu,
         Act::Write {

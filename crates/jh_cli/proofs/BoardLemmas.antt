@@ -2,7 +2,7 @@
 use Rattle.std.proofs.Common.{◌≡◌, ◌≢◌, List, ℕ, inl, inr, Result, refl, sym, ◌∙◌, ap, arith}
 use Rattle.jh_script.specs.declared.image.Image.{Image}
 use Rattle.jh_image.specs.declared.fault.ImageCause.{ImageCause}
-use Rattle.jh_image.specs.declared.fault.ImageCause.TheVariants.{ReadFault, Oversize, Json, Member, System, Findings, PoolSmall, Preload as BadPreload, Program as BadProgram, NotBuilt}
+use Rattle.jh_image.specs.declared.fault.ImageCause.TheVariants.{ReadFault, Oversize, Json, Member, System, Findings, PoolSmall, Preload as BadPreload, Program as BadProgram}
 use Rattle.jh_image.specs.declared.fault.ImageFault.{ImageFault}
 use Rattle.jh_image.specs.declared.fault.ImageFault.TheVariants.{Refused, NoMemory}
 use Rattle.jh_image.specs.Causes.{Stops, OnRefused, IsCounted}
@@ -47,7 +47,6 @@ counted_said old new failed file (Findings found) counted said is fault = absurd
 counted_said old new failed file (PoolSmall need have) counted said is fault = absurd (refused_is_read said (refusal_line file (cause_text (PoolSmall need have))) is fault)
 counted_said old new failed file (BadPreload number) counted said is fault = absurd (refused_is_read said (refusal_line file (cause_text (BadPreload number))) is fault)
 counted_said old new failed file (BadProgram why) counted said is fault = absurd (refused_is_read said (refusal_line file (cause_text (BadProgram why))) is fault)
-counted_said old new failed file NotBuilt counted said is fault = absurd (refused_is_read said (refusal_line file (cause_text NotBuilt)) is fault)
 
 -- and so the call's stop has it where the reading had
 pub counted_at : (old new : ℕ) (failed : List ℕ) (fault : ImageFault) → IsCounted old new failed fault

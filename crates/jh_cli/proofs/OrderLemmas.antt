@@ -4,7 +4,7 @@ use Rattle.std.specs.Prelude.{map, take, ⊤}
 use Rattle.jh_outside.specs.Trail.{Ask, Handed, Asks, no_ask, one_more_ask, kept_name, handed, faulted, AsksAll, AsksUntil}
 use Rattle.jh_outside.specs.TrailLaws.{all-both, until-first, until-behind, until-more, names-split}
 use Rattle.jh_image.specs.declared.fault.ImageCause.{ImageCause}
-use Rattle.jh_image.specs.declared.fault.ImageCause.TheVariants.{ReadFault, Oversize, Json, Member, System, Findings, PoolSmall, Preload as BadPreload, Program as BadProgram, NotBuilt}
+use Rattle.jh_image.specs.declared.fault.ImageCause.TheVariants.{ReadFault, Oversize, Json, Member, System, Findings, PoolSmall, Preload as BadPreload, Program as BadProgram}
 use Rattle.jh_image.specs.declared.fault.ImageFault.{ImageFault}
 use Rattle.jh_image.specs.declared.fault.ImageFault.TheVariants.{Refused, NoMemory}
 use Rattle.jh_image.specs.Causes.{OnRefused}
@@ -35,7 +35,6 @@ at_cause file (Findings found) = refl
 at_cause file (PoolSmall need have) = refl
 at_cause file (BadPreload number) = refl
 at_cause file (BadProgram fault) = refl
-at_cause file NotBuilt = refl
 
 is_stop : (file : List ℕ) (cause : ImageCause) → IsStop (stopped file cause).status
 is_stop file ReadFault = tt
@@ -47,7 +46,6 @@ is_stop file (Findings found) = tt
 is_stop file (PoolSmall need have) = tt
 is_stop file (BadPreload number) = tt
 is_stop file (BadProgram fault) = tt
-is_stop file NotBuilt = tt
 
 module _ {S : Type 0} (one : S → Ask → S → Type 0) (failed : S → List ℕ) where
   -- where the call ends at a file, the read of that file is the last

@@ -5,7 +5,7 @@ use Rattle.jh_script.specs.declared.image.Image.{Image}
 use Rattle.jh_history.specs.declared.entry.Entry.{Entry}
 use Rattle.jh_history.specs.Items.{played}
 use Rattle.jh_image.specs.declared.fault.ImageCause.{ImageCause}
-use Rattle.jh_image.specs.declared.fault.ImageCause.TheVariants.{ReadFault as CantBeRead, Oversize, Json, Member, System, Findings, PoolSmall, Preload as BadPreload, Program as BadProgram, NotBuilt}
+use Rattle.jh_image.specs.declared.fault.ImageCause.TheVariants.{ReadFault as CantBeRead, Oversize, Json, Member, System, Findings, PoolSmall, Preload as BadPreload, Program as BadProgram}
 use Rattle.jh_spec.specs.declared.spec.Spec.{Spec}
 use Rattle.jh_run.specs.Soak.{soak_board}
 use Rattle.jh_audit.specs.declared.verdict.Verdict.{Verdict}
@@ -104,7 +104,6 @@ cause_other file (Findings found) = omega arith
 cause_other file (PoolSmall need have) = omega arith
 cause_other file (BadPreload number) = omega arith
 cause_other file (BadProgram fault) = omega arith
-cause_other file NotBuilt = omega arith
 
 opens_other : (contents : Contents) (board : List ℕ) (next : Image → Said → Type 0) (said : Said)
     → ((image : Image) → next image said → IsOther said) → Opens contents board next said → IsOther said

@@ -13,7 +13,7 @@ use Rattle.jh_image.specs.declared.board.PreloadFile.{PreloadFile}
 use Rattle.jh_image.specs.declared.board.ProgramFile.{ProgramFile}
 use Rattle.jh_image.specs.declared.board.BoardFault.{BoardFault}
 use Rattle.jh_image.specs.declared.fault.ImageCause.{ImageCause}
-use Rattle.jh_image.specs.declared.fault.ImageCause.TheVariants.{ReadFault, Oversize, Json, Member, System, Findings, PoolSmall, Preload as BadPreload, Program as BadProgram, NotBuilt}
+use Rattle.jh_image.specs.declared.fault.ImageCause.TheVariants.{ReadFault, Oversize, Json, Member, System, Findings, PoolSmall, Preload as BadPreload, Program as BadProgram}
 use Rattle.jh_image.specs.Files.{Contents, max_file_size, HasBytes, IsOversize, Lists, SpellsSystem, IsPreloadOf, IsProgramOf, Preloads, no_preloads, one_more_preload, Programs, no_programs, one_more_program}
 use Rattle.jh_image.specs.Images.{HasSystem, IsReady, IsNextPreload, HasPreloads, IsNextProgram, MakesImage, Comes, the_board, the_system, a_preload, a_program, IsImage}
 use Rattle.jh_image.specs.Causes.{IsBadBoard, Stops}
@@ -157,7 +157,7 @@ module _ (contents : Contents) where
     }
 
     pub is_image : (image : Image) → IsImage contents board image → IsImage (all_told contents) board image
-    is_image image h = record { listing = h.listing; makes = makes_image h.listing image h.makes; built = h.built }
+    is_image image h = record { listing = h.listing; makes = makes_image h.listing image h.makes }
 
     comes : (file : List ℕ) → Comes contents board file → Comes (all_told contents) board file
     comes file the_board = the_board
@@ -222,4 +222,3 @@ module _ (contents : Contents) where
       has = has file h.bytes (subst IsTold (sym h.file_is) (at_program h.listing h.system h.preloads h.programs h.entry h.next)) h.has;
       told = h.told;
     }
-    stops file NotBuilt h = record { listing = h.listing; image = h.image; makes = makes_image h.listing h.image h.makes; unbuilt = h.unbuilt; file_is = h.file_is }

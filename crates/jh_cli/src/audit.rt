@@ -1,6 +1,6 @@
 //! Auditing a journal by a board.
 ghost use Rattle.std.specs.Prelude.{◌≡◌, ◌≢◌, ◌≤◌, length, IfOk, IfErr, ◌∷◌, [], OnOk};
-ghost use Rattle.jh_history.specs.Admitted.{IsAdmitted, IsBuilt};
+ghost use Rattle.jh_history.specs.Admitted.{IsAdmitted};
 ghost use Rattle.jh_text.specs.FaultText.{fault_text};
 ghost use Rattle.jh_text.specs.declared.fault.JournalFault.TheVariants.{NoMemory as for_memory};
 ghost use Rattle.jh_outside.specs.Trail.{AsksAll};
@@ -94,7 +94,6 @@ fn due_text(alloc: Global, line: u32, entry: &Entry) -> Result<Vec<u8>, NoMemory
 /// Judges the journal by the image, and tells the verdict.
 fn tell_verdict(alloc: Global, image: Image, journal: &Journal) -> Result<Told, NoMemory>
     requires admitted { IsAdmitted image }
-    requires built { IsBuilt image }
     requires few { length journal.now.entries ≤ journal_limit }
     ensures { IfOk result (λ told. IsAudited image journal.now.entries (said_of told)) }
 {
@@ -108,7 +107,6 @@ fn tell_verdict(alloc: Global, image: Image, journal: &Journal) -> Result<Told, 
 /// Reads the journal, and judges it by the image.
 fn audit_by<F: Files>(alloc: Global, files: &mut F, image: Image, name: &str) -> Result<Told, Stop>
     requires admitted { IsAdmitted image }
-    requires built { IsBuilt image }
     ensures ends { OnTold result (AuditsBy (F.contents files.old) name.now image) }
     ensures counted { OnTold result (IsCounted (F.faults files.old) (F.faults files.new) (F.failed files.new)) }
     ensures asked { OnTold result (ReadsIn F.asks F.failed (name.now ∷ []) files.old files.new) }

@@ -1,6 +1,6 @@
 //! The image that a board's files make.
 ghost use Rattle.std.specs.Prelude.{◌≡◌, ◌≤◌, IfOk, IfErr, ℕ, List, OnOk};
-ghost use Rattle.jh_history.specs.Admitted.{IsAdmitted, IsBuilt};
+ghost use Rattle.jh_history.specs.Admitted.{IsAdmitted};
 ghost use Rattle.jh_image.specs.Causes.{OnRefused};
 ghost use Rattle.jh_image.specs.Images.{IsImage};
 ghost use Rattle.jh_image.specs.declared.fault.ImageFault.TheVariants.{NoMemory as image_for_memory};
@@ -44,7 +44,6 @@ fn unopened(alloc: Global, fault: &ImageFault) -> Stop
 pub fn open<F: Files>(alloc: Global, files: &mut F, board: &str) -> Result<Image, Stop>
     ensures image { IfOk result (IsImage (F.contents files.old) board.now) }
     ensures admitted { IfOk result IsAdmitted }
-    ensures built { IfOk result IsBuilt }
     ensures err { IfErr result (λ stop. OnEnded stop (EndsAt (F.contents files.old) board.now)) }
     ensures counted { IfErr result (λ stop. OnEnded stop (IsCounted (F.faults files.old) (F.faults files.new) (F.failed files.new))) }
     ensures never_falls { F.faults files.old ≤ F.faults files.new }

@@ -1,6 +1,6 @@
 //! The maps of a board's cells after a schedule.
 ghost use Rattle.std.specs.Prelude.{◌≡◌, All, IsTrue, IfOk, ◌∷◌, []};
-ghost use Rattle.jh_history.specs.Admitted.{IsAdmitted, IsBuilt};
+ghost use Rattle.jh_history.specs.Admitted.{IsAdmitted};
 ghost use Rattle.jh_history.specs.Lives.{is_on_board};
 ghost use Rattle.jh_cli.specs.Order.{ReadsIn, ReadsBoard};
 ghost use Rattle.jh_cli.specs.Map.{IsMapped, MapsBy, MapsOf};
@@ -20,7 +20,6 @@ use std::alloc::Global;
 /// Makes the items of the schedule, and tells the maps of the cells that live then.
 fn render(alloc: Global, image: Image, cpus: &[u8]) -> Result<Told, NoMemory>
     requires admitted { IsAdmitted image }
-    requires built { IsBuilt image }
     requires cpus { All (λ cpu. IsTrue (is_on_board image cpu)) cpus.now }
     ensures { IfOk result (λ told. IsMapped image cpus.now (said_of told)) }
 {
@@ -39,7 +38,6 @@ fn render(alloc: Global, image: Image, cpus: &[u8]) -> Result<Told, NoMemory>
 /// Reads the schedule, and tells the maps after it.
 fn map_by<F: Files>(alloc: Global, files: &mut F, image: Image, items: &str) -> Result<Told, Stop>
     requires admitted { IsAdmitted image }
-    requires built { IsBuilt image }
     ensures ends { OnTold result (MapsBy (F.contents files.old) items.now image) }
     ensures counted { OnTold result (IsCounted (F.faults files.old) (F.faults files.new) (F.failed files.new)) }
     ensures asked { OnTold result (ReadsIn F.asks F.failed (items.now ∷ []) files.old files.new) }

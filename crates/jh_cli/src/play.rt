@@ -1,6 +1,6 @@
 //! Playing a board by a schedule.
 ghost use Rattle.std.specs.Prelude.{◌≡◌, All, IsTrue, IfOk, ◌∷◌, []};
-ghost use Rattle.jh_history.specs.Admitted.{IsAdmitted, IsBuilt};
+ghost use Rattle.jh_history.specs.Admitted.{IsAdmitted};
 ghost use Rattle.jh_history.specs.Lives.{is_on_board};
 ghost use Rattle.jh_run.specs.Ends.{is_full};
 ghost use Rattle.jh_cli.specs.Order.{ReadsIn, ReadsBoard};
@@ -32,7 +32,6 @@ pub fn status_of(ended: Ended) -> Status
 /// Plays the image, and tells its journal.
 fn render(alloc: Global, image: Image, cpus: &[u8]) -> Result<Told, NoMemory>
     requires admitted { IsAdmitted image }
-    requires built { IsBuilt image }
     requires cpus { All (λ cpu. IsTrue (is_on_board image cpu)) cpus.now }
     ensures { IfOk result (λ told. IsPlayed image cpus.now (said_of told)) }
 {
@@ -47,7 +46,6 @@ fn render(alloc: Global, image: Image, cpus: &[u8]) -> Result<Told, NoMemory>
 /// Reads the schedule, and plays the image by it.
 fn play_by<F: Files>(alloc: Global, files: &mut F, image: Image, items: &str) -> Result<Told, Stop>
     requires admitted { IsAdmitted image }
-    requires built { IsBuilt image }
     ensures ends { OnTold result (PlaysBy (F.contents files.old) items.now image) }
     ensures counted { OnTold result (IsCounted (F.faults files.old) (F.faults files.new) (F.failed files.new)) }
     ensures asked { OnTold result (ReadsIn F.asks F.failed (items.now ∷ []) files.old files.new) }

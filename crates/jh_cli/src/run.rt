@@ -1,6 +1,6 @@
 //! Running a board, with a worker for each of its CPUs.
 ghost use Rattle.std.specs.Prelude.{◌≡◌, IfOk, []};
-ghost use Rattle.jh_history.specs.Admitted.{IsAdmitted, IsBuilt};
+ghost use Rattle.jh_history.specs.Admitted.{IsAdmitted};
 ghost use Rattle.jh_cli.specs.Order.{ReadsBoard};
 ghost use Rattle.jh_cli.specs.Run.{IsRan, Runs};
 ghost use Rattle.jh_cli.specs.Stopped.{said_of, OnTold, IsCounted};
@@ -25,8 +25,7 @@ fn render<R: Threads + Wait + Sync, G: Gate + Sync>(
     image: Image,
     gate: &G,
 ) -> Result<Told, NoMemory>
-    requires admitted { IsAdmitted image }
-    requires built { IsBuilt image }
+    requires { IsAdmitted image }
     ensures { IfOk result (λ told. IsRan image (said_of told)) }
 {
     let (board, ended) = run_board(rt, alloc, image, gate, JOURNAL_LIMIT)?;

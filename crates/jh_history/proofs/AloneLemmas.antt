@@ -26,7 +26,7 @@ use Rattle.jh_history.specs.declared.comm.PageWrite.{PageWrite}
 use Rattle.jh_history.specs.declared.entry.Entry.{Entry}
 use Rattle.jh_history.specs.declared.entry.Act.{Act}
 use Rattle.jh_history.specs.declared.entry.Act.TheVariants.{Read, Write, Fetch, Await, Irq, Hvc, Begin, Stop, Decide, Settle, Commit, Note, Noted, Finish}
-use Rattle.jh_history.specs.Access.{place_of, reach_by, or_behind, read_of}
+use Rattle.jh_history.specs.Access.{place_of, reach_by, or_behind}
 use Rattle.jh_history.specs.Facts.{Facts}
 use Rattle.jh_history.specs.Lives.{is_on_board, cell_in, regions_in, program_of, ops_in, op_at}
 use Rattle.jh_history.specs.Grants.{is_kept, unless, granted_in, granted, behind_in, reach}
@@ -35,10 +35,14 @@ use Rattle.jh_history.specs.Calls.{call_by}
 use Rattle.jh_history.specs.Commits.{cells_by}
 use Rattle.jh_history.specs.Pages.{failing, unless_good, page_write_by, with_page_write}
 use Rattle.jh_history.specs.Bytes.{byte_written, byte_after}
+use Rattle.jh_ivshmem.specs.Links.{pending_of}
+use Rattle.jh_ivshmem.specs.declared.spec.EndpointSpec.{EndpointSpec}
+use Rattle.jh_history.specs.Devices.{specs_of}
+use Rattle.jh_history.specs.Endpoints.{changing_at, changing_by, specs_changing, with_words}
 use Rattle.jh_history.specs.History.{start, after, facts, coming_of}
 use Rattle.jh_history.specs.Wants.{pending_op, goes_on}
 use Rattle.jh_history.specs.Admitted.{HasNoCall, IsNoCall}
-use Rattle.jh_history.specs.Due.{due_at, state_act, next_act, act_of, await_of, entry_by, IsLegal, IsLegalFrom}
+use Rattle.jh_history.specs.Due.{due_at, state_act, next_act, act_of, await_of, got_by, entry_by, IsLegal, IsLegalFrom}
 use Rattle.jh_history.specs.Alone.{IsAlone, IsByRoot, is_phase}
 use Rattle.jh_history.proofs.AdmittedLemmas.{program_of-all}
 use Rattle.jh_history.proofs.FactsLemmas.{same_function}
@@ -59,10 +63,10 @@ pub granted-alone : (image : Image) (f : Facts) (id : ℕ) (access : Access) (at
 granted-alone image f id access at none = ap (λ (cells : List Live). granted_in image cells id access at) none ∙ all_open image id (place_of id (regions_in image [] id) access at)
 
 pub reach-alone : (image : Image) (f : Facts) (id : ℕ) (access : Access) (at width : ℕ) → f.cells ≡ []
-    → reach image f id access at width ≡ or_behind (reach_by (place_of id (regions_in image [] id) access) at width) (behind_in image [] id access at width)
+    → reach image f id access at width ≡ or_behind (reach_by (place_of id (regions_in image [] id) access) at width) (behind_in image [] f.endpoints id access at width)
 reach-alone image f id access at width none =
-    ap (λ (place : ℕ → Option Place). or_behind (reach_by place at width) (behind_in image f.cells id access at width)) (same_function (granted image f id access) (place_of id (regions_in image [] id) access) (λ a. granted-alone image f id access a none))
-    ∙ ap (λ (cells : List Live). or_behind (reach_by (place_of id (regions_in image [] id) access) at width) (behind_in image cells id access at width)) none
+    ap (λ (place : ℕ → Option Place). or_behind (reach_by place at width) (behind_in image f.cells f.endpoints id access at width)) (same_function (granted image f id access) (place_of id (regions_in image [] id) access) (λ a. granted-alone image f id access a none))
+    ∙ ap (λ (cells : List Live). or_behind (reach_by (place_of id (regions_in image [] id) access) at width) (behind_in image cells f.endpoints id access at width)) none
 
 -- at opening
 pub alone-start : (image : Image) → IsAlone image (start image)
@@ -80,12 +84,16 @@ own_await : (width at value : ℕ) (o : Option ℕ) → IfSome (await_of width a
 own_await width at value None = refl
 own_await width at value (Some got) = own_if (eqb got value) (Some (Await width at value true)) refl
 
+own_irq : (next : Option (ℕ × ℕ)) → IfSome (option_map (λ (n : ℕ × ℕ). Irq n.0 n.1) next) IsOwn
+own_irq None = tt
+own_irq (Some n) = refl
+
 own_act : (image : Image) (f : Facts) (cell : ℕ) (op : Op) → IsNoCall op → IfSome (act_of image f cell op) IsOwn
 own_act image f cell (ReadOp width at) no_call = refl
 own_act image f cell (WriteOp width at value) no_call = refl
 own_act image f cell (FetchOp at) no_call = refl
-own_act image f cell (AwaitOp width at value) no_call = own_await width at value (read_of f.byte width (reach image f cell ToRead at width))
-own_act image f cell IrqOp no_call = tt
+own_act image f cell (AwaitOp width at value) no_call = own_await width at value (got_by image f cell ToRead at width)
+own_act image f cell IrqOp no_call = own_irq (pending_of cell f.endpoints)
 own_act image f cell (HvcOp code a b) no_call = absurd no_call
 
 own_op : (image : Image) (f : Facts) (cell : ℕ) (o : Option Op) → IfSome o IsNoCall → IfSome (option_and_then (act_of image f cell) o) IsOwn
@@ -230,10 +238,35 @@ no_page image f entry (Note id) is own = absurd (both_ways true own refl)
 no_page image f entry (Noted id how) is own = absurd (both_ways true own refl)
 no_page image f entry (Finish answer) is own = absurd (both_ways true own refl)
 
+-- nor does it change the devices of a cell as a Commit does
+unchanged : (cells : List Live) (o : OpenCall) (act : Act) → is_phase act ≡ false → changing_at cells o act ≡ None
+unchanged cells o (Read width at got) own = refl
+unchanged cells o (Write width at value ok) own = refl
+unchanged cells o (Fetch at got) own = refl
+unchanged cells o (Await width at value ok) own = refl
+unchanged cells o (Irq device vector) own = refl
+unchanged cells o (Hvc code a b answer) own = refl
+unchanged cells o Stop own = refl
+unchanged cells o (Begin code a b) own = refl
+unchanged cells o (Decide refused) own = refl
+unchanged cells o (Settle how) own = refl
+unchanged cells o Commit own = absurd (both_ways true own refl)
+unchanged cells o (Note id) own = refl
+unchanged cells o (Noted id how) own = refl
+unchanged cells o (Finish answer) own = refl
+
+unchanged_by : (cells : List Live) (call : Option OpenCall) (act : Act) → is_phase act ≡ false → changing_by cells call act ≡ None
+unchanged_by cells None act own = refl
+unchanged_by cells (Some o) act own = unchanged cells o act own
+
+pub specs-unchanged : (f : Facts) (act : Act) → is_phase act ≡ false → specs_changing f act ≡ []
+specs-unchanged f act own = ap (λ (o : Option CellConfig). option_map_or specs_of o []) (unchanged_by f.cells f.call act own)
+
 -- so the bytes are those that its write leaves
 pub byte_after-roots : (image : Image) (f : Facts) (entry : Entry) (q : Place) → IsByRoot image entry → byte_after image f entry q ≡ byte_written image f entry.cell entry.act q
 byte_after-roots image f entry q own =
-    ap (λ (write : Option PageWrite). with_page_write write (byte_written image f entry.cell entry.act) q) (no_page image f entry entry.act own.cell own.act)
+    ap (λ (write : Option PageWrite). with_page_write write (with_words (specs_changing f entry.act) (byte_written image f entry.cell entry.act)) q) (no_page image f entry entry.act own.cell own.act)
+    ∙ ap (λ (specs : List EndpointSpec). with_words specs (byte_written image f entry.cell entry.act) q) (specs-unchanged f entry.act own.act)
 
 alone_from : (image : Image) (f : Facts) (entries : List Entry) → HasNoCall image → IsAlone image f → IsLegalFrom image f entries → IsAlone image (fold (after image) f entries)
 alone_from image f [] silent alone legal = alone

@@ -8,6 +8,7 @@ use Rattle.jh_cellcfg.specs.declared.config.SystemConfig.{SystemConfig}
 use Rattle.jh_cellcfg.specs.declared.live.Live.{Live}
 use Rattle.jh_cellcfg.specs.declared.region.Region.{Region}
 use Rattle.jh_cellcfg.specs.Regions.{has_size, is_page_mapped, is_comm, place_in, virt_end}
+use Rattle.jh_mmio.specs.declared.hitting.Window.{Window}
 use Rattle.jh_mmio.specs.Dispatch.{lies_between, is_at_closed, takes_all, has_whole, has_right, unless_closed}
 use Rattle.jh_script.specs.declared.image.Image.{Image}
 use Rattle.jh_history.specs.declared.place.Place.{Place}
@@ -18,7 +19,8 @@ use Rattle.jh_history.specs.declared.access.Reach.{Reach}
 use Rattle.jh_history.specs.declared.access.Reach.TheVariants.{Subpage, Nothing}
 use Rattle.jh_history.specs.Places.{places_in_row}
 use Rattle.jh_history.specs.Access.{place_in_cell}
-use Rattle.jh_history.specs.Behind.{ecam_start, ecam_end, answer_by, answer_to, answer}
+use Rattle.jh_history.specs.Behind.{ecam_start, ecam_end, window_found, behind_regions, answer_by, answer_to, answer}
+use Rattle.jh_history.specs.Devices.{Devices}
 use Rattle.jh_history.specs.Grants.{is_kept}
 
 -- ---- a region that has an access
@@ -82,37 +84,49 @@ unless-kept image cells id at n r b low is = ap (λ (c : Bool). cond c None (Som
 
 -- ---- what answers
 
-pub answer-within : (id : ℕ) (regions : List Region) (kept : Place → Bool) (system : SystemConfig) (access : Access) (at width : ℕ) → at + width ≤ ADDRESS_END
-    → answer id regions kept system access at width ≡ answer_to id (find (takes_all (λ p. kept (Physical p)) at width) regions) (ecam_start system) (ecam_end system) access at width
-unfolding answer
-answer-within id regions kept system access at width h =
-    ap (λ (b : Bool). cond b (answer_to id (find (takes_all (λ p. kept (Physical p)) at width) regions) (ecam_start system) (ecam_end system) access at width) Nothing) (le-leb (at + width) ADDRESS_END h)
+-- the subpage region that has the access
+abbrev region_having : List Region → (Place → Bool) → ℕ → ℕ → Option Region
+region_having regions kept at width = find (takes_all (λ p. kept (Physical p)) at width) regions
 
-pub answer-beyond : (id : ℕ) (regions : List Region) (kept : Place → Bool) (system : SystemConfig) (access : Access) (at width : ℕ) → ADDRESS_END < at + width → answer id regions kept system access at width ≡ Nothing
+-- what answers within the addresses
+abbrev answering : List Region → Devices → (Place → Bool) → SystemConfig → Access → ℕ → ℕ → Reach
+answering regions devices kept system access at width =
+    answer_to devices.cell (region_having regions kept at width) (ecam_start system) (ecam_end system) (window_found devices at width) access at width
+
+pub answer-within : (regions : List Region) (devices : Devices) (kept : Place → Bool) (system : SystemConfig) (access : Access) (at width : ℕ) → at + width ≤ ADDRESS_END
+    → answer regions devices kept system access at width ≡ answer_to devices.cell (find (takes_all (λ p. kept (Physical p)) at width) regions) (ecam_start system) (ecam_end system) (window_found devices at width) access at width
 unfolding answer
-answer-beyond id regions kept system access at width h =
-    ap (λ (b : Bool). cond b (answer_to id (find (takes_all (λ p. kept (Physical p)) at width) regions) (ecam_start system) (ecam_end system) access at width) Nothing) (lt-leb (at + width) ADDRESS_END h)
+answer-within regions devices kept system access at width h =
+    ap (λ (b : Bool). cond b (answering regions devices kept system access at width) Nothing) (le-leb (at + width) ADDRESS_END h)
+
+pub answer-beyond : (regions : List Region) (devices : Devices) (kept : Place → Bool) (system : SystemConfig) (access : Access) (at width : ℕ) → ADDRESS_END < at + width → answer regions devices kept system access at width ≡ Nothing
+unfolding answer
+answer-beyond regions devices kept system access at width h =
+    ap (λ (b : Bool). cond b (answering regions devices kept system access at width) Nothing) (lt-leb (at + width) ADDRESS_END h)
 
 no_bytes_through : (b : Bool) (found : Reach) → cond (b && false) found Nothing ≡ Nothing
 no_bytes_through true found = refl
 no_bytes_through false found = refl
 
-no_bytes_by : (id : ℕ) (o : Option Region) (start end : ℕ) (write : Bool) (at : ℕ) → answer_by id o start end write at 0 ≡ Nothing
-no_bytes_by id None start end write at = refl
-no_bytes_by id (Some r) start end write at = no_bytes_through (has_right write r) (Subpage [])
+no_bytes_behind : (start end : ℕ) (window : Option Window) (at : ℕ) → behind_regions start end window at 0 ≡ Nothing
+no_bytes_behind start end window at = refl
 
-no_bytes_to : (id : ℕ) (o : Option Region) (start end : ℕ) (access : Access) (at : ℕ) → answer_to id o start end access at 0 ≡ Nothing
-no_bytes_to id o start end Read at = no_bytes_by id o start end false at
-no_bytes_to id o start end Write at = no_bytes_by id o start end true at
-no_bytes_to id o start end Fetch at = refl
+no_bytes_by : (id : ℕ) (o : Option Region) (start end : ℕ) (window : Option Window) (write : Bool) (at : ℕ) → answer_by id o start end window write at 0 ≡ Nothing
+no_bytes_by id None start end window write at = no_bytes_behind start end window at
+no_bytes_by id (Some r) start end window write at = no_bytes_through (has_right write r) (Subpage [])
 
-no_bytes_within : (id : ℕ) (o : Option Region) (start end : ℕ) (access : Access) (at : ℕ) (b : Bool) → cond b (answer_to id o start end access at 0) Nothing ≡ Nothing
-no_bytes_within id o start end access at true = no_bytes_to id o start end access at
-no_bytes_within id o start end access at false = refl
+no_bytes_to : (id : ℕ) (o : Option Region) (start end : ℕ) (window : Option Window) (access : Access) (at : ℕ) → answer_to id o start end window access at 0 ≡ Nothing
+no_bytes_to id o start end window Read at = no_bytes_by id o start end window false at
+no_bytes_to id o start end window Write at = no_bytes_by id o start end window true at
+no_bytes_to id o start end window Fetch at = refl
+
+no_bytes_within : (id : ℕ) (o : Option Region) (start end : ℕ) (window : Option Window) (access : Access) (at : ℕ) (b : Bool) → cond b (answer_to id o start end window access at 0) Nothing ≡ Nothing
+no_bytes_within id o start end window access at true = no_bytes_to id o start end window access at
+no_bytes_within id o start end window access at false = refl
 
 -- an access of no bytes is answered by nothing
-pub answer-no_bytes : (id : ℕ) (regions : List Region) (kept : Place → Bool) (system : SystemConfig) (access : Access) (at width : ℕ) → width ≡ 0 → answer id regions kept system access at width ≡ Nothing
+pub answer-no_bytes : (regions : List Region) (devices : Devices) (kept : Place → Bool) (system : SystemConfig) (access : Access) (at width : ℕ) → width ≡ 0 → answer regions devices kept system access at width ≡ Nothing
 unfolding answer
-answer-no_bytes id regions kept system access at width none =
-    let P : ℕ → Type 0 = λ n. cond (leb (at + n) ADDRESS_END) (answer_to id (find (takes_all (λ p. kept (Physical p)) at n) regions) (ecam_start system) (ecam_end system) access at n) Nothing ≡ Nothing in
-    subst P (sym none) (no_bytes_within id (find (takes_all (λ p. kept (Physical p)) at 0) regions) (ecam_start system) (ecam_end system) access at (leb (at + 0) ADDRESS_END))
+answer-no_bytes regions devices kept system access at width none =
+    let P : ℕ → Type 0 = λ n. cond (leb (at + n) ADDRESS_END) (answering regions devices kept system access at n) Nothing ≡ Nothing in
+    subst P (sym none) (no_bytes_within devices.cell (region_having regions kept at 0) (ecam_start system) (ecam_end system) (window_found devices at 0) access at (leb (at + 0) ADDRESS_END))

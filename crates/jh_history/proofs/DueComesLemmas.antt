@@ -63,10 +63,13 @@ accepted image f caller at config comes =
     (accepted-from image.system (configs_of f.cells) coming.config (may_give image f caller)
     (pages_of image.system.root.memory_regions (configs_of f.cells ++ coming.config ∷ [])) (pool_pages image.system) coming.good)
 
+-- nothing is found with it
+pub comes-clean : (image : Image) (f : Facts) (caller at : ℕ) (config : CellConfig) → IsSound image f → creation_of image f caller at ≡ Comes config → IsClean image.system (configs_of f.cells ++ config ∷ [])
+comes-clean image f caller at config sound comes = joins-clean image.system (configs_of f.cells) config sound.cells.clean (accepted image f caller at config comes).clean
+
 pub decided-lives : (image : Image) (f : Facts) (caller at : ℕ) (config : CellConfig) → IsSound image f → creation_of image f caller at ≡ Comes config → MayLive image f.cells config
 decided-lives image f caller at config sound comes =
-    let h = accepted image f caller at config comes in
-    clean-lives image f config h.unknown (joins-clean image.system (configs_of f.cells) config sound.cells.clean h.clean)
+    clean-lives image f config (accepted image f caller at config comes).unknown (comes-clean image f caller at config sound comes)
 
 -- ---- until it comes
 

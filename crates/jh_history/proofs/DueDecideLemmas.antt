@@ -20,7 +20,7 @@ use Rattle.jh_history.specs.declared.entry.Act.TheVariants.{Decide, Settle, Comm
 use Rattle.jh_history.specs.Facts.{Facts}
 use Rattle.jh_history.specs.Configs.{ReadCell, Reads, Refuses, read_at}
 use Rattle.jh_history.specs.Admitted.{pool_pages}
-use Rattle.jh_history.specs.Phases.{may_give, configs_of, is_locked, is_built_cell, or_unbuilt, unless_refused, creation_by, creation_of, refused_by, decision}
+use Rattle.jh_history.specs.Phases.{may_give, configs_of, is_locked, unless_refused, creation_by, creation_of, refused_by, decision}
 use Rattle.jh_history.specs.Due.{due_at}
 use Rattle.jh_history.specs.Sound.{IsSound}
 use Rattle.jh_history.specs.DueFacts.{HasRead}
@@ -44,9 +44,7 @@ by_read image f caller (Refuses number) config e = not_refused number config e
 by_read image f caller (Reads c) config e =
     ap Reads
     (unless_read c
-    (cond (is_built_cell c)
     (refusal_of image.system (configs_of f.cells) c (may_give image f caller) (pages_of image.system.root.memory_regions (configs_of f.cells ++ c ∷ [])) (pool_pages image.system))
-    (or_unbuilt (refusal_of image.system (configs_of f.cells) c (may_give image f caller) 0 (pool_pages image.system))))
     config e)
 
 by_lock : (image : Image) (f : Facts) (caller : ℕ) (locked : Bool) (read : ReadCell) (config : CellConfig) → cond locked (Refused EPERM) (creation_by image f caller read) ≡ Comes config → read ≡ Reads config

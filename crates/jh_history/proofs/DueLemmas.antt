@@ -16,7 +16,7 @@ use Rattle.jh_history.specs.Access.{read_of, is_reached}
 use Rattle.jh_history.specs.Facts.{Facts}
 use Rattle.jh_history.specs.History.{facts}
 use Rattle.jh_history.specs.Lives.{is_on_board}
-use Rattle.jh_history.specs.Grants.{reach}
+use Rattle.jh_history.specs.Grants.{reach, devices_of}
 use Rattle.jh_history.specs.Wants.{wanted_of, pending_op, IsReachOf, IsReachIn, IsReachOfAct, IsReachOfEntry}
 use Rattle.jh_history.specs.Due.{due, IsLegal, due_at, entry_of, next_act, act_of, await_of, entry_by}
 use Rattle.jh_history.proofs.FactsLemmas.{IsLegal-push}
@@ -65,25 +65,25 @@ none_round image f first cpu few below none = elim (cases_lt cpu first) [
 ]
 
 -- what an operation comes to, by what its access reaches
-pub act_of-read : (i : Image) (f : Facts) (cell : ℕ) (op : Op) (width at : ℕ) (got : Option ℕ) (found : Reach) → op ≡ ReadOp width at → got ≡ read_of f.byte width found → IsReachOf i f cell op found → Some (Read width at got) ≡ act_of i f cell op
+pub act_of-read : (i : Image) (f : Facts) (cell : ℕ) (op : Op) (width at : ℕ) (got : Option ℕ) (found : Reach) → op ≡ ReadOp width at → got ≡ read_of f.byte (devices_of i f cell) found → IsReachOf i f cell op found → Some (Read width at got) ≡ act_of i f cell op
 act_of-read i f cell op width at got found is e reached =
     let P : Op → Type 0 = λ o. IsReachOf i f cell o found → Some (Read width at got) ≡ act_of i f cell o in
-    subst P (sym is) (λ own. ap (λ (g : Option ℕ). Some (Read width at g)) (e ∙ ap (read_of f.byte width) (own (record { access = ToRead; at = at; width = width }) refl))) reached
+    subst P (sym is) (λ own. ap (λ (g : Option ℕ). Some (Read width at g)) (e ∙ ap (read_of f.byte (devices_of i f cell)) (own (record { access = ToRead; at = at; width = width }) refl))) reached
 
-pub act_of-fetch : (i : Image) (f : Facts) (cell : ℕ) (op : Op) (at : ℕ) (got : Option ℕ) (found : Reach) → op ≡ FetchOp at → got ≡ read_of f.byte 4 found → IsReachOf i f cell op found → Some (Fetch at got) ≡ act_of i f cell op
+pub act_of-fetch : (i : Image) (f : Facts) (cell : ℕ) (op : Op) (at : ℕ) (got : Option ℕ) (found : Reach) → op ≡ FetchOp at → got ≡ read_of f.byte (devices_of i f cell) found → IsReachOf i f cell op found → Some (Fetch at got) ≡ act_of i f cell op
 act_of-fetch i f cell op at got found is e reached =
     let P : Op → Type 0 = λ o. IsReachOf i f cell o found → Some (Fetch at got) ≡ act_of i f cell o in
-    subst P (sym is) (λ own. ap (λ (g : Option ℕ). Some (Fetch at g)) (e ∙ ap (read_of f.byte 4) (own (record { access = ToFetch; at = at; width = 4 }) refl))) reached
+    subst P (sym is) (λ own. ap (λ (g : Option ℕ). Some (Fetch at g)) (e ∙ ap (read_of f.byte (devices_of i f cell)) (own (record { access = ToFetch; at = at; width = 4 }) refl))) reached
 
 pub act_of-write : (i : Image) (f : Facts) (cell : ℕ) (op : Op) (width at value : ℕ) (ok : Bool) (found : Reach) → op ≡ WriteOp width at value → ok ≡ is_reached found → IsReachOf i f cell op found → Some (Write width at value ok) ≡ act_of i f cell op
 act_of-write i f cell op width at value ok found is e reached =
     let P : Op → Type 0 = λ o. IsReachOf i f cell o found → Some (Write width at value ok) ≡ act_of i f cell o in
     subst P (sym is) (λ own. ap (λ (b : Bool). Some (Write width at value b)) (e ∙ ap is_reached (own (record { access = ToWrite; at = at; width = width }) refl))) reached
 
-pub act_of-await : (i : Image) (f : Facts) (cell : ℕ) (op : Op) (width at value : ℕ) (got : Option ℕ) (found : Reach) → op ≡ AwaitOp width at value → got ≡ read_of f.byte width found → IsReachOf i f cell op found → await_of width at value got ≡ act_of i f cell op
+pub act_of-await : (i : Image) (f : Facts) (cell : ℕ) (op : Op) (width at value : ℕ) (got : Option ℕ) (found : Reach) → op ≡ AwaitOp width at value → got ≡ read_of f.byte (devices_of i f cell) found → IsReachOf i f cell op found → await_of width at value got ≡ act_of i f cell op
 act_of-await i f cell op width at value got found is e reached =
     let P : Op → Type 0 = λ o. IsReachOf i f cell o found → await_of width at value got ≡ act_of i f cell o in
-    subst P (sym is) (λ own. ap (await_of width at value) (e ∙ ap (read_of f.byte width) (own (record { access = ToRead; at = at; width = width }) refl))) reached
+    subst P (sym is) (λ own. ap (await_of width at value) (e ∙ ap (read_of f.byte (devices_of i f cell)) (own (record { access = ToRead; at = at; width = width }) refl))) reached
 
 -- a write reaches what its operation reaches
 pub write-reaches : (i : Image) (f : Facts) (cell : ℕ) (op : Op) (width at value : ℕ) (found : Reach) → op ≡ WriteOp width at value → IsReachOf i f cell op found → found ≡ reach i f cell ToWrite at width

@@ -14,6 +14,8 @@ use Rattle.jh_cellcfg.specs.declared.region.Region.{Region}
 use Rattle.jh_cellcfg.specs.Lives.{has_id}
 use Rattle.jh_cellcfg.specs.Regions.{has_address, is_page_mapped, is_comm, byte_in, place_in}
 use Rattle.jh_check.specs.Clean.{IsClean}
+use Rattle.jh_ivshmem.specs.declared.endpoint.Endpoint.{Endpoint}
+use Rattle.jh_mmio.specs.declared.hitting.Window.{Window as TheWindow}
 use Rattle.jh_mmio.specs.declared.hitting.Hitting.{Hitting}
 use Rattle.jh_mmio.specs.declared.hitting.Hitting.TheVariants.{Subpage as HitsSubpage, Ecam, Bar, Nothing as HitsNothing}
 use Rattle.jh_mmio.specs.Dispatch.{takes_all, lets_through, behind_between}
@@ -23,12 +25,13 @@ use Rattle.jh_history.specs.declared.place.Place.TheVariants.{Physical, Page}
 use Rattle.jh_history.specs.declared.access.Access.{Access}
 use Rattle.jh_history.specs.declared.access.Access.TheVariants.{Read as ToRead, Write as ToWrite, Fetch as ToFetch}
 use Rattle.jh_history.specs.declared.access.Reach.{Reach}
-use Rattle.jh_history.specs.declared.access.Reach.TheVariants.{Memory, Subpage, Config, Nothing}
+use Rattle.jh_history.specs.declared.access.Reach.TheVariants.{Memory, Subpage, Config, Window, Nothing}
 use Rattle.jh_history.specs.declared.entry.Entry.{Entry}
 use Rattle.jh_history.specs.declared.entry.Act.{Act}
 use Rattle.jh_history.specs.declared.entry.Act.TheVariants.{Read, Write, Fetch, Await, Irq, Hvc, Begin, Stop, Decide, Settle, Commit, Note, Noted, Finish}
 use Rattle.jh_history.specs.Access.{gives, region_of, place_in_cell, place_of, places_from, memory_or_nothing, reach_by, or_behind}
-use Rattle.jh_history.specs.Behind.{ecam_start, ecam_end, in_ecam, answer_by, answer_to, answer}
+use Rattle.jh_history.specs.Behind.{ecam_start, ecam_end, in_window, asked_windows, by_device, window_found, answer_by, answer_to, answer}
+use Rattle.jh_history.specs.Devices.{devices_in}
 use Rattle.jh_history.specs.Places.{places_in_row}
 use Rattle.jh_history.specs.Facts.{Facts}
 use Rattle.jh_history.specs.Grants.{is_kept, unless, granted, behind_in, reach}
@@ -162,50 +165,57 @@ region_answers cells id at width r comm false plain = tt
 region_answers cells id at width r true true plain = absurd (true≢false plain)
 region_answers cells id at width r false true plain = All-from_recursion (IsOfCells cells) (places_in_row (Physical (place_in r at)) width) (row_cells cells (place_in r at) width)
 
-window_answers : (cells : List Live) (start at : ℕ) (h : Hitting) → ReachesCells cells (in_ecam start at h)
-window_answers cells start at Ecam = tt
-window_answers cells start at (HitsSubpage region) = tt
-window_answers cells start at (Bar window) = tt
-window_answers cells start at HitsNothing = tt
+window_answers : (cells : List Live) (o : Option TheWindow) (at : ℕ) → ReachesCells cells (option_map_or (in_window at) o Nothing)
+window_answers cells None at = tt
+window_answers cells (Some window) at = tt
 
-found_answers : (image : Image) (lives : List Live) (id : ℕ) (closed : ℕ → Bool) (start end : ℕ) (write : Bool) (at width : ℕ) (o : Option Region) → IsClean image.system (configs_of lives) → find (takes_all closed at width) (regions_in image lives id) ≡ o
-    → ReachesCells lives (answer_by id o start end write at width)
-found_answers image lives id closed start end write at width None clean is = window_answers lives start at (behind_between start end [] at width)
-found_answers image lives id closed start end write at width (Some r) clean is =
+device_answers : (cells : List Live) (start : ℕ) (o : Option TheWindow) (at width : ℕ) (h : Hitting) → ReachesCells cells (by_device start o at width h)
+device_answers cells start o at width Ecam = tt
+device_answers cells start o at width (HitsSubpage region) = tt
+device_answers cells start o at width (Bar number) = window_answers cells o at
+device_answers cells start o at width HitsNothing = tt
+
+found_answers : (image : Image) (lives : List Live) (id : ℕ) (closed : ℕ → Bool) (start end : ℕ) (window : Option TheWindow) (write : Bool) (at width : ℕ) (o : Option Region) → IsClean image.system (configs_of lives) → find (takes_all closed at width) (regions_in image lives id) ≡ o
+    → ReachesCells lives (answer_by id o start end window write at width)
+found_answers image lives id closed start end window write at width None clean is = device_answers lives start window at width (behind_between start end (asked_windows window) at width)
+found_answers image lives id closed start end window write at width (Some r) clean is =
     let found = IsFound-from_find (takes_all closed at width) (regions_in image lives id) r is in
     region_answers lives id at width r (is_comm r) (lets_through at width write r) (takes_all-plain image lives id closed at width r clean found.held found.passes)
 
-access_answers : (image : Image) (lives : List Live) (id : ℕ) (closed : ℕ → Bool) (start end : ℕ) (access : Access) (at width : ℕ) → IsClean image.system (configs_of lives)
-    → ReachesCells lives (answer_to id (find (takes_all closed at width) (regions_in image lives id)) start end access at width)
-access_answers image lives id closed start end ToRead at width clean = found_answers image lives id closed start end false at width (find (takes_all closed at width) (regions_in image lives id)) clean refl
-access_answers image lives id closed start end ToWrite at width clean = found_answers image lives id closed start end true at width (find (takes_all closed at width) (regions_in image lives id)) clean refl
-access_answers image lives id closed start end ToFetch at width clean = tt
+access_answers : (image : Image) (lives : List Live) (id : ℕ) (closed : ℕ → Bool) (start end : ℕ) (window : Option TheWindow) (access : Access) (at width : ℕ) → IsClean image.system (configs_of lives)
+    → ReachesCells lives (answer_to id (find (takes_all closed at width) (regions_in image lives id)) start end window access at width)
+access_answers image lives id closed start end window ToRead at width clean = found_answers image lives id closed start end window false at width (find (takes_all closed at width) (regions_in image lives id)) clean refl
+access_answers image lives id closed start end window ToWrite at width clean = found_answers image lives id closed start end window true at width (find (takes_all closed at width) (regions_in image lives id)) clean refl
+access_answers image lives id closed start end window ToFetch at width clean = tt
 
 answer_or_not : (lives : List Live) (b : Bool) (found : Reach) → ReachesCells lives found → ReachesCells lives (cond b found Nothing)
 answer_or_not lives true found all = all
 answer_or_not lives false found all = tt
 
-behind-cells : (image : Image) (lives : List Live) (id : ℕ) (access : Access) (at width : ℕ) → IsClean image.system (configs_of lives) → ReachesCells lives (behind_in image lives id access at width)
+behind-cells : (image : Image) (lives : List Live) (endpoints : List Endpoint) (id : ℕ) (access : Access) (at width : ℕ) → IsClean image.system (configs_of lives) → ReachesCells lives (behind_in image lives endpoints id access at width)
 unfolding answer
-behind-cells image lives id access at width clean =
-    answer_or_not lives (leb (at + width) ADDRESS_END) (answer_to id (find (takes_all (λ p. is_kept image lives id (Physical p)) at width) (regions_in image lives id)) (ecam_start image.system) (ecam_end image.system) access at width)
-    (access_answers image lives id (λ p. is_kept image lives id (Physical p)) (ecam_start image.system) (ecam_end image.system) access at width clean)
+behind-cells image lives endpoints id access at width clean =
+    let closed : ℕ → Bool = λ p. is_kept image lives id (Physical p) in
+    let window = window_found (devices_in image lives endpoints id) at width in
+    answer_or_not lives (leb (at + width) ADDRESS_END) (answer_to id (find (takes_all closed at width) (regions_in image lives id)) (ecam_start image.system) (ecam_end image.system) window access at width)
+    (access_answers image lives id closed (ecam_start image.system) (ecam_end image.system) window access at width clean)
 
 -- ---- what is reached
 
 memory_or_behind : (cells : List Live) (memory behind : Reach) → ReachesCells cells memory → ReachesCells cells behind → ReachesCells cells (or_behind memory behind)
 memory_or_behind cells (Memory places) behind all rest = all
 memory_or_behind cells (Subpage places) behind all rest = all
-memory_or_behind cells (Config at) behind all rest = tt
+memory_or_behind cells (Config bytes) behind all rest = tt
+memory_or_behind cells (Window register) behind all rest = tt
 memory_or_behind cells Nothing behind all rest = rest
 
 pub reach-cells : (image : Image) (f : Facts) (cell at width : ℕ) (access : Access) (found : Reach) → IsSound image f → found ≡ reach image f cell access at width → ReachesCells f.cells found
 reach-cells image f cell at width access found sound is =
     let P : Reach → Type 0 = ReachesCells f.cells in
     subst P (sym is)
-    (memory_or_behind f.cells (reach_by (granted image f cell access) at width) (behind_in image f.cells cell access at width)
+    (memory_or_behind f.cells (reach_by (granted image f cell access) at width) (behind_in image f.cells f.endpoints cell access at width)
     (reach_by-cells f.cells (granted image f cell access) (λ a p e. granted-cells image f cell access a p sound e) at width)
-    (behind-cells image f.cells cell access at width sound.cells.clean))
+    (behind-cells image f.cells f.endpoints cell access at width sound.cells.clean))
 
 write_by : (image : Image) (f : Facts) (cell : ℕ) (act : Act) (found : Reach) → IsSound image f → IsReachOfAct image f cell act found → WritesCells f.cells act found
 write_by image f cell (Read width at got) found sound is = tt

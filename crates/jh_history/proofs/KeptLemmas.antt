@@ -1,21 +1,26 @@
 -- What the slow plain program keeps.
-use Rattle.std.proofs.Common.{◌≡◌, ℕ, ◌+◌, ◌-◌, ◌/◌, ◌%◌, ◌<◌, List, [], ◌∷◌, ◌++◌, Some, ap, sym, ◌∙◌}
+use Rattle.std.proofs.Common.{◌≡◌, ℕ, ◌+◌, ◌-◌, ◌/◌, ◌%◌, ◌<◌, Bool, true, false, refl, List, [], ◌∷◌, ◌++◌, Some, ap, sym, ◌∙◌}
 use Rattle.std.specs.Prelude.{slice_get}
+use Rattle.std.proofs.lemmas.Bool.{both_ways}
 use Rattle.std.proofs.lemmas.List.Sums.{fold-append}
 use Rattle.jh_script.specs.declared.image.Image.{Image}
 use Rattle.jh_history.specs.declared.place.Place.{Place}
 use Rattle.jh_history.specs.declared.written.WrittenByte.{WrittenByte}
 use Rattle.jh_history.specs.declared.entry.Entry.{Entry}
 use Rattle.jh_history.specs.declared.access.Reach.{Reach}
-use Rattle.jh_history.specs.declared.access.Reach.TheVariants.{Memory, Subpage}
+use Rattle.jh_history.specs.declared.access.Reach.TheVariants.{Memory, Subpage, Config, Window, Nothing}
 use Rattle.jh_history.specs.declared.access.Wanted.{Wanted}
 use Rattle.jh_history.specs.Places.{further, places_in_row, over, written}
+use Rattle.jh_cellcfg.specs.declared.config.PciDevice.{PciDevice}
 use Rattle.jh_cellcfg.specs.declared.live.Live.{Live}
-use Rattle.jh_history.specs.Access.{write_of}
-use Rattle.jh_history.specs.Grants.{reach_in}
+use Rattle.jh_ivshmem.specs.declared.endpoint.Endpoint.{Endpoint}
+use Rattle.jh_history.specs.Access.{with_slot_if, slot_of_reach, write_of}
+use Rattle.jh_history.specs.Grants.{devices_of, reach_in}
+use Rattle.jh_history.specs.Devices.{Devices, list_in, devices_in}
 use Rattle.jh_history.specs.Facts.{Facts}
-use Rattle.jh_history.specs.Bytes.{opening_byte, byte_after}
+use Rattle.jh_history.specs.Bytes.{loaded_byte, byte_after}
 use Rattle.jh_history.specs.Cpus.{cpu_after}
+use Rattle.jh_history.specs.Endpoints.{endpoints_put, endpoints_after}
 use Rattle.jh_history.specs.History.{after, cells_after, call_after}
 use Rattle.jh_history.specs.Wants.{reach_of}
 use Rattle.jh_history.specs.PlainView.{PlainView, overwritten, last_byte, Stands}
@@ -24,7 +29,7 @@ use Rattle.jh_history.proofs.PlaceLemmas.{row-next, written-over}
 
 -- one byte more
 pub last_byte-push : (image : Image) (bytes : List WrittenByte) (one : WrittenByte) (q : Place) → last_byte image (bytes ++ one ∷ []) q ≡ overwritten q (last_byte image bytes q) one
-last_byte-push image bytes one q = fold-append (overwritten q) (opening_byte image q) bytes (one ∷ [])
+last_byte-push image bytes one q = fold-append (overwritten q) (loaded_byte image q) bytes (one ∷ [])
 
 -- one byte of a write
 pub over-more : (image : Image) (old new : List WrittenByte) (p at : Place) (byte k n rest : ℕ) (places : List Place) (q : Place) → k < n → at ≡ further p k → byte ≡ rest % 256 → new ≡ old ++ record { place = at; byte = byte } ∷ []
@@ -40,38 +45,77 @@ pub over-runs : (image : Image) (old middle new : List WrittenByte) (low high pl
 over-runs image old middle new low high places value rest last q is first second =
     second [] ∙ first (high ++ []) ∙ ap (λ (ps : List Place). over (low ++ ps) value q (last_byte image old q)) (append-nil high) ∙ ap (λ (ps : List Place). over ps value q (last_byte image old q)) (sym is)
 
+abbrev pub is_device : Reach → Bool
+is_device (Config bytes) = true
+is_device (Window register) = true
+is_device found = false
+
+no-put : (devices : Devices) (found : Reach) (value : ℕ) → is_device found ≡ false → devices.endpoints ≡ endpoints_put devices found value
+no-put devices (Memory places) value is = refl
+no-put devices (Subpage places) value is = refl
+no-put devices (Config bytes) value is = absurd (both_ways true is refl)
+no-put devices (Window register) value is = absurd (both_ways true is refl)
+no-put devices Nothing value is = refl
+
 -- a write where it reaches memory, or a subpage region
 written_at : (i : Image) (f : Facts) (places : List Place) (value : ℕ) (q : Place) (old : PlainView) → Stands old i f → over places value q (last_byte i old.bytes q) ≡ written f.byte places value q
 written_at i f places value q old stands = ap (over places value q) (sym (stands.bytes q)) ∙ sym (written-over f.byte places value q)
 
 pub kept-write : (i : Image) (f : Facts) (cell : ℕ) (wanted : Wanted) (found : Reach) (places : List Place) (value : ℕ) (q : Place) (old : PlainView) → Stands old i f → found ≡ reach_of i f cell wanted → found ≡ Memory places
-    → over places value q (last_byte i old.bytes q) ≡ write_of f.byte (reach_of i f cell wanted) value q
+    → over places value q (last_byte i old.bytes q) ≡ write_of f.byte (devices_of i f cell) (reach_of i f cell wanted) value q
 kept-write i f cell wanted found places value q old stands is_found is =
-    written_at i f places value q old stands ∙ ap (λ (r : Reach). write_of f.byte r value q) (sym is ∙ is_found)
+    written_at i f places value q old stands ∙ ap (λ (r : Reach). write_of f.byte (devices_of i f cell) r value q) (sym is ∙ is_found)
 
 pub kept-write_subpage : (i : Image) (f : Facts) (cell : ℕ) (wanted : Wanted) (found : Reach) (places : List Place) (value : ℕ) (q : Place) (old : PlainView) → Stands old i f → found ≡ reach_of i f cell wanted → found ≡ Subpage places
-    → over places value q (last_byte i old.bytes q) ≡ write_of f.byte (reach_of i f cell wanted) value q
+    → over places value q (last_byte i old.bytes q) ≡ write_of f.byte (devices_of i f cell) (reach_of i f cell wanted) value q
 kept-write_subpage i f cell wanted found places value q old stands is_found is =
-    written_at i f places value q old stands ∙ ap (λ (r : Reach). write_of f.byte r value q) (sym is ∙ is_found)
+    written_at i f places value q old stands ∙ ap (λ (r : Reach). write_of f.byte (devices_of i f cell) r value q) (sym is ∙ is_found)
 
 -- what an access reaches, by the image and the cells that are kept
-pub reach-kept : (i image : Image) (f : Facts) (cells : List Live) (cell : ℕ) (wanted : Wanted) (found : Reach) → image ≡ i → cells ≡ f.cells
-    → found ≡ reach_in image cells cell wanted.access wanted.at wanted.width → found ≡ reach_of i f cell wanted
-reach-kept i image f cells cell wanted found same lives is =
+pub reach-kept : (i image : Image) (f : Facts) (cells : List Live) (endpoints : List Endpoint) (cell : ℕ) (wanted : Wanted) (found : Reach) → image ≡ i → cells ≡ f.cells → endpoints ≡ f.endpoints
+    → found ≡ reach_in image cells endpoints cell wanted.access wanted.at wanted.width → found ≡ reach_of i f cell wanted
+reach-kept i image f cells endpoints cell wanted found same lives ends is =
     is
-    ∙ ap (λ (x : Image). reach_in x cells cell wanted.access wanted.at wanted.width) same
-    ∙ ap (λ (l : List Live). reach_in i l cell wanted.access wanted.at wanted.width) lives
+    ∙ ap (λ (x : Image). reach_in x cells endpoints cell wanted.access wanted.at wanted.width) same
+    ∙ ap (λ (l : List Live). reach_in i l endpoints cell wanted.access wanted.at wanted.width) lives
+    ∙ ap (λ (es : List Endpoint). reach_in i f.cells es cell wanted.access wanted.at wanted.width) ends
+
+-- a write where it reaches memory leaves the endpoints, and so does one that reaches nothing
+pub others-put : (i : Image) (f : Facts) (cell : ℕ) (wanted : Wanted) (found : Reach) (value : ℕ) → found ≡ reach_of i f cell wanted → is_device found ≡ false
+    → f.endpoints ≡ endpoints_put (devices_of i f cell) (reach_of i f cell wanted) value
+others-put i f cell wanted found value is other = no-put (devices_of i f cell) found value other ∙ ap (λ (r : Reach). endpoints_put (devices_of i f cell) r value) is
+
+-- the devices of a cell, by what is kept
+abbrev devices_by : ℕ → List PciDevice → List Endpoint → Devices
+devices_by cell list endpoints = record { cell = cell; list = list; endpoints = endpoints }
+
+pub devices-kept : (i image : Image) (lives cells : List Live) (ends endpoints : List Endpoint) (cell : ℕ) (list : List PciDevice) → image ≡ i → cells ≡ lives → endpoints ≡ ends
+    → list ≡ list_in image cells cell → devices_by cell list endpoints ≡ devices_in i lives ends cell
+devices-kept i image lives cells ends endpoints cell list same alive there is =
+    ap (λ (l : List PciDevice). devices_by cell l endpoints) is
+    ∙ ap (λ (x : Image). devices_in x cells endpoints cell) same
+    ∙ ap (λ (l : List Live). devices_in i l endpoints cell) alive
+    ∙ ap (λ (es : List Endpoint). devices_in i lives es cell) there
+
+-- a write where it reaches a device
+pub device-write : (byte : Place → ℕ) (devices : Devices) (found : Reach) (value : ℕ) (q : Place) → is_device found ≡ true → with_slot_if (slot_of_reach devices found value) byte q ≡ write_of byte devices found value q
+device-write byte devices (Memory places) value q is = absurd (both_ways true (sym is) refl)
+device-write byte devices (Subpage places) value q is = absurd (both_ways true (sym is) refl)
+device-write byte devices (Config bytes) value q is = refl
+device-write byte devices (Window register) value q is = refl
+device-write byte devices Nothing value q is = absurd (both_ways true (sym is) refl)
 
 -- one entry more
 pub Stands-after : (i : Image) (f : Facts) (entry : Entry) (old new : PlainView) → Stands old i f → new.image ≡ old.image
-    → new.cells ≡ cells_after f entry → new.call ≡ call_after i f entry
+    → new.cells ≡ cells_after f entry → new.endpoints ≡ endpoints_after i f entry → new.call ≡ call_after i f entry
     → ((k : ℕ) → k < 16 → slice_get new.cpus k ≡ Some (cpu_after i f entry k))
     → ((q : Place) → last_byte i new.bytes q ≡ byte_after i f entry q)
     → Stands new i (after i f entry)
 unfolding after
-Stands-after i f entry old new stands same cells call cpus bytes = record {
+Stands-after i f entry old new stands same cells endpoints call cpus bytes = record {
   same = stands.same ∙ sym same;
   cells = sym cells;
+  endpoints = sym endpoints;
   call = sym call;
   cpus = cpus;
   bytes = λ q. sym (bytes q);

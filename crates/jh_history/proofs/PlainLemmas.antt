@@ -13,7 +13,7 @@ use Rattle.jh_script.specs.declared.op.Op.TheVariants.{Read, Write, Fetch, Await
 use Rattle.jh_history.specs.declared.access.Access.TheVariants.{Read as ToRead}
 use Rattle.jh_history.specs.declared.entry.Entry.{Entry}
 use Rattle.jh_history.specs.declared.entry.Act.{Act}
-use Rattle.jh_history.specs.declared.entry.Act.TheVariants.{Await as AwaitAct, Stop, Hvc as HvcAct, Begin, Decide, Settle, Commit, Noted}
+use Rattle.jh_history.specs.declared.entry.Act.TheVariants.{Await as AwaitAct, Irq as IrqAct, Stop, Hvc as HvcAct, Begin, Decide, Settle, Commit, Noted}
 use Rattle.jh_history.specs.declared.entry.Settled.{Settled}
 use Rattle.jh_history.specs.declared.entry.Heard.{Heard}
 use Rattle.jh_history.specs.declared.call.OpenCall.{OpenCall}
@@ -26,14 +26,13 @@ use Rattle.jh_check.specs.Refusals.{any_below}
 use Rattle.jh_history.specs.Hypercalls.{seen_of}
 use Rattle.jh_history.specs.Phases.{keeps_decide, keeps_commit, decision, settled_of, heard_of, phase_act}
 use Rattle.jh_cpu.specs.declared.cpu.Cpu.{Cpu}
-use Rattle.jh_history.specs.Access.{read_of}
+use Rattle.jh_ivshmem.specs.Links.{pending_of}
 use Rattle.jh_cellcfg.specs.Cells.{name_of}
 use Rattle.jh_history.specs.Lives.{is_on_board, program_of, cell_in, ops_in, op_at}
 use Rattle.jh_history.specs.Facts.{Facts}
 use Rattle.jh_history.specs.History.{start, after}
-use Rattle.jh_history.specs.Grants.{reach}
 use Rattle.jh_history.specs.Wants.{pending_op, goes_on}
-use Rattle.jh_history.specs.Due.{due_at, call_of, is_idle_but, caller_act, state_act, next_act, act_of, await_of, entry_by, IsLegal, IsLegalFrom}
+use Rattle.jh_history.specs.Due.{due_at, call_of, is_idle_but, caller_act, state_act, next_act, act_of, await_of, got_by, entry_by, IsLegal, IsLegalFrom}
 use Rattle.jh_script.specs.Operations.{IsPlain}
 use Rattle.jh_history.specs.Admitted.{IsAdmitted, IsPlainAct, IsPlainEntry}
 use Rattle.jh_history.proofs.AdmittedLemmas.{program_of-plain, width_le}
@@ -60,6 +59,10 @@ plain_await : (width at value : ℕ) (o : Option ℕ) → IfSome (await_of width
 plain_await width at value None = tt
 plain_await width at value (Some got) = plain_if (eqb got value) (Some (AwaitAct width at value true)) tt
 
+plain_irq : (o : Option (ℕ × ℕ)) → IfSome (option_map (λ (next : ℕ × ℕ). IrqAct next.0 next.1) o) IsPlainAct
+plain_irq None = tt
+plain_irq (Some next) = tt
+
 plain_hvc : (code a b : ℕ) (answer : ℤ) (begins : Bool) → IsPlainAct (cond begins (Begin code a b) (HvcAct code a b answer))
 plain_hvc code a b answer true = tt
 plain_hvc code a b answer false = tt
@@ -68,8 +71,8 @@ plain_act : (image : Image) (f : Facts) (cell : ℕ) (op : Op) → IsPlain op �
 plain_act image f cell (Read width at) plain = width_le width plain
 plain_act image f cell (Write width at value) plain = width_le width plain.0
 plain_act image f cell (Fetch at) plain = tt
-plain_act image f cell (Await width at value) plain = plain_await width at value (read_of f.byte width (reach image f cell ToRead at width))
-plain_act image f cell Irq plain = tt
+plain_act image f cell (Await width at value) plain = plain_await width at value (got_by image f cell ToRead at width)
+plain_act image f cell Irq plain = plain_irq (pending_of cell f.endpoints)
 plain_act image f cell (Hvc code a b) plain = plain_hvc code a b (answer_of (decoded code a b) (seen_of image f cell (decoded code a b))) ((eqb cell image.system.root.id) && is_management (decoded code a b))
 
 plain_op : (image : Image) (f : Facts) (cell : ℕ) (o : Option Op) → IfSome o IsPlain → IfSome (option_and_then (act_of image f cell) o) IsPlainAct

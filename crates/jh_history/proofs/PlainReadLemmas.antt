@@ -5,7 +5,7 @@ use Rattle.jh_cellcfg.specs.declared.live.Live.{Live}
 use Rattle.jh_script.specs.declared.image.Image.{Image}
 use Rattle.jh_history.specs.declared.place.Place.{Place}
 use Rattle.jh_history.specs.declared.access.Access.TheVariants.{Read}
-use Rattle.jh_history.specs.Access.{reach_by, read_of}
+use Rattle.jh_history.specs.Access.{reach_by, memory_read}
 use Rattle.jh_history.specs.Facts.{Facts}
 use Rattle.jh_history.specs.Grants.{granted_in, granted, is_kept}
 use Rattle.jh_history.specs.Lives.{regions_in}
@@ -16,7 +16,7 @@ use Rattle.jh_history.proofs.ReadLemmas.{read-one, granted-beyond}
 
 -- the byte that root reads at the address, where it may
 abbrev pub read_in : PlainView → ℕ → Option ℕ
-read_in p at = read_of (last_byte p.image p.bytes) 1 (reach_by (granted_in p.image p.cells p.image.system.root.id Read) at 1)
+read_in p at = memory_read (last_byte p.image p.bytes) (reach_by (granted_in p.image p.cells p.image.system.root.id Read) at 1)
 
 pub plain-reads : (p : PlainView) (i : Image) (f : Facts) (at : ℕ) → IsFit p.image p.cells → Stands p i f → read_in p at ≡ option_map f.byte (granted i f i.system.root.id Read at)
 plain-reads p i f at fit stands =

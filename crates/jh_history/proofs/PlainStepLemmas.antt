@@ -113,7 +113,7 @@ few_by image f entry (Some o) e sound few names is =
     subst (λ (lives : List Live). length lives ≤ 15) (after-cells image f entry)
     (few-sound image (after image f entry) p.0 sound open_call (subst (λ (lives : List Live). Names (configs_of lives)) (sym (after-cells image f entry)) names))
 
-commit-or : (act : Act) → (act ≡ Commit) ⊎ (act ≡ Commit → ⊥)
+pub commit-or : (act : Act) → (act ≡ Commit) ⊎ (act ≡ Commit → ⊥)
 commit-or (Read width at got) = inr (λ e. not_commit (Read width at got) e refl)
 commit-or (Write width at value ok) = inr (λ e. not_commit (Write width at value ok) e refl)
 commit-or (Fetch at got) = inr (λ e. not_commit (Fetch at got) e refl)

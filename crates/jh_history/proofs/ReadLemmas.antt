@@ -6,7 +6,7 @@ use Rattle.jh_cellcfg.specs.Faults.{header_fault, header_size}
 use Rattle.jh_script.specs.declared.image.Image.{Image}
 use Rattle.jh_history.specs.declared.place.Place.{Place}
 use Rattle.jh_history.specs.declared.access.Access.TheVariants.{Read}
-use Rattle.jh_history.specs.Access.{gives, place_in_cell, region_of, place_of, places_from, memory_or_nothing, reach_by, read_of}
+use Rattle.jh_history.specs.Access.{gives, place_in_cell, region_of, place_of, places_from, memory_or_nothing, reach_by, memory_read}
 use Rattle.jh_history.specs.Facts.{Facts}
 use Rattle.jh_history.specs.Grants.{unless, granted_by, granted}
 use Rattle.jh_cellcfg.specs.declared.fault.ConfigFault.{ConfigFault}
@@ -127,15 +127,15 @@ granted-beyond id regions kept at within le = beyond_by id regions kept at (regi
 spelled-one : (b : ℕ) → b + 256 * 0 ≡ b
 spelled-one b = omega arith
 
-one_read : (f : Place → ℕ) (o : Option Place) → read_of f 1 (memory_or_nothing (option_and_then (λ (p : Place). option_map (λ (ps : List Place). p ∷ ps) (Some [])) o)) ≡ option_map f o
+one_read : (f : Place → ℕ) (o : Option Place) → memory_read f (memory_or_nothing (option_and_then (λ (p : Place). option_map (λ (ps : List Place). p ∷ ps) (Some [])) o)) ≡ option_map f o
 one_read f None = refl
 one_read f (Some p) = ap Some (spelled-one (f p))
 
 -- what an access of one byte reads
-pub read-one : (f : Place → ℕ) (place : ℕ → Option Place) (at : ℕ) → ((a : ℕ) → ADDRESS_END ≤ a → place a ≡ None) → read_of f 1 (reach_by place at 1) ≡ option_map f (place at)
+pub read-one : (f : Place → ℕ) (place : ℕ → Option Place) (at : ℕ) → ((a : ℕ) → ADDRESS_END ≤ a → place a ≡ None) → memory_read f (reach_by place at 1) ≡ option_map f (place at)
 read-one f place at beyond = elim (cases_lt at ADDRESS_END) [
-  | inl lt ↦ ap (read_of f 1) (reach_by-within place at 1 (omega arith)) ∙ one_read f (place at)
-  | inr le ↦ ap (read_of f 1) (reach_by-beyond place at 1 (omega arith)) ∙ sym (ap (option_map f) (beyond at le))
+  | inl lt ↦ ap (memory_read f) (reach_by-within place at 1 (omega arith)) ∙ one_read f (place at)
+  | inr le ↦ ap (memory_read f) (reach_by-beyond place at 1 (omega arith)) ∙ sym (ap (option_map f) (beyond at le))
 ]
 
 -- how many they are
@@ -174,5 +174,5 @@ one-place place at ps e = elim (cases_lt at ADDRESS_END) [
 ]
 
 -- nothing is read past the addresses
-pub read-beyond : (f : Place → ℕ) (place : ℕ → Option Place) (at : ℕ) → ADDRESS_END ≤ at → read_of f 1 (reach_by place at 1) ≡ None
-read-beyond f place at le = ap (read_of f 1) (reach_by-beyond place at 1 (omega arith))
+pub read-beyond : (f : Place → ℕ) (place : ℕ → Option Place) (at : ℕ) → ADDRESS_END ≤ at → memory_read f (reach_by place at 1) ≡ None
+read-beyond f place at le = ap (memory_read f) (reach_by-beyond place at 1 (omega arith))

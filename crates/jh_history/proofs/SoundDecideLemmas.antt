@@ -5,7 +5,7 @@ use Rattle.std.specs.List.{list_any}
 use Rattle.std.proofs.lemmas.Bool.{both_ways, and_parts, cond_both, eqb-true, eq-eqb, ne_eqb, cases_lt, not-true, false_from_ne_true}
 use Rattle.std.proofs.lemmas.Option.{none-some}
 use Rattle.jh_num.proofs.Lists.{IsFound-from_find, Contains-map}
-use Rattle.jh_num.specs.declared.error.TheConstants.{EPERM, ENOSYS, ENOENT, EINVAL}
+use Rattle.jh_num.specs.declared.error.TheConstants.{EPERM, ENOENT, EINVAL}
 use Rattle.jh_cellcfg.specs.declared.config.CellConfig.{CellConfig}
 use Rattle.jh_cellcfg.specs.declared.live.Live.{Live}
 use Rattle.jh_cellcfg.specs.Lives.{has_id}
@@ -34,7 +34,7 @@ use Rattle.jh_history.specs.Calls.{is_named, decided, after_settle}
 use Rattle.jh_history.specs.Configs.{ReadCell, Reads, Refuses, read_at, config_read}
 use Rattle.jh_history.specs.Cpus.{is_running, settled, is_agreed}
 use Rattle.jh_history.specs.History.{coming_by}
-use Rattle.jh_history.specs.Phases.{keeps_decide, may_give, configs_of, is_locked, is_other_locked, is_built_cell, or_unbuilt, unless_refused, creation_by, creation_of, refused_by, id_refusal, first_refusal, decision}
+use Rattle.jh_history.specs.Phases.{keeps_decide, may_give, configs_of, is_locked, is_other_locked, unless_refused, creation_by, creation_of, refused_by, id_refusal, first_refusal, decision}
 use Rattle.jh_history.specs.Sound.{AreSoundCells, AreOwned, IsCalm, IsHalted, IsAsked, IsHalting, HasCome, GoesOn, IsCaller, IsAboutLive, MayCome, IsInPhase, IsOpen}
 use Rattle.jh_history.proofs.SoundCpusLemmas.{owned-kept, named-same, root-unnamed, running-mode}
 
@@ -127,20 +127,17 @@ pub record IsComing (image : Image) (f : Facts) (caller : ℕ) (read : ReadCell)
   pub reads : read ≡ Reads config
   pub good : refusal_of image.system (configs_of f.cells) config (may_give image f caller) (pages_of image.system.root.memory_regions (configs_of f.cells ++ config ∷ [])) (pool_pages image.system) ≡ None
 
-coming_at : (config : CellConfig) (built : Bool) (o p : Option ℤ) → refused_by (unless_refused config (cond built o (or_unbuilt p))) ≡ None → o ≡ None
-coming_at config true None p h = refl
-coming_at config true (Some number) p h = absurd (none-some number (sym h))
-coming_at config false o None h = absurd (none-some ENOSYS (sym h))
-coming_at config false o (Some number) h = absurd (none-some number (sym h))
+coming_at : (config : CellConfig) (o : Option ℤ) → refused_by (unless_refused config o) ≡ None → o ≡ None
+coming_at config None h = refl
+coming_at config (Some number) h = absurd (none-some number (sym h))
 
 coming_read : (image : Image) (f : Facts) (caller : ℕ) (read : ReadCell) → refused_by (creation_by image f caller read) ≡ None → IsComing image f caller read
 coming_read image f caller (Refuses number) h = absurd (none-some number (sym h))
 coming_read image f caller (Reads config) h = record {
   config = config;
   reads = refl;
-  good = coming_at config (is_built_cell config)
-      (refusal_of image.system (configs_of f.cells) config (may_give image f caller) (pages_of image.system.root.memory_regions (configs_of f.cells ++ config ∷ [])) (pool_pages image.system))
-      (refusal_of image.system (configs_of f.cells) config (may_give image f caller) 0 (pool_pages image.system)) h;
+  good = coming_at config
+      (refusal_of image.system (configs_of f.cells) config (may_give image f caller) (pages_of image.system.root.memory_regions (configs_of f.cells ++ config ∷ [])) (pool_pages image.system)) h;
 }
 
 coming_by_lock : (image : Image) (f : Facts) (caller at : ℕ) (b : Bool) → refused_by (cond b (Refused EPERM) (creation_by image f caller (read_at image f at))) ≡ None → IsComing image f caller (read_at image f at)

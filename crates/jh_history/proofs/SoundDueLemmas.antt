@@ -5,6 +5,7 @@ use Rattle.std.specs.Option.{option_map_or}
 use Rattle.std.proofs.lemmas.Bool.{both_ways, and_parts, cond_both, eqb-true, eq-eqb}
 use Rattle.std.proofs.lemmas.Option.{none-some, same_Some}
 use Rattle.jh_cpu.specs.declared.cpu.Cpu.{Cpu}
+use Rattle.jh_ivshmem.specs.Links.{pending_of}
 use Rattle.jh_call.specs.Calls.{decoded, is_management}
 use Rattle.jh_call.specs.Answers.{answer_of}
 use Rattle.jh_script.specs.declared.image.Image.{Image}
@@ -15,14 +16,12 @@ use Rattle.jh_history.specs.declared.call.OpenCall.{OpenCall}
 use Rattle.jh_history.specs.declared.entry.Entry.{Entry}
 use Rattle.jh_history.specs.declared.entry.Act.{Act}
 use Rattle.jh_history.specs.declared.entry.Act.TheVariants.{Read, Write, Fetch, Await, Irq, Hvc, Begin, Stop, Decide, Settle, Commit, Note, Noted, Finish}
-use Rattle.jh_history.specs.Access.{read_of}
 use Rattle.jh_history.specs.Facts.{Facts}
 use Rattle.jh_history.specs.Lives.{is_on_board, op_at}
-use Rattle.jh_history.specs.Grants.{reach}
 use Rattle.jh_history.specs.Hypercalls.{seen_of}
 use Rattle.jh_history.specs.Phases.{phase_act}
 use Rattle.jh_history.specs.Wants.{goes_on, pending_op}
-use Rattle.jh_history.specs.Due.{due_at, entry_of, entry_by, next_act, state_act, act_of, await_of, caller_act, is_idle_but}
+use Rattle.jh_history.specs.Due.{due_at, entry_of, entry_by, next_act, state_act, act_of, await_of, got_by, caller_act, is_idle_but}
 use Rattle.jh_history.specs.Sound.{IsCaller}
 
 -- ---- the entry
@@ -77,12 +76,16 @@ await_comes image cell op width at value None = tt
 await_comes image cell op width at value (Some got) =
     cond_both (eqb got value) (Some (Await width at value true)) None (λ (o : Option Act). IfSome o (Comes image cell op)) (λ _. tt) (λ _. tt)
 
+irq_comes : (image : Image) (cell : ℕ) (o : Option (ℕ × ℕ)) → IfSome (option_map (λ (next : ℕ × ℕ). Irq next.0 next.1) o) (Comes image cell IrqOp)
+irq_comes image cell None = tt
+irq_comes image cell (Some next) = tt
+
 act_comes : (image : Image) (f : Facts) (cell : ℕ) (op : Op) → IfSome (act_of image f cell op) (Comes image cell op)
 act_comes image f cell (ReadOp width at) = tt
 act_comes image f cell (WriteOp width at value) = tt
 act_comes image f cell (FetchOp at) = tt
-act_comes image f cell (AwaitOp width at value) = await_comes image cell (AwaitOp width at value) width at value (read_of f.byte width (reach image f cell ToRead at width))
-act_comes image f cell IrqOp = tt
+act_comes image f cell (AwaitOp width at value) = await_comes image cell (AwaitOp width at value) width at value (got_by image f cell ToRead at width)
+act_comes image f cell IrqOp = irq_comes image cell (pending_of cell f.endpoints)
 act_comes image f cell (HvcOp code a b) =
     cond_both (eqb cell image.system.root.id && is_management (decoded code a b)) (Begin code a b)
     (Hvc code a b (answer_of (decoded code a b) (seen_of image f cell (decoded code a b))))

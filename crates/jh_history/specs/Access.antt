@@ -1,16 +1,23 @@
 -- What an access reaches, and what a read and a write there mean.
-use Rattle.std.specs.Prelude.{◌≡◌, ℕ, All, zero, suc, ◌+◌, ◌-◌, ◌^◌, Bool, true, false, ◌&&◌, nat_le, if◌then◌else◌, List, [], ◌∷◌, map, find, Option, Some, None, option_map, option_and_then}
+use Rattle.std.specs.Prelude.{◌≡◌, ℕ, zero, suc, ◌+◌, ◌-◌, ◌%◌, ◌^◌, Bool, true, false, ◌&&◌, nat_le, if◌then◌else◌, List, [], ◌∷◌, map, find, Option, Some, None, option_map, option_and_then}
+use Rattle.std.specs.Option.{option_map_or}
 use Rattle.jh_num.specs.declared.address.TheConstants.{ADDRESS_END}
 use Rattle.jh_num.specs.Memory.{spelled}
 use Rattle.jh_cellcfg.specs.declared.region.Region.{Region}
 use Rattle.jh_cellcfg.specs.Regions.{has_flags, has_address, is_page_mapped, is_comm, place_in, byte_in}
+use Rattle.jh_vpci.specs.Words.{read_of as config_read}
+use Rattle.jh_ivshmem.specs.declared.endpoint.Endpoint.{Endpoint}
+use Rattle.jh_ivshmem.specs.declared.spec.Slot.{Slot}
+use Rattle.jh_ivshmem.specs.Registers.{register_of}
+use Rattle.jh_ivshmem.specs.Links.{endpoint_at, slot_written}
 use Rattle.jh_history.specs.declared.place.Place.{Place}
 use Rattle.jh_history.specs.declared.place.Place.TheVariants.{Physical, Page}
 use Rattle.jh_history.specs.declared.access.Access.{Access}
 use Rattle.jh_history.specs.declared.access.Access.TheVariants.{Read, Write, Fetch}
 use Rattle.jh_history.specs.declared.access.Reach.{Reach}
-use Rattle.jh_history.specs.declared.access.Reach.TheVariants.{Memory, Subpage, Config, Nothing}
-use Rattle.jh_history.specs.Places.{is_physical, written}
+use Rattle.jh_history.specs.declared.access.Reach.TheVariants.{Memory, Subpage, Config, Window, Nothing}
+use Rattle.jh_history.specs.Devices.{Devices, InConfig, InWindow, function_at}
+use Rattle.jh_history.specs.Places.{places_in_row, written}
 
 -- the flag of the right that the access needs
 abbrev pub right_of : Access → ℕ
@@ -19,7 +26,7 @@ right_of Write = 0x2
 right_of Fetch = 0x4
 
 -- the region is page-mapped and gives the address with the right: memory is what such regions give. Subpage
--- regions and the ECAM window answer accesses by cases of their own, behind memory
+-- regions, the ECAM window and the windows of devices answer accesses by cases of their own, behind memory
 abbrev pub gives : Access → ℕ → Region → Bool
 gives access at region = has_address region at && is_page_mapped region && has_flags (right_of access) region
 
@@ -55,34 +62,65 @@ reach_by place at width = if nat_le (at + width) ADDRESS_END then memory_or_noth
 abbrev pub or_behind : Reach → Reach → Reach
 or_behind (Memory places) behind = Memory places
 or_behind (Subpage places) behind = Subpage places
-or_behind (Config at) behind = Config at
+or_behind (Config bytes) behind = Config bytes
+or_behind (Window register) behind = Window register
 or_behind Nothing behind = behind
 
--- the number that an access of so many bytes reads where it reaches, from these bytes of memory. No function
--- is present in configuration space yet, so that a read there tells all ones
-abbrev pub read_of : (Place → ℕ) → ℕ → Reach → Option ℕ
-read_of byte width (Memory places) = Some (spelled (map byte places))
-read_of byte width (Subpage places) = Some (spelled (map byte places))
-read_of byte width (Config at) = Some (256 ^ width - 1)
-read_of byte width Nothing = None
+-- the number that an access reads of memory, where it reaches some
+abbrev pub memory_read : (Place → ℕ) → Reach → Option ℕ
+memory_read byte (Memory places) = Some (spelled (map byte places))
+memory_read byte _ = None
+
+-- what the cell reads of configuration space: of a function that is present its bytes, of an absent one all ones
+abbrev pub config_told : Devices → InConfig → ℕ
+config_told devices bytes =
+    option_map_or (λ (e : Endpoint). config_read e.space (bytes.at % 4096) bytes.width) (function_at devices bytes.at) (256 ^ bytes.width - 1)
+
+-- what it reads of a register of its device
+abbrev pub register_told : Devices → InWindow → ℕ
+register_told devices register =
+    option_map_or (λ (e : Endpoint). register_of e register.bar register.at) (endpoint_at devices.cell register.device devices.endpoints) 0
+
+-- the number that an access of a cell with these devices reads where it reaches, from these bytes of memory
+abbrev pub read_of : (Place → ℕ) → Devices → Reach → Option ℕ
+read_of byte devices (Memory places) = Some (spelled (map byte places))
+read_of byte devices (Subpage places) = Some (spelled (map byte places))
+read_of byte devices (Config bytes) = Some (config_told devices bytes)
+read_of byte devices (Window register) = Some (register_told devices register)
+read_of byte devices Nothing = None
 
 -- the access reaches something
 abbrev pub is_reached : Reach → Bool
 is_reached (Memory places) = true
 is_reached (Subpage places) = true
-is_reached (Config at) = true
+is_reached (Config bytes) = true
+is_reached (Window register) = true
 is_reached Nothing = false
 
--- what is reached is physical memory alone, where it is memory
-abbrev pub IsPhysical : Reach → Type 0
-IsPhysical (Memory places) = All (λ (p : Place). is_physical p ≡ true) places
-IsPhysical (Subpage places) = All (λ (p : Place). is_physical p ≡ true) places
-IsPhysical (Config at) = Unit {0}
-IsPhysical Nothing = Unit {0}
+-- the bytes, with a word of a state table written
+abbrev pub with_slot : Slot → (Place → ℕ) → Place → ℕ
+with_slot slot byte = written byte (places_in_row (Physical slot.place) 4) slot.value
 
--- the bytes after the value is written where it reaches: a write in configuration space changes none
-abbrev pub write_of : (Place → ℕ) → Reach → ℕ → Place → ℕ
-write_of byte (Memory places) value = written byte places value
-write_of byte (Subpage places) value = written byte places value
-write_of byte (Config at) value = byte
-write_of byte Nothing value = byte
+abbrev pub with_slot_if : Option Slot → (Place → ℕ) → Place → ℕ
+with_slot_if None byte = byte
+with_slot_if (Some slot) byte = with_slot slot byte
+
+-- the word of the state table that a write of the value to the register writes: its endpoint's, where the state register
+-- gets another value
+abbrev pub slot_put : Devices → InWindow → ℕ → Option Slot
+slot_put devices register value =
+    option_and_then (λ (e : Endpoint). slot_written e register.bar register.at (value % 2 ^ 32)) (endpoint_at devices.cell register.device devices.endpoints)
+
+-- that which comes with a write of the value where it reaches
+abbrev pub slot_of_reach : Devices → Reach → ℕ → Option Slot
+slot_of_reach devices (Window register) value = slot_put devices register value
+slot_of_reach devices _ value = None
+
+-- the bytes after a cell with these devices writes the value where it reaches: a write in configuration space changes
+-- none, and one of a register at most a word of a state table
+abbrev pub write_of : (Place → ℕ) → Devices → Reach → ℕ → Place → ℕ
+write_of byte devices (Memory places) value = written byte places value
+write_of byte devices (Subpage places) value = written byte places value
+write_of byte devices (Config bytes) value = byte
+write_of byte devices (Window register) value = with_slot_if (slot_put devices register value) byte
+write_of byte devices Nothing value = byte

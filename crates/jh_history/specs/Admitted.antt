@@ -1,8 +1,7 @@
 -- What an image is asked for before it is opened.
-use Rattle.std.specs.Prelude.{◌≡◌, ◌≢◌, ◌≤◌, ◌+◌, ◌/◌, ℕ, Bool, ◌&&◌, nat_lt, nat_le, [], length, All, AllPairs, IsTrue}
+use Rattle.std.specs.Prelude.{◌≡◌, ◌≤◌, ◌+◌, ◌/◌, ℕ, Bool, ◌&&◌, nat_lt, nat_le, [], length, All, AllPairs, IsTrue}
 use Rattle.jh_num.specs.declared.address.TheConstants.{ADDRESS_END, PAGE_SIZE}
 use Rattle.jh_cellcfg.specs.declared.region.Region.{Region}
-use Rattle.jh_cellcfg.specs.declared.config.PciDevice.{PciDevice}
 use Rattle.jh_cellcfg.specs.declared.config.SystemConfig.{SystemConfig}
 use Rattle.jh_cellcfg.specs.Regions.{has_place}
 use Rattle.jh_check.specs.Findings.{findings}
@@ -67,10 +66,6 @@ IsNoCall _ = Unit {0}
 -- no program of the image has a hypercall
 abbrev pub HasNoCall : Image → Type 0
 HasNoCall image = All (λ (p : Program). All IsNoCall p.ops) image.programs
-
--- the image has nothing that isn't built yet: no ivshmem device of root
-pub record IsBuilt (image : Image) : Type 0 where
-  pub devices : All (λ (d : PciDevice). d.kind ≢ 3) image.system.root.pci_devices
 
 -- the act's width is at most that of a register
 abbrev pub IsPlainAct : Act → Type 0

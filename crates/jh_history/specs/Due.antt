@@ -3,18 +3,21 @@ use Rattle.std.specs.Prelude.{◌≡◌, ℕ, true, false, ◌==◌, if◌then�
 use Rattle.std.specs.Option.{option_map_or}
 use Rattle.jh_check.specs.Refusals.{any_below}
 use Rattle.jh_cpu.specs.declared.cpu.Cpu.{Cpu}
+use Rattle.jh_ivshmem.specs.declared.endpoint.Endpoint.{Endpoint}
+use Rattle.jh_ivshmem.specs.Links.{pending_of}
 use Rattle.jh_script.specs.declared.image.Image.{Image}
 use Rattle.jh_script.specs.declared.op.Op.{Op}
 use Rattle.jh_script.specs.declared.op.Op.TheVariants.{Read as ReadOp, Write as WriteOp, Fetch as FetchOp, Await as AwaitOp, Irq as IrqOp, Hvc as HvcOp}
+use Rattle.jh_history.specs.declared.access.Access.{Access}
 use Rattle.jh_history.specs.declared.access.Access.TheVariants.{Read as ToRead, Write as ToWrite, Fetch as ToFetch}
 use Rattle.jh_history.specs.declared.call.OpenCall.{OpenCall}
 use Rattle.jh_history.specs.declared.entry.Entry.{Entry}
 use Rattle.jh_history.specs.declared.entry.Act.{Act}
-use Rattle.jh_history.specs.declared.entry.Act.TheVariants.{Read, Write, Fetch, Await, Stop}
+use Rattle.jh_history.specs.declared.entry.Act.TheVariants.{Read, Write, Fetch, Await, Irq, Stop}
 use Rattle.jh_history.specs.Access.{read_of, is_reached}
 use Rattle.jh_history.specs.Facts.{Facts}
 use Rattle.jh_history.specs.Lives.{is_on_board}
-use Rattle.jh_history.specs.Grants.{reach}
+use Rattle.jh_history.specs.Grants.{reach, devices_of}
 use Rattle.jh_history.specs.Phases.{phase_act}
 use Rattle.jh_history.specs.Hypercalls.{hvc_act}
 use Rattle.jh_history.specs.Wants.{pending_op, goes_on}
@@ -25,14 +28,22 @@ abbrev pub await_of : ℕ → ℕ → ℕ → Option ℕ → Option Act
 await_of width at value None = Some (Await width at value false)
 await_of width at value (Some got) = if got == value then Some (Await width at value true) else None
 
--- what the cell's operation comes to, where it is due. No device has a pending vector yet, so an
--- interrupt is never due
+-- an interrupt is due where a vector of a device of the cell is pending: it takes that of the lowest device, then the
+-- lowest
+abbrev pub irq_of : ℕ → List Endpoint → Option Act
+irq_of cell endpoints = option_map (λ (next : ℕ × ℕ). Irq next.0 next.1) (pending_of cell endpoints)
+
+-- what the cell reads by the access
+abbrev pub got_by : Image → Facts → ℕ → Access → ℕ → ℕ → Option ℕ
+got_by image facts cell access at width = read_of facts.byte (devices_of image facts cell) (reach image facts cell access at width)
+
+-- what the cell's operation comes to, where it is due
 abbrev pub act_of : Image → Facts → ℕ → Op → Option Act
-act_of image facts cell (ReadOp width at) = Some (Read width at (read_of facts.byte width (reach image facts cell ToRead at width)))
+act_of image facts cell (ReadOp width at) = Some (Read width at (got_by image facts cell ToRead at width))
 act_of image facts cell (WriteOp width at value) = Some (Write width at value (is_reached (reach image facts cell ToWrite at width)))
-act_of image facts cell (FetchOp at) = Some (Fetch at (read_of facts.byte 4 (reach image facts cell ToFetch at 4)))
-act_of image facts cell (AwaitOp width at value) = await_of width at value (read_of facts.byte width (reach image facts cell ToRead at width))
-act_of image facts cell IrqOp = None
+act_of image facts cell (FetchOp at) = Some (Fetch at (got_by image facts cell ToFetch at 4))
+act_of image facts cell (AwaitOp width at value) = await_of width at value (got_by image facts cell ToRead at width)
+act_of image facts cell IrqOp = irq_of cell facts.endpoints
 act_of image facts cell (HvcOp code a b) = Some (hvc_act image facts cell code a b)
 
 -- what a CPU in this state does next that has no call open: asked, it stops; else its program's operation, where

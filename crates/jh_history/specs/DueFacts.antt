@@ -8,11 +8,14 @@ use Rattle.jh_cellcfg.specs.Cells.{is_cpu_set}
 use Rattle.jh_cellcfg.specs.Regions.{IsInRange}
 use Rattle.jh_check.specs.Clean.{SharesNoAddress, IsSoundBitmap}
 use Rattle.jh_check.specs.Refusals.{is_known}
+use Rattle.jh_ivshmem.specs.declared.endpoint.Endpoint.{Endpoint}
+use Rattle.jh_ivshmem.specs.declared.spec.Slot.{Slot}
+use Rattle.jh_ivshmem.specs.Specs.{IsWithin, slot_of}
 use Rattle.jh_script.specs.declared.image.Image.{Image}
 use Rattle.jh_history.specs.declared.place.Place.{Place}
 use Rattle.jh_history.specs.declared.place.Place.TheVariants.{Physical, Page}
 use Rattle.jh_history.specs.declared.access.Reach.{Reach}
-use Rattle.jh_history.specs.declared.access.Reach.TheVariants.{Memory, Subpage, Config, Nothing}
+use Rattle.jh_history.specs.declared.access.Reach.TheVariants.{Memory, Subpage, Config, Window, Nothing}
 use Rattle.jh_history.specs.declared.call.OpenCall.{OpenCall}
 use Rattle.jh_history.specs.declared.call.Creation.TheVariants.{Comes}
 use Rattle.jh_history.specs.declared.call.Phase.TheVariants.{ToCreate}
@@ -67,8 +70,16 @@ IsOfCells cells (Page id offset) = (offset < PAGE_SIZE) × IsLive cells id
 abbrev pub ReachesCells : List Live → Reach → Type 0
 ReachesCells cells (Memory places) = All (IsOfCells cells) places
 ReachesCells cells (Subpage places) = All (IsOfCells cells) places
-ReachesCells cells (Config at) = Unit {0}
+ReachesCells cells (Config bytes) = Unit {0}
+ReachesCells cells (Window register) = Unit {0}
 ReachesCells cells Nothing = Unit {0}
+
+-- the word of the state table that a write writes is that of an endpoint, within its limits
+pub record IsWordOf (endpoints : List Endpoint) (slot : Slot) : Type 0 where
+  pub endpoint : Endpoint
+  pub there : Contains endpoints endpoint
+  pub within : IsWithin endpoint.spec
+  pub is : slot ≡ slot_of endpoint.spec slot.value
 
 -- where the act is a write
 abbrev pub WritesCells : List Live → Act → Reach → Type 0

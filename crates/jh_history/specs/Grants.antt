@@ -2,6 +2,7 @@
 use Rattle.std.specs.Prelude.{ℕ, Bool, false, ◌&&◌, ◌==◌, List, map, Option, Some, None, option_and_then, if◌then◌else◌}
 use Rattle.jh_cellcfg.specs.declared.live.Live.{Live}
 use Rattle.jh_cellcfg.specs.declared.region.Region.{Region}
+use Rattle.jh_ivshmem.specs.declared.endpoint.Endpoint.{Endpoint}
 use Rattle.jh_shape.specs.Shapes.{is_closed, holder_of_live}
 use Rattle.jh_script.specs.declared.image.Image.{Image}
 use Rattle.jh_history.specs.declared.place.Place.{Place}
@@ -10,6 +11,7 @@ use Rattle.jh_history.specs.declared.access.Access.{Access}
 use Rattle.jh_history.specs.declared.access.Reach.{Reach}
 use Rattle.jh_history.specs.Access.{place_of, reach_by, or_behind}
 use Rattle.jh_history.specs.Behind.{answer}
+use Rattle.jh_history.specs.Devices.{Devices, devices_in}
 use Rattle.jh_history.specs.Facts.{Facts}
 use Rattle.jh_history.specs.Lives.{regions_in}
 
@@ -35,13 +37,19 @@ granted_in image cells id = granted_by id (regions_in image cells id) (is_kept i
 abbrev pub granted : Image → Facts → ℕ → Access → ℕ → Option Place
 granted image facts id = granted_in image facts.cells id
 
--- what answers the access of the cell with the id where no memory does, where these cells live besides root
-abbrev pub behind_in : Image → List Live → ℕ → Access → ℕ → ℕ → Reach
-behind_in image cells id = answer id (regions_in image cells id) (is_kept image cells id) image.system
+-- what answers the access of the cell with the id where no memory does, where these cells live besides root, and all
+-- have these endpoints
+abbrev pub behind_in : Image → List Live → List Endpoint → ℕ → Access → ℕ → ℕ → Reach
+behind_in image cells endpoints id = answer (regions_in image cells id) (devices_in image cells endpoints id) (is_kept image cells id) image.system
 
 -- what the access of so many bytes reaches: memory where each byte is granted, and else what answers behind memory
-abbrev pub reach_in : Image → List Live → ℕ → Access → ℕ → ℕ → Reach
-reach_in image cells id access at width = or_behind (reach_by (granted_in image cells id access) at width) (behind_in image cells id access at width)
+abbrev pub reach_in : Image → List Live → List Endpoint → ℕ → Access → ℕ → ℕ → Reach
+reach_in image cells endpoints id access at width =
+    or_behind (reach_by (granted_in image cells id access) at width) (behind_in image cells endpoints id access at width)
 
 abbrev pub reach : Image → Facts → ℕ → Access → ℕ → ℕ → Reach
-reach image facts id = reach_in image facts.cells id
+reach image facts id = reach_in image facts.cells facts.endpoints id
+
+-- the devices of the cell with the id, where these facts hold
+abbrev pub devices_of : Image → Facts → ℕ → Devices
+devices_of image facts id = devices_in image facts.cells facts.endpoints id

@@ -9,19 +9,23 @@ use Rattle.jh_script.specs.declared.image.Image.{Image}
 use Rattle.jh_history.specs.declared.call.OpenCall.{OpenCall}
 use Rattle.jh_history.specs.declared.entry.Entry.{Entry}
 use Rattle.jh_history.specs.Facts.{Facts}
+use Rattle.jh_history.specs.declared.device_change.DeviceChange.TheVariants.{Join}
 use Rattle.jh_history.specs.Bytes.{opening_byte, byte_after}
 use Rattle.jh_history.specs.Cpus.{cpu_after}
 use Rattle.jh_history.specs.Commits.{cells_by}
 use Rattle.jh_history.specs.Calls.{call_by}
+use Rattle.jh_history.specs.Devices.{specs_of}
+use Rattle.jh_history.specs.Endpoints.{endpoints_changed, endpoints_after}
 use Rattle.jh_history.specs.Configs.{read_at, config_read}
 
 -- the facts at opening: each CPU is root's and runs from its program's beginning; no cell lives besides
--- root, and no call is open
+-- root, whose devices have joined their links, and no call is open
 abbrev pub start : Image → Facts
 start image = record {
   byte = opening_byte image;
   cpu = λ _. opened image.system.root.id;
   cells = [];
+  endpoints = endpoints_changed Join (specs_of image.system.root) [];
   call = None;
 }
 
@@ -46,6 +50,7 @@ after image facts entry = record {
   byte = byte_after image facts entry;
   cpu = cpu_after image facts entry;
   cells = cells_after facts entry;
+  endpoints = endpoints_after image facts entry;
   call = call_after image facts entry;
 }
 

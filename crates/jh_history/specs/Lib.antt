@@ -1,5 +1,6 @@
 pub mod Log
 pub mod Places
+pub mod Devices
 pub mod Access
 pub mod Behind
 pub mod Facts
@@ -8,6 +9,7 @@ pub mod Grants
 pub mod Calls
 pub mod Cpus
 pub mod Commits
+pub mod Endpoints
 pub mod Pages
 pub mod Configs
 pub mod Bytes

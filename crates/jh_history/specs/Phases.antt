@@ -1,11 +1,10 @@
 -- The phases of an open management call: what is due to its caller, and when.
 use Rattle.std.specs.Prelude.{ℕ, ℤ, Bool, ◌==◌, ◌&&◌, ◌||◌, not, nat_le, List, ◌∷◌, [], ◌++◌, map, Option, Some, None, option_map, option_and_then, is_some, if◌then◌else◌}
 use Rattle.std.specs.List.{list_any}
-use Rattle.jh_num.specs.declared.error.TheConstants.{EPERM, ENOENT, EINVAL, ENOSYS}
+use Rattle.jh_num.specs.declared.error.TheConstants.{EPERM, ENOENT, EINVAL}
 use Rattle.jh_cellcfg.specs.declared.config.CellConfig.{CellConfig}
 use Rattle.jh_cellcfg.specs.declared.live.Live.{Live}
 use Rattle.jh_cellcfg.specs.Lives.{id_of, has_id}
-use Rattle.jh_cellcfg.specs.declared.config.PciDevice.{PciDevice}
 use Rattle.jh_cellcfg.specs.Cells.{is_passive}
 use Rattle.jh_check.specs.Refusals.{any_below, refusal_of}
 use Rattle.jh_shape.specs.Pages.{pages_of}
@@ -69,23 +68,13 @@ abbrev pub unless_refused : CellConfig → Option ℤ → Creation
 unless_refused config None = Comes config
 unless_refused config (Some number) = Refused number
 
--- the configuration has nothing that isn't built yet of cells: no ivshmem device
-abbrev pub is_built_cell : CellConfig → Bool
-is_built_cell config = not (list_any (λ (d : PciDevice). d.kind == 3) config.pci_devices)
-
--- else it is refused last of all
-abbrev pub or_unbuilt : Option ℤ → Option ℤ
-or_unbuilt (Some number) = Some number
-or_unbuilt None = Some ENOSYS
-
 -- a configuration that was read is refused by its own order of causes, in which the pages are those of all cells
--- with it; what isn't built is told before want of pages
+-- with it
 abbrev pub creation_by : Image → Facts → ℕ → ReadCell → Creation
 creation_by image facts caller (Refuses number) = Refused number
 creation_by image facts caller (Reads config) =
-    unless_refused config (if is_built_cell config
-    then refusal_of image.system (configs_of facts.cells) config (may_give image facts caller) (pages_of image.system.root.memory_regions (configs_of facts.cells ++ config ∷ [])) (pool_pages image.system)
-    else or_unbuilt (refusal_of image.system (configs_of facts.cells) config (may_give image facts caller) 0 (pool_pages image.system)))
+    unless_refused config
+    (refusal_of image.system (configs_of facts.cells) config (may_give image facts caller) (pages_of image.system.root.memory_regions (configs_of facts.cells ++ config ∷ [])) (pool_pages image.system))
 
 -- what comes of a create at the address: it is refused where a cell is locked, and else by its configuration
 unfoldable pub creation_of : Image → Facts → ℕ → ℕ → Creation

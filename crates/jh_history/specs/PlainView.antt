@@ -1,18 +1,25 @@
--- What the slow plain program keeps of a journal: CPUs, the live cells, the open call, and the bytes that were
--- written.
-use Rattle.std.specs.Prelude.{◌≡◌, ℕ, ◌<◌, ◌≤◌, ◌==◌, List, length, fold, slice_get, if◌then◌else◌, Option, Some}
+-- What the slow plain program keeps of a journal: CPUs, the live cells, the endpoints of their devices, the open call,
+-- and the bytes that were written.
+use Rattle.std.specs.Prelude.{◌≡◌, ℕ, ◌+◌, ◌^◌, ◌<◌, ◌≤◌, ◌==◌, List, length, fold, slice_get, if◌then◌else◌, Option, Some, IfSome}
 use Rattle.jh_num.specs.Memory.{stored}
 use Rattle.jh_cellcfg.specs.declared.live.Live.{Live}
 use Rattle.jh_cpu.specs.declared.cpu.Cpu.{Cpu}
+use Rattle.jh_ivshmem.specs.declared.endpoint.Endpoint.{Endpoint}
+use Rattle.jh_ivshmem.specs.declared.spec.Slot.{Slot}
 use Rattle.jh_script.specs.declared.image.Image.{Image}
+use Rattle.jh_history.specs.declared.access.Reach.{Reach}
 use Rattle.jh_history.specs.declared.call.OpenCall.{OpenCall}
+use Rattle.jh_history.specs.declared.entry.Act.{Act}
 use Rattle.jh_history.specs.declared.entry.Entry.{Entry}
 use Rattle.jh_history.specs.declared.place.Place.{Place}
 use Rattle.jh_history.specs.declared.place.Place.TheVariants.{Physical, Page}
 use Rattle.jh_history.specs.declared.written.WrittenByte.{WrittenByte}
 use Rattle.jh_history.specs.Places.{is_same}
+use Rattle.jh_history.specs.Access.{slot_of_reach}
+use Rattle.jh_history.specs.Devices.{devices_in}
+use Rattle.jh_history.specs.Endpoints.{change_by, changing_by, IsNextOf, MayChange}
 use Rattle.jh_history.specs.Facts.{Facts}
-use Rattle.jh_history.specs.Bytes.{opening_byte}
+use Rattle.jh_history.specs.Bytes.{loaded_byte}
 use Rattle.jh_history.specs.Admitted.{IsAdmitted}
 use Rattle.jh_history.specs.Phases.{configs_of}
 use Rattle.jh_history.specs.Due.{due_at}
@@ -22,6 +29,7 @@ pub record PlainView : Type 0 where
   pub image : Image
   pub cpus : List Cpu
   pub cells : List Live
+  pub endpoints : List Endpoint
   pub call : Option OpenCall
   pub bytes : List WrittenByte
 
@@ -31,7 +39,7 @@ overwritten q b one = if is_same q one.place then one.byte else b
 
 -- the byte of the place after those that were written, the newest last
 abbrev pub last_byte : Image → List WrittenByte → Place → ℕ
-last_byte image bytes q = fold (overwritten q) (opening_byte image q) bytes
+last_byte image bytes q = fold (overwritten q) (loaded_byte image q) bytes
 
 -- the bytes, with the list's from the offset on in the page of the cell
 abbrev pub put_in_page : ℕ → ℕ → List ℕ → (Place → ℕ) → Place → ℕ
@@ -49,11 +57,12 @@ pub record IsFit (image : Image) (cells : List Live) : Type 0 where
 pub record Stands (plain : PlainView) (image : Image) (facts : Facts) : Type 0 where
   pub same : image ≡ plain.image
   pub cells : facts.cells ≡ plain.cells
+  pub endpoints : facts.endpoints ≡ plain.endpoints
   pub call : facts.call ≡ plain.call
   pub cpus : (i : ℕ) → i < 16 → slice_get plain.cpus i ≡ Some (facts.cpu i)
   pub bytes : (q : Place) → facts.byte q ≡ last_byte image plain.bytes q
 
--- all but the bytes stay
+-- all but the bytes and the endpoints stay
 pub record IsSameBut (old new : PlainView) : Type 0 where
   pub image : new.image ≡ old.image
   pub cpus : new.cpus ≡ old.cpus
@@ -67,3 +76,17 @@ pub record IsDueBeside (image : Image) (lives : List Live) (open_call : Option O
   pub due : due_at image facts entry.cpu ≡ Some entry
   pub cells : facts.cells ≡ lives
   pub call : facts.call ≡ open_call
+
+-- each word of a state table that a write of a cell writes ends below 2^64
+abbrev pub HasWords : PlainView → Type 0
+HasWords plain = (id value : ℕ) (found : Reach) → IfSome (slot_of_reach (devices_in plain.image plain.cells plain.endpoints id) found value) (λ (slot : Slot). slot.place + 4 < 2 ^ 64)
+
+-- the devices of the cell that a Commit is about may be changed
+abbrev pub MayCommit : PlainView → Act → Type 0
+MayCommit plain act = IfSome (changing_by plain.cells plain.call act) (MayChange (change_by plain.call) plain.endpoints)
+
+-- what is kept of devices lets the entry be followed
+pub record MayFollow (plain : PlainView) (entry : Entry) : Type 0 where
+  pub words : HasWords plain
+  pub commit : MayCommit plain entry.act
+  pub next : IsNextOf entry.cell plain.endpoints entry.act

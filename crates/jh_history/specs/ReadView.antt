@@ -10,7 +10,6 @@ use Rattle.jh_cpu.specs.declared.cpu.Cpu.{Cpu}
 use Rattle.jh_script.specs.declared.image.Image.{Image}
 use Rattle.jh_history.specs.Admitted.{pool_pages}
 use Rattle.jh_history.specs.Lives.{is_on_board}
-use Rattle.jh_history.specs.Phases.{is_built_cell, or_unbuilt}
 use Rattle.jh_history.specs.declared.call.Creation.{Creation}
 use Rattle.jh_history.specs.declared.call.Creation.TheVariants.{Refused, Comes}
 use Rattle.jh_history.specs.Configs.{ReadCell, Reads, Refuses, refused_for, read_whole}
@@ -44,6 +43,4 @@ gives_by image caller cpu state = is_on_board image cpu && not (cpu == caller) &
 -- what a configuration is refused for beside these, where such CPUs may be given away
 abbrev pub refusal_by : Image → List CellConfig → (ℕ → Bool) → CellConfig → Option ℤ
 refusal_by image configs may config =
-    if is_built_cell config
-    then refusal_of image.system configs config may (pages_of image.system.root.memory_regions (configs ++ config ∷ [])) (pool_pages image.system)
-    else or_unbuilt (refusal_of image.system configs config may 0 (pool_pages image.system))
+    refusal_of image.system configs config may (pages_of image.system.root.memory_regions (configs ++ config ∷ [])) (pool_pages image.system)

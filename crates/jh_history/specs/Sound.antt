@@ -1,6 +1,6 @@
--- What holds after every legal journal of an admitted image: of the cells that live, of whose the CPUs are, and
--- of the management call that is open.
-use Rattle.std.specs.Prelude.{◌≡◌, ◌≢◌, ◌⊎◌, ◌≤◌, ◌<◌, ℕ, ℤ, pos, true, false, List, [], ◌∷◌, ◌++◌, All, Contains, AllPairs, Option, Some, None, slice_get}
+-- What holds after every legal journal of an admitted image: of the cells that live, of whose the CPUs are, of the
+-- management call that is open, and of the devices.
+use Rattle.std.specs.Prelude.{◌≡◌, ◌≢◌, ◌⊎◌, ◌≤◌, ◌<◌, ℕ, ℤ, pos, true, false, List, [], ◌∷◌, ◌++◌, length, map, All, Contains, AllPairs, Option, Some, None, slice_get}
 use Rattle.jh_cellcfg.specs.declared.config.CellConfig.{CellConfig}
 use Rattle.jh_cellcfg.specs.declared.config.SystemConfig.{SystemConfig}
 use Rattle.jh_cellcfg.specs.Cells.{name_of, is_cpu_set, is_passive}
@@ -12,6 +12,11 @@ use Rattle.jh_cpu.specs.declared.cpu.Mode.TheVariants.{Running}
 use Rattle.jh_call.specs.declared.call.Call.{Call}
 use Rattle.jh_call.specs.declared.call.Call.TheVariants.{Create, Destroy}
 use Rattle.jh_call.specs.Calls.{decoded, is_management}
+use Rattle.jh_vpci.specs.Windows.{AreWindows}
+use Rattle.jh_ivshmem.specs.declared.endpoint.Endpoint.{Endpoint}
+use Rattle.jh_ivshmem.specs.declared.spec.EndpointSpec.{EndpointSpec}
+use Rattle.jh_ivshmem.specs.Specs.{IsWithin, AreApart, ComesBefore}
+use Rattle.jh_ivshmem.specs.Links.{endpoint_at}
 use Rattle.jh_script.specs.declared.image.Image.{Image}
 use Rattle.jh_script.specs.declared.image.Preload.{Preload}
 use Rattle.jh_script.specs.declared.op.Op.TheVariants.{Hvc as HvcOp}
@@ -19,6 +24,7 @@ use Rattle.jh_history.specs.declared.call.OpenCall.{OpenCall}
 use Rattle.jh_history.specs.declared.call.Phase.{Phase}
 use Rattle.jh_history.specs.declared.call.Phase.TheVariants.{ToDecide, ToSettle, ToCreate, ToCommit, ToNote, ToNoted, ToFinish}
 use Rattle.jh_history.specs.Facts.{Facts}
+use Rattle.jh_history.specs.Devices.{specs_of}
 use Rattle.jh_history.specs.Lives.{is_on_board, program_of}
 use Rattle.jh_history.specs.Admitted.{pool_pages}
 use Rattle.jh_history.specs.Calls.{is_named}
@@ -160,12 +166,40 @@ abbrev pub IsSoundCall : Image → List CellConfig → (ℕ → Cpu) → Option 
 IsSoundCall image configs cpu None = (i : ℕ) → IsCalm (cpu i)
 IsSoundCall image configs cpu (Some o) = IsOpen image configs cpu o
 
+-- ---- the devices
+
+-- the endpoint is that of an ivshmem device of root or of a live cell
+abbrev pub IsOfDevice : Image → List CellConfig → EndpointSpec → Type 0
+IsOfDevice image configs spec = (config : CellConfig) × Contains (image.system.root ∷ configs) config × Contains (specs_of config) spec
+
+-- the endpoint of the device is there
+abbrev pub HasEndpoint : List Endpoint → EndpointSpec → Type 0
+HasEndpoint endpoints spec = (e : Endpoint) × (endpoint_at spec.cell spec.device endpoints ≡ Some e) × (e.spec ≡ spec)
+
+-- what is fixed of an endpoint is within its limits, its function is the device's, and its windows begin at multiples of
+-- their sizes
+pub record IsSoundEndpoint (e : Endpoint) : Type 0 where
+  pub within : IsWithin e.spec
+  pub function : e.space.spec ≡ e.spec.function
+  pub windows : AreWindows e.space.bar0 e.space.bar1
+  pub vectors : length e.vectors ≡ 16
+
+-- the endpoints are those of the ivshmem devices of root and of the live cells, each once, in the order of the cells' ids
+-- and of devices
+pub record AreEndpoints (image : Image) (configs : List CellConfig) (endpoints : List Endpoint) : Type 0 where
+  pub own : All (λ (e : Endpoint). IsOfDevice image configs e.spec) endpoints
+  pub whole : (config : CellConfig) → Contains (image.system.root ∷ configs) config → All (HasEndpoint endpoints) (specs_of config)
+  pub apart : AllPairs AreApart (map (λ (e : Endpoint). e.spec) endpoints)
+  pub order : AllPairs ComesBefore (map (λ (e : Endpoint). e.spec) endpoints)
+  pub sound : All IsSoundEndpoint endpoints
+
 -- ---- all of it
 
 pub record IsSound (image : Image) (facts : Facts) : Type 0 where
   pub cells : AreSoundCells image.system (configs_of facts.cells)
   pub cpus : AreOwned image (configs_of facts.cells) facts.cpu
   pub call : IsSoundCall image (configs_of facts.cells) facts.cpu facts.call
+  pub endpoints : AreEndpoints image (configs_of facts.cells) facts.endpoints
 
 -- ---- bytes
 

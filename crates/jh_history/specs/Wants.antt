@@ -10,7 +10,6 @@ use Rattle.jh_history.specs.declared.access.Wanted.{Wanted}
 use Rattle.jh_history.specs.declared.entry.Entry.{Entry}
 use Rattle.jh_history.specs.declared.entry.Act.{Act}
 use Rattle.jh_history.specs.declared.entry.Act.TheVariants.{Write}
-use Rattle.jh_history.specs.Access.{IsPhysical}
 use Rattle.jh_history.specs.Cpus.{is_running}
 use Rattle.jh_history.specs.Facts.{Facts}
 use Rattle.jh_history.specs.Lives.{op_at}
@@ -59,8 +58,3 @@ IsReachOfAct image facts cell _ found = Unit {0}
 
 abbrev pub IsReachOfEntry : Image → Facts → Entry → Reach → Type 0
 IsReachOfEntry image facts entry found = IsReachOfAct image facts entry.cell entry.act found
-
--- what a write reaches is physical memory alone
-abbrev pub IsPhysicalOf : Act → Reach → Type 0
-IsPhysicalOf (Write width at value ok) found = IsPhysical found
-IsPhysicalOf _ found = Unit {0}

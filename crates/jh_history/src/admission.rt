@@ -1,14 +1,13 @@
 //! What an image is asked for before a board is opened with it.
-ghost use Rattle.std.specs.Prelude.{◌≡◌, ◌≢◌, ℕ, ◌↔◌, ◌<◌, ◌≤◌, ◌+◌, ◌^◌, [], IsTrue, IfOk, All, AllPairs, length};
-ghost use Rattle.jh_cellcfg.specs.declared.config.PciDevice.{PciDevice as ThePciDevice};
+ghost use Rattle.std.specs.Prelude.{◌≡◌, ℕ, ◌↔◌, ◌<◌, ◌≤◌, ◌+◌, ◌^◌, [], IsTrue, IfOk, All, AllPairs, length};
 ghost use Rattle.jh_check.specs.Findings.{findings};
 ghost use Rattle.jh_script.specs.declared.image.Program.{Program as TheProgram};
 ghost use Rattle.jh_script.specs.Operations.{is_width, IsPlain};
-ghost use Rattle.jh_history.specs.Admitted.{root_pages as root_pages_lem, pool_pages as pool_pages_lem, IsAdmittedSystem, IsSoundProgram, IsOtherProgram, IsSoundPreload, IsOtherPreload, IsAdmitted, IsBuilt};
+ghost use Rattle.jh_history.specs.Admitted.{root_pages as root_pages_lem, pool_pages as pool_pages_lem, IsAdmittedSystem, IsSoundProgram, IsOtherProgram, IsSoundPreload, IsOtherPreload, IsAdmitted};
 
 use crate::apart::{Apart, are_apart, has_none_of};
 use crate::cells::is_program_of;
-use jh_cellcfg::{PciDevice, Region, SystemConfig};
+use jh_cellcfg::{Region, SystemConfig};
 use jh_check::check;
 use jh_num::{ADDRESS_END, NoMemory, PAGE_SIZE};
 use jh_script::{Image, Op, Preload, Program};
@@ -17,9 +16,6 @@ use std::alloc::Global;
 
 /// The most operations of a program.
 const OPS_LIMIT: usize = 4096;
-
-/// The kind of an ivshmem device, by `JAILHOUSE_PCI_TYPE_IVSHMEM`.
-const IVSHMEM: u8 = 3;
 
 /// Whether so many bytes from the start on end within the addresses.
 fn ends_within(start: u64, size: u64) -> bool
@@ -178,18 +174,4 @@ pub fn admit(alloc: Global, image: &Image) -> Result<bool, NoMemory>
 {
     let admitted = is_admitted_system(alloc, &image.system)?;
     Ok(admitted && are_fit_preloads(image) && are_fit_programs(image))
-}
-
-/// Whether none of the devices is an ivshmem device.
-fn has_no_ivshmem(devices: &[PciDevice]) -> bool
-    ensures { IsTrue result ↔ All (λ (d : ThePciDevice). d.kind ≢ 3) devices.now }
-{
-    devices.iter().all(|d| d.kind != IVSHMEM)
-}
-
-/// Whether the image has nothing that isn't built yet: no ivshmem device.
-pub fn is_built(image: &Image) -> bool
-    ensures { IsTrue result ↔ IsBuilt image.now }
-{
-    has_no_ivshmem(image.system.root.pci_devices.as_slice())
 }

@@ -5,13 +5,16 @@ ghost use Rattle.jh_cellcfg.specs.declared.region.Region.{Region as TheRegion};
 ghost use Rattle.jh_cellcfg.specs.Regions.{has_address, IsInRange};
 ghost use Rattle.jh_history.specs.Places.{places_in_row};
 ghost use Rattle.jh_history.specs.Access.{place_in_cell as place_in_cell_lem};
-ghost use Rattle.jh_history.specs.Behind.{ecam_start, ecam_end, by_region as by_region_lem, in_ecam as in_ecam_lem, answer_by as answer_by_lem, answer_to as answer_to_lem};
+ghost use Rattle.jh_mmio.specs.Dispatch.{behind_between};
+ghost use Rattle.jh_history.specs.Behind.{ecam_start, ecam_end, by_region as by_region_lem, in_window as in_window_lem, asked_windows, by_device as by_device_lem, behind_regions as behind_regions_lem, window_found, answer_by as answer_by_lem, answer_to as answer_to_lem};
+ghost use Rattle.jh_history.specs.Devices.{IsGoodWindow};
 
-use crate::access::{Access, Reach, Wanted};
+use crate::access::{Access, ConfigBytes, Reach, Register, Wanted};
+use crate::devices::Devices;
 use crate::grants::place_in_cell;
 use crate::place::{Places, Run};
 use jh_cellcfg::{Region, SystemConfig};
-use jh_mmio::{Hitting, behind, lets_through};
+use jh_mmio::{Hitting, Window, behind, lets_through};
 use jh_num::{ADDRESS_END, Range};
 
 /// How many bytes of the ECAM window a bus has.
@@ -73,44 +76,81 @@ fn by_region(cell: u32, region: &Region, wanted: &Wanted, write: bool) -> Reach
     }
 }
 
+/// The register that the address has in the window.
+fn in_window(window: Window, at: u64) -> Reach
+    requires good { IsGoodWindow window }
+    requires first { window.start ≤ at }
+    requires last { at < window.start + window.size }
+    ensures { result ≡ in_window_lem at window }
+{
+    let at = ((at - window.start) / 4 * 4) as u32;
+    Reach::Window(Register::new(window.device, window.bar, at))
+}
+
 /// What is reached where that answers which lies behind the regions.
-fn in_ecam(ecam: Range, at: u64, hitting: Hitting) -> Reach
-    ensures { result ≡ in_ecam_lem ecam.start at hitting }
+fn by_device(ecam: Range, window: Option<Window>, wanted: &Wanted, hitting: Hitting) -> Reach
+    requires good { IfSome window IsGoodWindow }
+    requires hits { hitting ≡ behind_between ecam.start ecam.end (asked_windows window) wanted.now.at wanted.now.width }
+    ensures { result ≡ by_device_lem ecam.start window wanted.now.at wanted.now.width hitting }
 {
     match hitting {
-        Hitting::Ecam => Reach::Config {
-            at: at.saturating_sub(ecam.start),
+        Hitting::Ecam => {
+            let at = wanted.at.saturating_sub(ecam.start);
+            Reach::Config(ConfigBytes::new(at, wanted.width))
+        }
+        Hitting::Bar { .. } => match window {
+            Some(window) => in_window(window, wanted.at),
+            None => Reach::Nothing,
         },
-        Hitting::Subpage { .. } | Hitting::Bar { .. } | Hitting::Nothing => Reach::Nothing,
+        Hitting::Subpage { .. } | Hitting::Nothing => Reach::Nothing,
     }
+}
+
+/// What answers where no subpage region has the access; `window` is the first window of a device that has it.
+fn behind_regions(ecam: Range, window: Option<Window>, wanted: &Wanted) -> Reach
+    requires some { 0 < wanted.now.width }
+    requires good { IfSome window IsGoodWindow }
+    ensures { result ≡ behind_regions_lem ecam.start ecam.end window wanted.now.at wanted.now.width }
+{
+    let hitting = match window {
+        Some(window) => behind(ecam, &[window], wanted.at, wanted.width),
+        None => behind(ecam, &[], wanted.at, wanted.width),
+    };
+    by_device(ecam, window, wanted, hitting)
 }
 
 /// What answers a read or a write, where that is the subpage region which has it.
-fn answer_by(cell: u32, region: Option<Region>, ecam: Range, wanted: &Wanted, write: bool) -> Reach
+fn answer_by(
+    devices: &Devices,
+    region: Option<Region>,
+    ecam: Range,
+    wanted: &Wanted,
+    write: bool,
+) -> Reach
     requires some { 0 < wanted.now.width }
     requires few { wanted.now.width ≤ 8 }
     requires within { IfSome region IsInRange }
     requires has { IfSome region (λ (r : TheRegion). IsTrue (has_address r wanted.now.at)) }
-    ensures { result ≡ answer_by_lem cell region ecam.start ecam.end write wanted.now.at wanted.now.width }
+    ensures { result ≡ answer_by_lem devices.now.cell region ecam.start ecam.end (window_found devices.now wanted.now.at wanted.now.width) write wanted.now.at wanted.now.width }
 {
     match region {
-        Some(region) => by_region(cell, &region, wanted, write),
-        None => in_ecam(ecam, wanted.at, behind(ecam, &[], wanted.at, wanted.width)),
+        Some(region) => by_region(devices.cell(), &region, wanted, write),
+        None => behind_regions(ecam, devices.window(wanted), wanted),
     }
 }
 
-/// What answers the cell's access where no memory does; `region` is the subpage region that has it, where one
-/// does, and the cell is kept from none of its bytes.
-pub fn answer_of(cell: u32, region: Option<Region>, ecam: Range, wanted: &Wanted) -> Reach
+/// What answers the access of the cell with these devices where no memory does; `region` is the subpage region that has
+/// it, where one does, and the cell is kept from none of its bytes.
+pub fn answer_of(devices: &Devices, region: Option<Region>, ecam: Range, wanted: &Wanted) -> Reach
     requires some { 0 < wanted.now.width }
     requires few { wanted.now.width ≤ 8 }
     requires within { IfSome region IsInRange }
     requires has { IfSome region (λ (r : TheRegion). IsTrue (has_address r wanted.now.at)) }
-    ensures { result ≡ answer_to_lem cell region ecam.start ecam.end wanted.now.access wanted.now.at wanted.now.width }
+    ensures { result ≡ answer_to_lem devices.now.cell region ecam.start ecam.end (window_found devices.now wanted.now.at wanted.now.width) wanted.now.access wanted.now.at wanted.now.width }
 {
     match wanted.access {
-        Access::Read => answer_by(cell, region, ecam, wanted, false),
-        Access::Write => answer_by(cell, region, ecam, wanted, true),
+        Access::Read => answer_by(devices, region, ecam, wanted, false),
+        Access::Write => answer_by(devices, region, ecam, wanted, true),
         Access::Fetch => Reach::Nothing,
     }
 }

@@ -10,6 +10,7 @@ ghost use Rattle.jh_history.specs.declared.place.Place.TheVariants.{Physical};
 ghost use Rattle.jh_script.specs.Operations.{IsPlain};
 ghost use Rattle.jh_history.specs.Access.{right_of, gives as gives_lem, region_of as region_of_lem, memory_or_nothing, reach_by};
 ghost use Rattle.jh_history.specs.Grants.{granted_in, is_kept as is_kept_lem, behind_in as behind_in_lem, reach_in as reach_in_lem};
+ghost use Rattle.jh_history.specs.Devices.{list_in};
 ghost use Rattle.jh_history.specs.Phases.{configs_of};
 ghost use Rattle.jh_history.specs.Places.{places_of_run, IsRun};
 ghost use Rattle.jh_history.specs.Admitted.{IsAdmitted};
@@ -18,12 +19,14 @@ ghost use Rattle.jh_history.specs.Lives.{is_on_board as is_on_board_lem, is_prog
 
 use crate::access::{Access, Reach, Wanted};
 use crate::behind::{answer_of, ecam_of, is_within, places_in};
+use crate::devices::Devices;
 use crate::grants::{Grants, memory};
 use crate::live_cells::LiveCells;
 use crate::pages::live_in;
 use crate::place::{Place, Places, Run};
-use jh_cellcfg::{CellConfig, Region, RegionFlags};
+use jh_cellcfg::{CellConfig, PciDevice, Region, RegionFlags};
 use jh_cpu::Cpu;
+use jh_ivshmem::Endpoints;
 use jh_mmio::has_whole;
 use jh_script::{Image, Op, Program};
 use std::marker::Model;
@@ -110,6 +113,16 @@ fn regions_in<'a>(image: &'a Image, cells: &'a [CellConfig], id: u32) -> &'a [Re
 {
     match config_in(image, cells, u64::from(id)) {
         Some(cell) => cell.memory_regions.as_slice(),
+        None => &[],
+    }
+}
+
+/// Its devices.
+pub(crate) fn devices_in<'a>(image: &'a Image, cells: &'a [CellConfig], id: u32) -> &'a [PciDevice]
+    ensures { (lives : List TheLive) → configs_of lives ≡ cells.now → result.now ≡ list_in image.now lives id }
+{
+    match config_in(image, cells, u64::from(id)) {
+        Some(cell) => cell.pci_devices.as_slice(),
         None => &[],
     }
 }
@@ -263,27 +276,41 @@ fn subpage_of(image: &Image, cells: &LiveCells, cell: u32, wanted: &Wanted) -> O
 }
 
 /// What answers the cell's access where no memory does.
-fn behind_in(image: &Image, cells: &LiveCells, cell: u32, wanted: &Wanted) -> Reach
+fn behind_in(
+    image: &Image,
+    cells: &LiveCells,
+    endpoints: &Endpoints,
+    cell: u32,
+    wanted: &Wanted,
+) -> Reach
     requires clean { IsClean image.now.system (configs_of cells.now) }
     requires few { wanted.now.width ≤ 8 }
-    ensures { result ≡ behind_in_lem image.now cells.now cell wanted.now.access wanted.now.at wanted.now.width }
+    ensures { result ≡ behind_in_lem image.now cells.now endpoints.now.list cell wanted.now.access wanted.now.at wanted.now.width }
 {
     if is_within(wanted) {
         let region = subpage_of(image, cells, cell, wanted);
-        answer_of(cell, region, ecam_of(&image.system), wanted)
+        let list = devices_in(image, cells.configs(), cell);
+        let devices = Devices::new(cell, list, endpoints);
+        answer_of(&devices, region, ecam_of(&image.system), wanted)
     } else {
         Reach::Nothing
     }
 }
 
 /// What the cell's access reaches.
-pub(crate) fn reach_in(image: &Image, cells: &LiveCells, cell: u32, wanted: &Wanted) -> Reach
+pub(crate) fn reach_in(
+    image: &Image,
+    cells: &LiveCells,
+    endpoints: &Endpoints,
+    cell: u32,
+    wanted: &Wanted,
+) -> Reach
     requires clean { IsClean image.now.system (configs_of cells.now) }
     requires few { wanted.now.width ≤ 8 }
-    ensures { result ≡ reach_in_lem image.now cells.now cell wanted.now.access wanted.now.at wanted.now.width }
+    ensures { result ≡ reach_in_lem image.now cells.now endpoints.now.list cell wanted.now.access wanted.now.at wanted.now.width }
 {
     match memory_in(image, cells, cell, wanted) {
         Some(places) => Reach::Memory(places),
-        None => behind_in(image, cells, cell, wanted),
+        None => behind_in(image, cells, endpoints, cell, wanted),
     }
 }

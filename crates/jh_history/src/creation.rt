@@ -1,11 +1,10 @@
 //! What comes of a create.
 ghost use Rattle.std.specs.Prelude.{◌≡◌, ℕ, ◌<◌, ◌≤◌, ◌==◌, Bool, Some, false, length, slice_get, slice_index_or, IfOk, IfSome, IfNone};
 ghost use Rattle.std.specs.List.{list_any};
-ghost use Rattle.jh_cellcfg.specs.declared.config.PciDevice.{PciDevice as TheDevice};
 ghost use Rattle.jh_check.specs.Refusals.{refusal_of as refusal_of_lem};
 ghost use Rattle.jh_history.specs.Admitted.{pool_pages as pool_pages_lem, IsAdmitted};
 ghost use Rattle.jh_history.specs.Facts.{Facts};
-ghost use Rattle.jh_history.specs.Phases.{configs_of, may_give as may_give_lem, is_built_cell as is_built_cell_lem, or_unbuilt as or_unbuilt_lem, unless_refused as unless_refused_lem, creation_by};
+ghost use Rattle.jh_history.specs.Phases.{configs_of, may_give as may_give_lem, unless_refused as unless_refused_lem, creation_by};
 ghost use Rattle.jh_history.specs.ReadView.{as_read, gives_by, refusal_by};
 
 use crate::admission::pool_pages;
@@ -13,40 +12,12 @@ use crate::call::Creation;
 use crate::cells::is_on_board;
 use crate::counting::pages_of;
 use crate::laws::admitted_roots_are_sound;
-use jh_cellcfg::{CellConfig, PciDevice};
+use jh_cellcfg::CellConfig;
 use jh_check::{refusal_of, refusal_without_cpus};
 use jh_cpu::Cpu;
 use jh_num::NoMemory;
-use jh_num::error::ENOSYS;
 use jh_script::Image;
 use std::alloc::Global;
-
-/// The kind of an ivshmem device.
-const IVSHMEM: u8 = 3;
-
-/// Whether one of the devices is an ivshmem device.
-fn has_ivshmem(devices: &[PciDevice]) -> bool
-    ensures { result ≡ list_any (λ (d : TheDevice). d.kind == 3) devices.now }
-{
-    devices.iter().any(|d| d.kind == IVSHMEM)
-}
-
-/// Whether the configuration has nothing that isn't built yet of cells.
-fn is_built_cell(config: &CellConfig) -> bool
-    ensures { result ≡ is_built_cell_lem config.now }
-{
-    !has_ivshmem(config.pci_devices.as_slice())
-}
-
-/// The refusal, or that of what isn't built.
-fn or_unbuilt(refusal: Option<i64>) -> Option<i64>
-    ensures { result ≡ or_unbuilt_lem refusal }
-{
-    match refusal {
-        Some(number) => Some(number),
-        None => Some(ENOSYS),
-    }
-}
 
 /// Whether the caller may give the CPU away.
 fn may_give(image: &Image, state: Cpu, caller: u8, cpu: u8) -> bool
@@ -109,14 +80,9 @@ fn refusal_by(
     requires kept { length cells.now ≡ 15 → list_any (λ (b : Bool). b) may.now ≡ false }
     ensures { IfOk result (λ refusal. refusal ≡ refusal_by image.now cells.now (λ cpu. slice_index_or may.now cpu false) config.now) }
 {
-    if is_built_cell(config) {
-        let root = image.system.root.memory_regions.as_slice();
-        let pages = pages_of(root, cells, Some(config));
-        refusal_with(alloc, image, cells, may, config, pages)
-    } else {
-        let refusal = refusal_with(alloc, image, cells, may, config, 0)?;
-        Ok(or_unbuilt(refusal))
-    }
+    let root = image.system.root.memory_regions.as_slice();
+    let pages = pages_of(root, cells, Some(config));
+    refusal_with(alloc, image, cells, may, config, pages)
 }
 
 /// The cell comes, unless it is refused.

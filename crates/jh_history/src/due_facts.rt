@@ -1,6 +1,6 @@
 //! What the facts of a sound board say where an entry is due, or where a cell is about to come. Each function
 //! does nothing; its contract is the law.
-ghost use Rattle.std.specs.Prelude.{◌≡◌, ◌≢◌, ◌<◌, ℕ, ℤ, length, All, Option, Some, None};
+ghost use Rattle.std.specs.Prelude.{◌≡◌, ◌≢◌, ◌<◌, ℕ, ℤ, [], length, All, IfSome, Option, Some, None};
 ghost use Rattle.jh_cellcfg.specs.declared.config.CellConfig.{CellConfig as TheConfig};
 ghost use Rattle.jh_cellcfg.specs.declared.live.Live.{Live as TheLive};
 ghost use Rattle.jh_check.specs.Clean.{IsSoundBitmap};
@@ -18,11 +18,15 @@ ghost use Rattle.jh_history.specs.Facts.{Facts};
 ghost use Rattle.jh_history.specs.Configs.{Reads, read_at};
 ghost use Rattle.jh_history.specs.Phases.{creation_of};
 ghost use Rattle.jh_history.specs.Pages.{page_write_by};
-ghost use Rattle.jh_history.specs.Grants.{reach};
+ghost use Rattle.jh_history.specs.declared.device_change.DeviceChange.TheVariants.{Join as Joins};
+ghost use Rattle.jh_history.specs.Access.{slot_of_reach};
+ghost use Rattle.jh_history.specs.Admitted.{IsAdmitted};
+ghost use Rattle.jh_history.specs.Endpoints.{change_by, changing_by, HasGoodDevices, IsNextOf, MayChange};
+ghost use Rattle.jh_history.specs.Grants.{reach, devices_of};
 ghost use Rattle.jh_history.specs.Wants.{IsReachOfEntry};
 ghost use Rattle.jh_history.specs.Due.{due_at};
 ghost use Rattle.jh_history.specs.Sound.{IsSound};
-ghost use Rattle.jh_history.specs.DueFacts.{HasRead, MayLive, NamesCpu, HasPage, ReachesCells, WritesCells};
+ghost use Rattle.jh_history.specs.DueFacts.{HasRead, MayLive, NamesCpu, HasPage, ReachesCells, WritesCells, IsWordOf};
 
 use jh_cellcfg::CellConfig;
 use jh_check::sound_bitmaps_name_few_cpus;
@@ -75,4 +79,16 @@ pub fn sound_cells_name_a_cpu(config: &CellConfig)
 pub fn few_cells_live()
     ensures { (image : TheImage) (f : Facts) (o : TheCall) (config : TheConfig) → IsSound image f → All (λ (live : TheLive). NamesCpu live.config) f.cells →
         NamesCpu config → f.call ≡ Some o → o.phase ≡ ToCreate config → length f.cells < 15 }
+{}
+
+/// The devices of root may join at opening, and those of the cell that a Commit is about may join, be reset or leave.
+/// Those of a cell that comes are as the check wants them. An interrupt that is due is the cell's next one. A word of a
+/// state table that a write writes is that of an endpoint that is there.
+pub fn devices_may_change()
+    ensures opening { (image : TheImage) → IsAdmitted image → MayChange Joins [] image.system.root }
+    ensures commit { (image : TheImage) (f : Facts) (entry : TheEntry) → IsSound image f → due_at image f entry.cpu ≡ Some entry →
+        IfSome (changing_by f.cells f.call entry.act) (MayChange (change_by f.call) f.endpoints) }
+    ensures comes { (image : TheImage) (f : Facts) (caller at : ℕ) (config : TheConfig) → IsSound image f → creation_of image f caller at ≡ Comes config → HasGoodDevices config }
+    ensures interrupt { (image : TheImage) (f : Facts) (entry : TheEntry) → IsSound image f → due_at image f entry.cpu ≡ Some entry → IsNextOf entry.cell f.endpoints entry.act }
+    ensures word { (image : TheImage) (f : Facts) (id value : ℕ) (found : TheReach) → IsSound image f → IfSome (slot_of_reach (devices_of image f id) found value) (IsWordOf f.endpoints) }
 {}

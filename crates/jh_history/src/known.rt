@@ -7,10 +7,11 @@ use crate::call::OpenCall;
 use crate::place::Places;
 use jh_cellcfg::CellConfig;
 use jh_cpu::Cpu;
+use jh_ivshmem::Endpoints;
 use jh_num::NoMemory;
 use jh_script::Op;
 
-/// Tells what holds after a journal of an image: CPUs, their operations, what accesses reach, and bytes.
+/// Tells what holds after a journal of an image: CPUs, their operations, devices, what accesses reach, and bytes.
 pub trait Known {
     ghost use Rattle.jh_num.specs.Memory.{spelled};
     ghost use Rattle.jh_script.specs.declared.image.Image.{Image};
@@ -60,6 +61,10 @@ pub trait Known {
     /// The management call that is open.
     fn call(&self) -> Option<&OpenCall>
         ensures { (i : Image) (f : Facts) → Knows self.now i f → option_copied result ≡ f.call };
+
+    /// The endpoints of all live cells' devices.
+    fn endpoints(&self) -> &Endpoints
+        ensures { (i : Image) (f : Facts) → Knows self.now i f → result.now.list ≡ f.endpoints };
 
     /// The board has no CPU above 15. It does nothing; its contract is what holds of each image.
     fn has_few_cpus(&self)

@@ -13,6 +13,10 @@ mod change;
 mod comm;
 mod counting;
 mod creation;
+mod device_change;
+mod device_specs;
+mod device_write;
+mod devices;
 mod due_facts;
 mod entry;
 mod grants;
@@ -32,8 +36,8 @@ mod reading;
 mod sound;
 mod written;
 
-pub use access::{Access, Reach, Wanted};
-pub use admission::{admit, is_built, is_other_preload, is_sound_preload, pool_pages, root_pages};
+pub use access::{Access, ConfigBytes, Reach, Register, Wanted};
+pub use admission::{admit, is_other_preload, is_sound_preload, pool_pages, root_pages};
 pub use behind::{answer_of, ecam_of, is_within, places_in};
 pub use bytes::{Bytes, value_of};
 pub use call::{Creation, OpenCall, Phase};
@@ -42,8 +46,12 @@ pub use cells::{gives, is_on_board, is_program_of, program_of};
 pub use change::{Change, cpus_after};
 pub use comm::{PageChange, PageWrite};
 pub use creation::judged;
+pub use device_change::{DeviceChange, changing_cell};
+pub use device_specs::{endpoint_of, is_endpoint};
+pub use device_write::{slot_places, write_device};
+pub use devices::Devices;
 pub use due_facts::{
-    a_cell_that_comes_may_live, decides_are_of_the_open_call, few_cells_live,
+    a_cell_that_comes_may_live, decides_are_of_the_open_call, devices_may_change, few_cells_live,
     pages_written_are_of_cells, places_reached_are_of_cells, sound_cells_name_a_cpu,
 };
 pub use entry::{Act, Entry, Heard, Settled};
@@ -59,6 +67,3 @@ pub use place::{Place, Places, Run};
 pub use plain::{due, quiet};
 pub use reading::{RootBytes, read_config};
 pub use sound::legal_journals_are_sound;
-
-#[cfg(test)]
-mod tests;

@@ -1,26 +1,28 @@
 //! What a CPU does next, told by what is known.
-ghost use Rattle.std.specs.Prelude.{◌≡◌, ◌-◌, ◌^◌, ◌<◌, ◌≤◌, ℕ, None, IfSome, IfOk, IsTrue, ◌↔◌, is_some, option_map, option_copied};
+ghost use Rattle.std.specs.Prelude.{◌≡◌, ◌<◌, ◌≤◌, ℕ, None, IfSome, IfOk, IsTrue, ◌↔◌, is_some, option_map, option_copied};
 ghost use Rattle.jh_script.specs.declared.image.Image.{Image as TheImage};
-ghost use Rattle.jh_script.specs.Operations.{is_width, IsPlain};
+ghost use Rattle.jh_script.specs.Operations.{IsPlain};
 ghost use Rattle.jh_cellcfg.specs.Cells.{is_cpu_set as is_cpu_set_lem};
 ghost use Rattle.jh_check.specs.Refusals.{any_below};
 ghost use Rattle.jh_history.specs.Access.{read_of as read_of_lem, is_reached as is_reached_lem};
 ghost use Rattle.jh_history.specs.declared.access.Reach.{Reach as TheReach};
 ghost use Rattle.jh_history.specs.Facts.{Facts};
 ghost use Rattle.jh_history.specs.Wants.{wanted_of as wanted_of_lem, goes_on as goes_on_lem, pending_op as pending_op_lem, wanted_at, IsReachOf, IsReachIn, IsReachAt, IsReachOfAct, IsReachOfEntry};
-ghost use Rattle.jh_history.specs.Due.{act_of as act_of_lem, await_of as await_of_lem, state_act as state_act_lem, call_of as call_of_lem, is_other_due as is_other_due_lem, is_idle_but as is_idle_but_lem, caller_act as caller_act_lem, next_act as next_act_lem, entry_by as entry_by_lem, due_at};
+ghost use Rattle.jh_history.specs.Grants.{devices_of as devices_of_lem};
+ghost use Rattle.jh_history.specs.Due.{irq_of as irq_of_lem, act_of as act_of_lem, await_of as await_of_lem, state_act as state_act_lem, call_of as call_of_lem, is_other_due as is_other_due_lem, is_idle_but as is_idle_but_lem, caller_act as caller_act_lem, next_act as next_act_lem, entry_by as entry_by_lem, due_at};
 ghost use Rattle.jh_history.specs.Admitted.{IsPlainAct};
 
 use crate::access::{Access, Reach, Wanted};
 use crate::call::OpenCall;
 use crate::change::is_running;
+use crate::devices::Devices;
 use crate::entry::{Act, Entry};
 use crate::hypercalls::hvc_act;
 use crate::known::Known;
 use crate::phases::{is_phase_due, phase_act};
 use jh_cpu::Cpu;
 use jh_num::NoMemory;
-use jh_script::{Op, max_of_width};
+use jh_script::Op;
 
 /// The access that the operation makes.
 fn wanted_of(op: Op) -> Option<Wanted>
@@ -91,15 +93,31 @@ pub fn reach_of<K: Known>(known: &K, cpu: u8) -> Reach
     }
 }
 
-/// The number that an access of so many bytes reads where it reaches.
-fn read_of<K: Known>(known: &K, width: u8, reach: &Reach) -> Option<u64>
-    requires { IsTrue (is_width width) }
-    ensures { (i : TheImage) (f : Facts) → K.Knows known.now i f → result ≡ read_of_lem f.byte width reach.now }
+/// The devices of the cell.
+fn devices_of<K: Known>(known: &K, cell: u32) -> Devices
+    ensures { (i : TheImage) (f : Facts) → K.Knows known.now i f → result ≡ devices_of_lem i f cell }
+{
+    match known.cell(u64::from(cell)) {
+        Some(config) => Devices::new(cell, config.pci_devices.as_slice(), known.endpoints()),
+        None => Devices::new(cell, &[], known.endpoints()),
+    }
+}
+
+/// The number that an access of the cell reads where it reaches.
+fn read_of<K: Known>(known: &K, cell: u32, reach: &Reach) -> Option<u64>
+    ensures { (i : TheImage) (f : Facts) → K.Knows known.now i f → result ≡ read_of_lem f.byte (devices_of_lem i f cell) reach.now }
 {
     match reach {
         Reach::Memory(places) => Some(known.value(places)),
         Reach::Subpage(places) => Some(known.value(places)),
-        Reach::Config { .. } => Some(max_of_width(width)),
+        Reach::Config(bytes) => {
+            let value = devices_of(known, cell).read_config(bytes);
+            Some(u64::from(value))
+        }
+        Reach::Window(register) => {
+            let value = devices_of(known, cell).read_register(register);
+            Some(u64::from(value))
+        }
         Reach::Nothing => None,
     }
 }
@@ -111,7 +129,8 @@ fn is_reached(reach: &Reach) -> bool
     match reach {
         Reach::Memory(_) => true,
         Reach::Subpage(_) => true,
-        Reach::Config { .. } => true,
+        Reach::Config(_) => true,
+        Reach::Window(_) => true,
         Reach::Nothing => false,
     }
 }
@@ -142,6 +161,18 @@ fn await_of(width: u8, at: u64, value: u64, got: Option<u64>) -> Option<Act>
     }
 }
 
+/// The interrupt that the cell takes, where a vector of one of its devices is pending.
+fn irq_of<K: Known>(known: &K, cell: u32) -> Option<Act>
+    ensures act { (i : TheImage) (f : Facts) → K.Knows known.now i f → result ≡ irq_of_lem cell f.endpoints }
+    ensures reached { (i : TheImage) (f : Facts) (found : TheReach) → IfSome result (λ act. IsReachOfAct i f cell act found) }
+    ensures plain { IfSome result IsPlainAct }
+{
+    match known.endpoints().pending(cell) {
+        Some((device, vector)) => Some(Act::Irq { device, vector }),
+        None => None,
+    }
+}
+
 /// What the cell's operation comes to, where it is due; `reach` is what its access reaches.
 fn act_of<K: Known>(known: &K, cell: u32, op: Op, reach: &Reach) -> Option<Act>
     requires { IsPlain op }
@@ -151,7 +182,7 @@ fn act_of<K: Known>(known: &K, cell: u32, op: Op, reach: &Reach) -> Option<Act>
 {
     match op {
         Op::Read { width, at } => {
-            let got = read_of(known, width, reach);
+            let got = read_of(known, cell, reach);
             Some(Act::Read { width, at, got })
         }
         Op::Write { width, at, value } => {
@@ -164,14 +195,14 @@ fn act_of<K: Known>(known: &K, cell: u32, op: Op, reach: &Reach) -> Option<Act>
             })
         }
         Op::Fetch { at } => {
-            let got = read_of(known, 4, reach);
+            let got = read_of(known, cell, reach);
             Some(Act::Fetch { at, got })
         }
         Op::Await { width, at, value } => {
-            let got = read_of(known, width, reach);
+            let got = read_of(known, cell, reach);
             await_of(width, at, value, got)
         }
-        Op::Irq => None,
+        Op::Irq => irq_of(known, cell),
         Op::Hvc { code, a, b } => Some(hvc_act(known, cell, code, a, b)),
     }
 }
@@ -217,9 +248,9 @@ fn is_op_due<K: Known>(known: &K, cell: u32, op: Op) -> bool
                 at,
                 width,
             };
-            is_await_due(value, read_of(known, width, &known.reach(cell, &wanted)))
+            is_await_due(value, read_of(known, cell, &known.reach(cell, &wanted)))
         }
-        Op::Irq => false,
+        Op::Irq => known.endpoints().pending(cell).is_some(),
         Op::Hvc { .. } => true,
     }
 }

@@ -148,7 +148,7 @@ fn fresh_of(state: u32, window: u64, cell: Option<&CellConfig>) -> Option<PageWr
 }
 
 /// The configuration of the cell that the phase creates.
-fn coming_in(phase: &Phase) -> Option<&CellConfig>
+pub(crate) fn coming_in(phase: &Phase) -> Option<&CellConfig>
     ensures { (at : ℕ) → option_copied result ≡ created (Create at) phase.now }
 {
     match phase {

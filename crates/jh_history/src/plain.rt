@@ -1,5 +1,5 @@
 //! The facts of a journal, folded from its entries: slow and plain.
-ghost use Rattle.std.specs.Prelude.{◌≡◌, ◌↔◌, ℕ, ◌<◌, ◌≤◌, List, All, Option, Some, option_map, option_copied, IsTrue, IfOk, OnOk, OnErr, slice_get};
+ghost use Rattle.std.specs.Prelude.{◌≡◌, ◌↔◌, ℕ, ◌<◌, ◌≤◌, List, All, Option, Some, option_map, option_copied, IsTrue, IfOk, IfSome, OnOk, OnErr, slice_get, length};
 ghost use Rattle.jh_cellcfg.specs.declared.config.CellConfig.{CellConfig as TheConfig};
 ghost use Rattle.jh_cellcfg.specs.declared.live.Live.{Live as TheLive};
 ghost use Rattle.jh_check.specs.Clean.{IsSoundBitmap, IsSoundCpuSet};
@@ -11,21 +11,32 @@ ghost use Rattle.jh_history.specs.Commits.{cells_by, created_by};
 ghost use Rattle.jh_history.specs.Cpus.{cpu_after};
 ghost use Rattle.jh_script.specs.declared.image.Image.{Image as TheImage};
 ghost use Rattle.jh_history.specs.declared.place.Place.{Place as ThePlace};
-ghost use Rattle.jh_history.specs.Access.{write_of};
+ghost use Rattle.jh_ivshmem.specs.Specs.{IsWithin};
+ghost use Rattle.jh_ivshmem.specs.Links.{pending_of, taken_of};
+ghost use Rattle.jh_history.specs.declared.device_change.DeviceChange.TheVariants.{Join as Joins};
+ghost use Rattle.jh_history.specs.declared.entry.Act.TheVariants.{Commit as Commits};
+ghost use Rattle.jh_history.specs.Access.{write_of, with_slot_if, slot_of_reach};
+ghost use Rattle.jh_history.specs.Devices.{specs_of, specs_at};
+ghost use Rattle.jh_history.specs.Endpoints.{endpoints_put, endpoints_acted, endpoints_after, endpoints_changed, change_by, changing_by, specs_changing, with_words, HasGoodDevices, IsNextOf, MayJoinThem, MayChange};
+ghost use Rattle.jh_history.specs.Grants.{devices_of};
 ghost use Rattle.jh_history.specs.Wants.{reach_of as reach_of_lem};
 ghost use Rattle.jh_history.specs.Lives.{is_on_board as is_on_board_lem};
 ghost use Rattle.jh_history.specs.Facts.{Facts};
 ghost use Rattle.jh_history.specs.Bytes.{byte_written, byte_after};
 ghost use Rattle.jh_history.specs.History.{facts, after, start, coming_by, coming_of};
 ghost use Rattle.jh_history.specs.Due.{due as due_lem, IsLegal, IsQuiet};
-ghost use Rattle.jh_history.specs.Admitted.{IsAdmitted, IsBuilt, IsPlainAct, IsPlainEntry};
-ghost use Rattle.jh_history.specs.PlainView.{last_byte, Stands, IsSameBut, IsDueBeside};
+ghost use Rattle.jh_history.specs.Admitted.{IsAdmitted, IsPlainAct, IsPlainEntry};
+ghost use Rattle.jh_history.specs.PlainView.{last_byte, Stands, IsSameBut, IsDueBeside, HasWords, MayCommit, MayFollow};
 
 use crate::access::{Access, Reach, Wanted};
 use crate::call::{Creation, OpenCall};
 use crate::calling::call_after;
-use crate::cells::reach_in;
+use crate::cells::{devices_in, reach_in};
 use crate::change::cpus_after;
+use crate::device_change::{DeviceChange, changing_cell};
+use crate::device_specs::endpoint_of;
+use crate::device_write::write_device;
+use crate::due_facts::devices_may_change;
 use crate::entry::{Act, Entry};
 use crate::journal::Journal;
 use crate::laws::admitted_roots_are_sound;
@@ -34,25 +45,27 @@ use crate::next::{next_of, none_due, reach_of};
 use crate::pages::page_write;
 use crate::reading::read_config;
 use crate::sound::legal_journals_are_sound;
-use crate::written::{WrittenByte, write_page_if, write_places};
+use crate::written::{WrittenByte, write_page_if, write_places, write_slot, write_slot_if};
 use jh_call::Call;
 use jh_cellcfg::CellConfig;
 use jh_check::sound_bitmaps_name_few_cpus;
 use jh_cpu::Cpu;
+use jh_ivshmem::Endpoints;
 use jh_num::NoMemory;
 use jh_script::Image;
 use std::alloc::Global;
 use std::marker::Model;
 use std::mem;
 
-/// What holds after a journal of an image: the states of its CPUs, the cells that live besides root, the call
-/// that is open, and the bytes that were written, the newest last.
+/// What holds after a journal of an image: the states of its CPUs, the cells that live besides root, the
+/// endpoints of all devices, the call that is open, and the bytes that were written, the newest last.
 #[derive(Drop)]
 pub(crate) struct Plain<'a> {
     pub(crate) alloc: Global,
     pub(crate) image: &'a Image,
     pub(crate) cpus: [Cpu; 16],
     pub(crate) cells: LiveCells,
+    pub(crate) endpoints: Endpoints,
     pub(crate) call: Option<OpenCall>,
     pub(crate) bytes: Vec<WrittenByte>,
 }
@@ -62,7 +75,7 @@ impl<'a> Model for Plain<'a> {
 
     ghost Value = { PlainView };
 
-    ghost view = { λ p. record { image = p.image.now; cpus = p.cpus; cells = p.cells; call = p.call; bytes = p.bytes.items } };
+    ghost view = { λ p. record { image = p.image.now; cpus = p.cpus; cells = p.cells; endpoints = p.endpoints.list; call = p.call; bytes = p.bytes.items } };
 
     ghost invariant = { λ p. IsFit p.image.now p.cells };
 }
@@ -117,42 +130,126 @@ fn sets_name_cpus(cells: &[CellConfig])
     }
 }
 
+/// Makes the change at the device of that number, where it is an ivshmem device, and puts its word of the state table.
+fn change_device(
+    endpoints: &mut Endpoints,
+    bytes: &mut Vec<WrittenByte>,
+    change: DeviceChange,
+    config: &CellConfig,
+    number: usize,
+) -> Result<(), NoMemory>
+    requires number { number < length config.now.pci_devices }
+    requires good { HasGoodDevices config.now }
+    requires within { All IsWithin (specs_at config.now number) }
+    requires new { change ≡ Joins → All (MayJoinThem endpoints.old.list) (specs_at config.now number) }
+    ensures bytes { OnOk result ((image : TheImage) (q : ThePlace) → last_byte image bytes.new.items q ≡ with_words (specs_at config.now number) (last_byte image bytes.old.items) q) }
+    ensures endpoints { OnOk result (endpoints.new.list ≡ endpoints_changed change (specs_at config.now number) endpoints.old.list) }
+{
+    match endpoint_of(config, number, &config.pci_devices.as_slice()[number]) {
+        Some(spec) => {
+            let slot = change.apply(endpoints, spec)?;
+            write_slot(bytes, &slot)?;
+            Ok(())
+        }
+        None => Ok(()),
+    }
+}
+
+/// Makes the change at all devices of the cell, in order, and puts their words of the state tables.
+fn change_devices(
+    endpoints: &mut Endpoints,
+    bytes: &mut Vec<WrittenByte>,
+    change: DeviceChange,
+    config: &CellConfig,
+) -> Result<(), NoMemory>
+    requires { MayChange change endpoints.old.list config.now }
+    ensures bytes { OnOk result ((image : TheImage) (q : ThePlace) → last_byte image bytes.new.items q ≡ with_words (specs_of config.now) (last_byte image bytes.old.items) q) }
+    ensures endpoints { OnOk result (endpoints.new.list ≡ endpoints_changed change (specs_of config.now) endpoints.old.list) }
+{
+    for number in 0..config.pci_devices.len() {
+        change_device(endpoints, bytes, change, config, number)?;
+    }
+    Ok(())
+}
+
 impl<'a> Plain<'a> {
     /// What holds at opening.
-    fn open(alloc: Global, image: &'a Image) -> Self
+    fn open(alloc: Global, image: &'a Image) -> Result<Self, NoMemory>
         requires { IsAdmitted image.now }
-        ensures { Stands result image.now (start image.now) }
+        ensures { IfOk result (λ plain. Stands plain image.now (start image.now)) }
     {
         legal_journals_are_sound();
-        Plain {
+        devices_may_change();
+        let mut endpoints = Endpoints::new(alloc);
+        let mut bytes = Vec::new(alloc);
+        change_devices(
+            &mut endpoints,
+            &mut bytes,
+            DeviceChange::Join,
+            &image.system.root,
+        )?;
+        Ok(Plain {
             alloc,
             image,
             cpus: [Cpu::new(image.system.root.id); 16],
             cells: LiveCells::new(alloc),
+            endpoints,
             call: None,
-            bytes: Vec::new(alloc),
-        }
+            bytes,
+        })
+    }
+
+    /// Writes the value where the cell's access reaches, which is a device.
+    fn write_device(&mut self, cell: u32, reach: &Reach, value: u64) -> Result<(), NoMemory>
+        requires { HasWords self.old }
+        ensures bytes { OnOk result ((i : TheImage) (f : Facts) → Stands self.old i f → (q : ThePlace) → last_byte i self.new.bytes q ≡ with_slot_if (slot_of_reach (devices_of i f cell) reach.now value) f.byte q) }
+        ensures endpoints { OnOk result ((i : TheImage) (f : Facts) → Stands self.old i f → self.new.endpoints ≡ endpoints_put (devices_of i f cell) reach.now value) }
+        ensures others { IsSameBut self.old self.new }
+    {
+        let list = devices_in(self.image, self.cells.configs(), cell);
+        let slot = write_device(&mut self.endpoints, cell, list, reach, value);
+        write_slot_if(&mut self.bytes, slot)?;
+        Ok(())
     }
 
     /// Writes the value where the cell's access reaches.
     fn write_at(&mut self, cell: u32, wanted: &Wanted, value: u64) -> Result<(), NoMemory>
-        requires { wanted.now.width ≤ 8 }
-        ensures bytes { OnOk result ((i : TheImage) (f : Facts) → Stands self.old i f → (q : ThePlace) → last_byte i self.new.bytes q ≡ write_of f.byte (reach_of_lem i f cell wanted.now) value q) }
+        requires few { wanted.now.width ≤ 8 }
+        requires words { HasWords self.old }
+        ensures bytes { OnOk result ((i : TheImage) (f : Facts) → Stands self.old i f → (q : ThePlace) → last_byte i self.new.bytes q ≡ write_of f.byte (devices_of i f cell) (reach_of_lem i f cell wanted.now) value q) }
+        ensures endpoints { OnOk result ((i : TheImage) (f : Facts) → Stands self.old i f → self.new.endpoints ≡ endpoints_put (devices_of i f cell) (reach_of_lem i f cell wanted.now) value) }
         ensures others { IsSameBut self.old self.new }
     {
-        match reach_in(self.image, &self.cells, cell, wanted) {
+        let reach = reach_in(self.image, &self.cells, &self.endpoints, cell, wanted);
+        match &reach {
             Reach::Memory(places) | Reach::Subpage(places) => {
-                write_places(&mut self.bytes, &places, value)?;
+                write_places(&mut self.bytes, places, value)?;
                 Ok(())
             }
-            Reach::Config { .. } | Reach::Nothing => Ok(()),
+            Reach::Config(_) | Reach::Window(_) => {
+                self.write_device(cell, &reach, value)?;
+                Ok(())
+            }
+            Reach::Nothing => Ok(()),
         }
     }
 
-    /// Writes what the act of the cell writes.
+    /// Takes the pending vector of the cell's device.
+    fn take(&mut self, cell: u32)
+        ensures endpoints { self.new.endpoints ≡ taken_of cell (pending_of cell self.old.endpoints) self.old.endpoints }
+        ensures bytes { self.new.bytes ≡ self.old.bytes }
+        ensures others { IsSameBut self.old self.new }
+    {
+        let _ = self.endpoints.take(cell);
+    }
+
+    /// Changes bytes and endpoints as the act of the cell does itself.
     fn write(&mut self, cell: u32, act: &Act) -> Result<(), NoMemory>
-        requires { IsPlainAct act.now }
+        requires plain { IsPlainAct act.now }
+        requires words { HasWords self.old }
         ensures bytes { OnOk result ((i : TheImage) (f : Facts) → Stands self.old i f → (q : ThePlace) → last_byte i self.new.bytes q ≡ byte_written i f cell act.now q) }
+        ensures endpoints { OnOk result ((i : TheImage) (f : Facts) → Stands self.old i f → IsNextOf cell f.endpoints act.now → self.new.endpoints ≡ endpoints_acted i f cell act.now) }
+        ensures commit { OnOk result (act.now ≡ Commits → self.new.endpoints ≡ self.old.endpoints) }
         ensures others { IsSameBut self.old self.new }
     {
         match *act {
@@ -172,20 +269,44 @@ impl<'a> Plain<'a> {
                 }
                 Ok(())
             }
+            Act::Irq { .. } => {
+                self.take(cell);
+                Ok(())
+            }
             _ => Ok(()),
         }
     }
 
-    /// Changes CPUs and bytes as the entry does.
+    /// Changes the devices of the cell that a Commit is about.
+    fn commit_devices(&mut self, act: &Act) -> Result<(), NoMemory>
+        requires { MayCommit self.old act.now }
+        ensures bytes { OnOk result ((i : TheImage) (f : Facts) → f.cells ≡ self.old.cells → f.call ≡ self.old.call → (q : ThePlace) → last_byte i self.new.bytes q ≡ with_words (specs_changing f act.now) (last_byte i self.old.bytes) q) }
+        ensures endpoints { OnOk result ((f : Facts) → f.cells ≡ self.old.cells → f.call ≡ self.old.call → self.new.endpoints ≡ endpoints_changed (change_by f.call) (specs_changing f act.now) self.old.endpoints) }
+        ensures others { IsSameBut self.old self.new }
+    {
+        let change = DeviceChange::by(self.call.as_ref());
+        match changing_cell(self.cells.configs(), self.call.as_ref(), act) {
+            Some(config) => {
+                change_devices(&mut self.endpoints, &mut self.bytes, change, config)?;
+                Ok(())
+            }
+            None => Ok(()),
+        }
+    }
+
+    /// Changes CPUs, endpoints and bytes as the entry does.
     fn change(&mut self, entry: &Entry) -> Result<(), NoMemory>
-        requires { IsPlainEntry entry.now }
+        requires plain { IsPlainEntry entry.now }
+        requires may { MayFollow self.old entry.now }
         ensures cpus { OnOk result ((i : TheImage) (f : Facts) → Stands self.old i f → (k : ℕ) → k < 16 → slice_get self.new.cpus k ≡ Some (cpu_after i f entry.now k)) }
         ensures bytes { OnOk result ((i : TheImage) (f : Facts) → Stands self.old i f → (q : ThePlace) → last_byte i self.new.bytes q ≡ byte_after i f entry.now q) }
+        ensures endpoints { OnOk result ((i : TheImage) (f : Facts) → Stands self.old i f → self.new.endpoints ≡ endpoints_after i f entry.now) }
         ensures image { self.new.image ≡ self.old.image }
         ensures cells { self.new.cells ≡ self.old.cells }
         ensures call { self.new.call ≡ self.old.call }
     {
         self.write(entry.cell, &entry.act)?;
+        self.commit_devices(&entry.act)?;
         cpus_after(&mut self.cpus, self.image, self.call.as_ref(), entry);
         let write = page_write(
             self.image,
@@ -238,6 +359,7 @@ impl<'a> Plain<'a> {
         ensures call { OnOk result (self.new.call ≡ call_by self.old.cells coming self.old.call entry.now entry.now.act) }
         ensures image { self.new.image ≡ self.old.image }
         ensures cpus { self.new.cpus ≡ self.old.cpus }
+        ensures endpoints { self.new.endpoints ≡ self.old.endpoints }
         ensures bytes { self.new.bytes ≡ self.old.bytes }
     {
         legal_journals_are_sound();
@@ -254,6 +376,7 @@ impl<'a> Plain<'a> {
     fn follow(&mut self, entry: &Entry) -> Result<(), NoMemory>
         requires plain { IsPlainEntry entry.now }
         requires due { IsDueBeside self.old.image self.old.cells self.old.call entry.now }
+        requires may { MayFollow self.old entry.now }
         ensures { OnOk result ((i : TheImage) (f : Facts) → Stands self.old i f → Stands self.new i (after i f entry.now)) }
     {
         let coming = self.coming(entry)?;
@@ -269,7 +392,8 @@ impl<'a> Plain<'a> {
         ensures { IfOk result (λ plain. Stands plain image.now (facts image.now entries.now)) }
     {
         legal_journals_are_sound();
-        let mut plain = Plain::open(alloc, image);
+        devices_may_change();
+        let mut plain = Plain::open(alloc, image)?;
         for entry in entries {
             plain.follow(entry)?;
         }
@@ -285,7 +409,6 @@ pub fn due(
     cpu: u8,
 ) -> Result<Option<Entry>, NoMemory>
     requires admitted { IsAdmitted image.now }
-    requires built { IsBuilt image.now }
     requires legal { IsLegal image.now journal.now.entries }
     requires cpu { IsTrue (is_on_board_lem image.now cpu) }
     ensures { IfOk result (λ entry. entry ≡ due_lem image.now journal.now.entries cpu) }
@@ -300,7 +423,6 @@ pub fn due(
 /// Whether nothing is due to any CPU after the journal, by the plain definition.
 pub fn quiet(alloc: Global, image: &Image, journal: &Journal) -> Result<bool, NoMemory>
     requires admitted { IsAdmitted image.now }
-    requires built { IsBuilt image.now }
     requires legal { IsLegal image.now journal.now.entries }
     ensures { IfOk result (λ q. IsTrue q ↔ IsQuiet image.now journal.now.entries) }
 {

@@ -20,9 +20,10 @@ use crate::pages::live_in;
 use crate::place::{Place, Places};
 use crate::plain::Plain;
 use crate::reading::{RootBytes, read_config};
-use crate::written::opening_byte;
+use crate::written::loaded_byte;
 use jh_cellcfg::CellConfig;
 use jh_cpu::Cpu;
+use jh_ivshmem::Endpoints;
 use jh_num::NoMemory;
 use jh_num::error::EPERM;
 use jh_script::Op;
@@ -33,7 +34,7 @@ impl<'a> Bytes for Plain<'a> {
     ghost byte_of = { λ p. last_byte p.image p.bytes };
 
     fn byte(&self, place: Place) -> u8 {
-        let mut byte = opening_byte(self.image, place);
+        let mut byte = loaded_byte(self.image, place);
         for one in &self.bytes {
             if place.is_same(one.place) {
                 byte = one.byte;
@@ -45,11 +46,11 @@ impl<'a> Bytes for Plain<'a> {
 
 impl<'a> RootBytes for Plain<'a> {
     ghost use Rattle.jh_history.specs.declared.access.Access.TheVariants.{Read};
-    ghost use Rattle.jh_history.specs.Access.{reach_by, read_of};
+    ghost use Rattle.jh_history.specs.Access.{reach_by, memory_read};
     ghost use Rattle.jh_history.specs.Grants.{granted_in};
     ghost use Rattle.jh_history.specs.PlainView.{last_byte};
 
-    ghost readable = { λ p at. read_of (last_byte p.image p.bytes) 1 (reach_by (granted_in p.image p.cells p.image.system.root.id Read) at 1) };
+    ghost readable = { λ p at. memory_read (last_byte p.image p.bytes) (reach_by (granted_in p.image p.cells p.image.system.root.id Read) at 1) };
 
     fn read(&self, at: u64) -> Option<u8> {
         let wanted = Wanted {
@@ -128,6 +129,10 @@ impl<'a> Known for Plain<'a> {
         self.call.as_ref()
     }
 
+    fn endpoints(&self) -> &Endpoints {
+        &self.endpoints
+    }
+
     fn has_few_cpus(&self) {
         admitted_roots_are_sound(self.image);
     }
@@ -145,7 +150,7 @@ impl<'a> Known for Plain<'a> {
     }
 
     fn reach(&self, cell: u32, wanted: &Wanted) -> Reach {
-        reach_in(self.image, &self.cells, cell, wanted)
+        reach_in(self.image, &self.cells, &self.endpoints, cell, wanted)
     }
 
     fn value(&self, places: &Places) -> u64 {

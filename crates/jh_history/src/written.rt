@@ -1,17 +1,21 @@
 //! Bytes that entries wrote, for the slow plain program.
-ghost use Rattle.std.specs.Prelude.{◌≡◌, ℕ, ◌+◌, ◌<◌, ◌^◌, ◌++◌, List, length, take, fold, IfOk, OnOk};
+ghost use Rattle.std.specs.Prelude.{◌≡◌, ℕ, ◌+◌, ◌<◌, ◌^◌, ◌++◌, List, length, take, fold, IfOk, IfSome, OnOk};
 ghost use Rattle.jh_script.specs.declared.image.Image.{Image as TheImage};
 ghost use Rattle.jh_history.specs.declared.place.Place.{Place as ThePlace};
 ghost use Rattle.jh_history.specs.Places.{over, places_of_run, IsRun};
-ghost use Rattle.jh_history.specs.Bytes.{preloaded, opening_byte as opening_byte_lem};
+ghost use Rattle.jh_ivshmem.specs.declared.spec.Slot.{Slot as TheSlot};
+ghost use Rattle.jh_history.specs.Access.{with_slot, with_slot_if};
+ghost use Rattle.jh_history.specs.Bytes.{preloaded, loaded_byte as loaded_byte_lem};
 ghost use Rattle.jh_history.specs.declared.comm.PageChange.TheVariants.{State, Message, Fresh};
 ghost use Rattle.jh_history.specs.Pages.{with_page, with_page_write};
 ghost use Rattle.jh_history.specs.Admitted.{IsAdmitted};
 ghost use Rattle.jh_history.specs.PlainView.{last_byte, put_in_page};
 
 use crate::comm::{PageChange, PageWrite};
+use crate::device_write::slot_places;
 use crate::place::{Place, Places, Run};
 use jh_comm::fresh;
+use jh_ivshmem::Slot;
 use jh_num::NoMemory;
 use jh_script::{Image, Preload};
 
@@ -42,7 +46,7 @@ fn preloaded_byte(preload: &Preload, place: u64, before: u8) -> u8
     }
 }
 
-/// The byte of physical memory at opening.
+/// The byte of physical memory that they put.
 fn preloads_byte(image: &Image, place: u64) -> u8
     requires { IsAdmitted image.now }
     ensures { result ≡ fold preloaded (λ _. 0) image.now.preloads place }
@@ -54,10 +58,10 @@ fn preloads_byte(image: &Image, place: u64) -> u8
     byte
 }
 
-/// The byte at opening.
-pub(crate) fn opening_byte(image: &Image, place: Place) -> u8
+/// The byte that the preloads put.
+pub(crate) fn loaded_byte(image: &Image, place: Place) -> u8
     requires { IsAdmitted image.now }
-    ensures { result ≡ opening_byte_lem image.now place }
+    ensures { result ≡ loaded_byte_lem image.now place }
 {
     match place {
         Place::Physical(p) => preloads_byte(image, p),
@@ -93,6 +97,28 @@ pub(crate) fn write_places(
     let rest = write_run(bytes, low, value)?;
     write_run(bytes, high, rest)?;
     Ok(())
+}
+
+/// Writes the word of a state table.
+pub(crate) fn write_slot(bytes: &mut Vec<WrittenByte>, slot: &Slot) -> Result<(), NoMemory>
+    requires { slot.now.place + 4 < 2 ^ 64 }
+    ensures { OnOk result ((image : TheImage) (q : ThePlace) → last_byte image bytes.new.items q ≡ with_slot slot.now (last_byte image bytes.old.items) q) }
+{
+    write_places(bytes, &slot_places(slot), u64::from(slot.value))
+}
+
+/// Writes it, where there is one.
+pub(crate) fn write_slot_if(
+    bytes: &mut Vec<WrittenByte>,
+    slot: Option<Slot>,
+) -> Result<(), NoMemory>
+    requires { IfSome slot (λ (s : TheSlot). s.place + 4 < 2 ^ 64) }
+    ensures { OnOk result ((image : TheImage) (q : ThePlace) → last_byte image bytes.new.items q ≡ with_slot_if slot (last_byte image bytes.old.items) q) }
+{
+    match slot {
+        Some(slot) => write_slot(bytes, &slot),
+        None => Ok(()),
+    }
 }
 
 /// Puts the bytes into the page of the cell, from the offset on.

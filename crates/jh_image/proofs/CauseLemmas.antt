@@ -20,13 +20,13 @@ use Rattle.jh_image.specs.declared.board.BoardFault.TheVariants as boards
 use Rattle.jh_image.specs.declared.board.PreloadFile.{PreloadFile}
 use Rattle.jh_image.specs.declared.board.ProgramFile.{ProgramFile}
 use Rattle.jh_image.specs.declared.fault.ImageCause.{ImageCause}
-use Rattle.jh_image.specs.declared.fault.ImageCause.TheVariants.{ReadFault, Oversize, Json, Member, System, Findings, PoolSmall, Preload as BadPreload, Program as BadProgram, NotBuilt}
+use Rattle.jh_image.specs.declared.fault.ImageCause.TheVariants.{ReadFault, Oversize, Json, Member, System, Findings, PoolSmall, Preload as BadPreload, Program as BadProgram}
 use Rattle.jh_spec.specs.Json.{IsText}
 use Rattle.jh_image.specs.Boards.{board_told, Tells}
 use Rattle.jh_image.specs.Opening.{IsFit}
 use Rattle.jh_image.specs.Files.{Contents, HasBytes, IsOversize, Lists, IsPreloadOf, IsProgramOf, Preloads, Programs}
 use Rattle.jh_image.specs.Images.{HasSystem, IsReady, IsNextPreload, HasPreloads, IsNextProgram, MakesImage, Comes, the_board, the_system, a_preload, a_program}
-use Rattle.jh_image.specs.Causes.{IsBadBoard, IsBadSystem, HasFindings, IsSmall, IsBadPreload, IsBadProgram, IsUnbuilt, Stops}
+use Rattle.jh_image.specs.Causes.{IsBadBoard, IsBadSystem, HasFindings, IsSmall, IsBadPreload, IsBadProgram, Stops}
 use Rattle.jh_image.specs.Laws.{AreTold}
 use Rattle.jh_image.proofs.OneLemmas.{OneSpelling, bytes-one, text-one, listing-one, system-one, preload-one, preloads-one, programs-one}
 use Rattle.jh_image.proofs.UnrefusedLemmas.{SpellingsAreFaultless, preload-at, program-at, not-oversize, ok-err, board-faultless, system-faultless, system-clean, system-roomy}
@@ -348,30 +348,10 @@ program-same contents board file other cause more told one two =
     seats-same contents board file other cause more two.listing told
     (seat-in contents board file cause two.listing told lists one) (seat-in contents board other more two.listing told lists two)
 
-not-program : (contents : Contents) (board file : List ℕ) (cause : ImageCause) (listing : Listing) (image : Image) → AreTold contents
-    → AtProgram contents board file cause → MakesImage contents board listing image → ⊥
-not-program contents board file cause listing image told at makes =
-    let seat = seat-in contents board file cause listing told makes.loaded.ready.has.lists at in
-    program-passed contents file cause listing.programs image.programs (length seat.before) seat.entry told makes.all seat.next seat.stops
-
--- ---- behind all files
-
-data AtEnd (contents : Contents) (board file : List ℕ) : ImageCause → Type 0 where
-  unbuilt : IsUnbuilt contents board file → AtEnd contents board file NotBuilt
-
-end-same : (contents : Contents) (board file other : List ℕ) (cause more : ImageCause) → AtEnd contents board file cause → AtEnd contents board other more → IsOne file other cause more
-end-same contents board file other cause more (unbuilt h) (unbuilt k) = record { same_cause = refl; same_file = h.file_is ∙ sym k.file_is }
-
-end-made : (contents : Contents) (board file : List ℕ) (cause : ImageCause) → AtEnd contents board file cause → (listing : Listing) × ((image : Image) × MakesImage contents board listing image)
-end-made contents board file cause (unbuilt h) = (h.listing, (h.image, h.makes))
-
 -- ---- one stage after another
 
-abbrev FromProgram : Contents → List ℕ → List ℕ → ImageCause → Type 0
-FromProgram contents board file cause = AtProgram contents board file cause ⊎ AtEnd contents board file cause
-
 abbrev FromPreload : Contents → List ℕ → List ℕ → ImageCause → Type 0
-FromPreload contents board file cause = AtPreload contents board file cause ⊎ FromProgram contents board file cause
+FromPreload contents board file cause = AtPreload contents board file cause ⊎ AtProgram contents board file cause
 
 abbrev FromVerdict : Contents → List ℕ → List ℕ → ImageCause → Type 0
 FromVerdict contents board file cause = AtVerdict contents board file cause ⊎ FromPreload contents board file cause
@@ -388,7 +368,7 @@ came-oversize contents board file (the_system listing lists) over = inr (inl (la
 came-oversize contents board file (a_preload listing system preloads entry next) over =
     inr (inr (inr (inl (record { listing = listing; system = system; before = preloads; entry = entry; next = next; stops = large_preload refl over }))))
 came-oversize contents board file (a_program listing system preloads programs entry next) over =
-    inr (inr (inr (inr (inl (record { listing = listing; system = system; preloads = preloads; programs = programs; entry = entry; next = next; stops = large_program refl over })))))
+    inr (inr (inr (inr (record { listing = listing; system = system; preloads = preloads; programs = programs; entry = entry; next = next; stops = large_program refl over }))))
 
 bad-preload : (contents : Contents) (board file : List ℕ) (number : ℕ) → IsBadPreload contents board file number → AtPreload contents board file (BadPreload number)
 bad-preload contents board file number h =
@@ -416,14 +396,12 @@ stage-of contents board file (System fault) ne h = inr (inl (bad_system fault h)
 stage-of contents board file (Findings found) ne h = inr (inr (inl (something_found found h)))
 stage-of contents board file (PoolSmall need have) ne h = inr (inr (inl (small need have h)))
 stage-of contents board file (BadPreload number) ne h = inr (inr (inr (inl (bad-preload contents board file number h))))
-stage-of contents board file (BadProgram fault) ne h = inr (inr (inr (inr (inl (bad-program contents board file fault h)))))
-stage-of contents board file NotBuilt ne h = inr (inr (inr (inr (inr (unbuilt h)))))
+stage-of contents board file (BadProgram fault) ne h = inr (inr (inr (inr (bad-program contents board file fault h))))
 
 -- what stands before each stage
-loaded-before : (contents : Contents) (board file : List ℕ) (cause : ImageCause) → FromProgram contents board file cause
+loaded-before : (contents : Contents) (board file : List ℕ) (cause : ImageCause) → AtProgram contents board file cause
     → (listing : Listing) × ((system : SystemConfig) × ((all : List Preload) × HasPreloads contents board listing system all))
-loaded-before contents board file cause (inl at) = (at.listing, (at.system, (at.preloads, at.next.loaded)))
-loaded-before contents board file cause (inr at) = let made = end-made contents board file cause at in (made.0, (made.1.0.system, (made.1.0.preloads, made.1.1.loaded)))
+loaded-before contents board file cause at = (at.listing, (at.system, (at.preloads, at.next.loaded)))
 
 ready-before : (contents : Contents) (board file : List ℕ) (cause : ImageCause) → FromPreload contents board file cause
     → (listing : Listing) × ((system : SystemConfig) × IsReady contents board listing system)
@@ -440,12 +418,6 @@ listed-before contents board file cause (inl at) = listed-system contents board 
 listed-before contents board file cause (inr at) = let has = system-before contents board file cause at in (has.0, has.1.1.lists)
 
 -- two stops from a stage on
-from-program : (contents : Contents) (board file other : List ℕ) (cause more : ImageCause) → AreTold contents → FromProgram contents board file cause → FromProgram contents board other more → IsOne file other cause more
-from-program contents board file other cause more told (inl one) (inl two) = program-same contents board file other cause more told one two
-from-program contents board file other cause more told (inl one) (inr two) = let made = end-made contents board other more two in absurd (not-program contents board file cause made.0 made.1.0 told one made.1.1)
-from-program contents board file other cause more told (inr one) (inl two) = let made = end-made contents board file cause one in absurd (not-program contents board other more made.0 made.1.0 told two made.1.1)
-from-program contents board file other cause more told (inr one) (inr two) = end-same contents board file other cause more one two
-
 from-preload : OneSpelling → (contents : Contents) (board file other : List ℕ) (cause more : ImageCause) → AreTold contents → FromPreload contents board file cause → FromPreload contents board other more → IsOne file other cause more
 from-preload spelling contents board file other cause more told (inl one) (inl two) = preload-same spelling contents board file other cause more told one two
 from-preload spelling contents board file other cause more told (inl one) (inr two) =
@@ -454,7 +426,7 @@ from-preload spelling contents board file other cause more told (inl one) (inr t
 from-preload spelling contents board file other cause more told (inr one) (inl two) =
     let loaded = loaded-before contents board file cause one in
     absurd (not-preload spelling contents board other more loaded.0 loaded.1.0 loaded.1.1.0 told two loaded.1.1.1)
-from-preload spelling contents board file other cause more told (inr one) (inr two) = from-program contents board file other cause more told one two
+from-preload spelling contents board file other cause more told (inr one) (inr two) = program-same contents board file other cause more told one two
 
 from-verdict : OneSpelling → (contents : Contents) (board file other : List ℕ) (cause more : ImageCause) → AreTold contents → FromVerdict contents board file cause → FromVerdict contents board other more → IsOne file other cause more
 from-verdict spelling contents board file other cause more told (inl one) (inl two) = verdict-same spelling contents board file other cause more told one two

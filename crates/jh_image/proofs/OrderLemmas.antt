@@ -7,7 +7,7 @@ use Rattle.jh_image.specs.declared.board.Listing.{Listing}
 use Rattle.jh_image.specs.declared.board.BoardFault.{BoardFault}
 use Rattle.jh_image.specs.declared.board.BoardFault.TheVariants as boards
 use Rattle.jh_image.specs.declared.fault.ImageCause.{ImageCause}
-use Rattle.jh_image.specs.declared.fault.ImageCause.TheVariants.{ReadFault, NotBuilt}
+use Rattle.jh_image.specs.declared.fault.ImageCause.TheVariants.{ReadFault}
 use Rattle.jh_image.specs.Files.{Contents, Lists}
 use Rattle.jh_image.specs.Causes.{IsBoardRefusal, IsUnsound}
 use Rattle.jh_image.specs.Order.{ask_for, preload_name, program_name, board_files, AsksBoard, AsksBoardUntil, until_the_board, until_a_file}
@@ -55,8 +55,3 @@ module _ {S : Type 0} (one : S → Ask → S → Type 0) (failed : S → List �
 
     pub to_the_programs : (s t u : S) → AsksAll one failed (board ∷ listing.system ∷ map preload_name listing.preloads) s t → AsksAll one failed (map program_name listing.programs) t u → AsksAll one failed (board_files board listing) s u
     to_the_programs s t u first asked = all-both one failed s t u (board ∷ listing.system ∷ map preload_name listing.preloads) (map program_name listing.programs) first asked
-
-    -- what isn't built is found when all files were read
-    pub unbuilt_at_last : (s t : S) → AsksAll one failed (board_files board listing) s t → AsksBoardUntil one failed contents board NotBuilt s t
-    unbuilt_at_last s t all =
-        until_a_file listing lists (until-last one failed s t board (listing.system ∷ (map preload_name listing.preloads ++ map program_name listing.programs)) all)

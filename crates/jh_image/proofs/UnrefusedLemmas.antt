@@ -16,19 +16,19 @@ use Rattle.jh_script.specs.declared.image.Program.{Program}
 use Rattle.jh_script.specs.declared.image.Image.{Image}
 use Rattle.jh_script.specs.declared.fault.ScriptFault.{ScriptFault}
 use Rattle.jh_script.specs.Programs.{program_of}
-use Rattle.jh_history.specs.Admitted.{IsBuilt, root_pages, pool_pages}
+use Rattle.jh_history.specs.Admitted.{root_pages, pool_pages}
 use Rattle.jh_image.specs.declared.board.Listing.{Listing}
 use Rattle.jh_image.specs.declared.board.BoardFault.{BoardFault}
 use Rattle.jh_image.specs.declared.board.BoardFault.TheVariants as boards
 use Rattle.jh_image.specs.declared.board.PreloadFile.{PreloadFile}
 use Rattle.jh_image.specs.declared.board.ProgramFile.{ProgramFile}
 use Rattle.jh_image.specs.declared.fault.ImageCause.{ImageCause}
-use Rattle.jh_image.specs.declared.fault.ImageCause.TheVariants.{ReadFault, Oversize, Json, Member, System, Findings, PoolSmall, Preload as BadPreload, Program as BadProgram, NotBuilt}
+use Rattle.jh_image.specs.declared.fault.ImageCause.TheVariants.{ReadFault, Oversize, Json, Member, System, Findings, PoolSmall, Preload as BadPreload, Program as BadProgram}
 use Rattle.jh_image.specs.Boards.{board_told, Tells}
 use Rattle.jh_image.specs.Opening.{IsFit}
 use Rattle.jh_image.specs.Files.{Contents, Hands, HasBytes, IsOversize, Lists, IsPreloadOf, IsProgramOf, Preloads, no_preloads, one_more_preload, Programs, no_programs, one_more_program}
 use Rattle.jh_image.specs.Images.{HasSystem, MakesImage, Comes, the_board, the_system, a_preload, a_program, IsImage}
-use Rattle.jh_image.specs.Causes.{IsBadBoard, IsBadSystem, IsSmall, IsBadPreload, IsBadProgram, IsUnbuilt, Stops}
+use Rattle.jh_image.specs.Causes.{IsBadBoard, IsBadSystem, IsSmall, IsBadPreload, IsBadProgram, Stops}
 use Rattle.jh_image.specs.Laws.{AreTold}
 use Rattle.jh_image.proofs.OneLemmas.{OneSpelling, bytes-one, listing-told, listing-one, system-one, preload-one, preloads-one, makes-one}
 
@@ -183,11 +183,6 @@ program-faultless contents board file listing image fault told makes bad =
     let same : at.1.bytes ≡ bad.bytes = bytes-one contents bad.entry.file at.1.bytes bad.bytes told at.1.has.handed handed in
     ok-err (program_of bad.bytes) at.0.ops fault (sym (ap program_of same) ∙ at.1.told) bad.told
 
-all-built : OneSpelling → (contents : Contents) (board file : List ℕ) (image : Image) → AreTold contents → IsImage contents board image → IsUnbuilt contents board file → ⊥
-all-built spelling contents board file image told is bad =
-    let same : image ≡ bad.image = makes-one contents board is.listing bad.listing image bad.image spelling told is.makes bad.makes in
-    bad.unbuilt (subst IsBuilt same is.built)
-
 -- ---- all of them
 
 pub unrefused : OneSpelling → SpellingsAreFaultless → (contents : Contents) (board file : List ℕ) (image : Image) (cause : ImageCause) → AreTold contents → IsImage contents board image → Stops contents board file cause → cause ≡ ReadFault
@@ -211,4 +206,3 @@ unrefused spelling faultless contents board file image (PoolSmall need have) tol
     absurd (system-roomy spelling contents board file is.listing image.system need have told ready.has ready.sound.room h)
 unrefused spelling faultless contents board file image (BadPreload number) told is h = absurd (preload-faultless spelling contents board file is.listing image number told is.makes h)
 unrefused spelling faultless contents board file image (BadProgram fault) told is h = absurd (program-faultless contents board file is.listing image fault told is.makes h)
-unrefused spelling faultless contents board file image NotBuilt told is h = absurd (all-built spelling contents board file image told is h)

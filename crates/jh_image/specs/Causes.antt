@@ -11,7 +11,7 @@ use Rattle.jh_script.specs.declared.image.Program.{Program}
 use Rattle.jh_script.specs.declared.image.Image.{Image}
 use Rattle.jh_script.specs.declared.fault.ScriptFault.{ScriptFault}
 use Rattle.jh_script.specs.Programs.{program_of}
-use Rattle.jh_history.specs.Admitted.{IsBuilt, root_pages, pool_pages}
+use Rattle.jh_history.specs.Admitted.{root_pages, pool_pages}
 use Rattle.jh_outside.specs.Count.{Rose}
 use Rattle.jh_image.specs.declared.board.Listing.{Listing}
 use Rattle.jh_image.specs.declared.board.BoardFault.{BoardFault}
@@ -19,7 +19,7 @@ use Rattle.jh_image.specs.declared.board.BoardFault.TheVariants as boards
 use Rattle.jh_image.specs.declared.board.PreloadFile.{PreloadFile}
 use Rattle.jh_image.specs.declared.board.ProgramFile.{ProgramFile}
 use Rattle.jh_image.specs.declared.fault.ImageCause.{ImageCause}
-use Rattle.jh_image.specs.declared.fault.ImageCause.TheVariants.{ReadFault, Oversize, Json, Member, System, Findings, PoolSmall, Preload as BadPreload, Program as BadProgram, NotBuilt}
+use Rattle.jh_image.specs.declared.fault.ImageCause.TheVariants.{ReadFault, Oversize, Json, Member, System, Findings, PoolSmall, Preload as BadPreload, Program as BadProgram}
 use Rattle.jh_image.specs.declared.fault.ImageFault.{ImageFault}
 use Rattle.jh_image.specs.declared.fault.ImageFault.TheVariants.{Refused, NoMemory}
 use Rattle.jh_image.specs.Boards.{Tells}
@@ -89,14 +89,6 @@ pub record IsBadProgram (contents : Contents) (board file : List ℕ) (fault : S
   pub has : HasBytes contents file bytes
   pub told : program_of bytes ≡ Err fault
 
--- the files make an image with something that isn't built yet; this names the board
-pub record IsUnbuilt (contents : Contents) (board file : List ℕ) : Type 0 where
-  pub listing : Listing
-  pub image : Image
-  pub makes : MakesImage contents board listing image
-  pub unbuilt : ¬ IsBuilt image
-  pub file_is : file ≡ board
-
 -- reading the board stops at this file, for this cause; which of the files that are read could not be read only
 -- the files know
 abbrev pub Stops : Contents → List ℕ → List ℕ → ImageCause → Type 0
@@ -109,7 +101,6 @@ Stops contents board file (Findings found) = HasFindings contents board file fou
 Stops contents board file (PoolSmall need have) = IsSmall contents board file need have
 Stops contents board file (BadPreload number) = IsBadPreload contents board file number
 Stops contents board file (BadProgram fault) = IsBadProgram contents board file fault
-Stops contents board file NotBuilt = IsUnbuilt contents board file
 
 -- a fact of the file and the cause, unless memory ran out
 abbrev pub OnRefused : (List ℕ → ImageCause → Type 0) → ImageFault → Type 0

@@ -5,7 +5,7 @@ use Rattle.jh_cellcfg.specs.declared.config.SystemConfig.{SystemConfig}
 use Rattle.jh_script.specs.declared.image.Preload.{Preload}
 use Rattle.jh_script.specs.declared.image.Program.{Program}
 use Rattle.jh_script.specs.declared.image.Image.{Image}
-use Rattle.jh_history.specs.Admitted.{IsBuilt, IsAdmittedSystem}
+use Rattle.jh_history.specs.Admitted.{IsAdmittedSystem}
 use Rattle.jh_image.specs.declared.board.Listing.{Listing}
 use Rattle.jh_image.specs.declared.board.PreloadFile.{PreloadFile}
 use Rattle.jh_image.specs.declared.board.ProgramFile.{ProgramFile}
@@ -50,8 +50,7 @@ pub data Comes (contents : Contents) (board : List ℕ) : List ℕ → Type 0 wh
   a_preload : (listing : Listing) (system : SystemConfig) (preloads : List Preload) (file : PreloadFile) → IsNextPreload contents board listing system preloads file → Comes contents board file.file
   a_program : (listing : Listing) (system : SystemConfig) (preloads : List Preload) (programs : List Program) (file : ProgramFile) → IsNextProgram contents board listing system preloads programs file → Comes contents board file.file
 
--- the board's files make this image, and nothing in it isn't built yet
+-- the board's files make this image
 pub record IsImage (contents : Contents) (board : List ℕ) (image : Image) : Type 0 where
   pub listing : Listing
   pub makes : MakesImage contents board listing image
-  pub built : IsBuilt image

@@ -3,7 +3,7 @@ use Rattle.std.specs.Prelude.{ℕ, List, ◌++◌, length, codes, decimal}
 use Rattle.jh_cellcfg.specs.Texts.{fault_text}
 use Rattle.jh_script.specs.FaultText.{script_fault_text}
 use Rattle.jh_image.specs.declared.fault.ImageCause.{ImageCause}
-use Rattle.jh_image.specs.declared.fault.ImageCause.TheVariants.{ReadFault, Oversize, Json, Member, System, Findings, PoolSmall, Preload, Program, NotBuilt}
+use Rattle.jh_image.specs.declared.fault.ImageCause.TheVariants.{ReadFault, Oversize, Json, Member, System, Findings, PoolSmall, Preload, Program}
 
 abbrev pub cause_text : ImageCause → List ℕ
 cause_text ReadFault = codes "read fault"
@@ -15,4 +15,3 @@ cause_text (Findings found) = codes "findings " ++ decimal (length found)
 cause_text (PoolSmall need have) = codes "pool " ++ (decimal need ++ (codes " " ++ decimal have))
 cause_text (Preload number) = codes "preload " ++ decimal number
 cause_text (Program fault) = script_fault_text fault
-cause_text NotBuilt = codes "not built"

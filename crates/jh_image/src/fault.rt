@@ -38,8 +38,6 @@ pub enum ImageCause {
     Preload { number: u32 },
     /// The program's text is none.
     Program(ScriptFault),
-    /// The image has something that isn't built yet. It names the board.
-    NotBuilt,
 }
 
 impl From<NoMemory> for ImageFault {

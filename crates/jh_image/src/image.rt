@@ -1,7 +1,7 @@
 //! From a board to the image that its files make.
 ghost use Rattle.std.specs.Prelude.{◌≡◌, ◌≤◌, ◌<◌, ◌∷◌, [], true, IfOk, IfErr, OnOk, All, AllPairs, length, map};
 ghost use Rattle.jh_image.specs.declared.board.Listing.{Listing as TheListing};
-ghost use Rattle.jh_history.specs.Admitted.{IsSoundPreload, IsOtherPreload, IsSoundProgram, IsOtherProgram, IsAdmitted, IsBuilt};
+ghost use Rattle.jh_history.specs.Admitted.{IsSoundPreload, IsOtherPreload, IsSoundProgram, IsOtherProgram, IsAdmitted};
 ghost use Rattle.jh_image.specs.Boards.{are_distinct, seat_of};
 ghost use Rattle.jh_image.specs.Opening.{IsFit};
 ghost use Rattle.jh_image.specs.Files.{Lists, IsPreloadOf, Preloads, Programs};
@@ -17,7 +17,6 @@ use crate::fit::is_fit;
 use crate::read::{read_listing, read_preload, read_program_file, read_system_file};
 use crate::refusal::refused;
 use jh_cellcfg::SystemConfig;
-use jh_history::is_built;
 use jh_num::Seq;
 use jh_outside::Files;
 use jh_script::{Image, Preload, Program};
@@ -136,7 +135,6 @@ fn read_programs<F: Files>(
 pub fn read_image<F: Files>(alloc: Global, files: &mut F, name: &str) -> Result<Image, ImageFault>
     ensures answers { Answers (F.contents files.old) name.now result }
     ensures admitted { IfOk result IsAdmitted }
-    ensures built { IfOk result IsBuilt }
     ensures counted { IfErr result (IsCounted (F.faults files.old) (F.faults files.new) (F.failed files.new)) }
     ensures never_falls { F.faults files.old ≤ F.faults files.new }
     ensures kept { F.contents files.new ≡ F.contents files.old }
@@ -148,13 +146,9 @@ pub fn read_image<F: Files>(alloc: Global, files: &mut F, name: &str) -> Result<
     let system = read_ready(alloc, files, name, &listing)?;
     let preloads = read_preloads(alloc, files, name, &listing, &system)?;
     let programs = read_programs(alloc, files, name, &listing, &system, preloads.as_slice())?;
-    let image = Image {
+    Ok(Image {
         system,
         preloads,
         programs,
-    };
-    if !is_built(&image) {
-        return Err(refused(alloc, name, ImageCause::NotBuilt));
-    }
-    Ok(image)
+    })
 }

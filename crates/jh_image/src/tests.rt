@@ -304,12 +304,12 @@ fn systems_have_their_causes(rt: HostRuntime) -> Result<(), Fail> {
 }
 
 #[test]
-fn root_has_a_part_of_a_page_and_no_device(rt: HostRuntime) -> Result<(), Fail> {
+fn root_may_have_a_device_and_a_part_of_a_page(rt: HostRuntime) -> Result<(), Fail> {
     let mut bytes = system(rt.alloc(), 0x40_0000, 0, 2, 0)?;
     region(&mut bytes, 0x900_0000, 0x100, 0x1_0003)?;
     with(&rt, rt.alloc(), "s", bytes.as_slice(), "made")?;
     let bytes = system_with_device(rt.alloc())?;
-    with(&rt, rt.alloc(), "s", bytes.as_slice(), "b.json: not built")
+    with(&rt, rt.alloc(), "s", bytes.as_slice(), "made")
 }
 
 #[test]

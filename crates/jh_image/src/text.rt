@@ -33,7 +33,6 @@ pub fn cause_text(alloc: Global, cause: &ImageCause) -> Result<Vec<u8>, NoMemory
         ImageCause::PoolSmall { need, have } => format!(in alloc; "pool {need} {have}")?,
         ImageCause::Preload { number } => format!(in alloc; "preload {number}")?,
         ImageCause::Program(fault) => fault.to_string(alloc)?,
-        ImageCause::NotBuilt => String::from_str(alloc, "not built")?,
     };
     Ok(text.into_bytes())
 }

@@ -1,54 +1,71 @@
 -- Bytes, by the entries that write them.
-use Rattle.std.proofs.Common.{inl, inr, ◌≡◌, ◌≢◌, ◌≤◌, leb, ltb, ℕ, zero, suc, ◌+◌, ◌-◌, ◌/◌, ◌%◌, ◌^◌, ◌<◌, List, [], ◌∷◌, ◌++◌, length, get_or, Bool, true, false, cond, refl, sym, ap, subst, ◌∙◌, arith, append_assoc}
+use Rattle.std.proofs.Common.{inl, inr, ◌≡◌, ◌≢◌, ◌≤◌, leb, ltb, ℕ, zero, suc, ◌+◌, ◌-◌, ◌<◌, List, [], ◌∷◌, ◌++◌, length, get_or, Bool, true, false, cond, Some, refl, sym, ap, subst, ◌∙◌, arith, append_assoc}
 use Rattle.std.specs.Prelude.{IsTrue, slice_index, AllPairs, Contains}
 use Rattle.std.specs.List.{fold, AllByRecursion}
 use Rattle.std.proofs.lemmas.Bool.{false≢true, cases_Bool, and_from, and_parts, le-leb, lt-ltb, leb-true, ltb-true}
+use Rattle.std.proofs.lemmas.Option.{none-some}
 use Rattle.std.proofs.lemmas.List.{get_or_default}
-use Rattle.jh_num.proofs.MemoryLemmas.{listed}
 use Rattle.jh_cellcfg.specs.declared.live.Live.{Live}
+use Rattle.jh_cellcfg.specs.Cells.{name_of}
+use Rattle.jh_ivshmem.specs.declared.endpoint.Endpoint.{Endpoint}
+use Rattle.jh_ivshmem.specs.declared.spec.EndpointSpec.{EndpointSpec}
+use Rattle.jh_ivshmem.specs.Links.{endpoint_at}
 use Rattle.jh_script.specs.declared.image.Image.{Image}
 use Rattle.jh_script.specs.declared.image.Preload.{Preload}
 use Rattle.jh_history.specs.declared.place.Place.{Place}
 use Rattle.jh_history.specs.declared.place.Place.TheVariants.{Physical, Page}
 use Rattle.jh_history.specs.declared.access.Access.TheVariants.{Write as ToWrite}
-use Rattle.jh_history.specs.declared.access.Reach.{Reach}
-use Rattle.jh_history.specs.declared.access.Reach.TheVariants.{Memory}
 use Rattle.jh_history.specs.declared.entry.Entry.{Entry}
 use Rattle.jh_history.specs.declared.entry.Act.{Act}
 use Rattle.jh_history.specs.declared.entry.Act.TheVariants.{Write}
-use Rattle.jh_history.specs.Places.{over, number_of}
-use Rattle.jh_history.specs.Access.{write_of}
 use Rattle.jh_history.specs.Facts.{Facts}
-use Rattle.jh_history.specs.Grants.{reach}
-use Rattle.jh_history.specs.Bytes.{byte_written, preloaded}
+use Rattle.jh_history.specs.Bytes.{byte_written, preloaded, loaded_byte}
+use Rattle.jh_history.specs.Devices.{specs_of}
+use Rattle.jh_history.specs.Endpoints.{with_words}
 use Rattle.jh_history.specs.History.{after, facts}
 use Rattle.jh_history.specs.Due.{IsLegal, IsLegalFrom}
 use Rattle.jh_history.specs.Admitted.{IsAdmitted, has_byte_at, IsOtherPreload}
-use Rattle.jh_history.proofs.PlaceLemmas.{written-over}
 use Rattle.jh_history.proofs.AloneLemmas.{byte_after-roots}
 use Rattle.jh_history.proofs.FactsLemmas.{byte-after, facts-push, facts-nil}
 use Rattle.jh_history.proofs.LegalLemmas.{IsLegal-begin, IsLegal-rest, facts-append}
 use Rattle.jh_laws.specs.Outcomes.{is_violation}
 use Rattle.jh_laws.specs.Writes.{Writes, WritesNot}
 use Rattle.jh_laws.specs.Written.{IsByteBy}
+use Rattle.jh_laws.specs.Ends.{IsAnsweredByRegister}
+use Rattle.jh_laws.specs.Journals.{HasNoDevice}
+use Rattle.jh_laws.proofs.RootLemmas.{op-plain}
+use Rattle.jh_laws.proofs.EndsLemmas.{IsSmallAct, op-small}
+use Rattle.jh_laws.proofs.WordLemmas.{words-page}
 use Rattle.jh_laws.proofs.WrittenLemmas.{write-puts, write-kept}
-use Rattle.jh_laws.proofs.MadeLemmas.{IsSilent, by_root, IsAccess, IsNext, AllRoots, made-access, next-made, roots_after, roots-at, made-at}
-use Rattle.jh_laws.proofs.OutcomeLemmas.{alone-sound}
+use Rattle.jh_laws.proofs.MadeLemmas.{IsSilent, by_root, IsNext, AllRoots, no-specs_of_root, next-made, roots_after, roots-at, made-at}
+use Rattle.jh_laws.proofs.OutcomeLemmas.{roots-sound}
+
+-- root has no register, where no device has an endpoint
+no_register : (image : Image) (f : Facts) (at width n bar offset : ℕ) (e : Endpoint) → f.endpoints ≡ [] → IsAnsweredByRegister image f image.system.root.id ToWrite at width n bar offset e → ⊥
+no_register image f at width n bar offset e bare by =
+    let P : List Endpoint → Type 0 = λ endpoints. endpoint_at image.system.root.id n endpoints ≡ Some e in
+    none-some e (subst P bare by.within.is.there)
 
 -- what a write writes, where root lives alone
-is_written : (image : Image) (f : Facts) (act : Act) (place : Place) (byte : ℕ) → IsSilent image → f.cells ≡ [] → Writes image image.system.root act place byte → byte_written image f image.system.root.id act place ≡ byte
-is_written image f (Write width at value true) place byte admitted alone writes =
+is_written : (image : Image) (f : Facts) (act : Act) (place : Place) (byte : ℕ) → IsSilent image → AllRoots image f → Writes image image.system.root act place byte → byte_written image f image.system.root.id act place ≡ byte
+is_written image f (Write width at value true) place byte admitted roots writes =
     let P : List Live → Type 0 = λ cells. IsByteBy image cells image.system.root.id at width value place byte in
-    write-puts image f image.system.root.id at width value place byte (alone-sound image f admitted.admitted alone) (subst P (sym alone) writes.1)
-is_written image f (Write width at value false) place byte admitted alone writes = absurd (false≢true writes.0)
-is_written image f _ place byte admitted alone writes = absurd writes
+    write-puts image f image.system.root.id at width value place byte (roots-sound image f admitted roots) (subst P (sym roots.alone.cells) writes.1)
+is_written image f (Write width at value false) place byte admitted roots writes = absurd (false≢true writes.0)
+is_written image f _ place byte admitted roots writes = absurd writes
 
-byte_kept : (image : Image) (f : Facts) (act : Act) (place : Place) → IsSilent image → f.cells ≡ [] → ((byte : ℕ) → Writes image image.system.root act place byte → ⊥) → byte_written image f image.system.root.id act place ≡ f.byte place
-byte_kept image f (Write width at value true) place admitted alone none =
-    write-kept image f image.system.root.id at width value place (alone-sound image f admitted.admitted alone)
-    (λ byte h. let P : List Live → Type 0 = λ cells. IsByteBy image cells image.system.root.id at width value place byte in none byte (refl, subst P alone h))
-byte_kept image f (Write width at value false) place admitted alone none = refl
-byte_kept image f _ place admitted alone none = refl
+byte_kept : (image : Image) (f : Facts) (act : Act) (place : Place) → IsSilent image → AllRoots image f → IsSmallAct act → ((byte : ℕ) → Writes image image.system.root act place byte → ⊥) → byte_written image f image.system.root.id act place ≡ f.byte place
+byte_kept image f (Write width at value true) place admitted roots small none =
+    write-kept image f image.system.root.id at width value place (roots-sound image f admitted roots) small.1
+    (λ byte h. let P : List Live → Type 0 = λ cells. IsByteBy image cells image.system.root.id at width value place byte in none byte (refl, subst P roots.alone.cells h))
+    (λ n e by. absurd (no_register image f at width n 0 0x10 e roots.endpoints by))
+byte_kept image f (Write width at value false) place admitted roots small none = refl
+byte_kept image f _ place admitted roots small none = refl
+
+-- the value fits its width
+made_small : (image : Image) (f : Facts) (entry : Entry) → IsSilent image → IsNext image f entry → IsSmallAct entry.act
+made_small image f entry admitted made =
+    op-small image f image.system.root.id made.op entry.act (op-plain image (name_of image.system.root) entry.cpu (f.cpu entry.cpu).position made.op admitted.admitted made.at) made.act
 
 -- one entry
 after_at_root : (image : Image) (f : Facts) (entry : Entry) (place : Place) → IsSilent image → AllRoots image f → IsNext image f entry → (after image f entry).byte place ≡ byte_written image f image.system.root.id entry.act place
@@ -59,11 +76,11 @@ after_at_root image f entry place admitted roots made =
 
 after_written : (image : Image) (f : Facts) (entry : Entry) (place : Place) (byte : ℕ) → IsSilent image → AllRoots image f → IsNext image f entry → Writes image image.system.root entry.act place byte → (after image f entry).byte place ≡ byte
 after_written image f entry place byte admitted roots made writes =
-    after_at_root image f entry place admitted roots made ∙ is_written image f entry.act place byte admitted roots.alone.cells writes
+    after_at_root image f entry place admitted roots made ∙ is_written image f entry.act place byte admitted roots writes
 
 after_kept : (image : Image) (f : Facts) (entry : Entry) (place : Place) → IsSilent image → AllRoots image f → IsNext image f entry → WritesNot image image.system.root place entry → (after image f entry).byte place ≡ f.byte place
 after_kept image f entry place admitted roots made none =
-    after_at_root image f entry place admitted roots made ∙ byte_kept image f entry.act place admitted roots.alone.cells none
+    after_at_root image f entry place admitted roots made ∙ byte_kept image f entry.act place admitted roots (made_small image f entry admitted made) none
 
 roots_before : (image : Image) (before rest : List Entry) → IsSilent image → IsLegal image (before ++ rest) → AllRoots image (facts image before)
 roots_before image before rest admitted legal = roots-at image before admitted (IsLegal-begin image before rest legal)
@@ -144,41 +161,45 @@ opened_put f (p ∷ ps) place zero d lt has apart =
     ∙ ap (λ (b : Bool). cond b (slice_index p.bytes (place - p.at)) (f place)) has
 opened_put f (p ∷ ps) place (suc i) d lt has apart = opened_put (preloaded f p) ps place i d (omega arith) has (apart_later p ps apart)
 
-opening_is : (image : Image) (place : ℕ) → (facts image []).byte (Physical place) ≡ fold preloaded (λ _. 0) image.preloads place
-opening_is image place = ap (λ (f : Facts). f.byte (Physical place)) (facts-nil image)
+-- the bytes at opening, where root has no device
+opening_is : (image : Image) (q : Place) → HasNoDevice image → (facts image []).byte q ≡ loaded_byte image q
+opening_is image q bare =
+    ap (λ (f : Facts). f.byte q) (facts-nil image)
+    ∙ ap (λ (specs : List EndpointSpec). with_words specs (loaded_byte image) q) (no-specs_of_root image bare)
 
+-- no word of a state table is in a page
 pub opening-page : (image : Image) (cell offset : ℕ) → (facts image []).byte (Page cell offset) ≡ 0
-opening-page image cell offset = ap (λ (f : Facts). f.byte (Page cell offset)) (facts-nil image)
+opening-page image cell offset = ap (λ (f : Facts). f.byte (Page cell offset)) (facts-nil image) ∙ words-page (specs_of image.system.root) (loaded_byte image) cell offset
 
 -- what a preload puts stands there at opening
-opening-put : (image : Image) (place : ℕ) (p : Preload) → IsAdmitted image → Contains image.preloads p → IsTrue (has_byte_at p place) → (facts image []).byte (Physical place) ≡ slice_index p.bytes (place - p.at)
-opening-put image place p admitted held has =
+opening-put : (image : Image) (place : ℕ) (p : Preload) → IsAdmitted image → HasNoDevice image → Contains image.preloads p → IsTrue (has_byte_at p place) → (facts image []).byte (Physical place) ≡ slice_index p.bytes (place - p.at)
+opening-put image place p admitted bare held has =
     let same : get_or image.preloads held.0 p ≡ p = held.2 in
-    opening_is image place
+    opening_is image (Physical place) bare
     ∙ opened_put (λ _. 0) image.preloads place held.0 p held.1 (ap (λ (q : Preload). has_byte_at q place) same ∙ has) admitted.apart
     ∙ ap (λ (q : Preload). slice_index q.bytes (place - q.at)) same
 
 -- and 0 elsewhere
-opening-none : (image : Image) (place : ℕ) → ((p : Preload) → Contains image.preloads p → IsTrue (has_byte_at p place) → ⊥) → (facts image []).byte (Physical place) ≡ 0
-opening-none image place none =
+opening-none : (image : Image) (place : ℕ) → HasNoDevice image → ((p : Preload) → Contains image.preloads p → IsTrue (has_byte_at p place) → ⊥) → (facts image []).byte (Physical place) ≡ 0
+opening-none image place bare none =
     let each : NoneAt image.preloads place = λ k d lt. elim (cases_Bool (has_byte_at (get_or image.preloads k d) place)) [
       | inl has ↦ absurd (none (get_or image.preloads k d) (k, lt, get_or_default image.preloads k (get_or image.preloads k d) d lt) has)
       | inr absent ↦ absent
     ] in
-    opening_is image place ∙ opened_none (λ _. 0) image.preloads place each
+    opening_is image (Physical place) bare ∙ opened_none (λ _. 0) image.preloads place each
 
 -- both by the place's number in the preload
 has_byte-there : (p : Preload) (k : ℕ) → k < length p.bytes → has_byte_at p (p.at + k) ≡ true
 has_byte-there p k lt = and_from (leb p.at (p.at + k)) (ltb (p.at + k) (p.at + length p.bytes)) (le-leb p.at (p.at + k) (omega arith)) (lt-ltb (p.at + k) (p.at + length p.bytes) (omega arith))
 
-pub opening-byte : (image : Image) (p : Preload) (k : ℕ) → IsAdmitted image → Contains image.preloads p → k < length p.bytes → (facts image []).byte (Physical (p.at + k)) ≡ slice_index p.bytes k
-opening-byte image p k admitted held lt =
+pub opening-byte : (image : Image) (p : Preload) (k : ℕ) → IsAdmitted image → HasNoDevice image → Contains image.preloads p → k < length p.bytes → (facts image []).byte (Physical (p.at + k)) ≡ slice_index p.bytes k
+opening-byte image p k admitted bare held lt =
     let same : (p.at + k) - p.at ≡ k = omega arith in
-    opening-put image (p.at + k) p admitted held (has_byte-there p k lt) ∙ ap (slice_index p.bytes) same
+    opening-put image (p.at + k) p admitted bare held (has_byte-there p k lt) ∙ ap (slice_index p.bytes) same
 
-pub opening-zero : (image : Image) (place : ℕ) → ((p : Preload) (k : ℕ) → Contains image.preloads p → k < length p.bytes → place ≢ p.at + k) → (facts image []).byte (Physical place) ≡ 0
-opening-zero image place none =
-    opening-none image place (λ p held has.
+pub opening-zero : (image : Image) (place : ℕ) → HasNoDevice image → ((p : Preload) (k : ℕ) → Contains image.preloads p → k < length p.bytes → place ≢ p.at + k) → (facts image []).byte (Physical place) ≡ 0
+opening-zero image place bare none =
+    opening-none image place bare (λ p held has.
     let parts = and_parts (leb p.at place) (ltb place (p.at + length p.bytes)) has in
     let first : p.at ≤ place = leb-true p.at place parts.0 in
     let last : place < p.at + length p.bytes = ltb-true place (p.at + length p.bytes) parts.1 in

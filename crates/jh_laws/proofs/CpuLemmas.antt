@@ -125,7 +125,7 @@ made_from image cpu f (entry ∷ entries) admitted roots legal =
 pub operations-taken : (image : Image) (entries : List Entry) (cpu : ℕ) → IsSilent image → IsLegal image entries
     → operations_by cpu entries ≡ take ((facts image entries).cpu cpu).position (program_in image image.system.root cpu)
 unfolding facts IsLegal
-operations-taken image entries cpu admitted legal = made_from image cpu (start image) entries admitted (roots-start image) legal
+operations-taken image entries cpu admitted legal = made_from image cpu (start image) entries admitted (roots-start image admitted.bare) legal
 
 -- as many as its position tells
 abbrev IsCounted : ℕ → Facts → Facts → List Entry → Type 0
@@ -164,5 +164,5 @@ counted_from image cpu f (entry ∷ entries) admitted roots legal =
 pub operations-counted : (image : Image) (entries : List Entry) (cpu : ℕ) → IsSilent image → IsLegal image entries → ((facts image entries).cpu cpu).position ≡ length (operations_by cpu entries)
 unfolding facts IsLegal
 operations-counted image entries cpu admitted legal =
-    let counted : IsCounted cpu (start image) (fold (after image) (start image) entries) entries = counted_from image cpu (start image) entries admitted (roots-start image) legal in
+    let counted : IsCounted cpu (start image) (fold (after image) (start image) entries) entries = counted_from image cpu (start image) entries admitted (roots-start image admitted.bare) legal in
     counted ∙ zero-add (length (operations_by cpu entries))

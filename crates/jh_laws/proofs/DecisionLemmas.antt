@@ -32,7 +32,7 @@ use Rattle.jh_history.specs.Lives.{cell_in}
 use Rattle.jh_history.specs.Admitted.{IsAdmitted, pool_pages}
 use Rattle.jh_history.specs.Configs.{ReadCell, bytes_at, read_whole, read_behind, read_from, read_at}
 use Rattle.jh_history.specs.History.{facts}
-use Rattle.jh_history.specs.Phases.{phase_act, keeps_decide, state_word, may_give, configs_of, is_locked, is_other_locked, unless_refused, creation_by, creation_of, refused_by, id_refusal, first_refusal, decision, is_built_cell, or_unbuilt}
+use Rattle.jh_history.specs.Phases.{phase_act, keeps_decide, state_word, may_give, configs_of, is_locked, is_other_locked, unless_refused, creation_by, creation_of, refused_by, id_refusal, first_refusal, decision}
 use Rattle.jh_history.specs.Due.{due_at, is_idle_but, IsLegal}
 use Rattle.jh_history.proofs.LegalLemmas.{due-split, IsLegal-begin}
 use Rattle.jh_history.specs.Sound.{AreSoundCells}
@@ -141,18 +141,15 @@ read_whole_of image f caller at header bytes free some is all =
     let config : CellConfig = config_of bytes in
     let pages : ℕ = pages_of image.system.root.memory_regions (configs_of f.cells ++ config ∷ []) in
     let refusal : Option ℤ = refusal_of image.system (configs_of f.cells) config (may_give image f caller) pages (pool_pages image.system) in
-    let early : Option ℤ = or_unbuilt (refusal_of image.system (configs_of f.cells) config (may_give image f caller) 0 (pool_pages image.system)) in
-    let read : refused_by (creation_of image f caller at) ≡ refused_by (unless_refused config (cond (is_built_cell config) refusal early)) =
+    let read : refused_by (creation_of image f caller at) ≡ refused_by (unless_refused config refusal) =
     created_read image f caller at free
     ∙ ap (λ (o : Option (List ℕ)). by_read image f caller (read_from image f at o)) some
     ∙ ap (λ (o : Option ConfigFault). by_read image f caller (read_behind image f at header o)) is
     ∙ ap (λ (o : Option (List ℕ)). by_read image f caller (read_whole o)) all in
-    let cause : is_built_cell config ≡ true → refused_by (creation_of image f caller at) ≡ refusal =
-    λ built. read ∙ ap (λ (b : Bool). refused_by (unless_refused config (cond b refusal early))) built ∙ refused_of config refusal in
+    let cause : refused_by (creation_of image f caller at) ≡ refusal = read ∙ refused_of config refusal in
     record {
       cause = cause;
-      unbuilt = λ built. read ∙ ap (λ (b : Bool). refused_by (unless_refused config (cond b refusal early))) built ∙ refused_of config early;
-      goes = λ built accepted. cause built ∙ accepted-to image.system (configs_of f.cells) config (may_give image f caller) pages (pool_pages image.system) accepted;
+      goes = λ accepted. cause ∙ accepted-to image.system (configs_of f.cells) config (may_give image f caller) pages (pool_pages image.system) accepted;
     }
 
 create_decision : (image : Image) (f : Facts) (caller at : ℕ) → IsCreateDecision image f caller at (refused_by (creation_of image f caller at))

@@ -1,5 +1,5 @@
 -- When an entry is due to a CPU of a sound board.
-use Rattle.std.proofs.Common.{◌≡◌, ◌≢◌, ℕ, ◌+◌, ◌<◌, ◌≤◌, List, ℤ, Bool, true, false, cond, not, ◌&&◌, ◌||◌, eqb, Option, Some, None, is_some, refl, sym, ap, subst, ◌∙◌, inl, inr, ◌⊎◌, ⊎_elim, arith}
+use Rattle.std.proofs.Common.{◌≡◌, ◌≢◌, ℕ, ◌<◌, ◌≤◌, List, ℤ, Bool, true, false, cond, not, ◌&&◌, ◌||◌, eqb, Option, Some, None, is_some, refl, sym, ap, subst, ◌∙◌, inl, inr, ◌⊎◌, ⊎_elim, arith}
 use Rattle.std.specs.Prelude.{Contains, find, option_map, option_and_then, nat_le}
 use Rattle.std.specs.Option.{option_map_or}
 use Rattle.std.proofs.lemmas.Bool.{both_ways, and_parts, and_from, or_left, or_right, or_cases, eqb-true, eq-eqb, ne_eqb, cases_Bool, not-true, not_from_false, false_from_ne_true, le-leb, leb-true, false≢true}
@@ -12,6 +12,7 @@ use Rattle.jh_check.specs.Refusals.{any_below}
 use Rattle.jh_check.proofs.RefusalLemmas.{below-at, below-of}
 use Rattle.jh_comm.specs.declared.words.TheConstants.{REPLY_REQUEST_APPROVED, REPLY_RECEIVED}
 use Rattle.jh_cpu.specs.declared.cpu.Cpu.{Cpu}
+use Rattle.jh_ivshmem.specs.Links.{pending_of}
 use Rattle.jh_call.specs.declared.call.Call.{Call}
 use Rattle.jh_call.specs.declared.call.Call.TheVariants.{Create, Start, Loadable, Destroy, Info, State, CpuInfo, Unknown}
 use Rattle.jh_script.specs.declared.image.Image.{Image}
@@ -30,17 +31,15 @@ use Rattle.jh_history.specs.declared.entry.Settled.TheVariants.{Agreed, Denied, 
 use Rattle.jh_history.specs.declared.entry.Heard.{Heard}
 use Rattle.jh_history.specs.declared.entry.Heard.TheVariants.{Received, Down, Other, Timeout as Silent}
 use Rattle.jh_history.specs.declared.entry.Act.{Act}
-use Rattle.jh_history.specs.declared.entry.Act.TheVariants.{Await, Stop, Decide, Settle, Commit, Noted}
-use Rattle.jh_history.specs.Access.{read_of}
+use Rattle.jh_history.specs.declared.entry.Act.TheVariants.{Await, Irq, Stop, Decide, Settle, Commit, Noted}
 use Rattle.jh_history.specs.Facts.{Facts}
 use Rattle.jh_history.specs.Lives.{is_on_board, live_in, op_at, cell_in}
-use Rattle.jh_history.specs.Grants.{granted, reach}
 use Rattle.jh_history.specs.Calls.{is_named}
 use Rattle.jh_history.specs.Cpus.{is_running}
 use Rattle.jh_history.specs.Pages.{named_cell}
 use Rattle.jh_history.specs.Wants.{goes_on, pending_op}
 use Rattle.jh_history.specs.Phases.{phase_act, keeps_decide, keeps_commit, configs_of, decision, is_down, is_over, settled_by, settled_of, heard_by, heard_of, state_word, reply_word}
-use Rattle.jh_history.specs.Due.{due_at, entry_of, entry_by, next_act, state_act, act_of, await_of, caller_act, is_idle_but}
+use Rattle.jh_history.specs.Due.{due_at, entry_of, entry_by, next_act, state_act, act_of, await_of, got_by, caller_act, is_idle_but}
 use Rattle.jh_history.specs.Admitted.{IsAdmitted}
 use Rattle.jh_history.specs.Sound.{AreSoundCells, IsHalted, IsAsked, IsHalting, IsCaller, IsOpen, IsSound}
 use Rattle.jh_laws.specs.Ends.{IsAnswered, IsReadBy, IsGotBy}
@@ -51,6 +50,7 @@ use Rattle.jh_history.proofs.SoundCommitLemmas.{halted-to_commit, named-board}
 use Rattle.jh_history.proofs.SoundDueLemmas.{IsOfProgram, state-parts}
 use Rattle.jh_laws.proofs.CallLemmas.{sound-open}
 use Rattle.jh_laws.proofs.HeldLemmas.{found-by_id}
+use Rattle.jh_laws.proofs.PendingLemmas.{next-some, next-is}
 use Rattle.jh_laws.proofs.EndsLemmas.{got-of_cell, one-value, width-some, ops-plain}
 
 -- ---- what an operation comes to
@@ -59,7 +59,7 @@ abbrev picked_place : Option Place → Place
 picked_place None = Physical 0
 picked_place (Some place) = place
 
-await_due : (image : Image) (f : Facts) (id width at value : ℕ) (o : Option ℕ) → IsGotBy image f id ToRead at width o → is_some (await_of width at value o) ≡ true → IsAnswered image f.cells id ToRead at width → IsReadBy image f id ToRead at width value
+await_due : (image : Image) (f : Facts) (id width at value : ℕ) (o : Option ℕ) → IsGotBy image f id ToRead at width o → is_some (await_of width at value o) ≡ true → IsAnswered image f id ToRead at width → IsReadBy image f id ToRead at width value
 await_due image f id width at value None got due answered = absurd (false≢true (got.answered.1 answered))
 await_due image f id width at value (Some n) got due answered =
     ⊎_elim
@@ -67,28 +67,32 @@ await_due image f id width at value (Some n) got due answered =
     (λ (apart : eqb n value ≡ false). absurd (both_ways (is_some (await_of width at value (Some n))) (ap (λ (b : Bool). is_some (cond b (Some (Await width at value true)) None)) apart) due))
     (cases_Bool (eqb n value))
 
-due_await : (image : Image) (f : Facts) (id width at value : ℕ) (o : Option ℕ) → AreSoundCells image.system (configs_of f.cells) → IsGotBy image f id ToRead at width o
-    → (IsAnswered image f.cells id ToRead at width → IsReadBy image f id ToRead at width value) → is_some (await_of width at value o) ≡ true
+due_await : (image : Image) (f : Facts) (id width at value : ℕ) (o : Option ℕ) → IsSound image f → IsGotBy image f id ToRead at width o
+    → (IsAnswered image f id ToRead at width → IsReadBy image f id ToRead at width value) → is_some (await_of width at value o) ≡ true
 due_await image f id width at value None sound got due = refl
 due_await image f id width at value (Some n) sound got due =
     let answered = got.answered.0 refl in
     let same : n ≡ value = one-value image f id ToRead at width n value sound answered (got.reads n refl) (due answered) in
     ap (λ (b : Bool). is_some (cond b (Some (Await width at value true)) None)) (eq-eqb n value same)
 
-op_due : (image : Image) (f : Facts) (id : ℕ) (op : Op) → AreSoundCells image.system (configs_of f.cells) → IsPlain op → is_some (act_of image f id op) ≡ true → IsDueIn image f id op
+irq_due : (image : Image) (f : Facts) (id : ℕ) (o : Option (ℕ × ℕ)) → IsSound image f → pending_of id f.endpoints ≡ o → is_some (option_map (λ (next : ℕ × ℕ). Irq next.0 next.1) o) ≡ true → IsDueIn image f id IrqOp
+irq_due image f id None sound is due = absurd (false≢true due)
+irq_due image f id (Some next) sound is due = (next.0, next.1, (next-is image f id next.0 next.1 sound is).pending)
+
+op_due : (image : Image) (f : Facts) (id : ℕ) (op : Op) → IsSound image f → IsPlain op → is_some (act_of image f id op) ≡ true → IsDueIn image f id op
 op_due image f id (ReadOp width at) sound plain due = tt
 op_due image f id (WriteOp width at value) sound plain due = tt
 op_due image f id (FetchOp at) sound plain due = tt
-op_due image f id (AwaitOp width at value) sound plain due = await_due image f id width at value (read_of f.byte width (reach image f id ToRead at width)) (got-of_cell image f id ToRead at width sound (width-some width plain.0)) due
-op_due image f id IrqOp sound plain due = absurd (false≢true due)
+op_due image f id (AwaitOp width at value) sound plain due = await_due image f id width at value (got_by image f id ToRead at width) (got-of_cell image f id ToRead at width sound (width-some width plain.0)) due
+op_due image f id IrqOp sound plain due = irq_due image f id (pending_of id f.endpoints) sound refl due
 op_due image f id (HvcOp code a b) sound plain due = tt
 
-due_op : (image : Image) (f : Facts) (id : ℕ) (op : Op) → AreSoundCells image.system (configs_of f.cells) → IsPlain op → IsDueIn image f id op → is_some (act_of image f id op) ≡ true
+due_op : (image : Image) (f : Facts) (id : ℕ) (op : Op) → IsSound image f → IsPlain op → IsDueIn image f id op → is_some (act_of image f id op) ≡ true
 due_op image f id (ReadOp width at) sound plain due = refl
 due_op image f id (WriteOp width at value) sound plain due = refl
 due_op image f id (FetchOp at) sound plain due = refl
-due_op image f id (AwaitOp width at value) sound plain due = due_await image f id width at value (read_of f.byte width (reach image f id ToRead at width)) sound (got-of_cell image f id ToRead at width sound (width-some width plain.0)) due
-due_op image f id IrqOp sound plain due = absurd due
+due_op image f id (AwaitOp width at value) sound plain due = due_await image f id width at value (got_by image f id ToRead at width) sound (got-of_cell image f id ToRead at width sound (width-some width plain.0)) due
+due_op image f id IrqOp sound plain due = (let next = next-some f id due.0 due.1 due.2 in ap (λ (o : Option (ℕ × ℕ)). is_some (option_map (λ (n : ℕ × ℕ). Irq n.0 n.1) o)) next.1)
 due_op image f id (HvcOp code a b) sound plain due = refl
 
 -- ---- what is due, by the act
@@ -124,7 +128,7 @@ plain_at : (image : Image) (f : Facts) (cpu : ℕ) (op : Op) → IsAdmitted imag
 plain_at image f cpu op admitted at = ops-plain image cpu (cell_in image f.cells (f.cpu cpu).owner) (f.cpu cpu).position op admitted at
 
 -- what the state alone makes due
-state_ready : (image : Image) (f : Facts) (cpu : ℕ) → IsAdmitted image → AreSoundCells image.system (configs_of f.cells) → ((o : OpenCall) → f.call ≡ Some o → o.caller ≢ cpu) → is_some (state_act image f (f.cpu cpu) cpu) ≡ true
+state_ready : (image : Image) (f : Facts) (cpu : ℕ) → IsAdmitted image → IsSound image f → ((o : OpenCall) → f.call ≡ Some o → o.caller ≢ cpu) → is_some (state_act image f (f.cpu cpu) cpu) ≡ true
     → ((f.cpu cpu).asked ≡ true) ⊎ IsReadyProgram image f cpu
 state_ready image f cpu admitted sound none due =
     let act = some_of (state_act image f (f.cpu cpu) cpu) due in
@@ -144,7 +148,7 @@ state_ready image f cpu admitted sound none due =
 asked_state : (image : Image) (f : Facts) (cpu : ℕ) → (f.cpu cpu).asked ≡ true → is_some (state_act image f (f.cpu cpu) cpu) ≡ true
 asked_state image f cpu asked = ap (λ (b : Bool). is_some (cond b (Some Stop) (option_and_then (act_of image f (f.cpu cpu).owner) (pending_op image f (f.cpu cpu) cpu)))) asked
 
-program_state : (image : Image) (f : Facts) (cpu : ℕ) → IsAdmitted image → AreSoundCells image.system (configs_of f.cells) → IsReadyProgram image f cpu → is_some (state_act image f (f.cpu cpu) cpu) ≡ true
+program_state : (image : Image) (f : Facts) (cpu : ℕ) → IsAdmitted image → IsSound image f → IsReadyProgram image f cpu → is_some (state_act image f (f.cpu cpu) cpu) ≡ true
 program_state image f cpu admitted sound ready =
     let state : Cpu = f.cpu cpu in
     let goes : goes_on state ≡ true = calm-goes state ready.calm ready.running in
@@ -519,7 +523,7 @@ own_next image f o cpu is own caller = next_some image f cpu o true is (eq-eqb o
 ready_by : (image : Image) (f : Facts) (cpu : ℕ) (call : Option OpenCall) → IsAdmitted image → IsSound image f → f.call ≡ call → is_some (next_act image f (f.cpu cpu) cpu) ≡ true → ((f.cpu cpu).asked ≡ true) ⊎ (IsReadyCaller image f cpu ⊎ IsReadyProgram image f cpu)
 ready_by image f cpu None admitted sound is h =
     ⊎_elim (λ asked. inl asked) (λ program. inr (inr program))
-    (state_ready image f cpu admitted sound.cells (λ o opens. absurd (none-some o (sym is ∙ opens))) (sym (ap (λ (a : Option Act). is_some a) (next_none image f cpu is)) ∙ h))
+    (state_ready image f cpu admitted sound (λ o opens. absurd (none-some o (sym is ∙ opens))) (sym (ap (λ (a : Option Act). is_some a) (next_none image f cpu is)) ∙ h))
 ready_by image f cpu (Some o) admitted sound is h =
     let opens = sound-open image f o sound is in
     ⊎_elim
@@ -528,7 +532,7 @@ ready_by image f cpu (Some o) admitted sound is h =
     inr (inl (o, is, same, phase_ready image f o.caller o.call o.phase sound is opens (sym (ap (λ (a : Option Act). is_some a) (own_next image f o cpu is same opens.caller)) ∙ h))))
     (λ (other : eqb o.caller cpu ≡ false).
     ⊎_elim (λ asked. inl asked) (λ program. inr (inr program))
-    (state_ready image f cpu admitted sound.cells
+    (state_ready image f cpu admitted sound
     (λ p there e. both_ways (eqb o.caller cpu) other (eq-eqb o.caller cpu (ap (λ (x : OpenCall). x.caller) (same_Some o p (sym is ∙ there)) ∙ e)))
     (sym (ap (λ (a : Option Act). is_some a) (next_some image f cpu o false is other)) ∙ h)))
     (cases_Bool (eqb o.caller cpu))
@@ -563,6 +567,6 @@ due-from_ready image f cpu admitted sound ready =
     let o : OpenCall = caller.0 in
     let opens = sound-open image f o sound caller.1 in
     ap (λ (a : Option Act). is_some a) (own_next image f o cpu caller.1 caller.2 opens.caller) ∙ ready_phase image f o.caller o.call o.phase sound caller.1 opens caller.3)
-    (λ (program : IsReadyProgram image f cpu). ap (λ (a : Option Act). is_some a) (state_next image f cpu f.call refl program.none) ∙ program_state image f cpu admitted sound.cells program)
+    (λ (program : IsReadyProgram image f cpu). ap (λ (a : Option Act). is_some a) (state_next image f cpu f.call refl program.none) ∙ program_state image f cpu admitted sound program)
     rest)
     ready.what

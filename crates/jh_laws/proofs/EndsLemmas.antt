@@ -1,67 +1,55 @@
 -- How the accesses of live cells end on a sound board.
-use Rattle.std.proofs.Common.{◌≡◌, ◌≢◌, ℕ, suc, ◌+◌, ◌-◌, ◌^◌, ◌<◌, ◌≤◌, List, [], ◌∷◌, ◌++◌, Bool, true, false, cond, ◌&&◌, eqb, length, get_or, map, Option, Some, None, refl, sym, ap, subst, ◌∙◌, inl, inr, ⊎_elim, arith}
-use Rattle.std.specs.Prelude.{Contains, find, option_map, option_and_then, slice_get, nat_eq, IsTrue, IfSome}
+use Rattle.std.proofs.Common.{◌≡◌, ℕ, ◌+◌, ◌-◌, ◌^◌, ◌<◌, List, [], ◌∷◌, ◌++◌, true, false, ◌&&◌, eqb, map, Option, Some, None, refl, sym, ap, subst, ◌∙◌, inl, inr, ⊎_elim, arith}
+use Rattle.std.specs.Prelude.{option_map, slice_get, IsTrue, IfSome}
 use Rattle.std.specs.Option.{option_map_or}
-use Rattle.std.specs.Cmp.Lexicographic.{pointwise}
-use Rattle.std.proofs.lemmas.Bool.{both_ways, or_parts, and_parts, and_from, cond_both, eqb-true, eq-eqb, ne_eqb, cases_lt, false≢true, false_from_ne_true}
-use Rattle.std.proofs.lemmas.Option.{none-some, same_Some, slice_get-get_or, get_or_from_slice_get}
-use Rattle.jh_num.specs.declared.address.TheConstants.{ADDRESS_END}
+use Rattle.std.proofs.lemmas.Bool.{cond_both, eqb-true, false≢true}
+use Rattle.std.proofs.lemmas.Option.{none-some, same_Some}
 use Rattle.jh_num.specs.Memory.{spelled}
-use Rattle.jh_num.proofs.Lists.{IsOnly, IsFound-from_find, find-only, find-some, Contains-from_map}
 use Rattle.jh_num.proofs.MemoryLemmas.{listed, spelled-listed}
 use Rattle.jh_cellcfg.specs.declared.config.CellConfig.{CellConfig}
-use Rattle.jh_cellcfg.specs.declared.config.SystemConfig.{SystemConfig}
 use Rattle.jh_cellcfg.specs.declared.live.Live.{Live}
 use Rattle.jh_cellcfg.specs.declared.region.Region.{Region}
-use Rattle.jh_cellcfg.specs.Lives.{has_id}
 use Rattle.jh_cellcfg.specs.Cells.{name_of}
-use Rattle.jh_cellcfg.specs.Regions.{has_flags, has_address, virt_end, is_comm}
-use Rattle.jh_check.specs.Laws.{IsNumbered}
-use Rattle.jh_shape.specs.Laws.{IsTaken}
-use Rattle.jh_shape.specs.Shapes.{is_closed, holder_of_live}
-use Rattle.jh_shape.proofs.LawLemmas.{taken_there, taken_back}
 use Rattle.jh_script.specs.declared.image.Image.{Image}
 use Rattle.jh_script.specs.declared.op.Op.{Op}
 use Rattle.jh_script.specs.declared.op.Op.TheVariants.{Read as ReadOp, Write as WriteOp, Fetch as FetchOp, Await as AwaitOp, Irq as IrqOp, Hvc as HvcOp}
 use Rattle.jh_script.specs.Operations.{IsPlain, is_width}
 use Rattle.jh_cpu.specs.declared.cpu.Cpu.{Cpu}
+use Rattle.jh_ivshmem.specs.declared.endpoint.Endpoint.{Endpoint}
+use Rattle.jh_ivshmem.specs.Links.{pending_of}
+use Rattle.jh_ivshmem.specs.Registers.{register_of}
 use Rattle.jh_call.specs.Calls.{decoded, is_management}
 use Rattle.jh_call.specs.Answers.{answer_of}
 use Rattle.jh_history.specs.declared.place.Place.{Place}
-use Rattle.jh_history.specs.declared.place.Place.TheVariants.{Physical, Page}
+use Rattle.jh_history.specs.declared.place.Place.TheVariants.{Physical}
 use Rattle.jh_history.specs.declared.access.Access.{Access}
 use Rattle.jh_history.specs.declared.access.Access.TheVariants.{Read as ToRead, Write as ToWrite, Fetch as ToFetch}
 use Rattle.jh_history.specs.declared.access.Reach.{Reach}
-use Rattle.jh_history.specs.declared.access.Reach.TheVariants.{Memory, Nothing}
 use Rattle.jh_history.specs.declared.entry.Entry.{Entry}
 use Rattle.jh_history.specs.declared.entry.Act.{Act}
 use Rattle.jh_history.specs.declared.entry.Act.TheVariants.{Read, Write, Fetch, Await, Irq, Hvc, Begin, Stop, Decide, Settle, Commit, Note, Noted, Finish}
-use Rattle.jh_history.specs.Access.{gives, right_of, region_of, place_in_cell, place_of, places_from, memory_or_nothing, read_of, is_reached}
+use Rattle.jh_history.specs.Access.{place_in_cell, config_told, register_told, read_of, is_reached}
+use Rattle.jh_history.specs.Devices.{function_at}
 use Rattle.jh_history.specs.Facts.{Facts}
-use Rattle.jh_history.specs.Lives.{cell_in, live_in, regions_in, ops_in, program_of}
-use Rattle.jh_history.specs.Grants.{is_kept, unless, granted_by, granted_in, granted, reach}
+use Rattle.jh_history.specs.Lives.{cell_in, ops_in, program_of}
+use Rattle.jh_history.specs.Grants.{granted, reach, devices_of}
 use Rattle.jh_history.specs.Hypercalls.{seen_of}
 use Rattle.jh_history.specs.Phases.{configs_of}
 use Rattle.jh_history.specs.History.{facts}
-use Rattle.jh_history.specs.Due.{due_at, act_of, await_of, IsLegal}
+use Rattle.jh_history.specs.Due.{due_at, act_of, await_of, got_by, IsLegal}
 use Rattle.jh_history.specs.Admitted.{IsAdmitted}
 use Rattle.jh_history.proofs.LegalLemmas.{due-split, IsLegal-begin}
-use Rattle.jh_history.proofs.AccessLemmas.{reach_by-within, reach_by-beyond}
-use Rattle.jh_history.specs.Sound.{AreTwo, AreSoundCells, IsSound}
-use Rattle.jh_laws.specs.Grants.{may, IsGranted}
+use Rattle.jh_history.specs.Sound.{AreSoundCells, IsSound}
 use Rattle.jh_laws.specs.Ways.{is_phase}
-use Rattle.jh_laws.proofs.RootLemmas.{has_address-first, has_address-last, has_address-from, gives-address, gives-pages, gives-right, gives-from, op-plain}
-use Rattle.jh_laws.proofs.ListedLemmas.{places_from-listed, places_from-each, places_from-some}
-use Rattle.jh_history.proofs.SoundCpusLemmas.{other-root}
-use Rattle.jh_history.proofs.SoundDecideLemmas.{found-live}
+use Rattle.jh_laws.proofs.RootLemmas.{op-plain}
 use Rattle.jh_history.proofs.SoundDueLemmas.{next-from_due}
 use Rattle.jh_history.proofs.SoundLemmas.{legal-sound}
 use Rattle.jh_laws.proofs.CallLemmas.{IsMadeBy, Stopping, Running, Calling, made-by}
-use Rattle.jh_history.specs.Places.{places_in_row}
 use Rattle.jh_laws.specs.Held.{IsGrantedTo, AreGrantedTo}
 use Rattle.jh_laws.proofs.HeldLemmas.{granted-to}
-use Rattle.jh_laws.specs.Ends.{IsAnsweredBy, IsAnsweredByWindow, IsAnswered, AreItsPlaces, GivesPlaces, IsReadBy, IsGotBy, IsAwaitedBy, EndsAsGranted}
-use Rattle.jh_laws.proofs.ReachedLemmas.{Way, OnMemory, OnRegion, OnWindow, OnNothing, way, places-of_memory, places-of_region, region-places}
+use Rattle.jh_laws.specs.Ends.{IsAnsweredBy, IsAnsweredByWindow, IsAnsweredByRegister, HasFunction, IsAnswered, AreItsPlaces, GivesPlaces, offset_in, IsReadBy, IsGotBy, IsAwaitedBy, EndsAsGranted}
+use Rattle.jh_laws.proofs.DevicesLemmas.{function-is, function-has, told-function, told-ones, told-register, same-register}
+use Rattle.jh_laws.proofs.ReachedLemmas.{Way, OnMemory, OnRegion, OnWindow, OnRegister, OnNothing, way, places-of_memory, places-of_region, region-places}
 
 -- ---- what a reading access gets
 
@@ -73,46 +61,76 @@ window-places image cells id access at width place window are =
     (λ (by : GivesPlaces image cells id access at width place). window.none by.region by.answers.has)
     are
 
-got_on : (image : Image) (f : Facts) (id : ℕ) (access : Access) (at width : ℕ) → AreSoundCells image.system (configs_of f.cells) → 0 < width → Way image f id access at width → IsGotBy image f id access at width (read_of f.byte width (reach image f id access at width))
+-- and so has one that a register answers
+pub register-places : (image : Image) (f : Facts) (id : ℕ) (access : Access) (at width n bar offset : ℕ) (e : Endpoint) (place : ℕ → Place) → IsAnsweredByRegister image f id access at width n bar offset e → AreItsPlaces image f.cells id access at width place → ⊥
+register-places image f id access at width n bar offset e place register are =
+    ⊎_elim
+    (λ each. register.behind.lacks (λ k lt. (place k, each k lt)))
+    (λ (by : GivesPlaces image f.cells id access at width place). register.none by.region by.answers.has)
+    are
+
+got_on : (image : Image) (f : Facts) (id : ℕ) (access : Access) (at width : ℕ) → IsSound image f → 0 < width → Way image f id access at width → IsGotBy image f id access at width (got_by image f id access at width)
 got_on image f id access at width sound some (OnMemory ps granted is) =
-    let P : Reach → Type 0 = λ r. IsGotBy image f id access at width (read_of f.byte width r) in
+    let P : Reach → Type 0 = λ r. IsGotBy image f id access at width (read_of f.byte (devices_of image f id) r) in
     subst P (sym is) (record {
       answered = (λ _. inl granted, λ _. refl);
       reads = λ value e. record {
         bytes = λ place are.
-            same_Some value (spelled (map f.byte (listed place width))) (sym e ∙ ap (λ (qs : List Place). Some (spelled (map f.byte qs))) (places-of_memory image f id access at width ps place sound some granted is are))
+            same_Some value (spelled (map f.byte (listed place width))) (sym e ∙ ap (λ (qs : List Place). Some (spelled (map f.byte qs))) (places-of_memory image f id access at width ps place sound.cells some granted is are))
             ∙ spelled-listed f.byte place width;
+        function = λ o window. absurd (window.behind.lacks granted);
         ones = λ window. absurd (window.behind.lacks granted);
+        register = λ n bar offset o by. absurd (by.behind.lacks granted);
       };
     })
 got_on image f id access at width sound some (OnRegion r answers is) =
-    let P : Reach → Type 0 = λ r. IsGotBy image f id access at width (read_of f.byte width r) in
+    let P : Reach → Type 0 = λ r. IsGotBy image f id access at width (read_of f.byte (devices_of image f id) r) in
     subst P (sym is) (record {
       answered = (λ _. inr (inl (r, answers)), λ _. refl);
       reads = λ value e. record {
         bytes = λ place are.
-            same_Some value (spelled (map f.byte (listed place width))) (sym e ∙ ap (λ (qs : List Place). Some (spelled (map f.byte qs))) (places-of_region image f id access at width r place sound some answers are))
+            same_Some value (spelled (map f.byte (listed place width))) (sym e ∙ ap (λ (qs : List Place). Some (spelled (map f.byte qs))) (places-of_region image f id access at width r place sound.cells some answers are))
             ∙ spelled-listed f.byte place width;
+        function = λ o window. absurd (window.none r answers.has);
         ones = λ window. absurd (window.none r answers.has);
+        register = λ n bar offset o by. absurd (by.none r answers.has);
       };
     })
 got_on image f id access at width sound some (OnWindow window is) =
-    let P : Reach → Type 0 = λ r. IsGotBy image f id access at width (read_of f.byte width r) in
+    let P : Reach → Type 0 = λ r. IsGotBy image f id access at width (read_of f.byte (devices_of image f id) r) in
+    let offset : ℕ = at - image.system.pci_mmconfig_base in
+    let told : ℕ = config_told (devices_of image f id) (record { at = offset; width = width }) in
     subst P (sym is) (record {
-      answered = (λ _. inr (inr window), λ _. refl);
+      answered = (λ _. inr (inr (inl window)), λ _. refl);
       reads = λ value e. record {
         bytes = λ place are. absurd (window-places image f.cells id access at width place window are);
-        ones = λ _. same_Some value (256 ^ width - 1) (sym e);
+        function = λ o _ has. same_Some value told (sym e) ∙ told-function image f id offset width o sound has;
+        ones = λ _ none. same_Some value told (sym e) ∙ told-ones image f id offset width none;
+        register = λ n bar offset o by. absurd (by.outside window.within);
+      };
+    })
+got_on image f id access at width sound some (OnRegister n bar offset o register is) =
+    let P : Reach → Type 0 = λ r. IsGotBy image f id access at width (read_of f.byte (devices_of image f id) r) in
+    let told : ℕ = register_told (devices_of image f id) (record { device = n; bar = bar; at = offset }) in
+    subst P (sym is) (record {
+      answered = (λ _. inr (inr (inr (n, bar, offset, o, register))), λ _. refl);
+      reads = λ value e. record {
+        bytes = λ place are. absurd (register-places image f id access at width n bar offset o place register are);
+        function = λ p window has. absurd (register.outside window.within);
+        ones = λ window none. absurd (register.outside window.within);
+        register = λ m other place p by.
+            same_Some value told (sym e) ∙ told-register image f id n bar offset o register.within.is.there
+            ∙ same-register image f id access at width n bar offset m other place o p (λ _ b a q. register_of q b a) register by;
       };
     })
 got_on image f id access at width sound some (OnNothing none is) =
-    let P : Reach → Type 0 = λ r. IsGotBy image f id access at width (read_of f.byte width r) in
+    let P : Reach → Type 0 = λ r. IsGotBy image f id access at width (read_of f.byte (devices_of image f id) r) in
     subst P (sym is) (record {
       answered = (λ e. absurd (false≢true e), λ h. absurd (none h));
       reads = λ value e. absurd (none-some value e);
     })
 
-pub got-of_cell : (image : Image) (f : Facts) (id : ℕ) (access : Access) (at width : ℕ) → AreSoundCells image.system (configs_of f.cells) → 0 < width → IsGotBy image f id access at width (read_of f.byte width (reach image f id access at width))
+pub got-of_cell : (image : Image) (f : Facts) (id : ℕ) (access : Access) (at width : ℕ) → IsSound image f → 0 < width → IsGotBy image f id access at width (got_by image f id access at width)
 got-of_cell image f id access at width sound some = got_on image f id access at width sound some (way image f id access at width sound some)
 
 -- the places that are granted, by their index
@@ -127,32 +145,48 @@ granted_places image f id access at width sound each k lt =
     subst P (ap picked_place (sym (granted-to image f id access (at + k) (each k lt).0 sound (each k lt).1))) (each k lt).1
 
 -- an access that something answers reads one value
-pub one-value : (image : Image) (f : Facts) (id : ℕ) (access : Access) (at width n m : ℕ) → AreSoundCells image.system (configs_of f.cells) → IsAnswered image f.cells id access at width → IsReadBy image f id access at width n → IsReadBy image f id access at width m → n ≡ m
+window_value : (image : Image) (f : Facts) (id : ℕ) (access : Access) (at width n m : ℕ) (o : Option Endpoint) → IsAnsweredByWindow image f.cells id access at width → function_at (devices_of image f id) (offset_in image.system at) ≡ o
+    → IsReadBy image f id access at width n → IsReadBy image f id access at width m → IsSound image f → n ≡ m
+window_value image f id access at width n m None window is one other sound =
+    let none : (e : Endpoint) → HasFunction image f id (offset_in image.system at) e → ⊥ = λ e has. none-some e (sym is ∙ function-is image f id (offset_in image.system at) e sound has) in
+    one.ones window none ∙ sym (other.ones window none)
+window_value image f id access at width n m (Some e) window is one other sound =
+    let has = function-has image f id (offset_in image.system at) e is in
+    one.function e window has ∙ sym (other.function e window has)
+
+abbrev ByRegister : Image → Facts → ℕ → Access → ℕ → ℕ → Type 0
+ByRegister image f id access at width = (n : ℕ) × (bar : ℕ) × (offset : ℕ) × (e : Endpoint) × IsAnsweredByRegister image f id access at width n bar offset e
+
+pub one-value : (image : Image) (f : Facts) (id : ℕ) (access : Access) (at width n m : ℕ) → IsSound image f → IsAnswered image f id access at width → IsReadBy image f id access at width n → IsReadBy image f id access at width m → n ≡ m
 one-value image f id access at width n m sound answered one other =
     ⊎_elim
     (λ (granted_all : AreGrantedTo image f.cells id access at width).
     let place : ℕ → Place = λ k. picked_place (granted image f id access (at + k)) in
-    let are : AreItsPlaces image f.cells id access at width place = inl (granted_places image f id access at width sound granted_all) in
+    let are : AreItsPlaces image f.cells id access at width place = inl (granted_places image f id access at width sound.cells granted_all) in
     one.bytes place are ∙ sym (other.bytes place are))
     (λ rest. ⊎_elim
     (λ (by : (r : Region) × IsAnsweredBy image f.cells id access at width r).
     let place : ℕ → Place = λ k. place_in_cell id by.0 (at + k) in
     let are : AreItsPlaces image f.cells id access at width place = region-places image f.cells id access at width by.0 by.1 in
     one.bytes place are ∙ sym (other.bytes place are))
-    (λ (window : IsAnsweredByWindow image f.cells id access at width). one.ones window ∙ sym (other.ones window))
+    (λ more. ⊎_elim
+    (λ (window : IsAnsweredByWindow image f.cells id access at width). window_value image f id access at width n m (function_at (devices_of image f id) (offset_in image.system at)) window refl one other sound)
+    (λ (by : ByRegister image f id access at width). one.register by.0 by.1 by.2 by.3 by.4 ∙ sym (other.register by.0 by.1 by.2 by.3 by.4))
+    more)
     rest)
     answered
 
 -- an access succeeds exactly where something answers it
 reached_on : (image : Image) (f : Facts) (id : ℕ) (access : Access) (at width : ℕ) → Way image f id access at width
-    → (is_reached (reach image f id access at width) ≡ true → IsAnswered image f.cells id access at width) × (IsAnswered image f.cells id access at width → is_reached (reach image f id access at width) ≡ true)
+    → (is_reached (reach image f id access at width) ≡ true → IsAnswered image f id access at width) × (IsAnswered image f id access at width → is_reached (reach image f id access at width) ≡ true)
 reached_on image f id access at width (OnMemory ps granted is) = (λ _. inl granted, λ _. ap is_reached is)
 reached_on image f id access at width (OnRegion r answers is) = (λ _. inr (inl (r, answers)), λ _. ap is_reached is)
-reached_on image f id access at width (OnWindow window is) = (λ _. inr (inr window), λ _. ap is_reached is)
+reached_on image f id access at width (OnWindow window is) = (λ _. inr (inr (inl window)), λ _. ap is_reached is)
+reached_on image f id access at width (OnRegister n bar offset e register is) = (λ _. inr (inr (inr (n, bar, offset, e, register))), λ _. ap is_reached is)
 reached_on image f id access at width (OnNothing none is) = (λ e. absurd (false≢true (sym (ap is_reached is) ∙ e)), λ h. absurd (none h))
 
-pub reached-of_cell : (image : Image) (f : Facts) (id : ℕ) (access : Access) (at width : ℕ) → AreSoundCells image.system (configs_of f.cells) → 0 < width
-    → (is_reached (reach image f id access at width) ≡ true → IsAnswered image f.cells id access at width) × (IsAnswered image f.cells id access at width → is_reached (reach image f id access at width) ≡ true)
+pub reached-of_cell : (image : Image) (f : Facts) (id : ℕ) (access : Access) (at width : ℕ) → IsSound image f → 0 < width
+    → (is_reached (reach image f id access at width) ≡ true → IsAnswered image f id access at width) × (IsAnswered image f id access at width → is_reached (reach image f id access at width) ≡ true)
 reached-of_cell image f id access at width sound some = reached_on image f id access at width (way image f id access at width sound some)
 
 -- ---- how an operation ends
@@ -180,12 +214,16 @@ await_ends image f id at width value None outcome = await_failed image f id at w
 await_ends image f id at width value (Some got) outcome =
     cond_both (eqb got value) (Some (Await width at value true)) None (Ends image f id) (λ same. await_done image f id at width value got outcome same) (λ _. tt)
 
-op_ends : (image : Image) (f : Facts) (id : ℕ) (op : Op) → AreSoundCells image.system (configs_of f.cells) → IsPlain op → Ends image f id (act_of image f id op)
+irq_ends : (image : Image) (f : Facts) (id : ℕ) (o : Option (ℕ × ℕ)) → Ends image f id (option_map (λ (next : ℕ × ℕ). Irq next.0 next.1) o)
+irq_ends image f id None = tt
+irq_ends image f id (Some next) = tt
+
+op_ends : (image : Image) (f : Facts) (id : ℕ) (op : Op) → IsSound image f → IsPlain op → Ends image f id (act_of image f id op)
 op_ends image f id (ReadOp width at) sound plain = got-of_cell image f id ToRead at width sound (width-some width plain)
 op_ends image f id (WriteOp width at value) sound plain = reached-of_cell image f id ToWrite at width sound (width-some width plain.0)
 op_ends image f id (FetchOp at) sound plain = got-of_cell image f id ToFetch at 4 sound (omega arith)
-op_ends image f id (AwaitOp width at value) sound plain = await_ends image f id at width value (read_of f.byte width (reach image f id ToRead at width)) (got-of_cell image f id ToRead at width sound (width-some width plain.0))
-op_ends image f id IrqOp sound plain = tt
+op_ends image f id (AwaitOp width at value) sound plain = await_ends image f id at width value (got_by image f id ToRead at width) (got-of_cell image f id ToRead at width sound (width-some width plain.0))
+op_ends image f id IrqOp sound plain = irq_ends image f id (pending_of id f.endpoints)
 op_ends image f id (HvcOp code a b) sound plain =
     cond_both (eqb id image.system.root.id && is_management (decoded code a b)) (Begin code a b) (Hvc code a b (answer_of (decoded code a b) (seen_of image f id (decoded code a b))))
     (EndsAsGranted image f id) (λ _. tt) (λ _. tt)
@@ -199,7 +237,7 @@ pub ops-plain : (image : Image) (cpu : ℕ) (o : Option CellConfig) (i : ℕ) (o
 ops-plain image cpu None i op admitted h = absurd (none-some op h)
 ops-plain image cpu (Some c) i op admitted h = op-plain image (name_of c) cpu i op admitted h
 
-pub ends-as_granted : (image : Image) (f : Facts) (state : Cpu) (cpu : ℕ) (op : Op) (act : Act) → IsAdmitted image → AreSoundCells image.system (configs_of f.cells) → slice_get (ops_in image f.cells state.owner cpu) state.position ≡ Some op
+pub ends-as_granted : (image : Image) (f : Facts) (state : Cpu) (cpu : ℕ) (op : Op) (act : Act) → IsAdmitted image → IsSound image f → slice_get (ops_in image f.cells state.owner cpu) state.position ≡ Some op
     → act_of image f state.owner op ≡ Some act → EndsAsGranted image f state.owner act
 ends-as_granted image f state cpu op act admitted sound at is =
     ends_by image f state.owner act (act_of image f state.owner op) (op_ends image f state.owner op sound (ops-plain image cpu (cell_in image f.cells state.owner) state.position op admitted at)) is
@@ -227,7 +265,7 @@ phase_ends image f id (Finish answer) h = tt
 ends_made : (image : Image) (f : Facts) (entry : Entry) → IsAdmitted image → IsSound image f → IsMadeBy image f entry → EndsAsGranted image f (f.cpu entry.cpu).owner entry.act
 ends_made image f entry admitted sound (Stopping is) = stop_ends image f (f.cpu entry.cpu).owner entry.act is
 ends_made image f entry admitted sound (Calling phase) = phase_ends image f (f.cpu entry.cpu).owner entry.act phase
-ends_made image f entry admitted sound (Running program) = ends-as_granted image f (f.cpu entry.cpu) entry.cpu program.op entry.act admitted sound.cells program.at program.is
+ends_made image f entry admitted sound (Running program) = ends-as_granted image f (f.cpu entry.cpu) entry.cpu program.op entry.act admitted sound program.at program.is
 
 -- each access of a legal journal ends as its cell is granted
 pub ends-at : (image : Image) (before rest : List Entry) (entry : Entry) → IsAdmitted image → IsLegal image (before ++ entry ∷ rest) → EndsAsGranted image (facts image before) entry.cell entry.act
@@ -237,3 +275,70 @@ ends-at image before rest entry admitted legal =
     let due : due_at image f entry.cpu ≡ Some entry = due-split image before rest entry legal in
     let P : ℕ → Type 0 = λ id. EndsAsGranted image f id entry.act in
     subst P (sym (next-from_due image f entry due).cell) (ends_made image f entry admitted sound (made-by image f entry sound due))
+
+-- ---- values fit their widths
+
+-- a write is of some bytes, and its value has no more
+
+abbrev pub IsSmallAct : Act → Type 0
+IsSmallAct (Write width at value ok) = (0 < width) × (value < 256 ^ width)
+IsSmallAct _ = Unit {0}
+
+abbrev Small : Option Act → Type 0
+Small o = IfSome o IsSmallAct
+
+await_small : (width at value : ℕ) (o : Option ℕ) → Small (await_of width at value o)
+await_small width at value None = tt
+await_small width at value (Some got) = cond_both (eqb got value) (Some (Await width at value true)) None Small (λ _. tt) (λ _. tt)
+
+irq_small : (o : Option (ℕ × ℕ)) → Small (option_map (λ (next : ℕ × ℕ). Irq next.0 next.1) o)
+irq_small None = tt
+irq_small (Some next) = tt
+
+op_small : (image : Image) (f : Facts) (id : ℕ) (op : Op) → IsPlain op → Small (act_of image f id op)
+op_small image f id (ReadOp width at) plain = tt
+op_small image f id (WriteOp width at value) plain = (width-some width plain.0, plain.1)
+op_small image f id (FetchOp at) plain = tt
+op_small image f id (AwaitOp width at value) plain = await_small width at value (got_by image f id ToRead at width)
+op_small image f id IrqOp plain = irq_small (pending_of id f.endpoints)
+op_small image f id (HvcOp code a b) plain =
+    cond_both (eqb id image.system.root.id && is_management (decoded code a b)) (Begin code a b) (Hvc code a b (answer_of (decoded code a b) (seen_of image f id (decoded code a b)))) IsSmallAct (λ _. tt) (λ _. tt)
+
+small_by : (act : Act) (o : Option Act) → Small o → o ≡ Some act → IsSmallAct act
+small_by act None h is = absurd (none-some act is)
+small_by act (Some other) h is = subst IsSmallAct (same_Some other act is) h
+
+phase_small : (act : Act) → is_phase act ≡ true → IsSmallAct act
+phase_small (Read width at got) h = tt
+phase_small (Write width at value ok) h = absurd (false≢true h)
+phase_small (Fetch at got) h = tt
+phase_small (Await width at value ok) h = tt
+phase_small (Irq device vector) h = tt
+phase_small (Hvc code a b answer) h = tt
+phase_small (Begin code a b) h = tt
+phase_small Stop h = tt
+phase_small (Decide refused) h = tt
+phase_small (Settle how) h = tt
+phase_small Commit h = tt
+phase_small (Note who) h = tt
+phase_small (Noted who how) h = tt
+phase_small (Finish answer) h = tt
+
+-- what a plain operation comes to
+pub op-small : (image : Image) (f : Facts) (id : ℕ) (op : Op) (act : Act) → IsPlain op → act_of image f id op ≡ Some act → IsSmallAct act
+op-small image f id op act plain is = small_by act (act_of image f id op) (op_small image f id op plain) is
+
+pub made-small : (image : Image) (f : Facts) (entry : Entry) → IsAdmitted image → IsMadeBy image f entry → IsSmallAct entry.act
+made-small image f entry admitted (Stopping is) = subst IsSmallAct is tt
+made-small image f entry admitted (Calling phase) = phase_small entry.act phase
+made-small image f entry admitted (Running program) =
+    let state : Cpu = f.cpu entry.cpu in
+    let plain = ops-plain image entry.cpu (cell_in image f.cells state.owner) state.position program.op admitted program.at in
+    op-small image f state.owner program.op entry.act plain program.is
+
+-- the value that an entry of a legal journal writes has no more bytes than it writes
+pub small-at : (image : Image) (before rest : List Entry) (entry : Entry) → IsAdmitted image → IsLegal image (before ++ entry ∷ rest) → IsSmallAct entry.act
+small-at image before rest entry admitted legal =
+    let f : Facts = facts image before in
+    let sound = legal-sound image before admitted (IsLegal-begin image before (entry ∷ rest) legal) in
+    made-small image f entry admitted (made-by image f entry sound (due-split image before rest entry legal))

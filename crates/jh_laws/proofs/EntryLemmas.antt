@@ -1,6 +1,6 @@
 -- What an entry says of its CPU: its cell, and the operation that it was at.
 use Rattle.std.proofs.Common.{◌≡◌, ℕ, List, [], ◌∷◌, ◌++◌, true, false, ◌&&◌, eqb, Option, Some, None, refl, sym, ap, subst, ◌∙◌}
-use Rattle.std.specs.Prelude.{IfSome, slice_get}
+use Rattle.std.specs.Prelude.{IfSome, option_map, slice_get}
 use Rattle.std.specs.Option.{option_map_or}
 use Rattle.std.proofs.lemmas.Bool.{both_ways, cond_both, false≢true}
 use Rattle.std.proofs.lemmas.Option.{none-some, same_Some}
@@ -9,6 +9,7 @@ use Rattle.jh_cellcfg.specs.Cells.{name_of}
 use Rattle.jh_cpu.specs.declared.cpu.Mode.TheVariants.{Running}
 use Rattle.jh_call.specs.Calls.{decoded, is_management}
 use Rattle.jh_call.specs.Answers.{answer_of}
+use Rattle.jh_ivshmem.specs.Links.{pending_of}
 use Rattle.jh_script.specs.declared.image.Image.{Image}
 use Rattle.jh_script.specs.declared.op.Op.{Op}
 use Rattle.jh_script.specs.declared.op.Op.TheVariants.{Read as ReadOp, Write as WriteOp, Fetch as FetchOp, Await as AwaitOp, Irq as IrqOp, Hvc as HvcOp}
@@ -16,13 +17,11 @@ use Rattle.jh_history.specs.declared.access.Access.TheVariants.{Read as ToRead}
 use Rattle.jh_history.specs.declared.entry.Entry.{Entry}
 use Rattle.jh_history.specs.declared.entry.Act.{Act}
 use Rattle.jh_history.specs.declared.entry.Act.TheVariants.{Read, Write, Fetch, Await, Irq, Hvc, Begin, Stop, Decide, Settle, Commit, Note, Noted, Finish}
-use Rattle.jh_history.specs.Access.{read_of}
 use Rattle.jh_history.specs.Facts.{Facts}
 use Rattle.jh_history.specs.Lives.{is_on_board, program_of, cell_in}
-use Rattle.jh_history.specs.Grants.{reach}
 use Rattle.jh_history.specs.Hypercalls.{seen_of}
 use Rattle.jh_history.specs.History.{facts}
-use Rattle.jh_history.specs.Due.{due_at, act_of, await_of, IsLegal}
+use Rattle.jh_history.specs.Due.{due_at, act_of, await_of, got_by, IsLegal}
 use Rattle.jh_history.specs.Admitted.{IsAdmitted}
 use Rattle.jh_history.proofs.LegalLemmas.{due-split, IsLegal-begin}
 use Rattle.jh_history.specs.Sound.{IsCalm, IsSound}
@@ -45,12 +44,16 @@ await_of_op : (op : Op) (width at value : ℕ) (o : Option ℕ) → op ≡ Await
 await_of_op op width at value None is = ap Some (sym is)
 await_of_op op width at value (Some got) is = cond_both (eqb got value) (Some (Await width at value true)) None (λ (o : Option Act). IfSome o (IsOfOp op)) (λ _. ap Some (sym is)) (λ _. tt)
 
+irq_of_op : (o : Option (ℕ × ℕ)) → IfSome (option_map (λ (next : ℕ × ℕ). Irq next.0 next.1) o) (IsOfOp IrqOp)
+irq_of_op None = tt
+irq_of_op (Some next) = refl
+
 act_of_op : (image : Image) (f : Facts) (cell : ℕ) (op : Op) → IfSome (act_of image f cell op) (IsOfOp op)
 act_of_op image f cell (ReadOp width at) = refl
 act_of_op image f cell (WriteOp width at value) = refl
 act_of_op image f cell (FetchOp at) = refl
-act_of_op image f cell (AwaitOp width at value) = await_of_op (AwaitOp width at value) width at value (read_of f.byte width (reach image f cell ToRead at width)) refl
-act_of_op image f cell IrqOp = tt
+act_of_op image f cell (AwaitOp width at value) = await_of_op (AwaitOp width at value) width at value (got_by image f cell ToRead at width) refl
+act_of_op image f cell IrqOp = irq_of_op (pending_of cell f.endpoints)
 act_of_op image f cell (HvcOp code a b) =
     cond_both (eqb cell image.system.root.id && is_management (decoded code a b)) (Begin code a b) (Hvc code a b (answer_of (decoded code a b) (seen_of image f cell (decoded code a b)))) (IsOfOp (HvcOp code a b)) (λ _. refl) (λ _. refl)
 

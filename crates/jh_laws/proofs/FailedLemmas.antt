@@ -6,6 +6,7 @@ use Rattle.std.proofs.lemmas.Bool.{both_ways, and_right, cond_both, false≢true
 use Rattle.jh_cpu.specs.declared.cpu.Cpu.{Cpu}
 use Rattle.jh_cpu.specs.declared.cpu.Mode.TheVariants.{Running, Failed}
 use Rattle.jh_cpu.specs.Changes.{resumed, moved, asked_of}
+use Rattle.jh_ivshmem.specs.declared.spec.EndpointSpec.{EndpointSpec}
 use Rattle.jh_script.specs.declared.image.Image.{Image}
 use Rattle.jh_history.specs.declared.call.OpenCall.{OpenCall}
 use Rattle.jh_history.specs.declared.entry.Entry.{Entry}
@@ -19,6 +20,7 @@ use Rattle.jh_history.specs.Pages.{failing, page_write_by}
 use Rattle.jh_history.specs.declared.place.Place.{Place}
 use Rattle.jh_history.specs.declared.place.Place.TheVariants.{Physical}
 use Rattle.jh_history.specs.Bytes.{byte_written}
+use Rattle.jh_history.specs.Endpoints.{specs_changing, with_words}
 use Rattle.jh_history.specs.History.{after, facts}
 use Rattle.jh_history.specs.Due.{due_at, IsLegal}
 use Rattle.jh_history.specs.Admitted.{IsAdmitted}
@@ -31,7 +33,8 @@ use Rattle.jh_laws.specs.Ready.{IsReadyAt, IsReadyCaller, IsReadyProgram}
 use Rattle.jh_history.proofs.SoundLemmas.{sound-after}
 use Rattle.jh_laws.proofs.CallLemmas.{along, stretch, sound-open}
 use Rattle.jh_laws.proofs.StatesLemmas.{others-by, begins, own-ends, violation-own}
-use Rattle.jh_laws.proofs.PlacesHeldLemmas.{byte-behind, physical-kept}
+use Rattle.jh_laws.proofs.PlacesHeldLemmas.{byte-behind, commit-or, physical-kept}
+use Rattle.jh_laws.proofs.WordLemmas.{specs-none}
 use Rattle.jh_laws.proofs.EntryLemmas.{runs-at}
 use Rattle.jh_laws.proofs.DueCpusLemmas.{ready-from_due}
 
@@ -160,9 +163,16 @@ fails_quiet image f cell (Note id) h = refl
 fails_quiet image f cell (Noted id how) h = refl
 fails_quiet image f cell (Finish answer) h = refl
 
+-- it is no Commit
+fails_commits : (act : Act) → is_violation act ≡ true → is_commit act ≡ false
+fails_commits act violates =
+    let P : Act → Type 0 = λ a. is_violation a ≡ true in
+    ⊎_elim (λ (commits : act ≡ Commit). absurd (false≢true (subst P commits violates))) (λ (other : is_commit act ≡ false). other) (commit-or act)
+
 pub memory-kept : (image : Image) (before : List Entry) (entry : Entry) (place : ℕ) → is_violation entry.act ≡ true → (facts image (before ++ entry ∷ [])).byte (Physical place) ≡ (facts image before).byte (Physical place)
 memory-kept image before entry place violates =
     let f : Facts = facts image before in
     byte-behind image before entry (Physical place)
-    ∙ physical-kept (page_write_by image f entry entry.act) (byte_written image f entry.cell entry.act) place
+    ∙ physical-kept (page_write_by image f entry entry.act) (with_words (specs_changing f entry.act) (byte_written image f entry.cell entry.act)) place
+    ∙ ap (λ (specs : List EndpointSpec). with_words specs (byte_written image f entry.cell entry.act) (Physical place)) (specs-none f entry.act (fails_commits entry.act violates))
     ∙ ap (λ (b : Place → ℕ). b (Physical place)) (fails_quiet image f entry.cell entry.act violates)

@@ -36,7 +36,8 @@ use Rattle.jh_history.specs.declared.entry.Act.TheVariants.{Read, Write, Fetch, 
 use Rattle.jh_history.specs.Access.{places_from}
 use Rattle.jh_history.specs.Facts.{Facts}
 use Rattle.jh_history.specs.Lives.{is_on_board, live_in}
-use Rattle.jh_history.specs.Grants.{granted, reach}
+use Rattle.jh_history.specs.Grants.{granted, reach, devices_of}
+use Rattle.jh_history.specs.Endpoints.{specs_changing, with_words}
 use Rattle.jh_history.specs.Bytes.{byte_written, byte_after}
 use Rattle.jh_history.specs.Calls.{is_named, counted, one_more, telling, first_told, behind, decided, after_settle, after_commit, after_note, after_noted, phase_after, call_by}
 use Rattle.jh_history.specs.Commits.{cells_by, committed_cells, marked, is_other}
@@ -56,7 +57,7 @@ use Rattle.jh_laws.proofs.HeldLemmas.{two-ids}
 use Rattle.jh_history.proofs.SoundStepLemmas.{begun-owner, finished-owner}
 use Rattle.jh_history.proofs.SoundLemmas.{sound-start, sound-after, legal-sound}
 use Rattle.jh_laws.proofs.CallLemmas.{call-after, sound-open}
-use Rattle.jh_laws.proofs.FewLemmas.{IsTyped, MayWriteBytes, page-write-small, write-small, opening-small, config-typed, read-bytes, picked, picked-few, index-small, length-map, get-map}
+use Rattle.jh_laws.proofs.FewLemmas.{IsTyped, MayWriteBytes, page-write-small, write-small, words-small, opening-small, config-typed, read-bytes, picked, picked-few, index-small, length-map, get-map}
 
 abbrev AreTyped : List CellConfig → Type 0
 AreTyped configs = (config : CellConfig) → Contains configs config → IsTyped config
@@ -270,7 +271,7 @@ cells_typed call cells (Finish answer) typed h = h
 -- ---- bytes
 
 written_small : (image : Image) (f : Facts) (cell : ℕ) (act : Act) (q : Place) → ((p : Place) → f.byte p < 256) → byte_written image f cell act q < 256
-written_small image f cell (Write width at value true) q small = write-small f.byte (reach image f cell ToWrite at width) value q small
+written_small image f cell (Write width at value true) q small = write-small f.byte (devices_of image f cell) (reach image f cell ToWrite at width) value q small
 written_small image f cell (Write width at value false) q small = small q
 written_small image f cell (Read width at got) q small = small q
 written_small image f cell (Fetch at got) q small = small q
@@ -364,9 +365,10 @@ page_write_small image f entry (Finish answer) typed h = tt
 
 byte_small : (image : Image) (f : Facts) (entry : Entry) (q : Place) → IsFew image f → byte_after image f entry q < 256
 byte_small image f entry q few =
-    page-write-small (page_write_by image f entry entry.act) (byte_written image f entry.cell entry.act) q
+    let own : Place → ℕ = byte_written image f entry.cell entry.act in
+    page-write-small (page_write_by image f entry entry.act) (with_words (specs_changing f entry.act) own) q
     (page_write_small image f entry entry.act few.call few.cells)
-    (λ p. written_small image f entry.cell entry.act p few.bytes)
+    (λ p. words-small (specs_changing f entry.act) own p (λ k. written_small image f entry.cell entry.act k few.bytes))
 
 -- ---- root's CPU
 

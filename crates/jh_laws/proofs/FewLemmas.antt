@@ -12,19 +12,24 @@ use Rattle.jh_num.proofs.Lists.{Contains-head, Contains-tail, IsFound-from_list_
 use Rattle.jh_cellcfg.specs.declared.config.CellConfig.{CellConfig}
 use Rattle.jh_cellcfg.specs.Reading.{config_of, config_of_body}
 use Rattle.jh_comm.specs.Page.{with_state, sent, fresh_page, signature}
+use Rattle.jh_ivshmem.specs.declared.spec.EndpointSpec.{EndpointSpec}
+use Rattle.jh_ivshmem.specs.declared.spec.Slot.{Slot}
+use Rattle.jh_ivshmem.specs.Specs.{slot_of}
 use Rattle.jh_script.specs.declared.image.Image.{Image}
 use Rattle.jh_script.specs.declared.image.Preload.{Preload}
 use Rattle.jh_history.specs.declared.place.Place.{Place}
 use Rattle.jh_history.specs.declared.place.Place.TheVariants.{Physical, Page}
 use Rattle.jh_history.specs.declared.access.Reach.{Reach}
-use Rattle.jh_history.specs.declared.access.Reach.TheVariants.{Memory, Subpage, Config, Nothing}
+use Rattle.jh_history.specs.declared.access.Reach.TheVariants.{Memory, Subpage, Config, Window, Nothing}
 use Rattle.jh_history.specs.declared.comm.PageChange.{PageChange}
 use Rattle.jh_history.specs.declared.comm.PageChange.TheVariants.{State as NewState, Message, Fresh}
 use Rattle.jh_history.specs.declared.comm.PageWrite.{PageWrite}
-use Rattle.jh_history.specs.Access.{write_of}
-use Rattle.jh_history.specs.Places.{is_same, with_byte, written}
+use Rattle.jh_history.specs.Access.{write_of, with_slot, with_slot_if, slot_put}
+use Rattle.jh_history.specs.Devices.{Devices, specs_of}
+use Rattle.jh_history.specs.Endpoints.{with_words}
+use Rattle.jh_history.specs.Places.{is_same, places_in_row, with_byte, written}
 use Rattle.jh_history.specs.Pages.{page_after, with_page, with_page_write}
-use Rattle.jh_history.specs.Bytes.{preloaded, opening_byte}
+use Rattle.jh_history.specs.Bytes.{preloaded, loaded_byte, opening_byte}
 use Rattle.jh_history.specs.Sound.{AreBytes, HasBytes}
 
 -- ---- bytes
@@ -117,11 +122,20 @@ written_small byte (place ∷ places) value q small =
     written_small (with_byte byte place (value % 256)) places (value / 256) q
     (λ p. cond_both (is_same p place) (value % 256) (byte p) P (λ _. mod-lt value (omega arith)) (λ _. small p))
 
-pub write-small : (byte : Place → ℕ) (reach : Reach) (value : ℕ) (q : Place) → ((p : Place) → byte p < 256) → write_of byte reach value q < 256
-write-small byte (Memory places) value q small = written_small byte places value q small
-write-small byte (Subpage places) value q small = written_small byte places value q small
-write-small byte (Config at) value q small = small q
-write-small byte Nothing value q small = small q
+slot_small : (o : Option Slot) (byte : Place → ℕ) (q : Place) → ((p : Place) → byte p < 256) → with_slot_if o byte q < 256
+slot_small None byte q small = small q
+slot_small (Some slot) byte q small = written_small byte (places_in_row (Physical slot.place) 4) slot.value q small
+
+pub write-small : (byte : Place → ℕ) (devices : Devices) (reach : Reach) (value : ℕ) (q : Place) → ((p : Place) → byte p < 256) → write_of byte devices reach value q < 256
+write-small byte devices (Memory places) value q small = written_small byte places value q small
+write-small byte devices (Subpage places) value q small = written_small byte places value q small
+write-small byte devices (Config bytes) value q small = small q
+write-small byte devices (Window register) value q small = slot_small (slot_put devices register value) byte q small
+write-small byte devices Nothing value q small = small q
+
+pub words-small : (specs : List EndpointSpec) (byte : Place → ℕ) (q : Place) → ((p : Place) → byte p < 256) → with_words specs byte q < 256
+words-small [] byte q small = small q
+words-small (s ∷ specs) byte q small = words-small specs (with_slot (slot_of s 0) byte) q (λ p. slot_small (Some (slot_of s 0)) byte p small)
 
 -- ---- opening
 
@@ -132,9 +146,12 @@ preloads_small byte (x ∷ xs) p small all =
     (λ k. stored_small byte x.at x.bytes k small (All-head (λ (y : Preload). AreBytes y.bytes) x xs all))
     (All-tail (λ (y : Preload). AreBytes y.bytes) x xs all)
 
+loaded_small : (image : Image) (q : Place) → HasBytes image → loaded_byte image q < 256
+loaded_small image (Physical p) bytes = preloads_small (λ _. 0) image.preloads p (λ _. omega arith) bytes.preloads
+loaded_small image (Page cell offset) bytes = omega arith
+
 pub opening-small : (image : Image) (q : Place) → HasBytes image → opening_byte image q < 256
-opening-small image (Physical p) bytes = preloads_small (λ _. 0) image.preloads p (λ _. omega arith) bytes.preloads
-opening-small image (Page cell offset) bytes = omega arith
+opening-small image q bytes = words-small (specs_of image.system.root) (loaded_byte image) q (λ p. loaded_small image p bytes)
 
 -- ---- configurations
 

@@ -1,13 +1,9 @@
 -- What accesses by root reach, by what it is granted.
-use Rattle.std.proofs.Common.{inl, inr, ◌≡◌, ℕ, ◌+◌, ◌-◌, ◌<◌, ◌≤◌, List, [], get_or, map, Bool, true, cond, eqb, Option, Some, None, refl, sym, ap, subst, ◌∙◌, arith}
+use Rattle.std.proofs.Common.{◌≡◌, ℕ, ◌+◌, ◌-◌, ◌<◌, ◌≤◌, get_or, Bool, true, cond, Option, Some, None, refl, sym, ap, subst, ◌∙◌, arith}
 use Rattle.std.specs.Prelude.{find, option_map}
-use Rattle.std.proofs.lemmas.Bool.{false≢true, cases_lt}
 use Rattle.std.proofs.lemmas.Option.{none-some, same_Some}
 use Rattle.jh_num.specs.declared.address.TheConstants.{ADDRESS_END}
-use Rattle.jh_num.specs.Memory.{spelled}
-use Rattle.jh_num.proofs.Booleans.{same_number}
 use Rattle.jh_num.proofs.Lists.{IsFound-from_find, find-only}
-use Rattle.jh_num.proofs.MemoryLemmas.{listed, spelled-listed}
 use Rattle.jh_cellcfg.specs.declared.region.Region.{Region}
 use Rattle.jh_cellcfg.specs.Regions.{has_flags, has_address, virt_end}
 use Rattle.jh_script.specs.declared.image.Image.{Image}
@@ -15,21 +11,11 @@ use Rattle.jh_history.specs.declared.place.Place.{Place}
 use Rattle.jh_history.specs.declared.place.Place.TheVariants.{Physical, Page}
 use Rattle.jh_history.specs.declared.access.Access.{Access}
 use Rattle.jh_history.specs.declared.access.Access.TheVariants.{Read, Write, Fetch}
-use Rattle.jh_history.specs.declared.access.Reach.{Reach}
-use Rattle.jh_history.specs.declared.access.Reach.TheVariants.{Memory, Nothing}
-use Rattle.jh_history.specs.declared.entry.Entry.{Entry}
-use Rattle.jh_history.specs.Access.{gives, right_of, region_of, place_in_cell, place_of, places_from, reach_by, memory_or_nothing, read_of, is_reached}
-use Rattle.jh_history.specs.Facts.{Facts}
-use Rattle.jh_history.specs.Lives.{regions_in}
-use Rattle.jh_history.specs.Grants.{granted, reach}
-use Rattle.jh_history.specs.History.{facts}
+use Rattle.jh_history.specs.Access.{gives, right_of, region_of, place_in_cell, place_of}
+use Rattle.jh_history.specs.Grants.{granted}
 use Rattle.jh_history.specs.Admitted.{IsAdmitted}
-use Rattle.jh_history.proofs.AloneLemmas.{reach-alone}
-use Rattle.jh_history.proofs.AccessLemmas.{reach_by-within, reach_by-beyond}
-use Rattle.jh_laws.specs.Journals.{byte_at}
 use Rattle.jh_laws.specs.Grants.{may, IsGranted, AreGranted}
 use Rattle.jh_laws.proofs.RootLemmas.{regions, has_address-first, has_address-last, has_address-from, gives-address, gives-pages, gives-right, gives-from, root_region, only_one}
-use Rattle.jh_laws.proofs.ListedLemmas.{places_from-listed, places_from-each, places_from-some}
 
 -- the right that an access needs
 may-right : (access : Access) (r : Region) → may access r ≡ has_flags (right_of access) r

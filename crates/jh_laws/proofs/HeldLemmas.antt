@@ -1,14 +1,12 @@
 -- What live cells are granted on a sound board.
-use Rattle.std.proofs.Common.{◌≡◌, ◌≢◌, ℕ, suc, ◌+◌, ◌-◌, ◌<◌, ◌≤◌, List, [], ◌∷◌, ◌++◌, Bool, true, false, cond, ◌&&◌, eqb, length, get_or, map, Option, Some, None, refl, sym, ap, subst, ◌∙◌, inl, inr, ⊎_elim, arith}
-use Rattle.std.specs.Prelude.{Contains, find, option_map, option_and_then, slice_get, nat_eq, IsTrue, IfSome}
+use Rattle.std.proofs.Common.{◌≡◌, ◌≢◌, ℕ, suc, ◌+◌, ◌-◌, ◌<◌, ◌≤◌, List, [], Bool, true, false, cond, eqb, length, get_or, map, Option, Some, None, refl, sym, ap, subst, ◌∙◌, inl, inr, ⊎_elim, arith}
+use Rattle.std.specs.Prelude.{Contains, find, option_map, option_and_then, slice_get, nat_eq}
 use Rattle.std.specs.Option.{option_map_or}
 use Rattle.std.specs.Cmp.Lexicographic.{pointwise}
-use Rattle.std.proofs.lemmas.Bool.{both_ways, or_parts, and_parts, and_from, cond_both, eqb-true, eq-eqb, ne_eqb, cases_lt, false≢true, false_from_ne_true}
+use Rattle.std.proofs.lemmas.Bool.{both_ways, or_parts, and_parts, and_from, eqb-true, eq-eqb, ne_eqb, cases_lt, false_from_ne_true}
 use Rattle.std.proofs.lemmas.Option.{none-some, same_Some, slice_get-get_or, get_or_from_slice_get}
 use Rattle.jh_num.specs.declared.address.TheConstants.{ADDRESS_END}
-use Rattle.jh_num.specs.Memory.{spelled}
 use Rattle.jh_num.proofs.Lists.{IsOnly, IsFound-from_find, find-only, find-some, Contains-from_map}
-use Rattle.jh_num.proofs.MemoryLemmas.{listed, spelled-listed}
 use Rattle.jh_cellcfg.specs.declared.config.CellConfig.{CellConfig}
 use Rattle.jh_cellcfg.specs.declared.config.SystemConfig.{SystemConfig}
 use Rattle.jh_cellcfg.specs.declared.live.Live.{Live}
@@ -21,43 +19,21 @@ use Rattle.jh_shape.specs.Laws.{IsTaken}
 use Rattle.jh_shape.specs.Shapes.{is_closed, holder_of_live}
 use Rattle.jh_shape.proofs.LawLemmas.{taken_there, taken_back}
 use Rattle.jh_script.specs.declared.image.Image.{Image}
-use Rattle.jh_script.specs.declared.op.Op.{Op}
-use Rattle.jh_script.specs.declared.op.Op.TheVariants.{Read as ReadOp, Write as WriteOp, Fetch as FetchOp, Await as AwaitOp, Irq as IrqOp, Hvc as HvcOp}
-use Rattle.jh_script.specs.Operations.{IsPlain, is_width}
-use Rattle.jh_cpu.specs.declared.cpu.Cpu.{Cpu}
-use Rattle.jh_call.specs.Calls.{decoded, is_management}
-use Rattle.jh_call.specs.Answers.{answer_of}
 use Rattle.jh_history.specs.declared.place.Place.{Place}
 use Rattle.jh_history.specs.declared.place.Place.TheVariants.{Physical, Page}
 use Rattle.jh_history.specs.declared.access.Access.{Access}
 use Rattle.jh_history.specs.declared.access.Access.TheVariants.{Read as ToRead, Write as ToWrite, Fetch as ToFetch}
-use Rattle.jh_history.specs.declared.access.Reach.{Reach}
-use Rattle.jh_history.specs.declared.access.Reach.TheVariants.{Memory, Nothing}
-use Rattle.jh_history.specs.declared.entry.Entry.{Entry}
-use Rattle.jh_history.specs.declared.entry.Act.{Act}
-use Rattle.jh_history.specs.declared.entry.Act.TheVariants.{Read, Write, Fetch, Await, Irq, Hvc, Begin, Stop, Decide, Settle, Commit, Note, Noted, Finish}
-use Rattle.jh_history.specs.Access.{gives, right_of, region_of, place_in_cell, place_of, places_from, memory_or_nothing, read_of, is_reached}
+use Rattle.jh_history.specs.Access.{gives, right_of, region_of, place_in_cell, place_of}
 use Rattle.jh_history.specs.Facts.{Facts}
-use Rattle.jh_history.specs.Lives.{cell_in, live_in, regions_in, ops_in, program_of}
-use Rattle.jh_history.specs.Grants.{is_kept, unless, granted_by, granted_in, granted, reach}
-use Rattle.jh_history.specs.Hypercalls.{seen_of}
+use Rattle.jh_history.specs.Lives.{cell_in, live_in, regions_in}
+use Rattle.jh_history.specs.Grants.{is_kept, unless, granted_by, granted_in, granted}
 use Rattle.jh_history.specs.Phases.{configs_of}
-use Rattle.jh_history.specs.History.{facts}
-use Rattle.jh_history.specs.Due.{due_at, act_of, await_of, IsLegal}
-use Rattle.jh_history.specs.Admitted.{IsAdmitted}
-use Rattle.jh_history.proofs.LegalLemmas.{due-split, IsLegal-begin}
-use Rattle.jh_history.proofs.AccessLemmas.{reach_by-within, reach_by-beyond}
-use Rattle.jh_history.specs.Sound.{AreTwo, AreSoundCells, IsSound}
+use Rattle.jh_history.specs.Sound.{AreTwo, AreSoundCells}
 use Rattle.jh_laws.specs.Grants.{may, IsGranted}
-use Rattle.jh_laws.specs.Ways.{is_phase}
 use Rattle.jh_laws.specs.Held.{IsLive, IsLeft, IsGrantedTo}
-use Rattle.jh_laws.proofs.RootLemmas.{has_address-first, has_address-last, has_address-from, gives-address, gives-pages, gives-right, gives-from, op-plain}
-use Rattle.jh_laws.proofs.ListedLemmas.{places_from-listed, places_from-each, places_from-some}
+use Rattle.jh_laws.proofs.RootLemmas.{has_address-first, has_address-last, has_address-from, gives-address, gives-pages, gives-right, gives-from}
 use Rattle.jh_history.proofs.SoundCpusLemmas.{other-root}
 use Rattle.jh_history.proofs.SoundDecideLemmas.{found-live}
-use Rattle.jh_history.proofs.SoundDueLemmas.{next-from_due}
-use Rattle.jh_history.proofs.SoundLemmas.{legal-sound}
-use Rattle.jh_laws.proofs.CallLemmas.{IsMadeBy, Stopping, Running, Calling, made-by}
 
 -- ---- live cells by their ids
 

@@ -15,6 +15,7 @@ use Rattle.jh_call.specs.declared.call.Call.TheVariants.{Create, Start, Loadable
 use Rattle.jh_call.specs.declared.seen.CpuSeen.TheVariants.{Fine, Failed as FailedSeen}
 use Rattle.jh_call.specs.Calls.{decoded, is_management}
 use Rattle.jh_call.specs.Answers.{answer_of, info_of, cpu_told as cpu_answer}
+use Rattle.jh_ivshmem.specs.Links.{pending_of}
 use Rattle.jh_script.specs.declared.image.Image.{Image}
 use Rattle.jh_script.specs.declared.op.Op.{Op}
 use Rattle.jh_script.specs.declared.op.Op.TheVariants.{Read as ReadOp, Write as WriteOp, Fetch as FetchOp, Await as AwaitOp, Irq as IrqOp, Hvc as HvcOp}
@@ -22,14 +23,12 @@ use Rattle.jh_history.specs.declared.access.Access.TheVariants.{Read as ToRead}
 use Rattle.jh_history.specs.declared.entry.Entry.{Entry}
 use Rattle.jh_history.specs.declared.entry.Act.{Act}
 use Rattle.jh_history.specs.declared.entry.Act.TheVariants.{Read, Write, Fetch, Await, Irq, Hvc, Begin, Stop, Decide, Settle, Commit, Note, Noted, Finish}
-use Rattle.jh_history.specs.Access.{read_of}
 use Rattle.jh_history.specs.Facts.{Facts}
 use Rattle.jh_history.specs.Lives.{is_on_board, live_in}
-use Rattle.jh_history.specs.Grants.{reach}
 use Rattle.jh_history.specs.History.{facts}
 use Rattle.jh_history.specs.Hypercalls.{state_told, mode_seen, cpu_told, seen_of}
 use Rattle.jh_history.specs.Phases.{configs_of, state_word}
-use Rattle.jh_history.specs.Due.{due_at, act_of, await_of, IsLegal}
+use Rattle.jh_history.specs.Due.{due_at, act_of, await_of, got_by, IsLegal}
 use Rattle.jh_history.specs.Admitted.{IsAdmitted}
 use Rattle.jh_history.proofs.LegalLemmas.{due-split, IsLegal-begin}
 use Rattle.jh_history.specs.Sound.{AreSoundCells}
@@ -133,12 +132,16 @@ await_answered image f cell width at value None = tt
 await_answered image f cell width at value (Some got) =
     cond_both (eqb got value) (Some (Await width at value true)) None (λ (o : Option Act). IfSome o (IsAnswered image f cell)) (λ _. tt) (λ _. tt)
 
+irq_answered : (image : Image) (f : Facts) (cell : ℕ) (o : Option (ℕ × ℕ)) → IfSome (option_map (λ (next : ℕ × ℕ). Irq next.0 next.1) o) (IsAnswered image f cell)
+irq_answered image f cell None = tt
+irq_answered image f cell (Some next) = tt
+
 op_answered : (image : Image) (f : Facts) (cell : ℕ) (op : Op) → AreSoundCells image.system (configs_of f.cells) → IfSome (act_of image f cell op) (IsAnswered image f cell)
 op_answered image f cell (ReadOp width at) sound = tt
 op_answered image f cell (WriteOp width at value) sound = tt
 op_answered image f cell (FetchOp at) sound = tt
-op_answered image f cell (AwaitOp width at value) sound = await_answered image f cell width at value (read_of f.byte width (reach image f cell ToRead at width))
-op_answered image f cell IrqOp sound = tt
+op_answered image f cell (AwaitOp width at value) sound = await_answered image f cell width at value (got_by image f cell ToRead at width)
+op_answered image f cell IrqOp sound = irq_answered image f cell (pending_of cell f.endpoints)
 op_answered image f cell (HvcOp code a b) sound =
     cond_both (eqb cell image.system.root.id && is_management (decoded code a b)) (Begin code a b) (Hvc code a b (answer_of (decoded code a b) (seen_of image f cell (decoded code a b))))
     (IsAnswered image f cell)

@@ -9,9 +9,13 @@ pub mod ReadyLemmas
 pub mod RunLemmas
 pub mod CallLemmas
 pub mod HeldLemmas
+pub mod WindowLemmas
+pub mod DevicesLemmas
 pub mod ReachedLemmas
 pub mod EndsLemmas
 pub mod StoredLemmas
+pub mod WordLemmas
+pub mod PendingLemmas
 pub mod HvcLemmas
 pub mod QuietLemmas
 pub mod CommitLemmas
@@ -23,6 +27,11 @@ pub mod WrittenLemmas
 pub mod StatesLemmas
 pub mod EntryLemmas
 pub mod DueCpusLemmas
+pub mod InterruptLemmas
+pub mod LinkedLemmas
+pub mod RaiseLemmas
+pub mod ClearLemmas
+pub mod VectorLemmas
 pub mod AnswerLemmas
 pub mod ExchangeLemmas
 pub mod FailedLemmas

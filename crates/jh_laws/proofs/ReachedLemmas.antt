@@ -1,46 +1,48 @@
 -- What an access of a live cell reaches on a sound board: memory that the cell is granted, what a subpage region of its own
--- answers, configuration space, or nothing.
-use Rattle.std.proofs.Common.{◌≡◌, ◌≢◌, ℕ, zero, suc, ◌+◌, ◌-◌, ◌*◌, ◌%◌, ◌^◌, ◌<◌, ◌≤◌, List, [], ◌∷◌, Bool, true, false, cond, not, ◌&&◌, ◌||◌, eqb, leb, length, get_or, Option, Some, None, refl, sym, ap, subst, ◌∙◌, inl, inr, ⊎_elim, arith}
-use Rattle.std.specs.Prelude.{◌⊎◌, Contains, find, min, slice_get, IsTrue}
+-- answers, configuration space, a register of a device of its own, or nothing.
+use Rattle.std.proofs.Common.{◌≡◌, ◌≢◌, ℕ, zero, suc, ◌+◌, ◌-◌, ◌*◌, ◌%◌, ◌^◌, ◌<◌, ◌≤◌, List, [], Bool, true, false, cond, not, ◌&&◌, ◌||◌, eqb, Option, Some, None, refl, sym, ap, subst, ◌∙◌, inl, inr, ⊎_elim, arith}
+use Rattle.std.specs.Prelude.{◌⊎◌, Contains, find, min, position, slice_get, IsTrue}
 use Rattle.std.specs.List.{list_any}
 use Rattle.std.specs.Option.{option_map_or}
-use Rattle.std.proofs.lemmas.Bool.{both_ways, or_parts, or_cases, and_parts, and_from, not-true, eqb-true, eq-eqb, ne_eqb, cases_lt, cases_Bool, false≢true, lt-ltb, ltb-true, false_from_ne_true}
-use Rattle.std.proofs.lemmas.Option.{none-some, same_Some, slice_get-get_or}
+use Rattle.std.proofs.lemmas.Bool.{both_ways, or_parts, or_cases, and_parts, and_from, not-true, eqb-true, eq-eqb, cases_lt, cases_Bool, false≢true, lt-ltb}
+use Rattle.std.proofs.lemmas.Option.{same_Some, slice_get-get_or}
 use Rattle.jh_num.specs.declared.address.TheConstants.{ADDRESS_END}
-use Rattle.jh_num.proofs.Lists.{IsFound-from_find, find-None, find-some}
+use Rattle.jh_num.proofs.Lists.{IsFound-from_find, find-None}
 use Rattle.jh_num.proofs.MemoryLemmas.{listed}
 use Rattle.jh_cellcfg.specs.declared.config.CellConfig.{CellConfig}
 use Rattle.jh_cellcfg.specs.declared.config.SystemConfig.{SystemConfig}
 use Rattle.jh_cellcfg.specs.declared.live.Live.{Live}
 use Rattle.jh_cellcfg.specs.declared.region.Region.{Region}
 use Rattle.jh_cellcfg.specs.Regions.{has_size, has_address, is_page_mapped, virt_end, allows_width, allows_unaligned}
-use Rattle.jh_mmio.specs.declared.hitting.Hitting.{Hitting}
-use Rattle.jh_mmio.specs.declared.hitting.Hitting.TheVariants.{Ecam, Nothing as HitsNothing}
-use Rattle.jh_mmio.specs.Dispatch.{lies_between, is_at_closed, takes_all, has_right, lets_through, by_ecam_at, behind_between}
+use Rattle.jh_mmio.specs.declared.hitting.Hitting.TheVariants.{Ecam, Bar, Nothing as HitsNothing}
+use Rattle.jh_mmio.specs.declared.hitting.Window.{Window as TheWindow}
+use Rattle.jh_mmio.specs.Dispatch.{lies_between, is_at_closed, takes_all, has_right, lets_through, by_ecam_at, by_window, window_has, number_told}
 use Rattle.jh_mmio.proofs.AccessLemmas.{lies_from, lies_parts}
+use Rattle.jh_ivshmem.specs.declared.endpoint.Endpoint.{Endpoint}
 use Rattle.jh_script.specs.declared.image.Image.{Image}
 use Rattle.jh_history.specs.declared.place.Place.{Place}
 use Rattle.jh_history.specs.declared.place.Place.TheVariants.{Physical}
 use Rattle.jh_history.specs.declared.access.Access.{Access}
 use Rattle.jh_history.specs.declared.access.Access.TheVariants.{Read as ToRead, Write as ToWrite, Fetch as ToFetch}
 use Rattle.jh_history.specs.declared.access.Reach.{Reach}
-use Rattle.jh_history.specs.declared.access.Reach.TheVariants.{Memory, Subpage, Config, Nothing}
+use Rattle.jh_history.specs.declared.access.Reach.TheVariants.{Memory, Subpage, Config, Window, Nothing}
 use Rattle.jh_history.specs.Places.{further, places_in_row}
 use Rattle.jh_history.specs.Access.{place_in_cell, places_from, memory_or_nothing, reach_by, or_behind, is_reached}
-use Rattle.jh_history.specs.Behind.{ecam_start, ecam_end, by_region, in_ecam, answer_by, answer_to}
+use Rattle.jh_history.specs.Behind.{ecam_start, ecam_end, by_device, asked_windows, window_found, answer_by, answer_to}
 use Rattle.jh_history.specs.Facts.{Facts}
-use Rattle.jh_history.specs.Grants.{is_kept, granted, behind_in, reach}
+use Rattle.jh_history.specs.Grants.{is_kept, granted, behind_in, reach, devices_of}
 use Rattle.jh_history.specs.Lives.{cell_in, regions_in}
 use Rattle.jh_history.specs.Phases.{configs_of}
-use Rattle.jh_history.specs.Sound.{AreSoundCells}
+use Rattle.jh_history.specs.Sound.{AreSoundCells, IsSound}
 use Rattle.jh_history.proofs.AccessLemmas.{reach_by-within, reach_by-beyond, places_from-row}
 use Rattle.jh_history.proofs.PlaceLemmas.{further-none, further-next}
 use Rattle.jh_history.proofs.GrantLemmas.{place_in_cell-further}
-use Rattle.jh_history.proofs.BehindLemmas.{takes_all-size, takes_all-subpage, kept-row, answer-within, answer-beyond}
-use Rattle.jh_laws.specs.Grants.{may, place_behind}
-use Rattle.jh_laws.specs.Held.{IsLive, IsLeft, IsGrantedTo, AreGrantedTo}
-use Rattle.jh_laws.specs.Ends.{HasAccess, LetsThrough, IsBehindMemory, IsAnsweredBy, IsInWindow, IsAnsweredByWindow, IsAnswered, GivesPlaces, AreItsPlaces}
-use Rattle.jh_laws.proofs.RootLemmas.{has_address-first, has_address-last, has_address-from}
+use Rattle.jh_history.proofs.BehindLemmas.{takes_all-subpage, kept-row, answer-within, answer-beyond}
+use Rattle.jh_laws.specs.Grants.{may}
+use Rattle.jh_laws.specs.Held.{IsLive, IsGrantedTo, AreGrantedTo}
+use Rattle.jh_laws.specs.Ends.{HasAccess, LetsThrough, IsBehindMemory, IsAnsweredBy, IsInWindow, IsAnsweredByWindow, IsAnsweredByRegister, IsAnswered, GivesPlaces, AreItsPlaces}
+use Rattle.jh_laws.proofs.RootLemmas.{has_address-from}
+use Rattle.jh_laws.proofs.DevicesLemmas.{position-single, window-lies, window-none, found-passes}
 use Rattle.jh_laws.proofs.ListedLemmas.{places_from-listed, places_from-each, places_from-some}
 use Rattle.jh_laws.proofs.HeldLemmas.{live-cell, cell-live, number-of, granted-to, to-granted, regions_of_live, left_free, free_left}
 
@@ -268,13 +270,24 @@ ecam_hit start at width wide aligned = ap (λ (b : Bool). cond b Ecam HitsNothin
 pub data Way (image : Image) (f : Facts) (id : ℕ) (access : Access) (at width : ℕ) : Type 0 where
   OnMemory : (ps : List Place) → AreGrantedTo image f.cells id access at width → reach image f id access at width ≡ Memory ps → Way image f id access at width
   OnRegion : (r : Region) → IsAnsweredBy image f.cells id access at width r → reach image f id access at width ≡ Subpage (places_in_row (place_in_cell id r at) width) → Way image f id access at width
-  OnWindow : IsAnsweredByWindow image f.cells id access at width → reach image f id access at width ≡ Config (at - image.system.pci_mmconfig_base) → Way image f id access at width
-  OnNothing : (IsAnswered image f.cells id access at width → ⊥) → reach image f id access at width ≡ Nothing → Way image f id access at width
+  OnWindow : IsAnsweredByWindow image f.cells id access at width → reach image f id access at width ≡ Config (record { at = at - image.system.pci_mmconfig_base; width = width }) → Way image f id access at width
+  OnRegister : (n bar offset : ℕ) (e : Endpoint) → IsAnsweredByRegister image f id access at width n bar offset e → reach image f id access at width ≡ Window (record { device = n; bar = bar; at = offset }) → Way image f id access at width
+  OnNothing : (IsAnswered image f id access at width → ⊥) → reach image f id access at width ≡ Nothing → Way image f id access at width
 
--- nothing answers where memory doesn't, and neither a region nor the window does
-unanswered : (image : Image) (cells : List Live) (id : ℕ) (access : Access) (at width : ℕ) → (AreGrantedTo image cells id access at width → ⊥) → ((r : Region) → IsAnsweredBy image cells id access at width r → ⊥)
-    → (IsAnsweredByWindow image cells id access at width → ⊥) → IsAnswered image cells id access at width → ⊥
-unanswered image cells id access at width memory region window h = ⊎_elim memory (λ rest. ⊎_elim (λ (by : (r : Region) × IsAnsweredBy image cells id access at width r). region by.0 by.1) window rest) h
+-- some register answers
+abbrev ByRegister : Image → Facts → ℕ → Access → ℕ → ℕ → Type 0
+ByRegister image f id access at width = (n : ℕ) × (bar : ℕ) × (offset : ℕ) × (e : Endpoint) × IsAnsweredByRegister image f id access at width n bar offset e
+
+-- nothing answers where memory doesn't, and neither a region nor the window nor a register does
+unanswered : (image : Image) (f : Facts) (id : ℕ) (access : Access) (at width : ℕ) → (AreGrantedTo image f.cells id access at width → ⊥) → ((r : Region) → IsAnsweredBy image f.cells id access at width r → ⊥)
+    → (IsAnsweredByWindow image f.cells id access at width → ⊥) → ((n bar offset : ℕ) (e : Endpoint) → IsAnsweredByRegister image f id access at width n bar offset e → ⊥) → IsAnswered image f id access at width → ⊥
+unanswered image f id access at width memory region window register h =
+    ⊎_elim memory
+    (λ rest. ⊎_elim
+    (λ (by : (r : Region) × IsAnsweredBy image f.cells id access at width r). region by.0 by.1)
+    (λ more. ⊎_elim window (λ (by : ByRegister image f id access at width). register by.0 by.1 by.2 by.3 by.4) more)
+    rest)
+    h
 
 abbrev Behind : Image → Facts → ℕ → Access → ℕ → ℕ → Type 0
 Behind image f id access at width = IsBehindMemory image f.cells id access at width
@@ -285,69 +298,125 @@ region_way : (image : Image) (f : Facts) (id : ℕ) (access : Access) (at width 
 region_way image f id access at width r true sound some behind has is e = OnRegion r (record { behind = behind; has = has; through = lets-through access at width r behind.no_fetch is }) e
 region_way image f id access at width r false sound some behind has is e =
     OnNothing
-    (unanswered image f.cells id access at width behind.lacks
+    (unanswered image f id access at width behind.lacks
     (λ s by.
     let P : Region → Type 0 = LetsThrough access at width in
     both_ways (lets_through at width (is_write access) r) is (through-lets access at width r behind.no_fetch (subst P (one-region image f.cells id at width s r sound some by.has has) by.through)))
-    (λ by. by.none r has))
+    (λ by. by.none r has)
+    (λ n bar offset o by. by.none r has))
     e
 
--- no region has it, and the access lies in the window or not
-config_way : (image : Image) (f : Facts) (id : ℕ) (access : Access) (at width : ℕ) (b : Bool) → Behind image f id access at width → ((r : Region) → HasAccess image f.cells id at width r → ⊥) → IsInWindow image.system at width
-    → (is_wide width && eqb ((at - image.system.pci_mmconfig_base) % width) 0) ≡ b → reach image f id access at width ≡ in_ecam image.system.pci_mmconfig_base at (cond b Ecam HitsNothing) → Way image f id access at width
-config_way image f id access at width true behind none within is e =
+-- no region has the access
+abbrev NoRegion : Image → Facts → ℕ → ℕ → ℕ → Type 0
+NoRegion image f id at width = (r : Region) → HasAccess image f.cells id at width r → ⊥
+
+-- the access lies in the window of configuration space
+config_way : (image : Image) (f : Facts) (id : ℕ) (access : Access) (at width : ℕ) (window : Option TheWindow) (b : Bool) → Behind image f id access at width → NoRegion image f id at width → IsInWindow image.system at width
+    → (is_wide width && eqb ((at - image.system.pci_mmconfig_base) % width) 0) ≡ b → reach image f id access at width ≡ by_device image.system.pci_mmconfig_base window at width (cond b Ecam HitsNothing) → Way image f id access at width
+config_way image f id access at width window true behind none within is e =
     let parts = and_parts (is_wide width) (eqb ((at - image.system.pci_mmconfig_base) % width) 0) is in
     OnWindow (record { behind = behind; none = none; within = within; wide = true_wide width parts.0; aligned = eqb-true ((at - image.system.pci_mmconfig_base) % width) 0 parts.1 }) e
-config_way image f id access at width false behind none within is e =
+config_way image f id access at width window false behind none within is e =
     OnNothing
-    (unanswered image f.cells id access at width behind.lacks (λ r by. none r by.has)
+    (unanswered image f id access at width behind.lacks (λ r by. none r by.has)
     (λ by. both_ways (is_wide width && eqb ((at - image.system.pci_mmconfig_base) % width) 0) is
-    (and_from (is_wide width) (eqb ((at - image.system.pci_mmconfig_base) % width) 0) (wide_true width by.wide) (eq-eqb ((at - image.system.pci_mmconfig_base) % width) 0 by.aligned))))
+    (and_from (is_wide width) (eqb ((at - image.system.pci_mmconfig_base) % width) 0) (wide_true width by.wide) (eq-eqb ((at - image.system.pci_mmconfig_base) % width) 0 by.aligned)))
+    (λ n bar offset o by. by.outside within))
     e
 
-window_way : (image : Image) (f : Facts) (id : ℕ) (access : Access) (at width : ℕ) (b : Bool) → 0 < width → Behind image f id access at width → ((r : Region) → HasAccess image f.cells id at width r → ⊥)
-    → lies_between (ecam_start image.system) (ecam_end image.system) at width ≡ b → reach image f id access at width ≡ in_ecam image.system.pci_mmconfig_base at (cond b (by_ecam_at image.system.pci_mmconfig_base at width) HitsNothing) → Way image f id access at width
-window_way image f id access at width true some behind none is e =
-    config_way image f id access at width (is_wide width && eqb ((at - image.system.pci_mmconfig_base) % width) 0) behind none (window-in image.system at width some is) refl e
-window_way image f id access at width false some behind none is e =
+-- the access lies outside it
+abbrev Outside : Image → ℕ → ℕ → Type 0
+Outside image at width = IsInWindow image.system at width → ⊥
+
+abbrev is_word : ℕ → ℕ → Bool
+is_word at width = eqb width 4 && eqb (at % 4) 0
+
+-- a window of a device has it, and it is a word or not
+word_way : (image : Image) (f : Facts) (id : ℕ) (access : Access) (at width : ℕ) (w : TheWindow) (b : Bool) → IsSound image f → 0 < width → Behind image f id access at width → NoRegion image f id at width → Outside image at width
+    → window_found (devices_of image f id) at width ≡ Some w → is_word at width ≡ b → reach image f id access at width ≡ by_device image.system.pci_mmconfig_base (Some w) at width (cond b (Bar (number_told 0)) HitsNothing)
+    → Way image f id access at width
+word_way image f id access at width w true sound some behind none outside found is e =
+    let parts = and_parts (eqb width 4) (eqb (at % 4) 0) is in
+    let own = window-lies image f id at width w sound some found in
+    let aligned : at % 4 ≡ 0 = eqb-true (at % 4) 0 parts.1 in
+    OnRegister w.device w.bar (at - w.start) own.endpoint
+    (record {
+      behind = behind;
+      none = none;
+      outside = outside;
+      within = own.lies;
+      earliest = own.earliest;
+      wide = eqb-true width 4 parts.0;
+      aligned = aligned;
+      there = own.there;
+    })
+    (e ∙ ap (λ (k : ℕ). Window (record { device = w.device; bar = w.bar; at = k })) (own.rounded aligned))
+word_way image f id access at width w false sound some behind none outside found is e =
     OnNothing
-    (unanswered image f.cells id access at width behind.lacks (λ r by. none r by.has)
-    (λ by. both_ways (lies_between (ecam_start image.system) (ecam_end image.system) at width) is (in-window image.system at width behind.below by.within)))
+    (unanswered image f id access at width behind.lacks (λ r by. none r by.has) (λ by. outside by.within)
+    (λ n bar offset o by. both_ways (is_word at width) is (and_from (eqb width 4) (eqb (at % 4) 0) (eq-eqb width 4 by.wide) (eq-eqb (at % 4) 0 by.aligned))))
     e
 
-found_way : (image : Image) (f : Facts) (id : ℕ) (access : Access) (at width : ℕ) (o : Option Region) → AreSoundCells image.system (configs_of f.cells) → 0 < width → Behind image f id access at width
-    → find (takes_all (kept_of image f.cells id) at width) (regions_in image f.cells id) ≡ o → reach image f id access at width ≡ answer_by id o (ecam_start image.system) (ecam_end image.system) (is_write access) at width → Way image f id access at width
+bar_way : (image : Image) (f : Facts) (id : ℕ) (access : Access) (at width : ℕ) (o : Option TheWindow) → IsSound image f → 0 < width → Behind image f id access at width → NoRegion image f id at width → Outside image at width
+    → window_found (devices_of image f id) at width ≡ o
+    → reach image f id access at width ≡ by_device image.system.pci_mmconfig_base o at width (option_map_or (by_window at width) (position (window_has at width) (asked_windows o)) HitsNothing) → Way image f id access at width
+bar_way image f id access at width None sound some behind none outside found e =
+    OnNothing
+    (unanswered image f id access at width behind.lacks (λ r by. none r by.has) (λ by. outside by.within) (λ n bar offset o by. window-none image f id at width sound found n bar o by.within))
+    e
+bar_way image f id access at width (Some w) sound some behind none outside found e =
+    word_way image f id access at width w (is_word at width) sound some behind none outside found refl
+    (e ∙ ap (λ (p : Option ℕ). by_device image.system.pci_mmconfig_base (Some w) at width (option_map_or (by_window at width) p HitsNothing)) (position-single (window_has at width) w (found-passes image f id at width w found)))
+
+window_way : (image : Image) (f : Facts) (id : ℕ) (access : Access) (at width : ℕ) (o : Option TheWindow) (b : Bool) → IsSound image f → 0 < width → Behind image f id access at width → NoRegion image f id at width
+    → window_found (devices_of image f id) at width ≡ o → lies_between (ecam_start image.system) (ecam_end image.system) at width ≡ b
+    → reach image f id access at width
+    ≡ by_device image.system.pci_mmconfig_base o at width (cond b (by_ecam_at image.system.pci_mmconfig_base at width) (option_map_or (by_window at width) (position (window_has at width) (asked_windows o)) HitsNothing))
+    → Way image f id access at width
+window_way image f id access at width o true sound some behind none found is e =
+    config_way image f id access at width o (is_wide width && eqb ((at - image.system.pci_mmconfig_base) % width) 0) behind none (window-in image.system at width some is) refl e
+window_way image f id access at width o false sound some behind none found is e =
+    bar_way image f id access at width o sound some behind none
+    (λ within. both_ways (lies_between (ecam_start image.system) (ecam_end image.system) at width) is (in-window image.system at width behind.below within))
+    found e
+
+abbrev answer_with : Image → Facts → ℕ → Option Region → Option TheWindow → Bool → ℕ → ℕ → Reach
+answer_with image f id o window write at width = answer_by id o (ecam_start image.system) (ecam_end image.system) window write at width
+
+found_way : (image : Image) (f : Facts) (id : ℕ) (access : Access) (at width : ℕ) (o : Option Region) → IsSound image f → 0 < width → Behind image f id access at width
+    → find (takes_all (kept_of image f.cells id) at width) (regions_in image f.cells id) ≡ o → reach image f id access at width ≡ answer_with image f id o (window_found (devices_of image f id) at width) (is_write access) at width → Way image f id access at width
 found_way image f id access at width (Some r) sound some behind is e =
     let found = IsFound-from_find (takes_all (kept_of image f.cells id) at width) (regions_in image f.cells id) r is in
-    region_way image f id access at width r (lets_through at width (is_write access) r) sound some behind (takes-has image f.cells id at width r some found.held found.passes) refl e
+    region_way image f id access at width r (lets_through at width (is_write access) r) sound.cells some behind (takes-has image f.cells id at width r some found.held found.passes) refl e
 found_way image f id access at width None sound some behind is e =
-    window_way image f id access at width (lies_between (ecam_start image.system) (ecam_end image.system) at width) some behind
+    window_way image f id access at width (window_found (devices_of image f id) at width) (lies_between (ecam_start image.system) (ecam_end image.system) at width) sound some behind
     (λ r has.
-    let takes = has-takes image f.cells id at width r sound some has in
+    let takes = has-takes image f.cells id at width r sound.cells some has in
     both_ways (takes_all (kept_of image f.cells id) at width r) (find-None (takes_all (kept_of image f.cells id) at width) (regions_in image f.cells id) r is takes.0) takes.1)
-    refl e
+    refl refl e
 
 -- an access that is no fetch
-register_way : (image : Image) (f : Facts) (id : ℕ) (access : Access) (at width : ℕ) → AreSoundCells image.system (configs_of f.cells) → 0 < width → access ≢ ToFetch → (AreGrantedTo image f.cells id access at width → ⊥)
-    → ((o : Option Region) → answer_to id o (ecam_start image.system) (ecam_end image.system) access at width ≡ answer_by id o (ecam_start image.system) (ecam_end image.system) (is_write access) at width)
-    → reach image f id access at width ≡ behind_in image f.cells id access at width → Way image f id access at width
+register_way : (image : Image) (f : Facts) (id : ℕ) (access : Access) (at width : ℕ) → IsSound image f → 0 < width → access ≢ ToFetch → (AreGrantedTo image f.cells id access at width → ⊥)
+    → ((o : Option Region) (w : Option TheWindow) → answer_to id o (ecam_start image.system) (ecam_end image.system) w access at width ≡ answer_with image f id o w (is_write access) at width)
+    → reach image f id access at width ≡ behind_in image f.cells f.endpoints id access at width → Way image f id access at width
 register_way image f id access at width sound some other lacks by e = elim (cases_lt ADDRESS_END (at + width)) [
   | inl beyond ↦
       OnNothing
-      (unanswered image f.cells id access at width lacks (λ r h. let low = h.behind.below in absurd (omega arith)) (λ h. let low = h.behind.below in absurd (omega arith)))
-      (e ∙ answer-beyond id (regions_in image f.cells id) (is_kept image f.cells id) image.system access at width beyond)
+      (unanswered image f id access at width lacks (λ r h. let low = h.behind.below in absurd (omega arith)) (λ h. let low = h.behind.below in absurd (omega arith)) (λ n bar offset o h. let low = h.behind.below in absurd (omega arith)))
+      (e ∙ answer-beyond (regions_in image f.cells id) (devices_of image f id) (is_kept image f.cells id) image.system access at width beyond)
   | inr within ↦
       found_way image f id access at width (find (takes_all (kept_of image f.cells id) at width) (regions_in image f.cells id)) sound some (record { no_fetch = other; below = within; lacks = lacks }) refl
-      (e ∙ answer-within id (regions_in image f.cells id) (is_kept image f.cells id) image.system access at width within ∙ by (find (takes_all (kept_of image f.cells id) at width) (regions_in image f.cells id)))
+      (e ∙ answer-within (regions_in image f.cells id) (devices_of image f id) (is_kept image f.cells id) image.system access at width within
+      ∙ by (find (takes_all (kept_of image f.cells id) at width) (regions_in image f.cells id)) (window_found (devices_of image f id) at width))
 ]
 
-fetch_way : (image : Image) (f : Facts) (id at width : ℕ) → (AreGrantedTo image f.cells id ToFetch at width → ⊥) → reach image f id ToFetch at width ≡ behind_in image f.cells id ToFetch at width → Way image f id ToFetch at width
+fetch_way : (image : Image) (f : Facts) (id at width : ℕ) → (AreGrantedTo image f.cells id ToFetch at width → ⊥) → reach image f id ToFetch at width ≡ behind_in image f.cells f.endpoints id ToFetch at width → Way image f id ToFetch at width
 fetch_way image f id at width lacks e =
     OnNothing
-    (unanswered image f.cells id ToFetch at width lacks (λ r h. h.behind.no_fetch refl) (λ h. h.behind.no_fetch refl))
+    (unanswered image f id ToFetch at width lacks (λ r h. h.behind.no_fetch refl) (λ h. h.behind.no_fetch refl) (λ n bar offset o h. h.behind.no_fetch refl))
     (e ∙ elim (cases_lt ADDRESS_END (at + width)) [
-      | inl beyond ↦ answer-beyond id (regions_in image f.cells id) (is_kept image f.cells id) image.system ToFetch at width beyond
-      | inr within ↦ answer-within id (regions_in image f.cells id) (is_kept image f.cells id) image.system ToFetch at width within
+      | inl beyond ↦ answer-beyond (regions_in image f.cells id) (devices_of image f id) (is_kept image f.cells id) image.system ToFetch at width beyond
+      | inr within ↦ answer-within (regions_in image f.cells id) (devices_of image f id) (is_kept image f.cells id) image.system ToFetch at width within
     ])
 
 abbrev access_number : Access → ℕ
@@ -355,21 +424,21 @@ access_number ToRead = 0
 access_number ToWrite = 1
 access_number ToFetch = 2
 
-behind_way : (image : Image) (f : Facts) (id : ℕ) (access : Access) (at width : ℕ) → AreSoundCells image.system (configs_of f.cells) → 0 < width → (AreGrantedTo image f.cells id access at width → ⊥)
-    → reach image f id access at width ≡ behind_in image f.cells id access at width → Way image f id access at width
-behind_way image f id ToRead at width sound some lacks e = register_way image f id ToRead at width sound some (λ same. let n : 0 ≡ 2 = ap access_number same in absurd (omega arith)) lacks (λ o. refl) e
-behind_way image f id ToWrite at width sound some lacks e = register_way image f id ToWrite at width sound some (λ same. let n : 1 ≡ 2 = ap access_number same in absurd (omega arith)) lacks (λ o. refl) e
+behind_way : (image : Image) (f : Facts) (id : ℕ) (access : Access) (at width : ℕ) → IsSound image f → 0 < width → (AreGrantedTo image f.cells id access at width → ⊥)
+    → reach image f id access at width ≡ behind_in image f.cells f.endpoints id access at width → Way image f id access at width
+behind_way image f id ToRead at width sound some lacks e = register_way image f id ToRead at width sound some (λ same. let n : 0 ≡ 2 = ap access_number same in absurd (omega arith)) lacks (λ o w. refl) e
+behind_way image f id ToWrite at width sound some lacks e = register_way image f id ToWrite at width sound some (λ same. let n : 1 ≡ 2 = ap access_number same in absurd (omega arith)) lacks (λ o w. refl) e
 behind_way image f id ToFetch at width sound some lacks e = fetch_way image f id at width lacks e
 
-pub way : (image : Image) (f : Facts) (id : ℕ) (access : Access) (at width : ℕ) → AreSoundCells image.system (configs_of f.cells) → 0 < width → Way image f id access at width
+pub way : (image : Image) (f : Facts) (id : ℕ) (access : Access) (at width : ℕ) → IsSound image f → 0 < width → Way image f id access at width
 way image f id access at width sound some =
     ⊎_elim
     (λ (found : (ps : List Place) × (reach_by (granted image f id access) at width ≡ Memory ps)).
-    OnMemory found.0 (granted_memory image f id access at width found.0 sound found.1) (ap (λ (r : Reach). or_behind r (behind_in image f.cells id access at width)) found.1))
+    OnMemory found.0 (granted_memory image f id access at width found.0 sound.cells found.1) (ap (λ (r : Reach). or_behind r (behind_in image f.cells f.endpoints id access at width)) found.1))
     (λ (none : reach_by (granted image f id access) at width ≡ Nothing).
     behind_way image f id access at width sound some
-    (λ each. let found = memory_granted image f id access at width sound some each in nothing_memory found.0 (sym none ∙ found.1))
-    (ap (λ (r : Reach). or_behind r (behind_in image f.cells id access at width)) none))
+    (λ each. let found = memory_granted image f id access at width sound.cells some each in nothing_memory found.0 (sym none ∙ found.1))
+    (ap (λ (r : Reach). or_behind r (behind_in image f.cells f.endpoints id access at width)) none))
     (memory_cases (granted image f id access) at width)
 
 -- ---- the places of an access
@@ -387,7 +456,7 @@ pub places-of_memory : (image : Image) (f : Facts) (id : ℕ) (access : Access) 
 places-of_memory image f id access at width ps place sound some granted is are =
     ⊎_elim
     (λ (each : (k : ℕ) → k < width → IsGrantedTo image f.cells id access (at + k) (place k)).
-    same_memory ps (listed place width) (sym is ∙ ap (λ (r : Reach). or_behind r (behind_in image f.cells id access at width)) (memory_listed image f id access at width place sound some each)))
+    same_memory ps (listed place width) (sym is ∙ ap (λ (r : Reach). or_behind r (behind_in image f.cells f.endpoints id access at width)) (memory_listed image f id access at width place sound some each)))
     (λ (by : GivesPlaces image f.cells id access at width place). absurd (by.answers.behind.lacks granted))
     are
   where

@@ -1,7 +1,7 @@
 -- What an entry writes.
-use Rattle.std.proofs.Common.{◌≡◌, ℕ, zero, suc, ◌+◌, ◌-◌, ◌/◌, ◌%◌, ◌^◌, ◌<◌, ◌≤◌, List, [], ◌∷◌, ◌++◌, Bool, true, false, cond, ◌&&◌, eqb, Option, Some, None, refl, sym, ap, subst, ◌∙◌, inl, inr, ⊎_elim, append_assoc, append-nil, arith}
+use Rattle.std.proofs.Common.{◌≡◌, ◌≢◌, ℕ, zero, suc, ◌+◌, ◌-◌, ◌*◌, ◌/◌, ◌%◌, ◌^◌, ◌<◌, ◌≤◌, List, [], ◌∷◌, ◌++◌, Bool, true, false, cond, ◌&&◌, eqb, Option, Some, None, refl, sym, ap, subst, ◌∙◌, inl, inr, ⊎_elim, append_assoc, append-nil, arith}
 use Rattle.std.specs.Prelude.{Contains, slice_get, nat_lt, nat_le}
-use Rattle.std.proofs.lemmas.Bool.{both_ways, and_parts, and_from, eqb-true, false≢true, true≢false, lt-ltb, ltb-true, le-leb, cases_Bool, false_from_ne_true}
+use Rattle.std.proofs.lemmas.Bool.{both_ways, and_parts, and_from, eqb-true, false≢true, true≢false, lt-ltb, ltb-true, le-leb, false_from_ne_true}
 use Rattle.std.proofs.lemmas.Option.{none-some, same_Some, slice_get-get_or}
 use Rattle.jh_num.proofs.Booleans.{same_number}
 use Rattle.jh_num.proofs.MemoryLemmas.{listed}
@@ -10,6 +10,11 @@ use Rattle.jh_cellcfg.specs.declared.live.Live.{Live}
 use Rattle.jh_cellcfg.specs.declared.region.Region.{Region}
 use Rattle.jh_cellcfg.specs.Regions.{has_place, phys_end, is_comm}
 use Rattle.jh_check.specs.Laws.{IsNumbered, IsItem}
+use Rattle.jh_ivshmem.specs.declared.endpoint.Endpoint.{Endpoint}
+use Rattle.jh_ivshmem.specs.declared.spec.EndpointSpec.{EndpointSpec}
+use Rattle.jh_ivshmem.specs.declared.spec.Slot.{Slot}
+use Rattle.jh_ivshmem.specs.Links.{slot_written}
+use Rattle.jh_ivshmem.specs.Specs.{slot_of}
 use Rattle.jh_script.specs.declared.image.Image.{Image}
 use Rattle.jh_history.specs.declared.place.Place.{Place}
 use Rattle.jh_history.specs.declared.place.Place.TheVariants.{Physical, Page}
@@ -19,10 +24,10 @@ use Rattle.jh_history.specs.declared.comm.PageWrite.{PageWrite}
 use Rattle.jh_history.specs.declared.entry.Entry.{Entry}
 use Rattle.jh_history.specs.declared.entry.Act.{Act}
 use Rattle.jh_history.specs.declared.entry.Act.TheVariants.{Read, Write, Fetch, Await, Irq, Hvc, Begin, Stop, Decide, Settle, Commit, Note, Noted, Finish}
-use Rattle.jh_history.specs.Access.{place_in_cell, write_of}
+use Rattle.jh_history.specs.Access.{place_in_cell, with_slot_if}
+use Rattle.jh_history.specs.Endpoints.{specs_changing, with_words}
 use Rattle.jh_history.specs.Facts.{Facts}
-use Rattle.jh_history.specs.Grants.{reach}
-use Rattle.jh_history.specs.Places.{further, written}
+use Rattle.jh_history.specs.Places.{further}
 use Rattle.jh_history.specs.Lives.{cell_in}
 use Rattle.jh_history.specs.Pages.{page_after, with_page_write, page_write_by}
 use Rattle.jh_history.specs.Bytes.{byte_written, byte_after}
@@ -30,18 +35,23 @@ use Rattle.jh_history.specs.History.{facts}
 use Rattle.jh_history.specs.Phases.{configs_of}
 use Rattle.jh_history.specs.Due.{IsLegal}
 use Rattle.jh_history.specs.Admitted.{IsAdmitted}
+use Rattle.jh_history.proofs.FactsLemmas.{same_function}
 use Rattle.jh_history.proofs.PlaceLemmas.{written-over}
 use Rattle.jh_history.proofs.LegalLemmas.{IsLegal-begin}
-use Rattle.jh_history.specs.Sound.{AreSoundCells}
+use Rattle.jh_history.specs.Sound.{AreSoundCells, IsSound}
 use Rattle.jh_laws.specs.Grants.{IsGranted}
 use Rattle.jh_laws.specs.Held.{IsLive, IsGrantedTo}
-use Rattle.jh_laws.specs.Written.{IsByteBy, Puts, IsByteOfPage, WritesByte, NoneWrites}
+use Rattle.jh_laws.specs.Written.{IsByteBy, Puts, IsByteOfPage, WritesWord, IsByteOfWord, WritesByte, NoneWrites}
+use Rattle.jh_laws.specs.Vectors.{PutsRegister}
+use Rattle.jh_laws.specs.Ways.{is_commit}
 use Rattle.jh_laws.proofs.ListedLemmas.{over-at, over-other}
-use Rattle.jh_laws.specs.Ends.{AreItsPlaces, GivesPlaces}
+use Rattle.jh_laws.specs.Ends.{AreItsPlaces, GivesPlaces, IsAnsweredByRegister}
 use Rattle.jh_laws.proofs.HeldLemmas.{live-cell, number-of}
-use Rattle.jh_laws.proofs.StoredLemmas.{write-stored, placed}
+use Rattle.jh_laws.proofs.EndsLemmas.{IsSmallAct, small-at}
+use Rattle.jh_laws.proofs.StoredLemmas.{byte_put, write-stored, register-stored, IsStored, IsWord, placed}
+use Rattle.jh_laws.proofs.WordLemmas.{IsByteAt, IsApart, state-word, value-fits, state-put, slot-at, slot-other, zero-byte, words-put, words-kept, words-page, specs-none}
 use Rattle.jh_history.proofs.GrantLemmas.{place_in_cell-further}
-use Rattle.jh_laws.proofs.PlacesHeldLemmas.{is_memory, byte-behind}
+use Rattle.jh_laws.proofs.PlacesHeldLemmas.{is_memory, physical-kept, byte-behind}
 use Rattle.jh_history.proofs.SoundLemmas.{legal-sound}
 
 -- ---- no two addresses of a cell have one place
@@ -141,36 +151,131 @@ one_index image f id at width place j k sound are lt_j lt_k same =
     (sym (place_in_cell-further by.answers.has.cell.id by.region at j low) ∙ sym (by.given j lt_j) ∙ same ∙ by.given k lt_k ∙ place_in_cell-further by.answers.has.cell.id by.region at k low))
     are
 
-pub write-puts : (image : Image) (f : Facts) (id at width value : ℕ) (place : Place) (byte : ℕ) → AreSoundCells image.system (configs_of f.cells) → IsByteBy image f.cells id at width value place byte
-    → write_of f.byte (reach image f id ToWrite at width) value place ≡ byte
+pub write-puts : (image : Image) (f : Facts) (id at width value : ℕ) (place : Place) (byte : ℕ) → IsSound image f → IsByteBy image f.cells id at width value place byte
+    → byte_put image f id at width value place ≡ byte
 write-puts image f id at width value place byte sound h =
     let k : ℕ = h.index in
     let below : k < width = h.within in
     let some : 0 < width = omega arith in
     ap (λ (b : Place → ℕ). b place) (write-stored image f id at width h.places value sound some h.are)
     ∙ written-over f.byte (listed h.places width) value place
-    ∙ over-at h.places width value place (f.byte place) k below h.there (λ j lt is. one_index image f id at width h.places j k sound h.are lt below (sym is ∙ h.there))
+    ∙ over-at h.places width value place (f.byte place) k below h.there (λ j lt is. one_index image f id at width h.places j k sound.cells h.are lt below (sym is ∙ h.there))
     ∙ sym h.is
+
+pub word-puts : (image : Image) (f : Facts) (id at width value n : ℕ) (place : Place) (e : Endpoint) (k : ℕ) → IsSound image f → value < 256 ^ width → IsAnsweredByRegister image f id ToWrite at width n 0 0x10 e → value ≢ e.state
+    → IsByteAt (slot_of e.spec value) place k → byte_put image f id at width value place ≡ value / 256 ^ k % 256
+word-puts image f id at width value n place e k sound small by other there =
+    let four : width ≡ 4 = by.wide in
+    let same : value % 2 ^ 32 ≡ value = value-fits width value four small in
+    ap (λ (b : Place → ℕ). b place) (register-stored image f id at width n 0 0x10 value e sound (omega arith) by)
+    ∙ ap (λ (v : ℕ). with_slot_if (slot_written e 0 0x10 v) f.byte place) same
+    ∙ ap (λ (o : Option Slot). with_slot_if o f.byte place) (state-word e value other)
+    ∙ slot-at (slot_of e.spec value) f.byte place k there
 
 -- ---- the entry
 
-put_by : (image : Image) (f : Facts) (entry : Entry) (act : Act) (place : Place) (byte : ℕ) → AreSoundCells image.system (configs_of f.cells) → Puts image f.cells entry.cell act place byte
-    → with_page_write (page_write_by image f entry act) (byte_written image f entry.cell act) place ≡ byte
-put_by image f entry (Write width at value true) place byte sound puts = write-puts image f entry.cell at width value place byte sound puts.1
-put_by image f entry (Write width at value false) place byte sound puts = absurd (false≢true puts.0)
-put_by image f entry (Read width at got) place byte sound puts = absurd puts
-put_by image f entry (Fetch at got) place byte sound puts = absurd puts
-put_by image f entry (Await width at value ok) place byte sound puts = absurd puts
-put_by image f entry (Irq device vector) place byte sound puts = absurd puts
-put_by image f entry (Hvc code a b answer) place byte sound puts = absurd puts
-put_by image f entry (Begin code a b) place byte sound puts = absurd puts
-put_by image f entry Stop place byte sound puts = absurd puts
-put_by image f entry (Decide refused) place byte sound puts = absurd puts
-put_by image f entry (Settle how) place byte sound puts = absurd puts
-put_by image f entry Commit place byte sound puts = absurd puts
-put_by image f entry (Note id) place byte sound puts = absurd puts
-put_by image f entry (Noted id how) place byte sound puts = absurd puts
-put_by image f entry (Finish answer) place byte sound puts = absurd puts
+-- what the act itself writes stands behind the entry, where that is no Commit and changes no page
+own_byte : (image : Image) (f : Facts) (entry : Entry) (place : Place) → is_commit entry.act ≡ false → page_write_by image f entry entry.act ≡ None → byte_after image f entry place ≡ byte_written image f entry.cell entry.act place
+own_byte image f entry place other none =
+    ap (λ (w : Option PageWrite). with_page_write w (with_words (specs_changing f entry.act) (byte_written image f entry.cell entry.act)) place) none
+    ∙ ap (λ (specs : List EndpointSpec). with_words specs (byte_written image f entry.cell entry.act) place) (specs-none f entry.act other)
+
+-- an act that puts a byte is a write that succeeds
+pub record IsWrite (act : Act) : Type 0 where
+  pub width : ℕ
+  pub at : ℕ
+  pub value : ℕ
+  pub is : act ≡ Write width at value true
+
+write_quiet : (image : Image) (f : Facts) (entry : Entry) (act : Act) → IsWrite act → (is_commit act ≡ false) × (page_write_by image f entry act ≡ None)
+write_quiet image f entry act w =
+    let P : Act → Type 0 = λ a. (is_commit a ≡ false) × (page_write_by image f entry a ≡ None) in
+    subst P (sym w.is) (refl, refl)
+
+puts_write : (image : Image) (cells : List Live) (id : ℕ) (act : Act) (place : Place) (byte : ℕ) → Puts image cells id act place byte → (w : IsWrite act) × IsByteBy image cells id w.at w.width w.value place byte
+puts_write image cells id (Write width at value true) place byte puts = (record { width = width; at = at; value = value; is = refl }, puts.1)
+puts_write image cells id (Write width at value false) place byte puts = absurd (false≢true puts.0)
+puts_write image cells id (Read width at got) place byte puts = absurd puts
+puts_write image cells id (Fetch at got) place byte puts = absurd puts
+puts_write image cells id (Await width at value ok) place byte puts = absurd puts
+puts_write image cells id (Irq device vector) place byte puts = absurd puts
+puts_write image cells id (Hvc code a b answer) place byte puts = absurd puts
+puts_write image cells id (Begin code a b) place byte puts = absurd puts
+puts_write image cells id Stop place byte puts = absurd puts
+puts_write image cells id (Decide refused) place byte puts = absurd puts
+puts_write image cells id (Settle how) place byte puts = absurd puts
+puts_write image cells id Commit place byte puts = absurd puts
+puts_write image cells id (Note who) place byte puts = absurd puts
+puts_write image cells id (Noted who how) place byte puts = absurd puts
+puts_write image cells id (Finish answer) place byte puts = absurd puts
+
+put_by : (image : Image) (f : Facts) (entry : Entry) (place : Place) (byte : ℕ) → IsSound image f → Puts image f.cells entry.cell entry.act place byte → byte_after image f entry place ≡ byte
+put_by image f entry place byte sound puts =
+    let found = puts_write image f.cells entry.cell entry.act place byte puts in
+    let w : IsWrite entry.act = found.0 in
+    let quiet = write_quiet image f entry entry.act w in
+    own_byte image f entry place quiet.0 quiet.1
+    ∙ ap (λ (act : Act). byte_written image f entry.cell act place) w.is
+    ∙ write-puts image f entry.cell w.at w.width w.value place byte sound found.1
+
+-- so is one that writes a register
+pub record PutsBy (image : Image) (f : Facts) (id : ℕ) (act : Act) (offset put : ℕ) (e : Endpoint) : Type 0 where
+  pub write : IsWrite act
+  pub value : put ≡ write.value
+  pub number : ℕ
+  pub by : IsAnsweredByRegister image f id ToWrite write.at write.width number 0 offset e
+
+pub register-write : (image : Image) (f : Facts) (id : ℕ) (act : Act) (offset put : ℕ) (e : Endpoint) → PutsRegister image f id act offset put e → PutsBy image f id act offset put e
+register-write image f id (Write width at value true) offset put e puts = record { write = record { width = width; at = at; value = value; is = refl }; value = puts.1; number = puts.2.0; by = puts.2.1 }
+register-write image f id (Write width at value false) offset put e puts = absurd (false≢true puts.0)
+register-write image f id (Read width at got) offset put e puts = absurd puts
+register-write image f id (Fetch at got) offset put e puts = absurd puts
+register-write image f id (Await width at value ok) offset put e puts = absurd puts
+register-write image f id (Irq device vector) offset put e puts = absurd puts
+register-write image f id (Hvc code a b answer) offset put e puts = absurd puts
+register-write image f id (Begin code a b) offset put e puts = absurd puts
+register-write image f id Stop offset put e puts = absurd puts
+register-write image f id (Decide refused) offset put e puts = absurd puts
+register-write image f id (Settle how) offset put e puts = absurd puts
+register-write image f id Commit offset put e puts = absurd puts
+register-write image f id (Note who) offset put e puts = absurd puts
+register-write image f id (Noted who how) offset put e puts = absurd puts
+register-write image f id (Finish answer) offset put e puts = absurd puts
+
+put_word : (image : Image) (f : Facts) (entry : Entry) (spec : EndpointSpec) (value k : ℕ) (place : Place) (e : Endpoint) → IsSound image f → IsSmallAct entry.act → e.spec ≡ spec → PutsRegister image f entry.cell entry.act 0x10 value e → value ≢ e.state
+    → IsByteAt (slot_of spec value) place k → byte_after image f entry place ≡ value / 256 ^ k % 256
+put_word image f entry spec value k place e sound small is puts other there =
+    let h = register-write image f entry.cell entry.act 0x10 value e puts in
+    let w : IsWrite entry.act = h.write in
+    let quiet = write_quiet image f entry entry.act w in
+    let P : ℕ → Type 0 = λ v. v ≢ e.state in
+    let Q : ℕ → EndpointSpec → Type 0 = λ v s. IsByteAt (slot_of s v) place k in
+    let R : EndpointSpec → Type 0 = λ s. IsByteAt (slot_of s w.value) place k in
+    let V : ℕ → Type 0 = λ v. IsByteAt (slot_of spec v) place k in
+    own_byte image f entry place quiet.0 quiet.1
+    ∙ ap (λ (act : Act). byte_written image f entry.cell act place) w.is
+    ∙ word-puts image f entry.cell w.at w.width w.value h.number place e k sound (subst IsSmallAct w.is small).1 h.by (subst P h.value other) (subst R (sym is) (subst V h.value there))
+    ∙ ap (λ (v : ℕ). v / 256 ^ k % 256) (sym h.value)
+
+-- a word that becomes 0
+cleared_word : (image : Image) (f : Facts) (entry : Entry) (spec : EndpointSpec) (k p : ℕ) → Contains (specs_changing f entry.act) spec → IsByteAt (slot_of spec 0) (Physical p) k → byte_after image f entry (Physical p) ≡ 0
+cleared_word image f entry spec k p held there =
+    physical-kept (page_write_by image f entry entry.act) (with_words (specs_changing f entry.act) (byte_written image f entry.cell entry.act)) p
+    ∙ words-put (specs_changing f entry.act) (byte_written image f entry.cell entry.act) spec (Physical p) k held there
+
+word_by : (image : Image) (f : Facts) (entry : Entry) (place : Place) (byte : ℕ) → IsSound image f → IsSmallAct entry.act → IsByteOfWord image f entry place byte → byte_after image f entry place ≡ byte
+word_by image f entry place byte sound small h =
+    ⊎_elim
+    (λ (puts : (e : Endpoint) × (e.spec ≡ h.spec) × PutsRegister image f entry.cell entry.act 0x10 h.value e × (h.value ≢ e.state)).
+    put_word image f entry h.spec h.value h.index place puts.0 sound small puts.1 puts.2 puts.3 (h.within, h.there) ∙ sym h.is)
+    (λ (cleared : Contains (specs_changing f entry.act) h.spec × (h.value ≡ 0)).
+    let p : ℕ = h.spec.table + 4 * h.spec.id + h.index in
+    ap (byte_after image f entry) h.there
+    ∙ cleared_word image f entry h.spec h.index p cleared.0 (h.within, refl)
+    ∙ sym (zero-byte h.index h.within)
+    ∙ ap (λ (v : ℕ). v / 256 ^ h.index % 256) (sym cleared.1)
+    ∙ sym h.is)
+    h.writes
 
 -- an entry that changes a page writes nothing itself
 quiet_act : (image : Image) (f : Facts) (entry : Entry) (act : Act) (write : PageWrite) → page_write_by image f entry act ≡ Some write → byte_written image f entry.cell act ≡ f.byte
@@ -186,8 +291,8 @@ quiet_act image f entry Stop write is = refl
 quiet_act image f entry (Decide refused) write is = refl
 quiet_act image f entry (Settle how) write is = refl
 quiet_act image f entry Commit write is = refl
-quiet_act image f entry (Note id) write is = refl
-quiet_act image f entry (Noted id how) write is = refl
+quiet_act image f entry (Note who) write is = refl
+quiet_act image f entry (Noted who how) write is = refl
 quiet_act image f entry (Finish answer) write is = refl
 
 page_puts : (byte : Place → ℕ) (write : PageWrite) (offset : ℕ) → offset < 4096 → with_page_write (Some write) byte (Page write.cell offset) ≡ page_after write.change (λ k. byte (Page write.cell k)) offset
@@ -197,10 +302,13 @@ page_puts byte write offset within =
 
 paged_by : (image : Image) (f : Facts) (entry : Entry) (place : Place) (byte : ℕ) (write : PageWrite) → page_write_by image f entry entry.act ≡ Some write → IsByteOfPage f write place byte → byte_after image f entry place ≡ byte
 paged_by image f entry place byte write is h =
-    ap (λ (w : Option PageWrite). with_page_write w (byte_written image f entry.cell entry.act) place) is
-    ∙ ap (λ (b : Place → ℕ). with_page_write (Some write) b place) (quiet_act image f entry entry.act write is)
-    ∙ ap (with_page_write (Some write) f.byte) h.place_is
-    ∙ page_puts f.byte write h.offset h.within
+    let words : Place → ℕ = with_words (specs_changing f entry.act) f.byte in
+    ap (λ (w : Option PageWrite). with_page_write w (with_words (specs_changing f entry.act) (byte_written image f entry.cell entry.act)) place) is
+    ∙ ap (λ (b : Place → ℕ). with_page_write (Some write) (with_words (specs_changing f entry.act) b) place) (quiet_act image f entry entry.act write is)
+    ∙ ap (with_page_write (Some write) words) h.place_is
+    ∙ page_puts words write h.offset h.within
+    ∙ ap (λ (page : ℕ → ℕ). page_after write.change page h.offset)
+    (same_function (λ k. words (Page write.cell k)) (λ k. f.byte (Page write.cell k)) (λ k. words-page (specs_changing f entry.act) f.byte write.cell k))
     ∙ sym h.is
 
 pub entry-writes : (image : Image) (before rest : List Entry) (entry : Entry) (place : Place) (byte : ℕ) → IsAdmitted image → IsLegal image (before ++ entry ∷ rest) → WritesByte image (facts image before) entry place byte
@@ -210,41 +318,72 @@ entry-writes image before rest entry place byte admitted legal h =
     let sound = legal-sound image before admitted (IsLegal-begin image before (entry ∷ rest) legal) in
     byte-behind image before entry place
     ∙ ⊎_elim
-    (λ (puts : Puts image f.cells entry.cell entry.act place byte). put_by image f entry entry.act place byte sound.cells puts)
+    (λ (puts : Puts image f.cells entry.cell entry.act place byte). put_by image f entry place byte sound puts)
+    (λ more. ⊎_elim
+    (λ (word : IsByteOfWord image f entry place byte). word_by image f entry place byte sound (small-at image before rest entry admitted legal) word)
     (λ paged. paged_by image f entry place byte paged.0 paged.1 paged.2)
+    more)
     h
 
 -- ---- a place that it doesn't write
 
--- where no byte of the value is put there
-pub write-kept : (image : Image) (f : Facts) (id at width value : ℕ) (place : Place) → AreSoundCells image.system (configs_of f.cells) → ((byte : ℕ) → IsByteBy image f.cells id at width value place byte → ⊥)
-    → write_of f.byte (reach image f id ToWrite at width) value place ≡ f.byte place
-write-kept image f id at width value place sound none =
+slot_kept : (byte : Place → ℕ) (place : Place) (o : Option Slot) → ((slot : Slot) → o ≡ Some slot → IsApart slot place) → with_slot_if o byte place ≡ byte place
+slot_kept byte place None apart = refl
+slot_kept byte place (Some slot) apart = slot-other slot byte place (apart slot refl)
+
+-- no byte of the value is put there, and no byte of a word
+abbrev NoByte : Image → Facts → ℕ → ℕ → ℕ → ℕ → Place → Type 0
+NoByte image f id at width value place = (byte : ℕ) → IsByteBy image f.cells id at width value place byte → ⊥
+
+abbrev NoWord : Image → Facts → ℕ → ℕ → ℕ → ℕ → Place → Type 0
+NoWord image f id at width value place = (n : ℕ) (e : Endpoint) → IsAnsweredByRegister image f id ToWrite at width n 0 0x10 e → value ≢ e.state → IsApart (slot_of e.spec value) place
+
+pub write-kept : (image : Image) (f : Facts) (id at width value : ℕ) (place : Place) → IsSound image f → value < 256 ^ width → NoByte image f id at width value place → NoWord image f id at width value place
+    → byte_put image f id at width value place ≡ f.byte place
+write-kept image f id at width value place sound small none apart =
     ⊎_elim
-    (λ (at_places : (pl : ℕ → Place) × AreItsPlaces image f.cells id ToWrite at width pl × ((v : ℕ) → write_of f.byte (reach image f id ToWrite at width) v ≡ written f.byte (listed pl width) v)).
-    ap (λ (b : Place → ℕ). b place) (at_places.2 value)
-    ∙ written-over f.byte (listed at_places.0 width) value place
-    ∙ over-other at_places.0 width value place (f.byte place)
-    (λ k lt is. none (value / 256 ^ k % 256) (record { index = k; within = lt; places = at_places.0; are = at_places.1; there = is; is = refl })))
-    (λ (nowhere : (v : ℕ) → write_of f.byte (reach image f id ToWrite at width) v ≡ f.byte). ap (λ (b : Place → ℕ). b place) (nowhere value))
+    (λ (h : IsStored image f id at width).
+    ap (λ (b : Place → ℕ). b place) (h.stored value)
+    ∙ written-over f.byte (listed h.place width) value place
+    ∙ over-other h.place width value place (f.byte place)
+    (λ k lt is. none (value / 256 ^ k % 256) (record { index = k; within = lt; places = h.place; are = h.are; there = is; is = refl })))
+    (λ more. ⊎_elim
+    (λ (h : IsWord image f id at width).
+    let same : value % 2 ^ 32 ≡ value = value-fits width value h.by.wide small in
+    let R : ℕ → ℕ → Type 0 = λ b o. IsAnsweredByRegister image f id ToWrite at width h.number b o h.endpoint in
+    let B : ℕ → Type 0 = λ b. R b h.offset in
+    ap (λ (b : Place → ℕ). b place) (h.stored value)
+    ∙ ap (λ (v : ℕ). with_slot_if (slot_written h.endpoint h.bar h.offset v) f.byte place) same
+    ∙ slot_kept f.byte place (slot_written h.endpoint h.bar h.offset value)
+    (λ slot is.
+    let put = state-put h.endpoint h.bar h.offset value slot is in
+    let S : Slot → Type 0 = λ s. IsApart s place in
+    subst S (sym put.is) (apart h.number h.endpoint (subst (R 0) put.offset_is (subst B put.bar_is h.by)) put.other)))
+    (λ (nowhere : (v : ℕ) → byte_put image f id at width v ≡ f.byte). ap (λ (b : Place → ℕ). b place) (nowhere value))
+    more)
     (placed image f id at width sound)
 
-kept_act : (image : Image) (f : Facts) (id : ℕ) (act : Act) (place : Place) → AreSoundCells image.system (configs_of f.cells) → ((byte : ℕ) → Puts image f.cells id act place byte → ⊥) → byte_written image f id act place ≡ f.byte place
-kept_act image f id (Write width at value true) place sound none = write-kept image f id at width value place sound (λ byte h. none byte (refl, h))
-kept_act image f id (Write width at value false) place sound none = refl
-kept_act image f id (Read width at got) place sound none = refl
-kept_act image f id (Fetch at got) place sound none = refl
-kept_act image f id (Await width at value ok) place sound none = refl
-kept_act image f id (Irq device vector) place sound none = refl
-kept_act image f id (Hvc code a b answer) place sound none = refl
-kept_act image f id (Begin code a b) place sound none = refl
-kept_act image f id Stop place sound none = refl
-kept_act image f id (Decide refused) place sound none = refl
-kept_act image f id (Settle how) place sound none = refl
-kept_act image f id Commit place sound none = refl
-kept_act image f id (Note who) place sound none = refl
-kept_act image f id (Noted who how) place sound none = refl
-kept_act image f id (Finish answer) place sound none = refl
+-- no act of the entry puts a byte there, as its own or as one of a word
+abbrev NoRegisterWord : Image → Facts → ℕ → Act → Place → Type 0
+NoRegisterWord image f id act place = (value : ℕ) (e : Endpoint) → PutsRegister image f id act 0x10 value e → value ≢ e.state → IsApart (slot_of e.spec value) place
+
+kept_act : (image : Image) (f : Facts) (id : ℕ) (act : Act) (place : Place) → IsSound image f → IsSmallAct act → ((byte : ℕ) → Puts image f.cells id act place byte → ⊥) → NoRegisterWord image f id act place → byte_written image f id act place ≡ f.byte place
+kept_act image f id (Write width at value true) place sound small none apart =
+    write-kept image f id at width value place sound small.1 (λ byte h. none byte (refl, h)) (λ n e by other. apart value e (refl, refl, (n, by)) other)
+kept_act image f id (Write width at value false) place sound small none apart = refl
+kept_act image f id (Read width at got) place sound small none apart = refl
+kept_act image f id (Fetch at got) place sound small none apart = refl
+kept_act image f id (Await width at value ok) place sound small none apart = refl
+kept_act image f id (Irq device vector) place sound small none apart = refl
+kept_act image f id (Hvc code a b answer) place sound small none apart = refl
+kept_act image f id (Begin code a b) place sound small none apart = refl
+kept_act image f id Stop place sound small none apart = refl
+kept_act image f id (Decide refused) place sound small none apart = refl
+kept_act image f id (Settle how) place sound small none apart = refl
+kept_act image f id Commit place sound small none apart = refl
+kept_act image f id (Note who) place sound small none apart = refl
+kept_act image f id (Noted who how) place sound small none apart = refl
+kept_act image f id (Finish answer) place sound small none apart = refl
 
 page_keeps : (byte : Place → ℕ) (write : Option PageWrite) (place : Place) → ((w : PageWrite) (offset : ℕ) → write ≡ Some w → offset < 4096 → place ≡ Page w.cell offset → ⊥) → with_page_write write byte place ≡ byte place
 page_keeps byte None place none = refl
@@ -255,15 +394,23 @@ page_keeps byte (Some write) (Page cell offset) none =
     (λ both. let parts = and_parts (eqb cell write.cell) (nat_lt offset 4096) both in none write offset refl (ltb-true offset 4096 parts.1) (ap (λ (c : ℕ). Page c offset) (eqb-true cell write.cell parts.0))) in
     ap (λ (b : Bool). cond b (page_after write.change (λ k. byte (Page cell k)) offset) (byte (Page cell offset))) fails
 
+-- a byte of a word, by its place
+word_there : (image : Image) (f : Facts) (entry : Entry) (place : Place) (spec : EndpointSpec) (value k : ℕ) → WritesWord image f entry spec value → IsByteAt (slot_of spec value) place k → IsByteOfWord image f entry place (value / 256 ^ k % 256)
+word_there image f entry place spec value k writes there = record { spec = spec; value = value; writes = writes; index = k; within = there.0; there = there.1; is = refl }
+
 pub entry-keeps : (image : Image) (before rest : List Entry) (entry : Entry) (place : Place) → IsAdmitted image → IsLegal image (before ++ entry ∷ rest) → ((byte : ℕ) → WritesByte image (facts image before) entry place byte → ⊥)
     → (facts image (before ++ entry ∷ [])).byte place ≡ (facts image before).byte place
 entry-keeps image before rest entry place admitted legal none =
     let f : Facts = facts image before in
     let sound = legal-sound image before admitted (IsLegal-begin image before (entry ∷ rest) legal) in
+    let specs : List EndpointSpec = specs_changing f entry.act in
     byte-behind image before entry place
-    ∙ page_keeps (byte_written image f entry.cell entry.act) (page_write_by image f entry entry.act) place
-    (λ w offset is within at. none (page_after w.change (λ k. f.byte (Page w.cell k)) offset) (inr (w, is, record { offset = offset; within = within; place_is = at; is = refl })))
-    ∙ kept_act image f entry.cell entry.act place sound.cells (λ byte puts. none byte (inl puts))
+    ∙ page_keeps (with_words specs (byte_written image f entry.cell entry.act)) (page_write_by image f entry entry.act) place
+    (λ w offset is within at. none (page_after w.change (λ k. f.byte (Page w.cell k)) offset) (inr (inr (w, is, record { offset = offset; within = within; place_is = at; is = refl }))))
+    ∙ words-kept specs (byte_written image f entry.cell entry.act) place
+    (λ spec held k lt there. none (0 / 256 ^ k % 256) (inr (inl (word_there image f entry place spec 0 k (inr (held, refl)) (lt, there)))))
+    ∙ kept_act image f entry.cell entry.act place sound (small-at image before rest entry admitted legal) (λ byte puts. none byte (inl puts))
+    (λ value e puts other k lt there. none (value / 256 ^ k % 256) (inr (inl (word_there image f entry place e.spec value k (inl (e, refl, puts, other)) (lt, there)))))
 
 -- over a stretch that doesn't write it
 pub rest-keeps : (image : Image) (before rest : List Entry) (place : Place) → IsAdmitted image → IsLegal image (before ++ rest) → NoneWrites image before rest place → (facts image (before ++ rest)).byte place ≡ (facts image before).byte place

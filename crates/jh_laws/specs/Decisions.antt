@@ -1,5 +1,5 @@
 -- What a call is refused for at its Decide, by its cause.
-use Rattle.std.specs.Prelude.{◌≡◌, ◌≢◌, ◌++◌, ◌∷◌, [], ℕ, ℤ, List, Contains, Option, Some, None, true, false}
+use Rattle.std.specs.Prelude.{◌≡◌, ◌≢◌, ◌++◌, ◌∷◌, [], ℕ, ℤ, List, Contains, Option, Some, None}
 use Rattle.jh_num.specs.declared.error.TheConstants.{EPERM, ENOENT, EINVAL}
 use Rattle.jh_cellcfg.specs.declared.config.CellConfig.{CellConfig}
 use Rattle.jh_cellcfg.specs.declared.live.Live.{Live}
@@ -16,7 +16,7 @@ use Rattle.jh_script.specs.declared.image.Image.{Image}
 use Rattle.jh_history.specs.Facts.{Facts}
 use Rattle.jh_history.specs.Admitted.{pool_pages}
 use Rattle.jh_history.specs.Configs.{bytes_at, refused_for}
-use Rattle.jh_history.specs.Phases.{state_word, may_give, configs_of, is_built_cell, or_unbuilt}
+use Rattle.jh_history.specs.Phases.{state_word, may_give, configs_of}
 
 -- a cell besides root lives that is locked, or none is
 abbrev pub IsLockedBy : Facts → Live → Type 0
@@ -53,12 +53,10 @@ pub record IsUnread (image : Image) (f : Facts) (at : ℕ) (refused : Option ℤ
   pub fault : (header : List ℕ) (fault : ConfigFault) → bytes_at image f at 132 ≡ Some header → header_fault header ≡ Some fault → refused ≡ Some (refused_for fault)
   pub rest : (header : List ℕ) → bytes_at image f at 132 ≡ Some header → header_fault header ≡ None → bytes_at image f at (header_size header) ≡ None → refused ≡ Some EINVAL
 
--- a configuration that was read: it is refused for the first cause that holds, or for none; what isn't built yet is a
--- cause behind all others but want of pages
+-- a configuration that was read: it is refused for the first cause that holds, or for none
 pub record IsRefusedOf (image : Image) (f : Facts) (caller : ℕ) (config : CellConfig) (refused : Option ℤ) : Type 0 where
-  pub cause : is_built_cell config ≡ true → refused ≡ refusal_of image.system (configs_of f.cells) config (may_give image f caller) (pages_of image.system.root.memory_regions (configs_of f.cells ++ config ∷ [])) (pool_pages image.system)
-  pub unbuilt : is_built_cell config ≡ false → refused ≡ or_unbuilt (refusal_of image.system (configs_of f.cells) config (may_give image f caller) 0 (pool_pages image.system))
-  pub goes : is_built_cell config ≡ true → IsAccepted image.system (configs_of f.cells) config (may_give image f caller) (pages_of image.system.root.memory_regions (configs_of f.cells ++ config ∷ [])) (pool_pages image.system) → refused ≡ None
+  pub cause : refused ≡ refusal_of image.system (configs_of f.cells) config (may_give image f caller) (pages_of image.system.root.memory_regions (configs_of f.cells ++ config ∷ [])) (pool_pages image.system)
+  pub goes : IsAccepted image.system (configs_of f.cells) config (may_give image f caller) (pages_of image.system.root.memory_regions (configs_of f.cells ++ config ∷ [])) (pool_pages image.system) → refused ≡ None
 
 -- a create: refused where a cell is locked, else as it is read, and as what is read is refused
 pub record IsCreateDecision (image : Image) (f : Facts) (caller at : ℕ) (refused : Option ℤ) : Type 0 where

@@ -1,12 +1,18 @@
 -- How the accesses of live cells end: by memory that the cell is granted, by a subpage region of its own, by the ECAM
--- window, or as violations.
-use Rattle.std.specs.Prelude.{◌≡◌, ◌≢◌, ◌<◌, ◌≤◌, ◌+◌, ◌-◌, ◌*◌, ◌%◌, ◌^◌, ◌⊎◌, ◌↔◌, ℕ, Bool, false, List, Contains, Option, Some, IsSome, IsTrue}
+-- window, by a register of a device of its own, or as violations.
+use Rattle.std.specs.Prelude.{◌≡◌, ◌≢◌, ◌<◌, ◌≤◌, ◌+◌, ◌-◌, ◌*◌, ◌%◌, ◌^◌, ◌⊎◌, ◌↔◌, ◌/◌, ℕ, Bool, false, List, Contains, Option, Some, slice_get, IsSome, IsTrue}
 use Rattle.jh_num.specs.Memory.{little_endian}
 use Rattle.jh_cellcfg.specs.declared.config.CellConfig.{CellConfig}
+use Rattle.jh_cellcfg.specs.declared.config.PciDevice.{PciDevice}
 use Rattle.jh_cellcfg.specs.declared.config.SystemConfig.{SystemConfig}
 use Rattle.jh_cellcfg.specs.declared.live.Live.{Live}
 use Rattle.jh_cellcfg.specs.declared.region.Region.{Region}
 use Rattle.jh_cellcfg.specs.Regions.{is_page_mapped, allows_width, allows_unaligned}
+use Rattle.jh_vpci.specs.Space.{window_of}
+use Rattle.jh_vpci.specs.Words.{read_of as config_read}
+use Rattle.jh_ivshmem.specs.declared.endpoint.Endpoint.{Endpoint}
+use Rattle.jh_ivshmem.specs.Links.{endpoint_at}
+use Rattle.jh_ivshmem.specs.Registers.{register_of}
 use Rattle.jh_script.specs.declared.image.Image.{Image}
 use Rattle.jh_history.specs.declared.place.Place.{Place}
 use Rattle.jh_history.specs.declared.access.Access.{Access}
@@ -63,12 +69,58 @@ pub record IsAnsweredByWindow (image : Image) (cells : List Live) (id : ℕ) (ac
   pub wide : (width ≡ 1) ⊎ (width ≡ 2) ⊎ (width ≡ 4)
   pub aligned : (at - image.system.pci_mmconfig_base) % width ≡ 0
 
--- the access succeeds: each of its bytes is granted, or a subpage region answers it, or configuration space
-abbrev pub IsAnswered : Image → List Live → ℕ → Access → ℕ → ℕ → Type 0
-IsAnswered image cells id access at width =
-    AreGrantedTo image cells id access at width
-    ⊎ ((region : Region) × IsAnsweredBy image cells id access at width region)
-    ⊎ IsAnsweredByWindow image cells id access at width
+-- ---- devices
+
+-- the device with that number of the live cell with the id is an ivshmem device, and this is its endpoint
+pub record IsDeviceOf (image : Image) (f : Facts) (id n : ℕ) (device : PciDevice) (e : Endpoint) : Type 0 where
+  pub cell : CellConfig
+  pub live : IsLive image f.cells cell
+  pub named : cell.id ≡ id
+  pub item : slice_get cell.pci_devices n ≡ Some device
+  pub kind : device.kind ≡ 3
+  pub there : endpoint_at id n f.endpoints ≡ Some e
+
+-- the access lies in the window of the BAR of the cell's device, which is enabled
+pub record LiesInBar (image : Image) (f : Facts) (id n bar at width : ℕ) (e : Endpoint) : Type 0 where
+  pub device : PciDevice
+  pub is : IsDeviceOf image f id n device e
+  pub start : ℕ
+  pub end : ℕ
+  pub window : window_of e.space bar ≡ Some (start, end)
+  pub first : start ≤ at
+  pub last : at + width ≤ end
+
+-- so it does in no window of an earlier device, nor of an earlier BAR of the same one
+abbrev pub IsFirstBar : Image → Facts → ℕ → ℕ → ℕ → ℕ → ℕ → Type 0
+IsFirstBar image f id n bar at width =
+    (m other : ℕ) (e : Endpoint) → (m < n) ⊎ ((m ≡ n) × (other < bar)) → LiesInBar image f id m other at width e → ⊥
+
+-- the register at the offset of the BAR of the cell's device answers the access: no subpage region has it, it lies
+-- outside the ECAM window and in that window first of all, and it is of 4 bytes at a multiple of 4
+pub record IsAnsweredByRegister (image : Image) (f : Facts) (id : ℕ) (access : Access) (at width n bar offset : ℕ) (e : Endpoint) : Type 0 where
+  pub behind : IsBehindMemory image f.cells id access at width
+  pub none : (region : Region) → HasAccess image f.cells id at width region → ⊥
+  pub outside : IsInWindow image.system at width → ⊥
+  pub within : LiesInBar image f id n bar at width e
+  pub earliest : IsFirstBar image f id n bar at width
+  pub wide : width ≡ 4
+  pub aligned : at % 4 ≡ 0
+  pub there : at ≡ within.start + offset
+
+-- the function of the cell's device has the offset in the ECAM window: it has the 4,096 bytes from 4096 times its bdf on
+pub record HasFunction (image : Image) (f : Facts) (id offset : ℕ) (e : Endpoint) : Type 0 where
+  pub number : ℕ
+  pub device : PciDevice
+  pub is : IsDeviceOf image f id number device e
+  pub has : device.bdf ≡ offset / 4096
+
+-- the access succeeds: each of its bytes is granted, or a subpage region answers it, or configuration space, or a register
+abbrev pub IsAnswered : Image → Facts → ℕ → Access → ℕ → ℕ → Type 0
+IsAnswered image f id access at width =
+    AreGrantedTo image f.cells id access at width
+    ⊎ ((region : Region) × IsAnsweredBy image f.cells id access at width region)
+    ⊎ IsAnsweredByWindow image f.cells id access at width
+    ⊎ ((n : ℕ) × (bar : ℕ) × (offset : ℕ) × (e : Endpoint) × IsAnsweredByRegister image f id access at width n bar offset e)
 
 -- the region, which answers the access of its cell, gives its bytes these places
 pub record GivesPlaces (image : Image) (cells : List Live) (id : ℕ) (access : Access) (at width : ℕ) (place : ℕ → Place) : Type 0 where
@@ -82,26 +134,32 @@ AreItsPlaces image cells id access at width place =
     ((k : ℕ) → k < width → IsGrantedTo image cells id access (at + k) (place k))
     ⊎ GivesPlaces image cells id access at width place
 
--- the value is what the access reads: the number of the bytes at its places, the lowest first, or in configuration space,
--- where no function is present yet, the number whose bits are all set
+-- the offset in the ECAM window
+abbrev pub offset_in : SystemConfig → ℕ → ℕ
+offset_in system at = at - system.pci_mmconfig_base
+
+-- the value is what the access reads: the number of the bytes at its places, the lowest first; in configuration space the
+-- bytes of the function that is there, or the number whose bits are all set where none is; or the register of the device
 pub record IsReadBy (image : Image) (f : Facts) (id : ℕ) (access : Access) (at width value : ℕ) : Type 0 where
   pub bytes : (place : ℕ → Place) → AreItsPlaces image f.cells id access at width place → value ≡ little_endian width (λ k. f.byte (place k))
-  pub ones : IsAnsweredByWindow image f.cells id access at width → value ≡ 256 ^ width - 1
+  pub function : (e : Endpoint) → IsAnsweredByWindow image f.cells id access at width → HasFunction image f id (offset_in image.system at) e → value ≡ config_read e.space (offset_in image.system at % 4096) width
+  pub ones : IsAnsweredByWindow image f.cells id access at width → ((e : Endpoint) → HasFunction image f id (offset_in image.system at) e → ⊥) → value ≡ 256 ^ width - 1
+  pub register : (n bar offset : ℕ) (e : Endpoint) → IsAnsweredByRegister image f id access at width n bar offset e → value ≡ register_of e bar offset
 
 -- what a reading access got: a value exactly where something answers it, and then what is read there
 pub record IsGotBy (image : Image) (f : Facts) (id : ℕ) (access : Access) (at width : ℕ) (got : Option ℕ) : Type 0 where
-  pub answered : IsSome got ↔ IsAnswered image f.cells id access at width
+  pub answered : IsSome got ↔ IsAnswered image f id access at width
   pub reads : (value : ℕ) → got ≡ Some value → IsReadBy image f id access at width value
 
 -- an await is made at the value that it waits for, and succeeds exactly where something answers it
 pub record IsAwaitedBy (image : Image) (f : Facts) (id at width value : ℕ) (ok : Bool) : Type 0 where
-  pub answered : IsTrue ok ↔ IsAnswered image f.cells id ToRead at width
+  pub answered : IsTrue ok ↔ IsAnswered image f id ToRead at width
   pub reads : IsTrue ok → IsReadBy image f id ToRead at width value
 
 -- an access of the cell has the outcome that it has where these facts hold
 abbrev pub EndsAsGranted : Image → Facts → ℕ → Act → Type 0
 EndsAsGranted image f id (Read width at got) = IsGotBy image f id ToRead at width got
 EndsAsGranted image f id (Fetch at got) = IsGotBy image f id ToFetch at 4 got
-EndsAsGranted image f id (Write width at value ok) = IsTrue ok ↔ IsAnswered image f.cells id ToWrite at width
+EndsAsGranted image f id (Write width at value ok) = IsTrue ok ↔ IsAnswered image f id ToWrite at width
 EndsAsGranted image f id (Await width at value ok) = IsAwaitedBy image f id at width value ok
 EndsAsGranted image f id _ = Unit {0}

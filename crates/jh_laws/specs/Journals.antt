@@ -1,21 +1,26 @@
 -- The journals that laws speak of, and what stands before and behind an entry of one.
-use Rattle.std.specs.Prelude.{ℕ, List, [], ◌∷◌, ◌++◌}
+use Rattle.std.specs.Prelude.{◌≢◌, ℕ, List, [], ◌∷◌, ◌++◌, All}
 use Rattle.jh_cellcfg.specs.declared.config.CellConfig.{CellConfig}
+use Rattle.jh_cellcfg.specs.declared.config.PciDevice.{PciDevice}
 use Rattle.jh_cpu.specs.declared.cpu.Cpu.{Cpu}
 use Rattle.jh_script.specs.declared.image.Image.{Image}
 use Rattle.jh_history.specs.declared.place.Place.{Place}
 use Rattle.jh_history.specs.declared.entry.Entry.{Entry}
 use Rattle.jh_history.specs.History.{facts}
 use Rattle.jh_history.specs.Due.{IsLegal}
-use Rattle.jh_history.specs.Admitted.{HasNoCall, IsAdmitted, IsBuilt}
+use Rattle.jh_history.specs.Admitted.{HasNoCall, IsAdmitted}
 
--- a legal journal of an image that a board may be opened with, that has nothing which isn't built yet, and whose
--- programs have no hypercall
+-- root has no ivshmem device
+pub record HasNoDevice (image : Image) : Type 0 where
+  pub devices : All (λ (d : PciDevice). d.kind ≢ 3) image.system.root.pci_devices
+
+-- a legal journal of an image that a board may be opened with, whose root has no ivshmem device, and whose programs have
+-- no hypercall: of one where root lives alone, and has no registers
 pub record LegalJournal : Type 0 where
   pub image : Image
   pub entries : List Entry
   pub admitted : IsAdmitted image
-  pub built : IsBuilt image
+  pub bare : HasNoDevice image
   pub silent : HasNoCall image
   pub legal : IsLegal image entries
 
@@ -26,7 +31,7 @@ pub record Moment : Type 0 where
   pub entry : Entry
   pub rest : List Entry
   pub admitted : IsAdmitted image
-  pub built : IsBuilt image
+  pub bare : HasNoDevice image
   pub silent : HasNoCall image
   pub legal : IsLegal image (before ++ entry ∷ rest)
 
@@ -54,7 +59,7 @@ cpu_behind m = cpu_at m.image (m.before ++ m.entry ∷ [])
 abbrev pub entries_of : Moment → List Entry
 entries_of m = m.before ++ m.entry ∷ m.rest
 
--- the cell whose CPU makes the entry, and the cell of a journal's CPUs: root is the one cell that there is yet
+-- the cell whose CPU makes the entry, and the cell of a journal's CPUs: root is the one cell that there is
 abbrev pub cell_of : Moment → CellConfig
 cell_of m = m.image.system.root
 

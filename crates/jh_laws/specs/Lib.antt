@@ -9,6 +9,7 @@ pub mod Moments
 pub mod Ways
 pub mod Held
 pub mod Ends
+pub mod Vectors
 pub mod Hypercalls
 pub mod Decisions
 pub mod Written

@@ -1,5 +1,4 @@
--- Legal journals of admitted images, whatever of an image isn't built yet, and which cells live and which call is
--- open after entries of one.
+-- Legal journals of admitted images, and which cells live and which call is open after entries of one.
 use Rattle.std.specs.Prelude.{ℕ, List, [], ◌∷◌, ◌++◌, Option}
 use Rattle.jh_cellcfg.specs.declared.config.CellConfig.{CellConfig}
 use Rattle.jh_cpu.specs.declared.cpu.Cpu.{Cpu}

@@ -41,12 +41,13 @@ abbrev pub program_in : Image → CellConfig → ℕ → List Op
 program_in image cell cpu = program_of image (name_of cell) cpu
 
 -- the cell's operation is due after the entries: a read, write or fetch always is, and an await where it reads the value
--- that it waits for, if anything answers it. An interrupt or a hypercall never is yet
+-- that it waits for, if anything answers it. These are the operations of images whose root has no device, and which have no
+-- hypercall: there an interrupt is never due
 abbrev pub IsDueOp : Image → List Entry → CellConfig → Op → Type 0
 IsDueOp image entries cell (ReadOp width at) = Unit {0}
 IsDueOp image entries cell (WriteOp width at value) = Unit {0}
 IsDueOp image entries cell (FetchOp at) = Unit {0}
-IsDueOp image entries cell (AwaitOp width at value) = IsAnswered image (facts image entries).cells cell.id ToRead at width → IsReadBy image (facts image entries) cell.id ToRead at width value
+IsDueOp image entries cell (AwaitOp width at value) = IsAnswered image (facts image entries) cell.id ToRead at width → IsReadBy image (facts image entries) cell.id ToRead at width value
 IsDueOp image entries cell IrqOp = ⊥
 IsDueOp image entries cell (HvcOp code a b) = ⊥
 

@@ -10,11 +10,11 @@ use Rattle.jh_history.specs.History.{facts}
 use Rattle.jh_laws.specs.Ends.{IsAnswered, IsGotBy, IsAwaitedBy}
 
 -- the act is an access that the cell makes after the entries, with the outcome that it has there, which is that of any
--- live cell. No image that is built and has no hypercall comes to any other act yet
+-- live cell. No image whose root has no device, and that has no hypercall, comes to any other act
 abbrev pub HasItsOutcome : Image → List Entry → CellConfig → Act → Type 0
 HasItsOutcome image entries cell (Read width at got) = IsGotBy image (facts image entries) cell.id ToRead at width got
 HasItsOutcome image entries cell (Fetch at got) = IsGotBy image (facts image entries) cell.id ToFetch at 4 got
-HasItsOutcome image entries cell (Write width at value ok) = IsTrue ok ↔ IsAnswered image (facts image entries).cells cell.id ToWrite at width
+HasItsOutcome image entries cell (Write width at value ok) = IsTrue ok ↔ IsAnswered image (facts image entries) cell.id ToWrite at width
 HasItsOutcome image entries cell (Await width at value ok) = IsAwaitedBy image (facts image entries) cell.id at width value ok
 HasItsOutcome image entries cell _ = ⊥
 

@@ -17,12 +17,13 @@ use Rattle.jh_history.specs.Phases.{state_word, reply_word, is_down, configs_of}
 use Rattle.jh_history.specs.Due.{due_at}
 use Rattle.jh_history.specs.Sound.{IsCalm}
 use Rattle.jh_laws.specs.Ends.{IsAnswered, IsReadBy}
+use Rattle.jh_laws.specs.Vectors.{IsPendingIn}
 
 -- the cell's operation is due: an await where the access is a violation or reads the value that it waits for, an
--- interrupt never yet, any other always
+-- interrupt where a vector of a device of the cell is pending, any other always
 abbrev pub IsDueIn : Image → Facts → ℕ → Op → Type 0
-IsDueIn image f id (AwaitOp width at value) = IsAnswered image f.cells id ToRead at width → IsReadBy image f id ToRead at width value
-IsDueIn image f id IrqOp = ⊥
+IsDueIn image f id (AwaitOp width at value) = IsAnswered image f id ToRead at width → IsReadBy image f id ToRead at width value
+IsDueIn image f id IrqOp = (n : ℕ) × (v : ℕ) × IsPendingIn f id n v
 IsDueIn image f id _ = Unit {0}
 
 -- nothing is due to any CPU but the caller

@@ -4,17 +4,17 @@ ghost use Rattle.jh_script.specs.declared.image.Image.{Image as TheImage};
 ghost use Rattle.jh_script.specs.declared.image.Preload.{Preload as ThePreload};
 ghost use Rattle.jh_history.specs.declared.place.Place.{Place as ThePlace};
 ghost use Rattle.jh_history.specs.declared.place.Place.TheVariants.{Physical, Page};
-ghost use Rattle.jh_history.specs.Admitted.{IsAdmitted, IsBuilt};
-ghost use Rattle.jh_laws.specs.Journals.{LegalJournal, Moment, byte_at, byte_before, byte_behind, cell_of, entries_of, root_of};
+ghost use Rattle.jh_history.specs.Admitted.{IsAdmitted};
+ghost use Rattle.jh_laws.specs.Journals.{HasNoDevice, LegalJournal, Moment, byte_at, byte_before, byte_behind, cell_of, entries_of, root_of};
 ghost use Rattle.jh_laws.specs.Writes.{Writes, WritesNot};
 
-/// At opening a byte of physical memory is the preload's where one puts one there, and 0 elsewhere, and each byte of
-/// a communication page is 0.
+/// Where root has no ivshmem device, a byte of physical memory is at opening the preload's where one puts one there, and
+/// 0 elsewhere. Each byte of a communication page is 0.
 pub fn memory_opens_with_the_preloads()
-    ensures put { (image : TheImage) (preload : ThePreload) (k : ℕ) → IsAdmitted image → IsBuilt image →
+    ensures put { (image : TheImage) (preload : ThePreload) (k : ℕ) → IsAdmitted image → HasNoDevice image →
         Contains image.preloads preload → k < length preload.bytes →
         byte_at image [] (Physical (preload.at + k)) ≡ slice_index preload.bytes k }
-    ensures zero { (image : TheImage) (place : ℕ) → IsAdmitted image → IsBuilt image →
+    ensures zero { (image : TheImage) (place : ℕ) → IsAdmitted image → HasNoDevice image →
         ((preload : ThePreload) (k : ℕ) → Contains image.preloads preload → k < length preload.bytes →
         place ≢ preload.at + k) →
         byte_at image [] (Physical place) ≡ 0 }

@@ -22,7 +22,7 @@ pub fn programs_are_found_by_cell_and_cpu()
 
 /// An entry is due to a CPU exactly where the board has it, it runs, is neither asked to stop nor stopped,
 /// and its program has an operation at its position that is due: an await where the access is a
-/// violation or reads the awaited value, an interrupt or a hypercall never yet, any other always. So a
+/// violation or reads the awaited value, an interrupt never, since there is no device, and any other always. So a
 /// journal is quiet exactly where no CPU is ready so.
 pub fn ready_cpus_have_an_entry_due()
     ensures ready { (j : LegalJournal) (cpu : ℕ) →

@@ -14,6 +14,7 @@ ghost use Rattle.jh_laws.specs.Moments.{AdmittedJournal, AdmittedMoment, facts_o
 ghost use Rattle.jh_laws.specs.Grants.{IsGranted};
 ghost use Rattle.jh_laws.specs.Ends.{EndsAsGranted};
 ghost use Rattle.jh_laws.specs.Held.{IsGrantedTo, IsHeld, IsOwnOrLinked};
+ghost use Rattle.jh_laws.specs.Written.{WritesWordThere};
 
 /// The place that a live cell is granted at an address.
 pub fn cells_are_granted_their_places()
@@ -36,21 +37,23 @@ pub fn root_is_granted_the_rest()
 {}
 
 /// An access succeeds exactly where its cell is granted each of its bytes, or a subpage region of the cell answers it,
-/// or configuration space, each by its own conditions and in this order. A value that it reads is the number of the
-/// bytes at the places granted, or at those of the region, the lowest first; in configuration space it is the number
-/// whose bits are all set.
+/// or configuration space, or a register of a device of the cell, each by its own conditions and in this order. A value
+/// that it reads is the number of the bytes at the places granted, or at those of the region, the lowest first; in
+/// configuration space the bytes of the function that the cell has there, or the number whose bits are all set; of a
+/// register what the device's own words say.
 pub fn accesses_end_as_granted()
     ensures { (m : AdmittedMoment) → EndsAsGranted m.image (facts_before m) m.entry.cell m.entry.act }
 {}
 
 /// A byte of physical memory that a live cell holds for itself changes only by an entry of that cell, or of a live
-/// cell with a device linked to one of its devices, of which the byte's region is a section. A byte of a
-/// communication page changes only by an entry of its cell, or where the hypervisor writes into that page.
+/// cell with a device linked to one of its devices, of which the byte's region is a section, or as one of a word of a
+/// state table, of a device of such a cell or of root. A byte of a communication page changes only by an entry of its
+/// cell, or where the hypervisor writes into that page.
 pub fn what_a_cell_holds_is_its_own()
     ensures memory { (m : AdmittedMoment) (live : TheLive) (number : ℕ) (region : TheRegion) (place : ℕ) →
         IsHeld (facts_before m).cells live number region place →
         (facts_behind m).byte (Physical place) ≢ (facts_before m).byte (Physical place) →
-        IsOwnOrLinked (facts_before m).cells live.config number m.entry.cell }
+        IsOwnOrLinked (facts_before m).cells live.config number m.entry.cell ⊎ WritesWordThere m.image (facts_before m) m.entry live.config number place }
     ensures pages { (m : AdmittedMoment) (cell offset : ℕ) →
         (facts_behind m).byte (Page cell offset) ≢ (facts_before m).byte (Page cell offset) →
         (m.entry.cell ≡ cell) ⊎ ((write : ThePageWrite) × (page_write_by m.image (facts_before m) m.entry m.entry.act ≡ Some write) × (write.cell ≡ cell)) }

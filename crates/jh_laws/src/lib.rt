@@ -1,7 +1,7 @@
 //! The laws that every journal obeys, in the words of the subject: what a reader may believe without the
 //! fold over the entries. Each function does nothing; its contract is the law. Those of `access`, `bytes`,
-//! `cpus` and `due` are over the journals of images that are built, so that what is built later adds cases
-//! to them; all others are over all admitted images. What a proof entry by entry stands on is that a legal
+//! `cpus` and `due` are over the journals of images in which root lives alone and has no device; all others are
+//! over all admitted images. What a proof entry by entry stands on is that a legal
 //! journal is sound (`legal_journals_are_sound`).
 #![tactic(auto)]
 
@@ -17,6 +17,7 @@ mod hypercalls;
 mod items;
 mod order;
 mod states;
+mod vectors;
 mod writes;
 
 pub use access::{accesses_go_by_grants, root_is_granted_its_addresses};
@@ -53,5 +54,9 @@ pub use order::{
 pub use states::{
     calls_change_cpus, cpus_that_are_ready_have_an_entry_due, entries_are_their_cpus_own,
     entries_change_their_cpu, violations_end_their_cpus,
+};
+pub use vectors::{
+    devices_of_other_cells_stay, interrupts_are_due_where_a_vector_is_pending,
+    vectors_are_pending_from_raise_to_drop,
 };
 pub use writes::{bytes_are_as_last_written, entries_write_what_they_say};

@@ -10,6 +10,9 @@ use Rattle.jh_num.specs.Memory.{little_endian}
 use Rattle.jh_num.proofs.Lists.{Contains-head, Contains-tail, Contains-cases, All-from_find}
 use Rattle.jh_cellcfg.specs.Cells.{name_of}
 use Rattle.jh_cellcfg.specs.declared.config.CellConfig.{CellConfig}
+use Rattle.jh_cellcfg.specs.declared.config.PciDevice.{PciDevice}
+use Rattle.jh_cellcfg.specs.declared.live.Live.{Live}
+use Rattle.jh_ivshmem.specs.declared.endpoint.Endpoint.{Endpoint}
 use Rattle.jh_script.specs.declared.image.Image.{Image}
 use Rattle.jh_script.specs.declared.image.Program.{Program}
 use Rattle.jh_script.specs.declared.image.Preload.{Preload}
@@ -23,15 +26,17 @@ use Rattle.jh_history.specs.declared.access.Access.TheVariants.{Read as ToRead, 
 use Rattle.jh_history.specs.declared.entry.Entry.{Entry}
 use Rattle.jh_history.specs.declared.entry.Act.{Act}
 use Rattle.jh_history.specs.declared.entry.Act.TheVariants.{Read, Write, Fetch, Await}
-use Rattle.jh_history.specs.Admitted.{HasNoCall, IsAdmitted, IsBuilt}
+use Rattle.jh_history.specs.Admitted.{HasNoCall, IsAdmitted}
 use Rattle.jh_history.specs.Alone.{IsAlone}
 use Rattle.jh_history.specs.Due.{due, IsLegal}
+use Rattle.jh_history.specs.Facts.{Facts}
 use Rattle.jh_history.specs.History.{facts}
 use Rattle.jh_history.specs.Lives.{is_on_board, is_program_of, program_of}
-use Rattle.jh_laws.specs.Ends.{IsAnswered, IsReadBy, IsGotBy}
+use Rattle.jh_history.specs.Phases.{configs_of}
+use Rattle.jh_laws.specs.Ends.{IsAnswered, IsReadBy, IsGotBy, IsDeviceOf}
 use Rattle.jh_laws.specs.Grants.{place_behind}
-use Rattle.jh_laws.specs.Held.{IsGrantedTo}
-use Rattle.jh_laws.specs.Journals.{LegalJournal, Moment, byte_at, byte_before, byte_behind, cpu_at}
+use Rattle.jh_laws.specs.Held.{IsGrantedTo, IsLive}
+use Rattle.jh_laws.specs.Journals.{HasNoDevice, LegalJournal, Moment, byte_at, byte_before, byte_behind, cpu_at}
 use Rattle.jh_laws.specs.Operations.{IsReady, IsOwn, op_of}
 use Rattle.jh_laws.specs.Outcomes.{HasItsOutcome}
 use Rattle.jh_laws.specs.Writes.{Writes, WritesNot}
@@ -45,8 +50,8 @@ pub record JournalLaws : Type 0 where
   pub due_each : (image : Image) (entries before rest : List Entry) (entry : Entry) → IsLegal image entries → entries ≡ before ++ entry ∷ rest → due image before entry.cpu ≡ Some entry
   pub ready : (j : LegalJournal) (cpu : ℕ) → IsSome (due j.image j.entries cpu) ↔ IsReady j.image j.entries j.image.system.root cpu
   pub own : (j : LegalJournal) (cpu : ℕ) (entry : Entry) → due j.image j.entries cpu ≡ Some entry → IsOwn j.image j.entries j.image.system.root cpu entry
-  pub put : (image : Image) (preload : Preload) (k : ℕ) → IsAdmitted image → IsBuilt image → Contains image.preloads preload → k < length preload.bytes → byte_at image [] (Physical (preload.at + k)) ≡ slice_index preload.bytes k
-  pub nothing_put : (image : Image) (place : ℕ) → IsAdmitted image → IsBuilt image → ((preload : Preload) (k : ℕ) → Contains image.preloads preload → k < length preload.bytes → place ≢ preload.at + k) → byte_at image [] (Physical place) ≡ 0
+  pub put : (image : Image) (preload : Preload) (k : ℕ) → IsAdmitted image → HasNoDevice image → Contains image.preloads preload → k < length preload.bytes → byte_at image [] (Physical (preload.at + k)) ≡ slice_index preload.bytes k
+  pub nothing_put : (image : Image) (place : ℕ) → IsAdmitted image → HasNoDevice image → ((preload : Preload) (k : ℕ) → Contains image.preloads preload → k < length preload.bytes → place ≢ preload.at + k) → byte_at image [] (Physical place) ≡ 0
   pub pages : (image : Image) (cell offset : ℕ) → byte_at image [] (Page cell offset) ≡ 0
   pub written : (m : Moment) (place : Place) (byte : ℕ) → Writes m.image m.image.system.root m.entry.act place byte → byte_behind m place ≡ byte
   pub others : (m : Moment) (place : Place) → WritesNot m.image m.image.system.root place m.entry → byte_behind m place ≡ byte_before m place
@@ -126,15 +131,15 @@ covered p (q ∷ qs) = elim (at_or_not p q.at (length q.bytes)) [
 contained : {X : Type 0} (P : X → Type 0) (xs : List X) (x : X) → All P xs → Contains xs x → P x
 contained P xs x all held = subst P held.2 (all held.0 x held.1)
 
-opening-fits : (laws : JournalLaws) (image : Image) → IsAdmitted image → IsBuilt image → HasTypedNumbers image → BytesFit image []
-opening-fits laws image admitted built typed (Page cell offset) = subst (λ b. b < 256) (sym (laws.pages image cell offset)) (omega arith)
-opening-fits laws image admitted built typed (Physical p) = elim (covered p image.preloads) [
+opening-fits : (laws : JournalLaws) (image : Image) → IsAdmitted image → HasNoDevice image → HasTypedNumbers image → BytesFit image []
+opening-fits laws image admitted bare typed (Page cell offset) = subst (λ b. b < 256) (sym (laws.pages image cell offset)) (omega arith)
+opening-fits laws image admitted bare typed (Physical p) = elim (covered p image.preloads) [
   | inl h ↦
       let byte : byte_at image [] (Physical p) ≡ slice_index h.preload.bytes h.offset
-      = ap (λ n. byte_at image [] (Physical n)) h.is ∙ laws.put image h.preload h.offset admitted built h.held h.within in
+      = ap (λ n. byte_at image [] (Physical n)) h.is ∙ laws.put image h.preload h.offset admitted bare h.held h.within in
       let small : All (λ b. b < 256) h.preload.bytes = contained (λ (q : Preload). All (λ b. b < 256) q.bytes) image.preloads h.preload typed.bytes h.held in
       subst (λ b. b < 256) (sym byte) (small h.offset 0 h.within)
-  | inr none ↦ subst (λ b. b < 256) (sym (laws.nothing_put image p admitted built none)) (omega arith)
+  | inr none ↦ subst (λ b. b < 256) (sym (laws.nothing_put image p admitted bare none)) (omega arith)
 ]
 
 -- what an act writes is below 256
@@ -180,52 +185,72 @@ spelled-fits : (image : Image) (before : List Entry) (width value : ℕ) (place 
 spelled-fits image before width value place fits read =
     subst (λ v. v < 256 ^ width) (sym read) (little_endian-fits width (λ k. byte_at image before (place k)) (λ k. fits (place k)))
 
+-- the cell with the id has no ivshmem device
+abbrev HasNone : Image → Facts → ℕ → Type 0
+HasNone image f id = (n : ℕ) (device : PciDevice) (e : Endpoint) → IsDeviceOf image f id n device e → ⊥
+
+-- a live cell is root where root lives alone
+lives-root : (image : Image) (f : Facts) (cell : CellConfig) → IsAlone image f → IsLive image f.cells cell → cell ≡ image.system.root
+lives-root image f cell alone (inl same) = same
+lives-root image f cell alone (inr held) =
+    let none : Contains (configs_of []) cell = subst (λ (cells : List Live). Contains (configs_of cells) cell) alone.cells held in
+    absurd (omega (arith, none.1))
+
+-- so there is no device where root has none
+none-alone : (image : Image) (f : Facts) (id : ℕ) → IsAlone image f → HasNoDevice image → HasNone image f id
+none-alone image f id alone bare n device e is =
+    let root : is.cell ≡ image.system.root = lives-root image f is.cell alone is.live in
+    let kinds : All (λ (d : PciDevice). d.kind ≢ 3) is.cell.pci_devices = subst (λ (c : CellConfig). All (λ (d : PciDevice). d.kind ≢ 3) c.pci_devices) (sym root) bare.devices in
+    got-all (λ (d : PciDevice). d.kind ≢ 3) is.cell.pci_devices n device kinds is.item is.kind
+
 -- by what answers it
-read-fits : (image : Image) (before : List Entry) (id : ℕ) (access : Access) (at width value : ℕ) → BytesFit image before → IsAnswered image (facts image before).cells id access at width
-    → IsReadBy image (facts image before) id access at width value → value < 256 ^ width
-read-fits image before id access at width value fits (inl granted) read =
+read-fits : (image : Image) (before : List Entry) (id : ℕ) (access : Access) (at width value : ℕ) → BytesFit image before → HasNone image (facts image before) id
+    → IsAnswered image (facts image before) id access at width → IsReadBy image (facts image before) id access at width value → value < 256 ^ width
+read-fits image before id access at width value fits none (inl granted) read =
     let P : ℕ → Place → Type 0 = λ k place. IsGrantedTo image (facts image before).cells id access (at + k) place in
     let place : ℕ → Place = λ k. chosen {P = P} width granted k (cases_lt k width) in
     spelled-fits image before width value place fits (read.bytes place (inl (λ k lt. chosen-is {P = P} width granted k (cases_lt k width) lt)))
-read-fits image before id access at width value fits (inr (inl answered)) read =
+read-fits image before id access at width value fits none (inr (inl answered)) read =
     let region = answered.0 in
     let place : ℕ → Place = λ k. place_behind answered.1.has.cell region ((at + k) - region.virt_start) in
     spelled-fits image before width value place fits (read.bytes place (inr (record { region = region; answers = answered.1; given = λ k lt. refl })))
-read-fits image before id access at width value fits (inr (inr window)) read = omega (arith, read.ones window, power-positive width)
+read-fits image before id access at width value fits none (inr (inr (inl window))) read =
+    omega (arith, read.ones window (λ e has. none has.number has.device e has.is), power-positive width)
+read-fits image before id access at width value fits none (inr (inr (inr register))) read = absurd (none register.0 register.4.within.device register.3 register.4.within.is)
 
-got-fits : (image : Image) (before : List Entry) (id : ℕ) (access : Access) (at width : ℕ) (got : Option ℕ) → BytesFit image before
+got-fits : (image : Image) (before : List Entry) (id : ℕ) (access : Access) (at width : ℕ) (got : Option ℕ) → BytesFit image before → HasNone image (facts image before) id
     → IsGotBy image (facts image before) id access at width got → IfSome got (λ value. value < 256 ^ width)
-got-fits image before id access at width None fits outcome = tt
-got-fits image before id access at width (Some value) fits outcome = read-fits image before id access at width value fits (outcome.answered.0 refl) (outcome.reads value refl)
+got-fits image before id access at width None fits none outcome = tt
+got-fits image before id access at width (Some value) fits none outcome = read-fits image before id access at width value fits none (outcome.answered.0 refl) (outcome.reads value refl)
 
 -- ---- entries
 
 same-op : (a b : Op) → Some a ≡ Some b → a ≡ b
 same-op a b e = same_Some a b e
 
-readable-act : (image : Image) (before : List Entry) (act : Act) (op : Op) → BytesFit image before → HasItsOutcome image before image.system.root act
+readable-act : (image : Image) (before : List Entry) (act : Act) (op : Op) → BytesFit image before → HasNone image (facts image before) image.system.root.id → HasItsOutcome image before image.system.root act
     → op_of act ≡ Some op → IsPlain op → IsTypedOp op → IsReadableAct act
-readable-act image before (Read width at got) op fits outcome e plain typed =
+readable-act image before (Read width at got) op fits none outcome e plain typed =
     let same : op ≡ ReadOp width at = sym (same-op (ReadOp width at) op e) in
-    (subst IsPlain same plain, subst IsTypedOp same typed, got-fits image before image.system.root.id ToRead at width got fits outcome)
-readable-act image before (Write width at value ok) op fits outcome e plain typed =
+    (subst IsPlain same plain, subst IsTypedOp same typed, got-fits image before image.system.root.id ToRead at width got fits none outcome)
+readable-act image before (Write width at value ok) op fits none outcome e plain typed =
     let same : op ≡ WriteOp width at value = sym (same-op (WriteOp width at value) op e) in
     let limits : IsPlain (WriteOp width at value) = subst IsPlain same plain in
     (limits.0, subst IsTypedOp same typed, limits.1)
-readable-act image before (Fetch at got) op fits outcome e plain typed =
+readable-act image before (Fetch at got) op fits none outcome e plain typed =
     let same : op ≡ FetchOp at = sym (same-op (FetchOp at) op e) in
-    (subst IsTypedOp same typed, got-fits image before image.system.root.id ToFetch at 4 got fits outcome)
-readable-act image before (Await width at value ok) op fits outcome e plain typed =
+    (subst IsTypedOp same typed, got-fits image before image.system.root.id ToFetch at 4 got fits none outcome)
+readable-act image before (Await width at value ok) op fits none outcome e plain typed =
     let same : op ≡ AwaitOp width at value = sym (same-op (AwaitOp width at value) op e) in
     let limits : IsPlain (AwaitOp width at value) = subst IsPlain same plain in
     (limits.0, subst IsTypedOp same typed, limits.1)
-readable-act image before _ op fits outcome e plain typed = absurd outcome
+readable-act image before _ op fits none outcome e plain typed = absurd outcome
 
 -- what is known of the image
 pub record IsFitImage (image : Image) : Type 0 where
   pub few : (cpu : ℕ) → IsTrue (is_on_board image cpu) → cpu < 16
   pub admitted : IsAdmitted image
-  pub built : IsBuilt image
+  pub bare : HasNoDevice image
   pub silent : HasNoCall image
   pub typed : HasTypedNumbers image
 
@@ -234,17 +259,20 @@ record Made (image : Image) (before : List Entry) (entry : Entry) : Type 0 where
   own : IsOwn image before image.system.root entry.cpu entry
   ready : IsReady image before image.system.root entry.cpu
   cell : entry.cell ≡ image.system.root.id
+  none : HasNone image (facts image before) image.system.root.id
 
 made : (laws : JournalLaws) (image : Image) → IsFitImage image → (before rest : List Entry) (entry : Entry) → IsLegal image (before ++ entry ∷ rest) → Made image before entry
 made laws image fit before rest entry legal =
     let early : IsLegal image before = laws.begins image before (entry ∷ rest) legal in
-    let j : LegalJournal = record { image = image; entries = before; admitted = fit.admitted; built = fit.built; silent = fit.silent; legal = early } in
+    let j : LegalJournal = record { image = image; entries = before; admitted = fit.admitted; bare = fit.bare; silent = fit.silent; legal = early } in
     let due_here : due image before entry.cpu ≡ Some entry = laws.due_each image (before ++ entry ∷ rest) before rest entry legal refl in
     let own = laws.own j entry.cpu entry due_here in
+    let alone : IsAlone image (facts image before) = laws.alone image before fit.silent early in
     record {
       own = own;
       ready = (laws.ready j entry.cpu).0 (ap is_some due_here);
-      cell = own.cell_is ∙ (laws.alone image before fit.silent early).owners entry.cpu;
+      cell = own.cell_is ∙ alone.owners entry.cpu;
+      none = none-alone image (facts image before) image.system.root.id alone fit.bare;
     }
 
 readable-entry : (image : Image) → IsFitImage image → (before : List Entry) (entry : Entry) → Made image before entry → BytesFit image before → IsReadable entry
@@ -257,18 +285,18 @@ readable-entry image fit before entry m fits =
     record {
       cpu = fit.few entry.cpu m.ready.board;
       cell = subst (λ id. id < 2 ^ 32) (sym m.cell) fit.typed.root;
-      act = readable-act image before entry.act m.ready.op fits m.own.outcome (m.own.operation ∙ m.ready.at) plain typed;
+      act = readable-act image before entry.act m.ready.op fits m.none m.own.outcome (m.own.operation ∙ m.ready.at) plain typed;
     }
 
 readable-from : (laws : JournalLaws) (image : Image) → IsFitImage image → (rest before : List Entry) → IsLegal image (before ++ rest) → BytesFit image before → AllByRecursion IsReadable rest
 readable-from laws image fit [] before legal fits = tt
 readable-from laws image fit (entry ∷ rest) before legal fits =
     let m = made laws image fit before rest entry legal in
-    let moment : Moment = record { image = image; before = before; entry = entry; rest = rest; admitted = fit.admitted; built = fit.built; silent = fit.silent; legal = legal } in
+    let moment : Moment = record { image = image; before = before; entry = entry; rest = rest; admitted = fit.admitted; bare = fit.bare; silent = fit.silent; legal = legal } in
     let behind : BytesFit image (before ++ entry ∷ []) = fits-behind laws moment fits in (
       readable-entry image fit before entry m fits,
       readable-from laws image fit rest (before ++ entry ∷ []) (subst (IsLegal image) (sym (append_assoc before (entry ∷ []) rest)) legal) behind,
     )
 
 pub readable : (laws : JournalLaws) (image : Image) → IsFitImage image → (entries : List Entry) → IsLegal image entries → AllByRecursion IsReadable entries
-readable laws image fit entries legal = readable-from laws image fit entries [] legal (opening-fits laws image fit.admitted fit.built fit.typed)
+readable laws image fit entries legal = readable-from laws image fit entries [] legal (opening-fits laws image fit.admitted fit.bare fit.typed)

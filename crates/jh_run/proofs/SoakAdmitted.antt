@@ -1,9 +1,6 @@
 -- The board of `soak` is admitted.
-use Rattle.std.proofs.Common.{◌≡◌, ◌≤◌, ℕ, arith}
-use Rattle.std.specs.Prelude.{All}
-use Rattle.std.proofs.lemmas.List.Elements.{All-nil}
-use Rattle.jh_cellcfg.specs.declared.config.PciDevice.{PciDevice}
-use Rattle.jh_history.specs.Admitted.{IsAdmittedSystem, IsAdmitted, IsBuilt}
+use Rattle.std.proofs.Common.{◌≤◌, ℕ}
+use Rattle.jh_history.specs.Admitted.{IsAdmittedSystem, IsAdmitted}
 use Rattle.jh_run.specs.Soak.{soak_system, soak_board}
 use Rattle.jh_run.proofs.SoakClean.{soak_clean}
 use Rattle.jh_run.proofs.SoakTables.{few_pages}
@@ -22,7 +19,3 @@ soak-admitted n h = record {
   programs = programs-sound n h;
   owned = programs-owned n;
 }
-
-pub soak-built : (n : ℕ) → IsBuilt (soak_board n)
-unfolding soak_board soak_system
-soak-built n = record { devices = All-nil _ }

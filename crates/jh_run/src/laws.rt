@@ -2,7 +2,8 @@
 ghost use Rattle.std.specs.Prelude.{◌≡◌, ◌≤◌, ℕ, List, length};
 ghost use Rattle.std.specs.List.{AllByRecursion};
 ghost use Rattle.jh_history.specs.declared.entry.Entry.{Entry};
-ghost use Rattle.jh_history.specs.Admitted.{HasNoCall, IsAdmitted, IsBuilt};
+ghost use Rattle.jh_history.specs.Admitted.{HasNoCall, IsAdmitted};
+ghost use Rattle.jh_laws.specs.Journals.{HasNoDevice};
 ghost use Rattle.jh_history.specs.Due.{IsLegal};
 ghost use Rattle.jh_text.specs.Text.{journal_text};
 ghost use Rattle.jh_text.specs.Ranges.{IsReadable};
@@ -19,13 +20,13 @@ use jh_laws::{
 use jh_map::maps_of_one_cell_are_equal;
 use jh_script::Image;
 
-/// Each entry of a legal journal of an image that is admitted and built and has no hypercall is one that a text may hold. So the text of the
-/// journal, where it is no longer than a journal may be, is a journal's text, and no other journal's: what is printed of
-/// it is read again.
+/// Each entry of a legal journal of an image that is admitted, whose root has no ivshmem device and whose programs have
+/// no hypercall is one that a text may hold. So the text of the journal, where it is no longer than a journal may be, is a
+/// journal's text, and no other journal's: what is printed of it is read again.
 pub fn legal_journals_are_readable(image: &Image)
-    ensures entries { IsAdmitted image.now → IsBuilt image.now → HasNoCall image.now → HasTypedNumbers image.now
+    ensures entries { IsAdmitted image.now → HasNoDevice image.now → HasNoCall image.now → HasTypedNumbers image.now
         → (entries : List Entry) → IsLegal image.now entries → AllByRecursion IsReadable entries }
-    ensures text { IsAdmitted image.now → IsBuilt image.now → HasNoCall image.now → HasTypedNumbers image.now
+    ensures text { IsAdmitted image.now → HasNoDevice image.now → HasNoCall image.now → HasTypedNumbers image.now
         → (entries : List Entry) → IsLegal image.now entries → length entries ≤ max_entries
         → IsJournalText (journal_text entries) entries }
 {

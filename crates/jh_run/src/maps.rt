@@ -1,7 +1,7 @@
 //! The maps of all live cells after a schedule.
 ghost use Rattle.std.specs.Prelude.{◌≡◌, ◌++◌, ℕ, All, Contains, IsTrue, IfOk, OnOk, List};
 ghost use Rattle.jh_map.specs.declared.run.Run.{Run as TheRun};
-ghost use Rattle.jh_history.specs.Admitted.{IsAdmitted, IsBuilt};
+ghost use Rattle.jh_history.specs.Admitted.{IsAdmitted};
 ghost use Rattle.jh_history.specs.History.{facts};
 ghost use Rattle.jh_history.specs.Lives.{is_on_board as is_on_board_lem};
 ghost use Rattle.jh_text.specs.Maps.{map_text};
@@ -56,7 +56,6 @@ pub fn map(
     limit: u32,
 ) -> Result<Option<Seq<u8>>, NoMemory>
     requires admitted { IsAdmitted image }
-    requires built { IsBuilt image }
     requires schedule { All (λ cpu. IsTrue (is_on_board_lem image cpu)) schedule.now }
     ensures { IfOk result (Maps image limit schedule.now) }
 {

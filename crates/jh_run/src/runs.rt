@@ -1,6 +1,6 @@
 //! A run of a board, from its opening to its last entry.
 ghost use Rattle.std.specs.Prelude.{◌≡◌, ◌≢◌, ◌<◌, ◌↔◌, length, All, AllPairs, IsTrue, IfOk};
-ghost use Rattle.jh_history.specs.Admitted.{IsAdmitted, IsBuilt};
+ghost use Rattle.jh_history.specs.Admitted.{IsAdmitted};
 ghost use Rattle.jh_history.specs.Due.{IsLegal, IsQuiet};
 ghost use Rattle.jh_history.specs.Lives.{is_on_board};
 ghost use Rattle.jh_turn.specs.Ports.{AreAllPorts, opened_value};
@@ -45,7 +45,6 @@ fn open_run(
     limit: u32,
 ) -> Result<(Shared<Running>, Vec<Port<Running>>), NoMemory>
     requires admitted { IsAdmitted image }
-    requires built { IsBuilt image }
     ensures origin { IfOk result (λ r. origin_of (opened_value r.0) ≡ record { image = image; limit = limit }) }
     ensures ports { IfOk result (λ r. AreAllPorts r.0 r.1.items) }
     ensures some { IfOk result (λ r. 0 < length r.1.items) }
@@ -102,7 +101,6 @@ pub fn run<R: Threads + Wait + Sync, G: Gate + Sync>(
     limit: u32,
 ) -> Result<(Board, Ended), NoMemory>
     requires admitted { IsAdmitted image }
-    requires built { IsBuilt image }
     ensures board { IfOk result (λ r. IsBoardOf image limit r.0) }
     ensures legal { IfOk result (λ r. IsLegal image r.0.entries) }
     ensures quiet { IfOk result (λ r. (r.1 ≡ Ended.Quiet) ↔ IsQuiet image r.0.entries) }

@@ -3,7 +3,7 @@ ghost use Rattle.std.specs.Prelude.{◌≡◌, ◌+◌, ◌↔◌, [], ◌∷◌
 ghost use Rattle.jh_history.specs.Due.{IsLegal, IsQuiet};
 ghost use Rattle.jh_history.specs.Items.{rounds, cpus_of as cpus_of_lem};
 ghost use Rattle.jh_history.specs.Lives.{is_on_board as is_on_board_lem};
-ghost use Rattle.jh_history.specs.Admitted.{IsAdmitted, IsBuilt};
+ghost use Rattle.jh_history.specs.Admitted.{IsAdmitted};
 ghost use Rattle.jh_run.specs.Plays.{Follows, Plays, IsFullAtItem, IsFullAtCpu};
 ghost use Rattle.jh_run.specs.Ran.{Ran};
 
@@ -33,7 +33,6 @@ pub fn cpus_of(alloc: Global, image: &Image) -> Result<Vec<u8>, NoMemory>
 /// A board of the image, with an empty journal.
 pub fn opened(alloc: Global, image: Image, limit: u32) -> Result<Board, NoMemory>
     requires admitted { IsAdmitted image }
-    requires built { IsBuilt image }
     ensures { IfOk result (λ board. board ≡ record { image = image; limit = limit; entries = [] }) }
 {
     match Board::open(alloc, image, limit) {
@@ -106,7 +105,6 @@ pub fn follow(
     limit: u32,
 ) -> Result<(Board, Ended), NoMemory>
     requires admitted { IsAdmitted image }
-    requires built { IsBuilt image }
     requires schedule { All (λ cpu. IsTrue (is_on_board_lem image cpu)) schedule.now }
     ensures followed { IfOk result (λ r. Follows image limit schedule.now r.0 r.1) }
     ensures legal { IfOk result (λ r. IsLegal image r.0.entries) }
@@ -127,7 +125,6 @@ pub fn play(
     limit: u32,
 ) -> Result<(Board, Ended), NoMemory>
     requires admitted { IsAdmitted image }
-    requires built { IsBuilt image }
     requires schedule { All (λ cpu. IsTrue (is_on_board_lem image cpu)) schedule.now }
     ensures played { IfOk result (λ r. Plays image limit schedule.now r.0 r.1) }
     ensures legal { IfOk result (λ r. IsLegal image r.0.entries) }

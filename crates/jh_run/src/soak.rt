@@ -1,7 +1,7 @@
 //! The board of `soak`.
 ghost use Rattle.std.specs.Prelude.{◌≡◌, ◌+◌, ◌*◌, ◌^◌, ◌<◌, ◌≤◌, ◌∷◌, [], ◌++◌, IsTrue, IfOk, OnOk};
 ghost use Rattle.jh_cellcfg.specs.Limits.{is_name};
-ghost use Rattle.jh_history.specs.Admitted.{IsAdmitted, IsBuilt};
+ghost use Rattle.jh_history.specs.Admitted.{IsAdmitted};
 ghost use Rattle.jh_run.specs.Soak.{region as region_lem, plain_cell as plain_cell_lem, loadable_cell as loadable_cell_lem, soak_system as soak_system_lem, cell_a, cell_b, number_writes, number_reads, round_ops, rounds_ops, beside_ops as beside_ops_lem, ops_a as ops_a_lem, ops_b as ops_b_lem, answer_ops, program as program_lem, programs_of, preload as preload_lem, soak_board};
 
 use jh_cellcfg::{CellConfig, Console, Region, SystemConfig, write_cell};
@@ -314,7 +314,6 @@ pub fn soak_image(alloc: Global, n: u32) -> Result<Image, NoMemory>
     requires { (1 ≤ n) × (n ≤ 400) }
     ensures image { IfOk result (λ image. image ≡ soak_board n) }
     ensures admitted { IfOk result IsAdmitted }
-    ensures built { IfOk result IsBuilt }
 {
     Ok(Image {
         system: soak_system(alloc)?,

@@ -1,10 +1,10 @@
 //! Schedules on small boards.
 ghost use Rattle.std.specs.Prelude.{IfOk};
-ghost use Rattle.jh_history.specs.Admitted.{IsAdmitted, IsBuilt};
+ghost use Rattle.jh_history.specs.Admitted.{IsAdmitted};
 
 use crate::{Ended, Summary, follow, play, run, soak_image, summary_of};
 use jh_cellcfg::{CellConfig, Console, Region, SystemConfig};
-use jh_history::{Act, Entry, admit, is_built, is_on_board};
+use jh_history::{Act, Entry, admit, is_on_board};
 use jh_num::{NoMemory, Seq};
 use jh_outside::{Gate, NoGate};
 use jh_script::{Image, Op, Program};
@@ -101,12 +101,10 @@ fn image(alloc: Global, zero: &[Op], three: &[Op]) -> Result<Image, NoMemory> {
 /// The same image, which may be opened.
 fn ready(rt: &impl Abort, alloc: Global, zero: &[Op], three: &[Op]) -> Result<Image, NoMemory>
     ensures admitted { IfOk result IsAdmitted }
-    ensures built { IfOk result IsBuilt }
 {
     let image = image(alloc, zero, three)?;
     let admitted = admit(alloc, &image)?;
     assert!(rt; admitted);
-    assert!(rt; is_built(&image));
     Ok(image)
 }
 
@@ -179,7 +177,6 @@ fn follows(
     entries: &[Entry],
 ) -> Result<(), NoMemory>
     requires admitted { IsAdmitted image }
-    requires built { IsBuilt image }
 {
     assert!(rt; schedule.iter().all(|cpu| is_on_board(&image, *cpu)));
     let (board, how) = follow(alloc, image, schedule, limit)?;
@@ -199,7 +196,6 @@ fn plays(
     entries: &[Entry],
 ) -> Result<(), NoMemory>
     requires admitted { IsAdmitted image }
-    requires built { IsBuilt image }
 {
     assert!(rt; schedule.iter().all(|cpu| is_on_board(&image, *cpu)));
     let (board, how) = play(alloc, image, schedule, limit)?;
@@ -340,7 +336,6 @@ fn a_soak_of_one_round(rt: HostRuntime) -> Result<(), Fail> {
     let alloc = rt.alloc();
     let image = soak_image(alloc, 1)?;
     assert!(rt; admit(alloc, &image)?);
-    assert!(rt; is_built(&image));
     let (board, ended) = run(&rt, alloc, image, &NoGate, 262_144)?;
     assert_eq!(rt; ended, Ended::Quiet);
     let summary = Summary {

@@ -1,7 +1,6 @@
 -- The region that has the whole access, unless one of its places is kept.
-use Rattle.std.proofs.Common.{◌≡◌, ◌≤◌, Bool, Option, Some, None, cond, ap, sym, ◌∙◌}
+use Rattle.std.proofs.Common.{◌≤◌, Bool, Some, None, cond, ap, sym, ◌∙◌}
 use Rattle.std.specs.List.{list_any}
-use Rattle.jh_cellcfg.specs.declared.region.Region.{Region}
 use Rattle.jh_mmio.specs.Dispatch.{unless_closed}
 use Rattle.jh_history.specs.declared.place.Place.{Place}
 use Rattle.jh_history.specs.declared.place.Place.TheVariants.{Physical}

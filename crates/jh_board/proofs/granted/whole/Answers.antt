@@ -1,5 +1,5 @@
 -- The regions are root's, or those of another cell.
-use Rattle.std.proofs.Common.{◌≡◌, List, Bool, ℕ, ap, sym, ◌∙◌}
+use Rattle.std.proofs.Common.{List, ℕ, ap, sym, ◌∙◌}
 use Rattle.std.specs.Prelude.{find}
 use Rattle.jh_cellcfg.specs.declared.region.Region.{Region}
 use Rattle.jh_mmio.specs.Dispatch.{takes_all}

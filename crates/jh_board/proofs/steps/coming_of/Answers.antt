@@ -1,5 +1,5 @@
 -- What a create reads is what comes of it.
-use Rattle.std.proofs.Common.{◌≡◌, ◌∙◌, Option, Some, None, refl, sym, ap}
+use Rattle.std.proofs.Common.{◌≡◌, ◌∙◌, Option, Some, None, sym, ap}
 use Rattle.jh_cellcfg.specs.declared.config.CellConfig.{CellConfig}
 use Rattle.jh_call.specs.declared.call.Call.TheVariants.{Create}
 use Rattle.jh_history.specs.declared.call.OpenCall.{OpenCall}
@@ -7,6 +7,7 @@ use Rattle.jh_history.specs.declared.entry.Act.TheVariants.{Decide}
 use Rattle.jh_history.specs.declared.call.Creation.TheVariants.{Comes}
 use Rattle.jh_history.specs.Calls.{call_by}
 use Rattle.jh_history.specs.Phases.{creation_of}
+use Rattle.jh_board.proofs.DevicesLemmas.{specs-within}
 use Rattle.jh_board.proofs.ReadyLemmas.{going-decides, create-at, coming-is, ready-create, ready-early, not-refused}
 use Rattle.jh_board.proofs.steps.coming_of.Goals as goal
 
@@ -62,3 +63,22 @@ returns-clause-apart c =
     let at = c.in-Some-create_of.at in
     let comes : creation_of image f o.caller at ≡ Comes c.in-Comes.config = sym (c.in_ok-config.ensures f c.requires.next.means) ∙ c.in-Comes.is in
     (c.a_cell_that_comes_may_live.ensures.decided image f o.caller at c.in-Comes.config c.requires.next.sound comes).apart
+
+pub returns-clause-devices : goal.returns-clause-devices
+returns-clause-devices c =
+    let image = c.args.image.now in
+    let f = c.requires.next.facts in
+    let o : OpenCall = c.in-Some.begun in
+    let at = c.in-Some-create_of.at in
+    let comes : creation_of image f o.caller at ≡ Comes c.in-Comes.config = sym (c.in_ok-config.ensures f c.requires.next.means) ∙ c.in-Comes.is in
+    c.devices_may_change.ensures.comes image f o.caller at c.in-Comes.config c.requires.next.sound comes
+
+pub returns-clause-tables : goal.returns-clause-tables
+returns-clause-tables c =
+    let image = c.args.image.now in
+    let f = c.requires.next.facts in
+    let o : OpenCall = c.in-Some.begun in
+    let at = c.in-Some-create_of.at in
+    let comes : creation_of image f o.caller at ≡ Comes c.in-Comes.config = sym (c.in_ok-config.ensures f c.requires.next.means) ∙ c.in-Comes.is in
+    specs-within c.in-Comes.config (c.devices_may_change.ensures.comes image f o.caller at c.in-Comes.config c.requires.next.sound comes)
+    (c.a_cell_that_comes_may_live.ensures.decided image f o.caller at c.in-Comes.config c.requires.next.sound comes).within

@@ -1,5 +1,5 @@
 -- The call and the cells change as the act says.
-use Rattle.std.proofs.Common.{◌≡◌, ◌∙◌, Option, sym, ap, subst}
+use Rattle.std.proofs.Common.{◌≡◌, ◌∙◌, Option, sym, ap, subst, arith}
 use Rattle.std.specs.Option.{option_map_or}
 use Rattle.jh_cellcfg.specs.declared.config.CellConfig.{CellConfig}
 use Rattle.jh_history.specs.declared.call.OpenCall.{OpenCall}
@@ -30,7 +30,7 @@ returns-clause-ready c = λ h.
     let lives = old.cells.lives in
     let entry = c.args.entry.now in
     let act = entry.act in
-    let new : Held = record { memory = old.memory; cpus = old.cpus; cells = c.make_cells.new.cells; call = c.call_after-call.result.call; index = c.make_cells.new.index; alloc = old.alloc } in
+    let new : Held = record { memory = old.memory; cpus = old.cpus; cells = c.make_cells.new.cells; endpoints = old.endpoints; call = c.call_after-call.result.call; index = c.make_cells.new.index; alloc = old.alloc } in
     let made : c.call_after-call.result.created ≡ created_by old.call act = c.call_after-call.ensures.created ∙ ap (λ (k : Option OpenCall). created_by k act) c.take-begun.ensures.value in
     let change : c.change_of_cells-change.result ≡ change_of_cells old.call act = c.change_of_cells-change.ensures ∙ ap (λ (k : Option OpenCall). change_of_cells k act) c.as_ref.ensures.value in
     let call : c.call_after-call.result.call ≡ call_by lives c.args.coming old.call entry act =
@@ -38,4 +38,4 @@ returns-clause-ready c = λ h.
     let P : Option OpenCall → Type 0 = IsReady old in
     let Q : Option OpenCall → Type 0 = IsReady new in
     let same : KeepsCells old new (created_by old.call act) (change_of_cells old.call act) = λ none keep. c.make_cells.ensures.kept (made ∙ none) (change ∙ keep) in
-    subst Q (sym call) (ready-made old new lives c.args.coming old.call entry act (λ cell held. held) same (subst P call h))
+    subst Q (sym call) (ready-made old new lives c.args.coming old.call entry act (omega arith) (λ q held. held) same (subst P call h))

@@ -1,8 +1,6 @@
 -- Root is kept from the places that the cells close, and no other cell from any.
-use Rattle.std.proofs.Common.{◌≡◌, ℕ, Bool, List, sym, ap, ◌∙◌, subst}
+use Rattle.std.proofs.Common.{sym, ◌∙◌}
 use Rattle.jh_num.specs.Bytes.{has_byte}
-use Rattle.jh_map.specs.declared.run.Run.{Run}
-use Rattle.jh_map.specs.Maps.{IsMap}
 use Rattle.jh_board.specs.Maps.{is_kept_at}
 use Rattle.jh_board.proofs.ToldLemmas.{kept_root, kept_other, map_of_kept}
 use Rattle.jh_board.proofs.told.map_with.Goals as goal

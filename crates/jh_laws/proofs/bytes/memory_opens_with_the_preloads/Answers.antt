@@ -3,10 +3,10 @@ use Rattle.jh_laws.proofs.ByteLemmas.{opening-byte, opening-page, opening-zero}
 use Rattle.jh_laws.proofs.bytes.memory_opens_with_the_preloads.Goals as goal
 
 pub returns-clause-put : goal.returns-clause-put
-returns-clause-put c = λ image preload k admitted built held lt. opening-byte image preload k admitted held lt
+returns-clause-put c = λ image preload k admitted bare held lt. opening-byte image preload k admitted bare held lt
 
 pub returns-clause-zero : goal.returns-clause-zero
-returns-clause-zero c = λ image place admitted built none. opening-zero image place none
+returns-clause-zero c = λ image place admitted bare none. opening-zero image place bare none
 
 pub returns-clause-pages : goal.returns-clause-pages
 returns-clause-pages c = opening-page

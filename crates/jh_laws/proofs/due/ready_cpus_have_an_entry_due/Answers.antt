@@ -3,7 +3,7 @@ use Rattle.jh_laws.proofs.ReadyLemmas.{ready-from_due, due-from_ready, quiet-not
 use Rattle.jh_laws.proofs.due.ready_cpus_have_an_entry_due.Goals as goal
 
 pub returns-clause-ready : goal.returns-clause-ready
-returns-clause-ready c = λ j cpu. (ready-from_due j.image j.entries cpu (record { admitted = j.admitted; silent = j.silent }) j.legal, due-from_ready j.image j.entries cpu (record { admitted = j.admitted; silent = j.silent }) j.legal)
+returns-clause-ready c = λ j cpu. (ready-from_due j.image j.entries cpu (record { admitted = j.admitted; bare = j.bare; silent = j.silent }) j.legal, due-from_ready j.image j.entries cpu (record { admitted = j.admitted; bare = j.bare; silent = j.silent }) j.legal)
 
 pub returns-clause-quiet : goal.returns-clause-quiet
-returns-clause-quiet c = λ j. (quiet-not_ready j.image j.entries (record { admitted = j.admitted; silent = j.silent }) j.legal, quiet-from_none j.image j.entries (record { admitted = j.admitted; silent = j.silent }) j.legal)
+returns-clause-quiet c = λ j. (quiet-not_ready j.image j.entries (record { admitted = j.admitted; bare = j.bare; silent = j.silent }) j.legal, quiet-from_none j.image j.entries (record { admitted = j.admitted; bare = j.bare; silent = j.silent }) j.legal)

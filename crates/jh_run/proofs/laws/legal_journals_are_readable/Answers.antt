@@ -3,7 +3,7 @@ use Rattle.jh_run.proofs.LegalTexts.{readable}
 use Rattle.jh_run.proofs.laws.legal_journals_are_readable.Goals as goal
 
 pub returns-clause-entries : goal.returns-clause-entries
-returns-clause-entries c = λ admitted built silent typed entries legal.
+returns-clause-entries c = λ admitted bare silent typed entries legal.
     readable
     (record {
       alone = c.root_lives_alone.ensures.alone;
@@ -18,11 +18,11 @@ returns-clause-entries c = λ admitted built silent typed entries legal.
       others = c.entries_write_their_bytes.ensures.others;
     })
     c.args.image.now
-    (record { few = c.admitted_roots_are_sound.ensures.cpus admitted; admitted = admitted; built = built; silent = silent; typed = typed })
+    (record { few = c.admitted_roots_are_sound.ensures.cpus admitted; admitted = admitted; bare = bare; silent = silent; typed = typed })
     entries legal
 
 pub returns-clause-text : goal.returns-clause-text
-returns-clause-text c = λ admitted built silent typed entries legal within. record {
+returns-clause-text c = λ admitted bare silent typed entries legal within. record {
   readable =
       readable
       (record {
@@ -38,7 +38,7 @@ returns-clause-text c = λ admitted built silent typed entries legal within. rec
         others = c.entries_write_their_bytes.ensures.others;
       })
       c.args.image.now
-      (record { few = c.admitted_roots_are_sound.ensures.cpus admitted; admitted = admitted; built = built; silent = silent; typed = typed })
+      (record { few = c.admitted_roots_are_sound.ensures.cpus admitted; admitted = admitted; bare = bare; silent = silent; typed = typed })
       entries legal;
   within = within;
   whole = refl;

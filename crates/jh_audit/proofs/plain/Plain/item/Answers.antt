@@ -11,4 +11,4 @@ invariant_of-self-2 c =
     let is = c.in-Some.is in
     let made : due c.self.inside.image c.self.inside.journal.entries c.args.cpu ≡ Some c.in-Some.entry = cc in
     let few : length c.self.inside.journal.entries < 64 = rw (← c.len.ensures) (omega arith) in
-    (c.self.invariant.0, c.self.invariant.1, IsLegal-made c.self.inside.image c.self.inside.journal.entries c.push.new.self.entries c.args.cpu c.in-Some.entry c.self.invariant.2 made c.in_ok-push.ensures.ok, rw (c.in_ok-push.ensures.ok, length_push) (omega arith))
+    (c.self.invariant.0, IsLegal-made c.self.inside.image c.self.inside.journal.entries c.push.new.self.entries c.args.cpu c.in-Some.entry c.self.invariant.1 made c.in_ok-push.ensures.ok, rw (c.in_ok-push.ensures.ok, length_push) (omega arith))

@@ -7,7 +7,6 @@ pub invariant_of-result : goal.invariant_of-result
 invariant_of-result c =
     let same : c.in-Ok-new.image ≡ c.args.image = c.in-Ok-new.ensures.ok in record {
       admitted = rw same c.requires.admitted;
-      built = rw same c.requires.built;
       legal = rw (c.new-2.ensures, same) (IsLegal-nil c.args.image);
       within = rw c.new-2.ensures (omega arith);
       means = rw (c.new-2.ensures, same) c.in-Ok.ensures;

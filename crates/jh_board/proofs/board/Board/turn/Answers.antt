@@ -25,7 +25,6 @@ invariant_of-self-in-Some c =
     let few = c.has_few_cpus.ensures.cpus c.args.cpu (subst P (sym c.self.view_is) c.requires) in
     record {
       admitted = c.self.invariant.admitted;
-      built = c.self.invariant.built;
       legal = IsLegal-made c.self.inside.image c.self.inside.journal.entries c.advance.new.journal.entries c.args.cpu c.in-Some.entry c.self.invariant.legal made.0 made.2;
       within = let few : length c.self.inside.journal.entries < c.self.inside.limit = made.1 in rw (made.2, length_push) (omega arith);
       means = c.advance.ensures.means;

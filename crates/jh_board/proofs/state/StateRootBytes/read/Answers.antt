@@ -2,7 +2,7 @@
 use Rattle.std.proofs.Common.{◌≡◌, ℕ, ◌<◌, ◌^◌, Some, length, ap, sym, subst, ◌∙◌, arith}
 use Rattle.jh_history.specs.declared.access.Access.TheVariants.{Read}
 use Rattle.jh_history.specs.declared.access.Reach.TheVariants.{Memory, Nothing}
-use Rattle.jh_history.specs.Access.{memory_or_nothing, read_of, reach_by}
+use Rattle.jh_history.specs.Access.{memory_or_nothing, memory_read, reach_by}
 use Rattle.jh_history.specs.Grants.{granted_in}
 use Rattle.jh_history.proofs.ReadLemmas.{one-place}
 use Rattle.jh_board.specs.Pages.{byte_of}
@@ -14,7 +14,7 @@ returns-in-None c =
     let held = c.self.inside.held.now in
     let found : Nothing ≡ reach_by (granted_in image held.cells.lives image.system.root.id Read) c.args.at 1 =
     sym (ap memory_or_nothing c.in-None.is) ∙ c.memory.ensures ∙ ap (λ (root : ℕ). reach_by (granted_in image held.cells.lives root Read) c.args.at 1) c.root.ensures in
-    rw (← c.self.view_is) (ap (read_of (byte_of held.memory) 1) found)
+    rw (← c.self.view_is) (ap (memory_read (byte_of held.memory)) found)
 
 pub returns-in-Some : goal.returns-in-Some
 returns-in-Some c =
@@ -22,7 +22,7 @@ returns-in-Some c =
     let held = c.self.inside.held.now in
     let found : Memory c.in-Some.places ≡ reach_by (granted_in image held.cells.lives image.system.root.id Read) c.args.at 1 =
     sym (ap memory_or_nothing c.in-Some.is) ∙ c.memory.ensures ∙ ap (λ (root : ℕ). reach_by (granted_in image held.cells.lives root Read) c.args.at 1) c.root.ensures in
-    rw (← c.self.view_is) (ap Some c.value.ensures.value ∙ ap (read_of (byte_of held.memory) 1) found)
+    rw (← c.self.view_is) (ap Some c.value.ensures.value ∙ ap (memory_read (byte_of held.memory)) found)
 
 pub overflow_cast-result : goal.overflow_cast-result
 overflow_cast-result c =

@@ -10,6 +10,7 @@ use Rattle.jh_history.specs.History.{facts}
 use Rattle.jh_history.specs.Sound.{IsSound}
 use Rattle.jh_history.specs.PlainView.{Stands}
 use Rattle.jh_history.proofs.FactsLemmas.{facts-nil, facts-next}
+use Rattle.jh_history.proofs.FollowLemmas.{may-follow}
 use Rattle.jh_history.proofs.LegalLemmas.{due-index}
 use Rattle.jh_history.proofs.PlainLemmas.{due_at-plain}
 use Rattle.jh_history.proofs.plain.Plain.after.Goals as goal
@@ -18,7 +19,7 @@ abbrev any_entry : Entry
 any_entry = record { cpu = 0; cell = 0; act = Read 0 0 None }
 
 pub loop-entry-init : goal.loop-entry-init
-loop-entry-init c = rw facts-nil (record { stands = c.open-plain.ensures; sound = c.legal_journals_are_sound.ensures.start c.args.image.now c.requires.admitted })
+loop-entry-init c = rw facts-nil (record { stands = c.in_ok-plain.ensures; sound = c.legal_journals_are_sound.ensures.start c.args.image.now c.requires.admitted })
 
 pub follow-requires-clause-plain : goal.follow-requires-clause-plain
 follow-requires-clause-plain c =
@@ -37,6 +38,18 @@ follow-requires-clause-due c =
       cells = stands.cells;
       call = stands.call;
     }
+
+pub follow-requires-clause-may : goal.follow-requires-clause-may
+follow-requires-clause-may c =
+    let lt : c.loop-entry.entry-index < length c.args.entries.now = omega arith in
+    let i = c.args.image.now in
+    let f = facts i (take c.loop-entry.entry-index c.args.entries.now) in
+    let due = due-index i c.args.entries.now c.loop-entry.entry-index _ c.requires.legal lt in
+    let sound = c.loop-entry.invariant.sound in
+    may-follow i f c.loop-entry.plain (get_or c.args.entries.now c.loop-entry.entry-index any_entry) c.loop-entry.invariant.stands
+    (λ id value found. c.devices_may_change.ensures.word i f id value found sound)
+    (c.devices_may_change.ensures.commit i f (get_or c.args.entries.now c.loop-entry.entry-index any_entry) sound due)
+    (c.devices_may_change.ensures.interrupt i f (get_or c.args.entries.now c.loop-entry.entry-index any_entry) sound due)
 
 pub loop-entry-preserved : goal.loop-entry-preserved
 loop-entry-preserved c =

@@ -35,6 +35,7 @@ returns c = λ i f h.
     (c.in_ok-move_on.ensures.cells
     ∙ ap (λ (k : Option OpenCall). cells_by k c.change.new.self.cells entry.act) call
     ∙ ap (λ (lives : List Live). cells_by f.call lives entry.act) cells)
+    (c.in_ok-move_on.ensures.endpoints ∙ c.in_ok-change.ensures.endpoints i f h)
     (c.in_ok-move_on.ensures.call
     ∙ ap (λ (k : Option OpenCall). call_by c.change.new.self.cells c.in_ok-coming.coming k entry entry.act) call
     ∙ ap (λ (lives : List Live). call_by lives c.in_ok-coming.coming f.call entry entry.act) cells

@@ -1,20 +1,20 @@
 -- What an access of one byte reaches.
 use Rattle.std.proofs.Common.{◌≡◌, ℕ, ◌<◌, ◌^◌, Some, length, ap, sym, subst, ◌∙◌, arith}
 use Rattle.jh_history.specs.declared.access.Access.TheVariants.{Read}
-use Rattle.jh_history.specs.Access.{memory_or_nothing, read_of, reach_by}
+use Rattle.jh_history.specs.Access.{memory_or_nothing, memory_read, reach_by}
 use Rattle.jh_history.specs.Grants.{granted_in}
 use Rattle.jh_history.specs.PlainView.{PlainView, last_byte}
 use Rattle.jh_history.proofs.ReadLemmas.{one-place}
 use Rattle.jh_history.proofs.plain_known.PlainRootBytes.read.Goals as goal
 
 pub returns-in-None : goal.returns-in-None
-returns-in-None c = rw (← c.self.view_is) (ap (read_of (last_byte c.self.inside.image.now c.self.inside.bytes.items) 1) (sym (ap memory_or_nothing c.in-None.is) ∙ c.memory_in.ensures))
+returns-in-None c = rw (← c.self.view_is) (ap (memory_read (last_byte c.self.inside.image.now c.self.inside.bytes.items)) (sym (ap memory_or_nothing c.in-None.is) ∙ c.memory_in.ensures))
 
 pub returns-in-Some : goal.returns-in-Some
 returns-in-Some c =
     let p = c.args.self.now in
     ap Some c.value_of.ensures.value
-    ∙ ap (read_of (last_byte p.image p.bytes) 1) (sym (ap memory_or_nothing c.in-Some.is) ∙ c.memory_in.ensures ∙ ap (λ (v : PlainView). reach_by (granted_in v.image v.cells v.image.system.root.id Read) c.args.at 1) c.self.view_is)
+    ∙ ap (memory_read (last_byte p.image p.bytes)) (sym (ap memory_or_nothing c.in-Some.is) ∙ c.memory_in.ensures ∙ ap (λ (v : PlainView). reach_by (granted_in v.image v.cells v.image.system.root.id Read) c.args.at 1) c.self.view_is)
 
 pub overflow_cast-result : goal.overflow_cast-result
 overflow_cast-result c =

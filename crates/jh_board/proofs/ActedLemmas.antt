@@ -1,0 +1,163 @@
+-- What an act does to bytes and to devices, by what it reaches.
+use Rattle.std.proofs.Common.{◌≡◌, ℕ, List, Bool, true, false, Option, None, refl, sym, ◌∙◌, ap}
+use Rattle.std.specs.Prelude.{IfSome}
+use Rattle.jh_ivshmem.specs.declared.endpoint.Endpoint.{Endpoint}
+use Rattle.jh_ivshmem.specs.declared.spec.Slot.{Slot}
+use Rattle.jh_ivshmem.specs.Links.{taken_of}
+use Rattle.jh_script.specs.declared.image.Image.{Image}
+use Rattle.jh_history.specs.declared.access.Access.TheVariants.{Write as ToWrite}
+use Rattle.jh_history.specs.declared.access.Reach.{Reach}
+use Rattle.jh_history.specs.declared.access.Reach.TheVariants.{Memory, Subpage, Config, Window, Nothing}
+use Rattle.jh_history.specs.declared.entry.Act.{Act}
+use Rattle.jh_history.specs.declared.entry.Act.TheVariants.{Read, Write, Fetch, Await, Irq, Hvc, Begin, Stop, Decide, Settle, Commit, Note, Noted, Finish}
+use Rattle.jh_history.specs.declared.comm.PageWrite.{PageWrite}
+use Rattle.jh_history.specs.declared.entry.Entry.{Entry}
+use Rattle.jh_history.specs.declared.place.Place.{Place}
+use Rattle.jh_history.specs.Access.{with_slot_if, slot_of_reach, write_of}
+use Rattle.jh_history.specs.Bytes.{byte_written, byte_after}
+use Rattle.jh_history.specs.Devices.{Devices}
+use Rattle.jh_history.specs.Endpoints.{endpoints_put, endpoints_acted, endpoints_changed, endpoints_after, change_by, specs_changing, with_words, IsNextOf}
+use Rattle.jh_history.specs.Facts.{Facts}
+use Rattle.jh_history.specs.Grants.{reach, devices_of}
+use Rattle.jh_history.specs.Pages.{page_write_by, with_page_write}
+use Rattle.jh_history.specs.Wants.{IsReachOfAct, IsReachOfEntry}
+use Rattle.jh_history.proofs.FactsLemmas.{same_function}
+use Rattle.jh_board.specs.Steps.{memory_written, memory_after, slot_after, endpoints_acted_by}
+
+-- ---- bytes
+
+-- a write where it reaches memory, and then where it reaches a device
+write_parts : (byte : Place → ℕ) (devices : Devices) (found : Reach) (value : ℕ) → write_of byte devices found value ≡ with_slot_if (slot_of_reach devices found value) (memory_written byte found value)
+write_parts byte devices (Memory places) value = refl
+write_parts byte devices (Subpage places) value = refl
+write_parts byte devices (Config bytes) value = refl
+write_parts byte devices (Window register) value = refl
+write_parts byte devices Nothing value = refl
+
+write_acted : (image : Image) (f : Facts) (cell width at value : ℕ) (ok : Bool) (found : Reach) → found ≡ reach image f cell ToWrite at width
+    → byte_written image f cell (Write width at value ok) ≡ with_slot_if (slot_after (devices_of image f cell) (Write width at value ok) found) (memory_after f.byte (Write width at value ok) found)
+write_acted image f cell width at value true found is =
+    ap (λ (r : Reach). write_of f.byte (devices_of image f cell) r value) (sym is) ∙ write_parts f.byte (devices_of image f cell) found value
+write_acted image f cell width at value false found is = refl
+
+-- the bytes after what the act writes itself
+pub bytes-acted : (image : Image) (f : Facts) (cell : ℕ) (act : Act) (found : Reach) → IsReachOfAct image f cell act found
+    → byte_written image f cell act ≡ with_slot_if (slot_after (devices_of image f cell) act found) (memory_after f.byte act found)
+bytes-acted image f cell (Read width at got) found is = refl
+bytes-acted image f cell (Write width at value ok) found is = write_acted image f cell width at value ok found is
+bytes-acted image f cell (Fetch at got) found is = refl
+bytes-acted image f cell (Await width at value ok) found is = refl
+bytes-acted image f cell (Irq device vector) found is = refl
+bytes-acted image f cell (Hvc code a b answer) found is = refl
+bytes-acted image f cell (Begin code a b) found is = refl
+bytes-acted image f cell Stop found is = refl
+bytes-acted image f cell (Decide refused) found is = refl
+bytes-acted image f cell (Settle how) found is = refl
+bytes-acted image f cell Commit found is = refl
+bytes-acted image f cell (Note id) found is = refl
+bytes-acted image f cell (Noted id how) found is = refl
+bytes-acted image f cell (Finish answer) found is = refl
+
+-- ---- devices
+
+devices_written : (image : Image) (f : Facts) (cell width at value : ℕ) (ok : Bool) (found : Reach) → found ≡ reach image f cell ToWrite at width
+    → endpoints_acted image f cell (Write width at value ok) ≡ endpoints_acted_by (devices_of image f cell) (Write width at value ok) found
+devices_written image f cell width at value true found is = ap (λ (r : Reach). endpoints_put (devices_of image f cell) r value) (sym is)
+devices_written image f cell width at value false found is = refl
+
+-- the endpoints after what the act does to them itself
+pub devices-acted : (image : Image) (f : Facts) (cell : ℕ) (act : Act) (found : Reach) → IsReachOfAct image f cell act found → IsNextOf cell f.endpoints act
+    → endpoints_acted image f cell act ≡ endpoints_acted_by (devices_of image f cell) act found
+devices-acted image f cell (Read width at got) found is next = refl
+devices-acted image f cell (Write width at value ok) found is next = devices_written image f cell width at value ok found is
+devices-acted image f cell (Fetch at got) found is next = refl
+devices-acted image f cell (Await width at value ok) found is next = refl
+devices-acted image f cell (Irq device vector) found is next = ap (λ (o : Option (ℕ × ℕ)). taken_of cell o f.endpoints) (sym next)
+devices-acted image f cell (Hvc code a b answer) found is next = refl
+devices-acted image f cell (Begin code a b) found is next = refl
+devices-acted image f cell Stop found is next = refl
+devices-acted image f cell (Decide refused) found is next = refl
+devices-acted image f cell (Settle how) found is next = refl
+devices-acted image f cell Commit found is next = refl
+devices-acted image f cell (Note id) found is next = refl
+devices-acted image f cell (Noted id how) found is next = refl
+devices-acted image f cell (Finish answer) found is next = refl
+
+-- ---- the word that a write writes
+
+word_written : (P : Slot → Type 0) (devices : Devices) (width at value : ℕ) (ok : Bool) (found : Reach) → IfSome (slot_of_reach devices found value) P → IfSome (slot_after devices (Write width at value ok) found) P
+word_written P devices width at value true found h = h
+word_written P devices width at value false found h = tt
+
+-- what each word has that a write writes
+pub word-acted : (P : Slot → Type 0) (devices : Devices) (act : Act) (found : Reach) → ((value : ℕ) → IfSome (slot_of_reach devices found value) P) → IfSome (slot_after devices act found) P
+word-acted P devices (Read width at got) found h = tt
+word-acted P devices (Write width at value ok) found h = word_written P devices width at value ok found (h value)
+word-acted P devices (Fetch at got) found h = tt
+word-acted P devices (Await width at value ok) found h = tt
+word-acted P devices (Irq device vector) found h = tt
+word-acted P devices (Hvc code a b answer) found h = tt
+word-acted P devices (Begin code a b) found h = tt
+word-acted P devices Stop found h = tt
+word-acted P devices (Decide refused) found h = tt
+word-acted P devices (Settle how) found h = tt
+word-acted P devices Commit found h = tt
+word-acted P devices (Note id) found h = tt
+word-acted P devices (Noted id how) found h = tt
+word-acted P devices (Finish answer) found h = tt
+
+-- ---- any other act
+
+-- neither a word of a state table nor an endpoint changes by an act that is neither a write nor an interrupt
+pub other-acts : (devices : Devices) (act : Act) (found : Reach) → ((width at value : ℕ) (ok : Bool) → act ≡ Write width at value ok → ⊥) → ((device vector : ℕ) → act ≡ Irq device vector → ⊥)
+    → (slot_after devices act found ≡ None) × (endpoints_acted_by devices act found ≡ devices.endpoints)
+other-acts devices (Read width at got) found write irq = (refl, refl)
+other-acts devices (Write width at value ok) found write irq = absurd (write width at value ok refl)
+other-acts devices (Fetch at got) found write irq = (refl, refl)
+other-acts devices (Await width at value ok) found write irq = (refl, refl)
+other-acts devices (Irq device vector) found write irq = absurd (irq device vector refl)
+other-acts devices (Hvc code a b answer) found write irq = (refl, refl)
+other-acts devices (Begin code a b) found write irq = (refl, refl)
+other-acts devices Stop found write irq = (refl, refl)
+other-acts devices (Decide refused) found write irq = (refl, refl)
+other-acts devices (Settle how) found write irq = (refl, refl)
+other-acts devices Commit found write irq = (refl, refl)
+other-acts devices (Note id) found write irq = (refl, refl)
+other-acts devices (Noted id how) found write irq = (refl, refl)
+other-acts devices (Finish answer) found write irq = (refl, refl)
+
+-- ---- an entry
+
+-- the bytes after the steps of an entry: what its act writes to memory, a word that it writes to a state table, the words
+-- of the devices that it changes, and what the hypervisor writes
+pub entry-bytes : (image : Image) (f : Facts) (entry : Entry) (found : Reach) (devices : Devices) (write : Option PageWrite) (old acted written changed new : Place → ℕ) → IsReachOfEntry image f entry found
+    → devices ≡ devices_of image f entry.cell → write ≡ page_write_by image f entry entry.act
+    → ((q : Place) → old q ≡ f.byte q)
+    → ((q : Place) → acted q ≡ memory_after old entry.act found q)
+    → ((q : Place) → written q ≡ with_slot_if (slot_after devices entry.act found) acted q)
+    → ((q : Place) → changed q ≡ with_words (specs_changing f entry.act) written q)
+    → ((q : Place) → new q ≡ with_page_write write changed q)
+    → (q : Place) → new q ≡ byte_after image f entry q
+entry-bytes image f entry found devices write old acted written changed new reached same is first second third fourth fifth q =
+    let act = entry.act in
+    let before : old ≡ f.byte = same_function old f.byte first in
+    let memory : acted ≡ memory_after f.byte act found = same_function acted (memory_after old act found) second ∙ ap (λ (byte : Place → ℕ). memory_after byte act found) before in
+    let own : written ≡ byte_written image f entry.cell act =
+    same_function written (with_slot_if (slot_after devices act found) acted) third
+    ∙ ap (λ (d : Devices). with_slot_if (slot_after d act found) acted) same
+    ∙ ap (with_slot_if (slot_after (devices_of image f entry.cell) act found)) memory
+    ∙ sym (bytes-acted image f entry.cell act found reached) in
+    let words : changed ≡ with_words (specs_changing f act) (byte_written image f entry.cell act) =
+    same_function changed (with_words (specs_changing f act) written) fourth ∙ ap (with_words (specs_changing f act)) own in
+    fifth q
+    ∙ ap (λ (w : Option PageWrite). with_page_write w changed q) is
+    ∙ ap (λ (byte : Place → ℕ). with_page_write (page_write_by image f entry act) byte q) words
+
+-- the endpoints after them
+pub entry-devices : (image : Image) (f : Facts) (entry : Entry) (found : Reach) (devices : Devices) (acted new : List Endpoint) → IsReachOfEntry image f entry found → IsNextOf entry.cell f.endpoints entry.act
+    → devices ≡ devices_of image f entry.cell → acted ≡ endpoints_acted_by devices entry.act found → new ≡ endpoints_changed (change_by f.call) (specs_changing f entry.act) acted
+    → new ≡ endpoints_after image f entry
+entry-devices image f entry found devices acted new reached next same first second =
+    second
+    ∙ ap (endpoints_changed (change_by f.call) (specs_changing f entry.act))
+    (first ∙ ap (λ (d : Devices). endpoints_acted_by d entry.act found) same ∙ sym (devices-acted image f entry.cell entry.act found reached next))

@@ -1,0 +1,34 @@
+-- A write that fails and any act but a write and an interrupt changes no device.
+use Rattle.std.proofs.Common.{◌≡◌, ◌∙◌, false, Option, refl, sym, ap}
+use Rattle.jh_ivshmem.specs.declared.spec.Slot.{Slot}
+use Rattle.jh_history.specs.declared.entry.Act.{Act}
+use Rattle.jh_history.specs.declared.entry.Act.TheVariants.{Write}
+use Rattle.jh_history.specs.Access.{with_slot_if}
+use Rattle.jh_board.specs.Pages.{byte_of}
+use Rattle.jh_board.specs.Steps.{devices_held, slot_after}
+use Rattle.jh_board.proofs.ActedLemmas.{other-acts}
+use Rattle.jh_board.proofs.steps.make_devices.Goals as goal
+
+pub returns-then-not-ok-clause-bytes : goal.returns-then-not-ok-clause-bytes
+returns-then-not-ok-clause-bytes c = λ q.
+    let held = c.args.held.now in
+    let entry = c.args.entry.now in
+    let is : entry.act ≡ Write c.in-Write.width c.in-Write.at c.in-Write.value false = c.in-Write.is ∙ ap (Write c.in-Write.width c.in-Write.at c.in-Write.value) c.if-not-ok.true in
+    ap (λ (act : Act). with_slot_if (slot_after (devices_held c.args.image.now held entry.cell) act c.args.reach.now) (byte_of held.memory) q) (sym is)
+
+pub returns-in-Irq-clause-bytes : goal.returns-in-Irq-clause-bytes
+returns-in-Irq-clause-bytes c = λ q.
+    let held = c.args.held.now in
+    let entry = c.args.entry.now in
+    ap (λ (act : Act). with_slot_if (slot_after (devices_held c.args.image.now held entry.cell) act c.args.reach.now) (byte_of held.memory) q) (sym c.in-Irq.is)
+
+pub returns-in_default : goal.returns-in_default
+returns-in_default c =
+    let held = c.args.held.now in
+    let entry = c.args.entry.now in
+    let none = other-acts (devices_held c.args.image.now held entry.cell) entry.act c.args.reach.now c.in_default.not-Write c.in_default.not-Irq in record {
+      bytes = λ q. ap (λ (slot : Option Slot). with_slot_if slot (byte_of held.memory) q) (sym none.0);
+      list = sym none.1;
+      spare = refl;
+      others = record { cpus = refl; cells = refl; call = refl; index = refl; pages = λ q h. h };
+    }

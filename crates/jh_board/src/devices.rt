@@ -1,0 +1,135 @@
+//! What entries do to the devices of a board.
+ghost use Rattle.std.specs.Prelude.{◌≡◌, ◌≤◌, ◌<◌, ◌+◌, ◌^◌, All, IfSome, OnOk, length};
+ghost use Rattle.std.specs.Option.{option_to_list};
+ghost use Rattle.jh_ivshmem.specs.Specs.{IsWithin, slot_of};
+ghost use Rattle.jh_ivshmem.specs.declared.spec.Slot.{Slot as TheSlot};
+ghost use Rattle.jh_history.specs.declared.place.Place.{Place as ThePlace};
+ghost use Rattle.jh_history.specs.declared.device_change.DeviceChange.TheVariants.{Join as Joins};
+ghost use Rattle.jh_history.specs.Access.{with_slot_if};
+ghost use Rattle.jh_history.specs.Devices.{specs_of, specs_at};
+ghost use Rattle.jh_history.specs.Endpoints.{endpoints_changed, with_words, HasGoodDevices, MayJoinThem, MayChange};
+ghost use Rattle.jh_board.specs.Pages.{byte_of, HoldsPlace, HoldsSlot, HoldsWord};
+
+use crate::memory::Memory;
+use jh_cellcfg::CellConfig;
+use jh_history::{DeviceChange, endpoint_of};
+use jh_ivshmem::{EndpointSpec, Endpoints, Slot};
+use jh_num::NoMemory;
+
+/// The endpoint's word of its state table, with the value 0.
+fn word_of(spec: &EndpointSpec) -> Slot
+    requires { IsWithin spec.now }
+    ensures { result ≡ slot_of spec.now 0 }
+{
+    Slot {
+        place: spec.table + 4 * u64::from(spec.id),
+        value: 0,
+    }
+}
+
+/// The endpoint of the cell's device of that number, where it is an ivshmem device.
+fn spec_at(config: &CellConfig, number: usize) -> Option<EndpointSpec>
+    requires number { number < length config.now.pci_devices }
+    requires good { HasGoodDevices config.now }
+    ensures { option_to_list result ≡ specs_at config.now number }
+{
+    endpoint_of(config, number, &config.pci_devices.as_slice()[number])
+}
+
+/// Holds the pages of the word of the device of that number, where it is an ivshmem device.
+fn hold_device(memory: &mut Memory, config: &CellConfig, number: usize) -> Result<(), NoMemory>
+    requires number { number < length config.now.pci_devices }
+    requires good { HasGoodDevices config.now }
+    requires within { All IsWithin (specs_at config.now number) }
+    ensures bytes { (q : ThePlace) → byte_of memory.new q ≡ byte_of memory.old q }
+    ensures held { OnOk result (All (HoldsWord memory.new) (specs_at config.now number)) }
+    ensures others { (q : ThePlace) → HoldsPlace memory.old q → HoldsPlace memory.new q }
+{
+    match spec_at(config, number) {
+        Some(spec) => memory.hold_slot(&word_of(&spec)),
+        None => Ok(()),
+    }
+}
+
+/// Takes all memory that the devices of a cell with the configuration need: room for their endpoints, and the pages of
+/// their words of the state tables. No byte changes, and no endpoint.
+pub fn prepare_devices(
+    memory: &mut Memory,
+    endpoints: &mut Endpoints,
+    config: &CellConfig,
+) -> Result<(), NoMemory>
+    requires good { HasGoodDevices config.now }
+    requires within { All IsWithin (specs_of config.now) }
+    ensures list { endpoints.new.list ≡ endpoints.old.list }
+    ensures room { OnOk result (length (specs_of config.now) ≤ endpoints.new.spare) }
+    ensures spare { endpoints.old.spare ≤ endpoints.new.spare }
+    ensures bytes { (q : ThePlace) → byte_of memory.new q ≡ byte_of memory.old q }
+    ensures held { OnOk result (All (HoldsWord memory.new) (specs_of config.now)) }
+    ensures others { (q : ThePlace) → HoldsPlace memory.old q → HoldsPlace memory.new q }
+{
+    endpoints.reserve(config.pci_devices.len())?;
+    for number in 0..config.pci_devices.len() {
+        hold_device(memory, config, number)?;
+    }
+    Ok(())
+}
+
+/// Makes the change at the device of that number, where it is an ivshmem device, and writes its word of the state table.
+/// It takes no memory.
+fn change_device(
+    memory: &mut Memory,
+    endpoints: &mut Endpoints,
+    change: DeviceChange,
+    config: &CellConfig,
+    number: usize,
+)
+    requires number { number < length config.now.pci_devices }
+    requires good { HasGoodDevices config.now }
+    requires within { All IsWithin (specs_at config.now number) }
+    requires new { change ≡ Joins → All (MayJoinThem endpoints.old.list) (specs_at config.now number) }
+    requires room { change ≡ Joins → length (specs_at config.now number) ≤ endpoints.old.spare }
+    requires held { All (HoldsWord memory.old) (specs_at config.now number) }
+    ensures bytes { (q : ThePlace) → byte_of memory.new q ≡ with_words (specs_at config.now number) (byte_of memory.old) q }
+    ensures list { endpoints.new.list ≡ endpoints_changed change (specs_at config.now number) endpoints.old.list }
+    ensures spare { endpoints.old.spare ≤ endpoints.new.spare + length (specs_at config.now number) }
+    ensures held { (q : ThePlace) → HoldsPlace memory.old q → HoldsPlace memory.new q }
+{
+    let Some(spec) = spec_at(config, number) else {
+        return;
+    };
+    match change.apply(endpoints, spec) {
+        Ok(slot) => memory.write_slot(&slot),
+        Err(_) => unreachable!(),
+    }
+}
+
+/// Makes the change at all devices of the cell, in order, and writes their words of the state tables. It takes no memory.
+pub fn change_devices(
+    memory: &mut Memory,
+    endpoints: &mut Endpoints,
+    change: DeviceChange,
+    config: &CellConfig,
+)
+    requires may { MayChange change endpoints.old.list config.now }
+    requires room { change ≡ Joins → length (specs_of config.now) ≤ endpoints.old.spare }
+    requires held { All (HoldsWord memory.old) (specs_of config.now) }
+    ensures bytes { (q : ThePlace) → byte_of memory.new q ≡ with_words (specs_of config.now) (byte_of memory.old) q }
+    ensures list { endpoints.new.list ≡ endpoints_changed change (specs_of config.now) endpoints.old.list }
+    ensures held { (q : ThePlace) → HoldsPlace memory.old q → HoldsPlace memory.new q }
+{
+    for number in 0..config.pci_devices.len() {
+        change_device(memory, endpoints, change, config, number);
+    }
+}
+
+/// Writes the word of a state table, where there is one to write. It takes no memory.
+pub fn write_slot_if(memory: &mut Memory, slot: Option<Slot>)
+    requires small { IfSome slot (λ (s : TheSlot). s.place + 4 < 2 ^ 64) }
+    requires held { IfSome slot (HoldsSlot memory.old) }
+    ensures bytes { (q : ThePlace) → byte_of memory.new q ≡ with_slot_if slot (byte_of memory.old) q }
+    ensures held { (q : ThePlace) → HoldsPlace memory.old q → HoldsPlace memory.new q }
+{
+    if let Some(slot) = &slot {
+        memory.write_slot(slot);
+    }
+}

@@ -1,0 +1,103 @@
+-- What lets the slow plain program follow an entry: the devices that it changes may be changed.
+use Rattle.std.proofs.Common.{◌≡◌, ℕ, ◌+◌, ◌*◌, ◌^◌, ◌<◌, ◌≤◌, List, [], Option, Some, None, inl, inr, refl, sym, ap, subst, ◌∙◌, arith}
+use Rattle.std.specs.Prelude.{IfSome}
+use Rattle.std.specs.Option.{option_map_or}
+use Rattle.jh_cellcfg.specs.declared.config.CellConfig.{CellConfig}
+use Rattle.jh_cellcfg.specs.declared.live.Live.{Live}
+use Rattle.jh_ivshmem.specs.declared.endpoint.Endpoint.{Endpoint}
+use Rattle.jh_ivshmem.specs.declared.spec.EndpointSpec.{EndpointSpec}
+use Rattle.jh_ivshmem.specs.declared.spec.Slot.{Slot}
+use Rattle.jh_ivshmem.specs.Specs.{slot_of}
+use Rattle.jh_script.specs.declared.image.Image.{Image}
+use Rattle.jh_history.specs.declared.access.Reach.{Reach}
+use Rattle.jh_history.specs.declared.call.OpenCall.{OpenCall}
+use Rattle.jh_history.specs.declared.entry.Entry.{Entry}
+use Rattle.jh_history.specs.declared.entry.Act.{Act}
+use Rattle.jh_history.specs.declared.entry.Act.TheVariants.{Read, Write, Fetch, Await, Irq, Hvc, Begin, Stop, Decide, Settle, Commit, Note, Noted, Finish}
+use Rattle.jh_history.specs.Access.{slot_of_reach}
+use Rattle.jh_history.specs.Devices.{devices_in, specs_of}
+use Rattle.jh_history.specs.DueFacts.{IsWordOf}
+use Rattle.jh_history.specs.Endpoints.{change_by, changing_at, changing_by, specs_changing, IsNextOf, MayChange}
+use Rattle.jh_history.specs.Facts.{Facts}
+use Rattle.jh_history.specs.Grants.{devices_of}
+use Rattle.jh_history.specs.PlainView.{PlainView, Stands, IsSameBut, HasWords, MayCommit, MayFollow}
+use Rattle.jh_history.proofs.PlainStepLemmas.{commit-or}
+
+-- ---- words of state tables
+
+word_ends : (endpoints : List Endpoint) (slot : Slot) → IsWordOf endpoints slot → slot.place + 4 < 2 ^ 64
+word_ends endpoints slot word =
+    let spec : EndpointSpec = word.endpoint.spec in
+    let place : slot.place ≡ spec.table + 4 * spec.id = ap (λ (s : Slot). s.place) word.is in
+    let id = word.within.id in
+    let peers = word.within.peers in
+    let table = word.within.table in
+    omega arith
+
+words_end : (endpoints : List Endpoint) (o : Option Slot) → IfSome o (IsWordOf endpoints) → IfSome o (λ (slot : Slot). slot.place + 4 < 2 ^ 64)
+words_end endpoints None word = tt
+words_end endpoints (Some slot) word = word_ends endpoints slot word
+
+-- ---- the cell whose devices change
+
+-- that of a Commit alone
+other_at : (cells : List Live) (o : OpenCall) (act : Act) → (act ≡ Commit → ⊥) → changing_at cells o act ≡ None
+other_at cells o (Read width at got) other = refl
+other_at cells o (Write width at value ok) other = refl
+other_at cells o (Fetch at got) other = refl
+other_at cells o (Await width at value ok) other = refl
+other_at cells o (Irq device vector) other = refl
+other_at cells o (Hvc code a b answer) other = refl
+other_at cells o (Begin code a b) other = refl
+other_at cells o Stop other = refl
+other_at cells o (Decide refused) other = refl
+other_at cells o (Settle how) other = refl
+other_at cells o Commit other = absurd (other refl)
+other_at cells o (Note id) other = refl
+other_at cells o (Noted id how) other = refl
+other_at cells o (Finish answer) other = refl
+
+changing-other : (cells : List Live) (call : Option OpenCall) (act : Act) → (act ≡ Commit → ⊥) → changing_by cells call act ≡ None
+changing-other cells None act other = refl
+changing-other cells (Some o) act other = other_at cells o act other
+
+-- after what the act writes itself they may be changed as before
+may_by : (old new : PlainView) (act : Act) → MayCommit old act → IsSameBut old new → new.endpoints ≡ old.endpoints → MayCommit new act
+may_by old new act may same endpoints =
+    subst (λ (es : List Endpoint). IfSome (changing_by new.cells new.call act) (MayChange (change_by new.call) es)) (sym endpoints)
+    (subst (λ (call : Option OpenCall). IfSome (changing_by new.cells call act) (MayChange (change_by call) old.endpoints)) (sym same.call)
+    (subst (λ (cells : List Live). IfSome (changing_by cells old.call act) (MayChange (change_by old.call) old.endpoints)) (sym same.cells) may))
+
+pub may-commit : (old new : PlainView) (act : Act) → MayCommit old act → IsSameBut old new → (act ≡ Commit → new.endpoints ≡ old.endpoints) → MayCommit new act
+may-commit old new act may same endpoints = elim (commit-or act) [
+  | inl commit ↦ may_by old new act may same (endpoints commit)
+  | inr other ↦ subst (λ (o : Option CellConfig). IfSome o (MayChange (change_by new.call) new.endpoints)) (sym (changing-other new.cells new.call act other)) tt
+]
+
+-- the endpoints of its devices
+pub specs-changing : (f : Facts) (cells : List Live) (call : Option OpenCall) (act : Act) (o : Option CellConfig) → f.cells ≡ cells → f.call ≡ call → changing_by cells call act ≡ o
+    → option_map_or specs_of o [] ≡ specs_changing f act
+specs-changing f cells call act o alive opened is =
+    ap (λ (k : Option CellConfig). option_map_or specs_of k []) (sym is)
+    ∙ ap (λ (lives : List Live). option_map_or specs_of (changing_by lives call act) []) (sym alive)
+    ∙ ap (λ (k : Option OpenCall). option_map_or specs_of (changing_by f.cells k act) []) (sym opened)
+
+-- ---- an entry
+
+-- what holds of sound facts lets the entry be followed
+pub may-follow : (i : Image) (f : Facts) (plain : PlainView) (entry : Entry) → Stands plain i f
+    → ((id value : ℕ) (found : Reach) → IfSome (slot_of_reach (devices_of i f id) found value) (IsWordOf f.endpoints))
+    → IfSome (changing_by f.cells f.call entry.act) (MayChange (change_by f.call) f.endpoints)
+    → IsNextOf entry.cell f.endpoints entry.act → MayFollow plain entry
+may-follow i f plain entry stands words commit next = record {
+  words = λ id value found.
+      subst (λ (x : Image). IfSome (slot_of_reach (devices_in x plain.cells plain.endpoints id) found value) (λ (slot : Slot). slot.place + 4 < 2 ^ 64)) stands.same
+      (subst (λ (cells : List Live). IfSome (slot_of_reach (devices_in i cells plain.endpoints id) found value) (λ (slot : Slot). slot.place + 4 < 2 ^ 64)) stands.cells
+      (subst (λ (es : List Endpoint). IfSome (slot_of_reach (devices_in i f.cells es id) found value) (λ (slot : Slot). slot.place + 4 < 2 ^ 64)) stands.endpoints
+      (words_end f.endpoints (slot_of_reach (devices_of i f id) found value) (words id value found))));
+  commit =
+      subst (λ (es : List Endpoint). IfSome (changing_by plain.cells plain.call entry.act) (MayChange (change_by plain.call) es)) stands.endpoints
+      (subst (λ (call : Option OpenCall). IfSome (changing_by plain.cells call entry.act) (MayChange (change_by call) f.endpoints)) stands.call
+      (subst (λ (cells : List Live). IfSome (changing_by cells f.call entry.act) (MayChange (change_by f.call) f.endpoints)) stands.cells commit));
+  next = subst (λ (es : List Endpoint). IsNextOf entry.cell es entry.act) stands.endpoints next;
+}

@@ -1,0 +1,47 @@
+//! Pending vectors of devices, and interrupts.
+ghost use Rattle.std.specs.Prelude.{◌≡◌, ◌≢◌, ◌↔◌, ◌⊎◌, ℕ, [], true, Some, IsSome, Contains};
+ghost use Rattle.jh_cpu.specs.declared.cpu.Mode.TheVariants.{Running as Runs};
+ghost use Rattle.jh_ivshmem.specs.declared.endpoint.Endpoint.{Endpoint as TheEndpoint};
+ghost use Rattle.jh_ivshmem.specs.Links.{endpoint_at};
+ghost use Rattle.jh_script.specs.declared.image.Image.{Image as TheImage};
+ghost use Rattle.jh_history.specs.History.{facts};
+ghost use Rattle.jh_script.specs.declared.op.Op.TheVariants.{Irq as IrqOp};
+ghost use Rattle.jh_history.specs.declared.call.OpenCall.{OpenCall};
+ghost use Rattle.jh_history.specs.declared.entry.Act.TheVariants.{Irq};
+ghost use Rattle.jh_history.specs.Due.{due};
+ghost use Rattle.jh_history.specs.Lives.{is_on_board, op_at};
+ghost use Rattle.jh_history.specs.Sound.{IsCalm};
+ghost use Rattle.jh_laws.specs.Moments.{AdmittedJournal, AdmittedMoment, call_of, facts_of, facts_before, facts_behind};
+ghost use Rattle.jh_laws.specs.Vectors.{IsPendingIn, IsNext, Raises, Drops, Clears, IsKeptByOthers};
+
+/// A CPU of the board that goes on with its program, and is at the wait for an interrupt, has an entry due exactly
+/// where a vector of a device of its cell is pending. The entry takes the next: the lowest vector of the lowest device
+/// that has one pending.
+pub fn interrupts_are_due_where_a_vector_is_pending()
+    ensures due { (j : AdmittedJournal) (cpu : ℕ) → is_on_board j.image cpu ≡ true →
+        ((o : OpenCall) → call_of j ≡ Some o → o.caller ≢ cpu) → ((facts_of j).cpu cpu).mode ≡ Runs →
+        IsCalm ((facts_of j).cpu cpu) → op_at j.image (facts_of j) ((facts_of j).cpu cpu) cpu ≡ Some IrqOp →
+        IsSome (due j.image j.entries cpu) ↔ ((n : ℕ) × (v : ℕ) × IsPendingIn (facts_of j) ((facts_of j).cpu cpu).owner n v) }
+    ensures next { (m : AdmittedMoment) (n v : ℕ) → m.entry.act ≡ Irq n v →
+        IsNext (facts_before m) m.entry.cell n v }
+{}
+
+/// At opening no vector is pending. Behind an entry a vector is pending exactly where the entry raises it, while it is
+/// open, or where it was pending before and the entry doesn't drop it: so it stays pending from its raise until it is
+/// taken, or its device is reset or leaves.
+pub fn vectors_are_pending_from_raise_to_drop()
+    ensures opening { (image : TheImage) (id n v : ℕ) → IsPendingIn (facts image []) id n v → ⊥ }
+    ensures entries { (m : AdmittedMoment) (id n v : ℕ) → IsPendingIn (facts_behind m) id n v ↔
+        (Raises m.image (facts_before m) m.entry id n v ⊎
+        (IsPendingIn (facts_before m) id n v × (Drops (facts_before m) m.entry id n v → ⊥))) }
+{}
+
+/// What an entry of one cell does to the endpoint of another: it is as it was, but for vectors that the entry raises, and
+/// for interrupt control, which a raise in one-shot mode turns off. Its configuration space, its state, and the words and
+/// masks of its vectors are its own cell's. Only where the entry starts or destroys the endpoint's cell is it otherwise.
+pub fn devices_of_other_cells_stay()
+    ensures { (m : AdmittedMoment) (e : TheEndpoint) → Contains (facts_before m).endpoints e →
+        m.entry.cell ≢ e.spec.cell → (Clears (facts_before m) m.entry e.spec.cell → ⊥) →
+        (behind : TheEndpoint) × (endpoint_at e.spec.cell e.spec.device (facts_behind m).endpoints ≡ Some behind) ×
+        IsKeptByOthers m.image (facts_before m) m.entry e behind }
+{}
