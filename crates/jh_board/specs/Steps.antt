@@ -17,7 +17,7 @@ use Rattle.jh_history.specs.declared.access.Reach.TheVariants.{Memory, Subpage, 
 use Rattle.jh_history.specs.declared.call.OpenCall.{OpenCall}
 use Rattle.jh_history.specs.declared.entry.Entry.{Entry}
 use Rattle.jh_history.specs.declared.entry.Act.{Act}
-use Rattle.jh_history.specs.declared.entry.Act.TheVariants.{Write, Irq, Decide, Commit}
+use Rattle.jh_history.specs.declared.entry.Act.TheVariants.{Write, Irq, Begin, Decide, Commit}
 use Rattle.jh_history.specs.declared.device_change.DeviceChange.TheVariants.{Join}
 use Rattle.jh_history.specs.declared.place.Place.{Place}
 use Rattle.jh_history.specs.Admitted.{IsAdmitted}
@@ -156,6 +156,11 @@ pub record IsNext (image : Image) (held : Held) (entry : Entry) : Type 0 where
   pub means : Means image held facts
   pub sound : IsSound image facts
   pub due : due_at image facts entry.cpu ≡ Some entry
+
+-- the act begins a management call
+abbrev pub begins : Act → Bool
+begins (Begin code a b) = true
+begins act = false
 
 -- with this configuration as the one that a create reads, the open call goes on by the entry as it has to
 abbrev pub IsRead : Image → Facts → Entry → Option CellConfig → Type 0

@@ -11,7 +11,7 @@ ghost use Rattle.jh_history.specs.declared.place.Place.{Place as ThePlace};
 ghost use Rattle.jh_board.specs.Pages.{byte_of};
 ghost use Rattle.jh_board.specs.Maps.{all_cells, IsMapOrNone};
 ghost use Rattle.jh_board.specs.Means.{Means};
-ghost use Rattle.jh_board.specs.Turns.{Turns, Refuses, Advances};
+ghost use Rattle.jh_board.specs.Turns.{Turns, Refuses, MakesDue, Advances};
 
 use crate::cells::LiveCells;
 use crate::devices::{change_devices, prepare_devices};
@@ -223,13 +223,11 @@ impl Board {
         self.image.pool_pages()
     }
 
-    /// One turn of the CPU, which makes the entry that is due to it. `Full` is tested before the
-    /// journal's quietness, and no descriptor is read.
-    pub fn turn(&mut self, cpu: u8, steps: &mut Steps) -> Result<Turn, TurnFault>
+    /// Makes the entry that is due to the CPU, if one is. No other CPU is asked.
+    pub fn make_due(&mut self, cpu: u8) -> Result<Option<Entry>, TurnFault>
         requires { IsTrue (is_on_board self.old.image cpu) }
-        ensures ok { IfOk result (λ turn. Turns self.old cpu turn self.new) }
+        ensures ok { IfOk result (λ made. MakesDue self.old cpu made self.new) }
         ensures err { IfErr result (λ fault. Refuses self.old cpu fault self.new) }
-        ensures steps { steps.new ≡ steps.old }
     {
         self.image.has_few_cpus();
         let made = advance(
@@ -239,11 +237,22 @@ impl Board {
             self.limit,
             cpu,
         )?;
-        match made {
-            Some(entry) => {
-                self.last = entry.cpu;
-                Ok(Turn::Made(entry))
-            }
+        if let Some(entry) = made {
+            self.last = entry.cpu;
+        }
+        Ok(made)
+    }
+
+    /// One turn of the CPU, which makes the entry that is due to it. `Full` is tested before the
+    /// journal's quietness, and no descriptor is read.
+    pub fn turn(&mut self, cpu: u8, steps: &mut Steps) -> Result<Turn, TurnFault>
+        requires { IsTrue (is_on_board self.old.image cpu) }
+        ensures ok { IfOk result (λ turn. Turns self.old cpu turn self.new) }
+        ensures err { IfErr result (λ fault. Refuses self.old cpu fault self.new) }
+        ensures steps { steps.new ≡ steps.old }
+    {
+        match self.make_due(cpu)? {
+            Some(entry) => Ok(Turn::Made(entry)),
             None => Ok(if self.is_quiet() {
                 Turn::Done
             } else {

@@ -1,7 +1,7 @@
 //! Bytes of communication pages; a page that isn't held is zero.
-ghost use Rattle.std.specs.Prelude.{◌≡◌, ◌≢◌, ℕ, ◌<◌, ◌≤◌, OnOk};
+ghost use Rattle.std.specs.Prelude.{◌≡◌, ◌≢◌, ℕ, ◌+◌, ◌^◌, ◌<◌, ◌≤◌, ◌++◌, OnOk};
 ghost use Rattle.jh_history.specs.Pages.{page_after};
-ghost use Rattle.jh_board.specs.Pages.{comm_byte, HoldsComm};
+ghost use Rattle.jh_board.specs.Pages.{bytes_from, comm_byte, HoldsComm};
 
 use crate::page::Page;
 use indexmap::IndexMap;
@@ -45,6 +45,23 @@ impl CommPages {
             Some(page) => page.byte(offset),
             None => 0,
         }
+    }
+
+    /// Puts so many bytes of the cell's page, from the offset on, behind those of the buffer.
+    pub fn append(
+        &self,
+        bytes: &mut Vec<u8>,
+        cell: u32,
+        offset: u64,
+        count: usize,
+    ) -> Result<(), NoMemory>
+        requires { offset + count < 2 ^ 64 }
+        ensures { OnOk result (bytes.new.items ≡ bytes.old.items ++ bytes_from (comm_byte self.now cell) offset count) }
+    {
+        for k in 0..count {
+            bytes.push(self.read(cell, offset + k as u64))?;
+        }
+        Ok(())
     }
 
     /// Holds the page of the cell. No byte changes.

@@ -1,23 +1,26 @@
 //! What live cells are granted.
-ghost use Rattle.std.specs.Prelude.{◌≡◌, ◌<◌, ◌≤◌, ℕ, Bool, List, IfSome, IsTrue, find};
+ghost use Rattle.std.specs.Prelude.{◌≡◌, ◌+◌, ◌%◌, ◌^◌, ◌<◌, ◌≤◌, ℕ, Bool, List, IfSome, IsTrue, find, option_map};
+ghost use Rattle.jh_num.specs.declared.address.TheConstants.{ADDRESS_END};
 ghost use Rattle.std.specs.List.{list_any};
 ghost use Rattle.jh_script.specs.declared.image.Image.{Image as TheImage};
 ghost use Rattle.jh_cellcfg.specs.declared.region.Region.{Region as TheRegion};
 ghost use Rattle.jh_cellcfg.specs.Regions.{has_address, IsInRange};
 ghost use Rattle.jh_mmio.specs.Dispatch.{takes_all, unless_closed};
+ghost use Rattle.jh_history.specs.declared.place.Place.{Place as ThePlace};
 ghost use Rattle.jh_history.specs.declared.place.Place.TheVariants.{Physical};
-ghost use Rattle.jh_history.specs.Access.{memory_or_nothing, reach_by};
+ghost use Rattle.jh_history.specs.declared.access.Access.TheVariants.{Read};
+ghost use Rattle.jh_history.specs.Access.{memory_or_nothing, places_from, reach_by};
 ghost use Rattle.jh_history.specs.Grants.{granted_in, is_kept as is_kept_lem, behind_in, reach_in};
 ghost use Rattle.jh_history.specs.Devices.{list_in};
 ghost use Rattle.jh_history.specs.Lives.{regions_in};
-ghost use Rattle.jh_history.specs.Places.{places_of_run, IsRun};
+ghost use Rattle.jh_history.specs.Places.{number_of, places_in_row, places_of_run, IsRun};
 
 use crate::cells::LiveCells;
 use crate::indexed::{IndexedImage, giving};
 use jh_cellcfg::{PciDevice, Region};
 use jh_history::{
     Access, Devices, Grants, Place, Places, Reach, Run, Wanted, answer_of, ecam_of, is_within,
-    places_in,
+    places_in, row_of,
 };
 use jh_ivshmem::Endpoints;
 use jh_num::Range;
@@ -52,18 +55,26 @@ impl<'a> Grants for Granted<'a> {
     }
 }
 
+/// Whether root is kept from one of so many places in a row.
+fn keeps_row(cells: &LiveCells, first: Place, count: u16) -> bool
+    requires { number_of first + count < 2 ^ 64 }
+    ensures { (i : TheImage) → result ≡ list_any (is_kept_lem i cells.now.lives i.system.root.id) (places_in_row first count) }
+{
+    match first {
+        Place::Physical(start) => cells.closes(Range {
+            start,
+            end: start + u64::from(count),
+        }),
+        Place::Page { .. } => false,
+    }
+}
+
 /// Whether root is kept from a place of the run.
 fn keeps_run(cells: &LiveCells, run: Run) -> bool
     requires { IsRun run }
     ensures { (i : TheImage) → result ≡ list_any (is_kept_lem i cells.now.lives i.system.root.id) (places_of_run run) }
 {
-    match run.first {
-        Place::Physical(start) => cells.closes(Range {
-            start,
-            end: start + u64::from(run.count),
-        }),
-        Place::Page { .. } => false,
-    }
+    keeps_row(cells, run.first, u16::from(run.count))
 }
 
 /// Whether the cell is kept from one of the places: it is root, and another cell takes the place.
@@ -89,6 +100,27 @@ pub fn memory(image: &IndexedImage, cells: &LiveCells, cell: u32, wanted: &Wante
                 None
             } else {
                 Some(places)
+            }
+        }
+        None => None,
+    }
+}
+
+/// The place of the first of so many bytes of one page that root reads, where these cells live besides it, and where it
+/// may read them all: the places of the others follow it.
+pub fn row_of_root(image: &IndexedImage, cells: &LiveCells, at: u64, count: u16) -> Option<Place>
+    requires some { 1 ≤ count }
+    requires page { at % 4096 + count ≤ 4096 }
+    ensures places { option_map (λ (first : ThePlace). places_in_row first count) result ≡ places_from (granted_in image.now cells.now.lives image.now.system.root.id Read) at count }
+    ensures small { IfSome result (λ first. number_of first < ADDRESS_END) }
+{
+    let granted = Granted { image, cells };
+    match row_of(&granted, image.root(), Access::Read, at, count) {
+        Some(first) => {
+            if keeps_row(cells, first, count) {
+                None
+            } else {
+                Some(first)
             }
         }
         None => None,

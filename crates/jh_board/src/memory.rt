@@ -4,7 +4,7 @@ ghost use Rattle.jh_num.specs.Memory.{spelled, stored};
 ghost use Rattle.jh_history.specs.declared.place.Place.{Place as ThePlace};
 ghost use Rattle.jh_history.specs.Access.{with_slot};
 ghost use Rattle.jh_history.specs.Pages.{with_page};
-ghost use Rattle.jh_history.specs.Places.{places_in_row, places_of_run, IsRun, with_byte, written, over};
+ghost use Rattle.jh_history.specs.Places.{number_of, places_in_row, places_of_run, IsRun, with_byte, written, over};
 ghost use Rattle.jh_board.specs.Pages.{byte_at, byte_of, HoldsComm, HoldsPlace, HoldsSlot, MayHold};
 
 use crate::comm_pages::CommPages;
@@ -69,6 +69,18 @@ impl Memory {
         match piece_of(places) {
             Some(piece) => self.physical.value(piece),
             None => value_of(self, places),
+        }
+    }
+
+    /// Puts the bytes at so many places in a row behind those of the buffer.
+    pub fn append(&self, bytes: &mut Vec<u8>, first: Place, count: u16) -> Result<(), NoMemory>
+        requires { number_of first + count < 2 ^ 64 }
+        ensures { OnOk result (bytes.new.items ≡ bytes.old.items ++ map (byte_of self.now) (places_in_row first count)) }
+    {
+        let count = usize::from(count);
+        match first {
+            Place::Physical(at) => self.physical.append(bytes, at, count),
+            Place::Page { cell, offset } => self.comms.append(bytes, cell, offset, count),
         }
     }
 

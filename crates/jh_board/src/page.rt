@@ -1,5 +1,5 @@
 //! A page of 4,096 bytes.
-ghost use Rattle.std.specs.Prelude.{◌≡◌, ◌≢◌, ℕ, ◌+◌, ◌<◌, ◌≤◌, ◌^◌, length, slice_index, IfOk};
+ghost use Rattle.std.specs.Prelude.{◌≡◌, ◌≢◌, ℕ, ◌+◌, ◌<◌, ◌≤◌, ◌^◌, ◌++◌, length, slice_index, IfOk, OnOk};
 ghost use Rattle.jh_num.specs.Memory.{spelled, stored};
 ghost use Rattle.jh_history.specs.Pages.{page_after};
 ghost use Rattle.jh_board.specs.Pages.{bytes_from};
@@ -70,6 +70,15 @@ impl Page {
             value = value * 256 + u64::from(self.get(offset + k));
         }
         value
+    }
+
+    /// Puts so many of its bytes, from the offset on, behind those of the buffer.
+    pub fn append(&self, bytes: &mut Vec<u8>, offset: usize, count: usize) -> Result<(), NoMemory>
+        requires { offset + count ≤ 4096 }
+        ensures { OnOk result (bytes.new.items ≡ bytes.old.items ++ bytes_from (slice_index self.now) offset count) }
+    {
+        bytes.extend_from_slice(&self.bytes[offset..offset + count])?;
+        Ok(())
     }
 
     pub fn set(&mut self, offset: usize, byte: u8)

@@ -1,5 +1,5 @@
 //! Bytes of physical memory; a page that isn't held is zero.
-ghost use Rattle.std.specs.Prelude.{◌≡◌, ◌≢◌, ℕ, ◌+◌, ◌%◌, ◌<◌, ◌≤◌, ◌^◌, OnOk, OnErr, length};
+ghost use Rattle.std.specs.Prelude.{◌≡◌, ◌≢◌, ℕ, ◌+◌, ◌%◌, ◌<◌, ◌≤◌, ◌^◌, ◌++◌, OnOk, OnErr, length};
 ghost use Rattle.jh_num.specs.Memory.{spelled, stored};
 ghost use Rattle.jh_board.specs.Pages.{byte_at, bytes_from, Holds};
 
@@ -29,6 +29,16 @@ impl Model for Physical {
 pub struct Piece {
     pub at: u64,
     pub count: usize,
+}
+
+/// Puts so many zeros behind the bytes of the buffer.
+fn append_zeros(bytes: &mut Vec<u8>, count: usize) -> Result<(), NoMemory>
+    ensures { OnOk result ((offset : ℕ) → bytes.new.items ≡ bytes.old.items ++ bytes_from (λ k. 0) offset count) }
+{
+    for _ in 0..count {
+        bytes.push(0)?;
+    }
+    Ok(())
 }
 
 impl Physical {
@@ -62,6 +72,33 @@ impl Physical {
             Some(page) => page.value((piece.at % 4096) as usize, piece.count),
             None => 0,
         }
+    }
+
+    /// Puts so many bytes of one page, from the address on, behind those of the buffer.
+    fn append_piece(&self, bytes: &mut Vec<u8>, at: u64, count: usize) -> Result<(), NoMemory>
+        requires { at % 4096 + count ≤ 4096 }
+        ensures { OnOk result (bytes.new.items ≡ bytes.old.items ++ bytes_from (byte_at self.now) at count) }
+    {
+        match self.pages.get(&(at / 4096)) {
+            Some(page) => page.append(bytes, (at % 4096) as usize, count),
+            None => append_zeros(bytes, count),
+        }
+    }
+
+    /// Puts so many bytes, from the address on, behind those of the buffer.
+    pub fn append(&self, bytes: &mut Vec<u8>, at: u64, count: usize) -> Result<(), NoMemory>
+        requires { at + count < 2 ^ 64 }
+        ensures { OnOk result (bytes.new.items ≡ bytes.old.items ++ bytes_from (byte_at self.now) at count) }
+    {
+        let mut done = 0;
+        while done < count {
+            let from = at + done as u64;
+            let room = 4096 - (from % 4096) as usize;
+            let here = room.min(count - done);
+            self.append_piece(bytes, from, here)?;
+            done += here;
+        }
+        Ok(())
     }
 
     /// Puts the bytes, all into the page of the first.

@@ -9,15 +9,16 @@ ghost use Rattle.jh_board.specs.Means.{Means};
 ghost use Rattle.jh_board.specs.Found.{IsFound};
 ghost use Rattle.jh_board.specs.declared.state.NextStep.{NextStep as TheStep};
 
-use crate::granted::{memory, reach};
+use crate::granted::{reach, row_of_root};
 use crate::held::Held;
 use crate::indexed::IndexedImage;
 use jh_call::Call;
 use jh_cellcfg::CellConfig;
 use jh_cpu::Cpu;
 use jh_history::{
-    Access, Creation, Entry, Known, OpenCall, Phase, Places, Reach, RootBytes, Wanted,
-    is_any_locked, is_any_other_locked, is_due, judged, next_of, none_due, reach_of, read_config,
+    Creation, Entry, Known, OpenCall, Phase, Places, Reach, RootBytes, Wanted, is_any_locked,
+    is_any_other_locked, is_due, judged, next_of, none_due, reach_of, read_config,
+    rows_are_read_byte_by_byte,
 };
 use jh_ivshmem::Endpoints;
 use jh_num::NoMemory;
@@ -95,15 +96,15 @@ impl<'a> RootBytes for State<'a> {
 
     ghost readable = { λ s at. memory_read (byte_of s.held.memory) (reach_by (granted_in s.image s.held.cells.lives s.image.system.root.id Read) at 1) };
 
-    fn read(&self, at: u64) -> Option<u8> {
-        let wanted = Wanted {
-            access: Access::Read,
-            at,
-            width: 1,
-        };
-        match memory(self.image, &self.held.cells, self.image.root(), &wanted) {
-            Some(places) => Some(self.held.memory.value(&places) as u8),
-            None => None,
+    fn append(&self, bytes: &mut Vec<u8>, at: u64, count: u16) -> Result<bool, NoMemory> {
+        self.image.has_few_cpus();
+        rows_are_read_byte_by_byte();
+        match row_of_root(self.image, &self.held.cells, at, count) {
+            Some(first) => {
+                self.held.memory.append(bytes, first, count)?;
+                Ok(true)
+            }
+            None => Ok(false),
         }
     }
 

@@ -20,7 +20,7 @@ ghost use Rattle.jh_history.specs.Wants.{IsReachOfEntry};
 ghost use Rattle.jh_board.specs.Pages.{byte_of, HoldsComm, HoldsPlace};
 ghost use Rattle.jh_board.specs.Found.{IsFound};
 ghost use Rattle.jh_board.specs.Means.{Means, IsReady, IsReadyFor};
-ghost use Rattle.jh_board.specs.Steps.{goes_on as goes_on_lem, create_of as create_of_lem, change_of_call as change_of_call_lem, change_of_cells as change_of_cells_lem, changed_cells, IsNext, IsRead, IsFree, WillBeReady, IsPrepared, MayWrite, MayWriteOf, MayWriteSlot, MayCommit, MayJoin, IsSameButDevices, joined_cells, devices_held, memory_written, memory_after, slot_after, endpoints_acted_by};
+ghost use Rattle.jh_board.specs.Steps.{begins, goes_on as goes_on_lem, create_of as create_of_lem, change_of_call as change_of_call_lem, change_of_cells as change_of_cells_lem, changed_cells, IsNext, IsRead, IsFree, WillBeReady, IsPrepared, MayWrite, MayWriteOf, MayWriteSlot, MayCommit, MayJoin, IsSameButDevices, joined_cells, devices_held, memory_written, memory_after, slot_after, endpoints_acted_by};
 
 use crate::cells::LiveCells;
 use crate::devices::{change_devices, prepare_devices, write_slot_if};
@@ -281,7 +281,14 @@ fn make_page(memory: &mut Memory, write: Option<PageWrite>)
     }
 }
 
-/// The open call after the entry, and the live cells.
+/// Whether the act begins a management call.
+fn begins_call(act: &Act) -> bool
+    ensures { result ≡ begins act.now }
+{
+    matches!(act, Act::Begin { .. })
+}
+
+/// The open call after the entry, and the live cells. Where no call is open most entries change neither.
 fn make_call(held: &mut Held, entry: &Entry, coming: Option<CellConfig>)
     requires { IfSome (created_by held.old.call entry.now.act) (MayJoin held.old.cells held.old.index) }
     ensures memory { held.new.memory ≡ held.old.memory }
@@ -293,6 +300,9 @@ fn make_call(held: &mut Held, entry: &Entry, coming: Option<CellConfig>)
     ensures call { held.new.call ≡ call_by held.old.cells.lives coming held.old.call entry.now entry.now.act }
     ensures ready { IsReady held.old held.new.call → IsReady held.new held.new.call }
 {
+    if held.call.is_none() && !begins_call(&entry.act) {
+        return;
+    }
     let change = change_of_cells(held.call.as_ref(), &entry.act);
     let begun = held.call.take();
     let Called { call, created } = call_after(held.cells.list(), coming, begun, entry);

@@ -1,5 +1,5 @@
 -- Reading a configuration byte by byte.
-use Rattle.std.proofs.Common.{◌≡◌, ℕ, zero, suc, ◌+◌, ◌*◌, ◌<◌, ◌≤◌, List, [], ◌∷◌, ◌++◌, Bool, true, false, leb, ltb, Option, Some, None, map, length, refl, sym, ap, subst, ◌∙◌, inl, inr, arith}
+use Rattle.std.proofs.Common.{◌≡◌, ℕ, zero, suc, ◌+◌, ◌-◌, ◌*◌, ◌<◌, ◌≤◌, List, [], ◌∷◌, ◌++◌, Bool, true, false, leb, ltb, Option, Some, None, map, length, refl, sym, ap, subst, ◌∙◌, inl, inr, arith}
 use Rattle.std.specs.Prelude.{option_map, option_and_then, All, IsTrue}
 use Rattle.jh_num.specs.declared.address.TheConstants.{ADDRESS_END}
 use Rattle.jh_cellcfg.specs.Faults.{header_fault, header_size}
@@ -18,6 +18,7 @@ use Rattle.std.proofs.lemmas.Bool.{cases_lt, and_parts, ltb-true, both_ways}
 use Rattle.jh_history.specs.declared.access.Reach.{Reach}
 use Rattle.jh_history.specs.declared.access.Reach.TheVariants.{Memory, Nothing}
 use Rattle.std.proofs.lemmas.Option.{none-some, same_Some}
+use Rattle.std.proofs.lemmas.List.{append-nil, append_assoc}
 use Rattle.jh_num.proofs.Lists.{IsFound-from_find}
 use Rattle.jh_history.proofs.AccessLemmas.{reach_by-within, reach_by-beyond}
 use Rattle.jh_history.proofs.GrantLemmas.{region_of-has, has-some}
@@ -68,6 +69,70 @@ bytes_by-missing byte at (suc k) (suc n) lt none =
     let rest : bytes_by byte (at + 1) n ≡ None = bytes_by-missing byte (at + 1) k n (omega arith) ((let e : (at + 1) + k ≡ at + suc k = omega arith in ap byte e) ∙ none) in
     ap (λ (o : Bytes). option_and_then (λ (b : ℕ). option_map (λ (bs : List ℕ). b ∷ bs) o) (byte at)) rest ∙ lacks (byte at)
 
+-- one row behind another
+abbrev pub joined : Bytes → Bytes → Bytes
+joined low high = option_and_then (λ (bs : List ℕ). option_map (λ (cs : List ℕ). bs ++ cs) high) low
+
+join_first : (first : Option ℕ) (low high : Bytes)
+    → option_and_then (λ (b : ℕ). option_map (λ (bs : List ℕ). b ∷ bs) (joined low high)) first ≡ joined (option_and_then (λ (b : ℕ). option_map (λ (bs : List ℕ). b ∷ bs) low) first) high
+join_first None low high = refl
+join_first (Some b) None high = refl
+join_first (Some b) (Some bs) None = refl
+join_first (Some b) (Some bs) (Some cs) = refl
+
+join_none : (high : Bytes) → high ≡ joined (Some []) high
+join_none None = refl
+join_none (Some cs) = refl
+
+pub bytes_by-joined : (byte : ℕ → Option ℕ) (at k n : ℕ) → bytes_by byte at (k + n) ≡ joined (bytes_by byte at k) (bytes_by byte (at + k) n)
+bytes_by-joined byte at zero n =
+    (let e : 0 + n ≡ n = omega arith in ap (bytes_by byte at) e)
+    ∙ (let e : at ≡ at + 0 = omega arith in ap (λ (a : ℕ). bytes_by byte a n) e)
+    ∙ join_none (bytes_by byte (at + 0) n)
+bytes_by-joined byte at (suc k) n =
+    (let e : suc k + n ≡ suc (k + n) = omega arith in ap (bytes_by byte at) e)
+    ∙ ap (λ (o : Bytes). option_and_then (λ (b : ℕ). option_map (λ (bs : List ℕ). b ∷ bs) o) (byte at)) (bytes_by-joined byte (at + 1) k n)
+    ∙ join_first (byte at) (bytes_by byte (at + 1) k) (bytes_by byte ((at + 1) + k) n)
+    ∙ (let e : (at + 1) + k ≡ at + suc k = omega arith in ap (λ (a : ℕ). joined (bytes_by byte at (suc k)) (bytes_by byte a n)) e)
+
+join_lacking : (low : Bytes) → joined low None ≡ None
+join_lacking None = refl
+join_lacking (Some bs) = refl
+
+-- where a row may not be read
+pub bytes_by-lacking : (byte : ℕ → Option ℕ) (at k n whole : ℕ) → k + n ≤ whole → bytes_by byte (at + k) n ≡ None → bytes_by byte at whole ≡ None
+bytes_by-lacking byte at k n whole within none =
+    let rest : ℕ = whole - (k + n) in
+    let low : bytes_by byte at (k + n) ≡ None = bytes_by-joined byte at k n ∙ ap (joined (bytes_by byte at k)) none ∙ join_lacking (bytes_by byte at k) in
+    (let e : whole ≡ (k + n) + rest = omega arith in ap (bytes_by byte at) e)
+    ∙ bytes_by-joined byte at (k + n) rest
+    ∙ ap (λ (o : Bytes). joined o (bytes_by byte (at + (k + n)) rest)) low
+
+-- one byte more behind a row that is put behind others
+grown : (old items : List ℕ) (b : ℕ) (low : Bytes) → option_map (λ (row : List ℕ). old ++ row) low ≡ Some items → option_map (λ (row : List ℕ). old ++ row) (with_last low (Some b)) ≡ Some (items ++ b ∷ [])
+grown old items b None e = absurd (none-some items e)
+grown old items b (Some row) e = ap Some (sym (append_assoc old row (b ∷ [])) ∙ ap (λ (xs : List ℕ). xs ++ b ∷ []) (same_Some (old ++ row) items e))
+
+pub bytes_by-grown : (byte : ℕ → Option ℕ) (at k b : ℕ) (old items : List ℕ) → option_map (λ (row : List ℕ). old ++ row) (bytes_by byte at k) ≡ Some items → byte (at + k) ≡ Some b
+    → option_map (λ (row : List ℕ). old ++ row) (bytes_by byte at (k + 1)) ≡ Some (items ++ b ∷ [])
+bytes_by-grown byte at k b old items low last =
+    ap (option_map (λ (row : List ℕ). old ++ row)) ((let e : k + 1 ≡ suc k = omega arith in ap (bytes_by byte at) e) ∙ bytes_by-last byte at k ∙ ap (with_last (bytes_by byte at k)) last)
+    ∙ grown old items b (bytes_by byte at k) low
+
+-- a row put behind others: as it begins, where it is whole, and where it lacks a byte
+pub row-begins : (old : List ℕ) → option_map (λ (row : List ℕ). old ++ row) (Some []) ≡ Some old
+row-begins old = ap Some (append-nil old)
+
+row_none : (old : List ℕ) (row : Bytes) → option_map (λ (bs : List ℕ). old ++ bs) row ≡ None → row ≡ None
+row_none old None e = refl
+row_none old (Some bs) e = absurd (none-some (old ++ bs) (sym e))
+
+pub bytes_by-row : (byte : ℕ → Option ℕ) (at k n : ℕ) (old new : List ℕ) → bytes_by byte at k ≡ Some old → option_map (λ (bs : List ℕ). old ++ bs) (bytes_by byte (at + k) n) ≡ Some new → bytes_by byte at (k + n) ≡ Some new
+bytes_by-row byte at k n old new low high = bytes_by-joined byte at k n ∙ ap (λ (o : Bytes). joined o (bytes_by byte (at + k) n)) low ∙ high
+
+pub bytes_by-no_row : (byte : ℕ → Option ℕ) (at k n whole : ℕ) (old : List ℕ) → k + n ≤ whole → option_map (λ (bs : List ℕ). old ++ bs) (bytes_by byte (at + k) n) ≡ None → bytes_by byte at whole ≡ None
+bytes_by-no_row byte at k n whole old within e = bytes_by-lacking byte at k n whole within (row_none old (bytes_by byte (at + k) n) e)
+
 -- the bytes at places
 one_place : (f : Place → ℕ) (o : Option Place) (rest : Option (List Place))
     → option_and_then (λ (b : ℕ). option_map (λ (bs : List ℕ). b ∷ bs) (option_map (map f) rest)) (option_map f o) ≡ option_map (map f) (option_and_then (λ (p : Place). option_map (λ (ps : List Place). p ∷ ps) rest) o)
@@ -75,7 +140,7 @@ one_place f None rest = refl
 one_place f (Some p) None = refl
 one_place f (Some p) (Some ps) = refl
 
-bytes_by-places : (f : Place → ℕ) (place : ℕ → Option Place) (at n : ℕ) → bytes_by (λ a. option_map f (place a)) at n ≡ option_map (map f) (places_from place at n)
+pub bytes_by-places : (f : Place → ℕ) (place : ℕ → Option Place) (at n : ℕ) → bytes_by (λ a. option_map f (place a)) at n ≡ option_map (map f) (places_from place at n)
 bytes_by-places f place at zero = refl
 bytes_by-places f place at (suc n) =
     ap (λ (o : Bytes). option_and_then (λ (b : ℕ). option_map (λ (bs : List ℕ). b ∷ bs) o) (option_map f (place at))) (bytes_by-places f place (at + 1) n)

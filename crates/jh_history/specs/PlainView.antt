@@ -15,7 +15,9 @@ use Rattle.jh_history.specs.declared.place.Place.{Place}
 use Rattle.jh_history.specs.declared.place.Place.TheVariants.{Physical, Page}
 use Rattle.jh_history.specs.declared.written.WrittenByte.{WrittenByte}
 use Rattle.jh_history.specs.Places.{is_same}
-use Rattle.jh_history.specs.Access.{slot_of_reach}
+use Rattle.jh_history.specs.declared.access.Access.TheVariants.{Read}
+use Rattle.jh_history.specs.Access.{reach_by, memory_read, slot_of_reach}
+use Rattle.jh_history.specs.Grants.{granted_in}
 use Rattle.jh_history.specs.Devices.{devices_in}
 use Rattle.jh_history.specs.Endpoints.{change_by, changing_by, IsNextOf, MayChange}
 use Rattle.jh_history.specs.Facts.{Facts}
@@ -40,6 +42,10 @@ overwritten q b one = if is_same q one.place then one.byte else b
 -- the byte of the place after those that were written, the newest last
 abbrev pub last_byte : Image → List WrittenByte → Place → ℕ
 last_byte image bytes q = fold (overwritten q) (loaded_byte image q) bytes
+
+-- the byte that root reads at the address, where it may
+abbrev pub root_byte : PlainView → ℕ → Option ℕ
+root_byte plain at = memory_read (last_byte plain.image plain.bytes) (reach_by (granted_in plain.image plain.cells plain.image.system.root.id Read) at 1)
 
 -- the bytes, with the list's from the offset on in the page of the cell
 abbrev pub put_in_page : ℕ → ℕ → List ℕ → (Place → ℕ) → Place → ℕ

@@ -2,7 +2,8 @@
 ghost use Rattle.std.specs.Prelude.{◌≡◌, ◌+◌, ◌%◌, ◌<◌, ◌≤◌, IsTrue, IfSome, option_map};
 ghost use Rattle.jh_cellcfg.specs.declared.region.Region.{Region as TheRegion};
 ghost use Rattle.jh_cellcfg.specs.Regions.{has_address, IsInRange};
-ghost use Rattle.jh_history.specs.Places.{places_of_run, number_of, IsRun};
+ghost use Rattle.jh_history.specs.Places.{places_in_row, places_of_run, number_of, IsRun};
+ghost use Rattle.jh_history.specs.declared.place.Place.{Place as ThePlace};
 ghost use Rattle.jh_history.specs.Access.{place_in_cell as place_in_cell_lem, place_of, places_from, memory_or_nothing, reach_by};
 
 use crate::access::{Access, Wanted};
@@ -57,6 +58,25 @@ pub(crate) fn place_in_cell(cell: u32, region: &Region, at: u64) -> Place
     }
 }
 
+/// The place of the first of so many bytes of one page, where the address has one: those of the others follow it.
+pub fn row_of<G: Grants>(
+    grants: &G,
+    cell: u32,
+    access: Access,
+    at: u64,
+    count: u16,
+) -> Option<Place>
+    requires some { 1 ≤ count }
+    requires page { at % 4096 + count ≤ 4096 }
+    ensures places { option_map (λ (first : ThePlace). places_in_row first count) result ≡ places_from (place_of cell (G.regions grants.now cell) access) at count }
+    ensures small { IfSome result (λ first. number_of first < ADDRESS_END) }
+{
+    match grants.region(cell, access, at) {
+        Some(region) => Some(place_in_cell(cell, &region, at)),
+        None => None,
+    }
+}
+
 /// The places of so many bytes of one page, where the address has one.
 fn run_from<G: Grants>(grants: &G, cell: u32, access: Access, at: u64, count: u8) -> Option<Run>
     requires { at % 4096 + count ≤ 4096 }
@@ -70,11 +90,8 @@ fn run_from<G: Grants>(grants: &G, cell: u32, access: Access, at: u64, count: u8
             count,
         });
     }
-    match grants.region(cell, access, at) {
-        Some(region) => Some(Run {
-            first: place_in_cell(cell, &region, at),
-            count,
-        }),
+    match row_of(grants, cell, access, at, u16::from(count)) {
+        Some(first) => Some(Run { first, count }),
         None => None,
     }
 }

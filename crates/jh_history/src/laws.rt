@@ -1,6 +1,10 @@
-//! What an admitted image gives of root, its regions and its CPUs, and that root is the one cell yet. Each
-//! function does nothing; its contract is the law.
-ghost use Rattle.std.specs.Prelude.{◌≡◌, ◌<◌, ℕ, List, ◌∷◌, ◌++◌, Some, IsTrue};
+//! What an admitted image gives of root, its regions and its CPUs, that root is the one cell yet, and how rows of bytes are
+//! read. Each function does nothing; its contract is the law.
+ghost use Rattle.std.specs.Prelude.{◌≡◌, ◌<◌, ◌≤◌, ℕ, List, ◌∷◌, ◌++◌, map, Option, None, Some, option_map, IsTrue};
+ghost use Rattle.jh_num.specs.declared.address.TheConstants.{ADDRESS_END};
+ghost use Rattle.jh_history.specs.declared.place.Place.{Place as ThePlace};
+ghost use Rattle.jh_history.specs.Access.{memory_read, places_from, reach_by};
+ghost use Rattle.jh_history.specs.ReadView.{bytes_by};
 ghost use Rattle.jh_check.specs.Clean.{IsSoundRoot};
 ghost use Rattle.jh_history.specs.Admitted.{HasNoCall, IsAdmitted};
 ghost use Rattle.jh_script.specs.declared.image.Image.{Image as TheImage};
@@ -37,4 +41,11 @@ pub fn root_lives_alone()
         due_at image f cpu ≡ Some entry → IsByRoot image entry }
     ensures kept { (image : TheImage) (f : Facts) (entry : TheEntry) → IsAlone image f →
         IsByRoot image entry → IsAlone image (after image f entry) }
+{}
+
+/// What an access of one byte reads at each address of a row is the byte at its place, where each address has one; beyond
+/// the addresses there is none.
+pub fn rows_are_read_byte_by_byte()
+    ensures { (byte : ThePlace → ℕ) (place : ℕ → Option ThePlace) (at count : ℕ) → ((a : ℕ) → ADDRESS_END ≤ a → place a ≡ None) →
+        bytes_by (λ a. memory_read byte (reach_by place a 1)) at count ≡ option_map (map byte) (places_from place at count) }
 {}

@@ -55,11 +55,11 @@ pub use due_facts::{
     pages_written_are_of_cells, places_reached_are_of_cells, sound_cells_name_a_cpu,
 };
 pub use entry::{Act, Entry, Heard, Settled};
-pub use grants::{Grants, memory};
+pub use grants::{Grants, memory, row_of};
 pub use jh_cpu::{Cpu, Mode};
 pub use journal::Journal;
 pub use known::Known;
-pub use laws::{admitted_roots_are_sound, root_lives_alone};
+pub use laws::{admitted_roots_are_sound, root_lives_alone, rows_are_read_byte_by_byte};
 pub use locked::{is_any_locked, is_any_other_locked, is_locked};
 pub use next::{access_of, is_due, next_of, none_due, reach_of};
 pub use pages::page_write;

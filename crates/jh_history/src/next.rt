@@ -306,7 +306,7 @@ fn any_other_due<K: Known>(known: &K, caller: u8) -> bool
 }
 
 /// Whether no CPU but the caller has anything due, each by its own program.
-fn is_idle_but<K: Known>(known: &K, caller: u8) -> bool
+pub(crate) fn is_idle_but<K: Known>(known: &K, caller: u8) -> bool
     ensures { (i : TheImage) (f : Facts) → K.Knows known.now i f → result ≡ is_idle_but_lem i f caller }
 {
     !any_other_due(known, caller)
@@ -324,7 +324,7 @@ fn caller_act<K: Known>(known: &K, state: Cpu, begun: &OpenCall) -> Result<Optio
     if !goes_on(state) {
         return Ok(None);
     }
-    phase_act(known, is_idle_but(known, begun.caller), begun)
+    phase_act(known, begun)
 }
 
 /// Whether the caller of the call has something due.
@@ -334,7 +334,7 @@ fn is_caller_due<K: Known>(known: &K, state: Cpu, begun: &OpenCall) -> bool
     if state.asked {
         return true;
     }
-    goes_on(state) && is_phase_due(known, is_idle_but(known, begun.caller), begun)
+    goes_on(state) && is_phase_due(known, begun)
 }
 
 /// What a CPU in this state does next; `reach` is what the access reaches that it is about to make.

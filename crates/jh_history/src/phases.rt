@@ -1,5 +1,5 @@
 //! What is due to the caller of an open management call.
-ghost use Rattle.std.specs.Prelude.{◌≡◌, ℕ, ◌<◌, Bool, true, List, map, is_some, IfOk, IfSome, option_map, option_copied};
+ghost use Rattle.std.specs.Prelude.{◌≡◌, ℕ, ◌<◌, Bool, true, List, map, is_some, if◌then◌else◌, None, Some, IfOk, IfSome, option_map, option_copied};
 ghost use Rattle.std.specs.Option.{option_map_or};
 ghost use Rattle.jh_script.specs.declared.image.Image.{Image as TheImage};
 ghost use Rattle.jh_check.specs.Refusals.{any_below};
@@ -13,11 +13,14 @@ ghost use Rattle.jh_history.specs.declared.entry.Heard.{Heard as TheHeard};
 ghost use Rattle.jh_history.specs.declared.entry.Act.TheVariants.{Settle, Noted};
 ghost use Rattle.jh_history.specs.Alone.{is_phase};
 ghost use Rattle.jh_history.specs.Calls.{is_named as is_named_lem};
+ghost use Rattle.jh_cellcfg.specs.Cells.{is_passive as is_passive_lem};
+ghost use Rattle.jh_history.specs.Due.{is_idle_but as is_idle_but_lem};
 
 use crate::call::{OpenCall, Phase};
 use crate::change::is_running;
 use crate::entry::{Act, Heard, Settled};
 use crate::known::Known;
+use crate::next::is_idle_but;
 use crate::place::{Place, Places, Run};
 use jh_call::Call;
 use jh_cellcfg::CellConfig;
@@ -125,29 +128,32 @@ fn is_down(state: u32) -> bool
     state == STATE_SHUT_DOWN || state == STATE_FAILED
 }
 
-/// Whether the cell has had its time.
-fn is_over(timeout: u64, waited: u64, idle: bool) -> bool
-    ensures { result ≡ is_over_lem timeout waited idle }
+/// Whether the cell has had its time: so many entries, or no CPU but the caller has anything due.
+fn is_over<K: Known>(known: &K, caller: u8, timeout: u64, waited: u64) -> bool
+    ensures { (i : TheImage) (f : Facts) → K.Knows known.now i f → result ≡ is_over_lem timeout waited (is_idle_but_lem i f caller) }
 {
-    (timeout != 0 && timeout <= waited) || idle
+    (timeout != 0 && timeout <= waited) || is_idle_but(known, caller)
 }
 
-/// How the cell met the request to shut down; nothing yet where it hasn't.
-fn settled_by(passive: bool, state: u32, reply: u32, over: bool) -> Option<Settled>
-    ensures { result ≡ settled_by_lem passive state reply over }
+/// How the cell met the request to shut down, by its own words; nothing yet where it says nothing.
+fn settled_by(passive: bool, state: u32, reply: u32) -> Option<Settled>
+    ensures said { IfSome result (λ how. (over : Bool) → settled_by_lem passive state reply over ≡ Some how) }
+    ensures silent { result ≡ None → (over : Bool) → settled_by_lem passive state reply over ≡ (if over then Some Settled.Timeout else None) }
 {
     if passive || is_down(state) || reply == REPLY_REQUEST_APPROVED {
         return Some(Settled::Agreed);
     }
-    if reply != 0 {
-        return Some(Settled::Denied);
+    if reply == 0 {
+        None
+    } else {
+        Some(Settled::Denied)
     }
-    if over { Some(Settled::Timeout) } else { None }
 }
 
-/// How the cell met the note of a change; nothing yet where it hasn't.
-fn heard_by(state: u32, reply: u32, over: bool) -> Option<Heard>
-    ensures { result ≡ heard_by_lem state reply over }
+/// How the cell met the note of a change, by its own words; nothing yet where it says nothing.
+fn heard_by(state: u32, reply: u32) -> Option<Heard>
+    ensures said { IfSome result (λ how. (over : Bool) → heard_by_lem state reply over ≡ Some how) }
+    ensures silent { result ≡ None → (over : Bool) → heard_by_lem state reply over ≡ (if over then Some Heard.Timeout else None) }
 {
     if is_down(state) {
         return Some(Heard::Down);
@@ -155,10 +161,7 @@ fn heard_by(state: u32, reply: u32, over: bool) -> Option<Heard>
     if reply == REPLY_RECEIVED {
         return Some(Heard::Received);
     }
-    if reply != 0 {
-        return Some(Heard::Other);
-    }
-    if over { Some(Heard::Timeout) } else { None }
+    if reply == 0 { None } else { Some(Heard::Other) }
 }
 
 /// What a call about the id is refused for, by which cell it is.
@@ -195,31 +198,56 @@ fn named_cell<'a, K: Known>(known: &'a K, call: &Call) -> Option<&'a CellConfig>
     }
 }
 
+/// How the cell met the request to shut down; nothing yet where it hasn't.
+fn settled_in<K: Known>(known: &K, caller: u8, cell: &CellConfig, waited: u64) -> Option<Settled>
+    ensures { (i : TheImage) (f : Facts) → K.Knows known.now i f → result ≡ settled_by_lem (is_passive_lem cell.now) (state_word_lem f cell.now.id) (reply_word_lem f cell.now.id) (is_over_lem cell.now.msg_reply_timeout waited (is_idle_but_lem i f caller)) }
+{
+    let state = state_word(known, cell.id);
+    let reply = reply_word(known, cell.id);
+    match settled_by(cell.is_passive(), state, reply) {
+        Some(how) => Some(how),
+        None => {
+            if is_over(known, caller, cell.msg_reply_timeout, waited) {
+                Some(Settled::Timeout)
+            } else {
+                None
+            }
+        }
+    }
+}
+
 /// How the call's cell met the request to shut down; nothing yet where it hasn't.
-fn settled_of<K: Known>(known: &K, idle: bool, call: &Call, waited: u64) -> Option<Settled>
-    ensures { (i : TheImage) (f : Facts) → K.Knows known.now i f → result ≡ settled_of_lem f idle call.now waited }
+fn settled_of<K: Known>(known: &K, caller: u8, call: &Call, waited: u64) -> Option<Settled>
+    ensures { (i : TheImage) (f : Facts) → K.Knows known.now i f → result ≡ settled_of_lem f (is_idle_but_lem i f caller) call.now waited }
 {
     match named_cell(known, call) {
-        Some(cell) => settled_by(
-            cell.is_passive(),
-            state_word(known, cell.id),
-            reply_word(known, cell.id),
-            is_over(cell.msg_reply_timeout, waited, idle),
-        ),
+        Some(cell) => settled_in(known, caller, cell, waited),
         None => None,
     }
 }
 
-/// How the cell met the note of a change; nothing yet where it hasn't.
-fn heard_of<K: Known>(known: &K, idle: bool, id: u32, waited: u64) -> Option<Heard>
-    ensures { (i : TheImage) (f : Facts) → K.Knows known.now i f → result ≡ heard_of_lem f idle id waited }
+/// How the cell with the id met the note of a change; nothing yet where it hasn't.
+fn heard_in<K: Known>(known: &K, caller: u8, id: u32, timeout: u64, waited: u64) -> Option<Heard>
+    ensures { (i : TheImage) (f : Facts) → K.Knows known.now i f → result ≡ heard_by_lem (state_word_lem f id) (reply_word_lem f id) (is_over_lem timeout waited (is_idle_but_lem i f caller)) }
+{
+    match heard_by(state_word(known, id), reply_word(known, id)) {
+        Some(how) => Some(how),
+        None => {
+            if is_over(known, caller, timeout, waited) {
+                Some(Heard::Timeout)
+            } else {
+                None
+            }
+        }
+    }
+}
+
+/// The same of a live cell; nothing where none has the id.
+fn heard_of<K: Known>(known: &K, caller: u8, id: u32, waited: u64) -> Option<Heard>
+    ensures { (i : TheImage) (f : Facts) → K.Knows known.now i f → result ≡ heard_of_lem f (is_idle_but_lem i f caller) id waited }
 {
     match known.live(u64::from(id)) {
-        Some(cell) => heard_by(
-            state_word(known, id),
-            reply_word(known, id),
-            is_over(cell.msg_reply_timeout, waited, idle),
-        ),
+        Some(cell) => heard_in(known, caller, id, cell.msg_reply_timeout, waited),
         None => None,
     }
 }
@@ -261,13 +289,10 @@ fn noted(id: u32, how: Option<Heard>) -> Option<Act>
     }
 }
 
-/// What is due to the caller in the phase of its call; `idle` says that no other CPU has anything due.
-pub(crate) fn phase_act<K: Known>(
-    known: &K,
-    idle: bool,
-    begun: &OpenCall,
-) -> Result<Option<Act>, NoMemory>
-    ensures act { (i : TheImage) (f : Facts) → K.Knows known.now i f → IfOk result (λ act. act ≡ phase_act_lem i f idle begun.now.caller begun.now.call begun.now.phase) }
+/// What is due to the caller in the phase of its call. Other CPUs are asked only where the phase waits for a cell that
+/// says nothing.
+pub(crate) fn phase_act<K: Known>(known: &K, begun: &OpenCall) -> Result<Option<Act>, NoMemory>
+    ensures act { (i : TheImage) (f : Facts) → K.Knows known.now i f → IfOk result (λ act. act ≡ phase_act_lem i f (is_idle_but_lem i f begun.now.caller) begun.now.caller begun.now.call begun.now.phase) }
     ensures phase { IfOk result (λ act. IfSome act (λ act. is_phase act ≡ true)) }
 {
     match &begun.phase {
@@ -278,7 +303,10 @@ pub(crate) fn phase_act<K: Known>(
             let refused = decision(known, begun.caller, &begun.call)?;
             Ok(Some(Act::Decide { refused }))
         }
-        Phase::ToSettle { waited } => Ok(settle(settled_of(known, idle, &begun.call, *waited))),
+        Phase::ToSettle { waited } => {
+            let how = settled_of(known, begun.caller, &begun.call, *waited);
+            Ok(settle(how))
+        }
         Phase::ToCreate { .. } => Ok(Some(Act::Commit)),
         Phase::ToCommit => {
             if any_keeps_commit(known, &begun.call) {
@@ -288,20 +316,25 @@ pub(crate) fn phase_act<K: Known>(
             }
         }
         Phase::ToNote { id, .. } => Ok(Some(Act::Note { id: *id })),
-        Phase::ToNoted { id, waited, .. } => { Ok(noted(*id, heard_of(known, idle, *id, *waited))) }
+        Phase::ToNoted { id, waited, .. } => {
+            let how = heard_of(known, begun.caller, *id, *waited);
+            Ok(noted(*id, how))
+        }
         Phase::ToFinish { answer } => Ok(Some(Act::Finish { answer: *answer })),
     }
 }
 
 /// Whether something is due to the caller in the phase of its call.
-pub(crate) fn is_phase_due<K: Known>(known: &K, idle: bool, begun: &OpenCall) -> bool
-    ensures { (i : TheImage) (f : Facts) → K.Knows known.now i f → result ≡ is_some (phase_act_lem i f idle begun.now.caller begun.now.call begun.now.phase) }
+pub(crate) fn is_phase_due<K: Known>(known: &K, begun: &OpenCall) -> bool
+    ensures { (i : TheImage) (f : Facts) → K.Knows known.now i f → result ≡ is_some (phase_act_lem i f (is_idle_but_lem i f begun.now.caller) begun.now.caller begun.now.call begun.now.phase) }
 {
     match &begun.phase {
         Phase::ToDecide => !any_keeps_decide(known, begun.caller),
-        Phase::ToSettle { waited } => settled_of(known, idle, &begun.call, *waited).is_some(),
+        Phase::ToSettle { waited } => {
+            settled_of(known, begun.caller, &begun.call, *waited).is_some()
+        }
         Phase::ToCommit => !any_keeps_commit(known, &begun.call),
-        Phase::ToNoted { id, waited, .. } => heard_of(known, idle, *id, *waited).is_some(),
+        Phase::ToNoted { id, waited, .. } => heard_of(known, begun.caller, *id, *waited).is_some(),
         Phase::ToCreate { .. } | Phase::ToNote { .. } | Phase::ToFinish { .. } => true,
     }
 }

@@ -3,7 +3,7 @@ ghost use Rattle.std.specs.Prelude.{◌≡◌, ◌≤◌, ℕ, length, IsTrue, I
 ghost use Rattle.jh_script.specs.declared.image.Image.{Image as TheImage};
 ghost use Rattle.jh_history.specs.Facts.{Facts};
 ghost use Rattle.jh_history.specs.Phases.{creation_of};
-ghost use Rattle.jh_history.specs.PlainView.{Stands};
+ghost use Rattle.jh_history.specs.PlainView.{root_byte, Stands};
 ghost use Rattle.jh_history.specs.Sound.{IsSound};
 
 use crate::access::{Access, Reach, Wanted};
@@ -45,14 +45,28 @@ impl<'a> Bytes for Plain<'a> {
 }
 
 impl<'a> RootBytes for Plain<'a> {
-    ghost use Rattle.jh_history.specs.declared.access.Access.TheVariants.{Read};
-    ghost use Rattle.jh_history.specs.Access.{reach_by, memory_read};
-    ghost use Rattle.jh_history.specs.Grants.{granted_in};
-    ghost use Rattle.jh_history.specs.PlainView.{last_byte};
+    ghost use Rattle.jh_history.specs.PlainView.{root_byte};
 
-    ghost readable = { λ p at. memory_read (last_byte p.image p.bytes) (reach_by (granted_in p.image p.cells p.image.system.root.id Read) at 1) };
+    ghost readable = { root_byte };
 
-    fn read(&self, at: u64) -> Option<u8> {
+    fn append(&self, bytes: &mut Vec<u8>, at: u64, count: u16) -> Result<bool, NoMemory> {
+        for k in 0..count {
+            match self.read(at + u64::from(k)) {
+                Some(byte) => bytes.push(byte)?,
+                None => return Ok(false),
+            }
+        }
+        Ok(true)
+    }
+
+    fn ends(&self) {}
+}
+
+impl<'a> Plain<'a> {
+    /// The byte that root reads at the address, where it may.
+    fn read(&self, at: u64) -> Option<u8>
+        ensures { result ≡ root_byte self.now at }
+    {
         let wanted = Wanted {
             access: Access::Read,
             at,
@@ -65,10 +79,6 @@ impl<'a> RootBytes for Plain<'a> {
         }
     }
 
-    fn ends(&self) {}
-}
-
-impl<'a> Plain<'a> {
     /// What comes of a create by the caller, of the configuration at the address.
     fn creation(&self, caller: u8, at: u64) -> Result<Creation, NoMemory>
         ensures { (i : TheImage) (f : Facts) → Stands self.now i f × IsSound i f → IfOk result (λ creation. creation ≡ creation_of i f caller at) }

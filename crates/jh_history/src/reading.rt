@@ -1,5 +1,5 @@
 //! How a create reads a configuration: the bytes that root may read at an address.
-ghost use Rattle.std.specs.Prelude.{◌≡◌, ◌≤◌, ℕ, None, IfOk, length};
+ghost use Rattle.std.specs.Prelude.{◌≡◌, ◌+◌, ◌%◌, ◌<◌, ◌≤◌, ℕ, None, IfOk, length};
 ghost use Rattle.jh_num.specs.declared.address.TheConstants.{ADDRESS_END};
 ghost use Rattle.jh_cellcfg.specs.Faults.{header_fault, header_size};
 ghost use Rattle.jh_cellcfg.specs.Reading.{config_of};
@@ -15,20 +15,39 @@ use std::alloc::Global;
 /// How many bytes a configuration's header has.
 const HEADER: u32 = 132;
 
+/// How many bytes a page has.
+const PAGE: u64 = 4096;
+
 /// Tells what root may read.
 pub trait RootBytes {
-    ghost use Rattle.std.specs.Prelude.{ℕ, ◌≤◌, Option, None};
+    ghost use Rattle.std.specs.Prelude.{ℕ, ◌+◌, ◌%◌, ◌≤◌, ◌++◌, List, Option, None, Some, option_map, if◌then◌else◌, IfOk};
     ghost use Rattle.jh_num.specs.declared.address.TheConstants.{ADDRESS_END};
+    ghost use Rattle.jh_history.specs.ReadView.{bytes_by};
 
     /// The byte that root reads at the address, where it may.
     ghost readable: { Self → ℕ → Option ℕ };
 
-    fn read(&self, at: u64) -> Option<u8>
-        ensures { result ≡ readable self.now at };
+    /// Puts so many bytes behind those of the buffer: what root reads from the address on, all of one page. Tells whether
+    /// root may read them all.
+    fn append(&self, bytes: &mut Vec<u8>, at: u64, count: u16) -> Result<bool, NoMemory>
+        requires some { 1 ≤ count }
+        requires page { at % 4096 + count ≤ 4096 }
+        ensures { IfOk result (λ all. option_map (λ (row : List ℕ). bytes.old.items ++ row) (bytes_by (readable self.now) at count) ≡ (if all then Some bytes.new.items else None)) };
 
     /// Nothing is readable from the end of addresses on. It does nothing; its contract is what holds.
     fn ends(&self)
         ensures { (at : ℕ) → ADDRESS_END ≤ at → readable self.now at ≡ None };
+}
+
+/// How many bytes from the address on lie in its page and below the end.
+fn in_page(at: u64, end: u64) -> u16
+    requires { at < end }
+    ensures some { 1 ≤ result }
+    ensures page { at % 4096 + result ≤ 4096 }
+    ensures few { at + result ≤ end }
+{
+    let left = PAGE - at % PAGE;
+    left.min(end - at) as u16
 }
 
 /// So many bytes at the address, where root may read all of them.
@@ -45,12 +64,15 @@ fn bytes_at<R: RootBytes>(
     if at >= ADDRESS_END {
         return Ok(None);
     }
+    let end = at + u64::from(count);
     let mut bytes = Vec::new(alloc);
-    for k in 0..count {
-        match root.read(at + u64::from(k)) {
-            Some(byte) => bytes.push(byte)?,
-            None => return Ok(None),
+    let mut next = at;
+    while next < end {
+        let here = in_page(next, end);
+        if !root.append(&mut bytes, next, here)? {
+            return Ok(None);
         }
+        next += u64::from(here);
     }
     Ok(Some(Seq::from_vec(bytes)))
 }

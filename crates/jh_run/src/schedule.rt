@@ -11,7 +11,7 @@ use crate::ended::{Ended, how_ended};
 use jh_board::{Board, TurnFault};
 use jh_history::is_on_board;
 use jh_laws::{items_run_until_one_is_cut_short, played_journals_are_quiet_or_full};
-use jh_num::{NoMemory, Steps};
+use jh_num::NoMemory;
 use jh_script::Image;
 use std::alloc::Global;
 
@@ -47,7 +47,7 @@ fn item(board: &mut Board, cpu: u8) -> Result<bool, NoMemory>
     ensures ok { IfOk result (λ full. Ran board.old (cpu ∷ []) full board.new) }
     ensures err { OnErr result (board.new ≡ board.old) }
 {
-    match board.turn(cpu, &mut Steps::new()) {
+    match board.make_due(cpu) {
         Ok(_) => Ok(false),
         Err(TurnFault::Full) => Ok(true),
         Err(TurnFault::NoMemory) => Err(NoMemory),

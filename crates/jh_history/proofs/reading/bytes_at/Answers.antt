@@ -1,21 +1,36 @@
--- One byte more, and one that may not be read.
-use Rattle.std.proofs.Common.{◌≡◌, ℕ, ◌+◌, Option, Some, None, ap, sym, ◌∙◌, arith}
-use Rattle.jh_history.proofs.ReadLemmas.{bytes_by-more, bytes_by-missing}
+-- One row more, and one of which a byte may not be read.
+use Rattle.std.proofs.Common.{◌≡◌, ℕ, ◌+◌, ◌-◌, ◌≤◌, ◌++◌, List, Option, Some, None, Bool, cond, ap, sym, ◌∙◌, arith}
+use Rattle.std.specs.Prelude.{option_map}
+use Rattle.jh_history.specs.ReadView.{bytes_by}
+use Rattle.jh_history.proofs.ReadLemmas.{bytes_by-row, bytes_by-no_row}
 use Rattle.jh_history.proofs.reading.bytes_at.Goals as goal
 
-pub returns-then-at-ge-ADDRESS_END : goal.returns-then-at-ge-ADDRESS_END
-returns-then-at-ge-ADDRESS_END g c =
+pub returns-then-not-branch : goal.returns-then-not-branch
+returns-then-not-branch g c =
     let byte : ℕ → Option ℕ = g.R.RootBytes.readable c.args.root.now in
-    sym (bytes_by-missing byte c.args.at 0 c.args.count (omega arith) ((let e : c.args.at + 0 ≡ c.args.at = omega arith in ap byte e) ∙ c.ends.ensures c.args.at (omega arith)))
+    let old : List ℕ = c.loop-next.bytes.items in
+    let k : ℕ = c.loop-next.next - c.args.at in
+    let begun = c.loop-next.invariant.0 in
+    let here : c.args.at + k ≡ c.loop-next.next = omega arith in
+    let few = c.in_page-here.ensures.few in
+    let count = c.from.ensures in
+    let within : k + c.in_page-here.result ≤ c.args.count = omega arith in
+    let lacks : option_map (λ (bs : List ℕ). old ++ bs) (bytes_by byte c.loop-next.next c.in_page-here.result) ≡ None =
+    c.in_ok-append.ensures ∙ ap (λ (b : Bool). cond b (Some c.append.new.bytes.items) None) c.if-not-branch.true in
+    sym (bytes_by-no_row byte c.args.at k c.in_page-here.result c.args.count old within (ap (λ (a : ℕ). option_map (λ (bs : List ℕ). old ++ bs) (bytes_by byte a c.in_page-here.result)) here ∙ lacks))
 
-pub returns-in-None : goal.returns-in-None
-returns-in-None g c =
+pub loop-next-preserved : goal.loop-next-preserved
+loop-next-preserved g c =
     let byte : ℕ → Option ℕ = g.R.RootBytes.readable c.args.root.now in
-    let none : byte (c.args.at + c.loop-k.k) ≡ None = ap (λ (n : ℕ). byte (c.args.at + n)) (sym c.from.ensures) ∙ sym c.in-None.ensures in
-    sym (bytes_by-missing byte c.args.at c.loop-k.k c.args.count c.loop-k-test.true none)
-
-pub loop-k-preserved : goal.loop-k-preserved
-loop-k-preserved g c =
-    let byte : ℕ → Option ℕ = g.R.RootBytes.readable c.args.root.now in
-    let some : byte (c.args.at + c.loop-k.k) ≡ Some c.in-Some.byte = ap (λ (n : ℕ). byte (c.args.at + n)) (sym c.from.ensures) ∙ sym c.in-Some.ensures in
-    bytes_by-more byte c.args.at c.loop-k.k c.in-Some.byte c.loop-k.bytes.items c.loop-k.invariant some ∙ ap Some (sym c.in_ok-push-in-Some.ensures.items)
+    let old : List ℕ = c.loop-next.bytes.items in
+    let k : ℕ = c.loop-next.next - c.args.at in
+    let begun = c.loop-next.invariant.0 in
+    let here : c.args.at + k ≡ c.loop-next.next = omega arith in
+    let few = c.in_page-here.ensures.few in
+    let wide = c.from-in-loop-next.ensures in
+    let more : (c.loop-next.next + c.from-in-loop-next.result) - c.args.at ≡ k + c.in_page-here.result = omega arith in
+    let low : c.args.at ≤ c.loop-next.next + c.from-in-loop-next.result = omega arith in
+    let high : c.loop-next.next + c.from-in-loop-next.result ≤ c.args.at + c.from.result = omega arith in
+    let whole : option_map (λ (bs : List ℕ). old ++ bs) (bytes_by byte c.loop-next.next c.in_page-here.result) ≡ Some c.append.new.bytes.items =
+    c.in_ok-append.ensures ∙ ap (λ (b : Bool). cond b (Some c.append.new.bytes.items) None) c.if-not-branch.false in
+    (low, high, ap (bytes_by byte c.args.at) more ∙ bytes_by-row byte c.args.at k c.in_page-here.result old c.append.new.bytes.items c.loop-next.invariant.2 (ap (λ (a : ℕ). option_map (λ (bs : List ℕ). old ++ bs) (bytes_by byte a c.in_page-here.result)) here ∙ whole))

@@ -1,7 +1,10 @@
 -- The bytes so far.
-use Rattle.std.proofs.Common.{◌≡◌, Some}
+use Rattle.std.proofs.Common.{◌≡◌, ℕ, ◌+◌, ◌-◌, ◌≤◌, Some}
 use Rattle.jh_history.specs.ReadView.{bytes_by}
 use Rattle.jh_history.proofs.reading.bytes_at.Given as goal
 
-abbrev pub invariant-loop-k : goal.invariant-loop-k
-invariant-loop-k g l = bytes_by (g.R.RootBytes.readable l.root) l.at l.k ≡ Some l.bytes.items
+abbrev pub invariant-loop-next : goal.invariant-loop-next
+invariant-loop-next g l = (l.at ≤ l.next) × (l.next ≤ l.end) × (bytes_by (g.R.RootBytes.readable l.root) l.at (l.next - l.at) ≡ Some l.bytes.items)
+
+abbrev pub decreases-loop-next : goal.decreases-loop-next
+decreases-loop-next g l = l.end - l.next

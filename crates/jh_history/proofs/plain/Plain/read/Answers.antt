@@ -5,7 +5,7 @@ use Rattle.jh_history.specs.Access.{memory_or_nothing, memory_read, reach_by}
 use Rattle.jh_history.specs.Grants.{granted_in}
 use Rattle.jh_history.specs.PlainView.{PlainView, last_byte}
 use Rattle.jh_history.proofs.ReadLemmas.{one-place}
-use Rattle.jh_history.proofs.plain_known.PlainRootBytes.read.Goals as goal
+use Rattle.jh_history.proofs.plain.Plain.read.Goals as goal
 
 pub returns-in-None : goal.returns-in-None
 returns-in-None c = rw (← c.self.view_is) (ap (memory_read (last_byte c.self.inside.image.now c.self.inside.bytes.items)) (sym (ap memory_or_nothing c.in-None.is) ∙ c.memory_in.ensures))
