@@ -130,6 +130,29 @@ places-open : (kept : Place → Bool) (place : ℕ → Option Place) (at n : ℕ
 places-open kept place at zero = refl
 places-open kept place at (suc n) = open-step kept (place at) (places_from place (at + 1) n) (places_from (open-place kept place) (at + 1) n) (places-open kept place (at + 1) n)
 
+-- the places of a row that root is granted: none where one of them is kept
+row-open-all : (image : Image) (lives : List Live) (id : ℕ) (access : Access) (at n : ℕ) (found : Option (List Place)) → found ≡ places_from (place_of id (regions_in image lives id) access) at n
+    → option_and_then (open-all (is_kept image lives id)) found ≡ places_from (granted_in image lives id access) at n
+row-open-all image lives id access at n found is =
+    ap (option_and_then (open-all (is_kept image lives id))) is ∙ sym (places-open (is_kept image lives id) (place_of id (regions_in image lives id) access) at n)
+
+pub row-kept : (image : Image) (lives : List Live) (id : ℕ) (access : Access) (at n : ℕ) (row : List Place) (b : Bool) → Some row ≡ places_from (place_of id (regions_in image lives id) access) at n
+    → b ≡ list_any (is_kept image lives id) row → b ≡ true → None ≡ places_from (granted_in image lives id access) at n
+row-kept image lives id access at n row b is kept shut =
+    let e : list_any (is_kept image lives id) row ≡ true = sym kept ∙ shut in
+    let none : open-all (is_kept image lives id) row ≡ None = rw e refl in
+    sym none ∙ row-open-all image lives id access at n (Some row) is
+
+pub row-granted : (image : Image) (lives : List Live) (id : ℕ) (access : Access) (at n : ℕ) (row : List Place) (b : Bool) → Some row ≡ places_from (place_of id (regions_in image lives id) access) at n
+    → b ≡ list_any (is_kept image lives id) row → b ≡ false → Some row ≡ places_from (granted_in image lives id access) at n
+row-granted image lives id access at n row b is kept free =
+    let e : list_any (is_kept image lives id) row ≡ false = sym kept ∙ free in
+    let whole : open-all (is_kept image lives id) row ≡ Some row = rw e refl in
+    sym whole ∙ row-open-all image lives id access at n (Some row) is
+
+pub row-lacking : (image : Image) (lives : List Live) (id : ℕ) (access : Access) (at n : ℕ) → None ≡ places_from (place_of id (regions_in image lives id) access) at n → None ≡ places_from (granted_in image lives id access) at n
+row-lacking image lives id access at n is = row-open-all image lives id access at n None is
+
 -- what is reached, where no place of it is kept
 abbrev pub reach_open : (Place → Bool) → Reach → Reach
 reach_open kept (Memory places) = cond (list_any kept places) Nothing (Memory places)

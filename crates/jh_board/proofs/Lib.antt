@@ -15,3 +15,4 @@ pub mod ToldLemmas
 pub mod DevicesLemmas
 pub mod ActedLemmas
 pub mod CommitLemmas
+pub mod RowLemmas

@@ -17,7 +17,7 @@ abbrev Pages : Type 0
 Pages = List (ℕ × List ℕ)
 
 -- the bytes in a row of one page
-row-of_page : (pages : Pages) (number offset n a : ℕ) → a ≡ number * 4096 + offset → offset + n ≤ 4096 → bytes_from (byte_at pages) a n ≡ bytes_from (byte_in (page_at pages number)) offset n
+pub row-of_page : (pages : Pages) (number offset n a : ℕ) → a ≡ number * 4096 + offset → offset + n ≤ 4096 → bytes_from (byte_at pages) a n ≡ bytes_from (byte_in (page_at pages number)) offset n
 row-of_page pages number offset zero a is within = refl
 row-of_page pages number offset (suc n) a is within =
     let quotient : a / 4096 ≡ number = omega arith in

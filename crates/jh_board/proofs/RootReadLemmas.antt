@@ -1,7 +1,8 @@
 -- What root reads of what a board holds.
-use Rattle.std.proofs.Common.{◌≡◌, ℕ, ◌<◌, List, Option, true, eqb, refl, ap, ◌∙◌}
+use Rattle.std.proofs.Common.{◌≡◌, ℕ, ◌<◌, ◌≤◌, List, Option, None, true, eqb, refl, ap, ◌∙◌}
 use Rattle.std.specs.Prelude.{option_map, All}
 use Rattle.std.proofs.lemmas.Bool.{eq-eqb}
+use Rattle.jh_num.specs.declared.address.TheConstants.{ADDRESS_END}
 use Rattle.jh_cellcfg.specs.declared.live.Live.{Live}
 use Rattle.jh_cellcfg.specs.declared.region.Region.{Region}
 use Rattle.jh_cellcfg.specs.Regions.{IsInRange}
@@ -23,6 +24,11 @@ use Rattle.jh_board.specs.Means.{Means}
 root-within : (image : Image) (lives : List Live) → IsAdmitted image → All (λ (r : Region). 0 < r.size → IsInRange r) (regions_in image lives image.system.root.id)
 root-within image lives admitted = let own : eqb image.system.root.id image.system.root.id ≡ true = eq-eqb image.system.root.id image.system.root.id refl in rw own (within image admitted)
 
+-- root is granted nothing past the addresses
+pub root-beyond : (image : Image) (lives : List Live) (at : ℕ) → IsAdmitted image → ADDRESS_END ≤ at → granted_in image lives image.system.root.id Read at ≡ None
+root-beyond image lives at admitted le =
+    let id = image.system.root.id in granted-beyond id (regions_in image lives id) (is_kept image lives id) at (root-within image lives admitted) le
+
 -- the byte that root reads at the address, where it may
 abbrev pub read_held : Image → Held → ℕ → Option ℕ
 read_held image held at = memory_read (byte_of held.memory) (reach_by (granted_in image held.cells.lives image.system.root.id Read) at 1)
@@ -31,6 +37,6 @@ pub held-reads : (image : Image) (held : Held) (f : Facts) (at : ℕ) → IsAdmi
 held-reads image held f at admitted means =
     let id = image.system.root.id in
     let lives = held.cells.lives in
-    read-one (byte_of held.memory) (granted_in image lives id Read) at (λ a le. granted-beyond id (regions_in image lives id) (is_kept image lives id) a (root-within image lives admitted) le)
+    read-one (byte_of held.memory) (granted_in image lives id Read) at (λ a le. root-beyond image lives a admitted le)
     ∙ ap (λ (cells : List Live). option_map (byte_of held.memory) (granted_in image cells id Read at)) means.cells
     ∙ ap (λ (byte : Place → ℕ). option_map byte (granted image f id Read at)) (same_function (byte_of held.memory) f.byte means.bytes)

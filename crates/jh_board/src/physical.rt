@@ -35,7 +35,7 @@ pub struct Piece {
 fn append_zeros(bytes: &mut Vec<u8>, count: usize) -> Result<(), NoMemory>
     ensures { OnOk result ((offset : ℕ) → bytes.new.items ≡ bytes.old.items ++ bytes_from (λ k. 0) offset count) }
 {
-    for _ in 0..count {
+    for _k in 0..count {
         bytes.push(0)?;
     }
     Ok(())

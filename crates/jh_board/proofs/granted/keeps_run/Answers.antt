@@ -1,9 +1,9 @@
--- Of a run of physical memory the closed places are kept, of a communication page none.
-use Rattle.jh_board.proofs.GrantedLemmas.{kept-run, kept-pages}
+-- Its places are those of a row.
+use Rattle.std.proofs.Common.{ℕ, ap, ◌∙◌}
+use Rattle.std.specs.List.{list_any}
+use Rattle.jh_history.specs.Grants.{is_kept}
+use Rattle.jh_history.specs.Places.{places_in_row}
 use Rattle.jh_board.proofs.granted.keeps_run.Goals as goal
 
-pub returns-in-Physical : goal.returns-in-Physical
-returns-in-Physical c = λ i. rw c.in-Physical.is (kept-run i c.args.cells.now.lives c.in-Physical.start c.args.run.count c.from.result c.closes.result c.from.ensures c.closes.ensures)
-
-pub returns-in-Page : goal.returns-in-Page
-returns-in-Page c = λ i. rw c.in-Page.is (kept-pages i c.args.cells.now.lives c.in-Page.cell c.in-Page.offset c.args.run.count)
+pub returns : goal.returns
+returns c = λ i. c.keeps_row.ensures i ∙ ap (λ (n : ℕ). list_any (is_kept i c.args.cells.now.lives i.system.root.id) (places_in_row c.args.run.first n)) c.from.ensures

@@ -1,0 +1,13 @@
+-- The bytes so far.
+use Rattle.std.proofs.Common.{◌≡◌, ◌++◌, ◌≤◌, ◌-◌}
+use Rattle.jh_board.specs.Pages.{byte_at, bytes_from}
+use Rattle.jh_board.proofs.physical.Physical.append.Given as goal
+
+abbrev pub decreases-loop-done : goal.decreases-loop-done
+decreases-loop-done l = l.count - l.done
+
+abbrev pub invariant-loop-done : goal.invariant-loop-done
+invariant-loop-done l = record {
+  within : l.done ≤ l.count;
+  bytes : l.bytes.items ≡ l.initial.bytes.items ++ bytes_from (byte_at l.self) l.at l.done;
+}
