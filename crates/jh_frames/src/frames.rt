@@ -13,7 +13,7 @@ use jh_num::{NoMemory, PAGE_SIZE};
 use std::alloc::Global;
 use std::marker::Model;
 
-/// The bytes of memory. Places end at 2^39, and each holds a byte, which is 0 until it is written.
+/// The bytes of memory. Places end at `ADDRESS_END`, and each holds a byte, which is 0 until it is written.
 ///
 /// The pages of the hypervisor's range are held from opening on, a guest's page from its first write on,
 /// and held pages are never given back. Only a page that isn't held yet can want memory.
@@ -262,6 +262,7 @@ impl Frames {
         ensures kept { (q : ℕ) → holds self.old q ≡ true → holds self.new q ≡ true }
         ensures succeeds { missing self.old at count ≤ self.old.guest.spare → IsOk result }
         ensures spare { self.old.guest.spare ≤ self.new.guest.spare + missing self.old at count }
+        ensures spare_at_err { OnErr result (self.old.guest.spare ≤ self.new.guest.spare) }
         ensures below { (q : ℕ) → q / 4096 < at / 4096 → holds self.new q ≡ holds self.old q }
         ensures above { (q : ℕ) → at / 4096 + pages_in at count ≤ q / 4096 → holds self.new q ≡ holds self.old q }
     {
@@ -307,6 +308,7 @@ impl Frames {
         ensures kept { (q : ℕ) → holds self.old q ≡ true → holds self.new q ≡ true }
         ensures succeeds { missing self.old at (length bytes.now) ≤ self.old.guest.spare → IsOk result }
         ensures spare { self.old.guest.spare ≤ self.new.guest.spare + missing self.old at (length bytes.now) }
+        ensures spare_at_err { OnErr result (self.old.guest.spare ≤ self.new.guest.spare) }
         ensures below { (q : ℕ) → q / 4096 < at / 4096 → holds self.new q ≡ holds self.old q }
         ensures above { (q : ℕ) → at / 4096 + pages_in at (length bytes.now) ≤ q / 4096 → holds self.new q ≡ holds self.old q }
     {
@@ -329,6 +331,7 @@ impl Frames {
         ensures kept { (q : ℕ) → holds self.old q ≡ true → holds self.new q ≡ true }
         ensures succeeds { (holds self.old at ≡ false → 0 < self.old.guest.spare) → IsOk result }
         ensures spare { self.old.guest.spare ≤ self.new.guest.spare + (if holds self.old at then 0 else 1) }
+        ensures spare_at_err { OnErr result (self.old.guest.spare ≤ self.new.guest.spare) }
     {
         if !self.holds(at) {
             self.guest.reserve(1)?;

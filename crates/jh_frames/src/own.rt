@@ -1,5 +1,6 @@
 //! The hypervisor's memory.
 ghost use Rattle.std.specs.Prelude.{◌≡◌, ◌≢◌, ℕ, ◌+◌, ◌-◌, ◌%◌, ◌^◌, ◌≤◌, ◌<◌, true, MatchBool, length, slice_index, slice_range, IfOk};
+ghost use Rattle.jh_num.specs.declared.address.TheConstants.{ADDRESS_END};
 ghost use Rattle.jh_num.specs.Memory.{spelled, stored};
 ghost use Rattle.jh_frames.specs.Memory.{is_own, own_byte, word_in, IsOwn};
 ghost use Rattle.jh_frames.specs.Kept.{IsWhole};
@@ -34,7 +35,7 @@ impl Own {
     pub fn open(alloc: Global, base: u64, size: u64) -> Result<Self, NoMemory>
         requires aligned { base % 4096 ≡ 0 }
         requires whole { size % 4096 ≡ 0 }
-        requires below { base + size ≤ 2 ^ 39 }
+        requires below { base + size ≤ ADDRESS_END }
         ensures base { IfOk result (λ own. own.base ≡ base) }
         ensures size { IfOk result (λ own. length own.bytes ≡ size) }
         ensures zero { IfOk result (λ own. (k : ℕ) → slice_index own.bytes k ≡ 0) }
@@ -61,7 +62,7 @@ impl Own {
     /// Whether the eight bytes from the place on are in it.
     pub fn has_word(&self, at: u64) -> bool
         requires { at < 2 ^ 48 }
-        ensures { MatchBool result (IsOwn self.now at 8) (Unit {0}) }
+        ensures { MatchBool result (IsOwn self.now at 8) (IsOwn self.now at 8 → ⊥) }
     {
         self.base <= at && at + 8 <= self.base + self.bytes.len() as u64
     }

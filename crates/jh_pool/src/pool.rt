@@ -1,5 +1,6 @@
 //! The pages of one range: those that are free, and those that somebody took.
-ghost use Rattle.std.specs.Prelude.{◌≡◌, ◌≢◌, ℕ, ◌+◌, ◌*◌, ◌%◌, ◌^◌, ◌≤◌, ◌↔◌, [], true, false, not, IsNone, IfNone, IfSome, OnSome, IfOk, count_by, sum_by, ◌<◌};
+ghost use Rattle.std.specs.Prelude.{◌≡◌, ◌≢◌, ℕ, ◌+◌, ◌*◌, ◌%◌, ◌≤◌, ◌↔◌, [], true, false, not, IsNone, IfNone, IfSome, OnSome, IfOk, count_by, sum_by, ◌<◌};
+ghost use Rattle.jh_num.specs.declared.address.TheConstants.{ADDRESS_END};
 ghost use Rattle.jh_pool.specs.Pages.{is_free, pages_of, used_of, IsPageOf, IsTaken};
 
 use jh_num::{NoMemory, PAGE_SIZE};
@@ -30,7 +31,7 @@ impl Pool {
     /// A pool of that many pages from `base` on, all of them free.
     pub fn open(alloc: Global, base: u64, pages: u32) -> Result<Self, NoMemory>
         requires aligned { base % 4096 ≡ 0 }
-        requires place { base + 4096 * pages ≤ 2 ^ 39 }
+        requires place { base + 4096 * pages ≤ ADDRESS_END }
         ensures base { IfOk result (λ pool. pool.base ≡ base) }
         ensures size { IfOk result (λ pool. pool.size ≡ pages) }
         ensures free { IfOk result (λ pool. (page : ℕ) → IsPageOf pool page → is_free pool page ≡ true) }

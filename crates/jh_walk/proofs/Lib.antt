@@ -1,6 +1,5 @@
 pub mod SumLemmas
 pub mod LiftLemmas
-pub mod ReadLemmas
 pub mod WalkLemmas
 pub mod PathLemmas
 pub mod SameLemmas

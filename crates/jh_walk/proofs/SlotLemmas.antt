@@ -1,15 +1,12 @@
 -- Addresses of one slot.
-use Rattle.std.proofs.Common.{◌≡◌, ℕ, ◌+◌, ◌-◌, ◌*◌, ◌/◌, ◌%◌, ◌^◌, ◌⊎◌, inl, inr, ◌∙◌, sym, ap, subst, Some, arith}
+use Rattle.std.proofs.Common.{◌≡◌, ℕ, ◌+◌, ◌-◌, ◌*◌, ◌/◌, ◌%◌, ◌<◌, ◌≤◌, zero, suc, inl, inr, ◌∙◌, sym, ap, subst, Some, arith}
 use Rattle.jh_desc.specs.declared.descriptor.Descriptor.TheVariants.{Table, Leaf}
 use Rattle.jh_desc.specs.declared.descriptor.Hit.{Hit}
 use Rattle.jh_desc.specs.Descriptors.{read_of}
-use Rattle.jh_desc.specs.Levels.{index_of, slot_size}
+use Rattle.jh_desc.specs.Levels.{index_of, last_level, slot_size}
 use Rattle.jh_walk.specs.Walks.{walk_of, levels}
-use Rattle.jh_walk.specs.Paths.{IsLeafAt, LeadsTo, moved}
-use Rattle.jh_walk.proofs.PathLemmas.{first_leaf, second_leaf, third_leaf, only_leaves}
-
-abbrev Leaves : (ℕ → ℕ) → ℕ → ℕ → Hit → Type 0
-Leaves w t at hit = IsLeafAt w 1 t at hit ⊎ ((next : ℕ) × (LeadsTo w 1 t at next × (IsLeafAt w 2 next at hit ⊎ ((last : ℕ) × (LeadsTo w 2 next at last × IsLeafAt w 3 last at hit)))))
+use Rattle.jh_walk.specs.Paths.{EndsAtLeaf, IsLeafAt, LeadsTo, moved}
+use Rattle.jh_walk.proofs.PathLemmas.{ends_found, only_ends}
 
 further : (out a b : ℕ) → (out + a) - a + b ≡ out + b
 further out a b = omega arith
@@ -33,27 +30,34 @@ led_moved w level t at other next same leads = record {
 span_is : (w : ℕ → ℕ) (level t at : ℕ) (hit : Hit) → IsLeafAt w level t at hit → hit.span ≡ slot_size level
 span_is w level t at hit leaf = ap (λ (h : Hit). h.span) leaf.gives
 
-first_moved : (w : ℕ → ℕ) (t at other : ℕ) (hit : Hit) → other / 2 ^ 30 ≡ at / 2 ^ 30 → IsLeafAt w 1 t at hit → walk_of w levels t other ≡ Some (moved at other hit)
-first_moved w t at other hit same leaf = first_leaf w t other (moved at other hit) (leaf_moved w 1 t at other hit (ap (λ n. n % 512) same) leaf)
-
-second_moved : (w : ℕ → ℕ) (t next at other : ℕ) (hit : Hit) → other / 2 ^ 21 ≡ at / 2 ^ 21 → LeadsTo w 1 t at next → IsLeafAt w 2 next at hit → walk_of w levels t other ≡ Some (moved at other hit)
-second_moved w t next at other hit same leads leaf =
-    let above : other / 2 ^ 30 ≡ at / 2 ^ 30 = omega arith in
-    second_leaf w t next other (moved at other hit) (led_moved w 1 t at other next (ap (λ n. n % 512) above) leads) (leaf_moved w 2 next at other hit (ap (λ n. n % 512) same) leaf)
-
-third_moved : (w : ℕ → ℕ) (t next last at other : ℕ) (hit : Hit) → other / 2 ^ 12 ≡ at / 2 ^ 12 → LeadsTo w 1 t at next → LeadsTo w 2 next at last → IsLeafAt w 3 last at hit → walk_of w levels t other ≡ Some (moved at other hit)
-third_moved w t next last at other hit same leads on leaf =
-    let above : other / 2 ^ 21 ≡ at / 2 ^ 21 = omega arith in
-    let top : other / 2 ^ 30 ≡ at / 2 ^ 30 = omega arith in
-    third_leaf w t next last other (moved at other hit) (led_moved w 1 t at other next (ap (λ n. n % 512) top) leads) (led_moved w 2 next at other last (ap (λ n. n % 512) above) on) (leaf_moved w 3 last at other hit (ap (λ n. n % 512) same) leaf)
-
 same_slot : (a b span size : ℕ) → span ≡ size → b / span ≡ a / span → b / size ≡ a / size
 same_slot a b span size e same = subst (λ n. b / n ≡ a / n) e same
 
-by_leaf : (w : ℕ → ℕ) (t at other : ℕ) (hit : Hit) → other / hit.span ≡ at / hit.span → Leaves w t at hit → walk_of w levels t other ≡ Some (moved at other hit)
-by_leaf w t at other hit same (inl leaf) = first_moved w t at other hit (same_slot at other hit.span (2 ^ 30) (span_is w 1 t at hit leaf) same) leaf
-by_leaf w t at other hit same (inr (next, (leads, inl leaf))) = second_moved w t next at other hit (same_slot at other hit.span (2 ^ 21) (span_is w 2 next at hit leaf) same) leads leaf
-by_leaf w t at other hit same (inr (next, (leads, inr (last, (on, leaf))))) = third_moved w t next last at other hit (same_slot at other hit.span (2 ^ 12) (span_is w 3 last at hit leaf) same) leads on leaf
+-- addresses of one slot lie in one slot of the level above
+coarser : (a b level : ℕ) → level < 3 → b / slot_size (suc level) ≡ a / slot_size (suc level) → b / slot_size level ≡ a / slot_size level
+coarser a b zero lt same = omega arith
+coarser a b (suc zero) lt same = omega arith
+coarser a b (suc (suc zero)) lt same = omega arith
+coarser a b (suc (suc (suc n))) lt same = omega arith
+
+-- and so of each level on the way to the leaf
+coarse : (w : ℕ → ℕ) (n t at other : ℕ) (hit : Hit) → n ≤ last_level → other / hit.span ≡ at / hit.span → EndsAtLeaf w (suc n) t at hit → other / slot_size (last_level - n) ≡ at / slot_size (last_level - n)
+coarse w n t at other hit few same (inl leaf) = same_slot at other hit.span (slot_size (last_level - n)) (span_is w (last_level - n) t at hit leaf) same
+coarse w zero t at other hit few same (inr (next, (leads, ends))) = elim ends [ ]
+coarse w (suc n) t at other hit few same (inr (next, (leads, ends))) =
+    let below : other / slot_size (last_level - n) ≡ at / slot_size (last_level - n) = coarse w n next at other hit (omega arith) same ends in
+    let above : last_level - n ≡ suc (last_level - suc n) = omega arith in
+    coarser at other (last_level - suc n) (omega arith) (subst (λ l. other / slot_size l ≡ at / slot_size l) above below)
+
+ends_moved : (w : ℕ → ℕ) (n t at other : ℕ) (hit : Hit) → n ≤ last_level + 1 → other / hit.span ≡ at / hit.span → EndsAtLeaf w n t at hit → EndsAtLeaf w n t other (moved at other hit)
+ends_moved w zero t at other hit few same ends = elim ends [ ]
+ends_moved w (suc n) t at other hit few same (inl leaf) =
+    let slot : other / slot_size (last_level - n) ≡ at / slot_size (last_level - n) = coarse w n t at other hit (omega arith) same (inl leaf) in
+    inl (leaf_moved w (last_level - n) t at other hit (ap (λ i. i % 512) slot) leaf)
+ends_moved w (suc n) t at other hit few same (inr (next, (leads, ends))) =
+    let slot : other / slot_size (last_level - n) ≡ at / slot_size (last_level - n) = coarse w n t at other hit (omega arith) same (inr (next, (leads, ends))) in
+    inr (next, (led_moved w (last_level - n) t at other next (ap (λ i. i % 512) slot) leads, ends_moved w n next at other hit (omega arith) same ends))
 
 pub hit_covers : (w : ℕ → ℕ) (t at other : ℕ) (hit : Hit) → walk_of w levels t at ≡ Some hit → other / hit.span ≡ at / hit.span → walk_of w levels t other ≡ Some (moved at other hit)
-hit_covers w t at other hit found same = by_leaf w t at other hit same (only_leaves w t at hit found)
+hit_covers w t at other hit found same =
+    ends_found w levels t other (moved at other hit) (ends_moved w levels t at other hit (omega arith) same (only_ends w levels t at hit found))

@@ -1,3 +1,4 @@
 pub mod Walks
 pub mod Pages
 pub mod Paths
+pub mod Onwards

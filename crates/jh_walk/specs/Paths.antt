@@ -1,10 +1,11 @@
 -- The way of an address through its tables, level by level from the first on.
-use Rattle.std.specs.Prelude.{◌≡◌, ℕ, ◌+◌, ◌-◌, ◌%◌, ◌<◌, Bool}
+use Rattle.std.specs.Prelude.{◌≡◌, ℕ, ◌+◌, ◌-◌, ◌%◌, ◌<◌, ◌⊎◌, Bool, zero, suc}
 use Rattle.jh_num.specs.declared.address.TheConstants.{ADDRESS_END}
 use Rattle.jh_num.specs.declared.rights.Rights.{Rights}
 use Rattle.jh_desc.specs.declared.descriptor.Descriptor.TheVariants.{Table, Leaf}
 use Rattle.jh_desc.specs.declared.descriptor.Hit.{Hit}
 use Rattle.jh_desc.specs.Descriptors.{read_of}
+use Rattle.jh_desc.specs.Levels.{last_level}
 use Rattle.jh_walk.specs.Walks.{slot_at, hit_of}
 
 -- the descriptor of the address in the table of the level leads to that table of the next level
@@ -19,6 +20,12 @@ pub record IsLeafAt (word : ℕ → ℕ) (level table at : ℕ) (hit : Hit) : Ty
   pub device : Bool
   pub descriptor : read_of (word (slot_at level table at)) level ≡ Leaf out rights device
   pub gives : hit ≡ hit_of level at out rights device
+
+-- with so many levels left, table descriptors lead the address from the table to a leaf, which gives that
+abbrev pub EndsAtLeaf : (ℕ → ℕ) → ℕ → ℕ → ℕ → Hit → Type 0
+EndsAtLeaf word zero table at hit = ⊥
+EndsAtLeaf word (suc n) table at hit =
+    IsLeafAt word (last_level - n) table at hit ⊎ ((next : ℕ) × (LeadsTo word (last_level - n) table at next × EndsAtLeaf word n next at hit))
 
 -- what the same leaf gives another address of its slot
 abbrev pub moved : ℕ → ℕ → Hit → Hit

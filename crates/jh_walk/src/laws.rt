@@ -2,16 +2,14 @@
 ghost use Rattle.std.specs.Prelude.{◌≡◌, ◌≢◌, ℕ, ◌+◌, ◌/◌, ◌<◌, ◌≤◌, ◌⊎◌, List, length, Some};
 ghost use Rattle.jh_desc.specs.declared.descriptor.Hit.{Hit as AnyHit};
 ghost use Rattle.jh_walk.specs.Walks.{levels, probes_of, walk_of};
-ghost use Rattle.jh_walk.specs.Paths.{moved, IsLeafAt, LeadsTo};
+ghost use Rattle.jh_walk.specs.Paths.{moved, EndsAtLeaf};
 ghost use Rattle.jh_walk.specs.Pages.{count, times, AlikeBut, AreAligned, Grows, IsReached, SameTables, Weight};
 
-/// A walk gives something exactly where table descriptors, from level 1 on, lead to a leaf: at once, over
-/// one table more, or over two.
+/// A walk gives something exactly where table descriptors, level by level from its first table on, lead to a
+/// leaf.
 pub fn a_walk_ends_at_a_leaf()
-    ensures leaf { (word : ℕ → ℕ) (table at : ℕ) (hit : AnyHit) → IsLeafAt word 1 table at hit → walk_of word levels table at ≡ Some hit }
-    ensures second { (word : ℕ → ℕ) (table next at : ℕ) (hit : AnyHit) → LeadsTo word 1 table at next → IsLeafAt word 2 next at hit → walk_of word levels table at ≡ Some hit }
-    ensures third { (word : ℕ → ℕ) (table next last at : ℕ) (hit : AnyHit) → LeadsTo word 1 table at next → LeadsTo word 2 next at last → IsLeafAt word 3 last at hit → walk_of word levels table at ≡ Some hit }
-    ensures only { (word : ℕ → ℕ) (table at : ℕ) (hit : AnyHit) → walk_of word levels table at ≡ Some hit → IsLeafAt word 1 table at hit ⊎ ((next : ℕ) × (LeadsTo word 1 table at next × (IsLeafAt word 2 next at hit ⊎ ((last : ℕ) × (LeadsTo word 2 next at last × IsLeafAt word 3 last at hit))))) }
+    ensures found { (word : ℕ → ℕ) (n table at : ℕ) (hit : AnyHit) → EndsAtLeaf word n table at hit → walk_of word n table at ≡ Some hit }
+    ensures only { (word : ℕ → ℕ) (n table at : ℕ) (hit : AnyHit) → walk_of word n table at ≡ Some hit → EndsAtLeaf word n table at hit }
 {}
 
 /// What an address is given, each other address of the slot is given at its own offset.

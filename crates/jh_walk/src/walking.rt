@@ -2,8 +2,9 @@
 ghost use Rattle.std.specs.Prelude.{◌≡◌, ℕ, ◌+◌, ◌-◌, ◌*◌, ◌%◌, ◌^◌, ◌<◌, ◌≤◌};
 ghost use Rattle.jh_num.specs.declared.address.TheConstants.{ADDRESS_END};
 ghost use Rattle.jh_desc.specs.Descriptors.{read_of};
-ghost use Rattle.jh_desc.specs.Levels.{last_level, index_of, slot_size};
+ghost use Rattle.jh_desc.specs.Levels.{first_level, last_level, index_of, slot_size};
 ghost use Rattle.jh_frames.specs.Memory.{byte_at, word_in};
+ghost use Rattle.jh_walk.specs.Onwards.{found_on, onward_of, reads_on, IsTablePlace, LeadsToPlace};
 ghost use Rattle.jh_walk.specs.Walks.{all_counted, counted, levels, probes_of, slot_at, walk_of};
 
 use jh_desc::{Descriptor, FIRST_LEVEL, Hit, LAST_LEVEL, index, offset, read, slot_size};
@@ -13,11 +14,20 @@ use jh_num::{ADDRESS_END, Probe, Rights, Steps};
 /// How many levels tables have.
 const LEVELS: u8 = LAST_LEVEL + 1 - FIRST_LEVEL;
 
+/// Where a descriptor leads an address.
+enum Onward {
+    /// To nothing: it is invalid, or the table's place isn't one of memory.
+    Nowhere,
+    /// To its place, by a leaf.
+    Found(Hit),
+    /// To the table of the next level, at that place.
+    Below(u64),
+}
+
 /// The word of the address's descriptor in its table of the level, told to `steps`.
 fn descriptor_word(f: &Frames, level: u8, table: u64, ipa: u64, steps: &mut Steps) -> u64
     requires level { level ≤ last_level }
-    requires aligned { table % 4096 ≡ 0 }
-    requires place { table < ADDRESS_END }
+    requires table { IsTablePlace table }
     ensures word { result ≡ word_in (byte_at f.now) (slot_at level table ipa) }
     ensures steps { steps.new ≡ counted steps.old (record { at = slot_at level table ipa; word = word_in (byte_at f.now) (slot_at level table ipa) }) }
 {
@@ -27,26 +37,20 @@ fn descriptor_word(f: &Frames, level: u8, table: u64, ipa: u64, steps: &mut Step
     word
 }
 
-/// The walk of the levels that are left.
-fn walk_from(f: &Frames, left: u8, table: u64, ipa: u64, steps: &mut Steps) -> Option<Hit>
-    requires left { left ≤ levels }
-    requires aligned { table % 4096 ≡ 0 }
-    requires place { table < ADDRESS_END }
-    ensures value { result ≡ walk_of (word_in (byte_at f.now)) left table ipa }
-    ensures probes { steps.new ≡ all_counted steps.old (probes_of (word_in (byte_at f.now)) left table ipa) }
+/// Where the descriptor that the word says at the level leads the address.
+fn lead(word: u64, level: u8, ipa: u64) -> Onward
+    requires first { first_level ≤ level }
+    requires last { level ≤ last_level }
+    ensures value { result ≡ onward_of level ipa (read_of word level) }
+    ensures table { LeadsToPlace result }
 {
-    if left == 0 {
-        return None;
-    }
-    let level = LAST_LEVEL + 1 - left;
-    let word = descriptor_word(f, level, table, ipa, steps);
     match read(word, level) {
-        Descriptor::Invalid => None,
+        Descriptor::Invalid => Onward::Nowhere,
         Descriptor::Leaf {
             out,
             rights,
             device,
-        } => Some(Hit {
+        } => Onward::Found(Hit {
             out: out + offset(level, ipa),
             rights,
             device,
@@ -54,11 +58,43 @@ fn walk_from(f: &Frames, left: u8, table: u64, ipa: u64, steps: &mut Steps) -> O
         }),
         Descriptor::Table { next } => {
             if next < ADDRESS_END {
-                walk_from(f, left - 1, next, ipa, steps)
+                Onward::Below(next)
             } else {
-                None
+                Onward::Nowhere
             }
         }
+    }
+}
+
+/// The first step of the walk of the levels that are left.
+fn step(f: &Frames, left: u8, table: u64, ipa: u64, steps: &mut Steps) -> Onward
+    requires some { 0 < left }
+    requires left { left ≤ levels }
+    requires table { IsTablePlace table }
+    ensures value { found_on (λ next. walk_of (word_in (byte_at f.now)) (left - 1) next ipa) result ≡ walk_of (word_in (byte_at f.now)) left table ipa }
+    ensures probes { all_counted steps.new (reads_on (λ next. probes_of (word_in (byte_at f.now)) (left - 1) next ipa) result) ≡ all_counted steps.old (probes_of (word_in (byte_at f.now)) left table ipa) }
+    ensures table { LeadsToPlace result }
+{
+    let level = LAST_LEVEL + 1 - left;
+    let word = descriptor_word(f, level, table, ipa, steps);
+    lead(word, level, ipa)
+}
+
+/// The walk of the levels that are left.
+#[tactic(auto, using(crate::proofs::WalkLemmas::walk_none, crate::proofs::WalkLemmas::probes_none))]
+fn walk_from(f: &Frames, left: u8, table: u64, ipa: u64, steps: &mut Steps) -> Option<Hit>
+    requires left { left ≤ levels }
+    requires table { IsTablePlace table }
+    ensures value { result ≡ walk_of (word_in (byte_at f.now)) left table ipa }
+    ensures probes { steps.new ≡ all_counted steps.old (probes_of (word_in (byte_at f.now)) left table ipa) }
+{
+    if left == 0 {
+        return None;
+    }
+    match step(f, left, table, ipa, steps) {
+        Onward::Nowhere => None,
+        Onward::Found(hit) => Some(hit),
+        Onward::Below(next) => walk_from(f, left - 1, next, ipa, steps),
     }
 }
 
