@@ -202,6 +202,50 @@ fn the_first_cause_of_a_refusal_is_told(rt: HostRuntime) -> Result<(), Fail> {
     Ok(())
 }
 
+/// The verdict beside `a` on a cell with the name, the id and the CPUs.
+fn named(alloc: Global, name: u8, id: u32, cpus: u8) -> Result<Option<i64>, NoMemory> {
+    let cells = with_one(alloc)?;
+    let block = region(ROOT + 2 * BLOCK, BLOCK, READ_WRITE);
+    let new = cell(alloc, name, id, cpus, &[block])?;
+    verdict_on(alloc, &cells, &new, false, 8)
+}
+
+#[test]
+fn names_ids_and_cpus_are_taken_once(rt: HostRuntime) -> Result<(), Fail> {
+    let cases = [
+        (b'b', 2, 0x4, None, "the neighbour of each"),
+        (b'b', 0, 0x4, Some(EEXIST), "root's id"),
+        (b'r', 2, 0x4, Some(EEXIST), "root's name"),
+        (b'b', 1, 0x4, Some(EEXIST), "a live cell's id"),
+        (b'a', 2, 0x4, Some(EEXIST), "a live cell's name"),
+        (b'b', 2, 0x5, Some(EBUSY), "the caller's CPU"),
+        (b'b', 2, 0x6, Some(EBUSY), "a live cell's CPU"),
+        (b'b', 2, 0x14, Some(EBUSY), "a CPU that root lacks"),
+        (b'b', 2, 0xc, None, "two of root's CPUs"),
+        (b'b', 2, 0, Some(EINVAL), "no CPU"),
+        (b'a', 2, 0, Some(EEXIST), "a name that lives, and no CPU"),
+    ];
+    for (name, id, cpus, refusal, what) in cases {
+        assert_eq!(rt; named(rt.alloc(), name, id, cpus)?, refusal, "{what}");
+    }
+    Ok(())
+}
+
+/// The verdict on another cell with CPU 2 and those from 16 on whose bits are set.
+fn with_high_cpus(alloc: Global, bits: u8) -> Result<Option<i64>, NoMemory> {
+    let cells = with_one(alloc)?;
+    let mut new = another(alloc, 0)?;
+    new.cpu_set = Seq::from_vec(Vec::from_slice(alloc, &[0x4, 0, bits])?);
+    verdict_on(alloc, &cells, &new, false, 8)
+}
+
+#[test]
+fn no_cpu_from_16_on_is_given_away(rt: HostRuntime) -> Result<(), Fail> {
+    assert_eq!(rt; with_high_cpus(rt.alloc(), 0)?, None);
+    assert_eq!(rt; with_high_cpus(rt.alloc(), 0x1)?, Some(EBUSY));
+    Ok(())
+}
+
 #[test]
 fn a_cell_that_leaves_takes_its_mark_along(rt: HostRuntime) -> Result<(), Fail> {
     let two = told(rt.alloc(), false)?;
@@ -241,6 +285,7 @@ fn crowded(alloc: Global, id: u32, cpus: u8) -> Result<Option<i64>, NoMemory> {
 fn no_cell_joins_fifteen_others(rt: HostRuntime) -> Result<(), Fail> {
     assert_eq!(rt; crowded(rt.alloc(), 15, 0)?, Some(EEXIST));
     assert_eq!(rt; crowded(rt.alloc(), 14, 0)?, Some(EEXIST));
+    assert_eq!(rt; crowded(rt.alloc(), 15, 0x1)?, Some(EEXIST));
     assert_eq!(rt; crowded(rt.alloc(), 16, 0x1)?, Some(EBUSY));
     assert_eq!(rt; crowded(rt.alloc(), 16, 0x2)?, Some(EBUSY));
     assert_eq!(rt; crowded(rt.alloc(), 16, 0)?, Some(EINVAL));

@@ -1,5 +1,5 @@
 -- The mask with bit 0 alone.
-use Rattle.std.proofs.Common.{◌≡◌, ℕ, nat_eq, false, ap, ⊎_elim}
+use Rattle.std.proofs.Common.{◌≡◌, nat_eq, false, ap, ⊎_elim}
 use Rattle.std.proofs.lemmas.Bool.{cases_eq, both_ways}
 use Rattle.std.proofs.lemmas.Nat.Bits.{bit_at-pow_other}
 use Rattle.jh_shape.specs.Claims.{has_bit}
