@@ -50,7 +50,7 @@ use Rattle.jh_history.specs.Pages.{is_left, failing, unless_good, asking, commit
 use Rattle.jh_history.specs.Phases.{configs_of}
 use Rattle.jh_history.specs.Due.{due_at, IsLegal, IsLegalFrom}
 use Rattle.jh_history.specs.Admitted.{IsAdmitted}
-use Rattle.jh_history.specs.Sound.{AreTwo, AreSoundCells, HasBytes, IsSound}
+use Rattle.jh_history.specs.Sound.{AreTwo, HasBytes, IsSound}
 use Rattle.jh_laws.specs.Ways.{is_commit}
 use Rattle.jh_history.proofs.SoundCommitLemmas.{configs-joined, configs-marked, configs-others, is_other_config}
 use Rattle.jh_history.proofs.SoundCpusLemmas.{changed-owner}

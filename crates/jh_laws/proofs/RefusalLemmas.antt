@@ -1,10 +1,10 @@
 -- The numbers that calls are refused with are numbers of 64 bits.
-use Rattle.std.proofs.Common.{◌≡◌, ℕ, ℤ, ◌^◌, ◌<◌, List, ◌∷◌, [], ◌++◌, Bool, true, false, eqb, Option, Some, None, is_some, refl, sym, subst, arith}
+use Rattle.std.proofs.Common.{◌≡◌, ℕ, ℤ, List, ◌∷◌, [], ◌++◌, Bool, eqb, Option, Some, None, is_some, refl, sym, subst, arith}
 use Rattle.std.specs.Prelude.{FitsSigned, IfSome, nat_lt}
 use Rattle.std.specs.Int.{w64}
 use Rattle.std.specs.List.{list_any}
 use Rattle.std.proofs.lemmas.Bool.{cond_both}
-use Rattle.jh_num.specs.declared.error.TheConstants.{EPERM, ENOENT, E2BIG, ENOMEM, EBUSY, EEXIST, EINVAL, ENOSYS}
+use Rattle.jh_num.specs.declared.error.TheConstants.{EPERM, ENOENT, E2BIG, ENOMEM, EBUSY, EEXIST, EINVAL}
 use Rattle.jh_cellcfg.specs.declared.config.CellConfig.{CellConfig}
 use Rattle.jh_cellcfg.specs.declared.config.SystemConfig.{SystemConfig}
 use Rattle.jh_cellcfg.specs.declared.fault.ConfigFault.{ConfigFault}
@@ -27,10 +27,7 @@ use Rattle.jh_history.specs.declared.call.Phase.TheVariants.{ToDecide, ToSettle,
 use Rattle.jh_history.specs.declared.entry.Entry.{Entry}
 use Rattle.jh_history.specs.declared.entry.Act.{Act}
 use Rattle.jh_history.specs.declared.entry.Act.TheVariants.{Read, Write, Fetch, Await, Irq, Hvc, Begin, Stop, Decide, Settle, Commit, Note, Noted, Finish}
-use Rattle.jh_history.specs.declared.access.Access.TheVariants.{Read as ToRead}
-use Rattle.jh_history.specs.Access.{places_from}
 use Rattle.jh_history.specs.Facts.{Facts}
-use Rattle.jh_history.specs.Grants.{granted}
 use Rattle.jh_history.specs.Lives.{cell_of}
 use Rattle.jh_history.specs.Admitted.{pool_pages}
 use Rattle.jh_history.specs.Configs.{ReadCell, Reads, Refuses, bytes_at, refused_for, read_whole, read_behind, read_from, read_at}

@@ -1,5 +1,5 @@
 -- The registers of devices keep to 32 bits.
-use Rattle.std.proofs.Common.{◌≡◌, ℕ, zero, suc, ◌+◌, ◌*◌, ◌/◌, ◌%◌, ◌^◌, ◌<◌, ◌==◌, ◌&&◌, Bool, true, false, not, cond, List, [], ◌∷◌, get_or, All, Contains, Option, Some, None, subst, mod-lt, arith}
+use Rattle.std.proofs.Common.{ℕ, zero, suc, ◌/◌, ◌%◌, ◌^◌, ◌<◌, ◌==◌, ◌&&◌, Bool, true, false, not, cond, List, [], ◌∷◌, get_or, All, Option, Some, None, mod-lt, arith}
 use Rattle.std.specs.Option.{option_map_or}
 use Rattle.std.proofs.lemmas.Bool.{cond_both}
 use Rattle.std.proofs.lemmas.List.Elements.{All-nil, All-cons, All-head, All-tail, All-filter, All-set, All-replicate}
@@ -7,7 +7,7 @@ use Rattle.jh_ivshmem.specs.declared.vector.Vector.{Vector}
 use Rattle.jh_ivshmem.specs.declared.endpoint.Endpoint.{Endpoint}
 use Rattle.jh_ivshmem.specs.declared.spec.EndpointSpec.{EndpointSpec}
 use Rattle.jh_ivshmem.specs.Specs.{IsWithin, is_device, is_peer, is_other, is_before}
-use Rattle.jh_ivshmem.specs.Endpoint.{raised, taken, cleared, fresh, fresh_vector, fresh_vectors, vector_at, is_open}
+use Rattle.jh_ivshmem.specs.Endpoint.{raised, taken, cleared, fresh, fresh_vector, vector_at, is_open}
 use Rattle.jh_ivshmem.specs.Registers.{word_of, with_word, register_of, register_written, is_in_table}
 use Rattle.jh_ivshmem.specs.Changes.{changed}
 use Rattle.jh_ivshmem.specs.Links.{endpoint_at, joined, rung, told, told_of, state_written, written, reset_of, left_by}
