@@ -1,5 +1,5 @@
 -- The numbers that entries tell beyond the operations of programs, and what an image must keep to for them.
-use Rattle.std.specs.Prelude.{ℕ, ◌^◌, ◌<◌, All, FitsSigned, IfSome}
+use Rattle.std.specs.Prelude.{◌^◌, ◌<◌, All, FitsSigned, IfSome}
 use Rattle.std.specs.Int.{w64}
 use Rattle.jh_script.specs.declared.image.Image.{Image}
 use Rattle.jh_script.specs.declared.image.Preload.{Preload}
