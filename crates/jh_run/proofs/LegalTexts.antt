@@ -1,5 +1,5 @@
 -- The entries of a legal journal are ones that a text may hold.
-use Rattle.std.proofs.Common.{◌≡◌, ℕ, ◌^◌, ◌<◌, List, [], ◌∷◌, ◌++◌, slice_get, Option, Some, None, Bool, refl, sym, subst, append_assoc, arith}
+use Rattle.std.proofs.Common.{◌≡◌, ℕ, ◌^◌, ◌<◌, ◌≤◌, List, [], ◌∷◌, ◌++◌, length, slice_get, Option, Some, None, Bool, refl, sym, subst, append_assoc, arith}
 use Rattle.std.specs.Prelude.{All, find}
 use Rattle.std.specs.List.{AllByRecursion}
 use Rattle.std.specs.Option.{option_map_or}
@@ -22,7 +22,11 @@ use Rattle.jh_laws.specs.Held.{IsLive}
 use Rattle.jh_laws.specs.Moments.{AdmittedMoment, facts_before, state_before}
 use Rattle.jh_laws.specs.Operations.{op_of}
 use Rattle.jh_laws.specs.Told.{OpensTyped, TellsTyped}
+use Rattle.jh_text.specs.declared.fault.JournalFault.{JournalFault}
+use Rattle.jh_text.specs.declared.fault.JournalFault.TheVariants.{Line, TooLong, NoMemory}
+use Rattle.jh_text.specs.Faults.{IsFault, IsFirstBadLine, IsJournalText, IsTooLong, max_entries}
 use Rattle.jh_text.specs.Ranges.{IsReadable, IsReadableAct}
+use Rattle.jh_text.specs.Text.{journal_text}
 use Rattle.jh_run.specs.Typed.{IsTypedOp, HasTypedNumbers}
 
 -- the laws of journals that this stands on
@@ -99,3 +103,13 @@ readable-from laws image admitted numbers (entry ∷ rest) before legal = (
 
 pub readable : (laws : JournalLaws) (image : Image) → IsAdmitted image → HasTypedNumbers image → (entries : List Entry) → IsLegal image entries → AllByRecursion IsReadable entries
 readable laws image admitted numbers entries legal = readable-from laws image admitted numbers entries [] legal
+
+pub readable-text : (laws : JournalLaws) (image : Image) → IsAdmitted image → HasTypedNumbers image → (entries : List Entry) → IsLegal image entries → length entries ≤ max_entries → IsJournalText (journal_text entries) entries
+readable-text laws image admitted numbers entries legal within = record { readable = readable laws image admitted numbers entries legal; within = within; whole = refl }
+
+-- a journal's text has no fault of a text
+pub no-fault : (text : List ℕ) (entries : List Entry) (fault : JournalFault) → ((number : ℕ) → IsJournalText text entries → IsFirstBadLine text number → ⊥) → (IsJournalText text entries → IsTooLong text → ⊥)
+    → IsJournalText text entries → IsFault text fault → fault ≡ NoMemory
+no-fault text entries (Line number) bad long good h = absurd (bad number good h)
+no-fault text entries TooLong bad long good h = absurd (long good h)
+no-fault text entries NoMemory bad long good h = refl

@@ -7,7 +7,9 @@ ghost use Rattle.jh_history.specs.Admitted.{IsAdmitted};
 ghost use Rattle.jh_history.specs.Due.{IsLegal};
 ghost use Rattle.jh_text.specs.Text.{journal_text};
 ghost use Rattle.jh_text.specs.Ranges.{IsReadable};
-ghost use Rattle.jh_text.specs.Faults.{IsJournalText, max_entries};
+ghost use Rattle.jh_text.specs.declared.fault.JournalFault.{JournalFault as TheFault};
+ghost use Rattle.jh_text.specs.declared.fault.JournalFault.TheVariants.{NoMemory as OutOfMemory};
+ghost use Rattle.jh_text.specs.Faults.{IsFault, IsJournalText, max_entries};
 ghost use Rattle.jh_script.specs.declared.image.Image.{Image as TheImage};
 ghost use Rattle.jh_run.specs.Maps.{IsMapsText};
 
@@ -15,18 +17,25 @@ use crate::typed::image_is_typed;
 use jh_laws::{entries_are_their_cpus_own, numbers_keep_to_their_types};
 use jh_map::maps_of_one_cell_are_equal;
 use jh_script::Image;
+use jh_text::{one_answer, texts_go_both_ways};
 
 /// Each entry of a legal journal of an image that is admitted is one that a text may hold. So the text of the journal,
-/// where it is no longer than a journal may be, is a journal's text, and no other journal's: what is printed of it is read
-/// again.
+/// where it is no longer than a journal may be, is a journal's text, and no other journal's. What reads it finds that
+/// journal and no fault, but that memory may want.
 pub fn legal_journals_are_readable(image: &Image)
     ensures entries { IsAdmitted image.now → (entries : List Entry) → IsLegal image.now entries → AllByRecursion IsReadable entries }
     ensures text { IsAdmitted image.now → (entries : List Entry) → IsLegal image.now entries → length entries ≤ max_entries
         → IsJournalText (journal_text entries) entries }
+    ensures read { IsAdmitted image.now → (entries : List Entry) → IsLegal image.now entries → length entries ≤ max_entries
+        → (found : List Entry) → IsJournalText (journal_text entries) found → found ≡ entries }
+    ensures faultless { IsAdmitted image.now → (entries : List Entry) → IsLegal image.now entries → length entries ≤ max_entries
+        → (fault : TheFault) → IsFault (journal_text entries) fault → fault ≡ OutOfMemory }
 {
     image_is_typed(image);
     entries_are_their_cpus_own();
     numbers_keep_to_their_types();
+    texts_go_both_ways();
+    one_answer();
 }
 
 /// The maps of the cells that live after the entries have one text.
