@@ -1,6 +1,8 @@
--- Over a legal journal bytes stay bytes, and root keeps a CPU: so at most 15 cells live besides it.
+-- Over a legal journal what it leaves keeps to its types: bytes are bytes, and ids, registers and answers have their
+-- bits. Root keeps a CPU: so at most 15 cells live besides it.
 use Rattle.std.proofs.Common.{◌≡◌, ◌≢◌, ℕ, ℤ, pos, suc, ◌<◌, ◌≤◌, List, [], ◌∷◌, ◌++◌, Bool, true, false, cond, ◌&&◌, ◌||◌, eqb, length, get_or, map, Option, Some, None, is_some, refl, sym, ap, subst, ◌∙◌, ⊎_elim, arith}
-use Rattle.std.specs.Prelude.{Contains, filter, find, option_map, option_and_then}
+use Rattle.std.specs.Prelude.{◌^◌, AllPairs, Contains, FitsSigned, IfSome, filter, find, option_map, option_and_then}
+use Rattle.std.specs.Int.{w64}
 use Rattle.std.specs.List.{fold}
 use Rattle.std.specs.Option.{option_map_or}
 use Rattle.std.proofs.lemmas.Bool.{both_ways, cond_both}
@@ -48,7 +50,7 @@ use Rattle.jh_history.specs.Pages.{is_left, failing, unless_good, asking, commit
 use Rattle.jh_history.specs.Phases.{configs_of}
 use Rattle.jh_history.specs.Due.{due_at, IsLegal, IsLegalFrom}
 use Rattle.jh_history.specs.Admitted.{IsAdmitted}
-use Rattle.jh_history.specs.Sound.{AreTwo, AreSoundCells, HasBytes, IsSound}
+use Rattle.jh_history.specs.Sound.{AreTwo, HasBytes, IsSound}
 use Rattle.jh_laws.specs.Ways.{is_commit}
 use Rattle.jh_history.proofs.SoundCommitLemmas.{configs-joined, configs-marked, configs-others, is_other_config}
 use Rattle.jh_history.proofs.SoundCpusLemmas.{changed-owner}
@@ -57,25 +59,34 @@ use Rattle.jh_laws.proofs.HeldLemmas.{two-ids}
 use Rattle.jh_history.proofs.SoundStepLemmas.{begun-owner, finished-owner}
 use Rattle.jh_history.proofs.SoundLemmas.{sound-start, sound-after, legal-sound}
 use Rattle.jh_laws.proofs.CallLemmas.{call-after, sound-open}
-use Rattle.jh_laws.proofs.FewLemmas.{IsTyped, MayWriteBytes, page-write-small, write-small, words-small, opening-small, config-typed, read-bytes, picked, picked-few, index-small, length-map, get-map}
+use Rattle.jh_laws.proofs.FewLemmas.{IsTyped, ArePreloadsBytes, MayWriteBytes, page-write-small, write-small, words-small, opening-small, config-typed, read-bytes, picked, picked-few, index-small, length-map, get-map}
+use Rattle.jh_laws.proofs.RegisterLemmas.{HaveRegisters, registers-after, registers-open}
+use Rattle.jh_laws.proofs.RefusalLemmas.{FitsRefusal, refusal-fits}
 
-abbrev AreTyped : List CellConfig → Type 0
+abbrev pub AreTyped : List CellConfig → Type 0
 AreTyped configs = (config : CellConfig) → Contains configs config → IsTyped config
 
-abbrev IsTypedPhase : Phase → Type 0
+abbrev pub IsTypedPhase : Phase → Type 0
 IsTypedPhase (ToCreate config) = IsTyped config
+IsTypedPhase (ToNote id about answer) = FitsSigned w64 answer
+IsTypedPhase (ToNoted id about answer waited) = FitsSigned w64 answer
+IsTypedPhase (ToFinish answer) = FitsSigned w64 answer
 IsTypedPhase _ = Unit {0}
 
-abbrev IsTypedCall : Option OpenCall → Type 0
+abbrev pub IsTypedCall : Option OpenCall → Type 0
 IsTypedCall None = Unit {0}
 IsTypedCall (Some o) = IsTypedPhase o.phase
 
--- bytes are bytes, and a CPU of the board is root's
-record IsFew (image : Image) (f : Facts) : Type 0 where
-  bytes : (q : Place) → f.byte q < 256
-  cells : AreTyped (configs_of f.cells)
-  call : IsTypedCall f.call
-  root : (i : ℕ) × (is_on_board image i ≡ true) × ((f.cpu i).owner ≡ image.system.root.id)
+-- what holds keeps to its types
+pub record IsTypedBoard (f : Facts) : Type 0 where
+  pub bytes : (q : Place) → f.byte q < 256
+  pub cells : AreTyped (configs_of f.cells)
+  pub call : IsTypedCall f.call
+  pub endpoints : HaveRegisters f.endpoints
+
+-- a CPU of the board is root's
+abbrev HasCpu : Image → (ℕ → Cpu) → Type 0
+HasCpu image cpu = (i : ℕ) × (is_on_board image i ≡ true) × ((cpu i).owner ≡ image.system.root.id)
 
 -- ---- the call
 
@@ -111,52 +122,58 @@ coming_of_typed : (image : Image) (f : Facts) (call : Option OpenCall) (config :
 coming_of_typed image f None config small h = absurd (none-some config h)
 coming_of_typed image f (Some o) config small h = coming_typed image f o.call config small h
 
-decided_typed : (call : Call) (coming : Option CellConfig) (refused : Option ℤ) → ((config : CellConfig) → coming ≡ Some config → IsTyped config) → IsTypedPhase (decided call coming refused)
-decided_typed call coming (Some number) h = tt
-decided_typed (Create at) (Some config) None h = h config refl
-decided_typed (Create at) None None h = tt
-decided_typed (Start id) coming None h = tt
-decided_typed (Loadable id) coming None h = tt
-decided_typed (Destroy id) coming None h = tt
-decided_typed (Info kind) coming None h = tt
-decided_typed (State id) coming None h = tt
-decided_typed (CpuInfo cpu kind) coming None h = tt
-decided_typed Unknown coming None h = tt
+decided_typed : (call : Call) (coming : Option CellConfig) (refused : Option ℤ) → ((config : CellConfig) → coming ≡ Some config → IsTyped config) → IfSome refused (FitsSigned w64) → IsTypedPhase (decided call coming refused)
+decided_typed call coming (Some number) h fits = fits
+decided_typed (Create at) (Some config) None h fits = h config refl
+decided_typed (Create at) None None h fits = tt
+decided_typed (Start id) coming None h fits = tt
+decided_typed (Loadable id) coming None h fits = tt
+decided_typed (Destroy id) coming None h fits = tt
+decided_typed (Info kind) coming None h fits = tt
+decided_typed (State id) coming None h fits = tt
+decided_typed (CpuInfo cpu kind) coming None h fits = tt
+decided_typed Unknown coming None h fits = tt
 
 settled_typed : (how : Settled) → IsTypedPhase (after_settle how)
 settled_typed Agreed = tt
-settled_typed Denied = tt
+settled_typed Denied = record { sfits = omega arith }
 settled_typed Timeout = tt
 
-telling_typed : (about : ℕ) (answer : ℤ) (o : Option ℕ) → IsTypedPhase (telling about answer o)
-telling_typed about answer None = tt
-telling_typed about answer (Some id) = tt
+zero_fits : FitsSigned w64 (pos 0)
+zero_fits = record { sfits = omega arith }
 
-created_typed : (at : ℕ) (phase : Phase) (cells : List Live) → IsTypedPhase (after_commit (Create at) phase cells)
-created_typed at ToDecide cells = tt
-created_typed at (ToSettle waited) cells = tt
-created_typed at (ToCreate config) cells = telling_typed config.id (pos config.id) (first_told config.id cells)
-created_typed at ToCommit cells = tt
-created_typed at (ToNote id about answer) cells = tt
-created_typed at (ToNoted id about answer waited) cells = tt
-created_typed at (ToFinish answer) cells = tt
+id_fits : (id : ℕ) → id < 2 ^ 32 → FitsSigned w64 (pos id)
+id_fits id small = record { sfits = omega (arith, small) }
 
-commit_typed : (call : Call) (phase : Phase) (cells : List Live) → IsTypedPhase (after_commit call phase cells)
-commit_typed (Create at) phase cells = created_typed at phase cells
-commit_typed (Start id) phase cells = tt
-commit_typed (Loadable id) phase cells = tt
-commit_typed (Destroy id) phase cells = telling_typed id (pos 0) (first_told id cells)
-commit_typed (Info kind) phase cells = tt
-commit_typed (State id) phase cells = tt
-commit_typed (CpuInfo cpu kind) phase cells = tt
-commit_typed Unknown phase cells = tt
+telling_typed : (about : ℕ) (answer : ℤ) (o : Option ℕ) → FitsSigned w64 answer → IsTypedPhase (telling about answer o)
+telling_typed about answer None fits = fits
+telling_typed about answer (Some id) fits = fits
+
+created_typed : (at : ℕ) (phase : Phase) (cells : List Live) → IsTypedPhase phase → IsTypedPhase (after_commit (Create at) phase cells)
+created_typed at ToDecide cells h = zero_fits
+created_typed at (ToSettle waited) cells h = zero_fits
+created_typed at (ToCreate config) cells h = telling_typed config.id (pos config.id) (first_told config.id cells) (id_fits config.id h.id)
+created_typed at ToCommit cells h = zero_fits
+created_typed at (ToNote id about answer) cells h = zero_fits
+created_typed at (ToNoted id about answer waited) cells h = zero_fits
+created_typed at (ToFinish answer) cells h = zero_fits
+
+commit_typed : (call : Call) (phase : Phase) (cells : List Live) → IsTypedPhase phase → IsTypedPhase (after_commit call phase cells)
+commit_typed (Create at) phase cells h = created_typed at phase cells h
+commit_typed (Start id) phase cells h = zero_fits
+commit_typed (Loadable id) phase cells h = zero_fits
+commit_typed (Destroy id) phase cells h = telling_typed id (pos 0) (first_told id cells) zero_fits
+commit_typed (Info kind) phase cells h = zero_fits
+commit_typed (State id) phase cells h = zero_fits
+commit_typed (CpuInfo cpu kind) phase cells h = zero_fits
+commit_typed Unknown phase cells h = zero_fits
 
 note_typed : (phase : Phase) → IsTypedPhase phase → IsTypedPhase (after_note phase)
 note_typed ToDecide h = h
 note_typed (ToSettle waited) h = h
 note_typed (ToCreate config) h = h
 note_typed ToCommit h = h
-note_typed (ToNote id about answer) h = tt
+note_typed (ToNote id about answer) h = h
 note_typed (ToNoted id about answer waited) h = h
 note_typed (ToFinish answer) h = h
 
@@ -166,7 +183,7 @@ noted_typed (ToSettle waited) cells h = h
 noted_typed (ToCreate config) cells h = h
 noted_typed ToCommit cells h = h
 noted_typed (ToNote id about answer) cells h = h
-noted_typed (ToNoted id about answer waited) cells h = telling_typed about answer (first_told about (behind id cells))
+noted_typed (ToNoted id about answer waited) cells h = telling_typed about answer (first_told about (behind id cells)) h
 noted_typed (ToFinish answer) cells h = h
 
 counted_typed : (cell : ℕ) (call : Call) (phase : Phase) → IsTypedPhase phase → IsTypedPhase (counted cell call phase)
@@ -175,47 +192,47 @@ counted_typed cell call (ToSettle waited) h = cond_both (is_named call cell) (To
 counted_typed cell call (ToCreate config) h = h
 counted_typed cell call ToCommit h = h
 counted_typed cell call (ToNote id about answer) h = h
-counted_typed cell call (ToNoted id about answer waited) h = cond_both (eqb cell id) (ToNoted id about answer (one_more waited)) (ToNoted id about answer waited) IsTypedPhase (λ _. tt) (λ _. tt)
+counted_typed cell call (ToNoted id about answer waited) h = cond_both (eqb cell id) (ToNoted id about answer (one_more waited)) (ToNoted id about answer waited) IsTypedPhase (λ _. h) (λ _. h)
 counted_typed cell call (ToFinish answer) h = h
 
-phase_typed : (cells : List Live) (coming : Option CellConfig) (cell : ℕ) (call : Call) (phase : Phase) (act : Act) → ((config : CellConfig) → coming ≡ Some config → IsTyped config) → IsTypedPhase phase → IsTypedPhase (phase_after cells coming cell call phase act)
-phase_typed cells coming cell call phase (Decide refused) some h = decided_typed call coming refused some
-phase_typed cells coming cell call phase (Settle how) some h = settled_typed how
-phase_typed cells coming cell call phase Commit some h = commit_typed call phase cells
-phase_typed cells coming cell call phase (Note id) some h = note_typed phase h
-phase_typed cells coming cell call phase (Noted id how) some h = noted_typed phase cells h
-phase_typed cells coming cell call phase (Read width at got) some h = counted_typed cell call phase h
-phase_typed cells coming cell call phase (Write width at value ok) some h = counted_typed cell call phase h
-phase_typed cells coming cell call phase (Fetch at got) some h = counted_typed cell call phase h
-phase_typed cells coming cell call phase (Await width at value ok) some h = counted_typed cell call phase h
-phase_typed cells coming cell call phase (Irq device vector) some h = counted_typed cell call phase h
-phase_typed cells coming cell call phase (Hvc code a b answer) some h = counted_typed cell call phase h
-phase_typed cells coming cell call phase (Begin code a b) some h = counted_typed cell call phase h
-phase_typed cells coming cell call phase Stop some h = counted_typed cell call phase h
-phase_typed cells coming cell call phase (Finish answer) some h = counted_typed cell call phase h
+phase_typed : (cells : List Live) (coming : Option CellConfig) (cell : ℕ) (call : Call) (phase : Phase) (act : Act) → ((config : CellConfig) → coming ≡ Some config → IsTyped config) → FitsRefusal act → IsTypedPhase phase → IsTypedPhase (phase_after cells coming cell call phase act)
+phase_typed cells coming cell call phase (Decide refused) some fits h = decided_typed call coming refused some fits
+phase_typed cells coming cell call phase (Settle how) some fits h = settled_typed how
+phase_typed cells coming cell call phase Commit some fits h = commit_typed call phase cells h
+phase_typed cells coming cell call phase (Note id) some fits h = note_typed phase h
+phase_typed cells coming cell call phase (Noted id how) some fits h = noted_typed phase cells h
+phase_typed cells coming cell call phase (Read width at got) some fits h = counted_typed cell call phase h
+phase_typed cells coming cell call phase (Write width at value ok) some fits h = counted_typed cell call phase h
+phase_typed cells coming cell call phase (Fetch at got) some fits h = counted_typed cell call phase h
+phase_typed cells coming cell call phase (Await width at value ok) some fits h = counted_typed cell call phase h
+phase_typed cells coming cell call phase (Irq device vector) some fits h = counted_typed cell call phase h
+phase_typed cells coming cell call phase (Hvc code a b answer) some fits h = counted_typed cell call phase h
+phase_typed cells coming cell call phase (Begin code a b) some fits h = counted_typed cell call phase h
+phase_typed cells coming cell call phase Stop some fits h = counted_typed cell call phase h
+phase_typed cells coming cell call phase (Finish answer) some fits h = counted_typed cell call phase h
 
 map_typed : (call : Option OpenCall) (g : OpenCall → Phase) → ((o : OpenCall) → call ≡ Some o → IsTypedPhase (g o)) → IsTypedCall (option_map (λ (o : OpenCall). record { caller = o.caller; call = o.call; phase = g o }) call)
 map_typed None g h = tt
 map_typed (Some o) g h = h o refl
 
-typed_phase : (call : Option OpenCall) (o : OpenCall) → call ≡ Some o → IsTypedCall call → IsTypedPhase o.phase
+pub typed_phase : (call : Option OpenCall) (o : OpenCall) → call ≡ Some o → IsTypedCall call → IsTypedPhase o.phase
 typed_phase call o is h = let P : Option OpenCall → Type 0 = IsTypedCall in subst P is h
 
-call_typed : (cells : List Live) (coming : Option CellConfig) (call : Option OpenCall) (entry : Entry) (act : Act) → ((config : CellConfig) → coming ≡ Some config → IsTyped config) → IsTypedCall call → IsTypedCall (call_by cells coming call entry act)
-call_typed cells coming call entry (Begin code a b) some h = tt
-call_typed cells coming call entry (Finish answer) some h = tt
-call_typed cells coming call entry (Decide refused) some h = map_typed call (λ o. phase_after cells coming entry.cell o.call o.phase (Decide refused)) (λ o is. phase_typed cells coming entry.cell o.call o.phase (Decide refused) some (typed_phase call o is h))
-call_typed cells coming call entry (Settle how) some h = map_typed call (λ o. phase_after cells coming entry.cell o.call o.phase (Settle how)) (λ o is. phase_typed cells coming entry.cell o.call o.phase (Settle how) some (typed_phase call o is h))
-call_typed cells coming call entry Commit some h = map_typed call (λ o. phase_after cells coming entry.cell o.call o.phase Commit) (λ o is. phase_typed cells coming entry.cell o.call o.phase Commit some (typed_phase call o is h))
-call_typed cells coming call entry (Note id) some h = map_typed call (λ o. phase_after cells coming entry.cell o.call o.phase (Note id)) (λ o is. phase_typed cells coming entry.cell o.call o.phase (Note id) some (typed_phase call o is h))
-call_typed cells coming call entry (Noted id how) some h = map_typed call (λ o. phase_after cells coming entry.cell o.call o.phase (Noted id how)) (λ o is. phase_typed cells coming entry.cell o.call o.phase (Noted id how) some (typed_phase call o is h))
-call_typed cells coming call entry (Read width at got) some h = map_typed call (λ o. phase_after cells coming entry.cell o.call o.phase (Read width at got)) (λ o is. phase_typed cells coming entry.cell o.call o.phase (Read width at got) some (typed_phase call o is h))
-call_typed cells coming call entry (Write width at value ok) some h = map_typed call (λ o. phase_after cells coming entry.cell o.call o.phase (Write width at value ok)) (λ o is. phase_typed cells coming entry.cell o.call o.phase (Write width at value ok) some (typed_phase call o is h))
-call_typed cells coming call entry (Fetch at got) some h = map_typed call (λ o. phase_after cells coming entry.cell o.call o.phase (Fetch at got)) (λ o is. phase_typed cells coming entry.cell o.call o.phase (Fetch at got) some (typed_phase call o is h))
-call_typed cells coming call entry (Await width at value ok) some h = map_typed call (λ o. phase_after cells coming entry.cell o.call o.phase (Await width at value ok)) (λ o is. phase_typed cells coming entry.cell o.call o.phase (Await width at value ok) some (typed_phase call o is h))
-call_typed cells coming call entry (Irq device vector) some h = map_typed call (λ o. phase_after cells coming entry.cell o.call o.phase (Irq device vector)) (λ o is. phase_typed cells coming entry.cell o.call o.phase (Irq device vector) some (typed_phase call o is h))
-call_typed cells coming call entry (Hvc code a b answer) some h = map_typed call (λ o. phase_after cells coming entry.cell o.call o.phase (Hvc code a b answer)) (λ o is. phase_typed cells coming entry.cell o.call o.phase (Hvc code a b answer) some (typed_phase call o is h))
-call_typed cells coming call entry Stop some h = map_typed call (λ o. phase_after cells coming entry.cell o.call o.phase Stop) (λ o is. phase_typed cells coming entry.cell o.call o.phase Stop some (typed_phase call o is h))
+call_typed : (cells : List Live) (coming : Option CellConfig) (call : Option OpenCall) (entry : Entry) (act : Act) → ((config : CellConfig) → coming ≡ Some config → IsTyped config) → FitsRefusal act → IsTypedCall call → IsTypedCall (call_by cells coming call entry act)
+call_typed cells coming call entry (Begin code a b) some fits h = tt
+call_typed cells coming call entry (Finish answer) some fits h = tt
+call_typed cells coming call entry (Decide refused) some fits h = map_typed call (λ o. phase_after cells coming entry.cell o.call o.phase (Decide refused)) (λ o is. phase_typed cells coming entry.cell o.call o.phase (Decide refused) some fits (typed_phase call o is h))
+call_typed cells coming call entry (Settle how) some fits h = map_typed call (λ o. phase_after cells coming entry.cell o.call o.phase (Settle how)) (λ o is. phase_typed cells coming entry.cell o.call o.phase (Settle how) some fits (typed_phase call o is h))
+call_typed cells coming call entry Commit some fits h = map_typed call (λ o. phase_after cells coming entry.cell o.call o.phase Commit) (λ o is. phase_typed cells coming entry.cell o.call o.phase Commit some fits (typed_phase call o is h))
+call_typed cells coming call entry (Note id) some fits h = map_typed call (λ o. phase_after cells coming entry.cell o.call o.phase (Note id)) (λ o is. phase_typed cells coming entry.cell o.call o.phase (Note id) some fits (typed_phase call o is h))
+call_typed cells coming call entry (Noted id how) some fits h = map_typed call (λ o. phase_after cells coming entry.cell o.call o.phase (Noted id how)) (λ o is. phase_typed cells coming entry.cell o.call o.phase (Noted id how) some fits (typed_phase call o is h))
+call_typed cells coming call entry (Read width at got) some fits h = map_typed call (λ o. phase_after cells coming entry.cell o.call o.phase (Read width at got)) (λ o is. phase_typed cells coming entry.cell o.call o.phase (Read width at got) some fits (typed_phase call o is h))
+call_typed cells coming call entry (Write width at value ok) some fits h = map_typed call (λ o. phase_after cells coming entry.cell o.call o.phase (Write width at value ok)) (λ o is. phase_typed cells coming entry.cell o.call o.phase (Write width at value ok) some fits (typed_phase call o is h))
+call_typed cells coming call entry (Fetch at got) some fits h = map_typed call (λ o. phase_after cells coming entry.cell o.call o.phase (Fetch at got)) (λ o is. phase_typed cells coming entry.cell o.call o.phase (Fetch at got) some fits (typed_phase call o is h))
+call_typed cells coming call entry (Await width at value ok) some fits h = map_typed call (λ o. phase_after cells coming entry.cell o.call o.phase (Await width at value ok)) (λ o is. phase_typed cells coming entry.cell o.call o.phase (Await width at value ok) some fits (typed_phase call o is h))
+call_typed cells coming call entry (Irq device vector) some fits h = map_typed call (λ o. phase_after cells coming entry.cell o.call o.phase (Irq device vector)) (λ o is. phase_typed cells coming entry.cell o.call o.phase (Irq device vector) some fits (typed_phase call o is h))
+call_typed cells coming call entry (Hvc code a b answer) some fits h = map_typed call (λ o. phase_after cells coming entry.cell o.call o.phase (Hvc code a b answer)) (λ o is. phase_typed cells coming entry.cell o.call o.phase (Hvc code a b answer) some fits (typed_phase call o is h))
+call_typed cells coming call entry Stop some fits h = map_typed call (λ o. phase_after cells coming entry.cell o.call o.phase Stop) (λ o is. phase_typed cells coming entry.cell o.call o.phase Stop some fits (typed_phase call o is h))
 
 -- ---- the cells
 
@@ -363,12 +380,12 @@ page_write_small image f entry (Begin code a b) typed h = tt
 page_write_small image f entry Stop typed h = tt
 page_write_small image f entry (Finish answer) typed h = tt
 
-byte_small : (image : Image) (f : Facts) (entry : Entry) (q : Place) → IsFew image f → byte_after image f entry q < 256
-byte_small image f entry q few =
+byte_small : (image : Image) (f : Facts) (entry : Entry) (q : Place) → IsTypedBoard f → byte_after image f entry q < 256
+byte_small image f entry q typed =
     let own : Place → ℕ = byte_written image f entry.cell entry.act in
     page-write-small (page_write_by image f entry entry.act) (with_words (specs_changing f entry.act) own) q
-    (page_write_small image f entry entry.act few.call few.cells)
-    (λ p. words-small (specs_changing f entry.act) own p (λ k. written_small image f entry.cell entry.act k few.bytes))
+    (page_write_small image f entry entry.act typed.call typed.cells)
+    (λ p. words-small (specs_changing f entry.act) own p (λ k. written_small image f entry.cell entry.act k typed.bytes))
 
 -- ---- root's CPU
 
@@ -396,9 +413,6 @@ acted_owner image call Stop own i cpu other = one_owner Stop own i cpu
 acted_owner image call (Decide refused) own i cpu other = one_owner (Decide refused) own i cpu
 acted_owner image call (Note id) own i cpu other = one_owner (Note id) own i cpu
 acted_owner image call (Noted id how) own i cpu other = one_owner (Noted id how) own i cpu
-
-abbrev HasCpu : Image → (ℕ → Cpu) → Type 0
-HasCpu image cpu = (i : ℕ) × (is_on_board image i ≡ true) × ((cpu i).owner ≡ image.system.root.id)
 
 cpus_after : (image : Image) (f : Facts) (entry : Entry) (i : ℕ) → (after image f entry).cpu i ≡ acted image f.call entry.act entry.cpu i (f.cpu i)
 unfolding after
@@ -442,68 +456,91 @@ root_by image f entry (Finish answer) is sound has = root_kept image f entry (ap
 
 -- ---- entry by entry
 
-few_after : (image : Image) (f : Facts) (entry : Entry) → IsSound image f → due_at image f entry.cpu ≡ Some entry → IsFew image f → IsFew image (after image f entry)
+pub typed-after : (image : Image) (f : Facts) (entry : Entry) → IsSound image f → due_at image f entry.cpu ≡ Some entry → IsTypedBoard f → IsTypedBoard (after image f entry)
 unfolding after
-few_after image f entry sound due few = record {
-  bytes = λ q. byte_small image f entry q few;
-  cells = cells_typed f.call f.cells entry.act few.call few.cells;
-  call = call_typed f.cells (coming_of image f) f.call entry entry.act (λ config is. coming_of_typed image f f.call config few.bytes is) few.call;
-  root = root_by image f entry entry.act refl (sound-after image f entry sound due) few.root;
+typed-after image f entry sound due typed = record {
+  bytes = λ q. byte_small image f entry q typed;
+  cells = cells_typed f.call f.cells entry.act typed.call typed.cells;
+  call = call_typed f.cells (coming_of image f) f.call entry entry.act (λ config is. coming_of_typed image f f.call config typed.bytes is) (refusal-fits image f entry sound due) typed.call;
+  endpoints = registers-after image f entry typed.endpoints;
 }
 
-few_start : (image : Image) → IsAdmitted image → HasBytes image → IsFew image (start image)
-few_start image admitted bytes =
+pub typed-start : (image : Image) → ArePreloadsBytes image → IsTypedBoard (start image)
+typed-start image bytes = record {
+  bytes = λ q. opening-small image q bytes;
+  cells = λ config held. let below : held.0 < 0 = held.1 in absurd (omega arith);
+  call = tt;
+  endpoints = registers-open image;
+}
+
+typed_from : (image : Image) (f : Facts) (entries : List Entry) → IsSound image f → IsTypedBoard f → IsLegalFrom image f entries → IsTypedBoard (fold (after image) f entries)
+typed_from image f [] sound typed legal = typed
+typed_from image f (entry ∷ entries) sound typed legal = typed_from image (after image f entry) entries (sound-after image f entry sound legal.0) (typed-after image f entry sound legal.0 typed) legal.1
+
+pub legal-typed : (image : Image) (entries : List Entry) → IsAdmitted image → ArePreloadsBytes image → IsLegal image entries → IsTypedBoard (facts image entries)
+unfolding IsLegal facts
+legal-typed image entries admitted bytes legal = typed_from image (start image) entries (sound-start image admitted) (typed-start image bytes) legal
+
+root_start : (image : Image) → IsAdmitted image → HasBytes image → HasCpu image (start image).cpu
+root_start image admitted bytes =
     let sound = sound-start image admitted in
     let set = sound-set image.system.root.cpu_set (λ i. index-small image.system.root.cpu_set i bytes.set) (sound.cells.clean.cpus 0 image.system.root refl) in
-    record {
-      bytes = λ q. opening-small image q bytes;
-      cells = λ config held. let below : held.0 < 0 = held.1 in absurd (omega arith);
-      call = tt;
-      root = (set.some.0, set.some.1, refl);
-    }
+    (set.some.0, set.some.1, refl)
 
-few_from : (image : Image) (f : Facts) (entries : List Entry) → IsSound image f → IsFew image f → IsLegalFrom image f entries → IsFew image (fold (after image) f entries)
-few_from image f [] sound few legal = few
-few_from image f (entry ∷ entries) sound few legal = few_from image (after image f entry) entries (sound-after image f entry sound legal.0) (few_after image f entry sound legal.0 few) legal.1
+root_from : (image : Image) (f : Facts) (entries : List Entry) → IsSound image f → HasCpu image f.cpu → IsLegalFrom image f entries → HasCpu image (fold (after image) f entries).cpu
+root_from image f [] sound has legal = has
+root_from image f (entry ∷ entries) sound has legal =
+    let next = sound-after image f entry sound legal.0 in
+    root_from image (after image f entry) entries next (root_by image f entry entry.act refl next has) legal.1
 
-legal_few : (image : Image) (entries : List Entry) → IsAdmitted image → HasBytes image → IsLegal image entries → IsFew image (facts image entries)
+legal_root : (image : Image) (entries : List Entry) → IsAdmitted image → HasBytes image → IsLegal image entries → HasCpu image (facts image entries).cpu
 unfolding IsLegal facts
-legal_few image entries admitted bytes legal = few_from image (start image) entries (sound-start image admitted) (few_start image admitted bytes) legal
+legal_root image entries admitted bytes legal = root_from image (start image) entries (sound-start image admitted) (root_start image admitted bytes) legal
 
 -- ---- counting
 
--- root and the other cells each have a CPU
-each_cpu : (image : Image) (f : Facts) (config : CellConfig) → IsSound image f → IsFew image f → Contains (image.system.root ∷ configs_of f.cells) config → (cpu : ℕ) × ((f.cpu cpu).owner ≡ config.id) × (cpu < 16)
-each_cpu image f config sound few held =
+-- a cell that lives besides root has a CPU
+cell_cpu : (image : Image) (f : Facts) (config : CellConfig) → IsSound image f → IsTypedBoard f → Contains (configs_of f.cells) config → (cpu : ℕ) × ((f.cpu cpu).owner ≡ config.id) × (cpu < 16)
+cell_cpu image f config sound typed held =
+    let numbered = slice_get-get_or (configs_of f.cells) held.0 config held.1 ∙ ap Some held.2 in
+    let set = sound-set config.cpu_set (λ i. index-small config.cpu_set i (typed.cells config held).set) (sound.cells.clean.cpus (suc held.0) config numbered) in
+    (set.some.0, (sound.cpus.cells config held).owned set.some.0 set.some.1, set.few set.some.0 set.some.1)
+
+-- and so has root
+each_cpu : (image : Image) (f : Facts) (config : CellConfig) → IsSound image f → IsTypedBoard f → HasCpu image f.cpu → Contains (image.system.root ∷ configs_of f.cells) config → (cpu : ℕ) × ((f.cpu cpu).owner ≡ config.id) × (cpu < 16)
+each_cpu image f config sound typed root held =
     let configs : List CellConfig = configs_of f.cells in
     let P : CellConfig → Type 0 = λ c. (cpu : ℕ) × ((f.cpu cpu).owner ≡ c.id) × (cpu < 16) in
     ⊎_elim
-    (λ (is : image.system.root ≡ config). subst P is (few.root.0, few.root.2, board-few image configs sound.cells.clean few.root.0 few.root.1))
-    (λ (there : Contains configs config).
-    let numbered = slice_get-get_or configs there.0 config there.1 ∙ ap Some there.2 in
-    let set = sound-set config.cpu_set (λ i. index-small config.cpu_set i (few.cells config there).set) (sound.cells.clean.cpus (suc there.0) config numbered) in
-    (set.some.0, (sound.cpus.cells config there).owned set.some.0 set.some.1, set.few set.some.0 set.some.1))
+    (λ (is : image.system.root ≡ config). subst P is (root.0, root.2, board-few image configs sound.cells.clean root.0 root.1))
+    (λ (there : Contains configs config). cell_cpu image f config sound typed there)
     (Contains-cases image.system.root configs config held)
 
--- two of them have different ids
-each_apart : (image : Image) (configs : List CellConfig) → AreSoundCells image.system configs
-    → (i j d : ℕ) → i < j → j < length (map (λ (c : CellConfig). c.id) (image.system.root ∷ configs)) → get_or (map (λ (c : CellConfig). c.id) (image.system.root ∷ configs)) i d ≢ get_or (map (λ (c : CellConfig). c.id) (image.system.root ∷ configs)) j d
-each_apart image configs sound i j d lt within same =
-    let all : List CellConfig = image.system.root ∷ configs in
-    let root : CellConfig = image.system.root in
+-- two of these have different ids
+each_apart : (all : List CellConfig) (x : CellConfig) → AllPairs AreTwo all
+    → (i j d : ℕ) → i < j → j < length (map (λ (c : CellConfig). c.id) all) → get_or (map (λ (c : CellConfig). c.id) all) i d ≢ get_or (map (λ (c : CellConfig). c.id) all) j d
+each_apart all x differ i j d lt within same =
     let long : length (map (λ (c : CellConfig). c.id) all) ≡ length all = length-map (λ (c : CellConfig). c.id) all in
     let below : j < length all = omega (arith, long) in
-    let two : AreTwo (get_or all i root) (get_or all j root) = sound.differ i j root lt below in
-    let at : (k : ℕ) → k < length all → get_or (map (λ (c : CellConfig). c.id) all) k d ≡ (get_or all k root).id =
-    λ k l. get_or_from_slice_get (map (λ (c : CellConfig). c.id) all) k (get_or (map (λ (c : CellConfig). c.id) all) k root.id) d (slice_get-get_or (map (λ (c : CellConfig). c.id) all) k root.id (omega (arith, l, long)))
-    ∙ get-map (λ (c : CellConfig). c.id) all k root in
-    two-ids (get_or all i root) (get_or all j root) two (sym (at i (omega arith)) ∙ same ∙ at j below)
+    let two : AreTwo (get_or all i x) (get_or all j x) = differ i j x lt below in
+    let at : (k : ℕ) → k < length all → get_or (map (λ (c : CellConfig). c.id) all) k d ≡ (get_or all k x).id =
+    λ k l. get_or_from_slice_get (map (λ (c : CellConfig). c.id) all) k (get_or (map (λ (c : CellConfig). c.id) all) k x.id) d (slice_get-get_or (map (λ (c : CellConfig). c.id) all) k x.id (omega (arith, l, long)))
+    ∙ get-map (λ (c : CellConfig). c.id) all k x in
+    two-ids (get_or all i x) (get_or all j x) two (sym (at i (omega arith)) ∙ same ∙ at j below)
+
+-- where what is read keeps to its types, cells that each have one of 16 CPUs are few
+pub few-typed : (image : Image) (f : Facts) → IsSound image f → IsTypedBoard f → length (configs_of f.cells) ≤ 16
+few-typed image f sound typed =
+    let configs : List CellConfig = configs_of f.cells in
+    let apart : AllPairs AreTwo configs = λ i j d lt within. sound.cells.differ (suc i) (suc j) d (omega (arith, lt)) (omega (arith, within)) in
+    picked-few (λ i. (f.cpu i).owner) configs (picked (λ i. (f.cpu i).owner) configs (λ config held. cell_cpu image f config sound typed held)) (each_apart configs image.system.root apart)
 
 pub few-cells : (image : Image) (entries : List Entry) → IsAdmitted image → HasBytes image → IsLegal image entries → length (configs_of (facts image entries).cells) ≤ 15
 few-cells image entries admitted bytes legal =
     let f : Facts = facts image entries in
     let sound = legal-sound image entries admitted legal in
-    let few = legal_few image entries admitted bytes legal in
+    let typed = legal-typed image entries admitted bytes.preloads legal in
+    let root = legal_root image entries admitted bytes legal in
     let all : List CellConfig = image.system.root ∷ configs_of f.cells in
-    let at_most : length all ≤ 16 = picked-few (λ i. (f.cpu i).owner) all (picked (λ i. (f.cpu i).owner) all (λ config held. each_cpu image f config sound few held)) (each_apart image (configs_of f.cells) sound.cells) in
+    let at_most : length all ≤ 16 = picked-few (λ i. (f.cpu i).owner) all (picked (λ i. (f.cpu i).owner) all (λ config held. each_cpu image f config sound typed root held)) (each_apart all image.system.root sound.cells.differ) in
     omega (arith, at_most)

@@ -1,8 +1,8 @@
--- At most 15 cells live besides root: each has a CPU of its own, and so has root.
-use Rattle.std.proofs.Common.{◌≡◌, ◌≢◌, ℕ, zero, suc, ◌+◌, ◌-◌, ◌/◌, ◌%◌, ◌^◌, ◌<◌, ◌≤◌, List, [], ◌∷◌, ◌&&◌, eqb, length, get_or, drop, map, replicate, Option, Some, None, All, refl, sym, ap, subst, ◌∙◌, mod-lt, arith}
+-- What is written are bytes, and what is read of bytes keeps to its types. Cells with a CPU each are few.
+use Rattle.std.proofs.Common.{◌≡◌, ◌≢◌, ℕ, zero, suc, ◌+◌, ◌-◌, ◌/◌, ◌%◌, ◌^◌, ◌<◌, ◌≤◌, List, [], ◌∷◌, ◌&&◌, eqb, length, get_or, take, drop, map, replicate, Option, Some, None, All, refl, sym, ap, subst, ◌∙◌, mod-lt, arith}
 use Rattle.std.specs.Prelude.{AllPairs, Contains, nat_lt, nat_le}
 use Rattle.std.specs.List.{fold}
-use Rattle.std.specs.Int.{byte_at, bytes_low_first, to_le_bytes, w16, w32, w64}
+use Rattle.std.specs.Int.{byte_at, bytes_low_first, to_le_bytes, from_le_bytes, w16, w32, w64}
 use Rattle.std.proofs.lemmas.Bool.{cond_both, eqb-true, eq-eqb}
 use Rattle.std.proofs.lemmas.List.Elements.{All-nil, All-cons, All-head, All-tail, All-take, All-drop, All-replicate, All-contains}
 use Rattle.std.proofs.lemmas.Map.Made.{IsDistinct-from_AllPairs}
@@ -30,7 +30,7 @@ use Rattle.jh_history.specs.Endpoints.{with_words}
 use Rattle.jh_history.specs.Places.{is_same, places_in_row, with_byte, written}
 use Rattle.jh_history.specs.Pages.{page_after, with_page, with_page_write}
 use Rattle.jh_history.specs.Bytes.{preloaded, loaded_byte, opening_byte}
-use Rattle.jh_history.specs.Sound.{AreBytes, HasBytes}
+use Rattle.jh_history.specs.Sound.{AreBytes}
 
 -- ---- bytes
 
@@ -139,6 +139,10 @@ words-small (s ∷ specs) byte q small = words-small specs (with_slot (slot_of s
 
 -- ---- opening
 
+-- what preloads put are bytes
+abbrev pub ArePreloadsBytes : Image → Type 0
+ArePreloadsBytes image = All (λ (x : Preload). AreBytes x.bytes) image.preloads
+
 preloads_small : (byte : ℕ → ℕ) (preloads : List Preload) (p : ℕ) → ((k : ℕ) → byte k < 256) → All (λ (x : Preload). AreBytes x.bytes) preloads → fold preloaded byte preloads p < 256
 preloads_small byte [] p small all = small p
 preloads_small byte (x ∷ xs) p small all =
@@ -146,25 +150,35 @@ preloads_small byte (x ∷ xs) p small all =
     (λ k. stored_small byte x.at x.bytes k small (All-head (λ (y : Preload). AreBytes y.bytes) x xs all))
     (All-tail (λ (y : Preload). AreBytes y.bytes) x xs all)
 
-loaded_small : (image : Image) (q : Place) → HasBytes image → loaded_byte image q < 256
-loaded_small image (Physical p) bytes = preloads_small (λ _. 0) image.preloads p (λ _. omega arith) bytes.preloads
+loaded_small : (image : Image) (q : Place) → ArePreloadsBytes image → loaded_byte image q < 256
+loaded_small image (Physical p) bytes = preloads_small (λ _. 0) image.preloads p (λ _. omega arith) bytes
 loaded_small image (Page cell offset) bytes = omega arith
 
-pub opening-small : (image : Image) (q : Place) → HasBytes image → opening_byte image q < 256
+pub opening-small : (image : Image) (q : Place) → ArePreloadsBytes image → opening_byte image q < 256
 opening-small image q bytes = words-small (specs_of image.system.root) (loaded_byte image) q (λ p. loaded_small image p bytes)
 
 -- ---- configurations
 
--- what a configuration holds as bytes are bytes
+-- what a configuration holds as bytes are bytes, and its id has 32 bits
 pub record IsTyped (config : CellConfig) : Type 0 where
+  pub id : config.id < 2 ^ 32
   pub set : AreBytes config.cpu_set
   pub console : AreBytes config.console
+
+word_small : (bytes : List ℕ) → AreBytes bytes → from_le_bytes w32 bytes < 2 ^ 32
+word_small bytes all =
+    let a = index-small bytes 0 all in
+    let b = index-small bytes 1 all in
+    let c = index-small bytes 2 all in
+    let d = index-small bytes 3 all in
+    omega (arith, a, b, c, d)
 
 body_typed : (body : List ℕ) → AreBytes body → IsTyped (config_of_body body)
 unfolding config_of_body
 body_typed body all =
     let P : ℕ → Type 0 = λ b. b < 256 in
     record {
+      id = word_small (take 4 (drop 32 body)) (All-take P 4 (drop 32 body) (All-drop P 32 body all));
       set = All-take P _ (drop 124 body) (All-drop P 124 body all);
       console = All-take P 32 (drop 92 body) (All-drop P 92 body all);
     }

@@ -20,6 +20,9 @@ pub mod HvcLemmas
 pub mod QuietLemmas
 pub mod CommitLemmas
 pub mod FewCellsLemmas
+pub mod RegisterLemmas
+pub mod RefusalLemmas
+pub mod ToldLemmas
 pub mod FewLemmas
 pub mod PlacesHeldLemmas
 pub mod DecisionLemmas

@@ -1,43 +1,41 @@
-//! That what is played can be read, and that maps have one text. The functions do nothing; their contracts are the laws.
+//! That what is played can be read, and that maps have one text. The functions answer nothing; their
+//! contracts are the laws.
 ghost use Rattle.std.specs.Prelude.{◌≡◌, ◌≤◌, ℕ, List, length};
 ghost use Rattle.std.specs.List.{AllByRecursion};
 ghost use Rattle.jh_history.specs.declared.entry.Entry.{Entry};
-ghost use Rattle.jh_history.specs.Admitted.{HasNoCall, IsAdmitted};
-ghost use Rattle.jh_laws.specs.Journals.{HasNoDevice};
+ghost use Rattle.jh_history.specs.Admitted.{IsAdmitted};
 ghost use Rattle.jh_history.specs.Due.{IsLegal};
 ghost use Rattle.jh_text.specs.Text.{journal_text};
 ghost use Rattle.jh_text.specs.Ranges.{IsReadable};
-ghost use Rattle.jh_text.specs.Faults.{IsJournalText, max_entries};
+ghost use Rattle.jh_text.specs.declared.fault.JournalFault.{JournalFault as TheFault};
+ghost use Rattle.jh_text.specs.declared.fault.JournalFault.TheVariants.{NoMemory as OutOfMemory};
+ghost use Rattle.jh_text.specs.Faults.{IsFault, IsJournalText, max_entries};
 ghost use Rattle.jh_script.specs.declared.image.Image.{Image as TheImage};
 ghost use Rattle.jh_run.specs.Maps.{IsMapsText};
-ghost use Rattle.jh_run.specs.Typed.{HasTypedNumbers};
 
-use jh_history::{admitted_roots_are_sound, root_lives_alone};
-use jh_laws::{
-    beginnings_are_legal, due_entries_are_their_cpus_own, entries_write_their_bytes,
-    legal_entries_are_due, memory_opens_with_the_preloads, ready_cpus_have_an_entry_due,
-};
+use crate::typed::image_is_typed;
+use jh_laws::{entries_are_their_cpus_own, numbers_keep_to_their_types};
 use jh_map::maps_of_one_cell_are_equal;
 use jh_script::Image;
+use jh_text::{one_answer, texts_go_both_ways};
 
-/// Each entry of a legal journal of an image that is admitted, whose root has no ivshmem device and whose programs have
-/// no hypercall is one that a text may hold. So the text of the journal, where it is no longer than a journal may be, is a
-/// journal's text, and no other journal's: what is printed of it is read again.
+/// Each entry of a legal journal of an image that is admitted is one that a text may hold. So the text of the journal,
+/// where it is no longer than a journal may be, is a journal's text, and no other journal's. What reads it finds that
+/// journal and no fault, but that memory may want.
 pub fn legal_journals_are_readable(image: &Image)
-    ensures entries { IsAdmitted image.now → HasNoDevice image.now → HasNoCall image.now → HasTypedNumbers image.now
-        → (entries : List Entry) → IsLegal image.now entries → AllByRecursion IsReadable entries }
-    ensures text { IsAdmitted image.now → HasNoDevice image.now → HasNoCall image.now → HasTypedNumbers image.now
-        → (entries : List Entry) → IsLegal image.now entries → length entries ≤ max_entries
+    ensures entries { IsAdmitted image.now → (entries : List Entry) → IsLegal image.now entries → AllByRecursion IsReadable entries }
+    ensures text { IsAdmitted image.now → (entries : List Entry) → IsLegal image.now entries → length entries ≤ max_entries
         → IsJournalText (journal_text entries) entries }
+    ensures read { IsAdmitted image.now → (entries : List Entry) → IsLegal image.now entries → length entries ≤ max_entries
+        → (found : List Entry) → IsJournalText (journal_text entries) found → found ≡ entries }
+    ensures faultless { IsAdmitted image.now → (entries : List Entry) → IsLegal image.now entries → length entries ≤ max_entries
+        → (fault : TheFault) → IsFault (journal_text entries) fault → fault ≡ OutOfMemory }
 {
-    admitted_roots_are_sound(image);
-    root_lives_alone();
-    beginnings_are_legal();
-    legal_entries_are_due();
-    ready_cpus_have_an_entry_due();
-    due_entries_are_their_cpus_own();
-    memory_opens_with_the_preloads();
-    entries_write_their_bytes();
+    image_is_typed(image);
+    entries_are_their_cpus_own();
+    numbers_keep_to_their_types();
+    texts_go_both_ways();
+    one_answer();
 }
 
 /// The maps of the cells that live after the entries have one text.

@@ -13,6 +13,7 @@ mod schedule;
 mod soak;
 mod summary;
 mod turning;
+mod typed;
 mod workers;
 
 pub use driving::drive;

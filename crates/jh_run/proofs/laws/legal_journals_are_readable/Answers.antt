@@ -1,45 +1,30 @@
-use Rattle.std.proofs.Common.{refl}
-use Rattle.jh_run.proofs.LegalTexts.{readable}
+-- By the laws of journals, and of texts.
+use Rattle.jh_text.specs.Text.{journal_text}
+use Rattle.jh_run.proofs.LegalTexts.{JournalLaws, readable, readable-text, no-fault}
 use Rattle.jh_run.proofs.laws.legal_journals_are_readable.Goals as goal
 
+laws_of : goal.After-one_answer → JournalLaws
+laws_of c = record {
+  cpu = c.numbers_keep_to_their_types.ensures.cpu;
+  cell = c.numbers_keep_to_their_types.ensures.cell;
+  told = c.numbers_keep_to_their_types.ensures.told;
+  operation = c.entries_are_their_cpus_own.ensures.operation;
+}
+
 pub returns-clause-entries : goal.returns-clause-entries
-returns-clause-entries c = λ admitted bare silent typed entries legal.
-    readable
-    (record {
-      alone = c.root_lives_alone.ensures.alone;
-      begins = c.beginnings_are_legal.ensures;
-      due_each = c.legal_entries_are_due.ensures.due;
-      ready = c.ready_cpus_have_an_entry_due.ensures.ready;
-      own = c.due_entries_are_their_cpus_own.ensures.own;
-      put = c.memory_opens_with_the_preloads.ensures.put;
-      nothing_put = c.memory_opens_with_the_preloads.ensures.zero;
-      pages = c.memory_opens_with_the_preloads.ensures.pages;
-      written = c.entries_write_their_bytes.ensures.written;
-      others = c.entries_write_their_bytes.ensures.others;
-    })
-    c.args.image.now
-    (record { few = c.admitted_roots_are_sound.ensures.cpus admitted; admitted = admitted; bare = bare; silent = silent; typed = typed })
-    entries legal
+returns-clause-entries c = λ admitted entries legal. readable (laws_of c) c.args.image.now admitted c.image_is_typed.ensures entries legal
 
 pub returns-clause-text : goal.returns-clause-text
-returns-clause-text c = λ admitted bare silent typed entries legal within. record {
-  readable =
-      readable
-      (record {
-        alone = c.root_lives_alone.ensures.alone;
-        begins = c.beginnings_are_legal.ensures;
-        due_each = c.legal_entries_are_due.ensures.due;
-        ready = c.ready_cpus_have_an_entry_due.ensures.ready;
-        own = c.due_entries_are_their_cpus_own.ensures.own;
-        put = c.memory_opens_with_the_preloads.ensures.put;
-        nothing_put = c.memory_opens_with_the_preloads.ensures.zero;
-        pages = c.memory_opens_with_the_preloads.ensures.pages;
-        written = c.entries_write_their_bytes.ensures.written;
-        others = c.entries_write_their_bytes.ensures.others;
-      })
-      c.args.image.now
-      (record { few = c.admitted_roots_are_sound.ensures.cpus admitted; admitted = admitted; bare = bare; silent = silent; typed = typed })
-      entries legal;
-  within = within;
-  whole = refl;
-}
+returns-clause-text c = λ admitted entries legal within. readable-text (laws_of c) c.args.image.now admitted c.image_is_typed.ensures entries legal within
+
+pub returns-clause-read : goal.returns-clause-read
+returns-clause-read c = λ admitted entries legal within found other.
+    c.texts_go_both_ways.ensures.one (journal_text entries) found entries other (readable-text (laws_of c) c.args.image.now admitted c.image_is_typed.ensures entries legal within)
+
+pub returns-clause-faultless : goal.returns-clause-faultless
+returns-clause-faultless c = λ admitted entries legal within fault is.
+    no-fault (journal_text entries) entries fault
+    (λ number good bad. c.one_answer.ensures.good_or_bad (journal_text entries) entries number good bad)
+    (λ good long. c.one_answer.ensures.good_or_long (journal_text entries) entries good long)
+    (readable-text (laws_of c) c.args.image.now admitted c.image_is_typed.ensures entries legal within)
+    is
