@@ -3,6 +3,7 @@ pub mod ListLemmas
 pub mod BreakLemmas
 pub mod SectionLemmas
 pub mod SpanLemmas
+pub mod ReachLemmas
 pub mod VerdictLemmas
 pub mod Tested
 pub mod FoundLemmas

@@ -4,7 +4,7 @@ ghost use Rattle.jh_check.specs.Cells.{cells_of};
 ghost use Rattle.jh_check.specs.Sites.{spot_of};
 ghost use Rattle.jh_check.specs.Lists.{capped, only_if};
 ghost use Rattle.jh_check.specs.Regions.{pair_breaks, hypervisor_breaks};
-ghost use Rattle.jh_check.specs.Findings.{item_of, finding_of, beside, between, from_cell, in_pairs, in_cell, in_regions, in_hypervisor, in_devices_of, in_devices, in_cpus};
+ghost use Rattle.jh_check.specs.Findings.{item_of, finding_of, beside, in_cell, in_regions, in_hypervisor, in_devices_of, in_devices, in_cpus};
 
 use crate::checking::MAX_FINDINGS;
 use crate::devices::{cpus_break, device_breaks};
@@ -57,7 +57,7 @@ fn put(found: &mut Seq<Finding>, test: bool, finding: Finding) -> Result<(), NoM
 }
 
 /// A region with each of another cell.
-fn beside(
+pub(crate) fn beside(
     found: &mut Seq<Finding>,
     rule: Rule,
     one: &Site,
@@ -75,29 +75,6 @@ fn beside(
         };
         let breaks = pair_breaks(rule, one, &second);
         put(found, breaks, finding(rule, one.cell, one.item, b, s))?;
-    }
-    Ok(())
-}
-
-/// Each region of a cell with each of another.
-pub(crate) fn between(
-    found: &mut Seq<Finding>,
-    rule: Rule,
-    a: u32,
-    one: &CellConfig,
-    b: u32,
-    other: &CellConfig,
-) -> Result<(), NoMemory>
-    ensures { OnOk result (capped found.new ≡ capped (found.old ++ between rule a one.now b other.now)) }
-{
-    for (r, region) in one.memory_regions.as_slice().iter().enumerate() {
-        let first = Site {
-            cell: a,
-            config: one,
-            item: r,
-            region,
-        };
-        beside(found, rule, &first, b, other)?;
     }
     Ok(())
 }

@@ -8,6 +8,7 @@ mod found;
 mod laws;
 mod pairing;
 mod pairs;
+mod reach;
 mod refusal;
 mod regions;
 mod rule;

@@ -111,15 +111,6 @@ pub(crate) fn index(
     }
 }
 
-/// Whether one of the spans that are apart may meet that one; only then may it be told so.
-pub(crate) fn may_meet(spans: &[Span], other: Span) -> bool
-    requires { AreApart spans.now }
-    ensures { (x : Span) → Contains spans.now x → result ≡ false → spans_meet x other ≡ false }
-{
-    let n = spans.partition_point(|span| u128::from(span.start) < other.end);
-    n > 0 && spans[n - 1].end > u128::from(other.start)
-}
-
 /// Those of the spans that meet that one. As they are apart, they stand side by side.
 pub(crate) fn met_by(spans: &[Span], other: Span) -> &[Span]
     requires { AreApart spans.now }

@@ -1,0 +1,200 @@
+//! How far the regions of a cell reach, by which those that meet none of them are told at once.
+ghost use Rattle.std.specs.Prelude.{◌≡◌, ◌≢◌, true, false, length, OnOk, IfOk, Contains};
+ghost use Rattle.jh_check.specs.declared.spans.Span.{Span};
+ghost use Rattle.jh_check.specs.Spans.{is_within, span_of};
+ghost use Rattle.jh_check.specs.Reaches.{passes_shared, may_follow, reaches_for, HasOthers, InOrder, IsRising, IsReached, TellsEach, TellsPairs, TellsOthers, AreOf};
+
+use crate::rule::Rule;
+use crate::spans::{Span, span_of, takes_part};
+use jh_cellcfg::{CellConfig, Region, RegionFlags};
+use jh_num::NoMemory;
+use std::alloc::Global;
+
+/// Of the regions that begin at `start` or below, the one that reaches farthest does to `end`, or the one that does
+/// next to it.
+#[derive(Clone, Copy, PartialEq, Eq, Debug)]
+pub(crate) struct Reach {
+    pub(crate) start: u64,
+    pub(crate) end: u128,
+}
+
+/// How far those regions of a cell reach that may break a rule as the other of a pair.
+#[derive(Drop)]
+pub(crate) struct Reaches {
+    /// With a region that may meet none of them.
+    pub(crate) any: Vec<Reach>,
+    /// With a region that may meet those that are shared.
+    pub(crate) unshared: Vec<Reach>,
+}
+
+/// Whether the rule is about two regions of one cell.
+fn is_within(rule: Rule) -> bool
+    ensures { result ≡ is_within rule }
+{
+    match rule {
+        Rule::VirtOverlap => true,
+        Rule::PhysOverlap => true,
+        _ => false,
+    }
+}
+
+/// Whether the rule lets the region meet those that are shared.
+fn passes_shared(rule: Rule, region: &Region) -> bool
+    ensures { result ≡ passes_shared rule region.now }
+{
+    match rule {
+        Rule::CellsOverlap => region.has(RegionFlags::ROOTSHARED),
+        _ => false,
+    }
+}
+
+/// Whether the region, of the cell of that number, may break the rule as the other of a pair. `pass` says that the
+/// one may meet those that are shared.
+fn may_follow(rule: Rule, pass: bool, b: u32, region: &Region) -> bool
+    ensures { result ≡ may_follow rule pass b region.now }
+{
+    match rule {
+        Rule::SubpageTaken => b == 0 && region.size > 0 && region.is_page_mapped(),
+        Rule::PhysOverlap => region.size > 0 && !region.is_comm(),
+        Rule::CellsOverlap => {
+            region.size > 0 && !region.is_comm() && !(pass && region.has(RegionFlags::ROOTSHARED))
+        }
+        _ => region.size > 0,
+    }
+}
+
+/// Appends the span where the test says so.
+fn push(spans: &mut Vec<Span>, test: bool, span: Span) -> Result<(), NoMemory>
+    ensures kept { (x : Span) → Contains spans.old.items x → Contains spans.new.items x }
+    ensures has { OnOk result (test ≡ true → Contains spans.new.items span) }
+{
+    if test {
+        spans.push(span)?;
+    }
+    Ok(())
+}
+
+/// The spans of the regions that may follow, in the order of their starts.
+fn sorted(
+    alloc: Global,
+    rule: Rule,
+    pass: bool,
+    b: u32,
+    regions: &[Region],
+) -> Result<Vec<Span>, NoMemory>
+    ensures each { IfOk result (λ spans. HasOthers rule pass b regions.now spans.items) }
+    ensures order { IfOk result (λ spans. InOrder spans.items) }
+{
+    let mut spans = Vec::new(alloc);
+    for (item, region) in regions.iter().enumerate() {
+        let follows = may_follow(rule, pass, b, region);
+        push(&mut spans, follows, span_of(rule, item, region))?;
+    }
+    spans.sort_unstable_by_key(|span| span.start);
+    Ok(spans)
+}
+
+/// To each span, how far those reach that begin no later.
+fn of_each(alloc: Global, spans: &[Span]) -> Result<Vec<Reach>, NoMemory>
+    requires { InOrder spans.now }
+    ensures rising { IfOk result (λ reaches. IsRising reaches.items) }
+    ensures tells { IfOk result (λ reaches. TellsEach spans.now reaches.items) }
+{
+    let mut reaches = Vec::new(alloc);
+    let mut end = 0;
+    for span in spans {
+        end = span.end.max(end);
+        reaches.push(Reach {
+            start: span.start,
+            end,
+        })?;
+    }
+    Ok(reaches)
+}
+
+/// To each span, how far two of those reach that begin no later.
+fn of_pairs(alloc: Global, spans: &[Span]) -> Result<Vec<Reach>, NoMemory>
+    requires { InOrder spans.now }
+    ensures rising { IfOk result (λ reaches. IsRising reaches.items) }
+    ensures tells { IfOk result (λ reaches. TellsPairs spans.now reaches.items) }
+{
+    let mut reaches = Vec::new(alloc);
+    let mut farthest = 0;
+    let mut end = 0;
+    for span in spans {
+        end = span.end.min(farthest).max(end);
+        farthest = span.end.max(farthest);
+        reaches.push(Reach {
+            start: span.start,
+            end,
+        })?;
+    }
+    Ok(reaches)
+}
+
+/// How far the cell's regions reach that may follow.
+fn of_cell(
+    alloc: Global,
+    rule: Rule,
+    pass: bool,
+    b: u32,
+    cell: &CellConfig,
+) -> Result<Vec<Reach>, NoMemory>
+    ensures rising { IfOk result (λ reaches. IsRising reaches.items) }
+    ensures tells { IfOk result (λ reaches. TellsOthers rule pass b cell.now reaches.items) }
+{
+    let spans = sorted(alloc, rule, pass, b, cell.memory_regions.as_slice())?;
+    if is_within(rule) {
+        of_pairs(alloc, spans.as_slice())
+    } else {
+        of_each(alloc, spans.as_slice())
+    }
+}
+
+/// How far those do that aren't shared, where the rule lets some regions meet those that are.
+fn of_unshared(alloc: Global, rule: Rule, b: u32, cell: &CellConfig) -> Result<Vec<Reach>, NoMemory>
+    ensures rising { IfOk result (λ reaches. IsRising reaches.items) }
+    ensures tells { IfOk result (λ reaches. TellsOthers rule true b cell.now reaches.items) }
+{
+    match rule {
+        Rule::CellsOverlap => of_cell(alloc, rule, true, b, cell),
+        _ => Ok(Vec::new(alloc)),
+    }
+}
+
+/// How far the regions of the cell reach, which has that number.
+pub(crate) fn measure(
+    alloc: Global,
+    rule: Rule,
+    b: u32,
+    cell: &CellConfig,
+) -> Result<Reaches, NoMemory>
+    ensures { IfOk result (λ reaches. AreOf rule b cell.now reaches) }
+{
+    let any = of_cell(alloc, rule, false, b, cell)?;
+    let unshared = of_unshared(alloc, rule, b, cell)?;
+    Ok(Reaches { any, unshared })
+}
+
+/// Whether the span may be reached; only then may it be told so.
+fn may_reach(reaches: &[Reach], span: Span) -> bool
+    requires { IsRising reaches.now }
+    ensures { result ≡ false → IsReached reaches.now span → ⊥ }
+{
+    let n = reaches.partition_point(|reach| u128::from(reach.start) < span.end);
+    n > 0 && reaches[n - 1].end > u128::from(span.start)
+}
+
+/// Whether the region, of that number in its cell, may break the rule with one of those.
+pub(crate) fn may_meet(reaches: &Reaches, rule: Rule, item: usize, region: &Region) -> bool
+    requires any { IsRising reaches.now.any.items }
+    requires unshared { IsRising reaches.now.unshared.items }
+    ensures { result ≡ false → IsReached (reaches_for rule region.now reaches.now) (span_of rule item region.now) → ⊥ }
+{
+    let span = span_of(rule, item, region);
+    if passes_shared(rule, region) {
+        may_reach(reaches.unshared.as_slice(), span)
+    } else {
+        may_reach(reaches.any.as_slice(), span)
+    }
+}
