@@ -1,9 +1,9 @@
 -- How far spans reach, one span after the other, and what is told by it.
-use Rattle.std.proofs.Common.{◌≡◌, ◌≢◌, ℕ, ◌+◌, ◌-◌, ◌<◌, ◌≤◌, Bool, true, false, ◌&&◌, not, ◌==◌, nat_lt, List, [], ◌∷◌, ◌++◌, length, get_or, refl, sym, ap, subst, ◌∙◌, inl, inr, arith}
+use Rattle.std.proofs.Common.{◌≡◌, ◌≢◌, ℕ, zero, suc, ◌+◌, ◌^◌, leb, take, drop, length-drop, ◌-◌, ◌<◌, ◌≤◌, Bool, true, false, ◌&&◌, not, ◌==◌, nat_lt, List, [], ◌∷◌, ◌++◌, length, get_or, refl, sym, ap, subst, ◌∙◌, inl, inr, arith}
 use Rattle.std.specs.List.{Contains, AllWithin}
 use Rattle.std.specs.List.Sorted.{IsNonDecreasingBy}
-use Rattle.std.proofs.lemmas.Bool.{false≢true, cases_Bool, ltb-true, ltb-false, cases_eq, cases_lt, cases_order}
-use Rattle.std.proofs.lemmas.List.{get_or_default, get_or_append_left, get_or_push, length_push}
+use Rattle.std.proofs.lemmas.Bool.{false≢true, cases_Bool, ltb-true, ltb-false, leb-true, cases_eq, cases_lt, cases_order}
+use Rattle.std.proofs.lemmas.List.{get_or_default, get_or_append_left, get_or_push, length_push, get_or-take, get_or-drop, length-take}
 use Rattle.jh_cellcfg.specs.declared.region.Region.{Region}
 use Rattle.jh_cellcfg.specs.declared.config.CellConfig.{CellConfig}
 use Rattle.jh_cellcfg.specs.Regions.{has_flags, is_page_mapped, is_comm, has_size}
@@ -13,14 +13,15 @@ use Rattle.jh_check.specs.declared.finding.Finding.{Finding}
 use Rattle.jh_check.specs.declared.spans.Span.{Span}
 use Rattle.jh_check.specs.declared.reach.Reach.{Reach}
 use Rattle.jh_check.specs.declared.reach.Reaches.{Reaches}
+use Rattle.jh_check.specs.declared.reach.Window.{Window}
 use Rattle.jh_check.specs.Regions.{Spot, pair_breaks, share_places, takes_pages, both_shared}
 use Rattle.jh_check.specs.Devices.{are_same_section}
 use Rattle.jh_check.specs.Spans.{takes_part, span_of, is_within}
-use Rattle.jh_check.specs.Lists.{capped}
-use Rattle.jh_check.specs.Findings.{spot, beside}
-use Rattle.jh_check.specs.Reaches.{passes_shared, may_follow, reaches_for, HasOthers, InOrder, IsRising, IsReached, TellsEach, TellsPairs, IsOwn, TellsOthers, AreOf}
-use Rattle.jh_check.proofs.BoolLemmas.{not-both, and-left, and-right, and-both}
-use Rattle.jh_check.proofs.ListLemmas.{append_nil}
+use Rattle.jh_check.specs.Lists.{capped, found_from, only_if}
+use Rattle.jh_check.specs.Findings.{spot, beside, beside_at, finding_of}
+use Rattle.jh_check.specs.Reaches.{passes_shared, may_follow, reaches_for, HasOthers, InOrder, IsRising, IsReached, TellsEach, TellsPairs, IsOwn, TellsOthers, AreOf, IsIn, HasHits}
+use Rattle.jh_check.proofs.BoolLemmas.{false-from_not, not-both, and-left, and-right, and-both}
+use Rattle.jh_check.proofs.ListLemmas.{append_nil, found-drop, found-end, found-none}
 use Rattle.jh_check.proofs.BreakLemmas.{pair-order, pair-joins, pair-takes_part, pair-second, pair-meets, beside-none, joins-same, two-parts, pages-parts, overlap-second, meet-swap}
 
 -- ---- one span after the other
@@ -29,6 +30,7 @@ use Rattle.jh_check.proofs.BreakLemmas.{pair-order, pair-joins, pair-takes_part,
 pub record IsReachTo (spans : List Span) (reaches : List Reach) (n end : ℕ) : Type 0 where
   pub count : length reaches ≡ n
   pub starts : (k : ℕ) (d : Reach) (e : Span) → k < n → (get_or reaches k d).start ≡ (get_or spans k e).start
+  pub items : (k : ℕ) (d : Reach) (e : Span) → k < n → (get_or reaches k d).item ≡ (get_or spans k e).item
   pub ends : (k : ℕ) (d : Reach) (e : Span) → k < n → (get_or spans k e).end ≤ (get_or reaches k d).end
   pub below : (k : ℕ) (d : Reach) → k < n → (get_or reaches k d).end ≤ end
   pub rising : IsNonDecreasingBy (λ (reach : Reach). reach.end) reaches
@@ -66,20 +68,23 @@ pub reach-none : (spans : List Span) → IsReachTo spans [] 0 0
 reach-none spans = record {
   count = refl;
   starts = λ k d e h. absurd (omega arith);
+  items = λ k d e h. absurd (omega arith);
   ends = λ k d e h. absurd (omega arith);
   below = λ k d h. absurd (omega arith);
   rising = λ i j d h k. absurd (omega arith);
 }
 
-pub reach-more : (spans : List Span) (reaches : List Reach) (n end more : ℕ) (x : Span) → n < length spans → x ≡ get_or spans n x → end ≤ more → x.end ≤ more → IsReachTo spans reaches n end → IsReachTo spans (reaches ++ (record { start = x.start; end = more }) ∷ []) (n + 1) more
+pub reach-more : (spans : List Span) (reaches : List Reach) (n end more : ℕ) (x : Span) → n < length spans → x ≡ get_or spans n x → end ≤ more → x.end ≤ more → IsReachTo spans reaches n end → IsReachTo spans (reaches ++ (record { start = x.start; end = more; item = x.item }) ∷ []) (n + 1) more
 reach-more spans reaches n end more x within is farther far before =
-    let y : Reach = record { start = x.start; end = more } in
+    let y : Reach = record { start = x.start; end = more; item = x.item } in
     let same : (e : Span) → x ≡ get_or spans n e = λ e. is ∙ get_or_default spans n x e within in
     let size : length (reaches ++ y ∷ []) ≡ length reaches + 1 = length_push reaches y in
     record {
       count = size ∙ ap (λ m. m + 1) before.count;
       starts = λ k d e h.
           one-more reaches y n (λ j r. r.start ≡ (get_or spans j e).start) before.count (λ j d i. before.starts j d e i) (ap (λ (s : Span). s.start) (same e)) k d h;
+      items = λ k d e h.
+          one-more reaches y n (λ j r. r.item ≡ (get_or spans j e).item) before.count (λ j d i. before.items j d e i) (ap (λ (s : Span). s.item) (same e)) k d h;
       ends = λ k d e h.
           one-more reaches y n (λ j r. (get_or spans j e).end ≤ r.end) before.count (λ j d i. before.ends j d e i) (subst (λ (s : Span). s.end ≤ more) (same e) far) k d h;
       below = λ k d h.
@@ -106,9 +111,9 @@ pairs-none spans = record {
   rising = λ i j d h k. absurd (omega arith);
 }
 
-pub pairs-more : (spans : List Span) (reaches : List Reach) (n far end farther more : ℕ) (x : Span) → n < length spans → x ≡ get_or spans n x → far ≤ farther → x.end ≤ farther → end ≤ more → ((low : ℕ) → low < far → low < x.end → low < more) → ArePairsTo spans reaches n far end → ArePairsTo spans (reaches ++ (record { start = x.start; end = more }) ∷ []) (n + 1) farther more
+pub pairs-more : (spans : List Span) (reaches : List Reach) (n far end farther more : ℕ) (x : Span) → n < length spans → x ≡ get_or spans n x → far ≤ farther → x.end ≤ farther → end ≤ more → ((low : ℕ) → low < far → low < x.end → low < more) → ArePairsTo spans reaches n far end → ArePairsTo spans (reaches ++ (record { start = x.start; end = more; item = x.item }) ∷ []) (n + 1) farther more
 pairs-more spans reaches n far end farther more x within is grows reaches_x rises both before =
-    let y : Reach = record { start = x.start; end = more } in
+    let y : Reach = record { start = x.start; end = more; item = x.item } in
     let same : (e : Span) → x ≡ get_or spans n e = λ e. is ∙ get_or_default spans n x e within in
     let size : length (reaches ++ y ∷ []) ≡ length reaches + 1 = length_push reaches y in
     record {
@@ -152,7 +157,7 @@ pairs-rise spans reaches n far end low high order all = record {
 
 pub reach-tells : (spans : List Span) (reaches : List Reach) (n end : ℕ) → length spans ≤ n → IsReachTo spans reaches n end → TellsEach spans reaches
 reach-tells spans reaches n end low all = λ x z cx meets.
-    let none : Reach = record { start = 0; end = 0 } in
+    let none : Reach = record { start = 0; end = 0; item = 0 } in
     let k = cx.0 in
     let by = get_or reaches k none in
     let begins : x.start < z.end = ltb-true x.start z.end (and-left (nat_lt x.start z.end) (nat_lt z.start x.end) meets) in
@@ -160,11 +165,12 @@ reach-tells spans reaches n end low all = λ x z cx meets.
     let here : k < length reaches = let c = all.count in let w = cx.1 in omega arith in
     let a : by.start ≡ x.start = subst (λ (s : Span). by.start ≡ s.start) cx.2 (all.starts k none x (let w = cx.1 in omega arith)) in
     let b : x.end ≤ by.end = subst (λ (s : Span). s.end ≤ by.end) cx.2 (all.ends k none x (let w = cx.1 in omega arith)) in
-    record { by = by; is = (k, here, get_or_default reaches k by none here); begins = omega arith; ends = omega arith }
+    let c : by.item ≡ x.item = subst (λ (s : Span). by.item ≡ s.item) cx.2 (all.items k none x (let w = cx.1 in omega arith)) in
+    (record { by = by; is = (k, here, get_or_default reaches k by none here); begins = omega arith; ends = omega arith }, c)
 
 pub pairs-tell : (spans : List Span) (reaches : List Reach) (n far end : ℕ) → length spans ≤ n → ArePairsTo spans reaches n far end → TellsPairs spans reaches
 pairs-tell spans reaches n far end low all = λ x y cx cy differ some meets.
-    let none : Reach = record { start = 0; end = 0 } in
+    let none : Reach = record { start = 0; end = 0; item = 0 } in
     let p = cx.0 in
     let q = cy.0 in
     let first : x.start < y.end = ltb-true x.start y.end (and-left (nat_lt x.start y.end) (nat_lt y.start x.end) meets) in
@@ -246,7 +252,8 @@ others-each rule pass b cell spans reaches has tells = λ one s d own passes wit
     let y = get_or cell.memory_regions s d in
     let other = spot b cell s y in
     let f = pair-follows rule pass one other passes breaks in
-    tells (span_of rule s y) (span_of rule one.item one.region) (has s d within f) (meet-swap (span_of rule one.item one.region) (span_of rule s y) (pair-meets rule one other breaks))
+    let t = tells (span_of rule s y) (span_of rule one.item one.region) (has s d within f) (meet-swap (span_of rule one.item one.region) (span_of rule s y) (pair-meets rule one other breaks)) in
+    (t.0, λ w. t.1 ∙ span-item rule s y)
 
 pub others-pairs : (rule : Rule) (pass : Bool) (b : ℕ) (cell : CellConfig) (spans : List Span) (reaches : List Reach) → is_within rule ≡ true → HasOthers rule pass b cell.memory_regions spans → TellsPairs spans reaches → TellsOthers rule pass b cell reaches
 others-pairs rule pass b cell spans reaches w has tells = λ one s d own passes within breaks.
@@ -264,7 +271,7 @@ others-pairs rule pass b cell spans reaches w has tells = λ one s d own passes 
     let g : one.item ≡ s = sym (span-item rule one.item one.region) ∙ e ∙ span-item rule s y in
     omega arith
     in
-    tells (span_of rule one.item one.region) (span_of rule s y) cx cy differ (span-some rule one.item one.region w t) (pair-meets rule one other breaks)
+    (tells (span_of rule one.item one.region) (span_of rule s y) cx cy differ (span-some rule one.item one.region w t) (pair-meets rule one other breaks), λ f. absurd (not-both (is_within rule) w f))
 
 -- no region passes over shared ones by another rule
 pub others-none : (rule : Rule) (b : ℕ) (cell : CellConfig) (reaches : List Reach) → rule ≢ CellsOverlap → TellsOthers rule true b cell reaches
@@ -297,7 +304,7 @@ unreached reaches span n rising bound after last reached =
     ]
 
 -- a region that breaks the rule with one of the cell is reached by those by which it is looked for
-reached-for : (rule : Rule) (b : ℕ) (other : CellConfig) (reaches : Reaches) (one : Spot) (s : ℕ) (d : Region) → AreOf rule b other reaches → IsOwn one b other → s < length other.memory_regions → pair_breaks rule one (spot b other s (get_or other.memory_regions s d)) ≡ true → IsReached (reaches_for rule one.region reaches) (span_of rule one.item one.region)
+reached-for : (rule : Rule) (b : ℕ) (other : CellConfig) (reaches : Reaches) (one : Spot) (s : ℕ) (d : Region) → AreOf rule b other reaches → IsOwn one b other → s < length other.memory_regions → pair_breaks rule one (spot b other s (get_or other.memory_regions s d)) ≡ true → (reached : IsReached (reaches_for rule one.region reaches) (span_of rule one.item one.region)) × (is_within rule ≡ false → reached.by.item ≡ s)
 reached-for rule b other reaches one s d of own within breaks =
     elim (cases_Bool (passes_shared rule one.region)) [
       | inl p ↦ rw p (of.unshared one s d own p within breaks)
@@ -312,7 +319,66 @@ beside-apart rule one b other h =
 
 pub beside-unreached : (rule : Rule) (one : Spot) (b : ℕ) (other : CellConfig) (reaches : Reaches) → AreOf rule b other reaches → IsOwn one b other → (IsReached (reaches_for rule one.region reaches) (span_of rule one.item one.region) → ⊥) → beside rule one b other ≡ []
 beside-unreached rule one b other reaches of own unreached =
-    beside-none rule one b other (λ s d within breaks. unreached (reached-for rule b other reaches one s d of own within breaks))
+    beside-none rule one b other (λ s d within breaks. unreached (reached-for rule b other reaches one s d of own within breaks).0)
+
+-- a window in which those are that reach it has the numbers of those that break the rule with it
+pub window-hits : (rule : Rule) (one : Spot) (b : ℕ) (other : CellConfig) (reaches : Reaches) (window : Window) → AreOf rule b other reaches → IsOwn one b other → (is_within rule ≡ true → (s : ℕ) → s < 2 ^ 64 → IsIn window s) → (is_within rule ≡ false → (x : Reach) → Contains (reaches_for rule one.region reaches) x → x.start < (span_of rule one.item one.region).end → (span_of rule one.item one.region).start < x.end → IsIn window x.item) → HasHits rule one b other window
+window-hits rule one b other reaches window of own all told = λ s d within small breaks.
+    elim (cases_Bool (is_within rule)) [
+      | inl w ↦ all w s small
+      | inr w ↦
+          let r = reached-for rule b other reaches one s d of own within breaks in
+          subst (λ n. IsIn window n) (r.1 w) (told w r.0.by r.0.is r.0.begins r.0.ends)
+    ]
+
+-- the items that are passed over give nothing
+pub found-skip : {X : Type 0} (found : ℕ → X → List Finding) (xs : List X) (n : ℕ) (d : X) → ((i : ℕ) → i < length xs → i < n → found i (get_or xs i d) ≡ []) → found_from found 0 xs ≡ found_from found n (drop n xs)
+found-skip found xs zero d h = refl
+found-skip found xs (suc n) d h =
+    let before : found_from found 0 xs ≡ found_from found n (drop n xs) = found-skip found xs n d (λ i within below. h i within (omega arith)) in
+    elim (cases_lt n (length xs)) [
+      | inl k ↦
+          let e : n + 1 ≡ suc n = omega arith in
+          let rest = found_from found (n + 1) (drop (n + 1) xs) in
+          before ∙ found-drop found xs n d k ∙ ap (λ ys. ys ++ rest) (h n k (omega arith)) ∙ ap (λ m. found_from found m (drop m xs)) e
+      | inr k ↦ before ∙ found-end found xs n k ∙ sym (found-end found xs (suc n) (omega arith))
+    ]
+
+-- and so do those from one on
+pub found-rest : {X : Type 0} (found : ℕ → X → List Finding) (xs : List X) (n : ℕ) (d : X) → ((i : ℕ) → i < length xs → n ≤ i → found i (get_or xs i d) ≡ []) → found_from found n (drop n xs) ≡ []
+found-rest found xs n d h =
+    found-none found n (drop n xs) d (λ i k.
+    let size = length-drop n xs in
+    let e : get_or (drop n xs) i d ≡ get_or xs (n + i) d = get_or-drop n xs i d in
+    subst (λ x. found (n + i) x ≡ []) (sym e) (h (n + i) (omega arith) (omega arith)))
+
+-- a region outside the window gives nothing
+pub beside-outside : (rule : Rule) (one : Spot) (b : ℕ) (other : CellConfig) (window : Window) → HasHits rule one b other window → (s : ℕ) (d : Region) → s < length other.memory_regions → s < 2 ^ 64 → (IsIn window s → ⊥) → beside_at rule one b other s (get_or other.memory_regions s d) ≡ []
+unfolding only_if
+beside-outside rule one b other window hits s d within small out =
+    ap (λ t. only_if t (finding_of rule one.cell one.item b s)) (false-from_not (pair_breaks rule one (spot b other s (get_or other.memory_regions s d))) (λ breaks. out (hits s d within small breaks)))
+
+-- what is among those between the borders
+pub among-parted : (reaches : List Reach) (span : Span) (begin m n : ℕ) → begin ≤ m → begin ≤ n → n ≤ length reaches → AllWithin (λ (reach : Reach). nat_lt reach.start span.end ≡ false) reaches n (length reaches) → AllWithin (λ (reach : Reach). leb reach.end span.start ≡ true) reaches 0 m → (x : Reach) → Contains reaches x → x.start < span.end → span.start < x.end → Contains (take (n - begin) (drop begin reaches)) x
+among-parted reaches span begin m n low high bound after before x cx begins ends =
+    let k = cx.0 in
+    let within = cx.1 in
+    let a : k < n = elim (cases_lt k n) [
+      | inl h ↦ h
+      | inr h ↦
+          let e = ltb-false x.start span.end (subst (λ (s : Reach). nat_lt s.start span.end ≡ false) cx.2 (after k x h within)) in
+          absurd (omega arith)
+    ] in
+    let b : m ≤ k = elim (cases_lt k m) [
+      | inl h ↦
+          let e = leb-true x.end span.start (subst (λ (s : Reach). leb s.end span.start ≡ true) cx.2 (before k x (omega arith) h)) in
+          absurd (omega arith)
+      | inr h ↦ h
+    ] in
+    let sum : begin + (k - begin) ≡ k = omega arith in
+    let size = length-take (n - begin) (drop begin reaches) in
+    let rest = length-drop begin reaches in
+    (k - begin, omega arith, get_or-take (n - begin) (drop begin reaches) (k - begin) x (omega arith) ∙ get_or-drop begin reaches (k - begin) x ∙ ap (λ i. get_or reaches i x) sum ∙ cx.2)
 
 pub capped-none_more : (found more : List Finding) → more ≡ [] → capped found ≡ capped (found ++ more)
 capped-none_more found more e = ap capped (sym (append_nil found) ∙ ap (λ xs. found ++ xs) (sym e))

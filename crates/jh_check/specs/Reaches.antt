@@ -1,5 +1,5 @@
 -- How far the regions of a cell reach, by which those that meet none of them are told at once.
-use Rattle.std.specs.Prelude.{◌≡◌, ◌≢◌, ℕ, ◌<◌, Bool, true, false, ◌&&◌, not, ◌==◌, if◌then◌else◌, List, length, slice_index_or, Contains}
+use Rattle.std.specs.Prelude.{◌≡◌, ◌≢◌, ℕ, ◌^◌, ◌<◌, ◌≤◌, Bool, true, false, ◌&&◌, not, ◌==◌, if◌then◌else◌, List, length, slice_index_or, Contains}
 use Rattle.std.specs.List.Sorted.{IsNonDecreasingBy}
 use Rattle.jh_cellcfg.specs.declared.region.Region.{Region}
 use Rattle.jh_cellcfg.specs.declared.config.CellConfig.{CellConfig}
@@ -9,8 +9,9 @@ use Rattle.jh_check.specs.declared.rule.Rule.TheVariants.{PhysOverlap, SubpageTa
 use Rattle.jh_check.specs.declared.spans.Span.{Span}
 use Rattle.jh_check.specs.declared.reach.Reach.{Reach}
 use Rattle.jh_check.specs.declared.reach.Reaches.{Reaches}
+use Rattle.jh_check.specs.declared.reach.Window.{Window}
 use Rattle.jh_check.specs.Regions.{Spot, pair_breaks}
-use Rattle.jh_check.specs.Spans.{span_of, spans_meet}
+use Rattle.jh_check.specs.Spans.{span_of, spans_meet, is_within}
 use Rattle.jh_check.specs.Findings.{spot}
 
 -- the rule lets the region meet those that are shared
@@ -47,9 +48,9 @@ pub record IsReached (reaches : List Reach) (span : Span) : Type 0 where
   pub begins : by.start < span.end
   pub ends : span.start < by.end
 
--- what meets one of the spans is reached
+-- what meets one of the spans is reached by that of its number
 abbrev pub TellsEach : List Span → List Reach → Type 0
-TellsEach spans reaches = (x z : Span) → Contains spans x → spans_meet x z ≡ true → IsReached reaches z
+TellsEach spans reaches = (x z : Span) → Contains spans x → spans_meet x z ≡ true → (reached : IsReached reaches z) × (reached.by.item ≡ x.item)
 
 -- one of the spans that meets another of them is reached
 abbrev pub TellsPairs : List Span → List Reach → Type 0
@@ -60,10 +61,11 @@ TellsPairs spans reaches =
 abbrev pub IsOwn : Spot → ℕ → CellConfig → Type 0
 IsOwn one b other = one.cell ≡ b → (one.item < length other.memory_regions) × (one.region ≡ slice_index_or other.memory_regions one.item one.region)
 
--- a region that breaks the rule with one of the cell is reached
+-- a region that breaks the rule with one of the cell is reached, and, where the rule is about two cells, by the
+-- reach of that one's number
 abbrev pub TellsOthers : Rule → Bool → ℕ → CellConfig → List Reach → Type 0
 TellsOthers rule pass b other reaches =
-    (one : Spot) (s : ℕ) (d : Region) → IsOwn one b other → passes_shared rule one.region ≡ pass → s < length other.memory_regions → pair_breaks rule one (spot b other s (slice_index_or other.memory_regions s d)) ≡ true → IsReached reaches (span_of rule one.item one.region)
+    (one : Spot) (s : ℕ) (d : Region) → IsOwn one b other → passes_shared rule one.region ≡ pass → s < length other.memory_regions → pair_breaks rule one (spot b other s (slice_index_or other.memory_regions s d)) ≡ true → (reached : IsReached reaches (span_of rule one.item one.region)) × (is_within rule ≡ false → reached.by.item ≡ s)
 
 -- those by which the region is looked for
 abbrev pub reaches_for : Rule → Region → Reaches → List Reach
@@ -80,3 +82,12 @@ pub record AreOf (rule : Rule) (b : ℕ) (other : CellConfig) (reaches : Reaches
 abbrev pub AreOfEach : Rule → List CellConfig → List Reaches → Type 0
 AreOfEach rule all each =
     (b : ℕ) (d : Reaches) (c : CellConfig) → b < length all → AreOf rule b (slice_index_or all b c) (slice_index_or each b d)
+
+-- the number is one of the window's
+abbrev pub IsIn : Window → ℕ → Type 0
+IsIn window s = (window.first ≤ s) × (s ≤ window.last)
+
+-- each region of the other cell that breaks the rule with the one has its number there (numbers have 64 bits)
+abbrev pub HasHits : Rule → Spot → ℕ → CellConfig → Window → Type 0
+HasHits rule one b other window =
+    (s : ℕ) (d : Region) → s < length other.memory_regions → s < 2 ^ 64 → pair_breaks rule one (spot b other s (slice_index_or other.memory_regions s d)) ≡ true → IsIn window s

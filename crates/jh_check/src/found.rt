@@ -4,12 +4,14 @@ ghost use Rattle.jh_check.specs.Cells.{cells_of};
 ghost use Rattle.jh_check.specs.Sites.{spot_of};
 ghost use Rattle.jh_check.specs.Lists.{capped, only_if};
 ghost use Rattle.jh_check.specs.Regions.{pair_breaks, hypervisor_breaks};
+ghost use Rattle.jh_check.specs.Reaches.{HasHits};
 ghost use Rattle.jh_check.specs.Findings.{item_of, finding_of, beside, in_cell, in_regions, in_hypervisor, in_devices_of, in_devices, in_cpus};
 
 use crate::checking::MAX_FINDINGS;
 use crate::devices::{cpus_break, device_breaks};
 use crate::finding::{Finding, HYPERVISOR};
 use crate::pairs::{Site, pair_breaks};
+use crate::reach::Window;
 use crate::regions::{hypervisor_breaks, region_breaks};
 use crate::rule::Rule;
 use crate::setup::Setup;
@@ -56,22 +58,25 @@ fn put(found: &mut Seq<Finding>, test: bool, finding: Finding) -> Result<(), NoM
     if test { push(found, finding) } else { Ok(()) }
 }
 
-/// A region with each of another cell.
+/// A region with each of another cell; only those in the window may break the rule with it.
 pub(crate) fn beside(
     found: &mut Seq<Finding>,
     rule: Rule,
     one: &Site,
+    window: Window,
     b: u32,
     other: &CellConfig,
 ) -> Result<(), NoMemory>
+    requires { HasHits rule (spot_of one.now) b other.now window }
     ensures { OnOk result (capped found.new ≡ capped (found.old ++ beside rule (spot_of one.now) b other.now)) }
 {
-    for (s, region) in other.memory_regions.as_slice().iter().enumerate() {
+    let regions = other.memory_regions.as_slice();
+    for s in window.first..regions.len().min(window.last.saturating_add(1)) {
         let second = Site {
             cell: b,
             config: other,
             item: s,
-            region,
+            region: &regions[s],
         };
         let breaks = pair_breaks(rule, one, &second);
         put(found, breaks, finding(rule, one.cell, one.item, b, s))?;

@@ -11,7 +11,7 @@ use crate::checking::MAX_FINDINGS;
 use crate::finding::Finding;
 use crate::found::beside;
 use crate::pairs::Site;
-use crate::reach::{Reaches, may_meet, measure};
+use crate::reach::{Reaches, find_window, may_meet, measure};
 use crate::rule::Rule;
 use crate::setup::Setup;
 use crate::spans::takes_part;
@@ -55,7 +55,8 @@ fn visit(
     if !may_meet(reaches, rule, one.item, one.region) {
         return Ok(());
     }
-    beside(found, rule, one, b, other)
+    let window = find_window(reaches, rule, one.item, one.region);
+    beside(found, rule, one, window, b, other)
 }
 
 /// Each region of a cell with each of another.

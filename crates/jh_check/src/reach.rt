@@ -1,8 +1,9 @@
 //! How far the regions of a cell reach, by which those that meet none of them are told at once.
-ghost use Rattle.std.specs.Prelude.{◌≡◌, ◌≢◌, true, false, length, OnOk, IfOk, Contains};
+ghost use Rattle.std.specs.Prelude.{◌≡◌, ◌≢◌, ◌<◌, ◌≤◌, ◌^◌, ℕ, true, false, length, OnOk, IfOk, Contains};
 ghost use Rattle.jh_check.specs.declared.spans.Span.{Span};
+ghost use Rattle.jh_check.specs.declared.reach.Reach.{Reach};
 ghost use Rattle.jh_check.specs.Spans.{is_within, span_of};
-ghost use Rattle.jh_check.specs.Reaches.{passes_shared, may_follow, reaches_for, HasOthers, InOrder, IsRising, IsReached, TellsEach, TellsPairs, TellsOthers, AreOf};
+ghost use Rattle.jh_check.specs.Reaches.{passes_shared, may_follow, reaches_for, HasOthers, InOrder, IsRising, IsReached, TellsEach, TellsPairs, TellsOthers, AreOf, IsIn};
 
 use crate::rule::Rule;
 use crate::spans::{Span, span_of, takes_part};
@@ -10,12 +11,20 @@ use jh_cellcfg::{CellConfig, Region, RegionFlags};
 use jh_num::NoMemory;
 use std::alloc::Global;
 
-/// Of the regions that begin at `start` or below, the one that reaches farthest does to `end`, or the one that does
-/// next to it.
+/// The region with that number begins at `start`. Of those that begin no later, the one that reaches farthest does to
+/// `end`, or the one that does next to it.
 #[derive(Clone, Copy, PartialEq, Eq, Debug)]
 pub(crate) struct Reach {
     pub(crate) start: u64,
     pub(crate) end: u128,
+    pub(crate) item: usize,
+}
+
+/// The numbers of regions from the first to the last; none, where the last is below the first.
+#[derive(Clone, Copy, PartialEq, Eq, Debug)]
+pub(crate) struct Window {
+    pub(crate) first: usize,
+    pub(crate) last: usize,
 }
 
 /// How far those regions of a cell reach that may break a rule as the other of a pair.
@@ -107,6 +116,7 @@ fn of_each(alloc: Global, spans: &[Span]) -> Result<Vec<Reach>, NoMemory>
         reaches.push(Reach {
             start: span.start,
             end,
+            item: span.item,
         })?;
     }
     Ok(reaches)
@@ -127,6 +137,7 @@ fn of_pairs(alloc: Global, spans: &[Span]) -> Result<Vec<Reach>, NoMemory>
         reaches.push(Reach {
             start: span.start,
             end,
+            item: span.item,
         })?;
     }
     Ok(reaches)
@@ -196,5 +207,51 @@ pub(crate) fn may_meet(reaches: &Reaches, rule: Rule, item: usize, region: &Regi
         may_reach(reaches.unshared.as_slice(), span)
     } else {
         may_reach(reaches.any.as_slice(), span)
+    }
+}
+
+/// The numbers of those that reach the span, and maybe of others.
+fn window_of(reaches: &[Reach], span: Span) -> Window
+    requires { IsRising reaches.now }
+    ensures { (x : Reach) → Contains reaches.now x → x.start < span.end → span.start < x.end → IsIn result x.item }
+{
+    let start = u128::from(span.start);
+    let end = reaches.partition_point(|reach| u128::from(reach.start) < span.end);
+    let begin = reaches.partition_point(|reach| reach.end <= start);
+    around(&reaches[begin.min(end)..end])
+}
+
+/// From the least of their numbers to the greatest.
+fn around(reaches: &[Reach]) -> Window
+    ensures { (x : Reach) → Contains reaches.now x → IsIn result x.item }
+{
+    let mut first = usize::MAX;
+    let mut last = 0;
+    for reach in reaches {
+        first = reach.item.min(first);
+        last = reach.item.max(last);
+    }
+    Window { first, last }
+}
+
+/// The numbers of those regions with which the region, of that number in its cell, may break the rule: of all, where
+/// the rule is about one cell.
+pub(crate) fn find_window(reaches: &Reaches, rule: Rule, item: usize, region: &Region) -> Window
+    requires any { IsRising reaches.now.any.items }
+    requires unshared { IsRising reaches.now.unshared.items }
+    ensures all { is_within rule ≡ true → (s : ℕ) → s < 2 ^ 64 → IsIn result s }
+    ensures told { is_within rule ≡ false → (x : Reach) → Contains (reaches_for rule region.now reaches.now) x → x.start < (span_of rule item region.now).end → (span_of rule item region.now).start < x.end → IsIn result x.item }
+{
+    if is_within(rule) {
+        return Window {
+            first: 0,
+            last: usize::MAX,
+        };
+    }
+    let span = span_of(rule, item, region);
+    if passes_shared(rule, region) {
+        window_of(reaches.unshared.as_slice(), span)
+    } else {
+        window_of(reaches.any.as_slice(), span)
     }
 }

@@ -12,7 +12,7 @@ returns-then-n-gt0 c =
     let limit = c.args.span.end in
     let point = IsPartitionPoint-from_clause (λ (reach : Reach). nat_lt reach.start limit) reaches c.partition_point-n.result c.partition_point-n.ensures.partitioned (IsPartitionedBy-ltb (λ (reach : Reach). reach.start) reaches limit c.requires.starts) (λ a r q k. search rules) in
     λ e reached. unreached reaches c.args.span c.partition_point-n.result c.requires c.partition_point-n.ensures.bound point.1 (λ d h.
-    let none : Reach = record { start = 0; end = 0 } in
+    let none : Reach = record { start = 0; end = 0; item = 0 } in
     let n = c.partition_point-n.result in
     let f = c.from.ensures in
     let k = ltb-false c.from.result (get_or reaches (n - 1) none).end e in
