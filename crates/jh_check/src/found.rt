@@ -5,8 +5,10 @@ ghost use Rattle.jh_check.specs.Sites.{spot_of};
 ghost use Rattle.jh_check.specs.Lists.{capped, only_if};
 ghost use Rattle.jh_check.specs.Regions.{pair_breaks, hypervisor_breaks};
 ghost use Rattle.jh_check.specs.Reaches.{HasHits};
+ghost use Rattle.jh_check.specs.Bus.{HasPlaces};
 ghost use Rattle.jh_check.specs.Findings.{item_of, finding_of, beside, in_cell, in_regions, in_hypervisor, in_devices_of, in_devices, in_cpus};
 
+use crate::bus::{is_marked, mark, marks};
 use crate::checking::MAX_FINDINGS;
 use crate::devices::{cpus_break, device_breaks};
 use crate::finding::{Finding, HYPERVISOR};
@@ -130,31 +132,42 @@ pub(crate) fn in_hypervisor(
     put(found, breaks, finding(rule, HYPERVISOR, 0, 0, 0))
 }
 
-/// Each device of a cell.
+/// Each device of a cell, where the places of the devices of those with lower numbers are marked.
 fn in_devices_of(
     found: &mut Seq<Finding>,
     setup: &Setup,
+    marks: &[bool],
     a: u32,
     cell: &CellConfig,
 ) -> Result<(), NoMemory>
-    requires { a ≤ length (cells_of setup.now) }
+    requires count { a ≤ length (cells_of setup.now) }
+    requires length { length marks.now ≡ 65536 }
+    requires places { HasPlaces (take a (cells_of setup.now)) marks.now }
     ensures { OnOk result (capped found.new ≡ capped (found.old ++ in_devices_of (take a (cells_of setup.now)) a cell.now)) }
 {
     let devices = cell.pci_devices.as_slice();
     for (n, device) in devices.iter().enumerate() {
-        let breaks = device_breaks(setup, a, cell, &devices[..n], device);
+        let linked = is_marked(marks, device);
+        let breaks = device_breaks(setup, a, cell, &devices[..n], device, linked);
         put(found, breaks, finding(Rule::Shmem, a, n, 0, 0))?;
     }
     Ok(())
 }
 
 /// Each device of all cells.
-pub(crate) fn in_devices(found: &mut Seq<Finding>, setup: &Setup) -> Result<(), NoMemory>
+pub(crate) fn in_devices(
+    alloc: Global,
+    found: &mut Seq<Finding>,
+    setup: &Setup,
+) -> Result<(), NoMemory>
     requires { length setup.now.cells.now ≤ 15 }
     ensures { OnOk result (capped found.new ≡ capped (found.old ++ in_devices (cells_of setup.now))) }
 {
+    let mut marks = marks(alloc)?;
     for a in 0..setup.count() {
-        in_devices_of(found, setup, a, setup.cell(a))?;
+        let cell = setup.cell(a);
+        in_devices_of(found, setup, marks.as_slice(), a, cell)?;
+        mark(&mut marks, cell.pci_devices.as_slice());
     }
     Ok(())
 }
