@@ -382,3 +382,26 @@ among-parted reaches span begin m n low high bound after before x cx begins ends
 
 pub capped-none_more : (found more : List Finding) → more ≡ [] → capped found ≡ capped (found ++ more)
 capped-none_more found more e = ap capped (sym (append_nil found) ∙ ap (λ xs. found ++ xs) (sym e))
+
+-- where the first begins behind a span, or the last ends before it, it isn't reached
+pub behind-unreached : (reaches : List Reach) (span : Span) → IsRising reaches → ((d : Reach) → span.end ≤ (get_or reaches 0 d).start) → IsReached reaches span → ⊥
+behind-unreached reaches span rising behind reached =
+    let x = reached.by in
+    let k = reached.is.0 in
+    let within = reached.is.1 in
+    let a = rising.starts 0 k x (omega arith) within in
+    let b = behind x in
+    let c : (get_or reaches 0 x).start ≤ x.start = subst (λ (r : Reach). (get_or reaches 0 x).start ≤ r.start) reached.is.2 a in
+    let d = reached.begins in
+    omega arith
+
+pub before-unreached : (reaches : List Reach) (span : Span) → IsRising reaches → ((d : Reach) → (get_or reaches (length reaches - 1) d).end ≤ span.start) → IsReached reaches span → ⊥
+before-unreached reaches span rising before reached =
+    let x = reached.by in
+    let k = reached.is.0 in
+    let within = reached.is.1 in
+    let a = rising.ends k (length reaches - 1) x (omega arith) (omega arith) in
+    let b = before x in
+    let c : x.end ≤ (get_or reaches (length reaches - 1) x).end = subst (λ (r : Reach). r.end ≤ (get_or reaches (length reaches - 1) x).end) reached.is.2 a in
+    let d = reached.ends in
+    omega arith

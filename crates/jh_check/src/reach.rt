@@ -6,7 +6,7 @@ ghost use Rattle.jh_check.specs.Spans.{is_within, span_of};
 ghost use Rattle.jh_check.specs.Reaches.{passes_shared, may_follow, reaches_for, HasOthers, InOrder, IsRising, IsReached, TellsEach, TellsPairs, TellsOthers, AreOf, IsIn};
 
 use crate::rule::Rule;
-use crate::spans::{Span, span_of, takes_part};
+use crate::spans::{Span, are_apart, span_of};
 use jh_cellcfg::{CellConfig, Region, RegionFlags};
 use jh_num::NoMemory;
 use std::alloc::Global;
@@ -16,8 +16,8 @@ use std::alloc::Global;
 #[derive(Clone, Copy, PartialEq, Eq, Debug)]
 pub(crate) struct Reach {
     pub(crate) start: u64,
-    pub(crate) end: u128,
     pub(crate) item: usize,
+    pub(crate) end: u128,
 }
 
 /// The numbers of regions from the first to the last; none, where the last is below the first.
@@ -109,7 +109,7 @@ fn of_each(alloc: Global, spans: &[Span]) -> Result<Vec<Reach>, NoMemory>
     ensures rising { IfOk result (λ reaches. IsRising reaches.items) }
     ensures tells { IfOk result (λ reaches. TellsEach spans.now reaches.items) }
 {
-    let mut reaches = Vec::new(alloc);
+    let mut reaches = Vec::with_capacity(alloc, spans.len())?;
     let mut end = 0;
     for span in spans {
         end = span.end.max(end);
@@ -128,7 +128,7 @@ fn of_pairs(alloc: Global, spans: &[Span]) -> Result<Vec<Reach>, NoMemory>
     ensures rising { IfOk result (λ reaches. IsRising reaches.items) }
     ensures tells { IfOk result (λ reaches. TellsPairs spans.now reaches.items) }
 {
-    let mut reaches = Vec::new(alloc);
+    let mut reaches = Vec::with_capacity(alloc, spans.len())?;
     let mut farthest = 0;
     let mut end = 0;
     for span in spans {
@@ -141,6 +141,19 @@ fn of_pairs(alloc: Global, spans: &[Span]) -> Result<Vec<Reach>, NoMemory>
         })?;
     }
     Ok(reaches)
+}
+
+/// The same; none, where no two of the spans meet.
+fn of_overlaps(alloc: Global, spans: &[Span]) -> Result<Vec<Reach>, NoMemory>
+    requires { InOrder spans.now }
+    ensures rising { IfOk result (λ reaches. IsRising reaches.items) }
+    ensures tells { IfOk result (λ reaches. TellsPairs spans.now reaches.items) }
+{
+    if are_apart(spans) {
+        Ok(Vec::new(alloc))
+    } else {
+        of_pairs(alloc, spans)
+    }
 }
 
 /// How far the cell's regions reach that may follow.
@@ -156,7 +169,7 @@ fn of_cell(
 {
     let spans = sorted(alloc, rule, pass, b, cell.memory_regions.as_slice())?;
     if is_within(rule) {
-        of_pairs(alloc, spans.as_slice())
+        of_overlaps(alloc, spans.as_slice())
     } else {
         of_each(alloc, spans.as_slice())
     }
@@ -187,11 +200,29 @@ pub(crate) fn measure(
     Ok(Reaches { any, unshared })
 }
 
+/// Whether all begin behind the span, or end before it.
+fn lies_outside(reaches: &[Reach], span: Span) -> bool
+    requires { IsRising reaches.now }
+    ensures { result ≡ true → IsReached reaches.now span → ⊥ }
+{
+    let n = reaches.len();
+    if n == 0 {
+        return true;
+    }
+    if span.end <= u128::from(reaches[0].start) {
+        return true;
+    }
+    reaches[n - 1].end <= u128::from(span.start)
+}
+
 /// Whether the span may be reached; only then may it be told so.
 fn may_reach(reaches: &[Reach], span: Span) -> bool
     requires { IsRising reaches.now }
     ensures { result ≡ false → IsReached reaches.now span → ⊥ }
 {
+    if lies_outside(reaches, span) {
+        return false;
+    }
     let n = reaches.partition_point(|reach| u128::from(reach.start) < span.end);
     n > 0 && reaches[n - 1].end > u128::from(span.start)
 }

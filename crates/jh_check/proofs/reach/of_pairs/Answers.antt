@@ -5,7 +5,7 @@ use Rattle.jh_check.proofs.ReachLemmas.{pairs-none, pairs-more, pairs-rise, pair
 use Rattle.jh_check.proofs.reach.of_pairs.Goals as goal
 
 pub loop-span-init : goal.loop-span-init
-loop-span-init c = rw c.new-reaches.ensures.items (pairs-none c.args.spans.now)
+loop-span-init c = rw c.in_ok-reaches.ensures.items (pairs-none c.args.spans.now)
 
 pub loop-span-preserved : goal.loop-span-preserved
 loop-span-preserved c =
