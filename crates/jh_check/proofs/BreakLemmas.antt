@@ -35,13 +35,18 @@ share-parts one other h =
     let k = and-right (not (is_comm one)) rest h in
     (and-left (not (is_comm one)) rest h, and-left (not (is_comm other)) (phys_meet one other) k, and-right (not (is_comm other)) (phys_meet one other) k)
 
-pages-parts : (one other : Region) → takes_pages one other ≡ true → ((is_unshared one && not (is_page_mapped one)) ≡ true) × (phys_meet one other ≡ true)
+pub pages-parts : (one other : Region) → takes_pages one other ≡ true → ((is_unshared one && not (is_page_mapped one)) ≡ true) × (phys_meet one other ≡ true) × (is_page_mapped other ≡ true) × (has_size other ≡ true)
 pages-parts one other h =
     let last = is_page_mapped other && phys_meet one other in
     let rest = not (is_page_mapped one) && last in
     let k = and-right (is_unshared one) rest h in
     let m = and-right (not (is_page_mapped one)) last k in
-    (and-both (is_unshared one) (not (is_page_mapped one)) (and-left (is_unshared one) rest h) (and-left (not (is_page_mapped one)) last k), and-right (is_page_mapped other) (phys_meet one other) m)
+    let meet = and-right (is_page_mapped other) (phys_meet one other) m in (
+      and-both (is_unshared one) (not (is_page_mapped one)) (and-left (is_unshared one) rest h) (and-left (not (is_page_mapped one)) last k),
+      meet,
+      and-left (is_page_mapped other) (phys_meet one other) m,
+      and-right (has_size one) (has_size other) (phys-parts one other meet).0,
+    )
 
 -- what a broken rule about two regions says of their cells, and of the regions
 pub within-parts : (one other : Spot) (rest : Bool) → ((one.cell == other.cell) && (nat_lt one.item other.item && rest)) ≡ true → ((one.cell == other.cell) ≡ true) × (nat_lt one.item other.item ≡ true) × (rest ≡ true)
@@ -51,7 +56,7 @@ within-parts one other rest h =
     let k = and-right same (before && rest) h in
     (and-left same (before && rest) h, and-left before rest k, and-right before rest k)
 
-two-parts : (first second rest : Bool) → (first && (second && rest)) ≡ true → ((first && second) ≡ true) × (rest ≡ true)
+pub two-parts : (first second rest : Bool) → (first && (second && rest)) ≡ true → ((first && second) ≡ true) × (rest ≡ true)
 two-parts first second rest h =
     let k = and-right first (second && rest) h in
     (and-both first second (and-left first (second && rest) h) (and-left second rest k), and-right second rest k)
@@ -73,7 +78,7 @@ pair-joins CellsOverlap one other h =
     (two-parts (nat_lt 0 one.cell) (nat_lt one.cell other.cell) (share_places one.region other.region && (not (both_shared one.region other.region) && not (are_same_section one.config one.item other.config other.item))) h).0
 pair-joins _ one other h = absurd (false≢true h)
 
-overlap-share : (one other : Spot) → pair_breaks CellsOverlap one other ≡ true → share_places one.region other.region ≡ true
+pub overlap-share : (one other : Spot) → pair_breaks CellsOverlap one other ≡ true → share_places one.region other.region ≡ true
 unfolding pair_breaks
 overlap-share one other h =
     let rest = not (both_shared one.region other.region) && not (are_same_section one.config one.item other.config other.item) in
@@ -116,7 +121,7 @@ pair-meets CellsOverlap one other h = (phys-parts one.region other.region (share
 pair-meets _ one other h = absurd (false≢true h)
 
 -- and so does the second, where the two are of two cells that overlap
-overlap-second : (one other : Spot) → pair_breaks CellsOverlap one other ≡ true → takes_part CellsOverlap other.region ≡ true
+pub overlap-second : (one other : Spot) → pair_breaks CellsOverlap one other ≡ true → takes_part CellsOverlap other.region ≡ true
 overlap-second one other h =
     let p = share-parts one.region other.region (overlap-share one other h) in
     and-both (has_size other.region) (not (is_comm other.region)) (and-right (has_size one.region) (has_size other.region) (phys-parts one.region other.region p.2).0) p.1
@@ -142,7 +147,7 @@ beside-hit rule one b other s d h e =
     (subst (λ m. is_any (beside_at rule one b other m (get_or other.memory_regions s d)) ≡ true) (let f : s ≡ 0 + s = omega arith in f)
     (any-only (pair_breaks rule one (spot b other s (get_or other.memory_regions s d))) (finding_of rule one.cell one.item b s) ∙ e))
 
-meet-swap : (one other : Span) → spans_meet one other ≡ true → spans_meet other one ≡ true
+pub meet-swap : (one other : Span) → spans_meet one other ≡ true → spans_meet other one ≡ true
 meet-swap one other h =
     let first = nat_lt one.start other.end in
     let second = nat_lt other.start one.end in
@@ -212,22 +217,8 @@ between-indexed rule a one spans w index =
     let less : r < s = ltb-true r s o in
     omega arith)
 
--- another cell, none of whose regions meets the index of the one
-pub between-unmet : (rule : Rule) (a : ℕ) (one : CellConfig) (b : ℕ) (other : CellConfig) (spans : List Span) → IsIndex rule one.memory_regions spans → ((s : ℕ) (d : Region) (x : Span) → s < length other.memory_regions → Contains spans x → spans_meet x (span_of rule s (get_or other.memory_regions s d)) ≡ false) → between rule a one b other ≡ []
-between-unmet rule a one b other spans index h =
-    between-none rule a one b other (λ r s d i j t.
-    let x = get_or one.memory_regions r d in
-    let y = get_or other.memory_regions s d in
-    let p = pair-takes_part rule (spot a one r x) (spot b other s y) t in
-    not-both (spans_meet (span_of rule r x) (span_of rule s y)) (pair-meets rule (spot a one r x) (spot b other s y) t) (h s d (span_of rule r x) j (index.each r d i p)))
-
 -- cells that a rule about two regions of one cell joins are one
 pub joins-same : (rule : Rule) (a b : ℕ) → is_within rule ≡ true → joins rule a b ≡ true → a ≡ b
 joins-same VirtOverlap a b w h = eqb-true a b h
 joins-same PhysOverlap a b w h = eqb-true a b h
 joins-same _ a b w h = absurd (false≢true w)
-
-pub between-same : (rule : Rule) (a : ℕ) (one : CellConfig) (b : ℕ) (other : CellConfig) (spans : List Span) → is_within rule ≡ true → joins rule a b ≡ true → (a ≡ b → one ≡ other) → IsIndex rule one.memory_regions spans → between rule a one b other ≡ []
-between-same rule a one b other spans w h same index =
-    let e = joins-same rule a b w h in
-    subst (λ b. between rule a one b other ≡ []) e (subst (λ other. between rule a one a other ≡ []) (same e) (between-indexed rule a one spans w index))

@@ -3,6 +3,8 @@ pub mod ListLemmas
 pub mod BreakLemmas
 pub mod SectionLemmas
 pub mod SpanLemmas
+pub mod ReachLemmas
+pub mod BusLemmas
 pub mod VerdictLemmas
 pub mod Tested
 pub mod FoundLemmas

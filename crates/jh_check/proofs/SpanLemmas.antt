@@ -2,11 +2,11 @@
 use Rattle.std.proofs.Common.{◌≡◌, ℕ, ◌+◌, ◌-◌, ◌<◌, ◌≤◌, true, false, nat_lt, leb, List, length, get_or, take, drop, sym, ap, subst, ◌∙◌, inl, inr, arith, length-drop}
 use Rattle.std.specs.List.{Contains, AllWithin}
 use Rattle.std.specs.List.Sorted.{IsPartitionedBy}
-use Rattle.std.proofs.lemmas.Bool.{ltb-true, ltb-false, lt-ltb, le-ltb, leb-true, le-leb, cases_eq, cases_lt}
+use Rattle.std.proofs.lemmas.Bool.{ltb-true, ltb-false, lt-ltb, leb-true, le-leb, cases_eq, cases_lt}
 use Rattle.std.proofs.lemmas.List.{get_or-take, get_or-drop, length-take}
 use Rattle.jh_check.specs.declared.spans.Span.{Span}
 use Rattle.jh_check.specs.Spans.{spans_meet, AreApartTo, AreApart}
-use Rattle.jh_check.proofs.BoolLemmas.{and-left, and-right, and-first, and-second}
+use Rattle.jh_check.proofs.BoolLemmas.{and-left, and-right}
 
 -- none is apart from nothing, and one more
 pub apart-none : (spans : List Span) → AreApartTo spans 0
@@ -66,23 +66,6 @@ apart-ended spans limit apart = λ i j d h k p.
     let rise = ends-rise spans apart i j d h k in
     let less = leb-true (get_or spans j d).end limit p in
     le-leb (get_or spans i d).end limit (omega arith)
-
--- where the last that begins before a span's end ends before it begins, none meets it
-pub unmet : (spans : List Span) (other : Span) (n : ℕ) → AreApart spans → n ≤ length spans → AllWithin (λ (span : Span). nat_lt span.start other.end ≡ false) spans n (length spans) → ((d : Span) → 0 < n → (get_or spans (n - 1) d).end ≤ other.start) → (x : Span) → Contains spans x → spans_meet x other ≡ false
-unmet spans other n apart bound after last x cx =
-    let k = cx.0 in
-    elim (cases_lt k n) [
-      | inl h ↦
-          let a = ends-rise spans apart k (n - 1) x (omega arith) (omega arith) in
-          let b = last x (omega arith) in
-          let P : Span → Type 0 = λ s. s.end ≤ other.start in
-          let c : (get_or spans k x).end ≤ other.start = omega arith in
-          let e : x.end ≤ other.start = subst P cx.2 c in
-          and-second (nat_lt x.start other.end) (nat_lt other.start x.end) (le-ltb other.start x.end e)
-      | inr h ↦
-          let P : Span → Type 0 = λ s. nat_lt s.start other.end ≡ false in
-          and-first (nat_lt x.start other.end) (nat_lt other.start x.end) (subst P cx.2 (after k x h cx.1))
-    ]
 
 -- what meets it begins before its end, and ends behind its start
 met-begins : (spans : List Span) (other : Span) (n : ℕ) → AllWithin (λ (span : Span). nat_lt span.start other.end ≡ false) spans n (length spans) → (x : Span) (k : ℕ) → k < length spans → get_or spans k x ≡ x → spans_meet x other ≡ true → k < n

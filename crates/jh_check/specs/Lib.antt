@@ -5,6 +5,8 @@ pub mod Sites
 pub mod Lists
 pub mod Spans
 pub mod Findings
+pub mod Reaches
+pub mod Bus
 pub mod Texts
 pub mod Verdicts
 pub mod Laws

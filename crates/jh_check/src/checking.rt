@@ -42,7 +42,7 @@ fn found_by(
         Rule::PhysOverlap => in_pairs(alloc, found, rule, setup),
         Rule::SubpageTaken => in_pairs(alloc, found, rule, setup),
         Rule::CellsOverlap => in_pairs(alloc, found, rule, setup),
-        Rule::Shmem => in_devices(found, setup),
+        Rule::Shmem => in_devices(alloc, found, setup),
         Rule::NoCpu => in_cpus(found, setup),
         Rule::OutOfRange => also_in_hypervisor(found, rule, setup),
         Rule::PhysAlign => also_in_hypervisor(found, rule, setup),

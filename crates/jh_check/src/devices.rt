@@ -1,5 +1,5 @@
 //! The rules of ivshmem devices, their links and their sections (ivshmem v2), and the rule of CPUs.
-ghost use Rattle.std.specs.Prelude.{◌≡◌, ◌==◌, ◌||◌, not, ◌≤◌, ◌<◌, length, take};
+ghost use Rattle.std.specs.Prelude.{◌≡◌, ◌==◌, ◌||◌, true, false, not, ◌≤◌, ◌<◌, length, take};
 ghost use Rattle.std.specs.List.{list_any, list_all};
 ghost use Rattle.jh_cellcfg.specs.Regions.{has_flags};
 ghost use Rattle.jh_check.specs.Cells.{cells_of};
@@ -277,11 +277,22 @@ fn agrees_with_cell(regions: &[Region], device: &PciDevice, cell: &CellConfig) -
     ))
 }
 
-/// Whether each device of each cell with a lower number than that does.
-fn agrees_with_lower(setup: &Setup, number: u32, regions: &[Region], device: &PciDevice) -> bool
-    requires { number ≤ length (cells_of setup.now) }
+/// Whether each device of each cell with a lower number than that does. `linked` says that the device may be linked
+/// with one of them.
+fn agrees_with_lower(
+    setup: &Setup,
+    number: u32,
+    regions: &[Region],
+    device: &PciDevice,
+    linked: bool,
+) -> bool
+    requires number { number ≤ length (cells_of setup.now) }
+    requires linked { linked ≡ false → agrees_with_all (take number (cells_of setup.now)) regions.now device.now ≡ true }
     ensures { result ≡ agrees_with_all (take number (cells_of setup.now)) regions.now device.now }
 {
+    if !linked {
+        return true;
+    }
     for lower in 0..number {
         if !agrees_with_cell(regions, device, setup.cell(lower)) {
             return false;
@@ -303,7 +314,8 @@ fn has_good_sections(device: &PciDevice, sections: &[Region]) -> bool
 }
 
 /// Whether the device is an ivshmem device that breaks a rule. It is of `cell`, which has that number;
-/// `earlier` are the devices before it there.
+/// `earlier` are the devices before it there, and `linked` says that it may be linked with a device of a cell with a
+/// lower number.
 #[tactic(auto, unfolding(crate::specs::Devices::device_breaks))]
 pub(crate) fn device_breaks(
     setup: &Setup,
@@ -311,8 +323,10 @@ pub(crate) fn device_breaks(
     cell: &CellConfig,
     earlier: &[PciDevice],
     device: &PciDevice,
+    linked: bool,
 ) -> bool
-    requires { number ≤ length (cells_of setup.now) }
+    requires number { number ≤ length (cells_of setup.now) }
+    requires linked { linked ≡ false → agrees_with_all (take number (cells_of setup.now)) cell.now.memory_regions device.now ≡ true }
     ensures { result ≡ device_breaks (take number (cells_of setup.now)) cell.now earlier.now device.now }
 {
     let regions = cell.memory_regions.as_slice();
@@ -322,7 +336,7 @@ pub(crate) fn device_breaks(
             && has_all_sections(regions, device)
             && has_good_sections(device, sections_of(regions, device))
             && !is_twice(earlier, device)
-            && agrees_with_lower(setup, number, regions, device))
+            && agrees_with_lower(setup, number, regions, device, linked))
 }
 
 pub(crate) fn are_zero(bytes: &[u8]) -> bool

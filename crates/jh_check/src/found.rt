@@ -4,12 +4,16 @@ ghost use Rattle.jh_check.specs.Cells.{cells_of};
 ghost use Rattle.jh_check.specs.Sites.{spot_of};
 ghost use Rattle.jh_check.specs.Lists.{capped, only_if};
 ghost use Rattle.jh_check.specs.Regions.{pair_breaks, hypervisor_breaks};
-ghost use Rattle.jh_check.specs.Findings.{item_of, finding_of, beside, between, from_cell, in_pairs, in_cell, in_regions, in_hypervisor, in_devices_of, in_devices, in_cpus};
+ghost use Rattle.jh_check.specs.Reaches.{HasHits};
+ghost use Rattle.jh_check.specs.Bus.{HasPlaces};
+ghost use Rattle.jh_check.specs.Findings.{item_of, finding_of, beside, in_cell, in_regions, in_hypervisor, in_devices_of, in_devices, in_cpus};
 
+use crate::bus::{is_marked, mark, marks};
 use crate::checking::MAX_FINDINGS;
 use crate::devices::{cpus_break, device_breaks};
 use crate::finding::{Finding, HYPERVISOR};
 use crate::pairs::{Site, pair_breaks};
+use crate::reach::Window;
 use crate::regions::{hypervisor_breaks, region_breaks};
 use crate::rule::Rule;
 use crate::setup::Setup;
@@ -56,48 +60,28 @@ fn put(found: &mut Seq<Finding>, test: bool, finding: Finding) -> Result<(), NoM
     if test { push(found, finding) } else { Ok(()) }
 }
 
-/// A region with each of another cell.
-fn beside(
+/// A region with each of another cell; only those in the window may break the rule with it.
+pub(crate) fn beside(
     found: &mut Seq<Finding>,
     rule: Rule,
     one: &Site,
+    window: Window,
     b: u32,
     other: &CellConfig,
 ) -> Result<(), NoMemory>
+    requires { HasHits rule (spot_of one.now) b other.now window }
     ensures { OnOk result (capped found.new ≡ capped (found.old ++ beside rule (spot_of one.now) b other.now)) }
 {
-    for (s, region) in other.memory_regions.as_slice().iter().enumerate() {
+    let regions = other.memory_regions.as_slice();
+    for s in window.first..regions.len().min(window.last.saturating_add(1)) {
         let second = Site {
             cell: b,
             config: other,
             item: s,
-            region,
+            region: &regions[s],
         };
         let breaks = pair_breaks(rule, one, &second);
         put(found, breaks, finding(rule, one.cell, one.item, b, s))?;
-    }
-    Ok(())
-}
-
-/// Each region of a cell with each of another.
-pub(crate) fn between(
-    found: &mut Seq<Finding>,
-    rule: Rule,
-    a: u32,
-    one: &CellConfig,
-    b: u32,
-    other: &CellConfig,
-) -> Result<(), NoMemory>
-    ensures { OnOk result (capped found.new ≡ capped (found.old ++ between rule a one.now b other.now)) }
-{
-    for (r, region) in one.memory_regions.as_slice().iter().enumerate() {
-        let first = Site {
-            cell: a,
-            config: one,
-            item: r,
-            region,
-        };
-        beside(found, rule, &first, b, other)?;
     }
     Ok(())
 }
@@ -148,31 +132,42 @@ pub(crate) fn in_hypervisor(
     put(found, breaks, finding(rule, HYPERVISOR, 0, 0, 0))
 }
 
-/// Each device of a cell.
+/// Each device of a cell, where the places of the devices of those with lower numbers are marked.
 fn in_devices_of(
     found: &mut Seq<Finding>,
     setup: &Setup,
+    marks: &[bool],
     a: u32,
     cell: &CellConfig,
 ) -> Result<(), NoMemory>
-    requires { a ≤ length (cells_of setup.now) }
+    requires count { a ≤ length (cells_of setup.now) }
+    requires length { length marks.now ≡ 65536 }
+    requires places { HasPlaces (take a (cells_of setup.now)) marks.now }
     ensures { OnOk result (capped found.new ≡ capped (found.old ++ in_devices_of (take a (cells_of setup.now)) a cell.now)) }
 {
     let devices = cell.pci_devices.as_slice();
     for (n, device) in devices.iter().enumerate() {
-        let breaks = device_breaks(setup, a, cell, &devices[..n], device);
+        let linked = is_marked(marks, device);
+        let breaks = device_breaks(setup, a, cell, &devices[..n], device, linked);
         put(found, breaks, finding(Rule::Shmem, a, n, 0, 0))?;
     }
     Ok(())
 }
 
 /// Each device of all cells.
-pub(crate) fn in_devices(found: &mut Seq<Finding>, setup: &Setup) -> Result<(), NoMemory>
+pub(crate) fn in_devices(
+    alloc: Global,
+    found: &mut Seq<Finding>,
+    setup: &Setup,
+) -> Result<(), NoMemory>
     requires { length setup.now.cells.now ≤ 15 }
     ensures { OnOk result (capped found.new ≡ capped (found.old ++ in_devices (cells_of setup.now))) }
 {
+    let mut marks = marks(alloc)?;
     for a in 0..setup.count() {
-        in_devices_of(found, setup, a, setup.cell(a))?;
+        let cell = setup.cell(a);
+        in_devices_of(found, setup, marks.as_slice(), a, cell)?;
+        mark(&mut marks, cell.pci_devices.as_slice());
     }
     Ok(())
 }

@@ -1,6 +1,7 @@
 //! The check of a system and its cells: what would break the isolation of cells, rule by rule.
 #![tactic(auto)]
 
+mod bus;
 mod checking;
 mod devices;
 mod finding;
@@ -8,6 +9,7 @@ mod found;
 mod laws;
 mod pairing;
 mod pairs;
+mod reach;
 mod refusal;
 mod regions;
 mod rule;

@@ -84,7 +84,7 @@ fn is_behind(spans: &[Span], k: usize) -> bool
 }
 
 /// Whether each ends before those behind it begin.
-fn are_apart(spans: &[Span]) -> bool
+pub(crate) fn are_apart(spans: &[Span]) -> bool
     ensures { result ≡ true → AreApart spans.now }
 {
     for k in 0..spans.len() {
@@ -109,15 +109,6 @@ pub(crate) fn index(
     } else {
         Ok(None)
     }
-}
-
-/// Whether one of the spans that are apart may meet that one; only then may it be told so.
-pub(crate) fn may_meet(spans: &[Span], other: Span) -> bool
-    requires { AreApart spans.now }
-    ensures { (x : Span) → Contains spans.now x → result ≡ false → spans_meet x other ≡ false }
-{
-    let n = spans.partition_point(|span| u128::from(span.start) < other.end);
-    n > 0 && spans[n - 1].end > u128::from(other.start)
 }
 
 /// Those of the spans that meet that one. As they are apart, they stand side by side.

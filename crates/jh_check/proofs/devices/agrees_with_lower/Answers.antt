@@ -11,7 +11,7 @@ pub returns-then-not-agrees_with_cell : goal.returns-then-not-agrees_with_cell
 returns-then-not-agrees_with_cell c =
     let p = λ (cell : CellConfig). list_all (λ (other : PciDevice). agrees_with c.args.regions.now c.args.device.now cell.memory_regions other) cell.pci_devices in
     let lower = take c.args.number (cells_of c.args.setup.now) in
-    let e = all-drop_take p (cells_of c.args.setup.now) c.args.number c.loop-lower.lower c.cell.result.now c.loop-lower-test.true c.requires c.cell.ensures in
+    let e = all-drop_take p (cells_of c.args.setup.now) c.args.number c.loop-lower.lower c.cell.result.now c.loop-lower-test.true c.requires.number c.cell.ensures in
     let r : p c.cell.result.now ≡ false = cc in
     sym (sym c.loop-lower.invariant ∙ e ∙ ap (λ b. b && list_all p (drop (c.loop-lower.lower + 1) lower)) r)
 
@@ -19,6 +19,9 @@ pub loop-lower-preserved : goal.loop-lower-preserved
 loop-lower-preserved c =
     let p = λ (cell : CellConfig). list_all (λ (other : PciDevice). agrees_with c.args.regions.now c.args.device.now cell.memory_regions other) cell.pci_devices in
     let lower = take c.args.number (cells_of c.args.setup.now) in
-    let e = all-drop_take p (cells_of c.args.setup.now) c.args.number c.loop-lower.lower c.cell.result.now c.loop-lower-test.true c.requires c.cell.ensures in
+    let e = all-drop_take p (cells_of c.args.setup.now) c.args.number c.loop-lower.lower c.cell.result.now c.loop-lower-test.true c.requires.number c.cell.ensures in
     let r : p c.cell.result.now ≡ true = cc in
     sym (e ∙ ap (λ b. b && list_all p (drop (c.loop-lower.lower + 1) lower)) r) ∙ c.loop-lower.invariant
+
+pub returns-then-not-linked : goal.returns-then-not-linked
+returns-then-not-linked c = sym (c.requires.linked c.if-not-linked.true)

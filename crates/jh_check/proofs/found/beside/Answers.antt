@@ -1,23 +1,33 @@
-use Rattle.std.proofs.Common.{◌≡◌, ◌<◌, ◌++◌, length, get_or, refl}
+use Rattle.std.proofs.Common.{◌≡◌, ◌^◌, ◌<◌, [], ◌++◌, length, get_or, drop, sym, ap, ◌∙◌, arith}
 use Rattle.jh_cellcfg.specs.declared.region.Region.{Region}
 use Rattle.jh_check.specs.Sites.{spot_of}
-use Rattle.jh_check.specs.Lists.{capped}
+use Rattle.jh_check.specs.Lists.{capped, found_from}
 use Rattle.jh_check.specs.Findings.{beside, beside_at}
-use Rattle.jh_check.proofs.ListLemmas.{found-step, found-done}
+use Rattle.jh_check.proofs.ListLemmas.{append_nil, found-step}
+use Rattle.jh_check.proofs.ReachLemmas.{found-skip, found-rest, beside-outside}
 use Rattle.jh_check.proofs.found.beside.Goals as goal
 
 pub loop-s-init : goal.loop-s-init
 unfolding beside
-loop-s-init c = refl
+loop-s-init c =
+    let one = spot_of c.args.one.now in
+    let other = c.args.other.now in
+    let none : Region = record { phys_start = 0; virt_start = 0; size = 0; flags = 0 } in
+    let v = c.as_slice-regions.ensures.value in
+    let size : length other.memory_regions < 2 ^ 64 = let t = c.as_slice-regions.type_inv in rw (sym v) (omega arith) in
+    ap (λ xs. capped (c.args.found.now ++ xs)) (sym (found-skip (beside_at c.args.rule one c.args.b other) other.memory_regions c.args.window.first none (λ i within below.
+    beside-outside c.args.rule one c.args.b other c.args.window c.requires i none within (omega arith) (λ is. absurd (let f = is.0 in omega arith)))))
 
 pub loop-s-preserved : goal.loop-s-preserved
 loop-s-preserved c =
     let found = beside_at c.args.rule (spot_of c.args.one.now) c.args.b c.args.other.now in
     let regions = c.args.other.now.memory_regions in
     let none : Region = record { phys_start = 0; virt_start = 0; size = 0; flags = 0 } in
-    let v = c.as_slice-region-items.ensures.value in
+    let v = c.as_slice-regions.ensures.value in
     let t = c.loop-s-test.true in
-    let h : c.loop-s.s < length regions = rw v at t in
+    let m = c.min-s-end.ensures in
+    let w : c.loop-s.s < length c.as_slice-regions.result.now = omega (arith, m, t) in
+    let h : c.loop-s.s < length regions = rw v at w in
     let a = c.in_ok-put.ensures in
     let b = c.pair_breaks-breaks.ensures in
     let f = c.finding.ensures in
@@ -26,4 +36,18 @@ loop-s-preserved c =
 
 pub returns : goal.returns
 returns c =
-    found-done (beside_at c.args.rule (spot_of c.args.one.now) c.args.b c.args.other.now) c.args.other.now.memory_regions c.loop-s.s c.loop-s.found _ (rw c.as_slice-region-items.ensures.value at c.loop-s-test.false) c.loop-s.invariant
+    let one = spot_of c.args.one.now in
+    let other = c.args.other.now in
+    let regions = other.memory_regions in
+    let found = beside_at c.args.rule one c.args.b other in
+    let none : Region = record { phys_start = 0; virt_start = 0; size = 0; flags = 0 } in
+    let v = c.as_slice-regions.ensures.value in
+    let size : length regions < 2 ^ 64 = let t = c.as_slice-regions.type_inv in rw (sym v) (omega arith) in
+    let same : length c.as_slice-regions.result.now ≡ length regions = ap length v in
+    let p = c.saturating_add.ensures in
+    let m = c.min-s-end.ensures in
+    let t = c.loop-s-test.false in
+    let rest : found_from found c.loop-s.s (drop c.loop-s.s regions) ≡ [] = found-rest found regions c.loop-s.s none (λ i within beyond.
+    beside-outside c.args.rule one c.args.b other c.args.window c.requires i none within (omega arith) (λ is. absurd (let l = is.1 in omega arith)))
+    in
+    ap capped (sym (append_nil c.loop-s.found)) ∙ ap (λ xs. capped (c.loop-s.found ++ xs)) (sym rest) ∙ c.loop-s.invariant

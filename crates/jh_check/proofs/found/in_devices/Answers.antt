@@ -1,24 +1,36 @@
-use Rattle.std.proofs.Common.{◌≡◌, ◌<◌, ◌++◌, length, get_or, refl, arith}
+use Rattle.std.proofs.Common.{◌≡◌, ◌<◌, ◌++◌, List, length, take, get_or, refl, sym, subst, arith}
+use Rattle.jh_check.specs.Bus.{HasPlaces}
+use Rattle.std.specs.List.{Contains}
+use Rattle.jh_cellcfg.specs.declared.config.PciDevice.{PciDevice}
 use Rattle.jh_check.specs.Cells.{cells_of}
 use Rattle.jh_check.specs.Lists.{capped}
 use Rattle.jh_check.specs.Findings.{in_devices, in_devices_at}
+use Rattle.jh_check.proofs.BusLemmas.{places-none, places-more}
 use Rattle.jh_check.proofs.ListLemmas.{found-step, found-done}
 use Rattle.jh_check.proofs.found.in_devices.Goals as goal
 
 pub loop-a-init : goal.loop-a-init
 unfolding in_devices
-loop-a-init c = refl
+loop-a-init c = record { told = refl; length = c.in_ok-marks.ensures; places = places-none c.in_ok-marks.marks.items }
 
 pub loop-a-preserved : goal.loop-a-preserved
 loop-a-preserved c =
     let found = in_devices_at (cells_of c.args.setup.now) in
     let all = cells_of c.args.setup.now in
-    let v = c.cell.ensures in
+    let v = c.cell-cell.ensures in
     let h : c.loop-a.a < length all = omega arith in
     let a = c.in_ok-in_devices_of.ensures in
-    let e : capped c.in_devices_of.new.found ≡ capped (c.loop-a.found ++ found c.loop-a.a (get_or all c.loop-a.a c.cell.result.now)) = cc in
-    found-step found all c.loop-a.a c.cell.result.now c.loop-a.found c.in_devices_of.new.found _ h e c.loop-a.invariant
+    let e : capped c.in_devices_of.new.found ≡ capped (c.loop-a.found ++ found c.loop-a.a (get_or all c.loop-a.a c.cell-cell.result.now)) = cc in
+    let told = found-step found all c.loop-a.a c.cell-cell.result.now c.loop-a.found c.in_devices_of.new.found _ h e c.loop-a.invariant.told in
+    record {
+      told = told;
+      length = c.mark.ensures.length;
+      places = places-more all c.loop-a.a c.cell-cell.result.now c.loop-a.marks.items c.mark.new.marks.items h v c.loop-a.invariant.places c.mark.ensures.kept (λ device cd. c.mark.ensures.each device (subst (λ (xs : List PciDevice). Contains xs device) (sym c.as_slice-in-loop-a.ensures.value) cd));
+    }
 
 pub returns : goal.returns
 returns c =
-    found-done (in_devices_at (cells_of c.args.setup.now)) (cells_of c.args.setup.now) c.loop-a.a c.loop-a.found _ (omega arith) c.loop-a.invariant
+    found-done (in_devices_at (cells_of c.args.setup.now)) (cells_of c.args.setup.now) c.loop-a.a c.loop-a.found _ (omega arith) c.loop-a.invariant.told
+
+pub in_devices_of-requires-clause-places : goal.in_devices_of-requires-clause-places
+in_devices_of-requires-clause-places c = subst (λ marks. HasPlaces (take c.loop-a.a (cells_of c.args.setup.now)) marks) (sym c.as_slice.ensures.value) c.loop-a.invariant.places

@@ -1,5 +1,6 @@
-use Rattle.std.proofs.Common.{◌≡◌, ◌<◌, ◌++◌, length, get_or, refl, arith}
+use Rattle.std.proofs.Common.{◌≡◌, ◌<◌, ◌++◌, length, get_or, refl, sym, subst, arith}
 use Rattle.jh_check.specs.Cells.{cells_of}
+use Rattle.jh_check.specs.Reaches.{AreOfEach}
 use Rattle.jh_check.specs.Lists.{capped}
 use Rattle.jh_check.specs.Findings.{from_cell, in_pairs}
 use Rattle.jh_check.proofs.ListLemmas.{found-step, found-done}
@@ -21,3 +22,6 @@ loop-a-preserved c =
 
 pub returns : goal.returns
 returns c = found-done (from_cell c.args.rule (cells_of c.args.setup.now)) (cells_of c.args.setup.now) c.loop-a.a c.loop-a.found _ (omega arith) c.loop-a.invariant
+
+pub from_cell-requires-clause-each : goal.from_cell-requires-clause-each
+from_cell-requires-clause-each c = subst (λ xs. AreOfEach c.args.rule (cells_of c.args.setup.now) xs) (sym c.as_slice.ensures.value) c.in_ok-each.ensures.each

@@ -2,7 +2,7 @@ use Rattle.std.proofs.Common.{◌≡◌, ◌++◌, drop}
 use Rattle.jh_check.specs.Cells.{cells_of}
 use Rattle.jh_check.specs.Lists.{found_from, capped}
 use Rattle.jh_check.specs.Findings.{between, from_cell}
-use Rattle.jh_check.proofs.pairing.from_indexed.Given as goal
+use Rattle.jh_check.proofs.pairing.from_cell.Given as goal
 
 abbrev pub invariant-loop-b : goal.invariant-loop-b
 invariant-loop-b l =

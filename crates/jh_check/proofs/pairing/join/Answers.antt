@@ -1,0 +1,16 @@
+use Rattle.std.proofs.Common.{◌≡◌, false}
+use Rattle.jh_check.specs.Spans.{joins}
+use Rattle.jh_check.specs.Findings.{between}
+use Rattle.jh_check.proofs.BreakLemmas.{between-apart}
+use Rattle.jh_check.proofs.ReachLemmas.{capped-none_more}
+use Rattle.jh_check.proofs.pairing.join.Goals as goal
+
+pub returns-else-joins : goal.returns-else-joins
+returns-else-joins c =
+    let rule = c.args.rule in
+    let one = c.args.one.now in
+    let other = c.args.other.now in
+    let t = c.joins.ensures in
+    let i = c.if-joins.false in
+    let h : joins rule c.args.a c.args.b ≡ false = cc in
+    capped-none_more c.args.found.now (between rule c.args.a one c.args.b other) (between-apart rule c.args.a one c.args.b other h)

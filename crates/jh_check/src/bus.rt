@@ -1,0 +1,43 @@
+//! The places on the bus at which devices of cells stand, by which most devices are told at once to be linked with none.
+ghost use Rattle.std.specs.Prelude.{◌≡◌, ◌<◌, ℕ, true, false, length, slice_index_or, IfOk, Contains};
+ghost use Rattle.jh_cellcfg.specs.declared.config.PciDevice.{PciDevice};
+
+use jh_cellcfg::PciDevice;
+use jh_num::NoMemory;
+use std::alloc::Global;
+
+/// The device's place on the bus.
+fn place_of(device: &PciDevice) -> usize
+    ensures value { result ≡ device.now.bdf }
+    ensures bound { result < 65536 }
+{
+    usize::from(device.bdf)
+}
+
+/// A mark for each place on the bus.
+pub(crate) fn marks(alloc: Global) -> Result<Vec<bool>, NoMemory>
+    ensures { IfOk result (λ marks. length marks.items ≡ 65536) }
+{
+    let marks = vec![in alloc; false; 65_536]?;
+    Ok(marks)
+}
+
+/// Marks the places of these devices.
+pub(crate) fn mark(marks: &mut Vec<bool>, devices: &[PciDevice])
+    requires { length marks.old.items ≡ 65536 }
+    ensures length { length marks.new.items ≡ 65536 }
+    ensures kept { (place : ℕ) → slice_index_or marks.old.items place false ≡ true → slice_index_or marks.new.items place false ≡ true }
+    ensures each { (device : PciDevice) → Contains devices.now device → slice_index_or marks.new.items device.bdf false ≡ true }
+{
+    for device in devices {
+        marks[place_of(device)] = true;
+    }
+}
+
+/// Whether the place of the device is marked.
+pub(crate) fn is_marked(marks: &[bool], device: &PciDevice) -> bool
+    requires { length marks.now ≡ 65536 }
+    ensures { result ≡ slice_index_or marks.now device.now.bdf false }
+{
+    marks[place_of(device)]
+}
