@@ -1,5 +1,5 @@
 //! An index of a cell's regions, by which pairs that can't break a rule are told at once.
-ghost use Rattle.std.specs.Prelude.{◌≡◌, ◌≢◌, ◌-◌, ◌<◌, ◌≤◌, true, false, length, slice_index_or, OnOk, IfOk, IfSome, Contains};
+ghost use Rattle.std.specs.Prelude.{◌≡◌, ◌≢◌, ◌-◌, ◌<◌, ◌≤◌, true, length, slice_index_or, OnOk, IfOk, IfSome, Contains};
 ghost use Rattle.jh_check.specs.declared.spans.Span.{Span};
 ghost use Rattle.jh_check.specs.Spans.{takes_part, span_of, spans_meet, HasEach, HasOnly, AreApart, IsIndex};
 
