@@ -110,10 +110,10 @@ fn coming_of(
     image: &IndexedImage,
     held: &Held,
     entry: &Entry,
-    found: Option<FoundCreate>,
+    found: Option<Box<FoundCreate>>,
 ) -> Result<Option<CellConfig>, NoMemory>
     requires next { IsNext image.now held.now entry.now }
-    requires found { IfSome found (IsFound image.now held.now) }
+    requires found { IfSome found (λ found. IsFound image.now held.now found.value) }
     ensures read { (f : Facts) → Means image.now held.now f → due_at image.now f entry.now.cpu ≡ Some entry.now → IfOk result (IsRead image.now f entry.now) }
     ensures ready { (f : Facts) → Means image.now held.now f → due_at image.now f entry.now.cpu ≡ Some entry.now → IfOk result (WillBeReady image.now f entry.now) }
     ensures free { (f : Facts) → Means image.now held.now f → due_at image.now f entry.now.cpu ≡ Some entry.now → IfOk result (IsFree f) }
@@ -159,10 +159,10 @@ fn prepare(
     image: &IndexedImage,
     held: &mut Held,
     entry: &Entry,
-    found: Option<FoundCreate>,
+    found: Option<Box<FoundCreate>>,
 ) -> Result<Option<CellConfig>, NoMemory>
     requires next { IsNext image.now held.old entry.now }
-    requires found { IfSome found (IsFound image.now held.old) }
+    requires found { IfSome found (λ found. IsFound image.now held.old found.value) }
     ensures means { (f : Facts) → Means image.now held.old f → Means image.now held.new f }
     ensures ok { (f : Facts) → Means image.now held.old f → due_at image.now f entry.now.cpu ≡ Some entry.now → IfOk result (IsPrepared image.now held.new f entry.now) }
 {
@@ -317,10 +317,10 @@ pub fn make(
     held: &mut Held,
     entry: &Entry,
     reach: &Reach,
-    found: Option<FoundCreate>,
+    found: Option<Box<FoundCreate>>,
 ) -> Result<(), NoMemory>
     requires next { IsNext image.now held.old entry.now }
-    requires found { IfSome found (IsFound image.now held.old) }
+    requires found { IfSome found (λ found. IsFound image.now held.old found.value) }
     requires reached { (f : Facts) → Means image.now held.old f → IsReachOfEntry image.now f entry.now reach.now }
     ensures ok { OnOk result ((f : Facts) → Means image.now held.old f → due_at image.now f entry.now.cpu ≡ Some entry.now → Means image.now held.new (after image.now f entry.now)) }
     ensures err { OnErr result ((f : Facts) → Means image.now held.old f → Means image.now held.new f) }
