@@ -4,6 +4,7 @@
 mod board;
 mod cells;
 mod closed;
+mod coming;
 mod comm_pages;
 mod crossing;
 mod devices;

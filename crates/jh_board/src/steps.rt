@@ -23,6 +23,7 @@ ghost use Rattle.jh_board.specs.Means.{Means, IsReady, IsReadyFor};
 ghost use Rattle.jh_board.specs.Steps.{begins, goes_on as goes_on_lem, create_of as create_of_lem, change_of_call as change_of_call_lem, change_of_cells as change_of_cells_lem, changed_cells, IsNext, IsRead, IsFree, WillBeReady, IsPrepared, MayWrite, MayWriteOf, MayWriteSlot, MayCommit, MayJoin, IsSameButDevices, joined_cells, devices_held, memory_written, memory_after, slot_after, endpoints_acted_by};
 
 use crate::cells::LiveCells;
+use crate::coming::Coming;
 use crate::devices::{change_devices, prepare_devices, write_slot_if};
 use crate::granted::devices_of;
 use crate::held::Held;
@@ -111,7 +112,7 @@ fn coming_of(
     held: &Held,
     entry: &Entry,
     found: Option<Box<FoundCreate>>,
-) -> Result<Option<CellConfig>, NoMemory>
+) -> Result<Coming, NoMemory>
     requires next { IsNext image.now held.now entry.now }
     requires found { IfSome found (λ found. IsFound image.now held.now found.value) }
     ensures read { (f : Facts) → Means image.now held.now f → due_at image.now f entry.now.cpu ≡ Some entry.now → IfOk result (IsRead image.now f entry.now) }
@@ -122,19 +123,22 @@ fn coming_of(
     ensures tables { IfOk result (λ coming. IfSome coming (λ config. All IsWithin (specs_of config))) }
 {
     if !goes_on(&entry.act) {
-        return Ok(None);
+        return Ok(Coming::none());
     }
     let Some(begun) = &held.call else {
-        return Ok(None);
+        return Ok(Coming::none());
     };
     let Some(at) = create_of(&begun.call) else {
-        return Ok(None);
+        return Ok(Coming::none());
     };
     decides_are_of_the_open_call();
     a_cell_that_comes_may_live();
     devices_may_change();
     match creation_by(image, held, found, begun.caller, at)? {
-        Creation::Comes { config } => Ok(Some(config)),
+        Creation::Comes { config } => {
+            let coming = Coming::of(held.alloc, config)?;
+            Ok(coming)
+        }
         Creation::Refused { .. } => unreachable!(),
     }
 }
@@ -160,18 +164,19 @@ fn prepare(
     held: &mut Held,
     entry: &Entry,
     found: Option<Box<FoundCreate>>,
-) -> Result<Option<CellConfig>, NoMemory>
+) -> Result<Coming, NoMemory>
     requires next { IsNext image.now held.old entry.now }
     requires found { IfSome found (λ found. IsFound image.now held.old found.value) }
     ensures means { (f : Facts) → Means image.now held.old f → Means image.now held.new f }
     ensures ok { (f : Facts) → Means image.now held.old f → due_at image.now f entry.now.cpu ≡ Some entry.now → IfOk result (IsPrepared image.now held.new f entry.now) }
 {
-    match coming_of(image, held, entry, found)? {
+    let coming = coming_of(image, held, entry, found)?;
+    match coming.config() {
         Some(config) => {
-            make_ready(held, &config)?;
-            Ok(Some(config))
+            make_ready(held, config)?;
+            Ok(coming)
         }
-        None => Ok(None),
+        None => Ok(coming),
     }
 }
 
@@ -289,7 +294,7 @@ fn begins_call(act: &Act) -> bool
 }
 
 /// The open call after the entry, and the live cells. Where no call is open most entries change neither.
-fn make_call(held: &mut Held, entry: &Entry, coming: Option<CellConfig>)
+fn make_call(held: &mut Held, entry: &Entry, coming: Coming)
     requires { IfSome (created_by held.old.call entry.now.act) (MayJoin held.old.cells held.old.index) }
     ensures memory { held.new.memory ≡ held.old.memory }
     ensures cpus { held.new.cpus ≡ held.old.cpus }
@@ -305,7 +310,12 @@ fn make_call(held: &mut Held, entry: &Entry, coming: Option<CellConfig>)
     }
     let change = change_of_cells(held.call.as_ref(), &entry.act);
     let begun = held.call.take();
-    let Called { call, created } = call_after(held.cells.list(), coming, begun, entry);
+    let Called { call, created } = call_after(
+        held.cells.list(),
+        coming.into_config(),
+        begun,
+        entry,
+    );
     held.call = call;
     make_cells(&mut held.cells, &mut held.index, created, change);
 }
