@@ -76,9 +76,7 @@ fn append(list: &mut VecDeque<Translation>, translation: Translation)
 fn found(list: &[Translation], tag: u8, page: u64) -> Option<Hit>
     ensures { result ≡ looked list.now tag page }
 {
-    list.iter()
-        .find(|t| t.is_for(tag, page))
-        .map(|t| t.hit)
+    list.iter().find(|t| t.is_for(tag, page)).map(|t| t.hit)
 }
 
 impl Row {

@@ -177,14 +177,7 @@ impl Guest {
         ensures spare { self.old.spare ≤ self.new.spare + (if is_some (page_at self.old.pages number) then 0 else 1) }
         ensures spare_at_err { OnErr result (self.old.spare ≤ self.new.spare) }
     {
-        put_page(
-            &mut self.pages,
-            &mut self.laid,
-            self.alloc,
-            number,
-            0,
-            &[],
-        )
+        put_page(&mut self.pages, &mut self.laid, self.alloc, number, 0, &[])
     }
 
     /// Lays so many pages by.

@@ -1,5 +1,5 @@
 -- The older half is looked at first.
-use Rattle.std.proofs.Common.{◌++◌, ap, sym, ◌∙◌}
+use Rattle.std.proofs.Common.{ap, sym, ◌∙◌}
 use Rattle.jh_cache.specs.Translations.{is_for, looked}
 use Rattle.jh_cache.proofs.ListLemmas.{found_before, found_behind}
 use Rattle.jh_cache.proofs.row.Row.look.Goals as goal
