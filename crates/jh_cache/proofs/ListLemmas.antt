@@ -2,6 +2,7 @@
 use Rattle.std.proofs.Common.{◌≡◌, ℕ, zero, suc, ◌+◌, ◌-◌, ◌<◌, ◌≤◌, Bool, true, false, not, ◌||◌, cond, List, [], ◌∷◌, ◌++◌, length, take, drop, set, get_or, Option, Some, None, refl, sym, ap, ◌∙◌, add-one, append-nil, arith}
 use Rattle.std.specs.Prelude.{Result, Ok, Err, IsOk, is_ok, if◌then◌else◌, map}
 use Rattle.std.specs.List.{filter, find, list_any}
+use Rattle.std.specs.Option.{option_map}
 use Rattle.std.proofs.lemmas.List.{take_all, drop_all, take-append-le}
 use Rattle.std.proofs.lemmas.Bool.{cond-true, cond-false, false_from_ne_true, false≢true, not_from_false, or_parts}
 
@@ -126,3 +127,20 @@ empty_more [] row e all zero = e
 empty_more [] row e all (suc k) = refl
 empty_more (x ∷ xs) row e all zero = all 0
 empty_more (x ∷ xs) row e all (suc k) = empty_more xs row e (λ j. all (suc j)) k
+
+-- the first that is looked for, of two lists in a row
+before_by_cases : {X Y : Type 0} (f : X → Y) (b : Bool) (x : X) (o all : Option X) (y : Y) → (option_map f o ≡ Some y → option_map f all ≡ Some y) → option_map f (cond b (Some x) o) ≡ Some y → option_map f (cond b (Some x) all) ≡ Some y
+before_by_cases f true x o all y h e = e
+before_by_cases f false x o all y h e = h e
+
+pub found_before : {X Y : Type 0} (f : X → Y) (p : X → Bool) (xs ys : List X) (y : Y) → option_map f (find p xs) ≡ Some y → option_map f (find p (xs ++ ys)) ≡ Some y
+found_before f p [] ys y e = cc
+found_before f p (x ∷ xs) ys y e = before_by_cases f (p x) x (find p xs) (find p (xs ++ ys)) y (found_before f p xs ys y) e
+
+behind_by_cases : {X Y : Type 0} (f : X → Y) (b : Bool) (x : X) (o all rest : Option X) → (option_map f o ≡ None → option_map f all ≡ option_map f rest) → option_map f (cond b (Some x) o) ≡ None → option_map f (cond b (Some x) all) ≡ option_map f rest
+behind_by_cases f true x o all rest h e = cc
+behind_by_cases f false x o all rest h e = h e
+
+pub found_behind : {X Y : Type 0} (f : X → Y) (p : X → Bool) (xs ys : List X) → option_map f (find p xs) ≡ None → option_map f (find p (xs ++ ys)) ≡ option_map f (find p ys)
+found_behind f p [] ys e = refl
+found_behind f p (x ∷ xs) ys e = behind_by_cases f (p x) x (find p xs) (find p (xs ++ ys)) (find p ys) (found_behind f p xs ys) e

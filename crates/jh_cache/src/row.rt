@@ -72,6 +72,13 @@ fn append(list: &mut VecDeque<Translation>, translation: Translation)
     let _ = list.push_back(translation);
 }
 
+/// What the translations have for the page in the tables with the tag.
+fn found(list: &[Translation], tag: u8, page: u64) -> Option<Hit>
+    ensures { result ≡ looked list.now tag page }
+{
+    list.iter().find(|t| t.is_for(tag, page)).map(|t| t.hit)
+}
+
 impl Row {
     pub fn new(alloc: Global) -> Result<Self, NoMemory>
         ensures { IfOk result (λ row. row ≡ []) }
@@ -83,10 +90,11 @@ impl Row {
     pub fn look(&self, tag: u8, page: u64) -> Option<Hit>
         ensures { result ≡ looked self.now tag page }
     {
-        self.translations
-            .iter()
-            .find(|t| t.is_for(tag, page))
-            .map(|t| t.hit)
+        let (older, newer) = self.translations.as_slices();
+        match found(older, tag, page) {
+            Some(hit) => Some(hit),
+            None => found(newer, tag, page),
+        }
     }
 
     pub fn fill(&mut self, translation: Translation)

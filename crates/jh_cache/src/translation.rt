@@ -17,6 +17,6 @@ impl Translation {
     pub fn is_for(&self, tag: u8, page: u64) -> bool
         ensures { result ≡ is_for tag page self.now }
     {
-        self.tag == tag && self.page == page
+        self.page == page && self.tag == tag
     }
 }

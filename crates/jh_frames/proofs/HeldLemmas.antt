@@ -1,9 +1,10 @@
 -- Which pages are held, and how many aren't.
-use Rattle.std.proofs.Common.{◌≡◌, ◌≢◌, ℕ, zero, suc, ◌+◌, ◌-◌, ◌*◌, ◌/◌, ◌<◌, ◌≤◌, ◌⊎◌, inl, inr, Bool, true, false, not, ◌||◌, cond, is_some, refl, sym, ap, subst, ◌∙◌, arith}
+use Rattle.std.proofs.Common.{◌≡◌, ◌≢◌, ℕ, zero, suc, ◌+◌, ◌-◌, ◌*◌, ◌/◌, ◌<◌, ◌≤◌, ◌⊎◌, inl, inr, Bool, true, false, not, ◌||◌, cond, Result, Ok, Err, is_some, refl, sym, ap, subst, ◌∙◌, arith}
+use Rattle.std.specs.Prelude.{IsOk, OnOk}
 use Rattle.std.specs.List.{range_with_len}
-use Rattle.std.proofs.lemmas.Bool.{cases_eq, ne_eqb}
+use Rattle.std.proofs.lemmas.Bool.{cases_eq, ne_eqb, false≢true}
 use Rattle.std.proofs.lemmas.List.Sums.{sum_by-cons}
-use Rattle.jh_frames.specs.Memory.{FramesView, is_own, page_at, holds, missing_from, pages_in}
+use Rattle.jh_frames.specs.Memory.{FramesView, is_own, page_at, holds, missing, missing_from, pages_in}
 use Rattle.jh_frames.specs.Kept.{IsWhole}
 use Rattle.jh_frames.proofs.MemoryLemmas.{own_page}
 
@@ -123,3 +124,23 @@ pub within_pages : (at count q : ℕ) → at ≤ q → q < at + count → q / 40
 within_pages at count q above below =
     let some : pages_in at count ≡ (at + count - 1) / 4096 + 1 - at / 4096 = pages_some at count (omega arith) in
     omega arith
+
+-- what holds where a call succeeds, of one that does
+pub on_ok : {T E P : Type 0} (r : Result T E) → IsOk r → OnOk r P → P
+on_ok (Ok x) ok is = is
+on_ok (Err e) ok is = absurd (false≢true ok)
+
+-- what a page wants, and none if it is held
+abbrev pub wanted : Bool → ℕ
+wanted b = cond b 0 1
+
+pub none_for_held : (b : Bool) → b ≡ true → wanted b ≡ 0
+none_for_held b is = ap wanted is
+
+alike_by_cases : (v v' : FramesView) (at q : ℕ) → IsWhole v.own → ((x : ℕ) → (x / 4096 ≡ at / 4096 → ⊥) → holds v' x ≡ holds v x) → ((x : ℕ) → holds v x ≡ true → holds v' x ≡ true) → holds v at ≡ true → (q / 4096 ≡ at / 4096) ⊎ (q / 4096 ≡ at / 4096 → ⊥) → holds v' q ≡ holds v q
+alike_by_cases v v' at q whole others kept there (inl same) = let held : holds v q ≡ true = holds_page v q at whole same ∙ there in kept q held ∙ sym held
+alike_by_cases v v' at q whole others kept there (inr other) = others q other
+
+-- where the page of the place was held, all is held as before
+pub held_alike : (v v' : FramesView) (at q : ℕ) → IsWhole v.own → ((x : ℕ) → (x / 4096 ≡ at / 4096 → ⊥) → holds v' x ≡ holds v x) → ((x : ℕ) → holds v x ≡ true → holds v' x ≡ true) → holds v at ≡ true → holds v' q ≡ holds v q
+held_alike v v' at q whole others kept there = alike_by_cases v v' at q whole others kept there (cases_eq (q / 4096) (at / 4096))

@@ -4,3 +4,4 @@ pub mod WordLemmas
 pub mod MemoryLemmas
 pub mod HeldLemmas
 mod LentLemmas
+pub mod RoomLemmas

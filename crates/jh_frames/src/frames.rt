@@ -178,27 +178,26 @@ impl Frames {
         self.own.page_mut(at)
     }
 
-    /// Puts the bytes there if they lie in one page that is held, and tells whether they do.
-    fn write_held(&mut self, at: u64, bytes: &[u8]) -> bool
-        requires { at + length bytes.now ≤ ADDRESS_END }
-        ensures done { at % 4096 + length bytes.now ≤ 4096 → holds self.old at ≡ true → result ≡ true }
-        ensures bytes { result ≡ true → (q : ℕ) → byte_at self.new q ≡ stored (byte_at self.old) at bytes.now q }
-        ensures unchanged { result ≡ false → self.new ≡ self.old }
+    /// Writes bytes that lie in one page, which is held from then on.
+    fn write_page(&mut self, at: u64, bytes: &[u8]) -> Result<(), NoMemory>
+        requires place { at + length bytes.now ≤ ADDRESS_END }
+        requires one_page { at % 4096 + length bytes.now ≤ 4096 }
+        ensures bytes { OnOk result ((q : ℕ) → byte_at self.new q ≡ stored (byte_at self.old) at bytes.now q) }
+        ensures held { OnOk result (holds self.new at ≡ true) }
+        ensures others { (q : ℕ) → q / 4096 ≢ at / 4096 → holds self.new q ≡ holds self.old q }
+        ensures unchanged { OnErr result ((self.new.own ≡ self.old.own) × (self.new.guest.pages ≡ self.old.guest.pages)) }
         ensures base { self.new.own.base ≡ self.old.own.base }
         ensures size { length self.new.own.bytes ≡ length self.old.own.bytes }
-        ensures held { (q : ℕ) → holds self.new q ≡ holds self.old q }
-        ensures inside { result ≡ true → holds self.old at ≡ true }
-        ensures one_page { result ≡ true → at % 4096 + length bytes.now ≤ 4096 }
-        ensures spare { self.new.guest.spare ≡ self.old.guest.spare }
+        ensures kept { (q : ℕ) → holds self.old q ≡ true → holds self.new q ≡ true }
+        ensures succeeds { (holds self.old at ≡ false → 0 < self.old.guest.spare) → IsOk result }
+        ensures spare { self.old.guest.spare ≤ self.new.guest.spare + (if holds self.old at then 0 else 1) }
+        ensures spare_at_err { OnErr result (self.old.guest.spare ≤ self.new.guest.spare) }
         ensures whole { IsWhole self.old.own }
+        ensures still_whole { IsWhole self.new.own }
     {
-        let own = self.own.has(at);
-        if at % PAGE_SIZE + bytes.len() as u64 > PAGE_SIZE {
-            return false;
-        }
-        if own {
+        if self.own.has(at) {
             self.own.write(at, bytes);
-            true
+            Ok(())
         } else {
             self.guest.write(at, bytes)
         }
@@ -230,8 +229,8 @@ impl Frames {
         ensures kept { (q : ℕ) → holds self.old q ≡ true → holds self.new q ≡ true }
         ensures spare { self.old.guest.spare ≤ self.new.guest.spare + (if holds self.old (4096 * number) then 0 else 1) }
     {
-        if !self.holds(PAGE_SIZE * number) {
-            self.guest.hold(number);
+        if !self.own.has(PAGE_SIZE * number) {
+            let _ = self.guest.hold(number);
         }
     }
 
@@ -283,7 +282,7 @@ impl Frames {
         ensures base { self.new.own.base ≡ self.old.own.base }
         ensures size { length self.new.own.bytes ≡ length self.old.own.bytes }
         ensures held { (q : ℕ) → holds self.new q ≡ holds self.old q }
-        ensures spare { self.new.guest.spare ≡ self.old.guest.spare }
+        ensures spare { self.old.guest.spare ≤ self.new.guest.spare }
     {
         let mut done = 0;
         while done < bytes.len() {
@@ -291,7 +290,7 @@ impl Frames {
             let end = bytes
                 .len()
                 .min(done + (PAGE_SIZE - place % PAGE_SIZE) as usize);
-            self.write_held(place, &bytes[done..end]);
+            let _ = self.write_page(place, &bytes[done..end]);
             done = end;
         }
     }
@@ -312,8 +311,11 @@ impl Frames {
         ensures below { (q : ℕ) → q / 4096 < at / 4096 → holds self.new q ≡ holds self.old q }
         ensures above { (q : ℕ) → at / 4096 + pages_in at (length bytes.now) ≤ q / 4096 → holds self.new q ≡ holds self.old q }
     {
-        if self.write_held(at, bytes) {
+        if bytes.is_empty() {
             return Ok(());
+        }
+        if at % PAGE_SIZE + bytes.len() as u64 <= PAGE_SIZE {
+            return self.write_page(at, bytes);
         }
         self.hold_all(at, bytes.len())?;
         self.write_pages(at, bytes);
@@ -333,11 +335,11 @@ impl Frames {
         ensures spare { self.old.guest.spare ≤ self.new.guest.spare + (if holds self.old at then 0 else 1) }
         ensures spare_at_err { OnErr result (self.old.guest.spare ≤ self.new.guest.spare) }
     {
-        if !self.holds(at) {
-            self.guest.reserve(1)?;
-            self.guest.hold(at / PAGE_SIZE);
+        if self.own.has(at) {
+            Ok(())
+        } else {
+            self.guest.hold(at / PAGE_SIZE)
         }
-        Ok(())
     }
 
     /// Takes memory for so many pages that are held later.

@@ -1,5 +1,5 @@
 //! The pages of guests.
-ghost use Rattle.std.specs.Prelude.{◌≡◌, ◌≢◌, ℕ, ◌+◌, ◌-◌, ◌%◌, ◌/◌, ◌^◌, ◌≤◌, ◌<◌, true, false, None, Some, map, length, slice_index, is_some, IsSome, IfSome, OnOk, IsOk};
+ghost use Rattle.std.specs.Prelude.{◌≡◌, ◌≢◌, ℕ, ◌+◌, ◌-◌, ◌%◌, ◌/◌, ◌^◌, ◌≤◌, ◌<◌, true, false, None, Some, if◌then◌else◌, map, min, length, slice_index, is_some, IsSome, IfSome, IfOk, OnOk, OnErr, IsOk};
 ghost use Rattle.std.specs.List.{range_with_len};
 ghost use Rattle.jh_num.specs.Memory.{spelled, stored};
 ghost use Rattle.indexmap.specs.IndexMap.{spare};
@@ -8,6 +8,7 @@ ghost use Rattle.jh_frames.specs.Kept.{AreZero};
 
 use crate::page::Page;
 use indexmap::IndexMap;
+use indexmap::map::Entry;
 use jh_num::{NoMemory, PAGE_SIZE};
 use std::alloc::Global;
 use std::marker::Model;
@@ -48,36 +49,6 @@ fn lay_by(alloc: Global, laid: &mut Vec<Page>, count: usize) -> Result<(), NoMem
     Ok(())
 }
 
-/// Puts the bytes into the page of the number from the offset on, and tells whether it is held.
-fn put_page(pages: &mut IndexMap<u64, Page>, number: u64, offset: usize, bytes: &[u8]) -> bool
-    requires { offset + length bytes.now ≤ 4096 }
-    ensures told { result ≡ is_some (page_at pages.old.entries number) }
-    ensures page { result ≡ true → (k : ℕ) → byte_in (page_at pages.new.entries number) k ≡ stored (byte_in (page_at pages.old.entries number)) offset bytes.now k }
-    ensures unchanged { result ≡ false → pages.new ≡ pages.old }
-    ensures others { (other : ℕ) → other ≢ number → page_at pages.new.entries other ≡ page_at pages.old.entries other }
-    ensures held { is_some (page_at pages.new.entries number) ≡ is_some (page_at pages.old.entries number) }
-    ensures spare { spare pages.new ≡ spare pages.old }
-{
-    match pages.get_mut(&number) {
-        None => false,
-        Some(page) => {
-            page.write(offset, bytes);
-            true
-        }
-    }
-}
-
-/// Holds the page under a number that has none.
-fn add_page(pages: &mut IndexMap<u64, Page>, number: u64, page: Page)
-    requires absent { page_at pages.old.entries number ≡ None }
-    requires room { 0 < spare pages.old }
-    ensures page { page_at pages.new.entries number ≡ Some page }
-    ensures others { (other : ℕ) → other ≢ number → page_at pages.new.entries other ≡ page_at pages.old.entries other }
-    ensures spare { spare pages.old ≤ spare pages.new + 1 }
-{
-    let _ = pages.insert(number, page);
-}
-
 /// Takes a page that was laid by.
 fn take_page(laid: &mut Vec<Page>) -> Option<Page>
     requires { AreZero laid.old.items }
@@ -87,6 +58,53 @@ fn take_page(laid: &mut Vec<Page>) -> Option<Page>
     ensures count { length laid.old.items ≤ length laid.new.items + 1 }
 {
     laid.pop()
+}
+
+/// A page of zeros, one that was laid by where there is any.
+fn zero_page(laid: &mut Vec<Page>, alloc: Global) -> Result<Page, NoMemory>
+    requires { AreZero laid.old.items }
+    ensures zero { IfOk result (λ page. (k : ℕ) → slice_index page k ≡ 0) }
+    ensures others { AreZero laid.new.items }
+    ensures count { length laid.old.items ≤ length laid.new.items + 1 }
+    ensures succeeds { 0 < length laid.old.items → IsOk result }
+{
+    match take_page(laid) {
+        Some(page) => Ok(page),
+        None => Page::zero(alloc),
+    }
+}
+
+/// Puts the bytes into the page of the number from the offset on. A page that isn't held comes to be held, of
+/// zeros but for these bytes.
+#[tactic(auto, using(crate::proofs::RoomLemmas::occupied_spare))]
+fn put_page(
+    pages: &mut IndexMap<u64, Page>,
+    laid: &mut Vec<Page>,
+    alloc: Global,
+    number: u64,
+    offset: usize,
+    bytes: &[u8],
+) -> Result<(), NoMemory>
+    requires zero { AreZero laid.old.items }
+    requires within { offset + length bytes.now ≤ 4096 }
+    ensures page { OnOk result ((k : ℕ) → byte_in (page_at pages.new.entries number) k ≡ stored (byte_in (page_at pages.old.entries number)) offset bytes.now k) }
+    ensures held { OnOk result (is_some (page_at pages.new.entries number) ≡ true) }
+    ensures others { (other : ℕ) → other ≢ number → page_at pages.new.entries other ≡ page_at pages.old.entries other }
+    ensures unchanged { OnErr result (pages.new.entries ≡ pages.old.entries) }
+    ensures laid { AreZero laid.new.items }
+    ensures succeeds { (is_some (page_at pages.old.entries number) ≡ false → 0 < min (length laid.old.items) (spare pages.old)) → IsOk result }
+    ensures spare { min (length laid.old.items) (spare pages.old) ≤ min (length laid.new.items) (spare pages.new) + (if is_some (page_at pages.old.entries number) then 0 else 1) }
+    ensures spare_at_err { OnErr result (min (length laid.old.items) (spare pages.old) ≤ min (length laid.new.items) (spare pages.new)) }
+{
+    match pages.entry(number)? {
+        Entry::Occupied(entry) => entry.into_mut().write(offset, bytes),
+        Entry::Vacant(entry) => {
+            let mut page = zero_page(laid, alloc)?;
+            page.write(offset, bytes);
+            entry.insert(page);
+        }
+    }
+    Ok(())
 }
 
 impl Guest {
@@ -128,35 +146,38 @@ impl Guest {
         }
     }
 
-    /// Puts the bytes into their one page, and tells whether it is held.
-    pub fn write(&mut self, at: u64, bytes: &[u8]) -> bool
+    /// Puts the bytes into their one page, which is held from then on.
+    pub fn write(&mut self, at: u64, bytes: &[u8]) -> Result<(), NoMemory>
         requires { at % 4096 + length bytes.now ≤ 4096 }
-        ensures told { result ≡ is_some (page_at self.old.pages (at / 4096)) }
-        ensures bytes { result ≡ true → (q : ℕ) → guest_byte self.new.pages q ≡ stored (guest_byte self.old.pages) at bytes.now q }
-        ensures unchanged { result ≡ false → self.new ≡ self.old }
-        ensures held { (number : ℕ) → is_some (page_at self.new.pages number) ≡ is_some (page_at self.old.pages number) }
-        ensures spare { self.new.spare ≡ self.old.spare }
+        ensures bytes { OnOk result ((q : ℕ) → guest_byte self.new.pages q ≡ stored (guest_byte self.old.pages) at bytes.now q) }
+        ensures held { OnOk result (is_some (page_at self.new.pages (at / 4096)) ≡ true) }
+        ensures others { (other : ℕ) → other ≢ at / 4096 → page_at self.new.pages other ≡ page_at self.old.pages other }
+        ensures unchanged { OnErr result (self.new.pages ≡ self.old.pages) }
+        ensures succeeds { (is_some (page_at self.old.pages (at / 4096)) ≡ false → 0 < self.old.spare) → IsOk result }
+        ensures spare { self.old.spare ≤ self.new.spare + (if is_some (page_at self.old.pages (at / 4096)) then 0 else 1) }
+        ensures spare_at_err { OnErr result (self.old.spare ≤ self.new.spare) }
     {
         put_page(
             &mut self.pages,
+            &mut self.laid,
+            self.alloc,
             at / PAGE_SIZE,
             (at % PAGE_SIZE) as usize,
             bytes,
         )
     }
 
-    /// Holds a page that isn't held.
-    pub fn hold(&mut self, number: u64)
-        requires absent { is_some (page_at self.old.pages number) ≡ false }
-        requires spare { 0 < self.old.spare }
+    /// Holds the page of the number.
+    pub fn hold(&mut self, number: u64) -> Result<(), NoMemory>
         ensures bytes { (q : ℕ) → guest_byte self.new.pages q ≡ guest_byte self.old.pages q }
-        ensures held { is_some (page_at self.new.pages number) ≡ true }
+        ensures held { OnOk result (is_some (page_at self.new.pages number) ≡ true) }
         ensures others { (other : ℕ) → other ≢ number → page_at self.new.pages other ≡ page_at self.old.pages other }
-        ensures spare { self.old.spare ≤ self.new.spare + 1 }
+        ensures unchanged { OnErr result (self.new.pages ≡ self.old.pages) }
+        ensures succeeds { (is_some (page_at self.old.pages number) ≡ false → 0 < self.old.spare) → IsOk result }
+        ensures spare { self.old.spare ≤ self.new.spare + (if is_some (page_at self.old.pages number) then 0 else 1) }
+        ensures spare_at_err { OnErr result (self.old.spare ≤ self.new.spare) }
     {
-        if let Some(page) = take_page(&mut self.laid) {
-            add_page(&mut self.pages, number, page);
-        }
+        put_page(&mut self.pages, &mut self.laid, self.alloc, number, 0, &[])
     }
 
     /// Lays so many pages by.

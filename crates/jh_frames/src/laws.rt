@@ -1,5 +1,5 @@
 //! What holds of memory and of words.
-ghost use Rattle.std.specs.Prelude.{◌≡◌, ℕ, ◌+◌, ◌/◌, ◌%◌, ◌<◌, List, length, map, is_some};
+ghost use Rattle.std.specs.Prelude.{◌≡◌, ℕ, ◌+◌, ◌/◌, ◌%◌, ◌<◌, ◌≤◌, List, length, map, is_some};
 ghost use Rattle.std.specs.List.{range_with_len};
 ghost use Rattle.jh_num.specs.Memory.{spelled, stored};
 ghost use Rattle.jh_frames.specs.Memory.{byte_at, byte_in, holds, page_of, word_in, FramesView, IsOwn};
@@ -31,4 +31,16 @@ pub fn a_page_is_written_back()
     ensures bytes { (memory : FramesView) (at : ℕ) (page : List ℕ) → IsOwn memory.own at 4096 → length page ≡ 4096 → (q : ℕ) → byte_at (with_page memory at page) q ≡ stored (byte_at memory) at page q }
     ensures size { (memory : FramesView) (at : ℕ) (page : List ℕ) → IsOwn memory.own at 4096 → length page ≡ 4096 → length (with_page memory at page).own.bytes ≡ length memory.own.bytes }
     ensures held { (memory : FramesView) (at : ℕ) (page : List ℕ) → IsOwn memory.own at 4096 → length page ≡ 4096 → (q : ℕ) → holds (with_page memory at page) q ≡ holds memory q }
+{}
+
+/// Of memory that has bytes stored from a place on, as many bytes from there on spell their number: what is
+/// written is read.
+pub fn what_is_written_is_read()
+    ensures { (before after : ℕ → ℕ) (at : ℕ) (bytes : List ℕ) → ((q : ℕ) → after q ≡ stored before at bytes q) → spelled (map after (range_with_len at (length bytes))) ≡ spelled bytes }
+{}
+
+/// Bytes stored from a place on change no word that lies wholly below or above them.
+pub fn writing_elsewhere_changes_no_word()
+    ensures below { (before after : ℕ → ℕ) (at word : ℕ) (bytes : List ℕ) → ((q : ℕ) → after q ≡ stored before at bytes q) → word + 8 ≤ at → word_in after word ≡ word_in before word }
+    ensures above { (before after : ℕ → ℕ) (at word : ℕ) (bytes : List ℕ) → ((q : ℕ) → after q ≡ stored before at bytes q) → at + length bytes ≤ word → word_in after word ≡ word_in before word }
 {}

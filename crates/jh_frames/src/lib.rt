@@ -12,7 +12,7 @@ mod page;
 pub use frames::Frames;
 pub use laws::{
     a_page_is_written_back, a_word_is_spelled, bytes_are_those_of_pages,
-    equal_bytes_make_equal_words,
+    equal_bytes_make_equal_words, what_is_written_is_read, writing_elsewhere_changes_no_word,
 };
 
 #[cfg(test)]

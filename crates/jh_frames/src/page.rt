@@ -27,7 +27,7 @@ impl Page {
     pub fn zero(alloc: Global) -> Result<Self, NoMemory>
         ensures { IfOk result (λ p. (k : ℕ) → slice_index p k ≡ 0) }
     {
-        let bytes = Vec::from_slice(alloc, &[0; 4096])?;
+        let bytes = vec![in alloc; 0; 4096]?;
         Ok(Page { bytes })
     }
 

@@ -22,7 +22,7 @@ pub fn a_walk_reads_few()
     ensures { (word : ℕ → ℕ) (n table at : ℕ) → length (probes_of word n table at) ≤ n }
 {}
 
-/// A walk, its reads and every count depend on the words of the pages that are reached alone.
+/// A walk, its reads and how often each page is reached depend on the words of the pages that are reached alone.
 pub fn walks_read_their_pages()
     ensures walk { (word word' : ℕ → ℕ) (n table at : ℕ) → SameTables word word' n table → walk_of word' n table at ≡ walk_of word n table at }
     ensures probes { (word word' : ℕ → ℕ) (n table at : ℕ) → SameTables word word' n table → probes_of word' n table at ≡ probes_of word n table at }

@@ -11,7 +11,7 @@ invariant-loop-done l = record {
   base : l.self.own.base ≡ l.fn.self.own.base;
   size : length l.self.own.bytes ≡ length l.fn.self.own.bytes;
   held : (q : ℕ) → holds l.self q ≡ holds l.fn.self q;
-  spare : l.self.guest.spare ≡ l.fn.self.guest.spare;
+  spare : l.fn.self.guest.spare ≤ l.self.guest.spare;
 }
 
 abbrev pub decreases-loop-done : goal.decreases-loop-done
