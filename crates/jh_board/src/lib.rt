@@ -4,7 +4,6 @@
 mod board;
 mod cells;
 mod closed;
-mod coming;
 mod comm_pages;
 mod crossing;
 mod devices;

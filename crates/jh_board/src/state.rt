@@ -26,8 +26,7 @@ use jh_num::error::EPERM;
 use jh_script::Op;
 use std::marker::Model;
 
-/// What comes of the create by the caller, of the configuration at the address, found once for its Decide. It is kept in
-/// a box, since most turns find none and all hand it on.
+/// What comes of the create by the caller, of the configuration at the address, found once for its Decide.
 #[derive(Drop)]
 pub struct FoundCreate {
     pub caller: u8,
@@ -40,7 +39,7 @@ pub struct FoundCreate {
 pub struct State<'a> {
     image: &'a IndexedImage,
     held: &'a Held,
-    found: &'a Option<Box<FoundCreate>>,
+    found: &'a Option<FoundCreate>,
 }
 
 impl<'a> Model for State<'a> {
@@ -53,13 +52,13 @@ impl<'a> Model for State<'a> {
     ghost use Rattle.std.specs.Prelude.{IfSome};
     ghost use Rattle.jh_board.specs.Found.{IsFound};
 
-    ghost invariant = { λ s. IfSome s.found.now (λ found. IsFound s.image.now s.held.now found.value) };
+    ghost invariant = { λ s. IfSome s.found.now (IsFound s.image.now s.held.now) };
 }
 
 impl<'a> State<'a> {
     /// What is held, where this was found of a create.
-    pub fn new(image: &'a IndexedImage, held: &'a Held, found: &'a Option<Box<FoundCreate>>) -> Self
-        requires { IfSome found.now (λ found. IsFound image.now held.now found.value) }
+    pub fn new(image: &'a IndexedImage, held: &'a Held, found: &'a Option<FoundCreate>) -> Self
+        requires { IfSome found.now (IsFound image.now held.now) }
         ensures { result ≡ record { image = image.now; held = held.now } }
     {
         State { image, held, found }
@@ -204,7 +203,7 @@ impl<'a> Known for State<'a> {
 pub struct NextStep {
     pub entry: Entry,
     pub reach: Reach,
-    pub found: Option<Box<FoundCreate>>,
+    pub found: Option<FoundCreate>,
 }
 
 /// Who is about to decide a create, and where it reads its configuration.
@@ -217,13 +216,9 @@ fn create_to_decide(held: &Held) -> Option<(u8, u64)> {
 }
 
 /// What comes of the create that the CPU decides next.
-fn find_create(
-    image: &IndexedImage,
-    held: &Held,
-    cpu: u8,
-) -> Result<Option<Box<FoundCreate>>, NoMemory>
+fn find_create(image: &IndexedImage, held: &Held, cpu: u8) -> Result<Option<FoundCreate>, NoMemory>
     requires { cpu < 16 }
-    ensures { IfOk result (λ found. IfSome found (λ found. IsFound image.now held.now found.value)) }
+    ensures { IfOk result (λ found. IfSome found (IsFound image.now held.now)) }
 {
     let Some((caller, at)) = create_to_decide(held) else {
         return Ok(None);
@@ -234,12 +229,11 @@ fn find_create(
         return Ok(None);
     }
     let creation = state.creation(caller, at)?;
-    let found = FoundCreate {
+    Ok(Some(FoundCreate {
         caller,
         at,
         creation,
-    };
-    Ok(Some(Box::new(held.alloc, found)?))
+    }))
 }
 
 /// What the CPU does next. Only what a create reads takes memory.
@@ -248,7 +242,7 @@ pub fn next_step(image: &IndexedImage, held: &Held, cpu: u8) -> Result<Option<Ne
     ensures due { (f : Facts) → Means image.now held.now f → IfOk result (λ step. option_map (λ (s : TheStep). s.entry) step ≡ due_at image.now f cpu) }
     ensures reached { (f : Facts) → Means image.now held.now f → IfOk result (λ step. IfSome step (λ s. IsReachOfEntry image.now f s.entry s.reach)) }
     ensures cpu { IfOk result (λ step. IfSome step (λ s. s.entry.cpu ≡ cpu)) }
-    ensures found { IfOk result (λ step. IfSome step (λ s. IfSome s.found (λ found. IsFound image.now held.now found.value))) }
+    ensures found { IfOk result (λ step. IfSome step (λ s. IfSome s.found (IsFound image.now held.now))) }
 {
     let found = find_create(image, held, cpu)?;
     let state = State::new(image, held, &found);
@@ -268,17 +262,16 @@ pub fn next_step(image: &IndexedImage, held: &Held, cpu: u8) -> Result<Option<Ne
 pub fn creation_by(
     image: &IndexedImage,
     held: &Held,
-    found: Option<Box<FoundCreate>>,
+    found: Option<FoundCreate>,
     caller: u8,
     at: u64,
 ) -> Result<Creation, NoMemory>
-    requires { IfSome found (λ found. IsFound image.now held.now found.value) }
+    requires { IfSome found (IsFound image.now held.now) }
     ensures { (f : Facts) → Means image.now held.now f → IfOk result (λ creation. creation ≡ creation_of image.now f caller at) }
 {
     if let Some(found) = found {
         if found.caller == caller && found.at == at {
-            let FoundCreate { creation, .. } = Box::into_inner(found);
-            return Ok(creation);
+            return Ok(found.creation);
         }
     }
     let unknown = None;

@@ -23,7 +23,6 @@ ghost use Rattle.jh_board.specs.Means.{Means, IsReady, IsReadyFor};
 ghost use Rattle.jh_board.specs.Steps.{begins, goes_on as goes_on_lem, create_of as create_of_lem, change_of_call as change_of_call_lem, change_of_cells as change_of_cells_lem, changed_cells, IsNext, IsRead, IsFree, WillBeReady, IsPrepared, MayWrite, MayWriteOf, MayWriteSlot, MayCommit, MayJoin, IsSameButDevices, joined_cells, devices_held, memory_written, memory_after, slot_after, endpoints_acted_by};
 
 use crate::cells::LiveCells;
-use crate::coming::Coming;
 use crate::devices::{change_devices, prepare_devices, write_slot_if};
 use crate::granted::devices_of;
 use crate::held::Held;
@@ -33,7 +32,7 @@ use crate::state::{FoundCreate, creation_by};
 use jh_call::Call;
 use jh_cellcfg::CellConfig;
 use jh_history::{
-    Act, Called, Creation, DeviceChange, Entry, Known, OpenCall, PageWrite, Reach,
+    Act, BoxedCell, Called, Creation, DeviceChange, Entry, Known, OpenCall, PageWrite, Reach,
     a_cell_that_comes_may_live, call_after, changing_cell, cpus_after,
     decides_are_of_the_open_call, devices_may_change, few_cells_live, page_write,
     pages_written_are_of_cells, places_reached_are_of_cells, sound_cells_name_a_cpu, write_device,
@@ -111,10 +110,10 @@ fn coming_of(
     image: &IndexedImage,
     held: &Held,
     entry: &Entry,
-    found: Option<Box<FoundCreate>>,
-) -> Result<Coming, NoMemory>
+    found: Option<FoundCreate>,
+) -> Result<Option<BoxedCell>, NoMemory>
     requires next { IsNext image.now held.now entry.now }
-    requires found { IfSome found (λ found. IsFound image.now held.now found.value) }
+    requires found { IfSome found (IsFound image.now held.now) }
     ensures read { (f : Facts) → Means image.now held.now f → due_at image.now f entry.now.cpu ≡ Some entry.now → IfOk result (IsRead image.now f entry.now) }
     ensures ready { (f : Facts) → Means image.now held.now f → due_at image.now f entry.now.cpu ≡ Some entry.now → IfOk result (WillBeReady image.now f entry.now) }
     ensures free { (f : Facts) → Means image.now held.now f → due_at image.now f entry.now.cpu ≡ Some entry.now → IfOk result (IsFree f) }
@@ -123,22 +122,19 @@ fn coming_of(
     ensures tables { IfOk result (λ coming. IfSome coming (λ config. All IsWithin (specs_of config))) }
 {
     if !goes_on(&entry.act) {
-        return Ok(Coming::none());
+        return Ok(None);
     }
     let Some(begun) = &held.call else {
-        return Ok(Coming::none());
+        return Ok(None);
     };
     let Some(at) = create_of(&begun.call) else {
-        return Ok(Coming::none());
+        return Ok(None);
     };
     decides_are_of_the_open_call();
     a_cell_that_comes_may_live();
     devices_may_change();
     match creation_by(image, held, found, begun.caller, at)? {
-        Creation::Comes { config } => {
-            let coming = Coming::of(held.alloc, config)?;
-            Ok(coming)
-        }
+        Creation::Comes { config } => Ok(Some(config)),
         Creation::Refused { .. } => unreachable!(),
     }
 }
@@ -163,20 +159,19 @@ fn prepare(
     image: &IndexedImage,
     held: &mut Held,
     entry: &Entry,
-    found: Option<Box<FoundCreate>>,
-) -> Result<Coming, NoMemory>
+    found: Option<FoundCreate>,
+) -> Result<Option<BoxedCell>, NoMemory>
     requires next { IsNext image.now held.old entry.now }
-    requires found { IfSome found (λ found. IsFound image.now held.old found.value) }
+    requires found { IfSome found (IsFound image.now held.old) }
     ensures means { (f : Facts) → Means image.now held.old f → Means image.now held.new f }
     ensures ok { (f : Facts) → Means image.now held.old f → due_at image.now f entry.now.cpu ≡ Some entry.now → IfOk result (IsPrepared image.now held.new f entry.now) }
 {
-    let coming = coming_of(image, held, entry, found)?;
-    match coming.config() {
+    match coming_of(image, held, entry, found)? {
         Some(config) => {
-            make_ready(held, config)?;
-            Ok(coming)
+            make_ready(held, config.get())?;
+            Ok(Some(config))
         }
-        None => Ok(coming),
+        None => Ok(None),
     }
 }
 
@@ -254,7 +249,7 @@ fn make_commit(held: &mut Held, act: &Act)
 fn make_cells(
     cells: &mut LiveCells,
     index: &mut Option<RegionIndex>,
-    created: Option<CellConfig>,
+    created: Option<BoxedCell>,
     change: CellsChange,
 )
     requires { IfSome created (MayJoin cells.old index.old) }
@@ -266,8 +261,8 @@ fn make_cells(
     match created {
         Some(config) => match index.take() {
             Some(index) => {
-                sound_cells_name_a_cpu(&config);
-                cells.add(config, index);
+                sound_cells_name_a_cpu(config.get());
+                cells.add(config.into_inner(), index);
             }
             None => unreachable!(),
         },
@@ -294,7 +289,7 @@ fn begins_call(act: &Act) -> bool
 }
 
 /// The open call after the entry, and the live cells. Where no call is open most entries change neither.
-fn make_call(held: &mut Held, entry: &Entry, coming: Coming)
+fn make_call(held: &mut Held, entry: &Entry, coming: Option<BoxedCell>)
     requires { IfSome (created_by held.old.call entry.now.act) (MayJoin held.old.cells held.old.index) }
     ensures memory { held.new.memory ≡ held.old.memory }
     ensures cpus { held.new.cpus ≡ held.old.cpus }
@@ -310,12 +305,7 @@ fn make_call(held: &mut Held, entry: &Entry, coming: Coming)
     }
     let change = change_of_cells(held.call.as_ref(), &entry.act);
     let begun = held.call.take();
-    let Called { call, created } = call_after(
-        held.cells.list(),
-        coming.into_config(),
-        begun,
-        entry,
-    );
+    let Called { call, created } = call_after(held.cells.list(), coming, begun, entry);
     held.call = call;
     make_cells(&mut held.cells, &mut held.index, created, change);
 }
@@ -327,10 +317,10 @@ pub fn make(
     held: &mut Held,
     entry: &Entry,
     reach: &Reach,
-    found: Option<Box<FoundCreate>>,
+    found: Option<FoundCreate>,
 ) -> Result<(), NoMemory>
     requires next { IsNext image.now held.old entry.now }
-    requires found { IfSome found (λ found. IsFound image.now held.old found.value) }
+    requires found { IfSome found (IsFound image.now held.old) }
     requires reached { (f : Facts) → Means image.now held.old f → IsReachOfEntry image.now f entry.now reach.now }
     ensures ok { OnOk result ((f : Facts) → Means image.now held.old f → due_at image.now f entry.now.cpu ≡ Some entry.now → Means image.now held.new (after image.now f entry.now)) }
     ensures err { OnErr result ((f : Facts) → Means image.now held.old f → Means image.now held.new f) }

@@ -2,8 +2,8 @@
 ghost use Rattle.std.specs.Prelude.{◌≡◌};
 ghost use Rattle.jh_history.specs.Phases.{refused_by};
 
+use crate::boxed::BoxedCell;
 use jh_call::Call;
-use jh_cellcfg::CellConfig;
 
 /// A management call that has begun and isn't finished.
 #[derive(Drop)]
@@ -24,7 +24,7 @@ pub enum Phase {
     },
     /// The new cell has this configuration.
     ToCreate {
-        config: CellConfig,
+        config: BoxedCell,
     },
     /// The cell has agreed.
     ToCommit,
@@ -52,7 +52,7 @@ pub enum Phase {
 pub enum Creation {
     Refused { number: i64 },
     /// The new cell has this configuration.
-    Comes { config: CellConfig },
+    Comes { config: BoxedCell },
 }
 
 impl Creation {

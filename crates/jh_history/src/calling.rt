@@ -6,6 +6,7 @@ ghost use Rattle.jh_history.specs.Phases.{configs_of};
 ghost use Rattle.jh_history.specs.Commits.{created, created_at, created_by};
 ghost use Rattle.jh_history.specs.Calls.{one_more as one_more_lem, is_told_by, first_told as first_told_lem, behind, telling as telling_lem, decided as decided_lem, after_settle as after_settle_lem, after_commit as after_commit_lem, after_note as after_note_lem, after_noted as after_noted_lem, counted as counted_lem, phase_after as phase_after_lem, call_by};
 
+use crate::boxed::BoxedCell;
 use crate::call::{OpenCall, Phase};
 use crate::entry::{Act, Entry, Settled};
 use crate::phases::is_named;
@@ -17,14 +18,14 @@ use jh_num::error::EPERM;
 #[derive(Drop)]
 pub struct Called {
     pub call: Option<OpenCall>,
-    pub created: Option<CellConfig>,
+    pub created: Option<BoxedCell>,
 }
 
 /// The phase after an entry, and the configuration of the cell that the entry creates.
 #[derive(Drop)]
 struct Next {
     phase: Phase,
-    created: Option<CellConfig>,
+    created: Option<BoxedCell>,
 }
 
 /// One more, or still the last number of 64 bits.
@@ -78,7 +79,7 @@ fn telling(about: u64, answer: i64, told: Option<u32>) -> Phase
 }
 
 /// The phase after a Decide that goes on.
-fn go_on(call: &Call, coming: Option<CellConfig>) -> Phase
+fn go_on(call: &Call, coming: Option<BoxedCell>) -> Phase
     ensures { result ≡ decided_lem call.now coming None }
 {
     match *call {
@@ -91,7 +92,7 @@ fn go_on(call: &Call, coming: Option<CellConfig>) -> Phase
 }
 
 /// The phase after a Decide.
-fn decided(call: &Call, coming: Option<CellConfig>, refused: Option<i64>) -> Phase
+fn decided(call: &Call, coming: Option<BoxedCell>, refused: Option<i64>) -> Phase
     ensures { result ≡ decided_lem call.now coming refused }
 {
     match refused {
@@ -116,10 +117,11 @@ fn after_create(phase: Phase, cells: &[CellConfig]) -> Next
 {
     match phase {
         Phase::ToCreate { config } => {
-            let about = u64::from(config.id);
+            let id = config.get().id;
+            let about = u64::from(id);
             let told = first_told(about, cells);
             Next {
-                phase: telling(about, i64::from(config.id), told),
+                phase: telling(about, i64::from(id), told),
                 created: Some(config),
             }
         }
@@ -222,7 +224,7 @@ fn only(phase: Phase) -> Next
 /// What the phase of the call comes to.
 fn phase_after(
     cells: &[CellConfig],
-    coming: Option<CellConfig>,
+    coming: Option<BoxedCell>,
     call: &Call,
     phase: Phase,
     entry: &Entry,
@@ -243,7 +245,7 @@ fn phase_after(
 /// The open call after an entry of it, or of another CPU.
 fn goes_on(
     cells: &[CellConfig],
-    coming: Option<CellConfig>,
+    coming: Option<BoxedCell>,
     begun: OpenCall,
     entry: &Entry,
 ) -> Called
@@ -271,7 +273,7 @@ fn goes_on(
 /// takes no memory.
 pub fn call_after(
     cells: &[CellConfig],
-    coming: Option<CellConfig>,
+    coming: Option<BoxedCell>,
     call: Option<OpenCall>,
     entry: &Entry,
 ) -> Called

@@ -124,6 +124,7 @@ fn lend(phase: &Phase, i: u8, cpu: &mut Cpu)
 {
     match phase {
         Phase::ToCreate { config } => {
+            let config = config.get();
             if config.has_cpu(i) {
                 cpu.lend(config.id);
             }

@@ -8,6 +8,7 @@ ghost use Rattle.jh_history.specs.Phases.{configs_of, may_give as may_give_lem, 
 ghost use Rattle.jh_history.specs.ReadView.{as_read, gives_by, refusal_by};
 
 use crate::admission::pool_pages;
+use crate::boxed::BoxedCell;
 use crate::call::Creation;
 use crate::cells::is_on_board;
 use crate::counting::pages_of;
@@ -86,7 +87,7 @@ fn refusal_by(
 }
 
 /// The cell comes, unless it is refused.
-fn unless_refused(config: CellConfig, refusal: Option<i64>) -> Creation
+fn unless_refused(config: BoxedCell, refusal: Option<i64>) -> Creation
     ensures { result ≡ unless_refused_lem config refusal }
 {
     match refusal {
@@ -118,7 +119,7 @@ pub fn judged(
             if cells.len() == 15 && is_any(&may) {
                 return Ok(None);
             }
-            let refusal = refusal_by(alloc, image, cells, &may, &config)?;
+            let refusal = refusal_by(alloc, image, cells, &may, config.get())?;
             Ok(Some(unless_refused(config, refusal)))
         }
         Creation::Refused { number } => Ok(Some(Creation::Refused { number })),

@@ -8,6 +8,7 @@ ghost use Rattle.jh_history.specs.Phases.{configs_of};
 ghost use Rattle.jh_history.specs.Commits.{marked, is_other, committed_cells, created as created_lem};
 ghost use Rattle.jh_history.specs.LiveView.{joined};
 
+use crate::boxed::BoxedCell;
 use jh_call::Call;
 use jh_cellcfg::{CellConfig, Region};
 use jh_num::NoMemory;
@@ -124,18 +125,14 @@ impl LiveCells {
     }
 
     /// The cells after a Commit of the call, which creates a cell of that configuration.
-    pub(crate) fn commit(
-        &mut self,
-        call: &Call,
-        created: Option<CellConfig>,
-    ) -> Result<(), NoMemory>
+    pub(crate) fn commit(&mut self, call: &Call, created: Option<BoxedCell>) -> Result<(), NoMemory>
         ensures ok { OnOk result ((phase : ThePhase) → created ≡ created_lem call.now phase → self.new ≡ committed_cells call.now phase self.old) }
         ensures err { OnErr result (self.new ≡ self.old) }
     {
         match *call {
             Call::Create { .. } => {
                 if let Some(config) = created {
-                    self.add(config)?;
+                    self.add(config.into_inner())?;
                 }
             }
             Call::Start { id } => mark(&self.configs, &mut self.marks, id, false),

@@ -152,7 +152,7 @@ pub(crate) fn coming_in(phase: &Phase) -> Option<&CellConfig>
     ensures { (at : ℕ) → option_copied result ≡ created (Create at) phase.now }
 {
     match phase {
-        Phase::ToCreate { config } => Some(config),
+        Phase::ToCreate { config } => Some(config.get()),
         _ => None,
     }
 }

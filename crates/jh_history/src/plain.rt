@@ -29,6 +29,7 @@ ghost use Rattle.jh_history.specs.Admitted.{IsAdmitted, IsPlainAct, IsPlainEntry
 ghost use Rattle.jh_history.specs.PlainView.{last_byte, Stands, IsSameBut, IsDueBeside, HasWords, MayCommit, MayFollow};
 
 use crate::access::{Access, Reach, Wanted};
+use crate::boxed::BoxedCell;
 use crate::call::{Creation, OpenCall};
 use crate::calling::call_after;
 use crate::cells::{devices_in, reach_in};
@@ -91,7 +92,7 @@ fn call_in(call: Option<&OpenCall>) -> Option<Call>
 }
 
 /// The configuration that comes.
-fn comes(creation: Creation) -> Option<CellConfig>
+fn comes(creation: Creation) -> Option<BoxedCell>
     ensures { result ≡ config_read (as_read creation) }
 {
     match creation {
@@ -104,7 +105,7 @@ fn comes(creation: Creation) -> Option<CellConfig>
 fn cells_after(
     cells: &mut LiveCells,
     call: Option<Call>,
-    created: Option<CellConfig>,
+    created: Option<BoxedCell>,
     act: &Act,
 ) -> Result<(), NoMemory>
     ensures ok { OnOk result ((begun : Option TheOpenCall) → call ≡ option_map (λ (o : TheOpenCall). o.call) begun → created ≡ created_by begun act.now → cells.new ≡ cells_by begun cells.old act.now) }
@@ -320,7 +321,7 @@ impl<'a> Plain<'a> {
     }
 
     /// The configuration that the call reads, where it is a create.
-    fn read_for(&self, call: &Call) -> Result<Option<CellConfig>, NoMemory>
+    fn read_for(&self, call: &Call) -> Result<Option<BoxedCell>, NoMemory>
         ensures { IfOk result (λ coming. (i : TheImage) (f : Facts) → Stands self.now i f → coming ≡ coming_by i f call.now) }
     {
         match *call {
@@ -333,7 +334,7 @@ impl<'a> Plain<'a> {
     }
 
     /// That of the open call.
-    fn read_coming(&self) -> Result<Option<CellConfig>, NoMemory>
+    fn read_coming(&self) -> Result<Option<BoxedCell>, NoMemory>
         ensures { IfOk result (λ coming. (i : TheImage) (f : Facts) → Stands self.now i f → coming ≡ coming_of i f) }
     {
         match self.call.as_ref() {
@@ -343,7 +344,7 @@ impl<'a> Plain<'a> {
     }
 
     /// The configuration that the open call reads at the entry, where that is a Decide.
-    fn coming(&self, entry: &Entry) -> Result<Option<CellConfig>, NoMemory>
+    fn coming(&self, entry: &Entry) -> Result<Option<BoxedCell>, NoMemory>
         ensures { IfOk result (λ coming. (i : TheImage) (f : Facts) → Stands self.now i f → (lives : List TheLive) → call_by lives coming f.call entry.now entry.now.act ≡ call_by lives (coming_of i f) f.call entry.now entry.now.act) }
     {
         match entry.act {
@@ -353,7 +354,7 @@ impl<'a> Plain<'a> {
     }
 
     /// Moves the open call on by the entry, and with it which cells live.
-    fn move_on(&mut self, coming: Option<CellConfig>, entry: &Entry) -> Result<(), NoMemory>
+    fn move_on(&mut self, coming: Option<BoxedCell>, entry: &Entry) -> Result<(), NoMemory>
         requires { IsDueBeside self.old.image self.old.cells self.old.call entry.now }
         ensures cells { OnOk result (self.new.cells ≡ cells_by self.old.call self.old.cells entry.now.act) }
         ensures call { OnOk result (self.new.call ≡ call_by self.old.cells coming self.old.call entry.now entry.now.act) }

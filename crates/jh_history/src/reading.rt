@@ -6,6 +6,7 @@ ghost use Rattle.jh_cellcfg.specs.Reading.{config_of};
 ghost use Rattle.jh_history.specs.Configs.{Reads, refused_for as refused_for_lem, read_whole as read_whole_lem};
 ghost use Rattle.jh_history.specs.ReadView.{bytes_by, read_behind as read_behind_lem, read_by, as_read};
 
+use crate::boxed::BoxedCell;
 use crate::call::Creation;
 use jh_cellcfg::{ConfigFault, Which, cell_size, read_cell};
 use jh_num::error::{E2BIG, EINVAL};
@@ -96,7 +97,10 @@ fn told(alloc: Global, bytes: &[u8]) -> Result<Creation, NoMemory>
     ensures { IfOk result (λ read. as_read read ≡ Reads (config_of bytes.now)) }
 {
     match read_cell(alloc, bytes) {
-        Ok(config) => Ok(Creation::Comes { config }),
+        Ok(config) => {
+            let config = BoxedCell::new(alloc, config)?;
+            Ok(Creation::Comes { config })
+        }
         Err(_) => Err(NoMemory),
     }
 }

@@ -1,6 +1,5 @@
 -- What a create reads is what comes of it.
-use Rattle.std.proofs.Common.{◌≡◌, ◌∙◌, Option, Some, None, sym, ap, subst}
-use Rattle.std.specs.Prelude.{All, AllPairs, IfSome}
+use Rattle.std.proofs.Common.{◌≡◌, ◌∙◌, Option, Some, None, sym, ap}
 use Rattle.jh_cellcfg.specs.declared.config.CellConfig.{CellConfig}
 use Rattle.jh_call.specs.declared.call.Call.TheVariants.{Create}
 use Rattle.jh_history.specs.declared.call.OpenCall.{OpenCall}
@@ -8,11 +7,6 @@ use Rattle.jh_history.specs.declared.entry.Act.TheVariants.{Decide}
 use Rattle.jh_history.specs.declared.call.Creation.TheVariants.{Comes}
 use Rattle.jh_history.specs.Calls.{call_by}
 use Rattle.jh_history.specs.Phases.{creation_of}
-use Rattle.jh_history.specs.Devices.{specs_of}
-use Rattle.jh_history.specs.Endpoints.{HasGoodDevices}
-use Rattle.jh_ivshmem.specs.Specs.{IsWithin}
-use Rattle.jh_mmio.specs.Index.{SharesNoAddress}
-use Rattle.jh_board.specs.Steps.{IsFree, IsRead, WillBeReady}
 use Rattle.jh_board.proofs.DevicesLemmas.{specs-within}
 use Rattle.jh_board.proofs.ReadyLemmas.{going-decides, create-at, coming-is, ready-create, ready-early, not-refused}
 use Rattle.jh_board.proofs.steps.coming_of.Goals as goal
@@ -39,11 +33,10 @@ returns-clause-read c = λ f means due.
     let create : o.call ≡ Create at = create-at o.call at (sym c.create_of.ensures ∙ c.in-Some-create_of.is) in
     let comes : creation_of image f o.caller at ≡ Comes c.in-Comes.config = sym (c.in_ok-config.ensures f means) ∙ c.in-Comes.is in
     let reads = c.decides_are_of_the_open_call.ensures.read image f o.caller at c.in-Comes.config comes in
-    subst (IsRead image f c.args.entry.now) (sym c.in_ok-coming-in-Comes.ensures)
-    (ap (λ (d : Option CellConfig). call_by f.cells d f.call c.args.entry.now c.args.entry.now.act) (sym (coming-is image f o at c.in-Comes.config is create reads)))
+    ap (λ (d : Option CellConfig). call_by f.cells d f.call c.args.entry.now c.args.entry.now.act) (sym (coming-is image f o at c.in-Comes.config is create reads))
 
 pub returns-clause-ready : goal.returns-clause-ready
-returns-clause-ready c = λ f means due.
+returns-clause-ready c = λ f means due held before ready.
     let image = c.args.image.now in
     let o : OpenCall = c.in-Some.begun in
     let at = c.in-Some-create_of.at in
@@ -52,17 +45,15 @@ returns-clause-ready c = λ f means due.
     let create : o.call ≡ Create at = create-at o.call at (sym c.create_of.ensures ∙ c.in-Some-create_of.is) in
     let comes : creation_of image f o.caller at ≡ Comes c.in-Comes.config = sym (c.in_ok-config.ensures f means) ∙ c.in-Comes.is in
     let reads = c.decides_are_of_the_open_call.ensures.read image f o.caller at c.in-Comes.config comes in
-    subst (WillBeReady image f c.args.entry.now) (sym c.in_ok-coming-in-Comes.ensures)
-    (λ held before ready. ready-create held image f c.args.entry.now o at c.in-Comes.config is create (coming-is image f o at c.in-Comes.config is create reads) act ready)
+    ready-create held image f c.args.entry.now o at c.in-Comes.config is create (coming-is image f o at c.in-Comes.config is create reads) act ready
 
 pub returns-clause-free : goal.returns-clause-free
-returns-clause-free c = λ f means due.
+returns-clause-free c = λ f means due held.
     let o : OpenCall = c.in-Some.begun in
     let act : c.args.entry.now.act ≡ Decide None = going-decides c.args.entry.now.act (sym c.goes_on.ensures ∙ c.if-not-goes_on.false) in
     let is : c.requires.next.facts.call ≡ Some o = sym c.requires.next.means.call ∙ c.in-Some.is in
-    subst (IsFree f) (sym c.in_ok-coming-in-Comes.ensures)
-    (λ held. ready-early held f.call o (sym means.call ∙ c.in-Some.is)
-    (c.decides_are_of_the_open_call.ensures.phase c.args.image.now c.requires.next.facts c.args.entry.now None o c.requires.next.sound c.requires.next.due act is))
+    ready-early held f.call o (sym means.call ∙ c.in-Some.is)
+    (c.decides_are_of_the_open_call.ensures.phase c.args.image.now c.requires.next.facts c.args.entry.now None o c.requires.next.sound c.requires.next.due act is)
 
 pub returns-clause-apart : goal.returns-clause-apart
 returns-clause-apart c =
@@ -71,8 +62,7 @@ returns-clause-apart c =
     let o : OpenCall = c.in-Some.begun in
     let at = c.in-Some-create_of.at in
     let comes : creation_of image f o.caller at ≡ Comes c.in-Comes.config = sym (c.in_ok-config.ensures f c.requires.next.means) ∙ c.in-Comes.is in
-    let P : Option CellConfig → Type 0 = λ coming. IfSome coming (λ (config : CellConfig). AllPairs SharesNoAddress config.memory_regions) in
-    subst P (sym c.in_ok-coming-in-Comes.ensures) (c.a_cell_that_comes_may_live.ensures.decided image f o.caller at c.in-Comes.config c.requires.next.sound comes).apart
+    (c.a_cell_that_comes_may_live.ensures.decided image f o.caller at c.in-Comes.config c.requires.next.sound comes).apart
 
 pub returns-clause-devices : goal.returns-clause-devices
 returns-clause-devices c =
@@ -81,8 +71,7 @@ returns-clause-devices c =
     let o : OpenCall = c.in-Some.begun in
     let at = c.in-Some-create_of.at in
     let comes : creation_of image f o.caller at ≡ Comes c.in-Comes.config = sym (c.in_ok-config.ensures f c.requires.next.means) ∙ c.in-Comes.is in
-    let P : Option CellConfig → Type 0 = λ coming. IfSome coming HasGoodDevices in
-    subst P (sym c.in_ok-coming-in-Comes.ensures) (c.devices_may_change.ensures.comes image f o.caller at c.in-Comes.config c.requires.next.sound comes)
+    c.devices_may_change.ensures.comes image f o.caller at c.in-Comes.config c.requires.next.sound comes
 
 pub returns-clause-tables : goal.returns-clause-tables
 returns-clause-tables c =
@@ -91,7 +80,5 @@ returns-clause-tables c =
     let o : OpenCall = c.in-Some.begun in
     let at = c.in-Some-create_of.at in
     let comes : creation_of image f o.caller at ≡ Comes c.in-Comes.config = sym (c.in_ok-config.ensures f c.requires.next.means) ∙ c.in-Comes.is in
-    let P : Option CellConfig → Type 0 = λ coming. IfSome coming (λ (config : CellConfig). All IsWithin (specs_of config)) in
-    subst P (sym c.in_ok-coming-in-Comes.ensures)
-    (specs-within c.in-Comes.config (c.devices_may_change.ensures.comes image f o.caller at c.in-Comes.config c.requires.next.sound comes)
-    (c.a_cell_that_comes_may_live.ensures.decided image f o.caller at c.in-Comes.config c.requires.next.sound comes).within)
+    specs-within c.in-Comes.config (c.devices_may_change.ensures.comes image f o.caller at c.in-Comes.config c.requires.next.sound comes)
+    (c.a_cell_that_comes_may_live.ensures.decided image f o.caller at c.in-Comes.config c.requires.next.sound comes).within

@@ -34,9 +34,7 @@ returns-clause-ready c = λ h.
     let made : c.call_after-call.result.created ≡ created_by old.call act = c.call_after-call.ensures.created ∙ ap (λ (k : Option OpenCall). created_by k act) c.take-begun.ensures.value in
     let change : c.change_of_cells-change.result ≡ change_of_cells old.call act = c.change_of_cells-change.ensures ∙ ap (λ (k : Option OpenCall). change_of_cells k act) c.as_ref.ensures.value in
     let call : c.call_after-call.result.call ≡ call_by lives c.args.coming old.call entry act =
-    c.call_after-call.ensures.call lives (sym c.list.ensures.value)
-    ∙ ap (λ (d : Option CellConfig). call_by lives d c.take-begun.result entry act) c.into_config.ensures
-    ∙ ap (λ (k : Option OpenCall). call_by lives c.args.coming k entry act) c.take-begun.ensures.value in
+    c.call_after-call.ensures.call lives (sym c.list.ensures.value) ∙ ap (λ (k : Option OpenCall). call_by lives c.args.coming k entry act) c.take-begun.ensures.value in
     let P : Option OpenCall → Type 0 = IsReady old in
     let Q : Option OpenCall → Type 0 = IsReady new in
     let same : KeepsCells old new (created_by old.call act) (change_of_cells old.call act) = λ none keep. c.make_cells.ensures.kept (made ∙ none) (change ∙ keep) in
