@@ -42,7 +42,7 @@ pub fn is_on_board(image: &Image, cpu: u8) -> bool
 pub fn is_program_of(program: &Program, name: &[u8], cpu: u8) -> bool
     ensures { result ≡ is_program_of_lem name.now cpu program.now }
 {
-    program.cell.as_slice() == name && program.cpu == cpu
+    program.cpu == cpu && program.cell.as_slice() == name
 }
 
 /// The operations of the CPU in the cell of that name.
