@@ -9,9 +9,9 @@ use Rattle.jh_image.specs.Causes.{Stops, OnRefused, IsCounted}
 use Rattle.jh_image.specs.Images.{IsImage}
 use Rattle.jh_history.specs.Admitted.{IsAdmitted}
 use Rattle.jh_image.specs.Texts.{cause_text}
-use Rattle.jh_cli.specs.declared.told.Told.{Told}
-use Rattle.jh_cli.specs.declared.told.Stop.{Stop}
-use Rattle.jh_cli.specs.declared.told.Stop.TheVariants as stop
+use Rattle.jh_cli.specs.declared.ending.Ending.{Ending}
+use Rattle.jh_cli.specs.declared.ending.Stop.{Stop}
+use Rattle.jh_cli.specs.declared.ending.Stop.TheVariants as stop
 use Rattle.jh_cli.specs.declared.status.Status.TheVariants as status
 use Rattle.jh_cli.specs.Lines.{number_of, fault_line, refusal_line}
 use Rattle.jh_cli.specs.Reading.{Said, Contents}
@@ -57,7 +57,7 @@ counted_at old new failed NoMemory counted s told memory = nothing (IsCountedSai
 
 -- what follows a board that was read
 pub opens : (contents : Contents) (board : List ℕ) (next : Image → Said → Type 0) (image : Image) → IsImage contents board image → IsAdmitted image
-    → (r : Result Told Stop) → OnTold r (next image) → OnTold r (Opens contents board next)
+    → (r : Result Ending Stop) → OnTold r (next image) → OnTold r (Opens contents board next)
 opens contents board next image is admitted r h = on_told (next image) (Opens contents board next) r (λ said rest. inr (image, is, admitted, rest)) h
 
 -- a call that ends at one of the board's files ends so

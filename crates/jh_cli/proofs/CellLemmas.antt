@@ -7,7 +7,7 @@ use Rattle.jh_cellcfg.specs.declared.config.CellConfig.{CellConfig}
 use Rattle.jh_cellcfg.specs.declared.fault.ConfigFault.{ConfigFault}
 use Rattle.jh_cellcfg.specs.declared.fault.ConfigFault.TheVariants.{Short, Signature, Revision, Name, Count, Trailing, NoMemory}
 use Rattle.jh_cellcfg.specs.Faults.{refusal}
-use Rattle.jh_cli.specs.declared.told.Stop.{Stop}
+use Rattle.jh_cli.specs.declared.ending.Stop.{Stop}
 use Rattle.jh_cli.specs.Reading.{Contents, Spells, Stops}
 use Rattle.jh_cli.specs.Check.{IsCellFile, CellRefusal, SpellCells, StopsAmong}
 use Rattle.jh_cli.specs.Stopped.{OnEnded}

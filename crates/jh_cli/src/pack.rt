@@ -7,9 +7,9 @@ ghost use Rattle.jh_cli.specs.Reading.{Spells, Stops};
 ghost use Rattle.jh_cli.specs.Pack.{IsSpecFile, SpecRefusal, Packs, packed};
 ghost use Rattle.jh_cli.specs.Stopped.{said_of, OnEnded, OnTold, IsCounted};
 
+use crate::ending::{Ending, Stop, read_below, refused};
 use crate::limits::MOST;
 use crate::status::Status;
-use crate::told::{Stop, Told, read_below, refused};
 use jh_cellcfg::write_cell;
 use jh_num::NoMemory;
 use jh_outside::Files;
@@ -61,13 +61,13 @@ fn written(alloc: Global, spec: &Spec) -> Result<Vec<u8>, NoMemory>
 }
 
 /// Reads the SPEC, and tells its configuration's bytes.
-pub fn pack<F: Files>(alloc: Global, files: &mut F, name: &str) -> Result<Told, Stop>
+pub fn pack<F: Files>(alloc: Global, files: &mut F, name: &str) -> Result<Ending, Stop>
     ensures ends { OnTold result (Packs (F.contents files.old) name.now) }
     ensures counted { OnTold result (IsCounted (F.faults files.old) (F.faults files.new) (F.failed files.new)) }
     ensures asked { OnTold result (ReadsIn F.asks F.failed (name.now ∷ []) files.old files.new) }
 {
     let spec = spec(alloc, files, name)?;
-    Ok(Told {
+    Ok(Ending {
         status: Status::Good,
         text: written(alloc, &spec)?,
     })

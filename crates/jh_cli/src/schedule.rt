@@ -7,8 +7,8 @@ ghost use Rattle.jh_cli.specs.Reading.{Spells, Stops};
 ghost use Rattle.jh_cli.specs.Play.{AreCpus, IsSchedule, ScheduleRefusal};
 ghost use Rattle.jh_cli.specs.Stopped.{OnEnded, IsCounted};
 
+use crate::ending::{Stop, read_below, refused_for};
 use crate::limits::MOST;
-use crate::told::{Stop, read_below, refused_for};
 use jh_history::is_on_board;
 use jh_num::Seq;
 use jh_outside::Files;
