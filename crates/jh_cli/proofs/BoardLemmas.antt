@@ -5,7 +5,7 @@ use Rattle.jh_image.specs.declared.fault.ImageCause.{ImageCause}
 use Rattle.jh_image.specs.declared.fault.ImageCause.TheVariants.{ReadFault, Oversize, Json, Member, System, Findings, PoolSmall, Preload as BadPreload, Program as BadProgram}
 use Rattle.jh_image.specs.declared.fault.ImageFault.{ImageFault}
 use Rattle.jh_image.specs.declared.fault.ImageFault.TheVariants.{Refused, NoMemory}
-use Rattle.jh_image.specs.Causes.{Stops, OnRefused, IsCounted}
+use Rattle.jh_image.specs.Causes.{StopsReading, OnRefused, IsCounted}
 use Rattle.jh_image.specs.Images.{IsImage}
 use Rattle.jh_history.specs.Admitted.{IsAdmitted}
 use Rattle.jh_image.specs.Texts.{cause_text}
@@ -24,7 +24,7 @@ pub nothing : (P : Said → Type 0) (s : Stop) → s ≡ stop.NoMemory → OnEnd
 nothing P s is = rw is tt
 
 -- the call ends where the reading of the board stops
-pub ends_at : (contents : Contents) (board : List ℕ) (fault : ImageFault) → OnRefused (Stops contents board) fault
+pub ends_at : (contents : Contents) (board : List ℕ) (fault : ImageFault) → OnRefused (StopsReading contents board) fault
     → (s : Stop) → OnRefused (λ file cause. OnEnded s (λ said. said ≡ stopped file cause)) fault → (fault ≡ NoMemory → s ≡ stop.NoMemory) → OnEnded s (EndsAt contents board)
 ends_at contents board (Refused file cause) stops s told memory =
     on_stop (λ said. said ≡ stopped file cause) (EndsAt contents board) s (λ said is. record { file = file; cause = cause; stops = stops; told = is }) told

@@ -5,7 +5,7 @@ ghost use Rattle.jh_check.specs.Lists.{capped};
 ghost use Rattle.jh_check.specs.Texts.{finding_text};
 ghost use Rattle.jh_outside.specs.Trail.{AsksAll};
 ghost use Rattle.jh_cli.specs.Order.{StopsIn, ReadsIn};
-ghost use Rattle.jh_cli.specs.Reading.{Spells, Stops};
+ghost use Rattle.jh_cli.specs.Reading.{Spells, StopsAtFile};
 ghost use Rattle.jh_cli.specs.Check.{IsCellFile, CellRefusal, IsSystemFile, SystemRefusal, SpellCells, StopsAmong, ChecksCells, Checks, checked, checked_status, findings_text as findings_text_lem};
 ghost use Rattle.jh_cli.specs.Stopped.{said_of, OnEnded, OnTold, IsCounted};
 
@@ -22,7 +22,7 @@ use std::alloc::Global;
 /// The cell in the file of this name.
 fn cell<F: Files>(alloc: Global, files: &mut F, name: &str) -> Result<CellConfig, Stop>
     ensures ok { IfOk result (Spells (F.contents files.old) name.now IsCellFile) }
-    ensures err { IfErr result (λ stop. OnEnded stop (Stops (F.contents files.old) name.now CellRefusal)) }
+    ensures err { IfErr result (λ stop. OnEnded stop (StopsAtFile (F.contents files.old) name.now CellRefusal)) }
     ensures counted { IfErr result (λ stop. OnEnded stop (IsCounted (F.faults files.old) (F.faults files.new) (F.failed files.new))) }
     ensures never_falls { F.faults files.old ≤ F.faults files.new }
     ensures kept { F.contents files.new ≡ F.contents files.old }
@@ -40,7 +40,7 @@ fn cell<F: Files>(alloc: Global, files: &mut F, name: &str) -> Result<CellConfig
 /// The system in the file of this name.
 fn system<F: Files>(alloc: Global, files: &mut F, name: &str) -> Result<SystemConfig, Stop>
     ensures ok { IfOk result (Spells (F.contents files.old) name.now IsSystemFile) }
-    ensures err { IfErr result (λ stop. OnEnded stop (Stops (F.contents files.old) name.now SystemRefusal)) }
+    ensures err { IfErr result (λ stop. OnEnded stop (StopsAtFile (F.contents files.old) name.now SystemRefusal)) }
     ensures counted { IfErr result (λ stop. OnEnded stop (IsCounted (F.faults files.old) (F.faults files.new) (F.failed files.new))) }
     ensures never_falls { F.faults files.old ≤ F.faults files.new }
     ensures kept { F.contents files.new ≡ F.contents files.old }
