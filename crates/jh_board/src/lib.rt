@@ -12,11 +12,11 @@ mod held;
 mod indexed;
 mod laws;
 mod memory;
+mod overview;
 mod page;
 mod physical;
 mod state;
 mod steps;
-mod told;
 mod turn;
 
 pub use board::Board;

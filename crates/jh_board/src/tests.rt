@@ -38,21 +38,9 @@ pub(crate) fn region(start: u64, flags: u64) -> Region {
 /// Root with CPUs 0 and 1 and these regions.
 fn root(alloc: Global, regions: &[Region]) -> Result<CellConfig, NoMemory> {
     Ok(CellConfig {
-        name: [0; 32],
-        id: 0,
-        flags: 0,
-        vpci_irq_base: 0,
-        cpu_reset_address: 0,
-        msg_reply_timeout: 0,
-        console: [0; 32],
         cpu_set: Seq::from_vec(Vec::from_slice(alloc, &[3])?),
         memory_regions: Seq::from_vec(Vec::from_slice(alloc, regions)?),
-        cache_regions: Seq::new(alloc),
-        irqchips: Seq::new(alloc),
-        pio_regions: Seq::new(alloc),
-        pci_devices: Seq::new(alloc),
-        pci_caps: Seq::new(alloc),
-        stream_ids: Seq::new(alloc),
+        ..CellConfig::empty(alloc, 0)
     })
 }
 

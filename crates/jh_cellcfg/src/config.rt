@@ -6,6 +6,7 @@ use crate::flags::CellFlags;
 use crate::region::Region;
 use bitflags::Flags;
 use jh_num::Seq;
+use std::alloc::Global;
 
 /// A cell's configuration: the fields of the header after its signature and revision, and its parts.
 /// The counts of the header are the lengths of the parts.
@@ -51,6 +52,30 @@ fn name_len(name: &[u8]) -> usize
 
 impl CellConfig {
     ghost use Rattle.jh_cellcfg.specs.Cells.{name_of, is_cpu_set, has_cell_flags, is_passive, may_have_console, has_console};
+    ghost use Rattle.jh_cellcfg.specs.Empty.{empty_cell};
+
+    /// The cell with this id that has nothing: no name, no parts, and each other number 0.
+    pub fn empty(alloc: Global, id: u32) -> Self
+        ensures { result ≡ empty_cell id }
+    {
+        CellConfig {
+            name: [0; 32],
+            id,
+            flags: 0,
+            vpci_irq_base: 0,
+            cpu_reset_address: 0,
+            msg_reply_timeout: 0,
+            console: [0; 32],
+            cpu_set: Seq::new(alloc),
+            memory_regions: Seq::new(alloc),
+            cache_regions: Seq::new(alloc),
+            irqchips: Seq::new(alloc),
+            pio_regions: Seq::new(alloc),
+            pci_devices: Seq::new(alloc),
+            pci_caps: Seq::new(alloc),
+            stream_ids: Seq::new(alloc),
+        }
+    }
 
     /// The characters of its name, without the zero bytes behind them.
     pub fn name(&self) -> &[u8]

@@ -67,20 +67,10 @@ fn demo(alloc: Global, pci_devices: Seq<PciDevice>) -> Result<CellConfig, AllocE
     ]?;
     Ok(CellConfig {
         name: name(b"demo"),
-        id: 1,
-        flags: 0,
-        vpci_irq_base: 0,
-        cpu_reset_address: 0,
-        msg_reply_timeout: 0,
-        console: [0; 32],
         cpu_set: Seq::from_vec(vec![in alloc; 4, 0, 0, 0, 0, 0, 0, 0]?),
         memory_regions: Seq::from_vec(regions),
-        cache_regions: Seq::new(alloc),
-        irqchips: Seq::new(alloc),
-        pio_regions: Seq::new(alloc),
         pci_devices,
-        pci_caps: Seq::new(alloc),
-        stream_ids: Seq::new(alloc),
+        ..CellConfig::empty(alloc, 1)
     })
 }
 

@@ -57,21 +57,10 @@ fn cell(
     devices: &[PciDevice],
 ) -> Result<CellConfig, AllocError> {
     Ok(CellConfig {
-        name: [0; 32],
-        id: 1,
-        flags: 0,
-        vpci_irq_base: 0,
-        cpu_reset_address: 0,
-        msg_reply_timeout: 0,
-        console: [0; 32],
         cpu_set: Seq::from_vec(Vec::from_slice(alloc, &cpus.to_le_bytes())?),
         memory_regions: Seq::from_vec(Vec::from_slice(alloc, regions)?),
-        cache_regions: Seq::new(alloc),
-        irqchips: Seq::new(alloc),
-        pio_regions: Seq::new(alloc),
         pci_devices: Seq::from_vec(Vec::from_slice(alloc, devices)?),
-        pci_caps: Seq::new(alloc),
-        stream_ids: Seq::new(alloc),
+        ..CellConfig::empty(alloc, 1)
     })
 }
 

@@ -5,13 +5,13 @@ use Rattle.jh_image.specs.declared.fault.ImageCause.{ImageCause}
 use Rattle.jh_image.specs.declared.fault.ImageCause.TheVariants.{ReadFault, Oversize, Json, Member, System, Findings, PoolSmall, Preload as BadPreload, Program as BadProgram}
 use Rattle.jh_image.specs.declared.fault.ImageFault.{ImageFault}
 use Rattle.jh_image.specs.declared.fault.ImageFault.TheVariants.{Refused, NoMemory}
-use Rattle.jh_image.specs.Causes.{Stops, OnRefused, IsCounted}
+use Rattle.jh_image.specs.Causes.{StopsReading, OnRefused, IsCounted}
 use Rattle.jh_image.specs.Images.{IsImage}
 use Rattle.jh_history.specs.Admitted.{IsAdmitted}
 use Rattle.jh_image.specs.Texts.{cause_text}
-use Rattle.jh_cli.specs.declared.told.Told.{Told}
-use Rattle.jh_cli.specs.declared.told.Stop.{Stop}
-use Rattle.jh_cli.specs.declared.told.Stop.TheVariants as stop
+use Rattle.jh_cli.specs.declared.ending.Ending.{Ending}
+use Rattle.jh_cli.specs.declared.ending.Stop.{Stop}
+use Rattle.jh_cli.specs.declared.ending.Stop.TheVariants as stop
 use Rattle.jh_cli.specs.declared.status.Status.TheVariants as status
 use Rattle.jh_cli.specs.Lines.{number_of, fault_line, refusal_line}
 use Rattle.jh_cli.specs.Reading.{Said, Contents}
@@ -24,7 +24,7 @@ pub nothing : (P : Said → Type 0) (s : Stop) → s ≡ stop.NoMemory → OnEnd
 nothing P s is = rw is tt
 
 -- the call ends where the reading of the board stops
-pub ends_at : (contents : Contents) (board : List ℕ) (fault : ImageFault) → OnRefused (Stops contents board) fault
+pub ends_at : (contents : Contents) (board : List ℕ) (fault : ImageFault) → OnRefused (StopsReading contents board) fault
     → (s : Stop) → OnRefused (λ file cause. OnEnded s (λ said. said ≡ stopped file cause)) fault → (fault ≡ NoMemory → s ≡ stop.NoMemory) → OnEnded s (EndsAt contents board)
 ends_at contents board (Refused file cause) stops s told memory =
     on_stop (λ said. said ≡ stopped file cause) (EndsAt contents board) s (λ said is. record { file = file; cause = cause; stops = stops; told = is }) told
@@ -57,7 +57,7 @@ counted_at old new failed NoMemory counted s told memory = nothing (IsCountedSai
 
 -- what follows a board that was read
 pub opens : (contents : Contents) (board : List ℕ) (next : Image → Said → Type 0) (image : Image) → IsImage contents board image → IsAdmitted image
-    → (r : Result Told Stop) → OnTold r (next image) → OnTold r (Opens contents board next)
+    → (r : Result Ending Stop) → OnTold r (next image) → OnTold r (Opens contents board next)
 opens contents board next image is admitted r h = on_told (next image) (Opens contents board next) r (λ said rest. inr (image, is, admitted, rest)) h
 
 -- a call that ends at one of the board's files ends so

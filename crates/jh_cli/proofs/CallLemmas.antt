@@ -4,9 +4,9 @@ use Rattle.jh_outside.specs.Count.{Rose}
 use Rattle.jh_outside.specs.Trail.{Ask}
 use Rattle.jh_cli.specs.declared.status.Status.{Status}
 use Rattle.jh_cli.specs.declared.status.Status.TheVariants.{ReadFault, WriteFault, NoMemory}
-use Rattle.jh_cli.specs.declared.told.Told.{Told}
-use Rattle.jh_cli.specs.declared.told.Stop.{Stop}
-use Rattle.jh_cli.specs.declared.told.Stop.TheVariants as stop
+use Rattle.jh_cli.specs.declared.ending.Ending.{Ending}
+use Rattle.jh_cli.specs.declared.ending.Stop.{Stop}
+use Rattle.jh_cli.specs.declared.ending.Stop.TheVariants as stop
 use Rattle.jh_cli.specs.Words.{Asked}
 use Rattle.jh_cli.specs.Lines.{number_of}
 use Rattle.jh_cli.specs.Reading.{Said, Contents}
@@ -54,7 +54,7 @@ module _ {S K : Type 0} (contents : S → Contents) (failed : S → List ℕ) (f
   }
 
   -- what a command told, or where it ended, was sent
-  pub finished_call : GoodAreAnswered → (asked : Option Asked) (s t : S) (k l : K) (r : Result Told Stop) (status : Status)
+  pub finished_call : GoodAreAnswered → (asked : Option Asked) (s t : S) (k l : K) (r : Result Ending Stop) (status : Status)
       → OnTold r (Outcome (contents s) asked) → OnTold r (IsCounted (faults s) (faults t) (failed t)) → OnTold r (IsReadFor one failed (contents s) asked s t)
       → OnTold r (λ said. Sent (written k) (written l) said status) → OnTold r (λ said. status ≡ WriteFault → said.status ≢ WriteFault → Rose (sink_faults k) (sink_faults l))
       → (r ≡ Err stop.NoMemory → (status ≡ NoMemory) × (written l ≡ written k))

@@ -33,7 +33,7 @@ use Rattle.jh_audit.specs.declared.verdict.Verdict.{Verdict}
 use Rattle.jh_audit.specs.declared.verdict.Verdict.TheVariants.{Legal, Illegal}
 use Rattle.jh_image.specs.declared.fault.ImageCause.{ImageCause}
 use Rattle.jh_image.specs.declared.fault.ImageCause.TheVariants.{ReadFault as CantBeRead}
-use Rattle.jh_image.specs.Causes.{Stops}
+use Rattle.jh_image.specs.Causes.{StopsReading}
 use Rattle.jh_image.specs.Images.{IsImage}
 use Rattle.jh_image.specs.Laws.{AreTold as AreAllTold}
 use Rattle.jh_run.specs.Maps.{Maps}
@@ -76,7 +76,7 @@ abbrev pub OneImage : Type 0
 OneImage = (contents : Contents) (board : List ℕ) (one other : Image) → AreAllTold contents → IsImage contents board one → IsImage contents board other → one ≡ other
 
 abbrev pub BoardsAreUnrefused : Type 0
-BoardsAreUnrefused = (contents : Contents) (board file : List ℕ) (image : Image) (cause : ImageCause) → AreAllTold contents → IsImage contents board image → Stops contents board file cause → cause ≡ CantBeRead
+BoardsAreUnrefused = (contents : Contents) (board file : List ℕ) (image : Image) (cause : ImageCause) → AreAllTold contents → IsImage contents board image → StopsReading contents board file cause → cause ≡ CantBeRead
 
 -- ---- one file
 

@@ -7,8 +7,8 @@ use Rattle.jh_text.specs.Faults.{IsFirstBadLine, IsTooLong, IsFault}
 use Rattle.jh_text.specs.FaultText.{fault_text}
 use Rattle.jh_cli.specs.Limits.{most_of_a_journal}
 use Rattle.jh_cli.specs.declared.status.Status.TheVariants.{Refused}
-use Rattle.jh_cli.specs.declared.told.Stop.{Stop}
-use Rattle.jh_cli.specs.declared.told.Stop.TheVariants as stop
+use Rattle.jh_cli.specs.declared.ending.Stop.{Stop}
+use Rattle.jh_cli.specs.declared.ending.Stop.TheVariants as stop
 use Rattle.jh_cli.specs.Lines.{refusal_line}
 use Rattle.jh_cli.specs.Reading.{Contents, Said, StopsAt}
 use Rattle.jh_cli.specs.Audit.{JournalRefusal}

@@ -9,9 +9,9 @@ use Rattle.jh_image.specs.declared.fault.ImageFault.{ImageFault}
 use Rattle.jh_image.specs.declared.fault.ImageFault.TheVariants.{Refused, NoMemory}
 use Rattle.jh_image.specs.Causes.{OnRefused}
 use Rattle.jh_image.specs.Order.{board_files, ask_for as ask_at, AsksBoard, AsksBoardUntil, until_the_board, until_a_file}
-use Rattle.jh_cli.specs.declared.told.Told.{Told}
-use Rattle.jh_cli.specs.declared.told.Stop.{Stop}
-use Rattle.jh_cli.specs.declared.told.Stop.TheVariants as stop
+use Rattle.jh_cli.specs.declared.ending.Ending.{Ending}
+use Rattle.jh_cli.specs.declared.ending.Stop.{Stop}
+use Rattle.jh_cli.specs.declared.ending.Stop.TheVariants as stop
 use Rattle.jh_cli.specs.declared.status.Status.{Status}
 use Rattle.jh_cli.specs.declared.status.Status.TheVariants as status
 use Rattle.jh_cli.specs.Reading.{Contents, Said}
@@ -83,11 +83,11 @@ module _ {S : Type 0} (one : S → Ask → S → Type 0) (failed : S → List �
   reads_behind before names s t u asked said (inr stops) = inr (stops.0, until-behind one failed s t u before names (ask_for said.status) asked stops.1)
 
   pub file_behind : (name : List ℕ) (names : List (List ℕ)) (s t u : S) → AsksAll one failed (name ∷ []) s t
-      → (r : Result Told Stop) → OnTold r (ReadsIn one failed names t u) → OnTold r (ReadsIn one failed (name ∷ names) s u)
+      → (r : Result Ending Stop) → OnTold r (ReadsIn one failed names t u) → OnTold r (ReadsIn one failed (name ∷ names) s u)
   file_behind name names s t u asked r h = on_told (ReadsIn one failed names t u) (ReadsIn one failed (name ∷ names) s u) r (reads_behind (name ∷ []) names s t u asked) h
 
   pub board_behind : (contents : Contents) (board : List ℕ) (names : List (List ℕ)) (s t u : S) → AsksBoard one failed contents board s t
-      → (r : Result Told Stop) → OnTold r (ReadsIn one failed names t u) → OnTold r (ReadsBoard one failed contents board names s u)
+      → (r : Result Ending Stop) → OnTold r (ReadsIn one failed names t u) → OnTold r (ReadsBoard one failed contents board names s u)
   board_behind contents board names s t u opened r h =
       on_told (ReadsIn one failed names t u) (ReadsBoard one failed contents board names s u) r
       (λ said reads. what_it_lists opened.listing opened.lists (reads_behind (board_files board opened.listing) names s t u opened.all said reads)) h

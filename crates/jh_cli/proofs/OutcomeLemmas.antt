@@ -7,7 +7,7 @@ use Rattle.jh_history.specs.declared.entry.Entry.{Entry}
 use Rattle.jh_history.specs.Items.{items}
 use Rattle.jh_image.specs.declared.fault.ImageCause.{ImageCause}
 use Rattle.jh_image.specs.declared.fault.ImageCause.TheVariants.{ReadFault as CantBeRead}
-use Rattle.jh_image.specs.Causes.{Stops}
+use Rattle.jh_image.specs.Causes.{StopsReading}
 use Rattle.jh_image.specs.Laws.{AreTold as AreAllTold}
 use Rattle.jh_run.specs.Maps.{IsMapsText, Maps}
 use Rattle.jh_cli.specs.declared.status.Status.TheVariants.{Good, ReadFault}
@@ -29,8 +29,8 @@ use Rattle.jh_cli.proofs.OneLemmas.{OneCell, OneSystem, OneJournal, NotBoth, One
 -- ---- boards
 
 abbrev pub OneCause : Type 0
-OneCause = (contents : Contents) (board file other : List ℕ) (cause more : ImageCause) → AreAllTold contents → Stops contents board file cause → cause ≢ CantBeRead
-    → Stops contents board other more → more ≢ CantBeRead → (cause ≡ more) × (file ≡ other)
+OneCause = (contents : Contents) (board file other : List ℕ) (cause more : ImageCause) → AreAllTold contents → StopsReading contents board file cause → cause ≢ CantBeRead
+    → StopsReading contents board other more → more ≢ CantBeRead → (cause ≡ more) × (file ≡ other)
 
 is_unread : (file : List ℕ) (cause : ImageCause) (said : Said) → said ≡ stopped file cause → IsRead said → cause ≢ CantBeRead
 is_unread file cause said is read fault = read (ap (λ (s : Said). s.status) is ∙ ap (λ (c : ImageCause). (stopped file c).status) fault)

@@ -3,10 +3,10 @@ use Rattle.std.proofs.Common.{◌≡◌, ◌≤◌, List, ℕ, inl, inr, Result,
 use Rattle.std.specs.Prelude.{IfSome, IsErrAnd}
 use Rattle.jh_outside.specs.Count.{Rose}
 use Rattle.jh_outside.specs.Reads.{HandsOut}
-use Rattle.jh_cli.specs.declared.told.Told.{Told}
+use Rattle.jh_cli.specs.declared.ending.Ending.{Ending}
 use Rattle.jh_cli.specs.declared.status.Status.TheVariants.{Refused}
-use Rattle.jh_cli.specs.declared.told.Stop.{Stop}
-use Rattle.jh_cli.specs.declared.told.Stop.TheVariants.{Ended, NoMemory}
+use Rattle.jh_cli.specs.declared.ending.Stop.{Stop}
+use Rattle.jh_cli.specs.declared.ending.Stop.TheVariants.{Ended, NoMemory}
 use Rattle.jh_cli.specs.Lines.{refusal_line}
 use Rattle.jh_cli.specs.Reading.{Contents, Said, SpellsAt, StopsAt, ReadsAt}
 use Rattle.jh_cli.specs.Stopped.{OnEnded, OnTold, said_of, IsCounted}
@@ -33,18 +33,18 @@ pub stops_more : (most : ℕ) (contents : Contents) (name : List ℕ) (Why Other
 stops_more most contents name Why Other more stop h = on_stop (StopsAt most contents name Why) (StopsAt most contents name Other) stop (stopped_more most contents name Why Other more) h
 
 -- what is said carries over
-pub on_told : (P Q : Said → Type 0) (r : Result Told Stop) → ((said : Said) → P said → Q said) → OnTold r P → OnTold r Q
+pub on_told : (P Q : Said → Type 0) (r : Result Ending Stop) → ((said : Said) → P said → Q said) → OnTold r P → OnTold r Q
 on_told P Q (Ok told) f h = f (said_of told) h
 on_told P Q (Err stop) f h = on_stop P Q stop f h
 
 -- what is said of a stop is told where it is passed up
-pub told_up : (P : Said → Type 0) (r : Result Told Stop) (stop : Stop) → IsErrAnd r (λ passed. passed ≡ stop) → OnEnded stop P → OnTold r P
+pub told_up : (P : Said → Type 0) (r : Result Ending Stop) (stop : Stop) → IsErrAnd r (λ passed. passed ≡ stop) → OnEnded stop P → OnTold r P
 told_up P (Ok told) stop is h = absurd is
 told_up P (Err passed) stop is h = subst (λ (s : Stop). OnEnded s P) (sym is) h
 
 -- what follows a file that was read
 pub goes_on : {A : Type 0} (most : ℕ) (contents : Contents) (name : List ℕ) (Why : List ℕ → List ℕ → Type 0) (Form : List ℕ → A → Type 0) (next : A → Said → Type 0) (value : A) → SpellsAt most contents name Form value
-    → (r : Result Told Stop) → OnTold r (next value) → OnTold r (ReadsAt most contents name Why Form next)
+    → (r : Result Ending Stop) → OnTold r (next value) → OnTold r (ReadsAt most contents name Why Form next)
 goes_on most contents name Why Form next value spells r h = on_told (next value) (ReadsAt most contents name Why Form next) r (λ said rest. inr (value, spells, rest)) h
 
 -- the count that rose behind a read rose in both
@@ -52,7 +52,7 @@ rose_behind : (old mid new : ℕ) → old ≤ mid → Rose mid new → Rose old 
 rose_behind old mid new le (inl more) = inl (omega arith)
 rose_behind old mid new le (inr full) = inr full
 
-pub counted_behind : (old mid new : ℕ) (failed : List ℕ) → old ≤ mid → (r : Result Told Stop) → OnTold r (IsCounted mid new failed) → OnTold r (IsCounted old new failed)
+pub counted_behind : (old mid new : ℕ) (failed : List ℕ) → old ≤ mid → (r : Result Ending Stop) → OnTold r (IsCounted mid new failed) → OnTold r (IsCounted old new failed)
 counted_behind old mid new failed le r h =
     on_told (IsCounted mid new failed) (IsCounted old new failed) r (λ said counted is. let both = counted is in (rose_behind old mid new le both.0, both.1)) h
 

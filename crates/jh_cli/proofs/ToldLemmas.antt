@@ -16,7 +16,7 @@ use Rattle.jh_image.specs.declared.fault.ImageCause.{ImageCause}
 use Rattle.jh_image.specs.declared.fault.ImageCause.TheVariants.{ReadFault, Oversize, Json, Member, System, Findings, PoolSmall, Preload as BadPreload, Program as BadProgram}
 use Rattle.jh_image.specs.Files.{Contents, max_file_size, HasBytes, IsOversize, Lists, SpellsSystem, IsPreloadOf, IsProgramOf, Preloads, no_preloads, one_more_preload, Programs, no_programs, one_more_program}
 use Rattle.jh_image.specs.Images.{HasSystem, IsReady, IsNextPreload, HasPreloads, IsNextProgram, MakesImage, Comes, the_board, the_system, a_preload, a_program, IsImage}
-use Rattle.jh_image.specs.Causes.{IsBadBoard, Stops}
+use Rattle.jh_image.specs.Causes.{IsBadBoard, StopsReading}
 use Rattle.jh_image.specs.Order.{preload_name, program_name}
 use Rattle.jh_image.specs.Laws.{AreTold as AreAllTold}
 use Rattle.jh_cli.specs.Complete.{AreTold, IsBoardTold}
@@ -174,7 +174,7 @@ module _ (contents : Contents) where
     bad_board : (file : List ℕ) (fault : BoardFault) → IsBadBoard contents board file fault → IsBadBoard (all_told contents) board file fault
     bad_board file fault h = record { file_is = h.file_is; bytes = h.bytes; has = has board h.bytes at_board h.has; told = h.told }
 
-    pub stops : (file : List ℕ) (cause : ImageCause) → Stops contents board file cause → Stops (all_told contents) board file cause
+    pub stops : (file : List ℕ) (cause : ImageCause) → StopsReading contents board file cause → StopsReading (all_told contents) board file cause
     stops file ReadFault h = comes file h
     stops file Oversize h = (comes file h.0, oversize file (at_turn file h.0) h.1)
     stops file Json h = bad_board file _ h

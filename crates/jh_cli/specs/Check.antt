@@ -15,7 +15,7 @@ use Rattle.jh_check.specs.declared.finding.Finding.{Finding}
 use Rattle.jh_check.specs.Findings.{findings}
 use Rattle.jh_check.specs.Lists.{capped, is_any}
 use Rattle.jh_check.specs.Texts.{finding_text}
-use Rattle.jh_cli.specs.Reading.{Said, Contents, Spells, Stops, Reads, IsOversize}
+use Rattle.jh_cli.specs.Reading.{Said, Contents, Spells, StopsAtFile, Reads, IsOversize}
 use Rattle.jh_cli.specs.declared.status.Status.{Status}
 use Rattle.jh_cli.specs.declared.status.Status.TheVariants.{Good, Found}
 use Rattle.jh_cli.specs.Limits.{most_of_a_file}
@@ -67,7 +67,7 @@ pub record StopsAmong (contents : Contents) (names : List (List ℕ)) (said : Sa
   pub split : names ≡ before ++ name ∷ rest
   pub cells : List CellConfig
   pub spelled : SpellCells contents before cells
-  pub stops : Stops contents name CellRefusal said
+  pub stops : StopsAtFile contents name CellRefusal said
 
 -- a line for each finding, and their number
 abbrev pub findings_text : List Finding → List ℕ

@@ -27,8 +27,8 @@ pub record IsRefused (most : ℕ) (contents : Contents) (name : List ℕ) (Why :
 abbrev pub StopsAt : ℕ → Contents → List ℕ → (List ℕ → List ℕ → Type 0) → Said → Type 0
 StopsAt most contents name Why said = (said ≡ record { status = ReadFault; text = fault_line name }) ⊎ IsRefused most contents name Why said
 
-abbrev pub Stops : Contents → List ℕ → (List ℕ → List ℕ → Type 0) → Said → Type 0
-Stops contents name Why said = StopsAt most_of_a_file contents name Why said
+abbrev pub StopsAtFile : Contents → List ℕ → (List ℕ → List ℕ → Type 0) → Said → Type 0
+StopsAtFile contents name Why said = StopsAt most_of_a_file contents name Why said
 
 module _ {A : Type 0} where
   -- the file hands out bytes that spell this value, where so many are asked

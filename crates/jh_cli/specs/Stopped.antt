@@ -1,15 +1,15 @@
 -- What a step of a play says of the files and of how it stopped.
 use Rattle.std.specs.Prelude.{◌≡◌, ℕ, ⊤, List, Result, Ok, Err}
 use Rattle.jh_outside.specs.Count.{Rose}
-use Rattle.jh_cli.specs.declared.told.Told.{Told}
-use Rattle.jh_cli.specs.declared.told.Stop.{Stop}
-use Rattle.jh_cli.specs.declared.told.Stop.TheVariants.{Ended, NoMemory}
+use Rattle.jh_cli.specs.declared.ending.Ending.{Ending}
+use Rattle.jh_cli.specs.declared.ending.Stop.{Stop}
+use Rattle.jh_cli.specs.declared.ending.Stop.TheVariants.{Ended, NoMemory}
 use Rattle.jh_cli.specs.declared.status.Status.TheVariants.{ReadFault}
 use Rattle.jh_cli.specs.Lines.{fault_line}
 use Rattle.jh_cli.specs.Reading.{Said}
 
 -- the status and the text that are told
-abbrev pub said_of : Told → Said
+abbrev pub said_of : Ending → Said
 said_of told = record { status = told.status; text = told.text.items }
 
 -- a fact of what is told, where the stop isn't for want of memory
@@ -18,7 +18,7 @@ OnEnded (Ended told) P = P (said_of told)
 OnEnded NoMemory P = ⊤
 
 -- a fact of what a command tells, where it ends at a file too; for want of memory nothing is told
-abbrev pub OnTold : Result Told Stop → (Said → Type 0) → Type 0
+abbrev pub OnTold : Result Ending Stop → (Said → Type 0) → Type 0
 OnTold (Ok told) P = P (said_of told)
 OnTold (Err stop) P = OnEnded stop P
 

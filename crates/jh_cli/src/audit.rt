@@ -12,9 +12,9 @@ ghost use Rattle.jh_cli.specs.Audit.{IsJournalFile, JournalRefusal, IsAudited, A
 ghost use Rattle.jh_cli.specs.Stopped.{said_of, OnEnded, OnTold, IsCounted};
 
 use crate::boards::open;
+use crate::ending::{Ending, Stop, read_below, refused_for};
 use crate::limits::MOST_OF_A_JOURNAL;
 use crate::status::Status;
-use crate::told::{Stop, Told, read_below, refused_for};
 use jh_audit::{Verdict, audit as audit_journal};
 use jh_history::{Entry, Journal};
 use jh_num::NoMemory;
@@ -92,20 +92,25 @@ fn due_text(alloc: Global, line: u32, entry: &Entry) -> Result<Vec<u8>, NoMemory
 }
 
 /// Judges the journal by the image, and tells the verdict.
-fn tell_verdict(alloc: Global, image: Image, journal: &Journal) -> Result<Told, NoMemory>
+fn tell_verdict(alloc: Global, image: Image, journal: &Journal) -> Result<Ending, NoMemory>
     requires admitted { IsAdmitted image }
     requires few { length journal.now.entries ≤ journal_limit }
     ensures { IfOk result (λ told. IsAudited image journal.now.entries (said_of told)) }
 {
     let verdict = audit_journal(alloc, image, journal)?;
-    Ok(Told {
+    Ok(Ending {
         status: status_of(&verdict),
         text: verdict_text(alloc, journal.len(), &verdict)?,
     })
 }
 
 /// Reads the journal, and judges it by the image.
-fn audit_by<F: Files>(alloc: Global, files: &mut F, image: Image, name: &str) -> Result<Told, Stop>
+fn audit_by<F: Files>(
+    alloc: Global,
+    files: &mut F,
+    image: Image,
+    name: &str,
+) -> Result<Ending, Stop>
     requires admitted { IsAdmitted image }
     ensures ends { OnTold result (AuditsBy (F.contents files.old) name.now image) }
     ensures counted { OnTold result (IsCounted (F.faults files.old) (F.faults files.new) (F.failed files.new)) }
@@ -116,7 +121,12 @@ fn audit_by<F: Files>(alloc: Global, files: &mut F, image: Image, name: &str) ->
 }
 
 /// Reads the board and the journal, and judges the one by the other.
-pub fn audit<F: Files>(alloc: Global, files: &mut F, board: &str, name: &str) -> Result<Told, Stop>
+pub fn audit<F: Files>(
+    alloc: Global,
+    files: &mut F,
+    board: &str,
+    name: &str,
+) -> Result<Ending, Stop>
     ensures ends { OnTold result (Audits (F.contents files.old) board.now name.now) }
     ensures counted { OnTold result (IsCounted (F.faults files.old) (F.faults files.new) (F.failed files.new)) }
     ensures asked { OnTold result (ReadsBoard F.asks F.failed (F.contents files.old) board.now (name.now ∷ []) files.old files.new) }

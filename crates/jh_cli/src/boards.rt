@@ -9,7 +9,7 @@ ghost use Rattle.jh_cli.specs.Order.{ReadsBoard};
 ghost use Rattle.jh_cli.specs.Boards.{stopped, EndsAt};
 ghost use Rattle.jh_cli.specs.Stopped.{OnEnded, IsCounted};
 
-use crate::told::{Stop, faulted, refused};
+use crate::ending::{Stop, faulted, refused};
 use jh_image::{ImageCause, ImageFault, cause_text, read_image};
 use jh_num::NoMemory;
 use jh_outside::Files;

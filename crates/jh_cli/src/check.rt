@@ -5,13 +5,13 @@ ghost use Rattle.jh_check.specs.Lists.{capped};
 ghost use Rattle.jh_check.specs.Texts.{finding_text};
 ghost use Rattle.jh_outside.specs.Trail.{AsksAll};
 ghost use Rattle.jh_cli.specs.Order.{StopsIn, ReadsIn};
-ghost use Rattle.jh_cli.specs.Reading.{Spells, Stops};
+ghost use Rattle.jh_cli.specs.Reading.{Spells, StopsAtFile};
 ghost use Rattle.jh_cli.specs.Check.{IsCellFile, CellRefusal, IsSystemFile, SystemRefusal, SpellCells, StopsAmong, ChecksCells, Checks, checked, checked_status, findings_text as findings_text_lem};
 ghost use Rattle.jh_cli.specs.Stopped.{said_of, OnEnded, OnTold, IsCounted};
 
+use crate::ending::{Ending, Stop, read_below, refused_for};
 use crate::limits::MOST;
 use crate::status::Status;
-use crate::told::{Stop, Told, read_below, refused_for};
 use jh_cellcfg::{CellConfig, ConfigFault, SystemConfig, read_cell};
 use jh_check::{Finding, check as check_all};
 use jh_num::{NoMemory, Seq};
@@ -22,7 +22,7 @@ use std::alloc::Global;
 /// The cell in the file of this name.
 fn cell<F: Files>(alloc: Global, files: &mut F, name: &str) -> Result<CellConfig, Stop>
     ensures ok { IfOk result (Spells (F.contents files.old) name.now IsCellFile) }
-    ensures err { IfErr result (λ stop. OnEnded stop (Stops (F.contents files.old) name.now CellRefusal)) }
+    ensures err { IfErr result (λ stop. OnEnded stop (StopsAtFile (F.contents files.old) name.now CellRefusal)) }
     ensures counted { IfErr result (λ stop. OnEnded stop (IsCounted (F.faults files.old) (F.faults files.new) (F.failed files.new))) }
     ensures never_falls { F.faults files.old ≤ F.faults files.new }
     ensures kept { F.contents files.new ≡ F.contents files.old }
@@ -40,7 +40,7 @@ fn cell<F: Files>(alloc: Global, files: &mut F, name: &str) -> Result<CellConfig
 /// The system in the file of this name.
 fn system<F: Files>(alloc: Global, files: &mut F, name: &str) -> Result<SystemConfig, Stop>
     ensures ok { IfOk result (Spells (F.contents files.old) name.now IsSystemFile) }
-    ensures err { IfErr result (λ stop. OnEnded stop (Stops (F.contents files.old) name.now SystemRefusal)) }
+    ensures err { IfErr result (λ stop. OnEnded stop (StopsAtFile (F.contents files.old) name.now SystemRefusal)) }
     ensures counted { IfErr result (λ stop. OnEnded stop (IsCounted (F.faults files.old) (F.faults files.new) (F.failed files.new))) }
     ensures never_falls { F.faults files.old ≤ F.faults files.new }
     ensures kept { F.contents files.new ≡ F.contents files.old }
@@ -92,7 +92,7 @@ fn tell_findings(
     alloc: Global,
     system: &SystemConfig,
     cells: &[CellConfig],
-) -> Result<Told, NoMemory>
+) -> Result<Ending, NoMemory>
     requires { length cells.now ≤ 15 }
     ensures { IfOk result (λ told. said_of told ≡ checked system.now cells.now) }
 {
@@ -103,7 +103,7 @@ fn tell_findings(
     } else {
         Status::Found
     };
-    Ok(Told { status, text })
+    Ok(Ending { status, text })
 }
 
 /// Reads the cells, and checks them with the system.
@@ -112,7 +112,7 @@ fn check_cells<F: Files>(
     files: &mut F,
     system: &SystemConfig,
     names: &[String],
-) -> Result<Told, Stop>
+) -> Result<Ending, Stop>
     requires { length names.now ≤ 15 }
     ensures ends { OnTold result (ChecksCells (F.contents files.old) (map string_bytes names.now) system.now) }
     ensures counted { OnTold result (IsCounted (F.faults files.old) (F.faults files.new) (F.failed files.new)) }
@@ -128,7 +128,7 @@ pub fn check<F: Files>(
     files: &mut F,
     system_name: &str,
     names: &[String],
-) -> Result<Told, Stop>
+) -> Result<Ending, Stop>
     requires { length names.now ≤ 15 }
     ensures ends { OnTold result (Checks (F.contents files.old) system_name.now (map string_bytes names.now)) }
     ensures counted { OnTold result (IsCounted (F.faults files.old) (F.faults files.new) (F.failed files.new)) }

@@ -5,6 +5,7 @@ mod audit;
 mod boards;
 mod check;
 mod command;
+mod ending;
 mod laws;
 mod limits;
 mod lines;
@@ -19,7 +20,6 @@ mod status;
 mod tell;
 #[cfg(test)]
 mod tests;
-mod told;
 mod top;
 
 pub use command::{Command, command_of};

@@ -7,10 +7,10 @@ ghost use Rattle.jh_cli.specs.Map.{IsMapped, MapsBy, MapsOf};
 ghost use Rattle.jh_cli.specs.Stopped.{said_of, OnTold, IsCounted};
 
 use crate::boards::open;
+use crate::ending::{Ending, Stop};
 use crate::limits::JOURNAL_LIMIT;
 use crate::schedule::schedule;
 use crate::status::Status;
-use crate::told::{Stop, Told};
 use jh_num::NoMemory;
 use jh_outside::Files;
 use jh_run::map as map_board;
@@ -18,17 +18,17 @@ use jh_script::Image;
 use std::alloc::Global;
 
 /// Makes the items of the schedule, and tells the maps of the cells that live then.
-fn render(alloc: Global, image: Image, cpus: &[u8]) -> Result<Told, NoMemory>
+fn render(alloc: Global, image: Image, cpus: &[u8]) -> Result<Ending, NoMemory>
     requires admitted { IsAdmitted image }
     requires cpus { All (λ cpu. IsTrue (is_on_board image cpu)) cpus.now }
     ensures { IfOk result (λ told. IsMapped image cpus.now (said_of told)) }
 {
     match map_board(alloc, image, cpus, JOURNAL_LIMIT)? {
-        Some(text) => Ok(Told {
+        Some(text) => Ok(Ending {
             status: Status::Good,
             text: text.into_vec(),
         }),
-        None => Ok(Told {
+        None => Ok(Ending {
             status: Status::Full,
             text: Vec::new(alloc),
         }),
@@ -36,7 +36,7 @@ fn render(alloc: Global, image: Image, cpus: &[u8]) -> Result<Told, NoMemory>
 }
 
 /// Reads the schedule, and tells the maps after it.
-fn map_by<F: Files>(alloc: Global, files: &mut F, image: Image, items: &str) -> Result<Told, Stop>
+fn map_by<F: Files>(alloc: Global, files: &mut F, image: Image, items: &str) -> Result<Ending, Stop>
     requires admitted { IsAdmitted image }
     ensures ends { OnTold result (MapsBy (F.contents files.old) items.now image) }
     ensures counted { OnTold result (IsCounted (F.faults files.old) (F.faults files.new) (F.failed files.new)) }
@@ -47,7 +47,7 @@ fn map_by<F: Files>(alloc: Global, files: &mut F, image: Image, items: &str) -> 
 }
 
 /// Reads the board, and tells the maps after the schedule.
-pub fn map<F: Files>(alloc: Global, files: &mut F, board: &str, items: &str) -> Result<Told, Stop>
+pub fn map<F: Files>(alloc: Global, files: &mut F, board: &str, items: &str) -> Result<Ending, Stop>
     ensures ends { OnTold result (MapsOf (F.contents files.old) board.now items.now) }
     ensures counted { OnTold result (IsCounted (F.faults files.old) (F.faults files.new) (F.failed files.new)) }
     ensures asked { OnTold result (ReadsBoard F.asks F.failed (F.contents files.old) board.now (items.now ∷ []) files.old files.new) }

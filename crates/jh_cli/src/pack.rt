@@ -3,13 +3,13 @@ ghost use Rattle.std.specs.Prelude.{◌≡◌, ◌≤◌, ◌++◌, codes, IfOk,
 ghost use Rattle.jh_spec.specs.Specs.{MayBeWritten};
 ghost use Rattle.jh_outside.specs.Trail.{AsksAll};
 ghost use Rattle.jh_cli.specs.Order.{StopsIn, ReadsIn};
-ghost use Rattle.jh_cli.specs.Reading.{Spells, Stops};
+ghost use Rattle.jh_cli.specs.Reading.{Spells, StopsAtFile};
 ghost use Rattle.jh_cli.specs.Pack.{IsSpecFile, SpecRefusal, Packs, packed};
 ghost use Rattle.jh_cli.specs.Stopped.{said_of, OnEnded, OnTold, IsCounted};
 
+use crate::ending::{Ending, Stop, read_below, refused};
 use crate::limits::MOST;
 use crate::status::Status;
-use crate::told::{Stop, Told, read_below, refused};
 use jh_cellcfg::write_cell;
 use jh_num::NoMemory;
 use jh_outside::Files;
@@ -31,7 +31,7 @@ fn member_words(alloc: Global, member: &[u8]) -> Result<Vec<u8>, NoMemory>
 fn spec<F: Files>(alloc: Global, files: &mut F, name: &str) -> Result<Spec, Stop>
     ensures ok { IfOk result (Spells (F.contents files.old) name.now IsSpecFile) }
     ensures limits { IfOk result MayBeWritten }
-    ensures err { IfErr result (λ stop. OnEnded stop (Stops (F.contents files.old) name.now SpecRefusal)) }
+    ensures err { IfErr result (λ stop. OnEnded stop (StopsAtFile (F.contents files.old) name.now SpecRefusal)) }
     ensures counted { IfErr result (λ stop. OnEnded stop (IsCounted (F.faults files.old) (F.faults files.new) (F.failed files.new))) }
     ensures never_falls { F.faults files.old ≤ F.faults files.new }
     ensures asked { OnOk result (AsksAll F.asks F.failed (name.now ∷ []) files.old files.new) }
@@ -61,13 +61,13 @@ fn written(alloc: Global, spec: &Spec) -> Result<Vec<u8>, NoMemory>
 }
 
 /// Reads the SPEC, and tells its configuration's bytes.
-pub fn pack<F: Files>(alloc: Global, files: &mut F, name: &str) -> Result<Told, Stop>
+pub fn pack<F: Files>(alloc: Global, files: &mut F, name: &str) -> Result<Ending, Stop>
     ensures ends { OnTold result (Packs (F.contents files.old) name.now) }
     ensures counted { OnTold result (IsCounted (F.faults files.old) (F.faults files.new) (F.failed files.new)) }
     ensures asked { OnTold result (ReadsIn F.asks F.failed (name.now ∷ []) files.old files.new) }
 {
     let spec = spec(alloc, files, name)?;
-    Ok(Told {
+    Ok(Ending {
         status: Status::Good,
         text: written(alloc, &spec)?,
     })

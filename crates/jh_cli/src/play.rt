@@ -8,10 +8,10 @@ ghost use Rattle.jh_cli.specs.Play.{IsPlayed, played_status, PlaysBy, Plays};
 ghost use Rattle.jh_cli.specs.Stopped.{said_of, OnTold, IsCounted};
 
 use crate::boards::open;
+use crate::ending::{Ending, Stop};
 use crate::limits::JOURNAL_LIMIT;
 use crate::schedule::schedule;
 use crate::status::Status;
-use crate::told::{Stop, Told};
 use jh_num::NoMemory;
 use jh_outside::Files;
 use jh_run::{Ended, play as play_board};
@@ -30,21 +30,26 @@ pub fn status_of(ended: Ended) -> Status
 }
 
 /// Plays the image, and tells its journal.
-fn render(alloc: Global, image: Image, cpus: &[u8]) -> Result<Told, NoMemory>
+fn render(alloc: Global, image: Image, cpus: &[u8]) -> Result<Ending, NoMemory>
     requires admitted { IsAdmitted image }
     requires cpus { All (λ cpu. IsTrue (is_on_board image cpu)) cpus.now }
     ensures { IfOk result (λ told. IsPlayed image cpus.now (said_of told)) }
 {
     let (board, ended) = play_board(alloc, image, cpus, JOURNAL_LIMIT)?;
     let text = print_journal(alloc, board.journal())?;
-    Ok(Told {
+    Ok(Ending {
         status: status_of(ended),
         text,
     })
 }
 
 /// Reads the schedule, and plays the image by it.
-fn play_by<F: Files>(alloc: Global, files: &mut F, image: Image, items: &str) -> Result<Told, Stop>
+fn play_by<F: Files>(
+    alloc: Global,
+    files: &mut F,
+    image: Image,
+    items: &str,
+) -> Result<Ending, Stop>
     requires admitted { IsAdmitted image }
     ensures ends { OnTold result (PlaysBy (F.contents files.old) items.now image) }
     ensures counted { OnTold result (IsCounted (F.faults files.old) (F.faults files.new) (F.failed files.new)) }
@@ -55,7 +60,12 @@ fn play_by<F: Files>(alloc: Global, files: &mut F, image: Image, items: &str) ->
 }
 
 /// Reads the board, and plays it by the schedule.
-pub fn play<F: Files>(alloc: Global, files: &mut F, board: &str, items: &str) -> Result<Told, Stop>
+pub fn play<F: Files>(
+    alloc: Global,
+    files: &mut F,
+    board: &str,
+    items: &str,
+) -> Result<Ending, Stop>
     ensures ends { OnTold result (Plays (F.contents files.old) board.now items.now) }
     ensures counted { OnTold result (IsCounted (F.faults files.old) (F.faults files.new) (F.failed files.new)) }
     ensures asked { OnTold result (ReadsBoard F.asks F.failed (F.contents files.old) board.now (items.now ∷ []) files.old files.new) }

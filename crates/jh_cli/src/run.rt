@@ -6,9 +6,9 @@ ghost use Rattle.jh_cli.specs.Run.{IsRan, Runs};
 ghost use Rattle.jh_cli.specs.Stopped.{said_of, OnTold, IsCounted};
 
 use crate::boards::open;
+use crate::ending::{Ending, Stop};
 use crate::limits::JOURNAL_LIMIT;
 use crate::play::status_of;
-use crate::told::{Stop, Told};
 use jh_num::NoMemory;
 use jh_outside::{Files, Gate};
 use jh_run::run as run_board;
@@ -24,13 +24,13 @@ fn render<R: Threads + Wait + Sync, G: Gate + Sync>(
     alloc: Global,
     image: Image,
     gate: &G,
-) -> Result<Told, NoMemory>
+) -> Result<Ending, NoMemory>
     requires { IsAdmitted image }
     ensures { IfOk result (λ told. IsRan image (said_of told)) }
 {
     let (board, ended) = run_board(rt, alloc, image, gate, JOURNAL_LIMIT)?;
     let text = print_journal(alloc, board.journal())?;
-    Ok(Told {
+    Ok(Ending {
         status: status_of(ended),
         text,
     })
@@ -43,7 +43,7 @@ pub fn run<R: Threads + Wait + Sync, F: Files, G: Gate + Sync>(
     files: &mut F,
     board: &str,
     gate: &G,
-) -> Result<Told, Stop>
+) -> Result<Ending, Stop>
     ensures ends { OnTold result (Runs (F.contents files.old) board.now) }
     ensures counted { OnTold result (IsCounted (F.faults files.old) (F.faults files.new) (F.failed files.new)) }
     ensures asked { OnTold result (ReadsBoard F.asks F.failed (F.contents files.old) board.now [] files.old files.new) }

@@ -3,12 +3,12 @@ ghost use Rattle.std.specs.Prelude.{◌≡◌, ◌≤◌, ◌<◌, ℕ, All, IsT
 ghost use Rattle.jh_history.specs.Lives.{is_on_board as is_on_board_lem};
 ghost use Rattle.jh_outside.specs.Trail.{AsksAll};
 ghost use Rattle.jh_cli.specs.Order.{StopsIn};
-ghost use Rattle.jh_cli.specs.Reading.{Spells, Stops};
+ghost use Rattle.jh_cli.specs.Reading.{Spells, StopsAtFile};
 ghost use Rattle.jh_cli.specs.Play.{AreCpus, IsSchedule, ScheduleRefusal};
 ghost use Rattle.jh_cli.specs.Stopped.{OnEnded, IsCounted};
 
+use crate::ending::{Stop, read_below, refused_for};
 use crate::limits::MOST;
-use crate::told::{Stop, read_below, refused_for};
 use jh_history::is_on_board;
 use jh_num::Seq;
 use jh_outside::Files;
@@ -37,7 +37,7 @@ pub fn schedule<F: Files>(
 ) -> Result<Seq<u8>, Stop>
     ensures ok { IfOk result (Spells (F.contents files.old) name.now (IsSchedule image.now)) }
     ensures present { IfOk result (All (λ cpu. IsTrue (is_on_board_lem image.now cpu))) }
-    ensures err { IfErr result (λ stop. OnEnded stop (Stops (F.contents files.old) name.now (ScheduleRefusal image.now))) }
+    ensures err { IfErr result (λ stop. OnEnded stop (StopsAtFile (F.contents files.old) name.now (ScheduleRefusal image.now))) }
     ensures counted { IfErr result (λ stop. OnEnded stop (IsCounted (F.faults files.old) (F.faults files.new) (F.failed files.new))) }
     ensures never_falls { F.faults files.old ≤ F.faults files.new }
     ensures kept { F.contents files.new ≡ F.contents files.old }

@@ -4,12 +4,12 @@ ghost use Rattle.jh_outside.specs.Count.{Rose};
 ghost use Rattle.jh_cli.specs.Outcome.{Sent};
 ghost use Rattle.jh_cli.specs.Stopped.{said_of, OnTold};
 
+use crate::ending::{Ending, Stop};
 use crate::status::Status;
-use crate::told::{Stop, Told};
 use jh_outside::{Sink, write_all};
 
 /// Writes the text, and answers the status, or that the sink failed. It takes no memory.
-fn send<K: Sink>(out: &mut K, told: &Told) -> Status
+fn send<K: Sink>(out: &mut K, told: &Ending) -> Status
     ensures sent { Sent (K.written out.old) (K.written out.new) (said_of told.now) result }
     ensures fault { result ≡ Status.WriteFault → told.now.status ≢ Status.WriteFault → Rose (K.faults out.old) (K.faults out.new) }
 {
@@ -20,7 +20,7 @@ fn send<K: Sink>(out: &mut K, told: &Told) -> Status
 }
 
 /// Writes what a command told, or where it ended; for want of memory nothing.
-pub fn finish<K: Sink>(out: &mut K, told: Result<Told, Stop>) -> Status
+pub fn finish<K: Sink>(out: &mut K, told: Result<Ending, Stop>) -> Status
     ensures sent { OnTold told (λ said. Sent (K.written out.old) (K.written out.new) said result) }
     ensures fault { OnTold told (λ said. result ≡ Status.WriteFault → said.status ≢ Status.WriteFault → Rose (K.faults out.old) (K.faults out.new)) }
     ensures memory { told ≡ Err Stop.NoMemory → (result ≡ Status.NoMemory) × (K.written out.new ≡ K.written out.old) }

@@ -3,11 +3,11 @@ ghost use Rattle.std.specs.Prelude.{◌≡◌, ◌≤◌, ◌&&◌, nat_le, Some
 ghost use Rattle.jh_cli.specs.Soak.{TellsRounds, summary_line as summary_line_lem, IsSoaked, Soaks};
 ghost use Rattle.jh_cli.specs.Stopped.{said_of, OnTold};
 
+use crate::ending::{Ending, Stop};
 use crate::limits::JOURNAL_LIMIT;
 use crate::lines::rounds_line;
 use crate::play::status_of;
 use crate::status::Status;
-use crate::told::{Stop, Told};
 use jh_num::NoMemory;
 use jh_outside::Gate;
 use jh_run::{MAX_ROUNDS, Summary, run, soak_image, summary_of};
@@ -62,7 +62,7 @@ fn render<R: Threads + Wait + Sync, G: Gate + Sync>(
     alloc: Global,
     rounds: u32,
     gate: &G,
-) -> Result<Told, NoMemory>
+) -> Result<Ending, NoMemory>
     requires least { 1 ≤ rounds }
     requires most { rounds ≤ 400 }
     ensures { IfOk result (λ told. IsSoaked rounds (said_of told)) }
@@ -70,7 +70,7 @@ fn render<R: Threads + Wait + Sync, G: Gate + Sync>(
     let image = soak_image(alloc, rounds)?;
     let (board, ended) = run(rt, alloc, image, gate, JOURNAL_LIMIT)?;
     let summary = summary_of(board.journal());
-    Ok(Told {
+    Ok(Ending {
         status: status_of(ended),
         text: summary_line(alloc, &summary)?,
     })
@@ -82,12 +82,12 @@ pub fn soak<R: Threads + Wait + Sync, G: Gate + Sync>(
     alloc: Global,
     word: &str,
     gate: &G,
-) -> Result<Told, Stop>
+) -> Result<Ending, Stop>
     ensures { OnTold result (Soaks word.now) }
 {
     match read_rounds(alloc, word)? {
         Some(rounds) => Ok(render(rt, alloc, rounds, gate)?),
-        None => Ok(Told {
+        None => Ok(Ending {
             status: Status::Refused,
             text: rounds_line(alloc)?,
         }),

@@ -8,17 +8,17 @@ ghost use Rattle.jh_cli.specs.Stopped.{OnTold, IsCounted};
 use crate::audit::audit;
 use crate::check::check;
 use crate::command::{Command, command_of};
+use crate::ending::{Ending, Stop};
 use crate::lines::usage_line;
 use crate::map::map;
 use crate::pack::pack;
 use crate::play::play;
 use crate::status::Status;
-use crate::told::{Stop, Told};
 use jh_outside::Files;
 use std::alloc::Global;
 
 /// Does what the command asks for, which isn't `run` or `soak`.
-fn obey<F: Files>(alloc: Global, command: Command<'_>, files: &mut F) -> Result<Told, Stop>
+fn obey<F: Files>(alloc: Global, command: Command<'_>, files: &mut F) -> Result<Ending, Stop>
     requires few { HasFewCells command }
     requires serial { IsSerial (Some (asked_by command)) }
     ensures ends { OnTold result (Outcome (F.contents files.old) (Some (asked_by command.entry))) }
@@ -36,7 +36,7 @@ fn obey<F: Files>(alloc: Global, command: Command<'_>, files: &mut F) -> Result<
 }
 
 /// What the words ask for, whose command isn't `run` or `soak`.
-pub fn tell<F: Files>(alloc: Global, words: &[String], files: &mut F) -> Result<Told, Stop>
+pub fn tell<F: Files>(alloc: Global, words: &[String], files: &mut F) -> Result<Ending, Stop>
     requires { IsSerial (command_of_lem (map string_bytes words.now)) }
     ensures outcome { OnTold result (Outcome (F.contents files.old) (command_of_lem (map string_bytes words.now))) }
     ensures counted { OnTold result (IsCounted (F.faults files.old) (F.faults files.new) (F.failed files.new)) }
@@ -44,7 +44,7 @@ pub fn tell<F: Files>(alloc: Global, words: &[String], files: &mut F) -> Result<
 {
     match command_of(words) {
         Some(command) => obey(alloc, command, files),
-        None => Ok(Told {
+        None => Ok(Ending {
             status: Status::Usage,
             text: usage_line(alloc)?,
         }),

@@ -22,11 +22,11 @@ use Rattle.jh_image.specs.declared.board.ProgramFile.{ProgramFile}
 use Rattle.jh_image.specs.declared.fault.ImageCause.{ImageCause}
 use Rattle.jh_image.specs.declared.fault.ImageCause.TheVariants.{ReadFault, Oversize, Json, Member, System, Findings, PoolSmall, Preload as BadPreload, Program as BadProgram}
 use Rattle.jh_spec.specs.Json.{IsText}
-use Rattle.jh_image.specs.Boards.{board_told, Tells}
+use Rattle.jh_image.specs.Boards.{board_told, IsListingAnswer}
 use Rattle.jh_image.specs.Opening.{IsFit}
 use Rattle.jh_image.specs.Files.{Contents, HasBytes, IsOversize, Lists, IsPreloadOf, IsProgramOf, Preloads, Programs}
 use Rattle.jh_image.specs.Images.{HasSystem, IsReady, IsNextPreload, HasPreloads, IsNextProgram, MakesImage, Comes, the_board, the_system, a_preload, a_program}
-use Rattle.jh_image.specs.Causes.{IsBadBoard, IsBadSystem, HasFindings, IsSmall, IsBadPreload, IsBadProgram, Stops}
+use Rattle.jh_image.specs.Causes.{IsBadBoard, IsBadSystem, HasFindings, IsSmall, IsBadPreload, IsBadProgram, StopsReading}
 use Rattle.jh_image.specs.Laws.{AreTold}
 use Rattle.jh_image.proofs.OneLemmas.{OneSpelling, bytes-one, text-one, listing-one, system-one, preload-one, preloads-one, programs-one}
 use Rattle.jh_image.proofs.UnrefusedLemmas.{SpellingsAreFaultless, preload-at, program-at, not-oversize, ok-err, board-faultless, system-faultless, system-clean, system-roomy}
@@ -71,7 +71,7 @@ data AtBoard (contents : Contents) (board file : List ℕ) : ImageCause → Type
   large_board : file ≡ board → IsOversize contents board → AtBoard contents board file Oversize
   bad_board : (fault : BoardFault) → IsFault fault → IsBadBoard contents board file fault → AtBoard contents board file (cause_of fault)
 
-err-one : (bytes : List ℕ) (one other : BoardFault) → IsFault one → IsFault other → Tells bytes (Err one) → Tells bytes (Err other) → one ≡ other
+err-one : (bytes : List ℕ) (one other : BoardFault) → IsFault one → IsFault other → IsListingAnswer bytes (Err one) → IsListingAnswer bytes (Err other) → one ≡ other
 err-one bytes boards.Json boards.Json is more h k = refl
 err-one bytes boards.Json (boards.Member name) is more h k =
     let same : Err boards.Json ≡ Err (boards.Member name) = sym (h k.0 k.1) ∙ k.2 in
@@ -91,7 +91,7 @@ board-same contents board file other cause more told (large_board is over) (bad_
 board-same contents board file other cause more told (bad_board fault faulty bad) (large_board is over) = absurd (not-oversize contents board bad.bytes told bad.has over)
 board-same contents board file other cause more told (bad_board one faulty bad) (bad_board two faulty_too worse) =
     let bytes : bad.bytes ≡ worse.bytes = bytes-one contents board bad.bytes worse.bytes told bad.has.handed worse.has.handed in
-    let fault : one ≡ two = err-one worse.bytes one two faulty faulty_too (subst (λ b. Tells b (Err one)) bytes bad.told) worse.told in
+    let fault : one ≡ two = err-one worse.bytes one two faulty faulty_too (subst (λ b. IsListingAnswer b (Err one)) bytes bad.told) worse.told in
     record { same_cause = ap cause_of fault; same_file = bad.file_is ∙ sym worse.file_is }
 
 not-board : (contents : Contents) (board file : List ℕ) (cause : ImageCause) (listing : Listing) → AreTold contents → AtBoard contents board file cause → Lists contents board listing → ⊥
@@ -387,7 +387,7 @@ bad-program contents board file fault h =
       stops = bad_program fault h.bytes (subst (λ f. HasBytes contents f h.bytes) h.file_is h.has) h.told h.file_is;
     }
 
-stage-of : (contents : Contents) (board file : List ℕ) (cause : ImageCause) → cause ≢ ReadFault → Stops contents board file cause → Stage contents board file cause
+stage-of : (contents : Contents) (board file : List ℕ) (cause : ImageCause) → cause ≢ ReadFault → StopsReading contents board file cause → Stage contents board file cause
 stage-of contents board file ReadFault ne h = absurd (ne refl)
 stage-of contents board file Oversize ne h = came-oversize contents board file h.0 h.1
 stage-of contents board file Json ne h = inl (bad_board boards.Json tt h)
@@ -459,7 +459,7 @@ stages-same spelling faultless contents board file other cause more told (inr on
 stages-same spelling faultless contents board file other cause more told (inr one) (inr two) = from-system spelling faultless contents board file other cause more told one two
 
 pub causes-one : OneSpelling → SpellingsAreFaultless → (contents : Contents) (board file other : List ℕ) (cause more : ImageCause) → AreTold contents
-    → Stops contents board file cause → cause ≢ ReadFault → Stops contents board other more → more ≢ ReadFault → (cause ≡ more) × (file ≡ other)
+    → StopsReading contents board file cause → cause ≢ ReadFault → StopsReading contents board other more → more ≢ ReadFault → (cause ≡ more) × (file ≡ other)
 causes-one spelling faultless contents board file other cause more told h ne k ne_too =
     let one = stages-same spelling faultless contents board file other cause more told (stage-of contents board file cause ne h) (stage-of contents board other more ne_too k) in
     (one.same_cause, one.same_file)

@@ -15,7 +15,7 @@ use Rattle.jh_image.specs.declared.board.BoardFault.{BoardFault}
 use Rattle.jh_image.specs.declared.board.PreloadFile.{PreloadFile}
 use Rattle.jh_image.specs.declared.board.ProgramFile.{ProgramFile}
 use Rattle.jh_spec.specs.Json.{IsText}
-use Rattle.jh_image.specs.Boards.{board_told, Tells}
+use Rattle.jh_image.specs.Boards.{board_told, IsListingAnswer}
 use Rattle.jh_image.specs.Files.{max_file_size, Contents, Hands, Lists, SpellsSystem, IsPreloadOf, IsProgramOf, Preloads, no_preloads, one_more_preload, Programs, no_programs, one_more_program}
 use Rattle.jh_image.specs.Images.{HasSystem, MakesImage, IsImage}
 use Rattle.jh_image.specs.Laws.{AreTold}
@@ -39,19 +39,19 @@ bytes-one contents name one other told h k = hands-one (contents name) (max_file
 pub text-one : (bytes : List ℕ) (one other : Data) → IsText bytes one → IsText bytes other → one ≡ other
 text-one bytes one other h k = let same : Some one ≡ Some other = sym h.value ∙ k.value in cc
 
-pub listing-told : (bytes : List ℕ) (listing : Listing) → Tells bytes (Ok listing) → (d : Data) → IsText bytes d → board_told d ≡ Ok listing
+pub listing-told : (bytes : List ℕ) (listing : Listing) → IsListingAnswer bytes (Ok listing) → (d : Data) → IsText bytes d → board_told d ≡ Ok listing
 listing-told bytes listing h d text = ap board_told (text-one bytes d h.0 text h.1) ∙ h.2
 
 ok-one : (told : Result Listing BoardFault) (one other : Listing) → told ≡ Ok one → told ≡ Ok other → one ≡ other
 ok-one told one other h k = cc
 
-tells-one : (bytes : List ℕ) (one other : Listing) → Tells bytes (Ok one) → Tells bytes (Ok other) → one ≡ other
+tells-one : (bytes : List ℕ) (one other : Listing) → IsListingAnswer bytes (Ok one) → IsListingAnswer bytes (Ok other) → one ≡ other
 tells-one bytes one other h k = ok-one (board_told k.0) one other (listing-told bytes one h k.0 k.1) k.2
 
 pub listing-one : (contents : Contents) (board : List ℕ) (one other : Listing) → AreTold contents → Lists contents board one → Lists contents board other → one ≡ other
 listing-one contents board one other told h k =
     let same : h.bytes ≡ k.bytes = bytes-one contents board h.bytes k.bytes told h.has.handed k.has.handed in
-    tells-one k.bytes one other (subst (λ bytes. Tells bytes (Ok one)) same h.told) k.told
+    tells-one k.bytes one other (subst (λ bytes. IsListingAnswer bytes (Ok one)) same h.told) k.told
 
 -- ---- the system
 

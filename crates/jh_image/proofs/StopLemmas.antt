@@ -14,10 +14,10 @@ use Rattle.jh_image.specs.declared.fault.ImageCause.{ImageCause}
 use Rattle.jh_image.specs.declared.fault.ImageCause.TheVariants.{ReadFault, Oversize, Json, Member, Findings, PoolSmall, Program as BadProgram}
 use Rattle.jh_image.specs.declared.fault.ImageFault.{ImageFault}
 use Rattle.jh_image.specs.declared.fault.ImageFault.TheVariants.{Refused, NoMemory}
-use Rattle.jh_image.specs.Boards.{Tells}
+use Rattle.jh_image.specs.Boards.{IsListingAnswer}
 use Rattle.jh_image.specs.Files.{Contents, HasBytes}
 use Rattle.jh_image.specs.Images.{HasSystem, IsNextProgram, Comes, a_program}
-use Rattle.jh_image.specs.Causes.{IsBadBoard, Stops, OnRefused, IsCountedAt, IsCounted, IsUnread, IsRefusal, IsBoardRefusal, IsUnsound, IsPoolSmall, IsProgramUnread}
+use Rattle.jh_image.specs.Causes.{IsBadBoard, StopsReading, OnRefused, IsCountedAt, IsCounted, HandsOutNothing, IsRefusal, IsBoardRefusal, IsUnsound, IsPoolSmall, IsProgramUnread}
 
 -- an error that is passed up
 pub passed_up : {X E : Type 0} (r : Result X E) (e : E) (P : E → Type 0) → IsErrAnd r (λ y. y ≡ e) → P e → IfErr r P
@@ -34,34 +34,34 @@ on_refused P Q (Refused file cause) f h = f file cause h
 on_refused P Q NoMemory f h = tt
 
 -- a file whose turn comes, and that can't be read or is too large
-pub unread-stops : (contents : Contents) (board name : List ℕ) → Comes contents board name → (file : List ℕ) (cause : ImageCause) → IsUnread contents name file cause → Stops contents board file cause
+pub unread-stops : (contents : Contents) (board name : List ℕ) → Comes contents board name → (file : List ℕ) (cause : ImageCause) → HandsOutNothing contents name file cause → StopsReading contents board file cause
 unread-stops contents board name comes file ReadFault h = subst (λ f. Comes contents board f) (sym h) comes
-unread-stops contents board name comes file Oversize h = subst (λ f. Stops contents board f Oversize) (sym h.0) (comes, h.1)
+unread-stops contents board name comes file Oversize h = subst (λ f. StopsReading contents board f Oversize) (sym h.0) (comes, h.1)
 unread-stops contents board name comes file _ h = absurd h
 
-refusal-stops : (contents : Contents) (board file : List ℕ) (wanted cause : ImageCause) → IsRefusal board wanted file cause → Stops contents board board wanted → Stops contents board file cause
-refusal-stops contents board file wanted cause h stops = subst (λ f. Stops contents board f cause) (sym h.0) (subst (λ k. Stops contents board board k) (sym h.1) stops)
+refusal-stops : (contents : Contents) (board file : List ℕ) (wanted cause : ImageCause) → IsRefusal board wanted file cause → StopsReading contents board board wanted → StopsReading contents board file cause
+refusal-stops contents board file wanted cause h stops = subst (λ f. StopsReading contents board f cause) (sym h.0) (subst (λ k. StopsReading contents board board k) (sym h.1) stops)
 
-bad-board : (contents : Contents) (board bytes : List ℕ) → HasBytes contents board bytes → (fault : BoardFault) → Tells bytes (Err fault) → IsBadBoard contents board board fault
+bad-board : (contents : Contents) (board bytes : List ℕ) → HasBytes contents board bytes → (fault : BoardFault) → IsListingAnswer bytes (Err fault) → IsBadBoard contents board board fault
 bad-board contents board bytes has fault told = record { file_is = refl; bytes = bytes; has = has; told = told }
 
 -- a board whose bytes are refused
-pub board-stops : (contents : Contents) (board bytes : List ℕ) → HasBytes contents board bytes → (fault : BoardFault) → Tells bytes (Err fault) → (file : List ℕ) (cause : ImageCause) → IsBoardRefusal board fault file cause → Stops contents board file cause
+pub board-stops : (contents : Contents) (board bytes : List ℕ) → HasBytes contents board bytes → (fault : BoardFault) → IsListingAnswer bytes (Err fault) → (file : List ℕ) (cause : ImageCause) → IsBoardRefusal board fault file cause → StopsReading contents board file cause
 board-stops contents board bytes has boards.Json told file cause h = refusal-stops contents board file Json cause h (bad-board contents board bytes has boards.Json told)
 board-stops contents board bytes has (boards.Member name) told file cause h = refusal-stops contents board file (Member name) cause h (bad-board contents board bytes has (boards.Member name) told)
 board-stops contents board bytes has boards.NoMemory told file cause h = absurd h
 
 -- a system that isn't admitted
-pub unsound-stops : (contents : Contents) (board : List ℕ) (listing : Listing) (system : SystemConfig) → HasSystem contents board listing system → (file : List ℕ) (cause : ImageCause) → IsUnsound board listing.system system file cause → Stops contents board file cause
+pub unsound-stops : (contents : Contents) (board : List ℕ) (listing : Listing) (system : SystemConfig) → HasSystem contents board listing system → (file : List ℕ) (cause : ImageCause) → IsUnsound board listing.system system file cause → StopsReading contents board file cause
 unsound-stops contents board listing system has file (Findings found) h = record { listing = listing; system = system; has = has; file_is = h.0; found_are = h.1; some = h.2 }
 unsound-stops contents board listing system has file (PoolSmall need have) h = record { listing = listing; system = system; has = has; clean = h.1; file_is = h.0; need_is = h.2; have_is = h.3; few = h.4 }
 unsound-stops contents board listing system has file _ h = absurd h
 
 -- a program whose turn comes, and that can't be read or is none
 pub program-stops : (contents : Contents) (board : List ℕ) (listing : Listing) (system : SystemConfig) (preloads : List Preload) (programs : List Program) (entry : ProgramFile) → IsNextProgram contents board listing system preloads programs entry
-    → (file : List ℕ) (cause : ImageCause) → IsProgramUnread contents entry.file file cause → Stops contents board file cause
+    → (file : List ℕ) (cause : ImageCause) → IsProgramUnread contents entry.file file cause → StopsReading contents board file cause
 program-stops contents board listing system preloads programs entry next file ReadFault h = subst (λ f. Comes contents board f) (sym h) (a_program listing system preloads programs entry next)
-program-stops contents board listing system preloads programs entry next file Oversize h = subst (λ f. Stops contents board f Oversize) (sym h.0) (a_program listing system preloads programs entry next, h.1)
+program-stops contents board listing system preloads programs entry next file Oversize h = subst (λ f. StopsReading contents board f Oversize) (sym h.0) (a_program listing system preloads programs entry next, h.1)
 program-stops contents board listing system preloads programs entry next file (BadProgram fault) h = record {
   listing = listing;
   system = system;

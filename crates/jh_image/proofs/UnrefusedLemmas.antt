@@ -24,11 +24,11 @@ use Rattle.jh_image.specs.declared.board.PreloadFile.{PreloadFile}
 use Rattle.jh_image.specs.declared.board.ProgramFile.{ProgramFile}
 use Rattle.jh_image.specs.declared.fault.ImageCause.{ImageCause}
 use Rattle.jh_image.specs.declared.fault.ImageCause.TheVariants.{ReadFault, Oversize, Json, Member, System, Findings, PoolSmall, Preload as BadPreload, Program as BadProgram}
-use Rattle.jh_image.specs.Boards.{board_told, Tells}
+use Rattle.jh_image.specs.Boards.{board_told, IsListingAnswer}
 use Rattle.jh_image.specs.Opening.{IsFit}
 use Rattle.jh_image.specs.Files.{Contents, Hands, HasBytes, IsOversize, Lists, IsPreloadOf, IsProgramOf, Preloads, no_preloads, one_more_preload, Programs, no_programs, one_more_program}
 use Rattle.jh_image.specs.Images.{HasSystem, MakesImage, Comes, the_board, the_system, a_preload, a_program, IsImage}
-use Rattle.jh_image.specs.Causes.{IsBadBoard, IsBadSystem, IsSmall, IsBadPreload, IsBadProgram, Stops}
+use Rattle.jh_image.specs.Causes.{IsBadBoard, IsBadSystem, IsSmall, IsBadPreload, IsBadProgram, StopsReading}
 use Rattle.jh_image.specs.Laws.{AreTold}
 use Rattle.jh_image.proofs.OneLemmas.{OneSpelling, bytes-one, listing-told, listing-one, system-one, preload-one, preloads-one, makes-one}
 
@@ -133,7 +133,7 @@ pub ok-err : {X E : Type 0} (r : Result X E) (x : X) (e : E) → r ≡ Ok x → 
 ok-err r x e h k = let same : r ≡ Ok x = h in cc
 
 -- what tells a listing has no fault
-told-faultless : (bytes : List ℕ) (listing : Listing) → Tells bytes (Ok listing) → (fault : BoardFault) → Tells bytes (Err fault) → fault ≡ boards.NoMemory
+told-faultless : (bytes : List ℕ) (listing : Listing) → IsListingAnswer bytes (Ok listing) → (fault : BoardFault) → IsListingAnswer bytes (Err fault) → fault ≡ boards.NoMemory
 told-faultless bytes listing h boards.Json k = absurd (ok-err (board_told h.0) listing boards.Json h.2 (k h.0 h.1))
 told-faultless bytes listing h (boards.Member name) k = absurd (ok-err (board_told k.0) listing (boards.Member name) (listing-told bytes listing h k.0 k.1) k.2)
 told-faultless bytes listing h boards.NoMemory k = refl
@@ -141,7 +141,7 @@ told-faultless bytes listing h boards.NoMemory k = refl
 pub board-faultless : (contents : Contents) (board file : List ℕ) (listing : Listing) (fault : BoardFault) → AreTold contents → Lists contents board listing → IsBadBoard contents board file fault → fault ≡ boards.NoMemory
 board-faultless contents board file listing fault told lists bad =
     let same : lists.bytes ≡ bad.bytes = bytes-one contents board lists.bytes bad.bytes told lists.has.handed bad.has.handed in
-    told-faultless bad.bytes listing (subst (λ bytes. Tells bytes (Ok listing)) same lists.told) fault bad.told
+    told-faultless bad.bytes listing (subst (λ bytes. IsListingAnswer bytes (Ok listing)) same lists.told) fault bad.told
 
 pub system-faultless : SpellingsAreFaultless → (contents : Contents) (board file : List ℕ) (listing : Listing) (system : SystemConfig) (fault : ConfigFault) → AreTold contents → HasSystem contents board listing system → IsBadSystem contents board file fault → ⊥
 system-faultless faultless contents board file listing system fault told has bad =
@@ -185,7 +185,7 @@ program-faultless contents board file listing image fault told makes bad =
 
 -- ---- all of them
 
-pub unrefused : OneSpelling → SpellingsAreFaultless → (contents : Contents) (board file : List ℕ) (image : Image) (cause : ImageCause) → AreTold contents → IsImage contents board image → Stops contents board file cause → cause ≡ ReadFault
+pub unrefused : OneSpelling → SpellingsAreFaultless → (contents : Contents) (board file : List ℕ) (image : Image) (cause : ImageCause) → AreTold contents → IsImage contents board image → StopsReading contents board file cause → cause ≡ ReadFault
 unrefused spelling faultless contents board file image ReadFault told is h = refl
 unrefused spelling faultless contents board file image Oversize told is h =
     let has = came contents board is.listing image told is.makes file h.0 in

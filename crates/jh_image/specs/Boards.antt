@@ -129,24 +129,24 @@ abbrev pub board_told : Data → Result Listing BoardFault
 board_told d = if is_some (as_object d) then object_told d else Err Json
 
 -- an answer is the one that is wanted, or want of memory
-abbrev pub Answers : {X : Type 0} → Result X BoardFault → Result X BoardFault → Type 0
-Answers wanted (Ok x) = wanted ≡ Ok x
-Answers wanted (Err NoMemory) = ⊤
-Answers wanted (Err Json) = wanted ≡ Err Json
-Answers wanted (Err (Member name)) = wanted ≡ Err (Member name)
+abbrev pub IsWantedAnswer : {X : Type 0} → Result X BoardFault → Result X BoardFault → Type 0
+IsWantedAnswer wanted (Ok x) = wanted ≡ Ok x
+IsWantedAnswer wanted (Err NoMemory) = ⊤
+IsWantedAnswer wanted (Err Json) = wanted ≡ Err Json
+IsWantedAnswer wanted (Err (Member name)) = wanted ≡ Err (Member name)
 
 -- why no object was read: the bytes are no object's text, or memory ran out
-abbrev pub IsUnread : List ℕ → BoardFault → Type 0
-IsUnread bytes Json = (d : Data) → IsText bytes d → board_told d ≡ Err Json
-IsUnread bytes (Member name) = ⊥
-IsUnread bytes NoMemory = ⊤
+abbrev pub IsNoObject : List ℕ → BoardFault → Type 0
+IsNoObject bytes Json = (d : Data) → IsText bytes d → board_told d ≡ Err Json
+IsNoObject bytes (Member name) = ⊥
+IsNoObject bytes NoMemory = ⊤
 
 -- what is answered to these bytes: what their value tells, or that they are no object's text
-abbrev pub Tells : List ℕ → Result Listing BoardFault → Type 0
-Tells bytes (Ok listing) = (d : Data) × IsText bytes d × (board_told d ≡ Ok listing)
-Tells bytes (Err Json) = (d : Data) → IsText bytes d → board_told d ≡ Err Json
-Tells bytes (Err (Member name)) = (d : Data) × IsText bytes d × (board_told d ≡ Err (Member name))
-Tells bytes (Err NoMemory) = ⊤
+abbrev pub IsListingAnswer : List ℕ → Result Listing BoardFault → Type 0
+IsListingAnswer bytes (Ok listing) = (d : Data) × IsText bytes d × (board_told d ≡ Ok listing)
+IsListingAnswer bytes (Err Json) = (d : Data) → IsText bytes d → board_told d ≡ Err Json
+IsListingAnswer bytes (Err (Member name)) = (d : Data) × IsText bytes d × (board_told d ≡ Err (Member name))
+IsListingAnswer bytes (Err NoMemory) = ⊤
 
 -- an error is the fault of the member of this name, or want of memory
 abbrev pub IsFaultOf : List ℕ → BoardFault → Type 0

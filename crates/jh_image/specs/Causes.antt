@@ -22,7 +22,7 @@ use Rattle.jh_image.specs.declared.fault.ImageCause.{ImageCause}
 use Rattle.jh_image.specs.declared.fault.ImageCause.TheVariants.{ReadFault, Oversize, Json, Member, System, Findings, PoolSmall, Preload as BadPreload, Program as BadProgram}
 use Rattle.jh_image.specs.declared.fault.ImageFault.{ImageFault}
 use Rattle.jh_image.specs.declared.fault.ImageFault.TheVariants.{Refused, NoMemory}
-use Rattle.jh_image.specs.Boards.{Tells}
+use Rattle.jh_image.specs.Boards.{IsListingAnswer}
 use Rattle.jh_image.specs.Opening.{IsFit}
 use Rattle.jh_image.specs.Files.{Contents, HasBytes, IsOversize, IsPreloadOf, Lists}
 use Rattle.jh_image.specs.Images.{HasSystem, IsNextPreload, IsNextProgram, MakesImage, Comes, IsImage}
@@ -32,7 +32,7 @@ pub record IsBadBoard (contents : Contents) (board file : List ℕ) (fault : Boa
   pub file_is : file ≡ board
   pub bytes : List ℕ
   pub has : HasBytes contents board bytes
-  pub told : Tells bytes (Err fault)
+  pub told : IsListingAnswer bytes (Err fault)
 
 -- the file is the system's, and its bytes have this first fault
 pub record IsBadSystem (contents : Contents) (board file : List ℕ) (fault : ConfigFault) : Type 0 where
@@ -91,16 +91,16 @@ pub record IsBadProgram (contents : Contents) (board file : List ℕ) (fault : S
 
 -- reading the board stops at this file, for this cause; which of the files that are read could not be read only
 -- the files know
-abbrev pub Stops : Contents → List ℕ → List ℕ → ImageCause → Type 0
-Stops contents board file ReadFault = Comes contents board file
-Stops contents board file Oversize = Comes contents board file × IsOversize contents file
-Stops contents board file Json = IsBadBoard contents board file boards.Json
-Stops contents board file (Member name) = IsBadBoard contents board file (boards.Member name)
-Stops contents board file (System fault) = IsBadSystem contents board file fault
-Stops contents board file (Findings found) = HasFindings contents board file found
-Stops contents board file (PoolSmall need have) = IsSmall contents board file need have
-Stops contents board file (BadPreload number) = IsBadPreload contents board file number
-Stops contents board file (BadProgram fault) = IsBadProgram contents board file fault
+abbrev pub StopsReading : Contents → List ℕ → List ℕ → ImageCause → Type 0
+StopsReading contents board file ReadFault = Comes contents board file
+StopsReading contents board file Oversize = Comes contents board file × IsOversize contents file
+StopsReading contents board file Json = IsBadBoard contents board file boards.Json
+StopsReading contents board file (Member name) = IsBadBoard contents board file (boards.Member name)
+StopsReading contents board file (System fault) = IsBadSystem contents board file fault
+StopsReading contents board file (Findings found) = HasFindings contents board file found
+StopsReading contents board file (PoolSmall need have) = IsSmall contents board file need have
+StopsReading contents board file (BadPreload number) = IsBadPreload contents board file number
+StopsReading contents board file (BadProgram fault) = IsBadProgram contents board file fault
 
 -- a fact of the file and the cause, unless memory ran out
 abbrev pub OnRefused : (List ℕ → ImageCause → Type 0) → ImageFault → Type 0
@@ -108,9 +108,9 @@ OnRefused P (Refused file cause) = P file cause
 OnRefused P NoMemory = ⊤
 
 -- what is answered: the image that the files make, or the first cause why there is none
-abbrev pub Answers : Contents → List ℕ → Result Image ImageFault → Type 0
-Answers contents board (Ok image) = IsImage contents board image
-Answers contents board (Err fault) = OnRefused (Stops contents board) fault
+abbrev pub IsImageAnswer : Contents → List ℕ → Result Image ImageFault → Type 0
+IsImageAnswer contents board (Ok image) = IsImage contents board image
+IsImageAnswer contents board (Err fault) = OnRefused (StopsReading contents board) fault
 
 -- that a file can't be read is answered only where the count of faults rose, and the file is the one of the last
 -- read that failed
@@ -122,10 +122,10 @@ abbrev pub IsCounted : ℕ → ℕ → List ℕ → ImageFault → Type 0
 IsCounted old new failed fault = OnRefused (IsCountedAt old new failed) fault
 
 -- why a file hands out nothing to go on with
-abbrev pub IsUnread : Contents → List ℕ → List ℕ → ImageCause → Type 0
-IsUnread contents name file ReadFault = file ≡ name
-IsUnread contents name file Oversize = (file ≡ name) × IsOversize contents name
-IsUnread contents name file _ = ⊥
+abbrev pub HandsOutNothing : Contents → List ℕ → List ℕ → ImageCause → Type 0
+HandsOutNothing contents name file ReadFault = file ≡ name
+HandsOutNothing contents name file Oversize = (file ≡ name) × IsOversize contents name
+HandsOutNothing contents name file _ = ⊥
 
 -- the file and the cause are these
 abbrev pub IsRefusal : List ℕ → ImageCause → List ℕ → ImageCause → Type 0

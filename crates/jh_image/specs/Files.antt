@@ -10,7 +10,7 @@ use Rattle.jh_script.specs.Programs.{program_of}
 use Rattle.jh_image.specs.declared.board.Listing.{Listing}
 use Rattle.jh_image.specs.declared.board.PreloadFile.{PreloadFile}
 use Rattle.jh_image.specs.declared.board.ProgramFile.{ProgramFile}
-use Rattle.jh_image.specs.Boards.{Tells}
+use Rattle.jh_image.specs.Boards.{IsListingAnswer}
 use Rattle.jh_image.specs.Opening.{IsFit}
 
 -- what files tell of each name
@@ -40,7 +40,7 @@ pub record IsOversize (contents : Contents) (name : List ℕ) : Type 0 where
 pub record Lists (contents : Contents) (board : List ℕ) (listing : Listing) : Type 0 where
   pub bytes : List ℕ
   pub has : HasBytes contents board bytes
-  pub told : Tells bytes (Ok listing)
+  pub told : IsListingAnswer bytes (Ok listing)
 
 -- the file spells this system
 pub record SpellsSystem (contents : Contents) (name : List ℕ) (system : SystemConfig) : Type 0 where

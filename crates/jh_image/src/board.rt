@@ -3,7 +3,7 @@ ghost use Rattle.std.specs.Prelude.{◌≡◌, ◌≤◌, IfOk, IfErr, is_some, 
 ghost use Rattle.serde_json.specs.Find.{as_object};
 ghost use Rattle.serde_json.specs.View.{view};
 ghost use Rattle.jh_spec.specs.Json.{IsText};
-ghost use Rattle.jh_image.specs.Boards.{object_told, Answers, Tells, IsUnread, IsFaultOf, are_distinct, seat_of};
+ghost use Rattle.jh_image.specs.Boards.{object_told, IsWantedAnswer, IsListingAnswer, IsNoObject, IsFaultOf, are_distinct, seat_of};
 ghost use Rattle.jh_image.specs.declared.board.BoardFault.TheVariants.{NoMemory as OutOfMemory};
 
 use crate::file_name::FileName;
@@ -72,7 +72,7 @@ fn fault_of(alloc: Global, name: &str) -> BoardFault
 fn object(alloc: Global, bytes: &[u8]) -> Result<Value, BoardFault>
     ensures text { IfOk result (λ value. IsText bytes.now (view value)) }
     ensures object { IfOk result (λ value. is_some (as_object (view value)) ≡ true) }
-    ensures fault { IfErr result (IsUnread bytes.now) }
+    ensures fault { IfErr result (IsNoObject bytes.now) }
 {
     match Value::from_slice(alloc, bytes) {
         Ok(value) if value.is_object() => Ok(value),
@@ -85,7 +85,7 @@ fn object(alloc: Global, bytes: &[u8]) -> Result<Value, BoardFault>
 /// What an object's members tell.
 #[tactic(auto, unfolding(crate::specs::Boards::object_told))]
 fn members(alloc: Global, object: &Value) -> Result<Listing, BoardFault>
-    ensures told { Answers (object_told (view object.now)) result }
+    ensures told { IsWantedAnswer (object_told (view object.now)) result }
     ensures few { IfOk result (λ listing. length listing.preloads ≤ 64) }
     ensures distinct { IfOk result (λ listing. are_distinct (map seat_of listing.programs) ≡ true) }
 {
@@ -114,7 +114,7 @@ fn members(alloc: Global, object: &Value) -> Result<Listing, BoardFault>
 /// `cpu` and `file`), of which the lists may be missing. The first of these members with a fault
 /// decides, and then the least name, by its bytes, that isn't one of them.
 pub fn read_board(alloc: Global, bytes: &[u8]) -> Result<Listing, BoardFault>
-    ensures told { Tells bytes.now result }
+    ensures told { IsListingAnswer bytes.now result }
     ensures few { IfOk result (λ listing. length listing.preloads ≤ 64) }
     ensures distinct { IfOk result (λ listing. are_distinct (map seat_of listing.programs) ≡ true) }
 {

@@ -8,7 +8,7 @@ ghost use Rattle.jh_image.specs.Files.{Lists, IsPreloadOf, Preloads, Programs};
 ghost use Rattle.jh_outside.specs.Trail.{Asks, AsksAll, AsksUntil, handed};
 ghost use Rattle.jh_image.specs.Order.{ask_for, preload_name, program_name, AsksBoard, AsksBoardUntil};
 ghost use Rattle.jh_image.specs.Images.{IsReady, HasPreloads, IsNextPreload};
-ghost use Rattle.jh_image.specs.Causes.{Stops, OnRefused, Answers, IsCounted};
+ghost use Rattle.jh_image.specs.Causes.{StopsReading, OnRefused, IsImageAnswer, IsCounted};
 
 use crate::admission::check_system;
 use crate::board::{Listing, PreloadFile};
@@ -31,7 +31,7 @@ fn read_ready<F: Files>(
 ) -> Result<SystemConfig, ImageFault>
     requires { Lists (F.contents files.old) board.now listing.now }
     ensures ok { IfOk result (IsReady (F.contents files.old) board.now listing.now) }
-    ensures err { IfErr result (OnRefused (Stops (F.contents files.old) board.now)) }
+    ensures err { IfErr result (OnRefused (StopsReading (F.contents files.old) board.now)) }
     ensures counted { IfErr result (IsCounted (F.faults files.old) (F.faults files.new) (F.failed files.new)) }
     ensures never_falls { F.faults files.old ≤ F.faults files.new }
     ensures kept { F.contents files.new ≡ F.contents files.old }
@@ -56,7 +56,7 @@ fn next_preload<F: Files>(
     requires few { length preloads.now < 64 }
     ensures ok { IfOk result (IsPreloadOf (F.contents files.old) file.now) }
     ensures fit { IfOk result (IsFit system.now.hypervisor_memory preloads.now) }
-    ensures err { IfErr result (OnRefused (Stops (F.contents files.old) board.now)) }
+    ensures err { IfErr result (OnRefused (StopsReading (F.contents files.old) board.now)) }
     ensures counted { IfErr result (IsCounted (F.faults files.old) (F.faults files.new) (F.failed files.new)) }
     ensures never_falls { F.faults files.old ≤ F.faults files.new }
     ensures kept { F.contents files.new ≡ F.contents files.old }
@@ -84,7 +84,7 @@ fn read_preloads<F: Files>(
     ensures ok { IfOk result (Preloads (F.contents files.old) system.now.hypervisor_memory listing.now.preloads) }
     ensures sound { IfOk result (All (IsSoundPreload system.now.hypervisor_memory)) }
     ensures apart { IfOk result (AllPairs IsOtherPreload) }
-    ensures err { IfErr result (OnRefused (Stops (F.contents files.old) board.now)) }
+    ensures err { IfErr result (OnRefused (StopsReading (F.contents files.old) board.now)) }
     ensures counted { IfErr result (IsCounted (F.faults files.old) (F.faults files.new) (F.failed files.new)) }
     ensures never_falls { F.faults files.old ≤ F.faults files.new }
     ensures kept { F.contents files.new ≡ F.contents files.old }
@@ -114,7 +114,7 @@ fn read_programs<F: Files>(
     ensures ok { IfOk result (Programs (F.contents files.old) listing.now.programs) }
     ensures sound { IfOk result (All IsSoundProgram) }
     ensures owned { IfOk result (AllPairs IsOtherProgram) }
-    ensures err { IfErr result (OnRefused (Stops (F.contents files.old) board.now)) }
+    ensures err { IfErr result (OnRefused (StopsReading (F.contents files.old) board.now)) }
     ensures counted { IfErr result (IsCounted (F.faults files.old) (F.faults files.new) (F.failed files.new)) }
     ensures never_falls { F.faults files.old ≤ F.faults files.new }
     ensures kept { F.contents files.new ≡ F.contents files.old }
@@ -133,7 +133,7 @@ fn read_programs<F: Files>(
 /// Reads the board of this name and the files that it names: the system's, then each preload's, then each
 /// program's, and makes the image of them. The first cause decides why there is none.
 pub fn read_image<F: Files>(alloc: Global, files: &mut F, name: &str) -> Result<Image, ImageFault>
-    ensures answers { Answers (F.contents files.old) name.now result }
+    ensures answers { IsImageAnswer (F.contents files.old) name.now result }
     ensures admitted { IfOk result IsAdmitted }
     ensures counted { IfErr result (IsCounted (F.faults files.old) (F.faults files.new) (F.failed files.new)) }
     ensures never_falls { F.faults files.old ≤ F.faults files.new }

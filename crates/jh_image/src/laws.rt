@@ -5,7 +5,7 @@ ghost use Rattle.jh_image.specs.declared.fault.ImageCause.{ImageCause as TheCaus
 ghost use Rattle.jh_image.specs.declared.fault.ImageCause.TheVariants.{ReadFault};
 ghost use Rattle.jh_image.specs.Files.{Contents};
 ghost use Rattle.jh_image.specs.Images.{IsImage};
-ghost use Rattle.jh_image.specs.Causes.{Stops};
+ghost use Rattle.jh_image.specs.Causes.{StopsReading};
 ghost use Rattle.jh_image.specs.Laws.{AreTold};
 
 use jh_script::Image;
@@ -21,7 +21,7 @@ pub fn boards_make_one_image()
 /// Where files tell what they hold and a board makes an image, nothing stops its reading but a file that can't be
 /// read.
 pub fn boards_that_make_an_image_are_not_refused()
-    ensures { (contents : Contents) (board file : List ℕ) (image : TheImage) (cause : TheCause) → AreTold contents → IsImage contents board image → Stops contents board file cause → cause ≡ ReadFault }
+    ensures { (contents : Contents) (board file : List ℕ) (image : TheImage) (cause : TheCause) → AreTold contents → IsImage contents board image → StopsReading contents board file cause → cause ≡ ReadFault }
 {
     one_system_spelling();
     system_has_no_fault();
@@ -31,7 +31,7 @@ pub fn boards_that_make_an_image_are_not_refused()
 /// and it names one file.
 pub fn boards_have_one_cause()
     ensures { (contents : Contents) (board file other : List ℕ) (cause more : TheCause) → AreTold contents
-        → Stops contents board file cause → cause ≢ ReadFault → Stops contents board other more → more ≢ ReadFault
+        → StopsReading contents board file cause → cause ≢ ReadFault → StopsReading contents board other more → more ≢ ReadFault
         → (cause ≡ more) × (file ≡ other) }
 {
     one_system_spelling();

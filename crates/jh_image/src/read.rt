@@ -6,7 +6,7 @@ ghost use Rattle.jh_image.specs.Files.{HasBytes, Lists, SpellsSystem, IsPreloadO
 ghost use Rattle.jh_outside.specs.Trail.{Asks, handed};
 ghost use Rattle.jh_image.specs.Images.{HasSystem};
 ghost use Rattle.jh_image.specs.Order.{ask_for};
-ghost use Rattle.jh_image.specs.Causes.{OnRefused, IsUnread, IsCounted, Stops, IsProgramUnread};
+ghost use Rattle.jh_image.specs.Causes.{OnRefused, HandsOutNothing, IsCounted, StopsReading, IsProgramUnread};
 
 use crate::board::{Listing, PreloadFile, ProgramFile, read_board};
 use crate::fault::{ImageCause, ImageFault};
@@ -28,7 +28,7 @@ pub(crate) fn read_file<F: Files>(
     name: &str,
 ) -> Result<Seq<u8>, ImageFault>
     ensures ok { IfOk result (HasBytes (F.contents files.old) name.now) }
-    ensures err { IfErr result (OnRefused (IsUnread (F.contents files.old) name.now)) }
+    ensures err { IfErr result (OnRefused (HandsOutNothing (F.contents files.old) name.now)) }
     ensures counted { IfErr result (IsCounted (F.faults files.old) (F.faults files.new) (F.failed files.new)) }
     ensures never_falls { F.faults files.old ≤ F.faults files.new }
     ensures kept { F.contents files.new ≡ F.contents files.old }
@@ -56,7 +56,7 @@ pub(crate) fn read_listing<F: Files>(
     ensures ok { IfOk result (Lists (F.contents files.old) board.now) }
     ensures few { IfOk result (λ listing. length listing.preloads ≤ 64) }
     ensures distinct { IfOk result (λ listing. are_distinct (map seat_of listing.programs) ≡ true) }
-    ensures err { IfErr result (OnRefused (Stops (F.contents files.old) board.now)) }
+    ensures err { IfErr result (OnRefused (StopsReading (F.contents files.old) board.now)) }
     ensures counted { IfErr result (IsCounted (F.faults files.old) (F.faults files.new) (F.failed files.new)) }
     ensures never_falls { F.faults files.old ≤ F.faults files.new }
     ensures kept { F.contents files.new ≡ F.contents files.old }
@@ -79,7 +79,7 @@ pub(crate) fn read_system_file<F: Files>(
 ) -> Result<SystemConfig, ImageFault>
     requires { Lists (F.contents files.old) board.now listing.now }
     ensures ok { IfOk result (HasSystem (F.contents files.old) board.now listing.now) }
-    ensures err { IfErr result (OnRefused (Stops (F.contents files.old) board.now)) }
+    ensures err { IfErr result (OnRefused (StopsReading (F.contents files.old) board.now)) }
     ensures counted { IfErr result (IsCounted (F.faults files.old) (F.faults files.new) (F.failed files.new)) }
     ensures never_falls { F.faults files.old ≤ F.faults files.new }
     ensures kept { F.contents files.new ≡ F.contents files.old }
@@ -102,7 +102,7 @@ pub(crate) fn read_preload<F: Files>(
     file: &PreloadFile,
 ) -> Result<Preload, ImageFault>
     ensures ok { IfOk result (IsPreloadOf (F.contents files.old) file.now) }
-    ensures err { IfErr result (OnRefused (IsUnread (F.contents files.old) file.now.file)) }
+    ensures err { IfErr result (OnRefused (HandsOutNothing (F.contents files.old) file.now.file)) }
     ensures counted { IfErr result (IsCounted (F.faults files.old) (F.faults files.new) (F.failed files.new)) }
     ensures never_falls { F.faults files.old ≤ F.faults files.new }
     ensures kept { F.contents files.new ≡ F.contents files.old }

@@ -37,7 +37,7 @@ use Rattle.jh_history.specs.Due.{due_at, is_idle_but, IsLegal}
 use Rattle.jh_history.proofs.LegalLemmas.{due-split, IsLegal-begin}
 use Rattle.jh_history.specs.Sound.{AreSoundCells}
 use Rattle.jh_laws.specs.Ways.{is_phase, is_decide, call_begun, begun}
-use Rattle.jh_laws.specs.Decisions.{IsLockedBy, NoneIsLocked, NoOtherIsLocked, LivesNot, IsIdDecision, IsDestroyDecision, IsUnread, IsRefusedOf, IsCreateDecision, IsDecision}
+use Rattle.jh_laws.specs.Decisions.{IsLockedBy, NoneIsLocked, NoOtherIsLocked, LivesNot, IsIdDecision, IsDestroyDecision, IsUnreadDecision, IsRefusedOf, IsCreateDecision, IsDecision}
 use Rattle.jh_history.proofs.SoundCpusLemmas.{other-root}
 use Rattle.jh_history.proofs.SoundLemmas.{legal-sound}
 use Rattle.jh_laws.proofs.CallLemmas.{phase-expects, phase-of_due, sound-open, begun-of, not_same}
@@ -117,7 +117,7 @@ created_read image f caller at free = ap (λ (b : Bool). refused_by (cond b (Ref
 abbrev by_read : Image → Facts → ℕ → ReadCell → Option ℤ
 by_read image f caller read = refused_by (creation_by image f caller read)
 
-unread : (image : Image) (f : Facts) (caller at : ℕ) → list_any (is_locked f) f.cells ≡ false → IsUnread image f at (refused_by (creation_of image f caller at))
+unread : (image : Image) (f : Facts) (caller at : ℕ) → list_any (is_locked f) f.cells ≡ false → IsUnreadDecision image f at (refused_by (creation_of image f caller at))
 unread image f caller at free =
     let first = created_read image f caller at free in
     record {

@@ -22,7 +22,7 @@ pub mod CommitLemmas
 pub mod FewCellsLemmas
 pub mod RegisterLemmas
 pub mod RefusalLemmas
-pub mod ToldLemmas
+pub mod TypedLemmas
 pub mod FewLemmas
 pub mod PlacesHeldLemmas
 pub mod DecisionLemmas

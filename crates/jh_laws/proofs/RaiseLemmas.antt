@@ -28,7 +28,7 @@ use Rattle.jh_history.specs.Facts.{Facts}
 use Rattle.jh_history.specs.Grants.{reach, devices_of}
 use Rattle.jh_history.specs.Sound.{IsSoundEndpoint, IsSound}
 use Rattle.jh_laws.specs.Ends.{IsAnsweredByRegister}
-use Rattle.jh_laws.specs.Vectors.{PutsRegister, Rings, Clears, Tells, Drops}
+use Rattle.jh_laws.specs.Vectors.{PutsRegister, Rings, Clears, NotifiesPeer, Drops}
 use Rattle.jh_laws.specs.Ways.{is_commit}
 use Rattle.jh_laws.proofs.DevicesLemmas.{endpoint-held, endpoint-sound, same-register}
 use Rattle.jh_laws.proofs.EndsLemmas.{IsSmallAct}
@@ -39,7 +39,7 @@ use Rattle.jh_laws.proofs.WrittenLemmas.{IsWrite, register-write}
 
 -- the entry calls the vector of the endpoint: a doorbell does, or for vector 0 the state of a peer
 abbrev pub Calls : Image → Facts → Entry → Endpoint → ℕ → Type 0
-Calls image f entry e v = Rings image f entry e v ⊎ ((v ≡ 0) × Tells image f entry e)
+Calls image f entry e v = Rings image f entry e v ⊎ ((v ≡ 0) × NotifiesPeer image f entry e)
 
 abbrev pub IsDropped : Facts → Entry → Endpoint → ℕ → Type 0
 IsDropped f entry e v = Drops f entry e.spec.cell e.spec.device v

@@ -16,4 +16,4 @@ pub mod Written
 pub mod States
 pub mod Ready
 pub mod Exchanges
-pub mod Told
+pub mod Typed

@@ -67,7 +67,7 @@ ChangesState image f entry e =
     ⊎ (Clears f entry e.spec.cell × (e.state ≢ 0))
 
 -- the entry tells the peer of it, which is another of its link
-pub record Tells (image : Image) (f : Facts) (entry : Entry) (peer : Endpoint) : Type 0 where
+pub record NotifiesPeer (image : Image) (f : Facts) (entry : Entry) (peer : Endpoint) : Type 0 where
   pub one : Endpoint
   pub there : Contains f.endpoints one
   pub changes : ChangesState image f entry one
@@ -81,7 +81,7 @@ pub record Raises (image : Image) (f : Facts) (entry : Entry) (id n v : ℕ) : T
   pub peer : Endpoint
   pub there : endpoint_at id n f.endpoints ≡ Some peer
   pub let_through : is_open peer v ≡ true
-  pub by : Rings image f entry peer v ⊎ ((v ≡ 0) × Tells image f entry peer)
+  pub by : Rings image f entry peer v ⊎ ((v ≡ 0) × NotifiesPeer image f entry peer)
 
 -- the entry drops a pending vector of the cell's device: it is taken, or the device is reset or leaves
 abbrev pub Drops : Facts → Entry → ℕ → ℕ → ℕ → Type 0

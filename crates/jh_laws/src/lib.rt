@@ -17,7 +17,7 @@ mod hypercalls;
 mod items;
 mod order;
 mod states;
-mod told;
+mod typed;
 mod vectors;
 mod writes;
 
@@ -56,7 +56,7 @@ pub use states::{
     calls_change_cpus, cpus_that_are_ready_have_an_entry_due, entries_are_their_cpus_own,
     entries_change_their_cpu, violations_end_their_cpus,
 };
-pub use told::numbers_keep_to_their_types;
+pub use typed::numbers_keep_to_their_types;
 pub use vectors::{
     devices_of_other_cells_stay, interrupts_are_due_where_a_vector_is_pending,
     vectors_are_pending_from_raise_to_drop,

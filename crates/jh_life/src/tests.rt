@@ -38,20 +38,9 @@ fn cell(
     characters[0] = name;
     Ok(CellConfig {
         name: characters,
-        id,
-        flags: 0,
-        vpci_irq_base: 0,
-        cpu_reset_address: 0,
-        msg_reply_timeout: 0,
-        console: [0; 32],
         cpu_set: Seq::from_vec(Vec::from_slice(alloc, &[cpus])?),
         memory_regions: Seq::from_vec(Vec::from_slice(alloc, regions)?),
-        cache_regions: Seq::new(alloc),
-        irqchips: Seq::new(alloc),
-        pio_regions: Seq::new(alloc),
-        pci_devices: Seq::new(alloc),
-        pci_caps: Seq::new(alloc),
-        stream_ids: Seq::new(alloc),
+        ..CellConfig::empty(alloc, id)
     })
 }
 

@@ -21,7 +21,7 @@ use Rattle.jh_history.specs.Lives.{is_program_of, program_of}
 use Rattle.jh_laws.specs.Held.{IsLive}
 use Rattle.jh_laws.specs.Moments.{AdmittedMoment, facts_before, state_before}
 use Rattle.jh_laws.specs.Operations.{op_of}
-use Rattle.jh_laws.specs.Told.{OpensTyped, TellsTyped}
+use Rattle.jh_laws.specs.Typed.{OpensTyped, TellsTyped}
 use Rattle.jh_text.specs.declared.fault.JournalFault.{JournalFault}
 use Rattle.jh_text.specs.declared.fault.JournalFault.TheVariants.{Line, TooLong, NoMemory}
 use Rattle.jh_text.specs.Faults.{IsFault, IsFirstBadLine, IsJournalText, IsTooLong, max_entries}

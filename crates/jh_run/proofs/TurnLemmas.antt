@@ -12,8 +12,8 @@ use Rattle.jh_turn.specs.Histories.{Grows}
 use Rattle.jh_board.specs.BoardView.{BoardView}
 use Rattle.jh_run.specs.Origins.{Origin}
 use Rattle.jh_run.specs.Turns.{Takes, halt_of, IsFullAndBusy}
-use Rattle.jh_run.specs.Running.{whose_entry, Answers}
-use Rattle.jh_run.specs.Drives.{Tells, stop_after}
+use Rattle.jh_run.specs.Running.{whose_entry, IsTurnAnswer}
+use Rattle.jh_run.specs.Drives.{ExplainsStop, stop_after}
 use Rattle.jh_run.specs.declared.driving.Stop.TheVariants.{Quiet, Halted as StopHalted}
 use Rattle.jh_run.specs.declared.run_turn.Halt.{Halt}
 use Rattle.jh_run.specs.declared.run_turn.Halt.TheVariants.{Full, NoMemory}
@@ -62,7 +62,7 @@ busy : (o : Option Entry) → IsSome o → o ≡ None → ⊥
 busy o some e = false≢true (let P : Option Entry → Type 0 = λ x. IsSome x in subst P e some)
 
 -- its answer is one that a running board may give
-pub Takes-answers : (old : BoardView) (cpu : ℕ) (turn : RunTurn) (new : BoardView) → Takes old cpu turn new → Answers (board_origin old) cpu old.entries new.entries turn
+pub Takes-answers : (old : BoardView) (cpu : ℕ) (turn : RunTurn) (new : BoardView) → Takes old cpu turn new → IsTurnAnswer (board_origin old) cpu old.entries new.entries turn
 Takes-answers old cpu (Made entry) new h = (h.0, h.1, ap entries h.2)
 Takes-answers old cpu (Edited left) new h = h
 Takes-answers old cpu NotNow new h = (h.0, h.1, ap entries h.2)
@@ -82,21 +82,21 @@ Takes-full old cpu (Halted Full) new h e =
 Takes-full old cpu (Halted NoMemory) new h e = absurd (cc e)
 
 -- the answer of a halted board
-pub halted_answers : (board : BoardView) (cpu : ℕ) (halt : Halt) (halted : Option Halt) → halted ≡ Some halt → (halted ≡ Some Full → IsFullAndBusy board) → Answers (board_origin board) cpu board.entries board.entries (Halted halt)
+pub halted_answers : (board : BoardView) (cpu : ℕ) (halt : Halt) (halted : Option Halt) → halted ≡ Some halt → (halted ≡ Some Full → IsFullAndBusy board) → IsTurnAnswer (board_origin board) cpu board.entries board.entries (Halted halt)
 halted_answers board cpu Full halted is full = let f = full is in (f.0, f.1, refl)
 halted_answers board cpu NoMemory halted is full = refl
 
 -- what a port has seen after the last answer
-pub done_tells : (origin : Origin) (cpu : ℕ) (before after : List Entry) → Answers origin cpu before after Done → Tells origin Quiet after
+pub done_tells : (origin : Origin) (cpu : ℕ) (before after : List Entry) → IsTurnAnswer origin cpu before after Done → ExplainsStop origin Quiet after
 done_tells origin cpu before after h = let P : List Entry → Type 0 = IsQuiet origin.image in subst P (sym h.1) h.0
 
-pub halted_tells : (origin : Origin) (cpu : ℕ) (before after : List Entry) (halt : Halt) → Answers origin cpu before after (Halted halt) → Tells origin (StopHalted halt) after
+pub halted_tells : (origin : Origin) (cpu : ℕ) (before after : List Entry) (halt : Halt) → IsTurnAnswer origin cpu before after (Halted halt) → ExplainsStop origin (StopHalted halt) after
 halted_tells origin cpu before after Full h =
-    let P : List Entry → Type 0 = λ es. Tells origin (StopHalted Full) es in
+    let P : List Entry → Type 0 = λ es. ExplainsStop origin (StopHalted Full) es in
     subst P (sym h.2) (h.0, h.1)
 halted_tells origin cpu before after NoMemory h = tt
 
-pub turn_tells : (origin : Origin) (cpu : ℕ) (before after : List Entry) (turn : RunTurn) → Answers origin cpu before after turn → IfSome (stop_after turn) (λ stop. Tells origin stop after)
+pub turn_tells : (origin : Origin) (cpu : ℕ) (before after : List Entry) (turn : RunTurn) → IsTurnAnswer origin cpu before after turn → IfSome (stop_after turn) (λ stop. ExplainsStop origin stop after)
 turn_tells origin cpu before after (Made entry) h = tt
 turn_tells origin cpu before after (Edited left) h = tt
 turn_tells origin cpu before after NotNow h = tt

@@ -34,15 +34,15 @@ end_stop EndedQuiet = Quiet
 end_stop EndedFull = Halted Full
 
 -- the entries tell why: they are quiet, or at the limit and not quiet. Want of memory comes at any
-abbrev pub Tells : Origin → Stop → List Entry → Type 0
-Tells origin Quiet entries = IsQuiet origin.image entries
-Tells origin (Halted Full) entries = (length entries ≡ origin.limit) × ¬ IsQuiet origin.image entries
-Tells origin (Halted NoMemory) entries = Unit {0}
+abbrev pub ExplainsStop : Origin → Stop → List Entry → Type 0
+ExplainsStop origin Quiet entries = IsQuiet origin.image entries
+ExplainsStop origin (Halted Full) entries = (length entries ≡ origin.limit) × ¬ IsQuiet origin.image entries
+ExplainsStop origin (Halted NoMemory) entries = Unit {0}
 
 module _ {T A : Type 0} {G : Ghosts T Entry A} where
   -- what the port has seen tells why
   abbrev pub Shows : Origin → Stop → Port T Entry A G → Type 0
-  Shows origin stop port = Tells origin stop (seen_by port)
+  Shows origin stop port = ExplainsStop origin stop (seen_by port)
 
   -- what one of the ports has seen tells why
   pub record SomeShows (origin : Origin) (stop : Stop) (ports : List (Port T Entry A G)) : Type 0 where

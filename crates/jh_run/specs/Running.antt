@@ -26,10 +26,10 @@ abbrev pub entries_of : Running → List Entry
 entries_of running = running.board.entries
 
 -- at these entries a turn of the CPU may answer so, and leave those; no table is edited yet
-abbrev pub Answers : Origin → ℕ → List Entry → List Entry → RunTurn → Type 0
-Answers origin cpu before after (Made entry) = (due origin.image before cpu ≡ Some entry) × (length before < origin.limit) × (after ≡ before ++ entry ∷ [])
-Answers origin cpu before after (Edited left) = ⊥
-Answers origin cpu before after NotNow = (due origin.image before cpu ≡ None) × ¬ IsQuiet origin.image before × (after ≡ before)
-Answers origin cpu before after Done = IsQuiet origin.image before × (after ≡ before)
-Answers origin cpu before after (Halted Full) = (length before ≡ origin.limit) × ¬ IsQuiet origin.image before × (after ≡ before)
-Answers origin cpu before after (Halted NoMemory) = after ≡ before
+abbrev pub IsTurnAnswer : Origin → ℕ → List Entry → List Entry → RunTurn → Type 0
+IsTurnAnswer origin cpu before after (Made entry) = (due origin.image before cpu ≡ Some entry) × (length before < origin.limit) × (after ≡ before ++ entry ∷ [])
+IsTurnAnswer origin cpu before after (Edited left) = ⊥
+IsTurnAnswer origin cpu before after NotNow = (due origin.image before cpu ≡ None) × ¬ IsQuiet origin.image before × (after ≡ before)
+IsTurnAnswer origin cpu before after Done = IsQuiet origin.image before × (after ≡ before)
+IsTurnAnswer origin cpu before after (Halted Full) = (length before ≡ origin.limit) × ¬ IsQuiet origin.image before × (after ≡ before)
+IsTurnAnswer origin cpu before after (Halted NoMemory) = after ≡ before

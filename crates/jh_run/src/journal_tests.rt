@@ -32,21 +32,9 @@ fn region(start: u64, size: u64, flags: u64) -> Region {
 /// Root with one region and the CPUs of the byte.
 fn root(alloc: Global, region: Region, cpus: u8) -> Result<CellConfig, NoMemory> {
     Ok(CellConfig {
-        name: [0; 32],
-        id: 0,
-        flags: 0,
-        vpci_irq_base: 0,
-        cpu_reset_address: 0,
-        msg_reply_timeout: 0,
-        console: [0; 32],
         cpu_set: Seq::from_vec(Vec::from_slice(alloc, &[cpus])?),
         memory_regions: Seq::from_vec(Vec::from_slice(alloc, &[region])?),
-        cache_regions: Seq::new(alloc),
-        irqchips: Seq::new(alloc),
-        pio_regions: Seq::new(alloc),
-        pci_devices: Seq::new(alloc),
-        pci_caps: Seq::new(alloc),
-        stream_ids: Seq::new(alloc),
+        ..CellConfig::empty(alloc, 0)
     })
 }
 

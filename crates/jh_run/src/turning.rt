@@ -2,7 +2,7 @@
 ghost use Rattle.std.specs.Prelude.{◌≡◌, IsTrue, None, Some};
 ghost use Rattle.jh_history.specs.Lives.{is_on_board};
 ghost use Rattle.jh_run.specs.Turns.{Takes, halt_of};
-ghost use Rattle.jh_run.specs.Running.{whose_entry, origin_of, Serves, entries_of, Answers};
+ghost use Rattle.jh_run.specs.Running.{whose_entry, origin_of, Serves, entries_of, IsTurnAnswer};
 ghost use Rattle.jh_turn.specs.Histories.{Grows};
 
 use crate::run_turn::{Halt, RunTurn};
@@ -43,7 +43,7 @@ impl Turner for Running {
     type Answer = RunTurn;
 
     ghost use Rattle.jh_run.specs.Origins.{Origin as TheOrigin};
-    ghost use Rattle.jh_run.specs.Running.{whose_entry, origin_of, Serves, entries_of, Answers};
+    ghost use Rattle.jh_run.specs.Running.{whose_entry, origin_of, Serves, entries_of, IsTurnAnswer};
 
     ghost Origin = { TheOrigin };
 
@@ -55,13 +55,13 @@ impl Turner for Running {
 
     ghost history = { entries_of };
 
-    ghost answers = { Answers };
+    ghost answers = { IsTurnAnswer };
 
     fn turn(&mut self, who: u8) -> RunTurn
         requires { Serves (origin_of self.old) who }
         ensures origin { origin_of self.new ≡ origin_of self.old }
         ensures history { Grows whose_entry who (entries_of self.old) (entries_of self.new) }
-        ensures answer { Answers (origin_of self.old) who (entries_of self.old) (entries_of self.new) result }
+        ensures answer { IsTurnAnswer (origin_of self.old) who (entries_of self.old) (entries_of self.new) result }
         ensures ran { self.old.halted ≡ None → Takes self.old.board who result self.new.board × (self.new.halted ≡ halt_of result) }
         ensures halted { (halt : Halt) → self.old.halted ≡ Some halt → (result ≡ RunTurn.Halted halt) × (self.new.board ≡ self.old.board) × (self.new.halted ≡ self.old.halted) }
     {

@@ -21,6 +21,7 @@ pub use laws::{
     first_fault_of_a_schedule_decides, lines_are_words_of_operations,
     numbers_are_decimal_or_hexadecimal,
 };
-pub use op::{Op, max_of_width};
+pub use number::read_digits;
+pub use op::{Op, access_width, max_of_width};
 pub use program::read_program;
 pub use schedule::read_schedule;

@@ -1,5 +1,5 @@
 //! What a line of a program tells.
-ghost use Rattle.std.specs.Prelude.{◌≡◌, nat_lt, IfSome, IfNone, IsTrue, SomeIff};
+ghost use Rattle.std.specs.Prelude.{◌≡◌, nat_lt, IfSome, IfNone, IsTrue};
 ghost use Rattle.std.specs.List.{list_all};
 ghost use Rattle.std.specs.Option.{option_map};
 ghost use Rattle.jh_script.specs.declared.op.Op.TheVariants as ops;
@@ -7,7 +7,7 @@ ghost use Rattle.jh_script.specs.Operations.{IsPlainLine, is_width, line_of, lin
 ghost use Rattle.jh_script.specs.Words.{words, blanks};
 
 use crate::number::number;
-use crate::op::{Op, max_of_width};
+use crate::op::{Op, access_width, max_of_width};
 use crate::words::{is, next_word};
 
 /// The bytes that part the words of a line.
@@ -186,15 +186,4 @@ fn three_numbers(text: &[u8]) -> Option<(u64, u64, u64)>
         return None;
     }
     Some((number(a)?, number(b)?, number(c)?))
-}
-
-/// The number as the width of an access.
-fn access_width(width: u64) -> Option<u8>
-    ensures { SomeIff result (IsTrue (is_width width)) width }
-{
-    if width == 1 || width == 2 || width == 4 || width == 8 {
-        Some(width as u8)
-    } else {
-        None
-    }
 }

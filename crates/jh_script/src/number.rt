@@ -23,7 +23,7 @@ pub(crate) fn decimal(word: &[u8]) -> Option<u64>
 {
     match word {
         [] | [b'0', _, ..] => None,
-        _ => value(10, word),
+        _ => read_digits(10, word),
     }
 }
 
@@ -34,12 +34,13 @@ fn hexadecimal(digits: &[u8]) -> Option<u64>
     if digits.is_empty() || digits.len() > 16 {
         return None;
     }
-    value(16, digits)
+    read_digits(16, digits)
 }
 
-/// What the digits write in the base.
+/// What the digits write in the base, from 2 to 36, where letters are of either case: `None` where a byte is no digit, or
+/// where the number is 2^64 or more. No digits write 0.
 #[tactic(auto, using(crate::proofs::NumberLemmas::value_after_more, crate::proofs::NumberLemmas::value_after_all))]
-fn value(base: u32, digits: &[u8]) -> Option<u64>
+pub fn read_digits(base: u32, digits: &[u8]) -> Option<u64>
     requires low { 2 ≤ base }
     requires high { base ≤ 36 }
     ensures { result ≡ value_of base digits.now }

@@ -1,5 +1,5 @@
 //! The operations of a program.
-ghost use Rattle.std.specs.Prelude.{◌≡◌, ◌^◌, ◌-◌, IsTrue};
+ghost use Rattle.std.specs.Prelude.{◌≡◌, ◌^◌, ◌-◌, IsTrue, SomeIff};
 ghost use Rattle.jh_script.specs.Operations.{is_width};
 
 /// One operation of a CPU's program. A width is a number of bytes, 1, 2, 4 or 8; values are
@@ -28,5 +28,16 @@ pub fn max_of_width(width: u8) -> u64
         2 => 0xffff,
         4 => 0xffff_ffff,
         _ => u64::MAX,
+    }
+}
+
+/// The number as the width of an access, where it is one.
+pub fn access_width(width: u64) -> Option<u8>
+    ensures { SomeIff result (IsTrue (is_width width)) width }
+{
+    if width == 1 || width == 2 || width == 4 || width == 8 {
+        Some(width as u8)
+    } else {
+        None
     }
 }

@@ -28,21 +28,8 @@ fn cell(alloc: Global, regions: &[Region]) -> Result<CellConfig, AllocError>
     ensures { IfOk result (λ cell. cell.memory_regions ≡ regions.now) }
 {
     Ok(CellConfig {
-        name: [0; 32],
-        id: 1,
-        flags: 0,
-        vpci_irq_base: 0,
-        cpu_reset_address: 0,
-        msg_reply_timeout: 0,
-        console: [0; 32],
-        cpu_set: Seq::new(alloc),
         memory_regions: Seq::from_vec(Vec::from_slice(alloc, regions)?),
-        cache_regions: Seq::new(alloc),
-        irqchips: Seq::new(alloc),
-        pio_regions: Seq::new(alloc),
-        pci_devices: Seq::new(alloc),
-        pci_caps: Seq::new(alloc),
-        stream_ids: Seq::new(alloc),
+        ..CellConfig::empty(alloc, 1)
     })
 }
 

@@ -33,20 +33,10 @@ fn root(
 ) -> Result<CellConfig, AllocError> {
     Ok(CellConfig {
         name: name(b"root"),
-        id: 0,
-        flags: 0,
-        vpci_irq_base: 0,
-        cpu_reset_address: 0,
-        msg_reply_timeout: 0,
-        console: [0; 32],
         cpu_set: Seq::from_vec(vec![in alloc; cpus, 0, 0, 0, 0, 0, 0, 0]?),
         memory_regions: Seq::from_vec(regions),
-        cache_regions: Seq::new(alloc),
-        irqchips: Seq::new(alloc),
-        pio_regions: Seq::new(alloc),
         pci_devices,
-        pci_caps: Seq::new(alloc),
-        stream_ids: Seq::new(alloc),
+        ..CellConfig::empty(alloc, 0)
     })
 }
 

@@ -19,11 +19,11 @@ use Rattle.jh_text.specs.Reading.{max_u64, number_of, hexadecimal_of, answer_of,
 use Rattle.jh_text.proofs.Numbers.{number_again}
 
 pub decimal_again : (most n : ℕ) → n < 2 ^ 64 → n ≤ most → number_of 10 most (decimal n) ≡ Some n
-decimal_again most n small fits = number_again 10 most n (omega arith) (omega arith) (omega arith) fits
+decimal_again most n small fits = number_again 10 most n (omega arith) (omega arith) (omega arith) small fits
 
 pub hexadecimal_again : (most n : ℕ) → n < 2 ^ 64 → n ≤ most → hexadecimal_of most (hexadecimal n) ≡ Some n
 unfolding hexadecimal_of
-hexadecimal_again most n small fits = number_again 16 most n (omega arith) (omega arith) (omega arith) fits
+hexadecimal_again most n small fits = number_again 16 most n (omega arith) (omega arith) (omega arith) small fits
 
 -- digits begin with no sign and no letter above `f`
 plain : (ds : List ℕ) (n : ℕ) → AllDigits 10 ds → 0 < length ds → number_of 10 (2 ^ 63 - 1) ds ≡ Some n → answer_of ds ≡ Some (pos n)

@@ -1,8 +1,8 @@
 -- How the reader finds the one entry whose text a line may be, as functions on lists. It may find one where the line
 -- is no entry's text: the reader then sees that the entry's text is another. No public clause rests on this file.
 use Rattle.std.specs.Prelude.{◌≡◌, ◌&&◌, ℕ, ◌+◌, ◌-◌, ◌*◌, ◌^◌, ℤ, pos, ◌-ℤ◌, Bool, true, false, ◌==◌, nat_le, nat_lt, if◌then◌else◌, Option, Some, None, option_and_then, option_map, position, List, [], ◌∷◌, take, drop, codes}
-use Rattle.std.specs.Char.{digit_value}
 use Rattle.std.specs.Str.{bytes_eq}
+use Rattle.jh_script.specs.Numbers.{value_of}
 use Rattle.jh_text.specs.Ranges.{is_width}
 use Rattle.jh_history.specs.declared.entry.Entry.{Entry}
 use Rattle.jh_history.specs.declared.entry.Act.{Act}
@@ -25,17 +25,9 @@ Finds view None found = found ≡ None
 unfoldable pub split_once : ℕ → List ℕ → Option (List ℕ × List ℕ)
 split_once byte bytes = option_map (λ at. (take at bytes, drop (at + 1) bytes)) (position (λ b. b == byte) bytes)
 
-abbrev pub next_number : ℕ → ℕ → ℕ → ℕ → Option ℕ
-next_number radix most n c =
-    if nat_lt (digit_value c) radix && nat_le (n * radix + digit_value c) most then Some (n * radix + digit_value c) else None
-
--- the number that the digits write after those of n, where it is most at most
-unfoldable pub number_after : ℕ → ℕ → ℕ → List ℕ → Option ℕ
-number_after radix most n [] = Some n
-number_after radix most n (c ∷ cs) = next_number radix most n c >>= λ m. number_after radix most m cs
-
+-- the number that the digits write, where it is most at most
 abbrev pub number_of : ℕ → ℕ → List ℕ → Option ℕ
-number_of radix most digits = number_after radix most 0 digits
+number_of radix most digits = value_of radix digits >>= λ n. if nat_le n most then Some n else None
 
 abbrev pub max_u64 : ℕ
 max_u64 = 2 ^ 64 - 1

@@ -1,8 +1,10 @@
 //! The words of a line, and what they tell.
-ghost use Rattle.std.specs.Prelude.{◌≡◌, ℕ, ◌-◌, ◌≤◌, ◌<◌, ◌^◌, ◌+◌, ◌==◌, length, position, IfSome, IsTrue};
+ghost use Rattle.std.specs.Prelude.{◌≡◌, ℕ, ◌-◌, ◌≤◌, ◌<◌, ◌==◌, length, position, IfSome, IsTrue};
 ghost use Rattle.std.specs.Str.{bytes_eq};
 ghost use Rattle.jh_text.specs.Ranges.{is_width};
-ghost use Rattle.jh_text.specs.Reading.{Finds, split_once, next_number, number_of, hexadecimal_of, answer_of, width_of};
+ghost use Rattle.jh_text.specs.Reading.{Finds, split_once, number_of, hexadecimal_of, answer_of, width_of};
+
+use jh_script::{access_width, read_digits};
 
 /// What stands before the first such byte, and what stands after it.
 #[tactic(auto, unfolding(crate::specs::Reading::split_once))]
@@ -28,35 +30,14 @@ pub(crate) fn is(word: &[u8], name: &str) -> bool
 }
 
 /// The number that the digits write, where it is `most` at most.
-#[tactic(auto, using(crate::proofs::Numbers::number_after_more, crate::proofs::Numbers::number_after_all))]
 pub(crate) fn number(radix: u32, most: u64, digits: &[u8]) -> Option<u64>
     requires low { 2 ≤ radix }
     requires high { radix ≤ 36 }
     ensures value { result ≡ number_of radix most digits.now }
     ensures bound { IfSome result (λ n. n ≤ most) }
 {
-    let mut n = 0;
-    for byte in digits {
-        n = next_number(radix, most, n, *byte)?;
-    }
-    Some(n)
-}
-
-/// The number with one more digit.
-fn next_number(radix: u32, most: u64, n: u64, byte: u8) -> Option<u64>
-    requires low { 2 ≤ radix }
-    requires high { radix ≤ 36 }
-    ensures value { result ≡ next_number radix most n byte }
-    ensures bound { IfSome result (λ m. m ≤ most) }
-{
-    let digit = char::from(byte).to_digit(radix)?;
-    let next = n
-        .checked_mul(u64::from(radix))?
-        .checked_add(u64::from(digit))?;
-    if next > most {
-        return None;
-    }
-    Some(next)
+    let n = read_digits(radix, digits)?;
+    if n <= most { Some(n) } else { None }
 }
 
 pub(crate) fn decimal(word: &[u8], most: u64) -> Option<u64>
@@ -99,10 +80,5 @@ pub(crate) fn width(word: &[u8]) -> Option<u8>
     ensures value { result ≡ width_of word.now }
     ensures width { IfSome result (λ width. IsTrue (is_width width)) }
 {
-    let width = decimal(word, 8)? as u8;
-    if width == 1 || width == 2 || width == 4 || width == 8 {
-        Some(width)
-    } else {
-        None
-    }
+    access_width(decimal(word, 8)?)
 }

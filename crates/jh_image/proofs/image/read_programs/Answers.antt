@@ -1,7 +1,7 @@
 -- The loop over the programs' files.
 use Rattle.std.proofs.Common.{◌≡◌, ◌+◌, ◌<◌, ◌≤◌, length, get_or, refl, sym, subst, arith, map, [], ◌∷◌}
 use Rattle.std.proofs.lemmas.List.{take_all}
-use Rattle.jh_image.specs.Causes.{IsProgramUnread, OnRefused, Stops}
+use Rattle.jh_image.specs.Causes.{IsProgramUnread, OnRefused, StopsReading}
 use Rattle.jh_image.proofs.StopLemmas.{on_refused, program-stops, passed_up}
 use Rattle.jh_outside.specs.Trail.{Asks, no_ask, AsksAll, AsksUntil}
 use Rattle.jh_image.specs.Order.{ask_for, program_name}
@@ -30,8 +30,8 @@ returns-in_err-program-clause-err g c =
     let is : file ≡ get_or listing.programs i file = rw c.as_slice-entries.ensures.value at c.file-item.is in
     let next = scripts-next contents board listing system preloads i file c.loop-file.programs c.requires.loaded lt is c.loop-file.invariant.so_far in
     let unread = rw c.loop-file.invariant.kept at c.in_err-program.ensures.err in
-    passed_up c.from_residual.result c.in_err-program.field-0.0 (λ e. OnRefused (Stops contents board) e) c.from_residual.ensures.1
-    (on_refused (IsProgramUnread contents file.file) (Stops contents board) c.in_err-program.field-0.0 (program-stops contents board listing system preloads c.loop-file.programs file next) unread)
+    passed_up c.from_residual.result c.in_err-program.field-0.0 (λ e. OnRefused (StopsReading contents board) e) c.from_residual.ensures.1
+    (on_refused (IsProgramUnread contents file.file) (StopsReading contents board) c.in_err-program.field-0.0 (program-stops contents board listing system preloads c.loop-file.programs file next) unread)
 
 pub loop-file-preserved : goal.loop-file-preserved
 loop-file-preserved g c =

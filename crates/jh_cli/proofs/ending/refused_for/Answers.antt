@@ -1,7 +1,7 @@
 -- The fault's text is refused.
 use Rattle.std.specs.Prelude.{string_bytes}
 use Rattle.jh_cli.proofs.StopLemmas.{refused_by}
-use Rattle.jh_cli.proofs.told.refused_for.Goals as goal
+use Rattle.jh_cli.proofs.ending.refused_for.Goals as goal
 
 pub returns-in-Ok : goal.returns-in-Ok
 returns-in-Ok g c =

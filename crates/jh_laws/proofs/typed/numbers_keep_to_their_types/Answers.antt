@@ -1,6 +1,6 @@
 -- By what is due.
-use Rattle.jh_laws.proofs.ToldLemmas.{cpu-small, cell-small, told-at}
-use Rattle.jh_laws.proofs.told.numbers_keep_to_their_types.Goals as goal
+use Rattle.jh_laws.proofs.TypedLemmas.{cpu-small, cell-small, told-at}
+use Rattle.jh_laws.proofs.typed.numbers_keep_to_their_types.Goals as goal
 
 pub returns-clause-cpu : goal.returns-clause-cpu
 returns-clause-cpu c = λ m. cpu-small m.image m.before m.rest m.entry m.admitted m.legal

@@ -5,7 +5,7 @@ use Rattle.jh_cellcfg.specs.declared.region.Region.{Region}
 use Rattle.jh_check.specs.Clean.{SharesNoAddress}
 use Rattle.jh_board.specs.Closed.{AreInRange}
 use Rattle.jh_board.proofs.ToldLemmas.{cell-within, cell-apart}
-use Rattle.jh_board.proofs.told.regions_of.Goals as goal
+use Rattle.jh_board.proofs.overview.regions_of.Goals as goal
 
 pub returns-in-Some-clause-within : goal.returns-in-Some-clause-within
 returns-in-Some-clause-within c =

@@ -54,7 +54,7 @@ use Rattle.jh_history.proofs.SpecsLemmas.{specs-device}
 use Rattle.jh_laws.specs.Grants.{place_behind}
 use Rattle.jh_laws.specs.Held.{IsGrantedTo}
 use Rattle.jh_laws.specs.Ends.{IsAnswered, IsAnsweredByWindow, IsReadBy, IsGotBy}
-use Rattle.jh_laws.specs.Told.{OpensTyped, TellsTyped}
+use Rattle.jh_laws.specs.Typed.{OpensTyped, TellsTyped}
 use Rattle.jh_laws.proofs.CallLemmas.{IsMadeBy, Stopping, Running, Calling, made-by, phase-of_due, sound-open}
 use Rattle.jh_laws.proofs.DevicesLemmas.{endpoint-held}
 use Rattle.jh_laws.proofs.EndsLemmas.{got-of_cell, ops-plain, width-some}

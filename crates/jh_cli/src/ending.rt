@@ -16,7 +16,7 @@ use std::fmt::Display;
 
 /// How a call ends: its status, and the text that is written before it.
 #[derive(Drop)]
-pub struct Told {
+pub struct Ending {
     pub status: Status,
     pub text: Vec<u8>,
 }
@@ -24,13 +24,13 @@ pub struct Told {
 /// Why a step went no further: the call ends there, or memory is wanted.
 #[derive(Drop)]
 pub enum Stop {
-    Ended(Told),
+    Ended(Ending),
     NoMemory,
 }
 
 impl From<NoMemory> for Stop {
     ghost use Rattle.std.specs.Prelude.{◌≡◌};
-    ghost use Rattle.jh_cli.specs.declared.told.Stop.TheVariants.{NoMemory as stop_for_memory};
+    ghost use Rattle.jh_cli.specs.declared.ending.Stop.TheVariants.{NoMemory as stop_for_memory};
 
     ghost from_gives = { λ _ s. s ≡ stop_for_memory };
 
@@ -44,7 +44,7 @@ pub fn faulted(alloc: Global, name: &[u8]) -> Stop
     ensures { OnEnded result (λ said. said ≡ record { status = Status.ReadFault; text = fault_line_lem name.now }) }
 {
     match fault_line(alloc, name) {
-        Ok(text) => Stop::Ended(Told {
+        Ok(text) => Stop::Ended(Ending {
             status: Status::ReadFault,
             text,
         }),
@@ -57,7 +57,7 @@ pub fn refused(alloc: Global, name: &[u8], words: &[u8]) -> Stop
     ensures { OnEnded result (λ said. said ≡ record { status = Status.Refused; text = refusal_line_lem name.now words.now }) }
 {
     match refusal_line(alloc, name, words) {
-        Ok(text) => Stop::Ended(Told {
+        Ok(text) => Stop::Ended(Ending {
             status: Status::Refused,
             text,
         }),

@@ -1,7 +1,7 @@
 //! That the numbers which entries tell keep to their types.
 ghost use Rattle.std.specs.Prelude.{◌^◌, ◌<◌};
 ghost use Rattle.jh_laws.specs.Moments.{AdmittedMoment};
-ghost use Rattle.jh_laws.specs.Told.{OpensTyped, TellsTyped};
+ghost use Rattle.jh_laws.specs.Typed.{OpensTyped, TellsTyped};
 
 /// An entry is made by one of 16 CPUs, in the name of a cell whose id has 32 bits. Each number that it tells beyond the
 /// operation of a program keeps to its type: a value to the bytes of its access, a device, a vector and an id to their

@@ -3,7 +3,7 @@ use Rattle.jh_outside.specs.Trail.{handed, faulted}
 use Rattle.jh_outside.specs.TrailLaws.{asks-alone}
 use Rattle.jh_cli.specs.Lines.{fault_line}
 use Rattle.jh_cli.proofs.OrderLemmas.{stops_one, refuses_one}
-use Rattle.jh_cli.proofs.told.read_below.Goals as goal
+use Rattle.jh_cli.proofs.ending.read_below.Goals as goal
 
 pub returns-in-Err-Fault-clause-asked_until : goal.returns-in-Err-Fault-clause-asked_until
 returns-in-Err-Fault-clause-asked_until g c =

@@ -1,7 +1,7 @@
 use Rattle.std.proofs.Common.{◌≡◌, drop}
 use Rattle.jh_script.specs.Reading.{value_after}
 use Rattle.jh_script.specs.Numbers.{value_of}
-use Rattle.jh_script.proofs.number.value.Given as goal
+use Rattle.jh_script.proofs.number.read_digits.Given as goal
 
 -- the digits that are left make of the number so far what all make
 abbrev pub invariant-loop-byte : goal.invariant-loop-byte

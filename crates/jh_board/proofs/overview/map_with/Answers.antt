@@ -3,7 +3,7 @@ use Rattle.std.proofs.Common.{sym, ◌∙◌}
 use Rattle.jh_num.specs.Bytes.{has_byte}
 use Rattle.jh_board.specs.Maps.{is_kept_at}
 use Rattle.jh_board.proofs.ToldLemmas.{kept_root, kept_other, map_of_kept}
-use Rattle.jh_board.proofs.told.map_with.Goals as goal
+use Rattle.jh_board.proofs.overview.map_with.Goals as goal
 
 pub returns-then-id-root : goal.returns-then-id-root
 returns-then-id-root c = map_of_kept (has_byte c.closed.result.now.ranges) (is_kept_at c.args.image.now c.args.cells.now.lives c.args.id) c.args.regions.now c.map_of.result

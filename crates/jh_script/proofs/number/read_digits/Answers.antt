@@ -1,5 +1,5 @@
 use Rattle.jh_script.proofs.NumberLemmas.{value_is}
-use Rattle.jh_script.proofs.number.value.Goals as goal
+use Rattle.jh_script.proofs.number.read_digits.Goals as goal
 
 pub loop-byte-init : goal.loop-byte-init
 loop-byte-init c = value_is c.args.base c.args.digits.now c.requires.low
