@@ -1,9 +1,10 @@
 -- Configurations, each with its mark.
-use Rattle.std.proofs.Common.{◌≡◌, ℕ, zero, suc, ◌+◌, ◌<◌, nat_lt, Bool, true, false, cond, List, [], ◌∷◌, ◌++◌, length, get_or, remove, position, Some, None, refl, sym, ap, ◌∙◌, arith}
+use Rattle.std.proofs.Common.{◌≡◌, ℕ, zero, suc, ◌+◌, ◌-◌, ◌<◌, nat_lt, Bool, true, false, cond, List, [], ◌∷◌, ◌++◌, length, get_or, remove, position, sum_by, Some, None, refl, sym, ap, ◌∙◌, arith}
 use Rattle.std.specs.Prelude.{option_map}
 use Rattle.std.specs.List.{position_or_len}
 use Rattle.std.proofs.lemmas.Bool.Decides.{nat_tests}
 use Rattle.std.proofs.lemmas.List.{length_push}
+use Rattle.std.proofs.lemmas.List.Sums.{sum_by_push, sum_by-remove}
 use Rattle.std.proofs.lemmas.List.Quantifiers.{all_pairs_push, all_pairs_remove}
 use Rattle.jh_num.proofs.Lists.{list_any-false, read_again}
 use Rattle.jh_cellcfg.specs.declared.config.CellConfig.{CellConfig}
@@ -11,6 +12,7 @@ use Rattle.jh_cellcfg.specs.declared.live.Live.{Live}
 use Rattle.jh_check.specs.Refusals.{is_namesake, is_known}
 use Rattle.jh_life.specs.Lives.{configs_of, marks_of}
 use Rattle.jh_life.specs.Stands.{joined, AreTwo, Stands}
+use Rattle.jh_life.proofs.PageLemmas.{own_pages}
 
 abbrev live_of : CellConfig → Bool → Live
 live_of config mark = record { config = config; loadable = mark }
@@ -51,8 +53,8 @@ length-removed zero (x ∷ xs) l = refl
 length-removed (suc i) (x ∷ xs) l = ap (λ n. suc n) (length-removed i xs (omega arith))
 
 -- the records stand at each change
-pub stands-push : (root : CellConfig) (configs : List CellConfig) (marks : List Bool) (new : CellConfig) → Stands root configs marks → length configs < 15 → is_known (root ∷ configs) new ≡ false → Stands root (configs ++ new ∷ []) (marks ++ false ∷ [])
-stands-push root configs marks new h few unknown =
+pub stands-push : (root : CellConfig) (configs : List CellConfig) (marks : List Bool) (taken : ℕ) (new : CellConfig) (more : ℕ) → Stands root configs marks taken → length configs < 15 → is_known (root ∷ configs) new ≡ false → more ≡ own_pages new → Stands root (configs ++ new ∷ []) (marks ++ false ∷ []) (taken + more)
+stands-push root configs marks taken new more h few unknown own =
     let even = h.even in
     let a = length_push configs new in
     let b = length_push marks false in
@@ -61,18 +63,26 @@ stands-push root configs marks new h few unknown =
       few = omega arith;
       differ = all_pairs_push AreTwo (root ∷ configs) new h.differ (λ k d l.
           list_any-false (is_namesake new) (root ∷ configs) (get_or (root ∷ configs) k d) unknown (k, l, sym (read_again (root ∷ configs) k d l)));
+      pages = ap (λ n. n + more) h.pages ∙ ap (λ n. sum_by own_pages configs + n) own ∙ sym (sum_by_push own_pages configs new);
     }
 
-pub stands-remove : (root : CellConfig) (configs : List CellConfig) (marks : List Bool) (i : ℕ) → Stands root configs marks → i < length configs → Stands root (remove configs i) (remove marks i)
-stands-remove root configs marks i h l =
+-- those of one of them are among the pages that are taken
+pub own-among : (root : CellConfig) (configs : List CellConfig) (marks : List Bool) (taken i : ℕ) (d : CellConfig) (gone : ℕ) → Stands root configs marks taken → i < length configs → gone ≡ own_pages (get_or configs i d) → sum_by own_pages (remove configs i) + gone ≡ taken
+own-among root configs marks taken i d gone h l own =
+    ap (λ n. sum_by own_pages (remove configs i) + n) own ∙ sum_by-remove own_pages configs i d l ∙ sym h.pages
+
+pub stands-remove : (root : CellConfig) (configs : List CellConfig) (marks : List Bool) (taken i : ℕ) (d : CellConfig) (gone : ℕ) → Stands root configs marks taken → i < length configs → gone ≡ own_pages (get_or configs i d) → Stands root (remove configs i) (remove marks i) (taken - gone)
+stands-remove root configs marks taken i d gone h l own =
     let even = h.even in
     let few = h.few in
     let a = length-removed i configs l in
     let b = length-removed i marks (omega arith) in
+    let among : sum_by own_pages (remove configs i) + gone ≡ taken = own-among root configs marks taken i d gone h l own in
     record {
       even = omega arith;
       few = omega arith;
       differ = all_pairs_remove AreTwo (root ∷ configs) (suc i) (omega arith) h.differ;
+      pages = omega arith;
     }
 
 -- the first place behind one that fails

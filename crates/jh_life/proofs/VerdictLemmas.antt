@@ -6,6 +6,7 @@ use Rattle.jh_num.specs.declared.error.TheConstants.{EBUSY, EEXIST, ENOMEM}
 use Rattle.jh_cellcfg.specs.declared.config.CellConfig.{CellConfig}
 use Rattle.jh_cellcfg.specs.declared.config.SystemConfig.{SystemConfig}
 use Rattle.jh_check.specs.declared.verdict.NewCell.{NewCell}
+use Rattle.jh_check.specs.declared.verdict.NewCell.TheVariants.{Clean, Invalid, Busy}
 use Rattle.jh_check.specs.Verdicts.{verdict_of}
 use Rattle.jh_check.specs.Refusals.{is_known, names_beyond, nobody, by_check, refusal_of}
 use Rattle.jh_shape.specs.Claims.{has_bit}
@@ -26,7 +27,7 @@ tests-none : (known busy : Bool) (found : NewCell) (p q : ℕ) → by_tests know
 tests-none true busy found p q e = cc
 tests-none false busy found p q e = refl
 
-accepted-none : (system : SystemConfig) (live : List CellConfig) (new : CellConfig) (may : ℕ → Bool) (p q : ℕ) → refusal_of system live new may p q ≡ None → is_known (system.root ∷ live) new ≡ false
+pub accepted-none : (system : SystemConfig) (live : List CellConfig) (new : CellConfig) (may : ℕ → Bool) (p q : ℕ) → refusal_of system live new may p q ≡ None → is_known (system.root ∷ live) new ≡ false
 unfolding refusal_of
 accepted-none system live new may p q e = tests-none (is_known (system.root ∷ live) new) (names_beyond may new.cpu_set) (verdict_of system live new) p q e
 
@@ -41,6 +42,40 @@ if_none-from (Some x) P h = tt
 pub if_none-some : (o : Option ℤ) (P : Type 0) → is_some o ≡ true → IfNone o P
 if_none-some None P e = absurd (false≢true e)
 if_none-some (Some x) P e = tt
+
+-- where there are no pages to be wanted: what is refused then is refused for whatever pages
+tests-before : (known busy : Bool) (found : NewCell) (p q : ℕ) (x : ℤ) → by_tests known busy found 0 0 ≡ Some x → by_tests known busy found p q ≡ Some x
+tests-before true busy found p q x e = e
+tests-before false true found p q x e = e
+tests-before false false Invalid p q x e = e
+tests-before false false Busy p q x e = e
+tests-before false false Clean p q x e = let f : None ≡ Some x = e in cc
+
+refused-before : (system : SystemConfig) (live : List CellConfig) (new : CellConfig) (may : ℕ → Bool) (p q : ℕ) (x : ℤ) → refusal_of system live new may 0 0 ≡ Some x → refusal_of system live new may p q ≡ Some x
+unfolding refusal_of
+refused-before system live new may p q x e = tests-before (is_known (system.root ∷ live) new) (names_beyond may new.cpu_set) (verdict_of system live new) p q x e
+
+pub refused-kept : {x : ℤ} (system : SystemConfig) (live : List CellConfig) (new : CellConfig) (may : ℕ → Bool) (p q : ℕ) → refusal_of system live new may 0 0 ≡ Some x → refusal_of system live new may 0 0 ≡ refusal_of system live new may p q
+refused-kept system live new may p q e = e ∙ sym (refused-before system live new may p q _ e)
+
+-- and what isn't is left to the pages
+tests-left : (known busy : Bool) (found : NewCell) (p q : ℕ) → by_tests known busy found 0 0 ≡ None → by_tests known busy found p q ≡ (if nat_lt q p then Some ENOMEM else None)
+tests-left true busy found p q e = cc
+tests-left false true found p q e = cc
+tests-left false false Invalid p q e = cc
+tests-left false false Busy p q e = cc
+tests-left false false Clean p q e = refl
+
+pub refused-left : (system : SystemConfig) (live : List CellConfig) (new : CellConfig) (may : ℕ → Bool) (p q : ℕ) → refusal_of system live new may 0 0 ≡ None → refusal_of system live new may p q ≡ (if nat_lt q p then Some ENOMEM else None)
+unfolding refusal_of
+refused-left system live new may p q e = tests-left (is_known (system.root ∷ live) new) (names_beyond may new.cpu_set) (verdict_of system live new) p q e
+
+-- beside the same cells
+pub same-cells : (s system : SystemConfig) (l live : List CellConfig) (new : CellConfig) (may other : ℕ → Bool) (p q : ℕ) → s ≡ system → l ≡ live → ((cpu : ℕ) → may cpu ≡ other cpu) → refusal_of s l new may p q ≡ refusal_of system live new other p q
+same-cells s system l live new may other p q e f same =
+    ap (λ (x : SystemConfig). refusal_of x l new may p q) e
+    ∙ ap (λ (x : List CellConfig). refusal_of system x new may p q) f
+    ∙ ap (λ (m : ℕ → Bool). refusal_of system live new m p q) (λ i cpu. same cpu i)
 
 -- a CPU of the mask that is the caller's isn't given away
 pub may-none : (owned caller cpu : ℕ) → (IsTrue (has_bit owned cpu) → cpu ≡ caller) → nobody cpu ≡ may_have owned caller cpu

@@ -10,7 +10,7 @@ ghost use Rattle.jh_life.specs.Stands.{AreTwo};
 ghost use Rattle.jh_life.specs.Verdict.{verdict_of_create};
 
 use crate::copy::copy_of_system;
-use crate::counting::pages_of;
+use crate::counting::{cell_pages, pages_of, refusal_by_pages};
 use crate::marks::{free_cpus, mask_of};
 use jh_cellcfg::{CellConfig, SystemConfig};
 use jh_check::{refusal_of, refusal_without_cpus};
@@ -29,6 +29,8 @@ pub struct Cells {
     system: SystemConfig,
     configs: Vec<CellConfig>,
     marks: Vec<bool>,
+    /// How many pages the cells besides root take.
+    taken: u64,
 }
 
 impl Model for Cells {
@@ -44,7 +46,7 @@ impl Model for Cells {
       spare = min (vec_capacity c.configs - vec_len c.configs) (vec_capacity c.marks - vec_len c.marks);
     } };
 
-    ghost invariant = { λ c. Stands c.system.root c.configs.items c.marks.items };
+    ghost invariant = { λ c. Stands c.system.root c.configs.items c.marks.items c.taken };
 }
 
 /// The index of the cell with the id.
@@ -86,6 +88,7 @@ impl Cells {
             system: copy_of_system(alloc, system)?,
             configs: Vec::new(alloc),
             marks: Vec::new(alloc),
+            taken: 0,
         })
     }
 
@@ -110,6 +113,7 @@ impl Cells {
         pages_of(
             self.system.root.memory_regions.as_slice(),
             self.configs.as_slice(),
+            self.taken,
             extra,
         )
     }
@@ -141,15 +145,12 @@ impl Cells {
             return Ok(refusal_without_cpus(&self.system, live, new));
         }
         let free = free_cpus(owned, caller);
-        refusal_of(
-            alloc,
-            &self.system,
-            live,
-            new,
-            &free,
-            self.pages(Some(new)),
-            u64::from(pool),
-        )
+        // Pages are counted last, where nothing else speaks against the cell.
+        let refusal = refusal_of(alloc, &self.system, live, new, &free, 0, 0)?;
+        match refusal {
+            Some(_) => Ok(refusal),
+            None => Ok(refusal_by_pages(self.pages(Some(new)), pool)),
+        }
     }
 
     /// The cells besides root, in order of creation.
@@ -192,6 +193,7 @@ impl Cells {
     {
         make_room(&mut self.configs)?;
         make_room(&mut self.marks)?;
+        self.taken += cell_pages(&new);
         self.configs.push_reserved(new);
         self.marks.push_reserved(false);
         Ok(())
@@ -206,6 +208,9 @@ impl Cells {
         ensures spare { self.new.spare ≡ self.old.spare + 1 }
     {
         let index = place as usize - 1;
+        let live = self.configs.as_slice();
+        let gone = cell_pages(&live[index]);
+        self.taken -= gone;
         let _ = self.configs.remove(index);
         let _ = self.marks.remove(index);
     }

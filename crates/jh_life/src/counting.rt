@@ -1,10 +1,12 @@
 //! The pages that root and the live cells take.
-ghost use Rattle.std.specs.Prelude.{◌≡◌, ◌≤◌, ◌+◌, ◌*◌, ◌^◌, ◌++◌, length, sum_by, option_to_list};
+ghost use Rattle.std.specs.Prelude.{◌≡◌, ◌≤◌, ◌+◌, ◌*◌, ◌^◌, ◌++◌, length, sum_by, option_to_list, nat_lt, Some, None, if◌then◌else◌};
 ghost use Rattle.std.specs.Option.{option_copied};
 ghost use Rattle.jh_cellcfg.specs.declared.config.CellConfig.{CellConfig as TheCell};
+ghost use Rattle.jh_num.specs.declared.error.TheConstants.{ENOMEM};
 ghost use Rattle.jh_shape.specs.Pages.{tables_of, root_claims, cell_claims, pages_of};
 
 use jh_cellcfg::{CellConfig, Region};
+use jh_num::error::ENOMEM;
 use jh_shape::Target;
 
 /// All cells hold what is theirs.
@@ -29,7 +31,7 @@ fn root_tables(root: &[Region], cells: &[CellConfig], extra: Option<&CellConfig>
 }
 
 /// The pages of another cell: its tables and its communication page.
-fn cell_pages(cell: &CellConfig) -> u64
+pub(crate) fn cell_pages(cell: &CellConfig) -> u64
     ensures value { result ≡ tables_of (cell_claims cell.now) + 1 }
     ensures bound { result ≤ 2 ^ 20 + 1 }
 {
@@ -45,27 +47,31 @@ fn cell_pages(cell: &CellConfig) -> u64
     target.tables() + 1
 }
 
-/// The pages of the cells without root's.
-fn sum_of_pages(cells: &[CellConfig]) -> u64
-    requires { length cells.now ≤ 15 }
-    ensures value { result ≡ sum_by (λ (cell : TheCell). tables_of (cell_claims cell) + 1) cells.now }
-    ensures bound { result ≤ (2 ^ 20 + 1) * length cells.now }
-{
-    let mut pages = 0;
-    for i in 0..cells.len() {
-        pages += cell_pages(&cells[i]);
-    }
-    pages
-}
-
-/// The pages of root, the cells and one more.
-pub(crate) fn pages_of(root: &[Region], cells: &[CellConfig], extra: Option<&CellConfig>) -> u64
-    requires { length cells.now ≤ 15 }
+/// The pages of root, the cells, which without root's take so many, and one more.
+pub(crate) fn pages_of(
+    root: &[Region],
+    cells: &[CellConfig],
+    taken: u64,
+    extra: Option<&CellConfig>,
+) -> u64
+    requires few { length cells.now ≤ 15 }
+    requires taken { taken ≡ sum_by (λ (cell : TheCell). tables_of (cell_claims cell) + 1) cells.now }
     ensures { result ≡ pages_of root.now (cells.now ++ option_to_list (option_copied extra.entry)) }
 {
-    let pages = root_tables(root, cells, extra) + sum_of_pages(cells);
+    let pages = root_tables(root, cells, extra) + taken;
     match extra {
         Some(cell) => pages + cell_pages(cell),
         None => pages,
+    }
+}
+
+/// What a cell is refused for that nothing else speaks against: ENOMEM, where there are fewer pages than are wanted.
+pub(crate) fn refusal_by_pages(pages: u64, pool: u32) -> Option<i64>
+    ensures { result ≡ (if nat_lt pool pages then Some ENOMEM else None) }
+{
+    if pages > u64::from(pool) {
+        Some(ENOMEM)
+    } else {
+        None
     }
 }

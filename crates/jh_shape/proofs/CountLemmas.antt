@@ -1,5 +1,6 @@
 -- Counting numbers that pass a test.
-use Rattle.std.proofs.Common.{◌≡◌, ℕ, ◌+◌, ◌<◌, ◌≤◌, zero, suc, Bool, true, false, cond, refl, ap, ◌∙◌, arith}
+use Rattle.std.proofs.Common.{◌≡◌, ℕ, ◌+◌, ◌-◌, ◌<◌, ◌≤◌, zero, suc, min, Bool, true, false, cond, refl, sym, ap, ⊎_elim, ◌∙◌, arith}
+use Rattle.std.proofs.lemmas.Bool.{cases_lt}
 use Rattle.jh_shape.specs.Pages.{count_below}
 
 pub count_below-none : (test : ℕ → Bool) → count_below test 0 ≡ 0
@@ -47,3 +48,18 @@ count_below-stretch test from (suc run) b h =
     ∙ ap (λ n. n + cond (test (from + run)) 1 0) (count_below-stretch test from run b (λ k l. h k (omega arith)))
     ∙ ap (λ v. (count_below test from + cond b run 0) + cond v 1 0) (h run (omega arith))
     ∙ stretch_more b (count_below test from) run
+
+-- none passes from `end` on
+pub count_below-until : (test : ℕ → Bool) (end all : ℕ) → ((k : ℕ) → end ≤ k → test k ≡ false) → count_below test (min end all) ≡ count_below test all
+count_below-until test end all none =
+    ⊎_elim
+    (λ (low : end < all).
+    let least : min end all ≡ end = omega arith in
+    let whole : end + (all - end) ≡ all = omega arith in
+    let rest : count_below test (end + (all - end)) ≡ count_below test end + 0 = count_below-stretch test end (all - end) false (λ k l. none (end + k) (omega arith)) in
+    let same : count_below test end + 0 ≡ count_below test end = omega arith in
+    ap (λ n. count_below test n) least ∙ sym (rest ∙ same) ∙ ap (λ n. count_below test n) whole)
+    (λ (high : all ≤ end).
+    let least : min end all ≡ all = omega arith in
+    ap (λ n. count_below test n) least)
+    (cases_lt end all)

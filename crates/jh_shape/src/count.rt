@@ -61,34 +61,34 @@ fn count_apart(met: &[u64], leaves: &[u64], end: usize) -> u64
 }
 
 impl<'a> Target<'a> {
-    /// The slots of places that other cells cut.
-    fn cuts(&self, level: u8) -> [u64; WORDS]
+    /// Marks the slots of places that other cells cut, where none is marked.
+    fn fill_cuts(&self, words: &mut [u64], level: u8)
         requires cells { length self.now.cells.now ≤ 15 }
         requires level { level < LAST_LEVEL }
-        ensures { AreMarked result level (λ n. are_cut (claims_of self.now).holders (n * slot_size level) (slot_size level)) }
+        requires enough { length words.old ≡ 4096 }
+        requires clear { (n : ℕ) → is_marked words.old n ≡ false }
+        ensures { AreMarked words.new level (λ n. are_cut (claims_of self.now).holders (n * slot_size level) (slot_size level)) }
     {
-        let mut words = [0; WORDS];
         for (i, cell) in self.cells.iter().enumerate() {
             if has_bit(self.held, i) {
-                mark_cuts(&mut words, level, cell.memory_regions.as_slice());
+                mark_cuts(words, level, cell.memory_regions.as_slice());
             }
         }
         if let Some(cell) = self.extra {
-            mark_cuts(&mut words, level, cell.memory_regions.as_slice());
+            mark_cuts(words, level, cell.memory_regions.as_slice());
         }
-        words
     }
 
     /// The same, as far as they are root's matter.
-    fn cuts_of_root(&self, level: u8) -> [u64; WORDS]
+    fn fill_cuts_of_root(&self, words: &mut [u64], level: u8)
         requires cells { length self.now.cells.now ≤ 15 }
         requires level { level < LAST_LEVEL }
-        ensures { AreCuts result level (claims_of self.now) }
+        requires enough { length words.old ≡ 4096 }
+        requires clear { (n : ℕ) → is_marked words.old n ≡ false }
+        ensures { AreCuts words.new level (claims_of self.now) }
     {
         if self.root {
-            self.cuts(level)
-        } else {
-            [0; WORDS]
+            self.fill_cuts(words, level);
         }
     }
 
@@ -143,42 +143,53 @@ impl<'a> Target<'a> {
         }
     }
 
-    /// The slots that page-mapped regions meet.
-    fn met(&self, level: u8) -> [u64; WORDS]
-        requires { level < LAST_LEVEL }
-        ensures { AreMarked result level (λ n. is_met (claims_of self.now) level (n * slot_size level)) }
+    /// Marks the slots that page-mapped regions meet, where none is marked, and tells a number that each of them is
+    /// below.
+    fn fill_met(&self, words: &mut [u64], level: u8) -> usize
+        requires level { level < LAST_LEVEL }
+        requires enough { length words.old ≡ 4096 }
+        requires clear { (n : ℕ) → is_marked words.old n ≡ false }
+        ensures met { AreMarked words.new level (λ n. is_met (claims_of self.now) level (n * slot_size level)) }
+        ensures end { (n : ℕ) → result ≤ n → is_marked words.new n ≡ false }
     {
-        let mut words = [0; WORDS];
+        let mut end = 0;
         for region in self.regions {
-            mark_met(&mut words, level, region);
+            let past = mark_met(words, level, region);
+            end = end.max(past);
         }
-        words
+        end
     }
 
-    /// The slots that are leaves.
-    fn leaves(&self, level: u8) -> [u64; WORDS]
+    /// Marks the slots that are leaves, where none is marked.
+    fn fill_leaves(&self, words: &mut [u64], cuts: &[u64], level: u8)
         requires cells { length self.now.cells.now ≤ 15 }
         requires level { level < LAST_LEVEL }
-        ensures { AreMarked result level (λ n. is_leaf (claims_of self.now) level (n * slot_size level)) }
+        requires words { length words.old ≡ 4096 }
+        requires clear { (n : ℕ) → is_marked words.old n ≡ false }
+        requires enough { length cuts.now ≡ 4096 }
+        requires cuts { AreCuts cuts.now level (claims_of self.now) }
+        ensures { AreMarked words.new level (λ n. is_leaf (claims_of self.now) level (n * slot_size level)) }
     {
-        let cuts = self.cuts_of_root(level);
-        let mut words = [0; WORDS];
         for region in self.regions {
-            self.mark_leaves(&mut words, &cuts, level, region);
+            self.mark_leaves(words, cuts, level, region);
         }
-        words
     }
 
-    /// How many slots of the level are tables.
+    /// How many slots of the level are tables. All marks stand here alone, and are lent: a list of them is large.
     fn tables_at(&self, level: u8) -> u64
         requires cells { length self.now.cells.now ≤ 15 }
         requires level { level < LAST_LEVEL }
         ensures value { result ≡ tables_at (claims_of self.now) level }
         ensures bound { result ≤ ADDRESS_END }
     {
-        let met = self.met(level);
-        let leaves = self.leaves(level);
-        count_apart(&met, &leaves, slots(level))
+        let mut cuts = [0; WORDS];
+        let mut met = [0; WORDS];
+        let mut leaves = [0; WORDS];
+        self.fill_cuts_of_root(&mut cuts, level);
+        let past = self.fill_met(&mut met, level);
+        self.fill_leaves(&mut leaves, &cuts, level);
+        let end = past.min(slots(level));
+        count_apart(&met, &leaves, end)
     }
 
     /// How many pages the tables take: the first table, and one for each slot that is a table. The

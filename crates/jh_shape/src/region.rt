@@ -114,15 +114,20 @@ pub(crate) fn fits_blocks(level: u8, region: &Region) -> bool
         && region.phys_start % size == region.virt_start % size
 }
 
-/// Marks the slots in which the region has an address, where tables map it.
-pub(crate) fn mark_met(words: &mut [u64], level: u8, region: &Region)
+/// Marks the slots in which the region has an address, where tables map it, and tells a number that each of them is
+/// below.
+pub(crate) fn mark_met(words: &mut [u64], level: u8, region: &Region) -> usize
     requires level { level < LAST_LEVEL }
     requires enough { length words.old ≡ 4096 }
-    ensures { AreMarked words.new level (λ n. is_marked words.old n || is_met_by level (n * slot_size level) region.now) }
+    ensures marks { AreMarked words.new level (λ n. is_marked words.old n || is_met_by level (n * slot_size level) region.now) }
+    ensures end { (n : ℕ) → result ≤ n → is_marked words.new n ≡ is_marked words.old n }
 {
     if is_mapped(region) {
         let slots = addresses(region).touched(level);
         mark_span(words, slots.from, slots.to);
+        slots.to
+    } else {
+        0
     }
 }
 

@@ -1,9 +1,17 @@
-use Rattle.std.proofs.Common.{◌≡◌, false, Bool, List, [], ◌∷◌, ◌++◌, length, ap, subst, ◌∙◌, arith}
+use Rattle.std.proofs.Common.{◌≡◌, ◌*◌, ◌≤◌, false, Bool, List, [], ◌∷◌, ◌++◌, length, ap, subst, ◌∙◌, arith}
 use Rattle.jh_cellcfg.specs.declared.config.CellConfig.{CellConfig}
 use Rattle.jh_check.specs.Refusals.{is_known}
 use Rattle.jh_life.specs.Lives.{cells_of}
 use Rattle.jh_life.proofs.JoinedLemmas.{list-joined, length-joined, joined-push, stands-push}
+use Rattle.jh_life.proofs.PageLemmas.{own-le}
 use Rattle.jh_life.proofs.cells.Cells.add.Goals as goal
+
+pub overflow_add-self : goal.overflow_add-self
+overflow_add-self c =
+    let few = c.self.invariant.few in
+    let own = c.cell_pages.ensures.bound in
+    let taken : c.self.inside.taken ≤ 1048577 * length c.self.inside.configs.items = rw c.self.invariant.pages (own-le c.self.inside.configs.items) in
+    omega arith
 
 pub invariant_of-self-2 : goal.invariant_of-self-2
 invariant_of-self-2 c =
@@ -15,7 +23,7 @@ invariant_of-self-2 c =
     let lives : length c.args.self.now.lives ≡ length configs = rw (← c.self.view_is) (length-joined configs marks c.self.invariant.even) in
     let cells : cells_of c.args.self.now ≡ root ∷ configs = rw (← c.self.view_is) (ap (λ (l : List CellConfig). root ∷ l) (list-joined configs marks c.self.invariant.even)) in
     let unknown : is_known (root ∷ configs) c.args.new ≡ false = subst (λ (l : List CellConfig). is_known l c.args.new ≡ false) cells c.requires.unknown in
-    rw (first, second) (stands-push root configs marks c.args.new c.self.invariant (omega arith) unknown)
+    rw (first, second) (stands-push root configs marks c.self.inside.taken c.args.new c.cell_pages.result c.self.invariant (omega arith) unknown c.cell_pages.ensures.value)
 
 pub returns-clause-ok : goal.returns-clause-ok
 returns-clause-ok c =

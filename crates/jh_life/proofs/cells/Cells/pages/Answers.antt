@@ -1,11 +1,16 @@
-use Rattle.std.proofs.Common.{List, ◌++◌, sym, ap, ◌∙◌}
+use Rattle.std.proofs.Common.{List, ◌++◌, sum_by, sym, ap, ◌∙◌}
 use Rattle.std.specs.Prelude.{option_to_list}
 use Rattle.std.specs.Option.{option_copied}
 use Rattle.jh_cellcfg.specs.declared.config.CellConfig.{CellConfig}
 use Rattle.jh_cellcfg.specs.declared.region.Region.{Region}
 use Rattle.jh_shape.specs.Pages.{pages_of}
 use Rattle.jh_life.proofs.JoinedLemmas.{list-joined}
+use Rattle.jh_life.proofs.PageLemmas.{own_pages}
 use Rattle.jh_life.proofs.cells.Cells.pages.Goals as goal
+
+pub pages_of-requires-clause-taken : goal.pages_of-requires-clause-taken
+pages_of-requires-clause-taken c =
+    c.self.invariant.pages ∙ ap (λ (cells : List CellConfig). sum_by own_pages cells) (sym c.as_slice-2.ensures.value)
 
 pub returns : goal.returns
 returns c =

@@ -1,6 +1,6 @@
-use Rattle.std.proofs.Common.{◌≡◌, ℕ, ◌<◌, Bool, false, List, [], ◌∷◌, ◌++◌, length, get_or, refl, sym, ap, subst, ◌∙◌, arith}
-use Rattle.std.specs.Prelude.{Option, ℤ, IfOk, IfNone}
-use Rattle.std.proofs.lemmas.Result.{IfOk-weaker}
+use Rattle.std.proofs.Common.{◌≡◌, ℕ, ◌<◌, Bool, false, List, [], ◌∷◌, ◌++◌, length, get_or, Some, None, nat_lt, refl, sym, ap, ◌∙◌, arith}
+use Rattle.std.specs.Prelude.{if◌then◌else◌}
+use Rattle.jh_num.specs.declared.error.TheConstants.{ENOMEM}
 use Rattle.jh_cellcfg.specs.declared.config.CellConfig.{CellConfig}
 use Rattle.jh_cellcfg.specs.declared.config.SystemConfig.{SystemConfig}
 use Rattle.jh_check.specs.Refusals.{is_known, nobody, refusal_of}
@@ -9,9 +9,9 @@ use Rattle.jh_life.specs.Seen.{Seen}
 use Rattle.jh_life.specs.Lives.{configs_of, cells_of}
 use Rattle.jh_life.specs.Verdict.{may_have}
 use Rattle.jh_life.proofs.JoinedLemmas.{list-joined, length-joined}
-use Rattle.jh_life.proofs.VerdictLemmas.{refused-same, accepted-unknown, if_none-from, if_none-some, may-none}
+use Rattle.jh_life.proofs.VerdictLemmas.{refused-same, refused-kept, refused-left, same-cells, accepted-none, accepted-unknown, if_none-from, if_none-some, may-none}
 use Rattle.jh_life.proofs.cells.Cells.verdict.Goals as goal
-use Rattle.jh_life.proofs.cells.Cells.verdict.Goals.{After-refusal_without_cpus, After-refusal_of}
+use Rattle.jh_life.proofs.cells.Cells.verdict.Goals.{After-refusal_without_cpus}
 
 -- the pages of all cells with another
 abbrev pages_with : Seen → CellConfig → ℕ
@@ -47,39 +47,57 @@ returns-then-live-eq-MOST_CELLS-clause-unknown c =
 pub returns-then-live-eq-MOST_CELLS-clause-room : goal.returns-then-live-eq-MOST_CELLS-clause-room
 returns-then-live-eq-MOST_CELLS-clause-room c = if_none-some c.refusal_without_cpus.result (length c.args.self.now.lives < 15) c.refusal_without_cpus.ensures.some
 
--- beside fewer
-told : (c : After-refusal_of) → IfOk c.refusal_of.result (λ refusal. refusal ≡ refusal_of c.args.self.now.system (configs_of c.args.self.now.lives) c.args.new.now (may_have c.args.owned c.args.caller) (pages_with c.args.self.now c.args.new.now) c.args.pool)
-told c =
+-- beside fewer: what is refused before the pages
+pub returns-in-Some-clause-value : goal.returns-in-Some-clause-value
+returns-in-Some-clause-value c =
     let now = c.args.self.now in
     let new = c.args.new.now in
     let live = c.as_slice-live.result.now in
     let free : ℕ → Bool = λ cpu. get_or c.free_cpus-free.result cpu false in
     let system : c.self.inside.system ≡ now.system = ap (λ (s : Seen). s.system) c.self.view_is in
     let cells : live ≡ configs_of now.lives = c.as_slice-live.ensures.value ∙ sym (list-joined c.self.inside.configs.items c.self.inside.marks.items c.self.invariant.even) ∙ ap (λ (s : Seen). configs_of s.lives) c.self.view_is in
-    subst (λ (whole : Option ℤ). IfOk c.refusal_of.result (λ refusal. refusal ≡ whole))
-    (ap (λ (s : SystemConfig). refusal_of s live new free c.pages.result c.from.result) system
-    ∙ ap (λ (l : List CellConfig). refusal_of now.system l new free c.pages.result c.from.result) cells
-    ∙ refused-same now.system (configs_of now.lives) new free (may_have c.args.owned c.args.caller) c.pages.result (pages_with now new) c.from.result c.free_cpus-free.ensures c.pages.ensures
-    ∙ ap (λ n. refusal_of now.system (configs_of now.lives) new (may_have c.args.owned c.args.caller) (pages_with now new) n) c.from.ensures)
-    c.refusal_of.ensures
+    let kept : refusal_of c.self.inside.system live new free 0 0 ≡ refusal_of c.self.inside.system live new free (pages_with now new) c.args.pool =
+    refused-kept c.self.inside.system live new free (pages_with now new) c.args.pool (sym c.in_ok-refusal.ensures ∙ c.in-Some.is) in
+    rw c.if-locked.false
+    (c.in_ok-refusal.ensures ∙ kept
+    ∙ same-cells c.self.inside.system now.system live (configs_of now.lives) new free (may_have c.args.owned c.args.caller) (pages_with now new) c.args.pool system cells c.free_cpus-free.ensures)
 
-pub returns-clause-value : goal.returns-clause-value
-returns-clause-value c = rw c.if-locked.false (told c)
-
-pub returns-clause-unknown : goal.returns-clause-unknown
-returns-clause-unknown c =
+-- what is left to them
+pub returns-in-None-clause-value : goal.returns-in-None-clause-value
+returns-in-None-clause-value c =
     let now = c.args.self.now in
-    let may = may_have c.args.owned c.args.caller in
-    let pages = pages_with now c.args.new.now in
-    IfOk-weaker c.refusal_of.result (λ refusal. refusal ≡ refusal_of now.system (configs_of now.lives) c.args.new.now may pages c.args.pool) (λ refusal. IfNone refusal (is_known (cells_of now) c.args.new.now ≡ false))
-    (λ refusal e. accepted-unknown refusal now.system (configs_of now.lives) c.args.new.now may pages c.args.pool e) (told c)
+    let new = c.args.new.now in
+    let live = c.as_slice-live.result.now in
+    let free : ℕ → Bool = λ cpu. get_or c.free_cpus-free.result cpu false in
+    let system : c.self.inside.system ≡ now.system = ap (λ (s : Seen). s.system) c.self.view_is in
+    let cells : live ≡ configs_of now.lives = c.as_slice-live.ensures.value ∙ sym (list-joined c.self.inside.configs.items c.self.inside.marks.items c.self.invariant.even) ∙ ap (λ (s : Seen). configs_of s.lives) c.self.view_is in
+    let before : refusal_of c.self.inside.system live new free 0 0 ≡ None = sym c.in_ok-refusal.ensures ∙ c.in-None.is in
+    let whole = refused-left c.self.inside.system live new free (pages_with now new) c.args.pool before in
+    rw c.if-locked.false
+    (c.refusal_by_pages.ensures
+    ∙ ap (λ n. if nat_lt c.args.pool n then Some ENOMEM else None) c.pages.ensures
+    ∙ sym whole
+    ∙ same-cells c.self.inside.system now.system live (configs_of now.lives) new free (may_have c.args.owned c.args.caller) (pages_with now new) c.args.pool system cells c.free_cpus-free.ensures)
 
-pub returns-clause-room : goal.returns-clause-room
-returns-clause-room c =
+pub returns-in-None-clause-unknown : goal.returns-in-None-clause-unknown
+returns-in-None-clause-unknown c =
+    let now = c.args.self.now in
+    let new = c.args.new.now in
+    let live = c.as_slice-live.result.now in
+    let free : ℕ → Bool = λ cpu. get_or c.free_cpus-free.result cpu false in
+    let system : c.self.inside.system ≡ now.system = ap (λ (s : Seen). s.system) c.self.view_is in
+    let cells : live ≡ configs_of now.lives = c.as_slice-live.ensures.value ∙ sym (list-joined c.self.inside.configs.items c.self.inside.marks.items c.self.invariant.even) ∙ ap (λ (s : Seen). configs_of s.lives) c.self.view_is in
+    let before : refusal_of now.system (configs_of now.lives) new (may_have c.args.owned c.args.caller) 0 0 ≡ None =
+    sym (same-cells c.self.inside.system now.system live (configs_of now.lives) new free (may_have c.args.owned c.args.caller) 0 0 system cells c.free_cpus-free.ensures)
+    ∙ sym c.in_ok-refusal.ensures ∙ c.in-None.is in
+    if_none-from c.refusal_by_pages.result (is_known (cells_of now) new ≡ false)
+    (accepted-none now.system (configs_of now.lives) new (may_have c.args.owned c.args.caller) 0 0 before)
+
+pub returns-in-None-clause-room : goal.returns-in-None-clause-room
+returns-in-None-clause-room c =
     let now = c.args.self.now in
     let configs = c.self.inside.configs.items in
     let lives : length now.lives ≡ length configs = rw (← c.self.view_is) (length-joined configs c.self.inside.marks.items c.self.invariant.even) in
     let len : length c.as_slice-live.result.now ≡ length configs = ap (λ (l : List CellConfig). length l) c.as_slice-live.ensures.value in
     let few : length now.lives < 15 = omega arith in
-    IfOk-weaker c.refusal_of.result (λ refusal. refusal ≡ refusal_of now.system (configs_of now.lives) c.args.new.now (may_have c.args.owned c.args.caller) (pages_with now c.args.new.now) c.args.pool) (λ refusal. IfNone refusal (length now.lives < 15))
-    (λ refusal e. if_none-from refusal (length now.lives < 15) few) (told c)
+    if_none-from c.refusal_by_pages.result (length now.lives < 15) few

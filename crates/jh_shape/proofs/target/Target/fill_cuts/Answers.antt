@@ -5,12 +5,11 @@ use Rattle.jh_shape.specs.Claims.{has_bit}
 use Rattle.jh_shape.specs.Marks.{is_marked}
 use Rattle.jh_shape.specs.Shapes.{slot_size, meets_in_part}
 use Rattle.jh_shape.proofs.HoldersLemmas.{cut_more, cut_same}
-use Rattle.jh_shape.proofs.MarkLemmas.{unmarked}
-use Rattle.jh_shape.proofs.target.Target.cuts.Goals as goal
-use Rattle.jh_shape.proofs.target.Target.cuts.Goals.{then-has_bit, else-has_bit}
+use Rattle.jh_shape.proofs.target.Target.fill_cuts.Goals as goal
+use Rattle.jh_shape.proofs.target.Target.fill_cuts.Goals.{then-has_bit, else-has_bit}
 
 pub loop-i-init : goal.loop-i-init
-loop-i-init c = λ n below. unmarked 4096 n
+loop-i-init c = λ n below. c.requires.clear n
 
 pub loop-i-preserved : goal.loop-i-preserved
 loop-i-preserved c = λ n below.

@@ -4,7 +4,7 @@ use Rattle.jh_cellcfg.specs.declared.region.Region.{Region}
 use Rattle.jh_shape.specs.Claims.{claims_of}
 use Rattle.jh_shape.specs.Marks.{AreMarked}
 use Rattle.jh_shape.specs.Shapes.{slot_size, is_leaf_by}
-use Rattle.jh_shape.proofs.target.Target.leaves.Given as goal
+use Rattle.jh_shape.proofs.target.Target.fill_leaves.Given as goal
 
 abbrev pub invariant-loop-region : goal.invariant-loop-region
 invariant-loop-region l = AreMarked l.words l.level (λ n. list_any (λ (region : Region). is_leaf_by (claims_of l.self) l.level (n * slot_size l.level) region) (take l.region-index l.self.regions.now))

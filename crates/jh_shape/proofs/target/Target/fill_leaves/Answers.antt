@@ -1,0 +1,4 @@
+use Rattle.jh_shape.proofs.target.Target.fill_leaves.Goals as goal
+
+pub loop-region-init : goal.loop-region-init
+loop-region-init c = λ n below. c.requires.clear n
