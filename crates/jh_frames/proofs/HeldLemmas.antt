@@ -1,8 +1,8 @@
 -- Which pages are held, and how many aren't.
-use Rattle.std.proofs.Common.{◌≡◌, ◌≢◌, ℕ, zero, suc, ◌+◌, ◌-◌, ◌*◌, ◌/◌, ◌<◌, ◌≤◌, ◌⊎◌, inl, inr, Bool, true, false, not, ◌||◌, cond, Result, Ok, Err, is_some, refl, sym, ap, subst, ◌∙◌, arith}
+use Rattle.std.proofs.Common.{◌≡◌, ◌≢◌, ℕ, zero, suc, ◌+◌, ◌-◌, ◌*◌, ◌/◌, ◌%◌, ◌<◌, ◌≤◌, ◌⊎◌, inl, inr, Bool, true, false, not, ◌||◌, cond, Result, Ok, Err, is_some, refl, sym, ap, subst, ◌∙◌, arith}
 use Rattle.std.specs.Prelude.{IsOk, OnOk}
 use Rattle.std.specs.List.{range_with_len}
-use Rattle.std.proofs.lemmas.Bool.{cases_eq, ne_eqb, false≢true}
+use Rattle.std.proofs.lemmas.Bool.{cases_eq, cases_lt, ne_eqb, false≢true}
 use Rattle.std.proofs.lemmas.List.Sums.{sum_by-cons}
 use Rattle.jh_frames.specs.Memory.{FramesView, is_own, page_at, holds, missing, missing_from, pages_in}
 use Rattle.jh_frames.specs.Kept.{IsWhole}
@@ -80,42 +80,13 @@ missing_alike v v' first (suc count) same =
     let rest : missing_from v' (first + 1) count ≡ missing_from v (first + 1) count = missing_alike v v' (first + 1) count (λ n le. same n (omega arith)) in
     omega arith
 
--- what is missing from a page on, by that page
-pub missing_next : (v : FramesView) (n count : ℕ) → 0 < count → missing_from v n count ≡ lacking v n + missing_from v (n + 1) (count - 1)
-missing_next v n zero p = elim p [ ]
-missing_next v n (suc count) p = let e : suc count - 1 ≡ count = omega arith in missing_more v n count ∙ ap (λ c. lacking v n + missing_from v (n + 1) c) (sym e)
-
 pub lacking_is : (b : Bool) (one none : ℕ) → cond (not b) one none ≡ cond b none one
 lacking_is true one none = refl
 lacking_is false one none = refl
 
-pub lacks_one : (v : FramesView) (n : ℕ) → holds v (4096 * n) ≡ false → lacking v n ≡ 1
-lacks_one v n lacks = ap (λ b. cond (not b) 1 0) lacks
-
--- what is missing once the first of the pages is held
-pub held_next : (v v' : FramesView) (n left rest : ℕ) → 0 < left → rest ≡ left - 1 → v'.own ≡ v.own → ((other : ℕ) → (other ≡ n → ⊥) → page_at v'.guest.pages other ≡ page_at v.guest.pages other) → missing_from v n left ≡ lacking v n + missing_from v' (n + 1) rest
-held_next v v' n left rest some e o others =
-    let all : missing_from v n left ≡ lacking v n + missing_from v (n + 1) (left - 1) = missing_next v n left some in
-    let alike : missing_from v' (n + 1) rest ≡ missing_from v (n + 1) rest = missing_alike v v' (n + 1) rest (λ k le.
-    let ne : 4096 * k / 4096 ≢ n = omega arith in
-    holds_same v v' (4096 * k) o (ap is_some (others (4096 * k / 4096) ne))) in
-    let same : missing_from v (n + 1) rest ≡ missing_from v (n + 1) (left - 1) = ap (missing_from v (n + 1)) e in
-    omega arith
-
-held_by_cases : (v v' : FramesView) (first n k : ℕ) → first ≤ k → k < n + 1 → ((i : ℕ) → first ≤ i → i < n → holds v (4096 * i) ≡ true) → ((q : ℕ) → holds v q ≡ true → holds v' q ≡ true) → holds v' (4096 * n) ≡ true → (k ≡ n) ⊎ (k ≡ n → ⊥) → holds v' (4096 * k) ≡ true
-held_by_cases v v' first n k le lt before kept here (inl e) = subst (λ i. holds v' (4096 * i) ≡ true) (sym e) here
-held_by_cases v v' first n k le lt before kept here (inr ne) = kept (4096 * k) (before k le (omega arith))
-
--- one page more is held
-pub held_more : (v v' : FramesView) (first n k : ℕ) → first ≤ k → k < n + 1 → ((i : ℕ) → first ≤ i → i < n → holds v (4096 * i) ≡ true) → ((q : ℕ) → holds v q ≡ true → holds v' q ≡ true) → holds v' (4096 * n) ≡ true → holds v' (4096 * k) ≡ true
-held_more v v' first n k le lt before kept here = held_by_cases v v' first n k le lt before kept here (cases_eq k n)
-
--- all places of the pages that are held
-pub all_held : (v : FramesView) (at count pages q : ℕ) → IsWhole v.own → at ≤ q → q < at + count → (q / 4096 < at / 4096 + pages) → ((number : ℕ) → at / 4096 ≤ number → number < at / 4096 + pages → holds v (4096 * number) ≡ true) → holds v q ≡ true
-all_held v at count pages q whole above below within held =
-    let number : 4096 * (q / 4096) / 4096 ≡ q / 4096 = omega arith in
-    let low : at / 4096 ≤ q / 4096 = omega arith in
-    sym (holds_page v (4096 * (q / 4096)) q whole number) ∙ held (q / 4096) low within
+-- as much is missing where the same pages are held
+pub missing_kept : (v v' : FramesView) (first count : ℕ) → v'.own ≡ v.own → v'.guest.pages ≡ v.guest.pages → missing_from v' first count ≡ missing_from v first count
+missing_kept v v' first count o p = missing_alike v v' first count (λ n le. holds_same v v' (4096 * n) o (ap (λ pages. is_some (page_at pages (4096 * n / 4096))) p))
 
 pages_some : (at count : ℕ) → 0 < count → pages_in at count ≡ (at + count - 1) / 4096 + 1 - at / 4096
 pages_some at count some = rw (ne_eqb count 0 (λ none. omega arith)) refl
@@ -130,17 +101,47 @@ pub on_ok : {T E P : Type 0} (r : Result T E) → IsOk r → OnOk r P → P
 on_ok (Ok x) ok is = is
 on_ok (Err e) ok is = absurd (false≢true ok)
 
--- what a page wants, and none if it is held
-abbrev pub wanted : Bool → ℕ
-wanted b = cond b 0 1
+-- what the page of a place wants
+pub lacking_at : (v : FramesView) (at : ℕ) → IsWhole v.own → lacking v (at / 4096) ≡ cond (holds v at) 0 1
+lacking_at v at whole =
+    let number : 4096 * (at / 4096) / 4096 ≡ at / 4096 = omega arith in
+    ap (λ b. cond (not b) 1 0) (holds_page v (4096 * (at / 4096)) at whole number) ∙ lacking_is (holds v at) 1 0
 
-pub none_for_held : (b : Bool) → b ≡ true → wanted b ≡ 0
-none_for_held b is = ap wanted is
+last_page : (v v' : FramesView) (at n k : ℕ) → k ≡ n → 0 < k → at % 4096 + k ≤ 4096 → missing v at n ≡ lacking v (at / 4096) + missing v' (at + k) (n - k)
+last_page v v' at n k all some within =
+    let pages : pages_in at n ≡ (at + n - 1) / 4096 + 1 - at / 4096 = pages_some at n (omega arith) in
+    let one : pages_in at n ≡ 1 = omega (arith, pages) in
+    let rest : n - k ≡ 0 = omega arith in
+    let here : missing v at n ≡ lacking v (at / 4096) + 0 = ap (missing_from v (at / 4096)) one ∙ missing_more v (at / 4096) 0 in
+    let none : missing v' (at + k) (n - k) ≡ 0 = ap (missing v' (at + k)) rest in
+    omega arith
 
-alike_by_cases : (v v' : FramesView) (at q : ℕ) → IsWhole v.own → ((x : ℕ) → (x / 4096 ≡ at / 4096 → ⊥) → holds v' x ≡ holds v x) → ((x : ℕ) → holds v x ≡ true → holds v' x ≡ true) → holds v at ≡ true → (q / 4096 ≡ at / 4096) ⊎ (q / 4096 ≡ at / 4096 → ⊥) → holds v' q ≡ holds v q
-alike_by_cases v v' at q whole others kept there (inl same) = let held : holds v q ≡ true = holds_page v q at whole same ∙ there in kept q held ∙ sym held
-alike_by_cases v v' at q whole others kept there (inr other) = others q other
+further_page : (v v' : FramesView) (at n k : ℕ) → k < n → at % 4096 + k ≡ 4096 → ((q : ℕ) → (q / 4096 ≡ at / 4096 → ⊥) → holds v' q ≡ holds v q) → missing v at n ≡ lacking v (at / 4096) + missing v' (at + k) (n - k)
+further_page v v' at n k more border others =
+    let number : (at + k) / 4096 ≡ at / 4096 + 1 = omega arith in
+    let same : at + k + (n - k) ≡ at + n = omega arith in
+    let pages : pages_in at n ≡ (at + n - 1) / 4096 + 1 - at / 4096 = pages_some at n (omega arith) in
+    let behind : pages_in (at + k) (n - k) ≡ (at + k + (n - k) - 1) / 4096 + 1 - (at + k) / 4096 = pages_some (at + k) (n - k) (omega arith) in
+    let end : (at + k + (n - k) - 1) / 4096 ≡ (at + n - 1) / 4096 = ap (λ x. (x - 1) / 4096) same in
+    let past : at / 4096 + 1 ≤ (at + n - 1) / 4096 = omega arith in
+    let one : pages_in at n ≡ suc (pages_in (at + k) (n - k)) = omega (arith, pages, behind, end, number, past) in
+    let here : missing v at n ≡ lacking v (at / 4096) + missing_from v (at / 4096 + 1) (pages_in (at + k) (n - k)) = ap (missing_from v (at / 4096)) one ∙ missing_more v (at / 4096) (pages_in (at + k) (n - k)) in
+    let alike : missing_from v' (at / 4096 + 1) (pages_in (at + k) (n - k)) ≡ missing_from v (at / 4096 + 1) (pages_in (at + k) (n - k)) = missing_alike v v' (at / 4096 + 1) (pages_in (at + k) (n - k)) (λ m le. others (4096 * m) (λ e. omega arith)) in
+    let rest : missing v' (at + k) (n - k) ≡ missing_from v' (at / 4096 + 1) (pages_in (at + k) (n - k)) = ap (λ m. missing_from v' m (pages_in (at + k) (n - k))) number in
+    omega (arith, here, alike, rest)
 
--- where the page of the place was held, all is held as before
-pub held_alike : (v v' : FramesView) (at q : ℕ) → IsWhole v.own → ((x : ℕ) → (x / 4096 ≡ at / 4096 → ⊥) → holds v' x ≡ holds v x) → ((x : ℕ) → holds v x ≡ true → holds v' x ≡ true) → holds v at ≡ true → holds v' q ≡ holds v q
-held_alike v v' at q whole others kept there = alike_by_cases v v' at q whole others kept there (cases_eq (q / 4096) (at / 4096))
+split_by_cases : (v v' : FramesView) (at n k : ℕ) → 0 < k → k ≤ n → at % 4096 + k ≤ 4096 → ((k ≡ n → ⊥) → at % 4096 + k ≡ 4096) → ((q : ℕ) → (q / 4096 ≡ at / 4096 → ⊥) → holds v' q ≡ holds v q) → (k ≡ n) ⊎ (k ≡ n → ⊥) → missing v at n ≡ lacking v (at / 4096) + missing v' (at + k) (n - k)
+split_by_cases v v' at n k some within one border others (inl all) = last_page v v' at n k all some one
+split_by_cases v v' at n k some within one border others (inr more) = further_page v v' at n k (omega arith) (border more) others
+
+-- what is missing of some bytes, by the page that the first of them lie in
+pub missing_split : (v v' : FramesView) (at n k : ℕ) → 0 < k → k ≤ n → at % 4096 + k ≤ 4096 → ((k ≡ n → ⊥) → at % 4096 + k ≡ 4096) → ((q : ℕ) → (q / 4096 ≡ at / 4096 → ⊥) → holds v' q ≡ holds v q) → missing v at n ≡ lacking v (at / 4096) + missing v' (at + k) (n - k)
+missing_split v v' at n k some within one border others = split_by_cases v v' at n k some within one border others (cases_eq k n)
+
+held_by_cases : (v v' : FramesView) (from q : ℕ) → IsWhole v'.own → ((x : ℕ) → holds v x ≡ true → holds v' x ≡ true) → holds v' from ≡ true → (q < from → holds v q ≡ true) → (from ≤ q → q / 4096 ≡ from / 4096) → (q < from) ⊎ (from ≤ q) → holds v' q ≡ true
+held_by_cases v v' from q whole kept there before same (inl low) = kept q (before low)
+held_by_cases v v' from q whole kept there before same (inr high) = holds_page v' q from whole (same high) ∙ there
+
+-- the places so far are held, and those of one page more
+pub held_more : (v v' : FramesView) (from q : ℕ) → IsWhole v'.own → ((x : ℕ) → holds v x ≡ true → holds v' x ≡ true) → holds v' from ≡ true → (q < from → holds v q ≡ true) → (from ≤ q → q / 4096 ≡ from / 4096) → holds v' q ≡ true
+held_more v v' from q whole kept there before same = held_by_cases v v' from q whole kept there before same (cases_lt q from)

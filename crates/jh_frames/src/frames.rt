@@ -218,71 +218,66 @@ impl Frames {
         missing
     }
 
-    /// Holds the page of the number, for which there is a spare one where it isn't held.
-    fn hold_page(&mut self, number: u64)
-        requires place { 4096 * number < ADDRESS_END }
-        requires spare { holds self.old (4096 * number) ≡ false → 0 < self.old.guest.spare }
-        ensures held { holds self.new (4096 * number) ≡ true }
-        ensures bytes { (q : ℕ) → byte_at self.new q ≡ byte_at self.old q }
+    /// Lays by a page for each that isn't held of so many from the number on.
+    fn lay_missing(&mut self, first: u64, count: u64) -> Result<(), NoMemory>
+        requires { 4096 * (first + count) ≤ ADDRESS_END }
         ensures own { self.new.own ≡ self.old.own }
-        ensures others { (other : ℕ) → other ≢ number → page_at self.new.guest.pages other ≡ page_at self.old.guest.pages other }
-        ensures kept { (q : ℕ) → holds self.old q ≡ true → holds self.new q ≡ true }
-        ensures spare { self.old.guest.spare ≤ self.new.guest.spare + (if holds self.old (4096 * number) then 0 else 1) }
+        ensures pages { self.new.guest.pages ≡ self.old.guest.pages }
+        ensures ok { OnOk result (missing_from self.old first count ≤ self.new.guest.spare) }
+        ensures spare { self.old.guest.spare ≤ self.new.guest.spare }
+        ensures succeeds { missing_from self.old first count ≤ self.old.guest.spare → IsOk result }
     {
-        if !self.own.has(PAGE_SIZE * number) {
-            let _ = self.guest.hold(number);
+        let missing = self.missing_from(first, count);
+        self.guest.reserve(missing)
+    }
+
+    /// Lays by a page for each that isn't held of so many from the number on. For two pages it lays two by
+    /// without a look at them, so that they are looked up only when they are written.
+    fn lay_enough(&mut self, first: u64, count: u64) -> Result<(), NoMemory>
+        requires { 4096 * (first + count) ≤ ADDRESS_END }
+        ensures own { self.new.own ≡ self.old.own }
+        ensures pages { self.new.guest.pages ≡ self.old.guest.pages }
+        ensures ok { OnOk result (missing_from self.old first count ≤ self.new.guest.spare) }
+        ensures spare { self.old.guest.spare ≤ self.new.guest.spare }
+        ensures succeeds { missing_from self.old first count ≤ self.old.guest.spare → IsOk result }
+    {
+        if count > 2 {
+            return self.lay_missing(first, count);
+        }
+        match self.guest.reserve(count as usize) {
+            Ok(()) => Ok(()),
+            Err(_) => self.lay_missing(first, count),
         }
     }
 
-    /// Holds so many pages from the number on, as far as they aren't held; so many are spare.
-    fn hold_pages(&mut self, first: u64, count: u64)
-        requires place { 4096 * (first + count) ≤ ADDRESS_END }
-        requires spare { missing_from self.old first count ≤ self.old.guest.spare }
-        ensures held { (number : ℕ) → first ≤ number → number < first + count → holds self.new (4096 * number) ≡ true }
-        ensures bytes { (q : ℕ) → byte_at self.new q ≡ byte_at self.old q }
-        ensures own { self.new.own ≡ self.old.own }
-        ensures kept { (q : ℕ) → holds self.old q ≡ true → holds self.new q ≡ true }
-        ensures spare { self.old.guest.spare ≤ self.new.guest.spare + missing_from self.old first count }
-        ensures below { (number : ℕ) → number < first → page_at self.new.guest.pages number ≡ page_at self.old.guest.pages number }
-        ensures above { (number : ℕ) → first + count ≤ number → page_at self.new.guest.pages number ≡ page_at self.old.guest.pages number }
-    {
-        for number in first..first + count {
-            self.hold_page(number);
-        }
-    }
-
-    /// Holds the pages of so many bytes from the place on.
-    fn hold_all(&mut self, at: u64, count: usize) -> Result<(), NoMemory>
+    /// Makes room for a write of so many bytes from the place on: a page is laid by for each that isn't held.
+    fn make_room(&mut self, at: u64, count: usize) -> Result<(), NoMemory>
         requires { at + count ≤ ADDRESS_END }
-        ensures held { OnOk result ((q : ℕ) → at ≤ q → q < at + count → holds self.new q ≡ true) }
         ensures bytes { (q : ℕ) → byte_at self.new q ≡ byte_at self.old q }
+        ensures held { (q : ℕ) → holds self.new q ≡ holds self.old q }
         ensures own { self.new.own ≡ self.old.own }
-        ensures unchanged { OnErr result (self.new.guest.pages ≡ self.old.guest.pages) }
-        ensures kept { (q : ℕ) → holds self.old q ≡ true → holds self.new q ≡ true }
+        ensures pages { self.new.guest.pages ≡ self.old.guest.pages }
+        ensures missing { missing self.new at count ≡ missing self.old at count }
+        ensures ok { OnOk result (missing self.new at count ≤ self.new.guest.spare) }
+        ensures spare { self.old.guest.spare ≤ self.new.guest.spare }
         ensures succeeds { missing self.old at count ≤ self.old.guest.spare → IsOk result }
-        ensures spare { self.old.guest.spare ≤ self.new.guest.spare + missing self.old at count }
-        ensures spare_at_err { OnErr result (self.old.guest.spare ≤ self.new.guest.spare) }
-        ensures below { (q : ℕ) → q / 4096 < at / 4096 → holds self.new q ≡ holds self.old q }
-        ensures above { (q : ℕ) → at / 4096 + pages_in at count ≤ q / 4096 → holds self.new q ≡ holds self.old q }
     {
-        let _ = self.holds(at);
-        let first = at / PAGE_SIZE;
         let pages = pages_in(at, count);
-        let missing = self.missing_from(first, pages);
-        self.guest.reserve(missing)?;
-        self.hold_pages(first, pages);
-        Ok(())
+        self.lay_enough(at / PAGE_SIZE, pages)
     }
 
-    /// Puts the bytes into pages that are held, page by page.
+    /// Puts the bytes into their pages, page by page. Each that isn't held takes a spare one; so many are there.
     fn write_pages(&mut self, at: u64, bytes: &[u8])
         requires place { at + length bytes.now ≤ ADDRESS_END }
-        requires held { (q : ℕ) → at ≤ q → q < at + length bytes.now → holds self.old q ≡ true }
+        requires spare { missing self.old at (length bytes.now) ≤ self.old.guest.spare }
         ensures bytes { (q : ℕ) → byte_at self.new q ≡ stored (byte_at self.old) at bytes.now q }
+        ensures held { (q : ℕ) → at ≤ q → q < at + length bytes.now → holds self.new q ≡ true }
         ensures base { self.new.own.base ≡ self.old.own.base }
         ensures size { length self.new.own.bytes ≡ length self.old.own.bytes }
-        ensures held { (q : ℕ) → holds self.new q ≡ holds self.old q }
-        ensures spare { self.old.guest.spare ≤ self.new.guest.spare }
+        ensures kept { (q : ℕ) → holds self.old q ≡ true → holds self.new q ≡ true }
+        ensures spare { self.old.guest.spare ≤ self.new.guest.spare + missing self.old at (length bytes.now) }
+        ensures below { (q : ℕ) → q / 4096 < at / 4096 → holds self.new q ≡ holds self.old q }
+        ensures above { (q : ℕ) → at / 4096 + pages_in at (length bytes.now) ≤ q / 4096 → holds self.new q ≡ holds self.old q }
     {
         let mut done = 0;
         while done < bytes.len() {
@@ -317,7 +312,7 @@ impl Frames {
         if at % PAGE_SIZE + bytes.len() as u64 <= PAGE_SIZE {
             return self.write_page(at, bytes);
         }
-        self.hold_all(at, bytes.len())?;
+        self.make_room(at, bytes.len())?;
         self.write_pages(at, bytes);
         Ok(())
     }
