@@ -75,13 +75,14 @@ fn refusal_by(
     image: &Image,
     cells: &[CellConfig],
     may: &[bool; 16],
-    config: &CellConfig,
+    config: &BoxedCell,
 ) -> Result<Option<i64>, NoMemory>
     requires few { length cells.now ≤ 15 }
     requires kept { length cells.now ≡ 15 → list_any (λ (b : Bool). b) may.now ≡ false }
     ensures { IfOk result (λ refusal. refusal ≡ refusal_by image.now cells.now (λ cpu. slice_index_or may.now cpu false) config.now) }
 {
     let root = image.system.root.memory_regions.as_slice();
+    let config = config.get();
     let pages = pages_of(root, cells, Some(config));
     refusal_with(alloc, image, cells, may, config, pages)
 }
@@ -119,7 +120,7 @@ pub fn judged(
             if cells.len() == 15 && is_any(&may) {
                 return Ok(None);
             }
-            let refusal = refusal_by(alloc, image, cells, &may, config.get())?;
+            let refusal = refusal_by(alloc, image, cells, &may, &config)?;
             Ok(Some(unless_refused(config, refusal)))
         }
         Creation::Refused { number } => Ok(Some(Creation::Refused { number })),
