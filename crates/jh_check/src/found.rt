@@ -197,11 +197,12 @@ pub(crate) fn in_devices(
     requires { length setup.now.cells.now ≤ 15 }
     ensures { OnOk result (capped found.new ≡ capped (found.old ++ in_devices (cells_of setup.now))) }
 {
-    let seats = seats_of(alloc, setup)?;
+    let each = seats_of(alloc, setup)?;
+    let seats = each.as_slice();
     let mut marks = marks(alloc)?;
     for a in 0..setup.count() {
         let cell = setup.cell(a);
-        in_devices_of(found, setup, marks.as_slice(), seats.as_slice(), a, cell)?;
+        in_devices_of(found, setup, marks.as_slice(), seats, a, cell)?;
         mark(&mut marks, cell.pci_devices.as_slice());
     }
     Ok(())

@@ -46,13 +46,7 @@ fn put(partners: &mut Vec<Option<usize>>, item: usize, mate: usize)
 }
 
 /// Notes the sections of those two devices as partners, if the devices are linked.
-fn note(
-    partners: &mut Vec<Option<usize>>,
-    one: &CellConfig,
-    n: usize,
-    other: &CellConfig,
-    m: usize,
-)
+fn note(partners: &mut Vec<Option<usize>>, one: &CellConfig, n: usize, other: &CellConfig, m: usize)
     requires one { n < length one.now.pci_devices }
     requires other { m < length other.now.pci_devices }
     requires known { ArePartners one.now other.now partners.old.items }

@@ -147,7 +147,14 @@ fn from_cell(
             b,
             other: setup.cell(b),
         };
-        join(alloc, found, rule, &pair, holders.as_slice(), &each[b as usize])?;
+        join(
+            alloc,
+            found,
+            rule,
+            &pair,
+            holders.as_slice(),
+            &each[b as usize],
+        )?;
     }
     Ok(())
 }

@@ -14,7 +14,7 @@ loop-seat-preserved c =
     let P : Seat → Type 0 = λ s. AgreesAt (cells_of c.args.setup.now) c.args.number c.args.regions.now c.args.device.now s in
     λ k d h. elim (cases_eq k i) [
       | inl e ↦
-          let here : P (get_or seats i none) = c.agrees_with_seat.ensures ? in
+          let here : P (get_or seats i none) = c.agrees_with_seat.ensures c.if-not-agrees_with_seat.false in
           subst (λ j. P (get_or seats j d)) (sym e) (subst P (get_or_default seats i none d c.loop-seat-test.true) here)
       | inr n ↦ c.loop-seat.invariant k d (omega arith)
     ]

@@ -37,7 +37,7 @@ pub in_devices_of-requires-clause-places : goal.in_devices_of-requires-clause-pl
 in_devices_of-requires-clause-places c = subst (λ marks. HasPlaces (take c.loop-a.a (cells_of c.args.setup.now)) marks) (sym c.as_slice.ensures.value) c.loop-a.invariant.places
 
 pub in_devices_of-requires-clause-seats : goal.in_devices_of-requires-clause-seats
-in_devices_of-requires-clause-seats c = subst (λ seats. HasSeats (cells_of c.args.setup.now) seats) (sym c.as_slice-seats.ensures.value) c.in_ok-seats_of.ensures.each
+in_devices_of-requires-clause-seats c = subst (λ seats. HasSeats (cells_of c.args.setup.now) seats) (sym c.as_slice-seats.ensures.value) c.in_ok-each.ensures.each
 
 pub in_devices_of-requires-clause-order : goal.in_devices_of-requires-clause-order
-in_devices_of-requires-clause-order c = subst AreByPlace (sym c.as_slice-seats.ensures.value) c.in_ok-seats_of.ensures.order
+in_devices_of-requires-clause-order c = subst AreByPlace (sym c.as_slice-seats.ensures.value) c.in_ok-each.ensures.order

@@ -11,5 +11,5 @@ returns-then-not-is_marked c = λ f.
 
 pub returns : goal.returns
 returns c = λ f.
-    let t : c.agrees_with_linked.result ≡ true = cc in
+    let t : c.agrees_with_linked.result ≡ true = not-false c.agrees_with_linked.result f in
     subst (λ regions. agrees_with_all (take c.args.a (cells_of c.args.setup.now)) regions c.args.device.now ≡ true) c.as_slice.ensures.value (c.agrees_with_linked.ensures t)
