@@ -11,7 +11,7 @@ use Rattle.jh_check.specs.Bus.{HasPlaces}
 use Rattle.jh_check.proofs.BoolLemmas.{false-from_not, not-both, and-right, and-both}
 
 -- all pass a test where each does
-all-each : {X : Type 0} (p : X → Bool) (xs : List X) → ((x : X) → Contains xs x → p x ≡ true) → list_all p xs ≡ true
+pub all-each : {X : Type 0} (p : X → Bool) (xs : List X) → ((x : X) → Contains xs x → p x ≡ true) → list_all p xs ≡ true
 all-each p [] h = refl
 all-each p (x ∷ xs) h =
     and-both (p x) (list_all p xs) (h x (0, omega arith, refl)) (all-each p xs (λ y cy. let within = cy.1 in h y (suc cy.0, omega arith, cy.2)))

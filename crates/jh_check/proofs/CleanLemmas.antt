@@ -427,7 +427,7 @@ section-at item start count t =
     let le = leb-true start item p.0 in
     (omega arith, ltb-true (item - start) count p.1)
 
-at-section : (item start count k : ℕ) → item ≡ start + k → k < count → (nat_le start item && nat_lt (item - start) count) ≡ true
+pub at-section : (item start count k : ℕ) → item ≡ start + k → k < count → (nat_le start item && nat_lt (item - start) count) ≡ true
 at-section item start count k e l = and_from (nat_le start item) (nat_lt (item - start) count) (le-leb start item (omega arith)) (lt-ltb (item - start) count (omega arith))
 
 pub same-section-from : (one : CellConfig) (r : ℕ) (other : CellConfig) (s : ℕ) → are_same_section one r other s ≡ true → IsSameSection one r other s

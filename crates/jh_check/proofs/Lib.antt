@@ -5,6 +5,8 @@ pub mod SectionLemmas
 pub mod SpanLemmas
 pub mod ReachLemmas
 pub mod BusLemmas
+pub mod LinkLemmas
+pub mod SeatLemmas
 pub mod VerdictLemmas
 pub mod Tested
 pub mod FoundLemmas

@@ -6,6 +6,8 @@ pub mod Lists
 pub mod Spans
 pub mod Findings
 pub mod Reaches
+pub mod Links
+pub mod Seats
 pub mod Bus
 pub mod Texts
 pub mod Verdicts

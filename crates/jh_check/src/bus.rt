@@ -6,8 +6,11 @@ use jh_cellcfg::PciDevice;
 use jh_num::NoMemory;
 use std::alloc::Global;
 
+/// How many places a bus has.
+pub(crate) const MAX_PLACES: usize = 65_536;
+
 /// The device's place on the bus.
-fn place_of(device: &PciDevice) -> usize
+pub(crate) fn place_of(device: &PciDevice) -> usize
     ensures value { result ≡ device.now.bdf }
     ensures bound { result < 65536 }
 {
@@ -18,7 +21,7 @@ fn place_of(device: &PciDevice) -> usize
 pub(crate) fn marks(alloc: Global) -> Result<Vec<bool>, NoMemory>
     ensures { IfOk result (λ marks. length marks.items ≡ 65536) }
 {
-    let marks = vec![in alloc; false; 65_536]?;
+    let marks = vec![in alloc; false; MAX_PLACES]?;
     Ok(marks)
 }
 

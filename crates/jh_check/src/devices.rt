@@ -1,10 +1,13 @@
 //! The rules of ivshmem devices, their links and their sections (ivshmem v2), and the rule of CPUs.
-ghost use Rattle.std.specs.Prelude.{◌≡◌, ◌==◌, ◌||◌, true, false, not, ◌≤◌, ◌<◌, length, take};
+ghost use Rattle.std.specs.Prelude.{◌≡◌, ◌==◌, ◌||◌, true, false, not, ◌≤◌, ◌<◌, length, take, Contains};
 ghost use Rattle.std.specs.List.{list_any, list_all};
 ghost use Rattle.jh_cellcfg.specs.Regions.{has_flags};
+ghost use Rattle.jh_check.specs.declared.seats.Seat.{Seat};
 ghost use Rattle.jh_check.specs.Cells.{cells_of};
+ghost use Rattle.jh_check.specs.Seats.{HasSeats, AreByPlace, AgreesAt};
 ghost use Rattle.jh_check.specs.Devices.{is_shmem, are_linked, section_count, is_section, are_sections_of, are_same_section, sections_of, has_good_peers, has_good_bars, has_all_sections, is_good_table, has_good_table, is_plain, are_read_only, are_alike, follows, are_in_a_row, is_twice, is_same_memory, are_same_memory, agrees_with, agrees_with_all, has_good_sections, is_good_shmem, device_breaks, is_zero, cpus_break};
 
+use crate::seats::{Seat, at_place};
 use crate::setup::Setup;
 use jh_cellcfg::{CellConfig, PciDevice, Region, RegionFlags};
 
@@ -15,21 +18,21 @@ const PAGE_BAR: u32 = 0xffff_f000;
 
 const VECTORS_BAR: u32 = 0xffff_fe00;
 
-fn is_shmem(device: &PciDevice) -> bool
+pub(crate) fn is_shmem(device: &PciDevice) -> bool
     ensures { result ≡ is_shmem device.now }
 {
     device.kind == SHMEM
 }
 
 /// Whether the devices, which are of different cells, are linked.
-fn are_linked(one: &PciDevice, other: &PciDevice) -> bool
+pub(crate) fn are_linked(one: &PciDevice, other: &PciDevice) -> bool
     ensures { result ≡ are_linked one.now other.now }
 {
     is_shmem(one) && is_shmem(other) && one.bdf == other.bdf
 }
 
 /// How many sections the device has.
-fn section_count(device: &PciDevice) -> usize
+pub(crate) fn section_count(device: &PciDevice) -> usize
     ensures value { result ≡ section_count device.now }
     ensures bound { result < 258 }
 {
@@ -277,20 +280,80 @@ fn agrees_with_cell(regions: &[Region], device: &PciDevice, cell: &CellConfig) -
     ))
 }
 
-/// Whether each device of each cell with a lower number than that does. `linked` says that the device may be linked
-/// with one of them.
+/// Whether the device of that seat does, if it is of a cell with a lower number than that.
+fn agrees_with_seat(
+    setup: &Setup,
+    number: u32,
+    regions: &[Region],
+    device: &PciDevice,
+    seat: &Seat,
+) -> bool
+    requires { number ≤ length (cells_of setup.now) }
+    ensures { result ≡ true → AgreesAt (cells_of setup.now) number regions.now device.now seat.now }
+{
+    if seat.cell >= number {
+        return true;
+    }
+    let cell = setup.cell(seat.cell);
+    let others = cell.pci_devices.as_slice();
+    seat.item >= others.len()
+        || agrees_with(
+            regions,
+            device,
+            cell.memory_regions.as_slice(),
+            &others[seat.item],
+        )
+}
+
+/// Whether those of these seats do.
+fn agrees_with_seats(
+    setup: &Setup,
+    number: u32,
+    regions: &[Region],
+    device: &PciDevice,
+    seats: &[Seat],
+) -> bool
+    requires { number ≤ length (cells_of setup.now) }
+    ensures { result ≡ true → (seat : Seat) → Contains seats.now seat → AgreesAt (cells_of setup.now) number regions.now device.now seat }
+{
+    for seat in seats {
+        if !agrees_with_seat(setup, number, regions, device, seat) {
+            return false;
+        }
+    }
+    true
+}
+
+/// Whether each device of each cell with a lower number than that does, as the seats of all cells' devices tell.
+pub(crate) fn agrees_with_linked(
+    setup: &Setup,
+    number: u32,
+    regions: &[Region],
+    device: &PciDevice,
+    seats: &[Seat],
+) -> bool
+    requires number { number ≤ length (cells_of setup.now) }
+    requires seats { HasSeats (cells_of setup.now) seats.now }
+    requires order { AreByPlace seats.now }
+    ensures { result ≡ true → agrees_with_all (take number (cells_of setup.now)) regions.now device.now ≡ true }
+{
+    agrees_with_seats(setup, number, regions, device, at_place(seats, device.bdf))
+}
+
+/// Whether each device of each cell with a lower number than that does. `doubted` says that one of them
+/// may not.
 fn agrees_with_lower(
     setup: &Setup,
     number: u32,
     regions: &[Region],
     device: &PciDevice,
-    linked: bool,
+    doubted: bool,
 ) -> bool
     requires number { number ≤ length (cells_of setup.now) }
-    requires linked { linked ≡ false → agrees_with_all (take number (cells_of setup.now)) regions.now device.now ≡ true }
+    requires doubted { doubted ≡ false → agrees_with_all (take number (cells_of setup.now)) regions.now device.now ≡ true }
     ensures { result ≡ agrees_with_all (take number (cells_of setup.now)) regions.now device.now }
 {
-    if !linked {
+    if !doubted {
         return true;
     }
     for lower in 0..number {
@@ -314,8 +377,7 @@ fn has_good_sections(device: &PciDevice, sections: &[Region]) -> bool
 }
 
 /// Whether the device is an ivshmem device that breaks a rule. It is of `cell`, which has that number;
-/// `earlier` are the devices before it there, and `linked` says that it may be linked with a device of a cell with a
-/// lower number.
+/// `earlier` are the devices before it there, and `doubted` says that one of a cell with a lower number may not fit it.
 #[tactic(auto, unfolding(crate::specs::Devices::device_breaks))]
 pub(crate) fn device_breaks(
     setup: &Setup,
@@ -323,10 +385,10 @@ pub(crate) fn device_breaks(
     cell: &CellConfig,
     earlier: &[PciDevice],
     device: &PciDevice,
-    linked: bool,
+    doubted: bool,
 ) -> bool
     requires number { number ≤ length (cells_of setup.now) }
-    requires linked { linked ≡ false → agrees_with_all (take number (cells_of setup.now)) cell.now.memory_regions device.now ≡ true }
+    requires doubted { doubted ≡ false → agrees_with_all (take number (cells_of setup.now)) cell.now.memory_regions device.now ≡ true }
     ensures { result ≡ device_breaks (take number (cells_of setup.now)) cell.now earlier.now device.now }
 {
     let regions = cell.memory_regions.as_slice();
@@ -336,7 +398,7 @@ pub(crate) fn device_breaks(
             && has_all_sections(regions, device)
             && has_good_sections(device, sections_of(regions, device))
             && !is_twice(earlier, device)
-            && agrees_with_lower(setup, number, regions, device, linked))
+            && agrees_with_lower(setup, number, regions, device, doubted))
 }
 
 pub(crate) fn are_zero(bytes: &[u8]) -> bool

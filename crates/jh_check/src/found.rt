@@ -1,23 +1,28 @@
 //! What is found, in its order.
-ghost use Rattle.std.specs.Prelude.{◌≡◌, ◌≤◌, ◌<◌, ◌++◌, length, take, OnOk, [], ◌∷◌};
+ghost use Rattle.std.specs.Prelude.{◌≡◌, ◌≤◌, ◌<◌, ◌++◌, true, false, length, take, OnOk, [], ◌∷◌};
 ghost use Rattle.jh_check.specs.Cells.{cells_of};
 ghost use Rattle.jh_check.specs.Sites.{spot_of};
 ghost use Rattle.jh_check.specs.Lists.{capped, only_if};
 ghost use Rattle.jh_check.specs.Regions.{pair_breaks, hypervisor_breaks};
 ghost use Rattle.jh_check.specs.Reaches.{HasHits};
+ghost use Rattle.jh_check.specs.Links.{IsPartner};
+ghost use Rattle.jh_check.specs.Devices.{agrees_with_all};
 ghost use Rattle.jh_check.specs.Bus.{HasPlaces};
+ghost use Rattle.jh_check.specs.Seats.{HasSeats, AreByPlace};
 ghost use Rattle.jh_check.specs.Findings.{item_of, finding_of, beside, in_cell, in_regions, in_hypervisor, in_devices_of, in_devices, in_cpus};
 
 use crate::bus::{is_marked, mark, marks};
 use crate::checking::MAX_FINDINGS;
-use crate::devices::{cpus_break, device_breaks};
+use crate::devices::{agrees_with_linked, cpus_break, device_breaks};
 use crate::finding::{Finding, HYPERVISOR};
+use crate::links::is_noted;
 use crate::pairs::{Site, pair_breaks};
 use crate::reach::Window;
 use crate::regions::{hypervisor_breaks, region_breaks};
 use crate::rule::Rule;
+use crate::seats::{Seat, seats_of};
 use crate::setup::Setup;
-use jh_cellcfg::{CellConfig, Region};
+use jh_cellcfg::{CellConfig, PciDevice, Region};
 use jh_num::{NoMemory, Seq};
 use std::alloc::Global;
 
@@ -60,16 +65,19 @@ fn put(found: &mut Seq<Finding>, test: bool, finding: Finding) -> Result<(), NoM
     if test { push(found, finding) } else { Ok(()) }
 }
 
-/// A region with each of another cell; only those in the window may break the rule with it.
+/// A region with each of another cell; only those in the window may break the rule with it. Its partner there, if one
+/// is known, is the same section of linked devices.
 pub(crate) fn beside(
     found: &mut Seq<Finding>,
     rule: Rule,
     one: &Site,
+    partner: Option<usize>,
     window: Window,
     b: u32,
     other: &CellConfig,
 ) -> Result<(), NoMemory>
-    requires { HasHits rule (spot_of one.now) b other.now window }
+    requires partner { IsPartner (spot_of one.now) other.now partner }
+    requires hits { HasHits rule (spot_of one.now) b other.now window }
     ensures { OnOk result (capped found.new ≡ capped (found.old ++ beside rule (spot_of one.now) b other.now)) }
 {
     let regions = other.memory_regions.as_slice();
@@ -80,7 +88,7 @@ pub(crate) fn beside(
             item: s,
             region: &regions[s],
         };
-        let breaks = pair_breaks(rule, one, &second);
+        let breaks = pair_breaks(rule, one, &second, is_noted(partner, s));
         put(found, breaks, finding(rule, one.cell, one.item, b, s))?;
     }
     Ok(())
@@ -132,23 +140,49 @@ pub(crate) fn in_hypervisor(
     put(found, breaks, finding(rule, HYPERVISOR, 0, 0, 0))
 }
 
+/// Whether the device may not fit one that is linked with it, of a cell with a lower number. The places of the devices
+/// of these are marked.
+fn may_differ(
+    setup: &Setup,
+    marks: &[bool],
+    seats: &[Seat],
+    a: u32,
+    cell: &CellConfig,
+    device: &PciDevice,
+) -> bool
+    requires count { a ≤ length (cells_of setup.now) }
+    requires length { length marks.now ≡ 65536 }
+    requires places { HasPlaces (take a (cells_of setup.now)) marks.now }
+    requires seats { HasSeats (cells_of setup.now) seats.now }
+    requires order { AreByPlace seats.now }
+    ensures { result ≡ false → agrees_with_all (take a (cells_of setup.now)) cell.now.memory_regions device.now ≡ true }
+{
+    if !is_marked(marks, device) {
+        return false;
+    }
+    !agrees_with_linked(setup, a, cell.memory_regions.as_slice(), device, seats)
+}
+
 /// Each device of a cell, where the places of the devices of those with lower numbers are marked.
 fn in_devices_of(
     found: &mut Seq<Finding>,
     setup: &Setup,
     marks: &[bool],
+    seats: &[Seat],
     a: u32,
     cell: &CellConfig,
 ) -> Result<(), NoMemory>
     requires count { a ≤ length (cells_of setup.now) }
     requires length { length marks.now ≡ 65536 }
     requires places { HasPlaces (take a (cells_of setup.now)) marks.now }
+    requires seats { HasSeats (cells_of setup.now) seats.now }
+    requires order { AreByPlace seats.now }
     ensures { OnOk result (capped found.new ≡ capped (found.old ++ in_devices_of (take a (cells_of setup.now)) a cell.now)) }
 {
     let devices = cell.pci_devices.as_slice();
     for (n, device) in devices.iter().enumerate() {
-        let linked = is_marked(marks, device);
-        let breaks = device_breaks(setup, a, cell, &devices[..n], device, linked);
+        let doubted = may_differ(setup, marks, seats, a, cell, device);
+        let breaks = device_breaks(setup, a, cell, &devices[..n], device, doubted);
         put(found, breaks, finding(Rule::Shmem, a, n, 0, 0))?;
     }
     Ok(())
@@ -163,10 +197,12 @@ pub(crate) fn in_devices(
     requires { length setup.now.cells.now ≤ 15 }
     ensures { OnOk result (capped found.new ≡ capped (found.old ++ in_devices (cells_of setup.now))) }
 {
+    let each = seats_of(alloc, setup)?;
+    let seats = each.as_slice();
     let mut marks = marks(alloc)?;
     for a in 0..setup.count() {
         let cell = setup.cell(a);
-        in_devices_of(found, setup, marks.as_slice(), a, cell)?;
+        in_devices_of(found, setup, marks.as_slice(), seats, a, cell)?;
         mark(&mut marks, cell.pci_devices.as_slice());
     }
     Ok(())

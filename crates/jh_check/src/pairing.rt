@@ -5,11 +5,13 @@ ghost use Rattle.jh_check.specs.Sites.{spot_of};
 ghost use Rattle.jh_check.specs.Lists.{capped};
 ghost use Rattle.jh_check.specs.Spans.{joins};
 ghost use Rattle.jh_check.specs.Reaches.{IsOwn, AreOf, AreOfEach};
+ghost use Rattle.jh_check.specs.Links.{ArePartners, IsPartner};
 ghost use Rattle.jh_check.specs.Findings.{beside, between, from_cell, in_pairs};
 
 use crate::checking::MAX_FINDINGS;
 use crate::finding::Finding;
 use crate::found::beside;
+use crate::links::{find_partners, holders_of, partner_of};
 use crate::pairs::Site;
 use crate::reach::{Reaches, find_window, may_meet, measure};
 use crate::rule::Rule;
@@ -32,16 +34,27 @@ fn joins(rule: Rule, a: u32, b: u32) -> bool
     }
 }
 
+/// Two cells and their numbers.
+#[derive(Clone, Copy)]
+struct Pair<'a> {
+    a: u32,
+    one: &'a CellConfig,
+    b: u32,
+    other: &'a CellConfig,
+}
+
 /// A region with each of a cell, if it may meet one of them and there is room for a finding.
 #[tactic(auto, using(crate::proofs::ListLemmas::append_nil, crate::proofs::ListLemmas::capped_full))]
 fn visit(
     found: &mut Seq<Finding>,
     rule: Rule,
     one: &Site,
+    partner: Option<usize>,
     reaches: &Reaches,
     b: u32,
     other: &CellConfig,
 ) -> Result<(), NoMemory>
+    requires partner { IsPartner (spot_of one.now) other.now partner }
     requires reaches { AreOf rule b other.now reaches.now }
     requires own { IsOwn (spot_of one.now) b other.now }
     ensures { OnOk result (capped found.new ≡ capped (found.old ++ beside rule (spot_of one.now) b other.now)) }
@@ -56,31 +69,31 @@ fn visit(
         return Ok(());
     }
     let window = find_window(reaches, rule, one.item, one.region);
-    beside(found, rule, one, window, b, other)
+    beside(found, rule, one, partner, window, b, other)
 }
 
 /// Each region of a cell with each of another.
 fn between(
     found: &mut Seq<Finding>,
     rule: Rule,
-    a: u32,
-    one: &CellConfig,
+    pair: &Pair,
+    partners: &[Option<usize>],
     reaches: &Reaches,
-    b: u32,
-    other: &CellConfig,
 ) -> Result<(), NoMemory>
-    requires reaches { AreOf rule b other.now reaches.now }
-    requires same { a ≡ b → one.now ≡ other.now }
-    ensures { OnOk result (capped found.new ≡ capped (found.old ++ between rule a one.now b other.now)) }
+    requires partners { ArePartners pair.now.one.now pair.now.other.now partners.now }
+    requires reaches { AreOf rule pair.now.b pair.now.other.now reaches.now }
+    requires same { pair.now.a ≡ pair.now.b → pair.now.one.now ≡ pair.now.other.now }
+    ensures { OnOk result (capped found.new ≡ capped (found.old ++ between rule pair.now.a pair.now.one.now pair.now.b pair.now.other.now)) }
 {
-    for (r, region) in one.memory_regions.as_slice().iter().enumerate() {
+    for (r, region) in pair.one.memory_regions.as_slice().iter().enumerate() {
         let first = Site {
-            cell: a,
-            config: one,
+            cell: pair.a,
+            config: pair.one,
             item: r,
             region,
         };
-        visit(found, rule, &first, reaches, b, other)?;
+        let partner = partner_of(partners, r);
+        visit(found, rule, &first, partner, reaches, pair.b, pair.other)?;
     }
     Ok(())
 }
@@ -88,23 +101,23 @@ fn between(
 /// The same, if the rule speaks of the two cells and there is room for a finding.
 #[tactic(auto, using(crate::proofs::ListLemmas::append_nil, crate::proofs::ListLemmas::capped_full))]
 fn join(
+    alloc: Global,
     found: &mut Seq<Finding>,
     rule: Rule,
-    a: u32,
-    one: &CellConfig,
+    pair: &Pair,
+    holders: &[u16],
     reaches: &Reaches,
-    b: u32,
-    other: &CellConfig,
 ) -> Result<(), NoMemory>
-    requires reaches { AreOf rule b other.now reaches.now }
-    requires same { a ≡ b → one.now ≡ other.now }
-    ensures { OnOk result (capped found.new ≡ capped (found.old ++ between rule a one.now b other.now)) }
+    requires reaches { AreOf rule pair.now.b pair.now.other.now reaches.now }
+    requires same { pair.now.a ≡ pair.now.b → pair.now.one.now ≡ pair.now.other.now }
+    ensures { OnOk result (capped found.new ≡ capped (found.old ++ between rule pair.now.a pair.now.one.now pair.now.b pair.now.other.now)) }
 {
     if found.len() >= MAX_FINDINGS {
         return Ok(());
     }
-    if joins(rule, a, b) {
-        between(found, rule, a, one, reaches, b, other)
+    if joins(rule, pair.a, pair.b) {
+        let partners = find_partners(alloc, holders, pair.one, pair.other)?;
+        between(found, rule, pair, partners.as_slice(), reaches)
     } else {
         Ok(())
     }
@@ -112,6 +125,7 @@ fn join(
 
 /// The regions of a cell with those of each.
 fn from_cell(
+    alloc: Global,
     found: &mut Seq<Finding>,
     rule: Rule,
     setup: &Setup,
@@ -125,8 +139,22 @@ fn from_cell(
     requires one { one.now ≡ slice_index_or (cells_of setup.now) a one.now }
     ensures { OnOk result (capped found.new ≡ capped (found.old ++ from_cell rule (cells_of setup.now) a one.now)) }
 {
+    let holders = holders_of(alloc, rule, one)?;
     for b in 0..setup.count() {
-        join(found, rule, a, one, &each[b as usize], b, setup.cell(b))?;
+        let pair = Pair {
+            a,
+            one,
+            b,
+            other: setup.cell(b),
+        };
+        join(
+            alloc,
+            found,
+            rule,
+            &pair,
+            holders.as_slice(),
+            &each[b as usize],
+        )?;
     }
     Ok(())
 }
@@ -156,7 +184,7 @@ pub(crate) fn in_pairs(
 {
     let each = reaches_of_each(alloc, rule, setup)?;
     for a in 0..setup.count() {
-        from_cell(found, rule, setup, each.as_slice(), a, setup.cell(a))?;
+        from_cell(alloc, found, rule, setup, each.as_slice(), a, setup.cell(a))?;
     }
     Ok(())
 }

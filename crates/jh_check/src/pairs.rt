@@ -1,6 +1,7 @@
 //! The rules about two regions.
-ghost use Rattle.std.specs.Prelude.{◌≡◌};
+ghost use Rattle.std.specs.Prelude.{◌≡◌, true};
 ghost use Rattle.jh_check.specs.Sites.{spot_of};
+ghost use Rattle.jh_check.specs.Devices.{are_same_section};
 ghost use Rattle.jh_check.specs.Regions.{share_places, takes_pages, both_shared, pair_breaks};
 
 use crate::devices::are_same_section;
@@ -36,9 +37,20 @@ fn both_shared(one: &Region, other: &Region) -> bool
     one.has(RegionFlags::ROOTSHARED) && other.has(RegionFlags::ROOTSHARED)
 }
 
-/// Whether the two regions break the rule, which is about two.
+/// Whether the region of the one cell and that of the other are sections at the same offset of two linked devices.
+/// `noted` says that they are known to be.
+fn are_linked_sections(one: &Site, other: &Site, noted: bool) -> bool
+    requires { noted ≡ true → are_same_section one.now.config.now one.now.item other.now.config.now other.now.item ≡ true }
+    ensures { result ≡ are_same_section one.now.config.now one.now.item other.now.config.now other.now.item }
+{
+    noted || are_same_section(one.config, one.item, other.config, other.item)
+}
+
+/// Whether the two regions break the rule, which is about two. `noted` says that they are known to be sections at the
+/// same offset of two linked devices.
 #[tactic(auto, unfolding(crate::specs::Regions::pair_breaks))]
-pub(crate) fn pair_breaks(rule: Rule, one: &Site, other: &Site) -> bool
+pub(crate) fn pair_breaks(rule: Rule, one: &Site, other: &Site, noted: bool) -> bool
+    requires { noted ≡ true → are_same_section one.now.config.now one.now.item other.now.config.now other.now.item ≡ true }
     ensures { result ≡ pair_breaks rule (spot_of one.now) (spot_of other.now) }
 {
     match rule {
@@ -58,7 +70,7 @@ pub(crate) fn pair_breaks(rule: Rule, one: &Site, other: &Site) -> bool
                 && one.cell < other.cell
                 && share_places(one.region, other.region)
                 && !both_shared(one.region, other.region)
-                && !are_same_section(one.config, one.item, other.config, other.item)
+                && !are_linked_sections(one, other, noted)
         }
         _ => false,
     }

@@ -44,7 +44,7 @@ fn any_beside(rule: Rule, one: &Site, b: u32, other: &CellConfig) -> bool
             item: s,
             region,
         };
-        if pair_breaks(rule, one, &second) {
+        if pair_breaks(rule, one, &second, false) {
             return true;
         }
     }
@@ -94,7 +94,7 @@ fn any_met(one: &Site, spans: &[Span], b: u32, other: &CellConfig) -> bool
             item: span.item,
             region: &regions[span.item],
         };
-        if pair_breaks(Rule::CellsOverlap, one, &second) {
+        if pair_breaks(Rule::CellsOverlap, one, &second, false) {
             return true;
         }
     }

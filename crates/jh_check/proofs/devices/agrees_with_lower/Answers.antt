@@ -23,5 +23,5 @@ loop-lower-preserved c =
     let r : p c.cell.result.now ≡ true = cc in
     sym (e ∙ ap (λ b. b && list_all p (drop (c.loop-lower.lower + 1) lower)) r) ∙ c.loop-lower.invariant
 
-pub returns-then-not-linked : goal.returns-then-not-linked
-returns-then-not-linked c = sym (c.requires.linked c.if-not-linked.true)
+pub returns-then-not-doubted : goal.returns-then-not-doubted
+returns-then-not-doubted c = sym (c.requires.doubted c.if-not-doubted.true)

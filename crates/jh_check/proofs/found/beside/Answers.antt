@@ -16,7 +16,7 @@ loop-s-init c =
     let v = c.as_slice-regions.ensures.value in
     let size : length other.memory_regions < 2 ^ 64 = let t = c.as_slice-regions.type_inv in rw (sym v) (omega arith) in
     ap (λ xs. capped (c.args.found.now ++ xs)) (sym (found-skip (beside_at c.args.rule one c.args.b other) other.memory_regions c.args.window.first none (λ i within below.
-    beside-outside c.args.rule one c.args.b other c.args.window c.requires i none within (omega arith) (λ is. absurd (let f = is.0 in omega arith)))))
+    beside-outside c.args.rule one c.args.b other c.args.window c.requires.hits i none within (omega arith) (λ is. absurd (let f = is.0 in omega arith)))))
 
 pub loop-s-preserved : goal.loop-s-preserved
 loop-s-preserved c =
@@ -48,6 +48,6 @@ returns c =
     let m = c.min-s-end.ensures in
     let t = c.loop-s-test.false in
     let rest : found_from found c.loop-s.s (drop c.loop-s.s regions) ≡ [] = found-rest found regions c.loop-s.s none (λ i within beyond.
-    beside-outside c.args.rule one c.args.b other c.args.window c.requires i none within (omega arith) (λ is. absurd (let l = is.1 in omega arith)))
+    beside-outside c.args.rule one c.args.b other c.args.window c.requires.hits i none within (omega arith) (λ is. absurd (let l = is.1 in omega arith)))
     in
     ap capped (sym (append_nil c.loop-s.found)) ∙ ap (λ xs. capped (c.loop-s.found ++ xs)) (sym rest) ∙ c.loop-s.invariant

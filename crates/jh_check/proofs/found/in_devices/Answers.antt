@@ -1,5 +1,6 @@
 use Rattle.std.proofs.Common.{◌≡◌, ◌<◌, ◌++◌, List, length, take, get_or, refl, sym, subst, arith}
 use Rattle.jh_check.specs.Bus.{HasPlaces}
+use Rattle.jh_check.specs.Seats.{HasSeats, AreByPlace}
 use Rattle.std.specs.List.{Contains}
 use Rattle.jh_cellcfg.specs.declared.config.PciDevice.{PciDevice}
 use Rattle.jh_check.specs.Cells.{cells_of}
@@ -34,3 +35,9 @@ returns c =
 
 pub in_devices_of-requires-clause-places : goal.in_devices_of-requires-clause-places
 in_devices_of-requires-clause-places c = subst (λ marks. HasPlaces (take c.loop-a.a (cells_of c.args.setup.now)) marks) (sym c.as_slice.ensures.value) c.loop-a.invariant.places
+
+pub in_devices_of-requires-clause-seats : goal.in_devices_of-requires-clause-seats
+in_devices_of-requires-clause-seats c = subst (λ seats. HasSeats (cells_of c.args.setup.now) seats) (sym c.as_slice-seats.ensures.value) c.in_ok-each.ensures.each
+
+pub in_devices_of-requires-clause-order : goal.in_devices_of-requires-clause-order
+in_devices_of-requires-clause-order c = subst AreByPlace (sym c.as_slice-seats.ensures.value) c.in_ok-each.ensures.order

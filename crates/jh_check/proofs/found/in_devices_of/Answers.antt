@@ -46,24 +46,5 @@ pub returns : goal.returns
 returns c =
     found-done (device_at (take c.args.a (cells_of c.args.setup.now)) c.args.a c.args.cell.now) c.args.cell.now.pci_devices c.loop-n.n c.loop-n.found _ (rw c.as_slice-devices.ensures.value at c.loop-n-test.false) c.loop-n.invariant
 
-pub device_breaks-breaks-requires-clause-linked : goal.device_breaks-breaks-requires-clause-linked
-device_breaks-breaks-requires-clause-linked c = λ e.
-    let none : PciDevice = record {
-      kind = 0;
-      iommu = 0;
-      domain = 0;
-      bdf = 0;
-      bar_mask = [];
-      caps_start = 0;
-      num_caps = 0;
-      num_msi_vectors = 0;
-      msi_bits = 0;
-      num_msix_vectors = 0;
-      msix_region_size = 0;
-      msix_address = 0;
-      shmem_regions_start = 0;
-      shmem_dev_id = 0;
-      shmem_peers = 0;
-      shmem_protocol = 0;
-    } in
-    agrees-unmarked (take c.args.a (cells_of c.args.setup.now)) c.args.marks.now c.args.cell.now.memory_regions (get_or c.as_slice-devices.result.now c.loop-n.n none) c.requires.places (sym c.is_marked-linked.ensures ∙ e)
+pub device_breaks-breaks-requires-clause-doubted : goal.device_breaks-breaks-requires-clause-doubted
+device_breaks-breaks-requires-clause-doubted c = c.may_differ-doubted.ensures

@@ -14,8 +14,8 @@ loop-r-init c = refl
 
 pub loop-r-preserved : goal.loop-r-preserved
 loop-r-preserved c =
-    let found = between_at c.args.rule c.args.a c.args.one.now c.args.b c.args.other.now in
-    let regions = c.args.one.now.memory_regions in
+    let found = between_at c.args.rule c.args.pair.now.a c.args.pair.now.one.now c.args.pair.now.b c.args.pair.now.other.now in
+    let regions = c.args.pair.now.one.now.memory_regions in
     let none : Region = record { phys_start = 0; virt_start = 0; size = 0; flags = 0 } in
     let v = c.as_slice-region-items.ensures.value in
     let t = c.loop-r-test.true in
@@ -26,7 +26,7 @@ loop-r-preserved c =
 
 pub returns : goal.returns
 returns c =
-    found-done (between_at c.args.rule c.args.a c.args.one.now c.args.b c.args.other.now) c.args.one.now.memory_regions c.loop-r.r c.loop-r.found _ (rw c.as_slice-region-items.ensures.value at c.loop-r-test.false) c.loop-r.invariant
+    found-done (between_at c.args.rule c.args.pair.now.a c.args.pair.now.one.now c.args.pair.now.b c.args.pair.now.other.now) c.args.pair.now.one.now.memory_regions c.loop-r.r c.loop-r.found _ (rw c.as_slice-region-items.ensures.value at c.loop-r-test.false) c.loop-r.invariant
 
 own : (a : ℕ) (one : CellConfig) (r : ℕ) (d : Region) (b : ℕ) (other : CellConfig) → r < length one.memory_regions → (a ≡ b → one ≡ other) → IsOwn (spot a one r (get_or one.memory_regions r d)) b other
 own a one r d b other h same = λ e.
@@ -39,6 +39,6 @@ visit-requires-clause-own c =
     let none : Region = record { phys_start = 0; virt_start = 0; size = 0; flags = 0 } in
     let v = c.as_slice-region-items.ensures.value in
     let t = c.loop-r-test.true in
-    let h : c.loop-r.r < length c.args.one.now.memory_regions = rw v at t in
-    let k = own c.args.a c.args.one.now c.loop-r.r none c.args.b c.args.other.now h c.requires.same in
+    let h : c.loop-r.r < length c.args.pair.now.one.now.memory_regions = rw v at t in
+    let k = own c.args.pair.now.a c.args.pair.now.one.now c.loop-r.r none c.args.pair.now.b c.args.pair.now.other.now h c.requires.same in
     rw v k

@@ -5,4 +5,4 @@ use Rattle.jh_check.proofs.pairing.between.Given as goal
 
 abbrev pub invariant-loop-r : goal.invariant-loop-r
 invariant-loop-r l =
-    capped (l.found ++ found_from (between_at l.rule l.a l.one l.b l.other) l.r (drop l.r l.one.memory_regions)) ≡ capped (l.initial.found ++ between l.rule l.a l.one l.b l.other)
+    capped (l.found ++ found_from (between_at l.rule l.pair.a l.pair.one.now l.pair.b l.pair.other.now) l.r (drop l.r l.pair.one.now.memory_regions)) ≡ capped (l.initial.found ++ between l.rule l.pair.a l.pair.one.now l.pair.b l.pair.other.now)

@@ -8,9 +8,9 @@ use Rattle.jh_check.proofs.pairing.join.Goals as goal
 pub returns-else-joins : goal.returns-else-joins
 returns-else-joins c =
     let rule = c.args.rule in
-    let one = c.args.one.now in
-    let other = c.args.other.now in
+    let one = c.args.pair.now.one.now in
+    let other = c.args.pair.now.other.now in
     let t = c.joins.ensures in
     let i = c.if-joins.false in
-    let h : joins rule c.args.a c.args.b ≡ false = cc in
-    capped-none_more c.args.found.now (between rule c.args.a one c.args.b other) (between-apart rule c.args.a one c.args.b other h)
+    let h : joins rule c.args.pair.now.a c.args.pair.now.b ≡ false = cc in
+    capped-none_more c.args.found.now (between rule c.args.pair.now.a one c.args.pair.now.b other) (between-apart rule c.args.pair.now.a one c.args.pair.now.b other h)

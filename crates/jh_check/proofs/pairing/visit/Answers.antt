@@ -18,6 +18,6 @@ returns-then-not-may_meet c =
     let one = spot_of c.args.one.now in
     capped-none_more c.args.found.now (beside c.args.rule one c.args.b c.args.other.now) (beside-unreached c.args.rule one c.args.b c.args.other.now c.args.reaches.now c.requires.reaches c.requires.own (c.may_meet.ensures c.if-not-may_meet.true))
 
-pub beside-requires : goal.beside-requires
-beside-requires c =
+pub beside-requires-clause-hits : goal.beside-requires-clause-hits
+beside-requires-clause-hits c =
     window-hits c.args.rule (spot_of c.args.one.now) c.args.b c.args.other.now c.args.reaches.now c.find_window-window.result c.requires.reaches c.requires.own c.find_window-window.ensures.all c.find_window-window.ensures.told

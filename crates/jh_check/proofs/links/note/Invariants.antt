@@ -1,0 +1,5 @@
+use Rattle.jh_check.specs.Links.{ArePartners}
+use Rattle.jh_check.proofs.links.note.Given as goal
+
+abbrev pub invariant-loop-k : goal.invariant-loop-k
+invariant-loop-k l = ArePartners l.one l.other l.partners.items

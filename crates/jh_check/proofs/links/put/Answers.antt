@@ -1,0 +1,25 @@
+use Rattle.std.proofs.Common.{◌≡◌, ◌<◌, ◌≤◌, ℕ, Option, None, Some, length, sym, ◌∙◌, arith}
+use Rattle.std.proofs.lemmas.List.{get_or-set_same, get_or-set_other, get_or_past}
+use Rattle.jh_check.proofs.links.put.Goals as goal
+
+pub returns-clause-others : goal.returns-clause-others
+returns-clause-others c = λ k n. get_or-set_other c.args.partners.now.items c.args.item k (Some c.args.mate) None n
+
+pub returns-clause-own : goal.returns-clause-own
+returns-clause-own c =
+    let size = c.len.ensures in
+    let inside = c.if-item-len.false in
+    let within : c.args.item < length c.args.partners.now.items = omega arith in
+    λ s noted.
+    let both : Some c.args.mate ≡ Some s = sym (get_or-set_same c.args.partners.now.items c.args.item (Some c.args.mate) None within) ∙ noted in
+    cc
+
+pub returns-then-item-len-clause-own : goal.returns-then-item-len-clause-own
+returns-then-item-len-clause-own c =
+    let size = c.len.ensures in
+    let beyond = c.if-item-len.true in
+    let past : length c.args.partners.now.items ≤ c.args.item = omega arith in
+    λ s noted.
+    let nothing : Option ℕ = None in
+    let both : nothing ≡ Some s = sym (get_or_past c.args.partners.now.items c.args.item None past) ∙ noted in
+    cc

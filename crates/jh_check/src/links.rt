@@ -1,0 +1,127 @@
+//! The regions of two cells that are sections of linked devices at the same offset, looked up once for two cells.
+ghost use Rattle.std.specs.Prelude.{◌≡◌, ◌≢◌, ◌<◌, ℕ, true, None, Some, length, slice_index_or, IfOk};
+ghost use Rattle.jh_check.specs.Links.{ArePartners};
+
+use crate::bus::{MAX_PLACES, place_of};
+use crate::devices::{are_linked, is_shmem, section_count};
+use crate::rule::Rule;
+use jh_cellcfg::{CellConfig, PciDevice};
+use jh_num::NoMemory;
+use std::alloc::Global;
+
+/// To each place on the bus, the number of an ivshmem device that may stand there.
+fn holders_among(alloc: Global, devices: &[PciDevice]) -> Result<Vec<u16>, NoMemory> {
+    let mut holders = vec![in alloc; 0; MAX_PLACES]?;
+    for n in 0..devices.len().min(MAX_PLACES) {
+        let place = place_of(&devices[n]);
+        if is_shmem(&devices[n]) && place < holders.len() {
+            holders[place] = n as u16;
+        }
+    }
+    Ok(holders)
+}
+
+/// To each place, the number of a device of the cell that may be linked with one of another; none, where the rule
+/// doesn't ask.
+pub(crate) fn holders_of(
+    alloc: Global,
+    rule: Rule,
+    cell: &CellConfig,
+) -> Result<Vec<u16>, NoMemory> {
+    match rule {
+        Rule::CellsOverlap => holders_among(alloc, cell.pci_devices.as_slice()),
+        _ => Ok(Vec::new(alloc)),
+    }
+}
+
+/// Notes the partner of the region of that number, if there is room for one.
+fn put(partners: &mut Vec<Option<usize>>, item: usize, mate: usize)
+    ensures others { (k : ℕ) → k ≢ item → slice_index_or partners.new.items k None ≡ slice_index_or partners.old.items k None }
+    ensures own { (s : ℕ) → slice_index_or partners.new.items item None ≡ Some s → mate ≡ s }
+{
+    if item >= partners.len() {
+        return;
+    }
+    partners[item] = Some(mate);
+}
+
+/// Notes the sections of those two devices as partners, if the devices are linked.
+fn note(partners: &mut Vec<Option<usize>>, one: &CellConfig, n: usize, other: &CellConfig, m: usize)
+    requires one { n < length one.now.pci_devices }
+    requires other { m < length other.now.pci_devices }
+    requires known { ArePartners one.now other.now partners.old.items }
+    ensures { ArePartners one.now other.now partners.new.items }
+{
+    let device = &one.pci_devices.as_slice()[n];
+    let mate = &other.pci_devices.as_slice()[m];
+    if !are_linked(device, mate) {
+        return;
+    }
+    let start = device.shmem_regions_start as usize;
+    let mate_start = mate.shmem_regions_start as usize;
+    for k in 0..section_count(device).min(section_count(mate)) {
+        put(partners, start + k, mate_start + k);
+    }
+}
+
+/// Notes those of the other cell's device of that number and of the one's at its place.
+fn note_at(
+    partners: &mut Vec<Option<usize>>,
+    holders: &[u16],
+    one: &CellConfig,
+    other: &CellConfig,
+    m: usize,
+)
+    requires other { m < length other.now.pci_devices }
+    requires known { ArePartners one.now other.now partners.old.items }
+    ensures { ArePartners one.now other.now partners.new.items }
+{
+    let place = place_of(&other.pci_devices.as_slice()[m]);
+    if place >= holders.len() {
+        return;
+    }
+    let n = usize::from(holders[place]);
+    if n < one.pci_devices.len() {
+        note(partners, one, n, other, m);
+    }
+}
+
+/// The partners of the one cell's regions among the other's. `holders` tells of the one cell's devices where to look.
+pub(crate) fn find_partners(
+    alloc: Global,
+    holders: &[u16],
+    one: &CellConfig,
+    other: &CellConfig,
+) -> Result<Vec<Option<usize>>, NoMemory>
+    ensures { IfOk result (λ partners. ArePartners one.now other.now partners.items) }
+{
+    if holders.is_empty() {
+        return Ok(Vec::new(alloc));
+    }
+    let mut partners = vec![in alloc; None; one.memory_regions.len()]?;
+    for m in 0..other.pci_devices.len() {
+        note_at(&mut partners, holders, one, other, m);
+    }
+    Ok(partners)
+}
+
+/// The partner of the region of that number, if one is known.
+pub(crate) fn partner_of(partners: &[Option<usize>], item: usize) -> Option<usize>
+    ensures { result ≡ slice_index_or partners.now item None }
+{
+    if item < partners.len() {
+        partners[item]
+    } else {
+        None
+    }
+}
+
+/// Whether the partner is the region of that number.
+pub(crate) fn is_noted(partner: Option<usize>, item: usize) -> bool
+    ensures { result ≡ true → partner ≡ Some item }
+{
+    match partner {
+        Some(s) => s == item,
+        None => false,
+    }
+}
