@@ -1,11 +1,17 @@
 -- What an audit finds of a journal.
-use Rattle.std.specs.Prelude.{◌≡◌, ◌≢◌, ℕ, ◌+◌, ◌↔◌, List, [], ◌∷◌, ◌++◌, length, Option, Some, None, IsTrue}
+use Rattle.std.specs.Prelude.{◌≡◌, ◌≢◌, ℕ, ◌+◌, ◌↔◌, List, [], ◌∷◌, ◌++◌, length, Option, Some, IsTrue}
 use Rattle.jh_script.specs.declared.image.Image.{Image}
 use Rattle.jh_history.specs.declared.entry.Entry.{Entry}
 use Rattle.jh_history.specs.Due.{due, IsLegal, IsQuiet}
 use Rattle.jh_board.specs.BoardView.{BoardView}
+use Rattle.jh_audit.specs.declared.compared.Compared.{Compared}
+use Rattle.jh_audit.specs.declared.compared.Compared.TheVariants.{Same, Differs}
 use Rattle.jh_audit.specs.declared.verdict.Verdict.{Verdict}
 use Rattle.jh_audit.specs.declared.verdict.Verdict.TheVariants.{Legal, Illegal}
+
+-- the most entries of a journal that is audited
+abbrev pub most_entries : ℕ
+most_entries = 262144
 
 -- the entry in this line, counted from 1, is the first that isn't the one due to its CPU, and this is what was
 pub record IsFirstIllegal (image : Image) (entries : List Entry) (line : ℕ) (expected : Option Entry) : Type 0 where
@@ -23,7 +29,7 @@ abbrev pub Judges : Image → List Entry → Verdict → Type 0
 Judges image entries (Legal quiet) = IsLegal image entries × (IsTrue quiet ↔ IsQuiet image entries)
 Judges image entries (Illegal line expected) = IsFirstIllegal image entries line expected
 
--- from old, what is due to the CPU is made, if anything is
-abbrev pub Tries : BoardView → ℕ → Option Entry → BoardView → Type 0
-Tries old cpu None new = (due old.image old.entries cpu ≡ None) × (new ≡ old)
-Tries old cpu (Some entry) new = (due old.image old.entries cpu ≡ Some entry) × (new ≡ record old { entries = old.entries ++ entry ∷ [] })
+-- from old, whose entries are legal, the entry is the one due to its CPU and was made; or it isn't, and this is what was due
+abbrev pub Compares : BoardView → Entry → Compared → BoardView → Type 0
+Compares old entry Same new = (due old.image old.entries entry.cpu ≡ Some entry) × (new ≡ record old { entries = old.entries ++ entry ∷ [] })
+Compares old entry (Differs expected) new = IsLegal old.image old.entries × (due old.image old.entries entry.cpu ≡ expected) × (expected ≢ Some entry)

@@ -1,13 +1,14 @@
 //! The audit.
-ghost use Rattle.std.specs.Prelude.{◌≡◌, ℕ, ◌+◌, ◌<◌, ◌≤◌, ◌∷◌, ◌++◌, [], length, take, Some, IfOk, OnErr, IsTrue, ◌↔◌};
-ghost use Rattle.jh_history.specs.Due.{due};
+ghost use Rattle.std.specs.Prelude.{◌≡◌, ◌<◌, ◌≤◌, ◌↔◌, [], length, Some, IfOk, IsTrue};
 ghost use Rattle.jh_history.specs.Admitted.{IsAdmitted};
-ghost use Rattle.jh_audit.specs.Judges.{Judges, Tries};
+ghost use Rattle.jh_board.specs.Turns.{MakesDue};
+ghost use Rattle.jh_audit.specs.Judges.{Judges, Compares, most_entries};
 
+use crate::compared::Compared;
 use crate::verdict::Verdict;
-use jh_board::{Board, Turn, TurnFault};
+use jh_board::{Board, TurnFault};
 use jh_history::{Act, Entry, Journal};
-use jh_num::{NoMemory, Steps};
+use jh_num::NoMemory;
 use jh_script::Image;
 use std::alloc::Global;
 
@@ -15,17 +16,16 @@ use std::alloc::Global;
 pub const AUDIT_LIMIT: u32 = 262_144;
 
 /// Makes what is due to the entry's CPU, and tells it. A CPU that the board lacks makes nothing.
-fn try_turn(board: &mut Board, entry: &Entry) -> Result<Option<Entry>, NoMemory>
+fn try_entry(board: &mut Board, entry: &Entry) -> Result<Option<Entry>, NoMemory>
     requires { length board.old.entries < board.old.limit }
-    ensures { IfOk result (λ made. Tries board.old entry.now.cpu made board.new) }
+    ensures { IfOk result (λ made. MakesDue board.old entry.now.cpu made board.new) }
 {
     if !board.has_cpu(entry.cpu) {
         return Ok(None);
     }
-    match board.turn(entry.cpu, &mut Steps::new()) {
-        Ok(Turn::Made(made)) => Ok(Some(made)),
-        Ok(Turn::Edited { .. }) | Err(TurnFault::Full) => unreachable!(),
-        Ok(Turn::NotNow) | Ok(Turn::Done) => Ok(None),
+    match board.make_due(entry.cpu) {
+        Ok(made) => Ok(made),
+        Err(TurnFault::Full) => unreachable!(),
         Err(TurnFault::NoMemory) => Err(NoMemory),
     }
 }
@@ -54,29 +54,58 @@ fn is_same_act(one: Act, other: Act) -> bool
     one == other
 }
 
-/// Judges the journal by the image: makes each entry anew, and compares.
-pub fn audit(alloc: Global, image: Image, journal: &Journal) -> Result<Verdict, NoMemory>
-    requires admitted { IsAdmitted image }
-    requires few { length journal.now.entries ≤ AUDIT_LIMIT }
-    // legal exactly where each entry is the one due; else the first that isn't, and what was due there
-    ensures { IfOk result (Judges image journal.now.entries) }
+/// Makes what is due to the entry's CPU, and compares it with the entry.
+fn compare(board: &mut Board, entry: &Entry) -> Result<Compared, NoMemory>
+    requires { length board.old.entries < board.old.limit }
+    ensures { IfOk result (λ compared. Compares board.old entry.now compared board.new) }
 {
-    let mut board = match Board::open(alloc, image, AUDIT_LIMIT) {
-        Ok(board) => board,
-        Err(_) => return Err(NoMemory),
-    };
-    for (index, entry) in journal.as_slice().iter().enumerate() {
-        let _ = board.journal();
-        let expected = try_turn(&mut board, entry)?;
-        if !is_due(expected, entry) {
+    let _ = board.journal();
+    let expected = try_entry(board, entry)?;
+    if is_due(expected, entry) {
+        Ok(Compared::Same)
+    } else {
+        Ok(Compared::Differs { expected })
+    }
+}
+
+/// The verdict on the journal of a board, which has made each entry of it.
+fn whole_verdict(board: &Board) -> Verdict
+    ensures { Judges board.now.image board.now.entries result }
+{
+    let _ = board.journal();
+    Verdict::Legal {
+        quiet: board.is_quiet(),
+    }
+}
+
+/// Judges the entries on a board that was just opened: makes each anew, and compares.
+fn judge_entries(board: &mut Board, entries: &[Entry]) -> Result<Verdict, NoMemory>
+    requires opened { board.old.entries ≡ [] }
+    requires limit { board.old.limit ≡ AUDIT_LIMIT }
+    requires few { length entries.now ≤ AUDIT_LIMIT }
+    // legal exactly where each entry is the one due; else the first that isn't, and what was due there
+    ensures { IfOk result (Judges board.old.image entries.now) }
+{
+    for (index, entry) in entries.iter().enumerate() {
+        if let Compared::Differs { expected } = compare(board, entry)? {
             return Ok(Verdict::Illegal {
                 line: index as u32 + 1,
                 expected,
             });
         }
     }
-    let _ = board.journal();
-    Ok(Verdict::Legal {
-        quiet: board.is_quiet(),
-    })
+    Ok(whole_verdict(board))
+}
+
+/// Judges the journal by the image.
+pub fn audit(alloc: Global, image: Image, journal: &Journal) -> Result<Verdict, NoMemory>
+    requires admitted { IsAdmitted image }
+    requires few { length journal.now.entries ≤ most_entries }
+    // legal exactly where each entry is the one due; else the first that isn't, and what was due there
+    ensures { IfOk result (Judges image journal.now.entries) }
+{
+    match Board::open(alloc, image, AUDIT_LIMIT) {
+        Ok(mut board) => judge_entries(&mut board, journal.as_slice()),
+        Err(_) => Err(NoMemory),
+    }
 }

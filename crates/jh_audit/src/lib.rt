@@ -1,6 +1,7 @@
 //! A journal that anybody hands in, judged: legal, or the first entry that wasn't due.
 #![tactic(auto)]
 
+mod compared;
 mod judge;
 #[cfg(test)]
 mod plain;

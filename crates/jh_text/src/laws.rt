@@ -4,9 +4,7 @@ ghost use Rattle.std.specs.List.{AllByRecursion};
 ghost use Rattle.jh_history.specs.declared.entry.Entry.{Entry};
 ghost use Rattle.jh_text.specs.Text.{entry_text, journal_text};
 ghost use Rattle.jh_text.specs.Ranges.{IsReadable, IsTyped};
-ghost use Rattle.jh_text.specs.Faults.{HasAnswer, IsFirstBadLine, IsJournalText, IsTooLong};
-
-use crate::fault::MAX_ENTRIES;
+ghost use Rattle.jh_text.specs.Faults.{HasAnswer, IsFirstBadLine, IsJournalText, IsTooLong, max_entries};
 
 /// Entries with the same text are the same, and so are journals with the same text, whatever numbers of their types
 /// they have.
@@ -18,7 +16,7 @@ pub fn texts_differ()
 
 /// What is printed of a journal is its text and no other journal's, and what is read is printed as the same bytes.
 pub fn texts_go_both_ways()
-    ensures printed { (entries : List Entry) → AllByRecursion IsReadable entries → length entries ≤ MAX_ENTRIES
+    ensures printed { (entries : List Entry) → AllByRecursion IsReadable entries → length entries ≤ max_entries
         → IsJournalText (journal_text entries) entries }
     ensures one { (text : List ℕ) (a b : List Entry) → IsJournalText text a → IsJournalText text b → a ≡ b }
     ensures read { (text : List ℕ) (entries : List Entry) → IsJournalText text entries → journal_text entries ≡ text }
