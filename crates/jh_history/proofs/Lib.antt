@@ -42,3 +42,4 @@ pub mod FollowLemmas
 pub mod FewLemmas
 pub mod ReadLemmas
 pub mod PlainReadLemmas
+pub mod ReachLemmas

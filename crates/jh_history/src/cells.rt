@@ -298,6 +298,7 @@ fn behind_in(
 }
 
 /// What the cell's access reaches.
+#[tactic(auto, using(crate::proofs::ReachLemmas::reaches_memory, crate::proofs::ReachLemmas::reaches_behind))]
 pub(crate) fn reach_in(
     image: &Image,
     cells: &LiveCells,
