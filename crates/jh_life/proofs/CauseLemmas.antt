@@ -1,6 +1,6 @@
 -- The first cause that speaks against a create: by a test for each, and each test in the cause's own words.
-use Rattle.std.proofs.Common.{◌≡◌, ℕ, zero, suc, ◌+◌, ◌<◌, ◌≤◌, Bool, true, false, ◌&&◌, ◌||◌, not, ◌==◌, nat_lt, List, [], ◌∷◌, ◌++◌, length, Some, None, refl, sym, ap, inl, inr, ◌∙◌, arith}
-use Rattle.std.specs.Prelude.{Option, ℤ, ◌↔◌, ◌⊎◌, nat_eq, Contains, if◌then◌else◌}
+use Rattle.std.proofs.Common.{◌≡◌, ℕ, zero, suc, ◌+◌, ◌<◌, ◌≤◌, Bool, true, false, not, ◌==◌, nat_lt, List, [], ◌∷◌, ◌++◌, length, Some, None, refl, sym, ap, inl, inr, ◌∙◌, arith}
+use Rattle.std.specs.Prelude.{Option, ℤ, ◌↔◌, ◌⊎◌, nat_eq, if◌then◌else◌}
 use Rattle.std.specs.List.{list_any}
 use Rattle.std.specs.Cmp.Lexicographic.{pointwise, same_text, other_text}
 use Rattle.std.proofs.lemmas.Bool.{false≢true, cases_lt, cases_Bool, eq-eqb, eqb-true, ltb-true, lt-ltb, and_parts, and_from, or_cases, or_left, or_right, not-true, not_from_false}
@@ -8,7 +8,7 @@ use Rattle.std.proofs.lemmas.Option.{none-some, same_Some}
 use Rattle.jh_num.specs.declared.error.TheConstants.{EBUSY, EEXIST, EINVAL, ENOMEM, EPERM}
 use Rattle.jh_num.proofs.Lists.{IsFound-from_list_any, list_any-from_Contains}
 use Rattle.jh_cellcfg.specs.declared.config.CellConfig.{CellConfig}
-use Rattle.jh_cellcfg.specs.Cells.{name_of, is_cpu_set}
+use Rattle.jh_cellcfg.specs.Cells.{name_of}
 use Rattle.jh_check.specs.declared.finding.Finding.{Finding}
 use Rattle.jh_check.specs.Findings.{findings}
 use Rattle.jh_check.specs.Refusals.{is_namesake, is_known, names_beyond, by_check, refusal_of}

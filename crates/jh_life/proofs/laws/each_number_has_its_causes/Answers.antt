@@ -1,5 +1,5 @@
 use Rattle.std.proofs.Common.{◌≡◌, Some, subst, inl, inr}
-use Rattle.std.specs.Prelude.{◌↔◌, ◌⊎◌, ℤ}
+use Rattle.std.specs.Prelude.{◌⊎◌, ℤ}
 use Rattle.jh_num.specs.declared.error.TheConstants.{EBUSY, EEXIST, EINVAL, ENOMEM, EPERM}
 use Rattle.jh_life.specs.Seen.{Seen}
 use Rattle.jh_life.specs.Causes.{Create, verdict_on, Cause, Locked, Known, TakenCpu, BrokenRule, Overlap, FewPages, number_for, IsFirst}
