@@ -2,5 +2,6 @@ pub mod JoinedLemmas
 pub mod MarkLemmas
 pub mod PageLemmas
 pub mod VerdictLemmas
+pub mod CauseLemmas
 pub mod ChangeLemmas
 pub mod OrderLemmas

@@ -1,6 +1,7 @@
 //! What holds of the live cells, whatever befalls them: each law is the contract of a function that does nothing.
-ghost use Rattle.std.specs.Prelude.{◌≡◌, ◌↔◌, ◌++◌, ◌∷◌, false, ℕ, Bool, List, [], remove, slice_get, slice_set, fold, map, Some, None};
+ghost use Rattle.std.specs.Prelude.{◌≡◌, ◌↔◌, ◌⊎◌, ◌++◌, ◌∷◌, true, false, ℕ, ℤ, Bool, List, [], remove, slice_get, slice_set, fold, map, Some, None};
 ghost use Rattle.std.specs.List.{find};
+ghost use Rattle.jh_num.specs.declared.error.TheConstants.{EBUSY, EEXIST, EINVAL, ENOMEM, EPERM};
 ghost use Rattle.jh_cellcfg.specs.declared.live.Live.{Live};
 ghost use Rattle.jh_cellcfg.specs.Lives.{has_id};
 ghost use Rattle.jh_life.specs.Seen.{Seen};
@@ -9,6 +10,7 @@ ghost use Rattle.jh_life.specs.Changes.{Change, marked, without, after, told, la
 ghost use Rattle.jh_check.specs.Refusals.{IsAccepted};
 ghost use Rattle.jh_shape.specs.Pages.{pages_of};
 ghost use Rattle.jh_life.specs.Verdict.{may_have, verdict_of_create};
+ghost use Rattle.jh_life.specs.Causes.{Create, verdict_on, Cause, Known, TakenCpu, BrokenRule, Overlap, FewPages, number_for, Holds, IsFirst};
 
 use crate::cells::{Cells, live_cells_differ};
 use jh_cellcfg::CellConfig;
@@ -51,3 +53,21 @@ pub fn a_cell_is_let_in_where_nothing_holds(cells: &Cells, new: &CellConfig)
 {
     nothing_is_refused_that_is_accepted(cells.system(), cells.list(), new);
 }
+
+/// A create is refused with a number exactly where that tells the first cause which speaks against it.
+pub fn a_refusal_tells_its_first_cause()
+    ensures { (seen : Seen) (create : Create) (number : ℤ) → (verdict_on seen create ≡ Some number) ↔ ((cause : Cause) × IsFirst seen create cause × (number ≡ number_for cause)) }
+{}
+
+/// Where each number is told, and none: EPERM where a live cell allows no create; else EEXIST where root or a live cell
+/// has the new one's name or id; else EBUSY where it names a CPU that isn't root's, or the caller's; else EINVAL where
+/// a rule is broken, but by places that two cells would have; else EBUSY where such places are found; else ENOMEM
+/// where the pages are too few; and nothing where none of this holds.
+pub fn each_number_has_its_causes()
+    ensures locked { (seen : Seen) (create : Create) → (verdict_on seen create ≡ Some EPERM) ↔ (create.locked ≡ true) }
+    ensures known { (seen : Seen) (create : Create) → (verdict_on seen create ≡ Some EEXIST) ↔ IsFirst seen create Known }
+    ensures busy { (seen : Seen) (create : Create) → (verdict_on seen create ≡ Some EBUSY) ↔ (IsFirst seen create TakenCpu ⊎ IsFirst seen create Overlap) }
+    ensures invalid { (seen : Seen) (create : Create) → (verdict_on seen create ≡ Some EINVAL) ↔ IsFirst seen create BrokenRule }
+    ensures pages { (seen : Seen) (create : Create) → (verdict_on seen create ≡ Some ENOMEM) ↔ IsFirst seen create FewPages }
+    ensures none { (seen : Seen) (create : Create) → (verdict_on seen create ≡ None) ↔ ((cause : Cause) → Holds seen create cause → ⊥) }
+{}

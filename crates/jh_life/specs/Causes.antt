@@ -1,0 +1,88 @@
+-- What speaks against the create of a cell, each cause in its own words, and in which order the causes are told.
+use Rattle.std.specs.Prelude.{◌≡◌, ℕ, ℤ, ◌+◌, ◌<◌, Bool, true, false, [], ◌∷◌, ◌++◌, length, Option, Contains, ◌⊎◌}
+use Rattle.jh_num.specs.declared.error.TheConstants.{EBUSY, EEXIST, EINVAL, ENOMEM, EPERM}
+use Rattle.jh_cellcfg.specs.declared.config.CellConfig.{CellConfig}
+use Rattle.jh_cellcfg.specs.Cells.{name_of, is_cpu_set}
+use Rattle.jh_check.specs.declared.finding.Finding.{Finding}
+use Rattle.jh_check.specs.Broken.{IsBroken}
+use Rattle.jh_check.specs.Verdicts.{is_overlap}
+use Rattle.jh_shape.specs.Claims.{has_bit}
+use Rattle.jh_shape.specs.Pages.{pages_of}
+use Rattle.jh_life.specs.Seen.{Seen}
+use Rattle.jh_life.specs.Lives.{configs_of, cells_of}
+use Rattle.jh_life.specs.Verdict.{verdict_of_create}
+
+-- a create that is asked for: whether a live cell allows none, the new cell, the CPUs that are root's as bits, the
+-- one that asks, and how many pages there are
+pub record Create : Type 0 where
+  pub locked : Bool
+  pub new : CellConfig
+  pub owned : ℕ
+  pub caller : ℕ
+  pub pool : ℕ
+
+abbrev pub verdict_on : Seen → Create → Option ℤ
+verdict_on seen create = verdict_of_create seen create.locked create.new create.owned create.caller create.pool
+
+-- what may speak against it, in the order in which it is told
+pub data Cause : Type 0 where
+  Locked : Cause
+  Known : Cause
+  TakenCpu : Cause
+  BrokenRule : Cause
+  Overlap : Cause
+  FewPages : Cause
+
+abbrev pub place_in_order : Cause → ℕ
+place_in_order Locked = 0
+place_in_order Known = 1
+place_in_order TakenCpu = 2
+place_in_order BrokenRule = 3
+place_in_order Overlap = 4
+place_in_order FewPages = 5
+
+-- the number that tells it
+abbrev pub number_for : Cause → ℤ
+number_for Locked = EPERM
+number_for Known = EEXIST
+number_for TakenCpu = EBUSY
+number_for BrokenRule = EINVAL
+number_for Overlap = EBUSY
+number_for FewPages = ENOMEM
+
+-- root or a live cell has the new one's id or its name
+pub record IsKnownTo (seen : Seen) (new : CellConfig) : Type 0 where
+  pub cell : CellConfig
+  pub lives : Contains (cells_of seen) cell
+  pub same : (cell.id ≡ new.id) ⊎ (name_of cell ≡ name_of new)
+
+-- the new cell names a CPU that isn't root's, or the one that asks
+pub record NamesTakenCpu (create : Create) : Type 0 where
+  pub cpu : ℕ
+  pub named : is_cpu_set create.new.cpu_set cpu ≡ true
+  pub taken : (has_bit create.owned cpu ≡ false) ⊎ (cpu ≡ create.caller)
+
+-- a rule is broken where the new cell, as the last, is beside the live ones, and the finding of it names the new one;
+-- it tells of places that two cells would have, or doesn't
+pub record BreaksRule (seen : Seen) (new : CellConfig) (overlaps : Bool) : Type 0 where
+  pub finding : Finding
+  pub broken : IsBroken seen.system (configs_of seen.lives ++ new ∷ []) finding
+  pub named : (finding.cell ≡ length (configs_of seen.lives) + 1) ⊎ (finding.other_cell ≡ length (configs_of seen.lives) + 1)
+  pub kind : is_overlap finding ≡ overlaps
+
+-- all cells with the new one need more pages than there are
+abbrev pub LacksPages : Seen → Create → Type 0
+LacksPages seen create = create.pool < pages_of seen.system.root.memory_regions (configs_of seen.lives ++ create.new ∷ [])
+
+abbrev pub Holds : Seen → Create → Cause → Type 0
+Holds seen create Locked = create.locked ≡ true
+Holds seen create Known = IsKnownTo seen create.new
+Holds seen create TakenCpu = NamesTakenCpu create
+Holds seen create BrokenRule = BreaksRule seen create.new false
+Holds seen create Overlap = BreaksRule seen create.new true
+Holds seen create FewPages = LacksPages seen create
+
+-- the cause holds, and none before it
+pub record IsFirst (seen : Seen) (create : Create) (cause : Cause) : Type 0 where
+  pub holds : Holds seen create cause
+  pub none : (other : Cause) → place_in_order other < place_in_order cause → Holds seen create other → ⊥
