@@ -1,6 +1,7 @@
 -- No cell is about to come where one's configuration is read, and what is held is ready for it.
 use Rattle.std.proofs.Common.{Option, subst}
 use Rattle.jh_cellcfg.specs.declared.config.CellConfig.{CellConfig}
+use Rattle.jh_board.specs.Means.{IsReadyFor}
 use Rattle.jh_board.specs.Steps.{IsFree, IsRead, WillBeReady}
 use Rattle.jh_board.proofs.AfterLemmas.{free-same}
 use Rattle.jh_board.proofs.steps.prepare.Goals as goal
@@ -30,8 +31,9 @@ returns-in_ok-make_ready-in-Some-clause-ok c = λ f means due.
     let R : Option CellConfig → Type 0 = WillBeReady image f entry in
     let free = subst P c.in-Some.is (c.in_ok-config.ensures.free f means due) in
     let after = c.make_ready.ensures.means image f free means in
+    let S : CellConfig → Type 0 = IsReadyFor c.make_ready.new.held in
     record {
       means = after;
       read = subst Q c.in-Some.is (c.in_ok-config.ensures.read f means due);
-      ready = subst R c.in-Some.is (c.in_ok-config.ensures.ready f means due) c.make_ready.new.held after.ready c.in_ok-make_ready-in-Some.ensures.ready;
+      ready = subst R c.in-Some.is (c.in_ok-config.ensures.ready f means due) c.make_ready.new.held after.ready (subst S c.get.ensures c.in_ok-make_ready-in-Some.ensures.ready);
     }
