@@ -1,5 +1,5 @@
 //! Memory as bytes at places.
-ghost use Rattle.std.specs.Prelude.{◌≡◌, ◌≢◌, ℕ, ◌+◌, ◌-◌, ◌*◌, ◌%◌, ◌/◌, ◌^◌, ◌≤◌, ◌<◌, ◌⊎◌, true, false, None, not, map, length, slice_index, slice_range, IfOk, OnOk, OnErr, IsOk, if◌then◌else◌};
+ghost use Rattle.std.specs.Prelude.{◌≡◌, ◌≢◌, ℕ, ◌+◌, ◌-◌, ◌*◌, ◌%◌, ◌/◌, ◌^◌, ◌≤◌, ◌<◌, ◌⊎◌, true, false, None, not, option_copied, map, length, slice_index, slice_range, IfOk, OnOk, OnErr, IsOk, if◌then◌else◌};
 ghost use Rattle.std.specs.List.{range_with_len};
 ghost use Rattle.jh_num.specs.declared.address.TheConstants.{ADDRESS_END};
 ghost use Rattle.jh_num.specs.Memory.{spelled, stored};
@@ -9,6 +9,7 @@ ghost use Rattle.jh_frames.specs.Kept.{IsWhole};
 use crate::bytes::number_of;
 use crate::guest::Guest;
 use crate::own::Own;
+use crate::page::Page;
 use jh_num::{NoMemory, PAGE_SIZE};
 use std::alloc::Global;
 use std::marker::Model;
@@ -73,15 +74,46 @@ impl Frames {
         own || self.guest.holds(at)
     }
 
-    /// The number that bytes of two pages spell.
+    /// The byte at the place, which is the hypervisor's or in this page of guests, where that is held.
+    fn byte_in(&self, page: Option<&Page>, place: u64) -> u8
+        requires { option_copied page ≡ page_at self.now.guest.pages (place / 4096) }
+        ensures { result ≡ byte_at self.now place }
+    {
+        if self.own.has(place) {
+            return self.own.read(place);
+        }
+        match page {
+            Some(page) => page.get((place % PAGE_SIZE) as usize),
+            None => 0,
+        }
+    }
+
+    /// The byte at the place, which lies in one of two pages of which the first has that number.
+    fn byte_of_two(&self, number: u64, first: Option<&Page>, second: Option<&Page>, at: u64) -> u8
+        requires first { option_copied first ≡ page_at self.now.guest.pages number }
+        requires second { option_copied second ≡ page_at self.now.guest.pages (number + 1) }
+        requires within { (at / 4096 ≡ number) ⊎ (at / 4096 ≡ number + 1) }
+        ensures { result ≡ byte_at self.now at }
+    {
+        if at / PAGE_SIZE == number {
+            self.byte_in(first, at)
+        } else {
+            self.byte_in(second, at)
+        }
+    }
+
+    /// The number that bytes of two pages spell. Each page is looked up once.
     fn torn_value(&self, at: u64, width: usize) -> u64
         requires place { at + width ≤ ADDRESS_END }
         requires width { width ≤ 8 }
         ensures { result ≡ spelled (map (byte_at self.now) (range_with_len at width)) }
     {
+        let number = at / PAGE_SIZE;
+        let first = self.guest.page(number);
+        let second = self.guest.page(number + 1);
         let mut bytes = [0; 8];
         for k in 0..width {
-            bytes[k] = self.read(at + k as u64);
+            bytes[k] = self.byte_of_two(number, first, second, at + k as u64);
         }
         number_of(&bytes[0..width])
     }

@@ -1,5 +1,5 @@
 //! The pages of guests.
-ghost use Rattle.std.specs.Prelude.{◌≡◌, ◌≢◌, ℕ, ◌+◌, ◌-◌, ◌%◌, ◌/◌, ◌^◌, ◌≤◌, ◌<◌, true, false, None, Some, if◌then◌else◌, map, min, length, slice_index, is_some, IsSome, IfSome, IfOk, OnOk, OnErr, IsOk};
+ghost use Rattle.std.specs.Prelude.{◌≡◌, ◌≢◌, ℕ, ◌+◌, ◌-◌, ◌%◌, ◌/◌, ◌^◌, ◌≤◌, ◌<◌, true, false, None, Some, if◌then◌else◌, map, min, length, slice_index, is_some, option_copied, IsSome, IfSome, IfOk, OnOk, OnErr, IsOk};
 ghost use Rattle.std.specs.List.{range_with_len};
 ghost use Rattle.jh_num.specs.Memory.{spelled, stored};
 ghost use Rattle.indexmap.specs.IndexMap.{spare};
@@ -123,6 +123,13 @@ impl Guest {
         ensures { result ≡ is_some (page_at self.now.pages (at / 4096)) }
     {
         self.pages.contains_key(&(at / PAGE_SIZE))
+    }
+
+    /// The page of the number, where it is held.
+    pub fn page(&self, number: u64) -> Option<&Page>
+        ensures { option_copied result ≡ page_at self.now.pages number }
+    {
+        self.pages.get(&number)
     }
 
     pub fn read(&self, at: u64) -> u8
