@@ -13,7 +13,9 @@ use Rattle.jh_text.proofs.Splits.{Lacks, Lacks-cons}
 are_digits_all : (radix : ℕ) (ds : List ℕ) → AllDigits radix ds → are_digits radix ds ≡ true
 unfolding are_digits
 are_digits_all radix [] all = refl
-are_digits_all radix (d ∷ ds) all = rw (lt-ltb (digit_value d) radix all.0) are_digits_all radix ds all.1
+are_digits_all radix (d ∷ ds) all =
+    let rest = are_digits_all radix ds all.1 in
+    rw (lt-ltb (digit_value d) radix all.0) rest
 
 -- the digits of a number are read again
 pub number_again : (radix most n : ℕ) → 2 ≤ radix → radix ≤ 16 → n < radix ^ 64 → n < 2 ^ 64 → n ≤ most → number_of radix most (digits radix false n) ≡ Some n
