@@ -10,7 +10,6 @@ use Rattle.std.proofs.lemmas.Bool.Decides.{nat_tests}
 use Rattle.std.proofs.Math.Bool.{or-false}
 use Rattle.std.proofs.lemmas.List.{length-map, get_or-map, take_all}
 use Rattle.std.proofs.lemmas.List.Folds.{list_any_more, list_any-append}
-use Rattle.std.proofs.lemmas.List.Elements.{All-from_recursion}
 use Rattle.std.proofs.lemmas.List.Sums.{sum_by_more, sum_by-take-le}
 use Rattle.std.proofs.lemmas.Map.Made.{length-le_from_is_member}
 use Rattle.jh_num.specs.declared.range.Range.{Range}
@@ -22,7 +21,7 @@ use Rattle.jh_cellcfg.specs.declared.live.Live.{Live}
 use Rattle.jh_shape.specs.Claims.{Holder}
 use Rattle.jh_shape.specs.Shapes.{takes, holder_of_live}
 use Rattle.jh_life.specs.Lives.{configs_of, is_loadable_at}
-use Rattle.jh_board.specs.Closed.{is_taken, is_closed_by, count_regions, AreInRange}
+use Rattle.jh_board.specs.Closed.{is_taken, is_closed_by, count_regions}
 use Rattle.jh_num.proofs.BytesLemmas.{above_range, within_range, absent_below}
 
 abbrev end_of : Range → ℕ
@@ -176,7 +175,3 @@ none-left (y ∷ ys) old end x apart is same within =
 -- the places of a region fit a word
 pub places-fit : (region : Region) → IsInRange region → is_comm region ≡ false → phys_end region < 2 ^ 64
 places-fit region within own = let le = within.phys own in omega arith
-
--- a region in range is all that a list of it alone has
-pub one-in-range : (regions : List Region) (region : Region) → regions ≡ region ∷ [] → IsInRange region → AreInRange regions
-one-in-range regions region is within = All-from_recursion (λ (r : Region). 0 < r.size → IsInRange r) regions (rw is (λ _. within, tt))

@@ -24,10 +24,4 @@ pub use laws::maps_tell_what_is_granted;
 pub use turn::{Turn, TurnFault};
 
 #[cfg(test)]
-mod cells_tests;
-#[cfg(test)]
-mod devices_tests;
-#[cfg(test)]
-mod plain;
-#[cfg(test)]
 mod tests;

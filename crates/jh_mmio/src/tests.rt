@@ -3,7 +3,8 @@ ghost use Rattle.std.specs.Prelude.{◌≡◌};
 
 use crate::{Hitting, RegionIndex, Window, dispatch};
 use jh_cellcfg::Region;
-use jh_num::{ByteSet, Range};
+use jh_num::{ByteSet, NoMemory, Range};
+use std::alloc::Global;
 use std::process::Abort;
 use std::test::Fail;
 
@@ -93,170 +94,102 @@ fn access(
 }
 
 /// Reads of 1, 2, 4 and 8 bytes are answered so, where no place is closed.
-fn reads(rt: &impl Abort, index: &RegionIndex, open: &ByteSet, at: u64, want: [Hitting; 4])
-    requires { index.now ≡ REGIONS }
-{
+fn reads(rt: &impl Abort, alloc: Global, at: u64, want: [Hitting; 4]) -> Result<(), NoMemory> {
+    let index = RegionIndex::new(alloc, &REGIONS)?;
+    let open = ByteSet::new(alloc);
     let [one, two, four, eight] = want;
-    access(rt, index, open, at, 1, false, one);
-    access(rt, index, open, at, 2, false, two);
-    access(rt, index, open, at, 4, false, four);
-    access(rt, index, open, at, 8, false, eight);
+    access(rt, &index, &open, at, 1, false, one);
+    access(rt, &index, &open, at, 2, false, two);
+    access(rt, &index, &open, at, 4, false, four);
+    access(rt, &index, &open, at, 8, false, eight);
+    Ok(())
 }
+
+/// Where reads of 1, 2, 4 and 8 bytes begin among the registers, and what answers them.
+const AT_REGISTERS: [(u64, [Hitting; 4]); 12] = [
+    (0x8ff_ffff, [NOTHING; 4]),
+    (0x900_0000, [ON_UART, NOTHING, ON_UART, NOTHING]),
+    (0x900_0001, [ON_UART, NOTHING, ON_UART, NOTHING]),
+    (0x900_0044, [ON_UART, NOTHING, ON_UART, NOTHING]),
+    (0x900_0045, [ON_UART, NOTHING, NOTHING, NOTHING]),
+    (0x900_0047, [ON_UART, NOTHING, NOTHING, NOTHING]),
+    (0x900_0048, [NOTHING, ON_TIMER, ON_TIMER, ON_TIMER]),
+    (0x900_004a, [NOTHING, ON_TIMER, NOTHING, NOTHING]),
+    (0x900_005c, [NOTHING, ON_TIMER, ON_TIMER, NOTHING]),
+    (0x900_005f, [NOTHING; 4]),
+    (0x900_0060, [NOTHING, NOTHING, OVER, NOTHING]),
+    (0x900_0070, [NOTHING; 4]),
+];
 
 #[test]
 fn registers_answer_by_width_right_and_alignment(rt: HostRuntime) -> Result<(), Fail> {
-    let index = RegionIndex::new(rt.alloc(), &REGIONS)?;
-    let open = ByteSet::new(rt.alloc());
-    reads(&rt, &index, &open, 0x8ff_ffff, [NOTHING; 4]);
-    reads(
-        &rt,
-        &index,
-        &open,
-        0x900_0001,
-        [ON_UART, NOTHING, ON_UART, NOTHING],
-    );
-    reads(
-        &rt,
-        &index,
-        &open,
-        0x900_0047,
-        [ON_UART, NOTHING, NOTHING, NOTHING],
-    );
-    reads(
-        &rt,
-        &index,
-        &open,
-        0x900_0048,
-        [NOTHING, ON_TIMER, ON_TIMER, ON_TIMER],
-    );
-    reads(
-        &rt,
-        &index,
-        &open,
-        0x900_004a,
-        [NOTHING, ON_TIMER, NOTHING, NOTHING],
-    );
-    reads(
-        &rt,
-        &index,
-        &open,
-        0x900_005c,
-        [NOTHING, ON_TIMER, ON_TIMER, NOTHING],
-    );
-    access(&rt, &index, &open, 0x900_0000, 4, true, ON_UART);
-    access(&rt, &index, &open, 0x900_0048, 4, true, NOTHING);
+    for (at, want) in AT_REGISTERS {
+        reads(&rt, rt.alloc(), at, want)?;
+    }
     Ok(())
 }
 
-#[test]
-fn each_side_of_a_border_is_anothers(rt: HostRuntime) -> Result<(), Fail> {
-    let index = RegionIndex::new(rt.alloc(), &REGIONS)?;
-    let open = ByteSet::new(rt.alloc());
-    let registers = [ON_UART, NOTHING, ON_UART, NOTHING];
-    reads(&rt, &index, &open, 0x900_0000, registers);
-    reads(&rt, &index, &open, 0x900_0044, registers);
-    let last = [ON_UART, NOTHING, NOTHING, NOTHING];
-    reads(&rt, &index, &open, 0x900_0045, last);
-    let behind = [NOTHING, NOTHING, OVER, NOTHING];
-    reads(&rt, &index, &open, 0x900_005f, [NOTHING; 4]);
-    reads(&rt, &index, &open, 0x900_0060, behind);
-    reads(&rt, &index, &open, 0x900_0070, [NOTHING; 4]);
-    reads(&rt, &index, &open, 0x5000_1080, [NOTHING; 4]);
-    let byte = [CONFIG, NOTHING, NOTHING, NOTHING];
-    reads(&rt, &index, &open, 0x7010_0001, byte);
-    Ok(())
-}
-
-#[test]
-fn configuration_space_counts_from_its_windows_start(rt: HostRuntime) -> Result<(), Fail> {
-    let index = RegionIndex::new(rt.alloc(), &REGIONS)?;
-    let open = ByteSet::new(rt.alloc());
-    reads(&rt, &index, &open, 0x7000_0001, [NOTHING; 4]);
-    reads(
-        &rt,
-        &index,
-        &open,
-        0x7000_0002,
-        [CONFIG, CONFIG, CONFIG, NOTHING],
-    );
-    reads(
-        &rt,
-        &index,
-        &open,
-        0x7000_0004,
-        [CONFIG, CONFIG, NOTHING, NOTHING],
-    );
-    reads(
-        &rt,
-        &index,
-        &open,
-        0x700f_fffe,
-        [CONFIG, CONFIG, CONFIG, NOTHING],
-    );
-    reads(&rt, &index, &open, 0x7010_0002, [NOTHING; 4]);
-    Ok(())
-}
+/// The same in configuration space and in windows that overlap.
+const AT_WINDOWS: [(u64, [Hitting; 4]); 14] = [
+    (0x7000_0001, [NOTHING; 4]),
+    (0x7000_0002, [CONFIG, CONFIG, CONFIG, NOTHING]),
+    (0x7000_0004, [CONFIG, CONFIG, NOTHING, NOTHING]),
+    (0x700f_fffe, [CONFIG, CONFIG, CONFIG, NOTHING]),
+    (0x7010_0001, [CONFIG, NOTHING, NOTHING, NOTHING]),
+    (0x7010_0002, [NOTHING; 4]),
+    (0x5000_0000, [NOTHING; 4]),
+    (0x5000_0004, [NOTHING, NOTHING, FIRST, NOTHING]),
+    (0x5000_0006, [NOTHING; 4]),
+    (0x5000_0100, [NOTHING, NOTHING, FIRST, NOTHING]),
+    (0x5000_0104, [NOTHING, NOTHING, SECOND, NOTHING]),
+    (0x5000_107c, [NOTHING, NOTHING, SECOND, NOTHING]),
+    (0x5000_1080, [NOTHING; 4]),
+    (u64::MAX, [NOTHING; 4]),
+];
 
 #[test]
 fn the_first_window_that_has_it_whole_answers(rt: HostRuntime) -> Result<(), Fail> {
-    let index = RegionIndex::new(rt.alloc(), &REGIONS)?;
-    let open = ByteSet::new(rt.alloc());
-    reads(&rt, &index, &open, 0x5000_0000, [NOTHING; 4]);
-    reads(
-        &rt,
-        &index,
-        &open,
-        0x5000_0004,
-        [NOTHING, NOTHING, FIRST, NOTHING],
-    );
-    reads(&rt, &index, &open, 0x5000_0006, [NOTHING; 4]);
-    reads(
-        &rt,
-        &index,
-        &open,
-        0x5000_0100,
-        [NOTHING, NOTHING, FIRST, NOTHING],
-    );
-    reads(
-        &rt,
-        &index,
-        &open,
-        0x5000_0104,
-        [NOTHING, NOTHING, SECOND, NOTHING],
-    );
-    reads(
-        &rt,
-        &index,
-        &open,
-        0x5000_107c,
-        [NOTHING, NOTHING, SECOND, NOTHING],
-    );
-    reads(&rt, &index, &open, u64::MAX, [NOTHING; 4]);
+    for (at, want) in AT_WINDOWS {
+        reads(&rt, rt.alloc(), at, want)?;
+    }
+    Ok(())
+}
+
+/// Accesses where one byte of the registers is closed: address, width, whether it is a write, and what answers.
+const NEAR_A_CLOSED_BYTE: [(u64, u8, bool, Hitting); 8] = [
+    (0x900_0000, 4, true, ON_UART),
+    (0x900_0048, 4, true, NOTHING),
+    (0x900_0010, 4, false, OVER),
+    (0x900_0010, 1, false, ON_UART),
+    (0x900_0014, 4, false, ON_UART),
+    (0x900_0050, 4, true, NOTHING),
+    (0x900_0044, 8, false, NOTHING),
+    (0x900_0060, 4, true, OVER),
+];
+
+/// The access is answered so where that byte is closed.
+fn near(
+    rt: &impl Abort,
+    alloc: Global,
+    at: u64,
+    width: u8,
+    write: bool,
+    want: Hitting,
+) -> Result<(), NoMemory> {
+    let index = RegionIndex::new(alloc, &REGIONS)?;
+    let mut closed = ByteSet::new(alloc);
+    closed.insert(Range {
+        start: 0x900_0013,
+        end: 0x900_0014,
+    })?;
+    access(rt, &index, &closed, at, width, write, want);
     Ok(())
 }
 
 #[test]
 fn a_closed_byte_goes_on_and_a_missing_right_ends(rt: HostRuntime) -> Result<(), Fail> {
-    let index = RegionIndex::new(rt.alloc(), &REGIONS)?;
-    let mut closed = ByteSet::new(rt.alloc());
-    closed.insert(Range {
-        start: 0x900_0013,
-        end: 0x900_0014,
-    })?;
-    access(&rt, &index, &closed, 0x900_0010, 4, false, OVER);
-    access(&rt, &index, &closed, 0x900_0010, 1, false, ON_UART);
-    access(&rt, &index, &closed, 0x900_0014, 4, false, ON_UART);
-    access(&rt, &index, &closed, 0x900_0050, 4, true, NOTHING);
-    access(&rt, &index, &closed, 0x900_0044, 8, false, NOTHING);
-    access(&rt, &index, &closed, 0x900_0060, 4, true, OVER);
-    Ok(())
-}
-
-#[test]
-fn the_index_tells_the_region_of_an_address(rt: HostRuntime) -> Result<(), Fail> {
-    let index = RegionIndex::new(rt.alloc(), &REGIONS)?;
-    assert_eq!(rt; index.at(0x900_0000), Some(UART));
-    assert_eq!(rt; index.at(0x900_0047), Some(UART));
-    assert_eq!(rt; index.at(0x900_005f), Some(TIMER));
+    for (at, width, write, want) in NEAR_A_CLOSED_BYTE {
+        near(&rt, rt.alloc(), at, width, write, want)?;
+    }
     Ok(())
 }

@@ -28,6 +28,4 @@ pub use soak::{MAX_ROUNDS, soak_image};
 pub use summary::{Summary, summary_of};
 
 #[cfg(test)]
-mod journal_tests;
-#[cfg(test)]
 mod tests;

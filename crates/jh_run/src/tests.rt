@@ -1,10 +1,10 @@
-//! Schedules on small boards.
+//! Boards whose journals are at their limit, workers that wait for one another, and the plain definition.
 ghost use Rattle.std.specs.Prelude.{IfOk};
 ghost use Rattle.jh_history.specs.Admitted.{IsAdmitted};
 
-use crate::{Ended, Summary, follow, play, run, soak_image, summary_of};
+use crate::{Ended, follow, play, run};
 use jh_cellcfg::{CellConfig, Console, Region, SystemConfig};
-use jh_history::{Act, Entry, admit, is_on_board};
+use jh_history::{Act, Entry, Journal, admit, due, is_on_board, quiet};
 use jh_num::{NoMemory, Seq};
 use jh_outside::{Gate, NoGate};
 use jh_script::{Image, Op, Program};
@@ -66,19 +66,15 @@ fn system(root: CellConfig) -> SystemConfig {
     }
 }
 
-fn program(alloc: Global, cpu: u8, ops: &[Op]) -> Result<Program, NoMemory> {
-    Ok(Program {
+/// The image of that root, whose CPU 0 has this program.
+fn image(alloc: Global, ops: &[Op]) -> Result<Image, NoMemory> {
+    let program = Program {
         cell: Seq::new(alloc),
-        cpu,
+        cpu: 0,
         ops: Seq::from_vec(Vec::from_slice(alloc, ops)?),
-    })
-}
-
-/// The image of that root, where CPUs 0 and 3 have these programs.
-fn image(alloc: Global, zero: &[Op], three: &[Op]) -> Result<Image, NoMemory> {
+    };
     let mut programs = Seq::new(alloc);
-    programs.push(program(alloc, 3, three)?)?;
-    programs.push(program(alloc, 0, zero)?)?;
+    programs.push(program)?;
     Ok(Image {
         system: system(root(alloc)?),
         preloads: Seq::new(alloc),
@@ -87,10 +83,10 @@ fn image(alloc: Global, zero: &[Op], three: &[Op]) -> Result<Image, NoMemory> {
 }
 
 /// The same image, which may be opened.
-fn ready(rt: &impl Abort, alloc: Global, zero: &[Op], three: &[Op]) -> Result<Image, NoMemory>
+fn ready(rt: &impl Abort, alloc: Global, ops: &[Op]) -> Result<Image, NoMemory>
     ensures admitted { IfOk result IsAdmitted }
 {
-    let image = image(alloc, zero, three)?;
+    let image = image(alloc, ops)?;
     let admitted = admit(alloc, &image)?;
     assert!(rt; admitted);
     Ok(image)
@@ -100,143 +96,54 @@ fn read(width: u8) -> Op {
     Op::Read { width, at: BASE }
 }
 
-fn write(value: u64) -> Op {
-    Op::Write {
+/// CPU 0 read a zero byte.
+const FIRST: Entry = Entry {
+    cpu: 0,
+    cell: 0,
+    act: Act::Read {
         width: 1,
         at: BASE,
-        value,
-    }
-}
+        got: Some(0),
+    },
+};
 
-fn wait(value: u64) -> Op {
-    Op::Await {
-        width: 1,
-        at: BASE,
-        value,
-    }
-}
-
-fn waited(cpu: u8, value: u64) -> Entry {
-    Entry {
-        cpu,
-        cell: 0,
-        act: Act::Await {
-            width: 1,
-            at: BASE,
-            value,
-            ok: true,
-        },
-    }
-}
-
-fn got(cpu: u8, width: u8, value: u64) -> Entry {
-    Entry {
-        cpu,
-        cell: 0,
-        act: Act::Read {
-            width,
-            at: BASE,
-            got: Some(value),
-        },
-    }
-}
-
-fn wrote(cpu: u8, value: u64) -> Entry {
-    Entry {
-        cpu,
-        cell: 0,
-        act: Act::Write {
-            width: 1,
-            at: BASE,
-            value,
-            ok: true,
-        },
-    }
-}
-
-/// The items of the schedule alone end so, with these entries.
-fn follows(
-    rt: &impl Abort,
-    alloc: Global,
-    image: Image,
-    schedule: &[u8],
-    limit: u32,
-    ended: Ended,
-    entries: &[Entry],
-) -> Result<(), NoMemory>
-    requires admitted { IsAdmitted image }
-{
+/// The items of the schedule alone end so on a board of one entry, where CPU 0 has two to make.
+fn follows(rt: &impl Abort, alloc: Global, schedule: &[u8], ended: Ended) -> Result<(), NoMemory> {
+    let image = ready(rt, alloc, &[read(1), read(2)])?;
     assert!(rt; schedule.iter().all(|cpu| is_on_board(&image, *cpu)));
-    let (board, how) = follow(alloc, image, schedule, limit)?;
+    let (board, how) = follow(alloc, image, schedule, 1)?;
     assert_eq!(rt; how, ended);
-    assert_eq!(rt; board.journal().as_slice(), entries);
-    Ok(())
-}
-
-/// The schedule and the rounds after it end so, with these entries.
-fn plays(
-    rt: &impl Abort,
-    alloc: Global,
-    image: Image,
-    schedule: &[u8],
-    limit: u32,
-    ended: Ended,
-    entries: &[Entry],
-) -> Result<(), NoMemory>
-    requires admitted { IsAdmitted image }
-{
-    assert!(rt; schedule.iter().all(|cpu| is_on_board(&image, *cpu)));
-    let (board, how) = play(alloc, image, schedule, limit)?;
-    assert_eq!(rt; how, ended);
-    assert_eq!(rt; board.journal().as_slice(), entries);
-    Ok(())
-}
-
-#[test]
-fn follow_makes_the_items_alone(rt: HostRuntime) -> Result<(), Fail> {
-    let alloc = rt.alloc();
-    let image = ready(&rt, alloc, &[read(1), read(2)], &[write(7)])?;
-    let entries = [wrote(3, 7), got(0, 1, 7)];
-    follows(
-        &rt,
-        alloc,
-        image,
-        &[1, 3, 0, 3],
-        AMPLE,
-        Ended::Quiet,
-        &entries,
-    )?;
+    assert_eq!(rt; board.journal().as_slice(), [FIRST].as_slice());
     Ok(())
 }
 
 #[test]
 fn follow_stops_at_the_first_item_that_is_one_too_many(rt: HostRuntime) -> Result<(), Fail> {
-    let alloc = rt.alloc();
-    let image = ready(&rt, alloc, &[read(1), read(2)], &[write(7)])?;
-    let entries = [got(0, 1, 0)];
-    follows(&rt, alloc, image, &[0, 1, 0, 3], 1, Ended::Full, &entries)?;
-    let image = ready(&rt, alloc, &[read(1), read(2)], &[write(7)])?;
-    follows(&rt, alloc, image, &[0, 1], 1, Ended::Quiet, &entries)?;
+    follows(&rt, rt.alloc(), &[0, 1, 0, 3], Ended::Full)?;
+    follows(&rt, rt.alloc(), &[0, 1], Ended::Quiet)?;
     Ok(())
 }
 
-#[test]
-fn play_goes_on_in_rounds_of_rising_cpus(rt: HostRuntime) -> Result<(), Fail> {
-    let alloc = rt.alloc();
-    let image = ready(&rt, alloc, &[write(1), read(1)], &[write(2), read(1)])?;
-    let entries = [wrote(3, 2), wrote(0, 1), got(3, 1, 1), got(0, 1, 1)];
-    plays(&rt, alloc, image, &[3], AMPLE, Ended::Quiet, &entries)?;
+/// The schedule and the rounds after it end so on a board of one entry.
+fn plays(
+    rt: &impl Abort,
+    alloc: Global,
+    ops: &[Op],
+    schedule: &[u8],
+    ended: Ended,
+) -> Result<(), NoMemory> {
+    let image = ready(rt, alloc, ops)?;
+    assert!(rt; schedule.iter().all(|cpu| is_on_board(&image, *cpu)));
+    let (board, how) = play(alloc, image, schedule, 1)?;
+    assert_eq!(rt; how, ended);
+    assert_eq!(rt; board.journal().as_slice(), [FIRST].as_slice());
     Ok(())
 }
 
 #[test]
 fn play_stops_at_a_full_journal(rt: HostRuntime) -> Result<(), Fail> {
-    let alloc = rt.alloc();
-    let entries = [got(0, 1, 0)];
-    let image = ready(&rt, alloc, &[read(1), read(2)], &[])?;
-    plays(&rt, alloc, image, &[], 1, Ended::Full, &entries)?;
-    let image = ready(&rt, alloc, &[read(1)], &[])?;
-    plays(&rt, alloc, image, &[], 1, Ended::Quiet, &entries)?;
+    plays(&rt, rt.alloc(), &[read(1), read(2)], &[], Ended::Full)?;
+    plays(&rt, rt.alloc(), &[read(1)], &[], Ended::Quiet)?;
     Ok(())
 }
 
@@ -287,11 +194,11 @@ impl Gate for Meeting {
 #[test]
 fn workers_of_two_cpus_wait_for_one_another(rt: HostRuntime) -> Result<(), Fail> {
     let alloc = rt.alloc();
-    let image = ready(&rt, alloc, &[read(1)], &[])?;
+    let image = ready(&rt, alloc, &[read(1)])?;
     let meeting = Meeting::new();
     let (board, ended) = run(&rt, alloc, image, &meeting, AMPLE)?;
     assert_eq!(rt; ended, Ended::Quiet);
-    assert_eq!(rt; board.journal().as_slice(), [got(0, 1, 0)].as_slice());
+    assert_eq!(rt; board.journal().as_slice(), [FIRST].as_slice());
     assert_eq!(rt; meeting.met.load(Ordering::SeqCst), 2);
     Ok(())
 }
@@ -299,40 +206,45 @@ fn workers_of_two_cpus_wait_for_one_another(rt: HostRuntime) -> Result<(), Fail>
 #[test]
 fn a_run_stops_at_a_full_journal(rt: HostRuntime) -> Result<(), Fail> {
     let alloc = rt.alloc();
-    let image = ready(&rt, alloc, &[read(1), read(2)], &[])?;
+    let image = ready(&rt, alloc, &[read(1), read(2)])?;
     let (board, ended) = run(&rt, alloc, image, &NoGate, 1)?;
     assert_eq!(rt; ended, Ended::Full);
-    assert_eq!(rt; board.journal().as_slice(), [got(0, 1, 0)].as_slice());
+    assert_eq!(rt; board.journal().as_slice(), [FIRST].as_slice());
     Ok(())
 }
 
-#[test]
-fn cpus_that_await_one_another_have_one_order(rt: HostRuntime) -> Result<(), Fail> {
-    let alloc = rt.alloc();
-    let zero = [wait(2), write(3)];
-    let three = [write(2), wait(3)];
-    let image = ready(&rt, alloc, &zero, &three)?;
-    let (board, ended) = run(&rt, alloc, image, &NoGate, AMPLE)?;
-    assert_eq!(rt; ended, Ended::Quiet);
-    let entries = [wrote(3, 2), waited(0, 2), wrote(0, 3), waited(3, 3)];
-    assert_eq!(rt; board.journal().as_slice(), entries.as_slice());
-    Ok(())
+/// What is due to CPU 0 at the beginning of the image's journal, and whether nothing is.
+#[tactic(auto, unfolding(jh_history::specs::Due::IsLegal))]
+fn first_due(alloc: Global, image: &Image) -> Result<(Option<Entry>, bool), NoMemory>
+    requires admitted { IsAdmitted image.now }
+{
+    if !is_on_board(image, 0) {
+        return Ok((None, false));
+    }
+    let journal = Journal::new(alloc);
+    Ok((
+        due(alloc, image, &journal, 0)?,
+        quiet(alloc, image, &journal)?,
+    ))
+}
+
+/// The same for an image whose program has these operations; `None` where no board may be opened with it.
+fn first_of(alloc: Global, ops: &[Op]) -> Result<Option<(Option<Entry>, bool)>, NoMemory> {
+    let image = image(alloc, ops)?;
+    if admit(alloc, &image)? {
+        Ok(Some(first_due(alloc, &image)?))
+    } else {
+        Ok(None)
+    }
 }
 
 #[test]
-fn a_soak_of_one_round(rt: HostRuntime) -> Result<(), Fail> {
-    let alloc = rt.alloc();
-    let image = soak_image(alloc, 1)?;
-    assert!(rt; admit(alloc, &image)?);
-    let (board, ended) = run(&rt, alloc, image, &NoGate, 262_144)?;
-    assert_eq!(rt; ended, Ended::Quiet);
-    let summary = Summary {
-        entries: 603,
-        reads: 258,
-        writes: 292,
-        stops: 13,
-        sum: 32_642,
-    };
-    assert_eq!(rt; summary_of(board.journal()), summary);
+fn what_is_due_is_told(rt: HostRuntime) -> Result<(), Fail> {
+    assert_eq!(rt;
+        first_of(rt.alloc(), &[read(1)])?,
+        Some((Some(FIRST), false))
+    );
+    assert_eq!(rt; first_of(rt.alloc(), &[])?, Some((None, true)));
+    assert_eq!(rt; first_of(rt.alloc(), &[read(3)])?, None);
     Ok(())
 }
