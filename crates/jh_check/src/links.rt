@@ -22,14 +22,16 @@ fn holders_among(alloc: Global, devices: &[PciDevice]) -> Result<Vec<u16>, NoMem
 }
 
 /// To each place, the number of a device of the cell that may be linked with one of another; none, where the rule
-/// doesn't ask.
+/// doesn't ask or the cell has no device.
 pub(crate) fn holders_of(
     alloc: Global,
     rule: Rule,
     cell: &CellConfig,
 ) -> Result<Vec<u16>, NoMemory> {
     match rule {
-        Rule::CellsOverlap => holders_among(alloc, cell.pci_devices.as_slice()),
+        Rule::CellsOverlap if !cell.pci_devices.is_empty() => {
+            holders_among(alloc, cell.pci_devices.as_slice())
+        }
         _ => Ok(Vec::new(alloc)),
     }
 }

@@ -263,8 +263,9 @@ impl Frames {
         self.guest.reserve(missing)
     }
 
-    /// Lays by a page for each that isn't held of so many from the number on. For two pages it lays two by
-    /// without a look at them, so that they are looked up only when they are written.
+    /// Lays by a page for each that isn't held of so many from the number on. It lays as many by as there are
+    /// without a look at them, so that they are looked up only when they are written; only where memory
+    /// wants, it counts those that aren't held.
     fn lay_enough(&mut self, first: u64, count: u64) -> Result<(), NoMemory>
         requires { 4096 * (first + count) ≤ ADDRESS_END }
         ensures own { self.new.own ≡ self.old.own }
@@ -273,9 +274,6 @@ impl Frames {
         ensures spare { self.old.guest.spare ≤ self.new.guest.spare }
         ensures succeeds { missing_from self.old first count ≤ self.old.guest.spare → IsOk result }
     {
-        if count > 2 {
-            return self.lay_missing(first, count);
-        }
         match self.guest.reserve(count as usize) {
             Ok(()) => Ok(()),
             Err(_) => self.lay_missing(first, count),

@@ -10,4 +10,4 @@ returns-in-Ok-clause-ok c = omega (arith, missing_few c.args.self.now c.args.fir
 pub returns-in-Err-clause-succeeds : goal.returns-in-Err-clause-succeeds
 returns-in-Err-clause-succeeds c =
     let same = missing_kept (record { own = c.self.inside.own; guest = c.self.inside.guest }) (record { own = c.self.inside.own; guest = c.reserve.new.self }) c.args.first c.args.count refl c.in-Err.ensures.pages in
-    rw (← c.self.view_is) (λ few. c.lay_missing-in-Err.ensures.succeeds (omega (arith, same, few, c.in-Err.ensures.spare)))
+    rw (← c.self.view_is) (λ few. c.lay_missing.ensures.succeeds (omega (arith, same, few, c.in-Err.ensures.spare)))
