@@ -3,10 +3,6 @@
 
 mod compared;
 mod judge;
-#[cfg(test)]
-mod plain;
-#[cfg(test)]
-mod tests;
 mod verdict;
 
 pub use judge::{AUDIT_LIMIT, audit};

@@ -25,6 +25,3 @@ pub use laws::{
 };
 pub use read::MAX_FILE_SIZE;
 pub use text::cause_text;
-
-#[cfg(test)]
-mod tests;

@@ -15,6 +15,3 @@ pub use laws::{every_text_has_an_answer, one_answer, texts_differ, texts_go_both
 pub use map::push_map;
 pub use print::{print_entry, print_journal};
 pub use read::read_journal;
-
-#[cfg(test)]
-mod tests;
