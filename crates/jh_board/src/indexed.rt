@@ -1,15 +1,15 @@
 //! An image with what turns look up in it, found once.
 ghost use Rattle.std.specs.Prelude.{◌≡◌, ℕ, ◌<◌, ◌≤◌, Bool, List, [], All, IsTrue, find, slice_get, IfSome, IfOk, IfErr};
-ghost use Rattle.jh_cellcfg.specs.Cells.{name_of as name_of_lem};
+ghost use Rattle.jh_cellcfg.specs.Cells.{name_of};
 ghost use Rattle.jh_cellcfg.specs.declared.region.Region.{Region as TheRegion};
 ghost use Rattle.jh_cellcfg.specs.Regions.{has_address, IsInRange};
 ghost use Rattle.jh_mmio.specs.Dispatch.{takes_all, unless_closed};
 ghost use Rattle.jh_mmio.specs.Index.{IsRegionAt};
 ghost use Rattle.jh_script.specs.Operations.{IsPlain};
 ghost use Rattle.jh_history.specs.Access.{region_of};
-ghost use Rattle.jh_history.specs.Admitted.{IsAdmitted, pool_pages as pool_pages_lem};
+ghost use Rattle.jh_history.specs.Admitted.{IsAdmitted, pool_pages};
 ghost use Rattle.jh_history.specs.Facts.{Facts};
-ghost use Rattle.jh_history.specs.Lives.{is_on_board as is_on_board_lem, program_of as program_of_lem, is_program_of as is_program_of_lem, ops_in, op_at};
+ghost use Rattle.jh_history.specs.Lives.{is_on_board, program_of, is_program_of, ops_in, op_at};
 ghost use Rattle.jh_board.specs.Indexed.{AreRootPrograms};
 
 use crate::cells::LiveCells;
@@ -48,7 +48,7 @@ impl Model for IndexedImage {
 
 /// The place of the first program of the CPU in the cell of that name, or the number of programs.
 fn place_of_program(programs: &[Program], name: &[u8], cpu: u8) -> usize
-    ensures { find (is_program_of_lem name.now cpu) programs.now ≡ slice_get programs.now result }
+    ensures { find (is_program_of name.now cpu) programs.now ≡ slice_get programs.now result }
 {
     for (k, program) in programs.iter().enumerate() {
         if is_program_of(program, name, cpu) {
@@ -108,7 +108,7 @@ impl IndexedImage {
 
     /// The board has no CPU above 15. It does nothing; its contract is what holds of each image.
     pub fn has_few_cpus(&self)
-        ensures cpus { (cpu : ℕ) → IsTrue (is_on_board_lem self.now cpu) → cpu < 16 }
+        ensures cpus { (cpu : ℕ) → IsTrue (is_on_board self.now cpu) → cpu < 16 }
         ensures admitted { IsAdmitted self.now }
     {
         admitted_roots_are_sound(&self.image);
@@ -138,7 +138,7 @@ impl IndexedImage {
 
     /// How many pages the pool has.
     pub fn pool_pages(&self) -> u32
-        ensures { result ≡ pool_pages_lem self.now.system }
+        ensures { result ≡ pool_pages self.now.system }
     {
         admitted_roots_are_sound(&self.image);
         pool_pages(&self.image.system) as u32
@@ -157,7 +157,7 @@ impl IndexedImage {
 
     /// Whether the board has the CPU.
     pub fn has_cpu(&self, cpu: u8) -> bool
-        ensures { result ≡ is_on_board_lem self.now cpu }
+        ensures { result ≡ is_on_board self.now cpu }
     {
         is_on_board(&self.image, cpu)
     }
@@ -165,7 +165,7 @@ impl IndexedImage {
     /// The operations of root's program on the CPU.
     fn root_ops(&self, cpu: u8) -> &[Op]
         requires { cpu < 16 }
-        ensures ops { result.now ≡ program_of_lem self.now (name_of_lem self.now.system.root) cpu }
+        ensures ops { result.now ≡ program_of self.now (name_of self.now.system.root) cpu }
         ensures plain { All IsPlain result.now }
     {
         match self.image.programs.get(self.programs[cpu as usize]) {

@@ -236,9 +236,9 @@ impl Memory {
 }
 
 impl Bytes for Memory {
-    ghost use Rattle.jh_board.specs.Pages.{byte_of as byte_of_lem};
+    ghost use Rattle.jh_board.specs.Pages.{byte_of};
 
-    ghost byte_of = { byte_of_lem };
+    ghost byte_of = { byte_of };
 
     fn byte(&self, place: Place) -> u8 {
         match place {

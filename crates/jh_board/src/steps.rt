@@ -20,7 +20,7 @@ ghost use Rattle.jh_history.specs.Wants.{IsReachOfEntry};
 ghost use Rattle.jh_board.specs.Pages.{byte_of, HoldsComm, HoldsPlace};
 ghost use Rattle.jh_board.specs.Found.{IsFound};
 ghost use Rattle.jh_board.specs.Means.{Means, IsReady, IsReadyFor};
-ghost use Rattle.jh_board.specs.Steps.{begins, goes_on as goes_on_lem, create_of as create_of_lem, change_of_call as change_of_call_lem, change_of_cells as change_of_cells_lem, changed_cells, IsNext, IsRead, IsFree, WillBeReady, IsPrepared, MayWrite, MayWriteOf, MayWriteSlot, MayCommit, MayJoin, IsSameButDevices, joined_cells, devices_held, memory_written, memory_after, slot_after, endpoints_acted_by};
+ghost use Rattle.jh_board.specs.Steps.{begins, goes_on, create_of, change_of_call, change_of_cells, changed_cells, IsNext, IsRead, IsFree, WillBeReady, IsPrepared, MayWrite, MayWriteOf, MayWriteSlot, MayCommit, MayJoin, IsSameButDevices, joined_cells, devices_held, memory_written, memory_after, slot_after, endpoints_acted_by};
 
 use crate::cells::LiveCells;
 use crate::devices::{change_devices, prepare_devices, write_slot_if};
@@ -52,7 +52,7 @@ pub enum CellsChange {
 
 /// What the Commit of the call does to the cells that live already.
 fn change_of_call(call: &Call) -> CellsChange
-    ensures { result ≡ change_of_call_lem call.now }
+    ensures { result ≡ change_of_call call.now }
 {
     match *call {
         Call::Start { id } => CellsChange::Mark {
@@ -67,7 +67,7 @@ fn change_of_call(call: &Call) -> CellsChange
 
 /// What the act does to the cells that live already, where the call is open.
 fn change_of_cells(call: Option<&OpenCall>, act: &Act) -> CellsChange
-    ensures { result ≡ change_of_cells_lem (option_copied call.entry) act.now }
+    ensures { result ≡ change_of_cells (option_copied call.entry) act.now }
 {
     match (act, call) {
         (Act::Commit, Some(begun)) => change_of_call(&begun.call),
@@ -90,14 +90,14 @@ fn change_cells(cells: &mut LiveCells, change: CellsChange)
 
 /// Whether the act is a Decide that goes on.
 fn goes_on(act: &Act) -> bool
-    ensures { result ≡ goes_on_lem act.now }
+    ensures { result ≡ goes_on act.now }
 {
     matches!(act, Act::Decide { refused: None })
 }
 
 /// Where a create reads its configuration.
 fn create_of(call: &Call) -> Option<u64>
-    ensures { result ≡ create_of_lem call.now }
+    ensures { result ≡ create_of call.now }
 {
     match *call {
         Call::Create { at } => Some(at),

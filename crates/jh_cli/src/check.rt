@@ -6,7 +6,7 @@ ghost use Rattle.jh_check.specs.Texts.{finding_text};
 ghost use Rattle.jh_outside.specs.Trail.{AsksAll};
 ghost use Rattle.jh_cli.specs.Order.{StopsIn, ReadsIn};
 ghost use Rattle.jh_cli.specs.Reading.{Spells, StopsAtFile};
-ghost use Rattle.jh_cli.specs.Check.{IsCellFile, CellRefusal, IsSystemFile, SystemRefusal, SpellCells, StopsAmong, ChecksCells, Checks, checked, checked_status, findings_text as findings_text_lem};
+ghost use Rattle.jh_cli.specs.Check.{IsCellFile, CellRefusal, IsSystemFile, SystemRefusal, SpellCells, StopsAmong, ChecksCells, Checks, checked, checked_status, findings_text};
 ghost use Rattle.jh_cli.specs.Stopped.{said_of, OnEnded, OnTold, IsCounted};
 
 use crate::ending::{Ending, Stop, read_below, refused_for};
@@ -77,7 +77,7 @@ fn cells<F: Files>(alloc: Global, files: &mut F, names: &[String]) -> Result<Seq
 
 /// A line for each finding, and their number.
 fn findings_text(alloc: Global, found: &[Finding]) -> Result<Vec<u8>, NoMemory>
-    ensures { IfOk result (λ text. text.items ≡ findings_text_lem found.now) }
+    ensures { IfOk result (λ text. text.items ≡ findings_text found.now) }
 {
     let mut text = String::new(alloc);
     for finding in found {

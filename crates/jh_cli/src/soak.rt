@@ -1,6 +1,6 @@
 //! Running the board of so many rounds.
 ghost use Rattle.std.specs.Prelude.{◌≡◌, ◌≤◌, ◌&&◌, nat_le, Some, None, if◌then◌else◌, IfOk};
-ghost use Rattle.jh_cli.specs.Soak.{TellsRounds, summary_line as summary_line_lem, IsSoaked, Soaks};
+ghost use Rattle.jh_cli.specs.Soak.{TellsRounds, summary_line, IsSoaked, Soaks};
 ghost use Rattle.jh_cli.specs.Stopped.{said_of, OnTold};
 
 use crate::ending::{Ending, Stop};
@@ -41,7 +41,7 @@ fn rounds_if(plain: bool, rounds: u32) -> Option<u32>
 
 /// The line that tells what a journal comes to.
 fn summary_line(alloc: Global, summary: &Summary) -> Result<Vec<u8>, NoMemory>
-    ensures { IfOk result (λ text. text.items ≡ summary_line_lem summary.now) }
+    ensures { IfOk result (λ text. text.items ≡ summary_line summary.now) }
 {
     let Summary {
         entries,

@@ -3,7 +3,7 @@ ghost use Rattle.std.specs.Prelude.{◌≡◌, ℕ, ◌↔◌, ◌<◌, ◌≤�
 ghost use Rattle.jh_check.specs.Findings.{findings};
 ghost use Rattle.jh_script.specs.declared.image.Program.{Program as TheProgram};
 ghost use Rattle.jh_script.specs.Operations.{is_width, IsPlain};
-ghost use Rattle.jh_history.specs.Admitted.{root_pages as root_pages_lem, pool_pages as pool_pages_lem, IsAdmittedSystem, IsSoundProgram, IsOtherProgram, IsSoundPreload, IsOtherPreload, IsAdmitted};
+ghost use Rattle.jh_history.specs.Admitted.{root_pages, pool_pages, IsAdmittedSystem, IsSoundProgram, IsOtherProgram, IsSoundPreload, IsOtherPreload, IsAdmitted};
 
 use crate::apart::{Apart, are_apart, has_none_of};
 use crate::cells::is_program_of;
@@ -58,7 +58,7 @@ impl Apart for Preload {
 
 /// The pages that root takes before any cell is created.
 pub fn root_pages(system: &SystemConfig) -> u64
-    ensures { result ≡ root_pages_lem system.now }
+    ensures { result ≡ root_pages system.now }
 {
     let target = Target {
         regions: system.root.memory_regions.as_slice(),
@@ -74,7 +74,7 @@ pub fn root_pages(system: &SystemConfig) -> u64
 
 /// The pages that the hypervisor has to give.
 pub fn pool_pages(system: &SystemConfig) -> u64
-    ensures { result ≡ pool_pages_lem system.now }
+    ensures { result ≡ pool_pages system.now }
 {
     system.hypervisor_memory.size / PAGE_SIZE
 }

@@ -4,7 +4,7 @@ ghost use Rattle.jh_call.specs.declared.call.Call.TheVariants.{Create};
 ghost use Rattle.jh_cellcfg.specs.declared.live.Live.{Live as TheLive};
 ghost use Rattle.jh_ivshmem.specs.Specs.{IsWithin, AreApart, slot_of};
 ghost use Rattle.jh_history.specs.declared.device_change.DeviceChange.TheVariants.{Join as Joins, Reset as Resets, Leave as Leaves};
-ghost use Rattle.jh_history.specs.Endpoints.{endpoint_changed, device_change, change_by, changing as changing_lem, changing_by};
+ghost use Rattle.jh_history.specs.Endpoints.{endpoint_changed, device_change, change_by, changing, changing_by};
 ghost use Rattle.jh_history.specs.Phases.{configs_of};
 
 use crate::call::OpenCall;
@@ -103,7 +103,7 @@ impl DeviceChange {
 
 /// The configuration of the cell whose devices the Commit of the call changes.
 fn changing<'a>(cells: &'a [CellConfig], begun: &'a OpenCall) -> Option<&'a CellConfig>
-    ensures { (lives : List TheLive) → configs_of lives ≡ cells.now → option_copied result ≡ changing_lem lives begun.now.call begun.now.phase }
+    ensures { (lives : List TheLive) → configs_of lives ≡ cells.now → option_copied result ≡ changing lives begun.now.call begun.now.phase }
 {
     match begun.call {
         Call::Create { .. } => coming_in(&begun.phase),

@@ -4,7 +4,7 @@ ghost use Rattle.jh_cellcfg.specs.declared.region.Region.{Region as TheRegion};
 ghost use Rattle.jh_cellcfg.specs.Regions.{has_address, IsInRange};
 ghost use Rattle.jh_history.specs.Places.{places_in_row, places_of_run, number_of, IsRun};
 ghost use Rattle.jh_history.specs.declared.place.Place.{Place as ThePlace};
-ghost use Rattle.jh_history.specs.Access.{place_in_cell as place_in_cell_lem, place_of, places_from, memory_or_nothing, reach_by};
+ghost use Rattle.jh_history.specs.Access.{place_in_cell, place_of, places_from, memory_or_nothing, reach_by};
 
 use crate::access::{Access, Wanted};
 use crate::place::{Place, Places, Run};
@@ -47,7 +47,7 @@ fn in_page(at: u64, width: u8) -> u8
 pub(crate) fn place_in_cell(cell: u32, region: &Region, at: u64) -> Place
     requires within { IsInRange region.now }
     requires has { IsTrue (has_address region.now at) }
-    ensures place { result ≡ place_in_cell_lem cell region.now at }
+    ensures place { result ≡ place_in_cell cell region.now at }
     ensures small { number_of result < ADDRESS_END }
 {
     let offset = at - region.virt_start;

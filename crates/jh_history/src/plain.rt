@@ -19,12 +19,12 @@ ghost use Rattle.jh_history.specs.Access.{write_of, with_slot_if, slot_of_reach}
 ghost use Rattle.jh_history.specs.Devices.{specs_of, specs_at};
 ghost use Rattle.jh_history.specs.Endpoints.{endpoints_put, endpoints_acted, endpoints_after, endpoints_changed, change_by, changing_by, specs_changing, with_words, HasGoodDevices, IsNextOf, MayJoinThem, MayChange};
 ghost use Rattle.jh_history.specs.Grants.{devices_of};
-ghost use Rattle.jh_history.specs.Wants.{reach_of as reach_of_lem};
-ghost use Rattle.jh_history.specs.Lives.{is_on_board as is_on_board_lem};
+ghost use Rattle.jh_history.specs.Wants.{reach_of};
+ghost use Rattle.jh_history.specs.Lives.{is_on_board};
 ghost use Rattle.jh_history.specs.Facts.{Facts};
 ghost use Rattle.jh_history.specs.Bytes.{byte_written, byte_after};
 ghost use Rattle.jh_history.specs.History.{facts, after, start, coming_by, coming_of};
-ghost use Rattle.jh_history.specs.Due.{due as due_lem, IsLegal, IsQuiet};
+ghost use Rattle.jh_history.specs.Due.{due, IsLegal, IsQuiet};
 ghost use Rattle.jh_history.specs.Admitted.{IsAdmitted, IsPlainAct, IsPlainEntry};
 ghost use Rattle.jh_history.specs.PlainView.{last_byte, Stands, IsSameBut, IsDueBeside, HasWords, MayCommit, MayFollow};
 
@@ -217,8 +217,8 @@ impl<'a> Plain<'a> {
     fn write_at(&mut self, cell: u32, wanted: &Wanted, value: u64) -> Result<(), NoMemory>
         requires few { wanted.now.width ≤ 8 }
         requires words { HasWords self.old }
-        ensures bytes { OnOk result ((i : TheImage) (f : Facts) → Stands self.old i f → (q : ThePlace) → last_byte i self.new.bytes q ≡ write_of f.byte (devices_of i f cell) (reach_of_lem i f cell wanted.now) value q) }
-        ensures endpoints { OnOk result ((i : TheImage) (f : Facts) → Stands self.old i f → self.new.endpoints ≡ endpoints_put (devices_of i f cell) (reach_of_lem i f cell wanted.now) value) }
+        ensures bytes { OnOk result ((i : TheImage) (f : Facts) → Stands self.old i f → (q : ThePlace) → last_byte i self.new.bytes q ≡ write_of f.byte (devices_of i f cell) (reach_of i f cell wanted.now) value q) }
+        ensures endpoints { OnOk result ((i : TheImage) (f : Facts) → Stands self.old i f → self.new.endpoints ≡ endpoints_put (devices_of i f cell) (reach_of i f cell wanted.now) value) }
         ensures others { IsSameBut self.old self.new }
     {
         let reach = reach_in(self.image, &self.cells, &self.endpoints, cell, wanted);
@@ -411,8 +411,8 @@ pub fn due(
 ) -> Result<Option<Entry>, NoMemory>
     requires admitted { IsAdmitted image.now }
     requires legal { IsLegal image.now journal.now.entries }
-    requires cpu { IsTrue (is_on_board_lem image.now cpu) }
-    ensures { IfOk result (λ entry. entry ≡ due_lem image.now journal.now.entries cpu) }
+    requires cpu { IsTrue (is_on_board image.now cpu) }
+    ensures { IfOk result (λ entry. entry ≡ due image.now journal.now.entries cpu) }
 {
     admitted_roots_are_sound(image);
     legal_journals_are_sound();
