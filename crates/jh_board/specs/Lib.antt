@@ -7,7 +7,7 @@ pub mod Means
 pub mod Steps
 pub mod BoardView
 pub mod Turns
-pub mod Stands
+pub mod SoundBoard
 pub mod Indexed
 pub mod IsIndexed
 pub mod Maps

@@ -13,7 +13,7 @@ use Rattle.jh_cellcfg.specs.declared.config.SystemConfig.{SystemConfig}
 use Rattle.jh_cellcfg.specs.Regions.{has_flags, virt_end, is_page_mapped, is_comm, is_loadable}
 use Rattle.jh_check.specs.Devices.{is_shmem, are_linked, section_count, sections_of, has_good_peers, has_good_bars, bars_of, has_all_sections, is_good_table, has_good_table, is_plain, are_read_only, are_alike, follows, are_in_a_row, is_twice, is_same_memory, are_same_memory, agrees_with, agrees_with_all, has_good_sections, is_good_shmem, device_breaks, is_zero, cpus_break}
 use Rattle.jh_check.specs.Broken.{StandsAmong}
-use Rattle.jh_check.specs.Clean.{IsDevice, IsShmem, AreLinked, IsSection, IsStateTable, IsPlain, IsGoodDevice, DevicesAreGood, DevicesAreSingle, AgreesWith, LinksAgree, IsSoundBitmap, CpusAreFew}
+use Rattle.jh_check.specs.Clean.{IsDevice, IsShmem, AreLinked, IsSection, IsStateTable, IsSectionRegion, IsGoodDevice, DevicesAreGood, DevicesAreSingle, AgreesWith, LinksAgree, IsSoundBitmap, CpusAreFew}
 use Rattle.jh_check.proofs.BoolLemmas.{false-from_not, not-both}
 use Rattle.jh_check.proofs.CleanLemmas.{get-take, take-get, any-at, any-of, and-rest}
 
@@ -130,14 +130,14 @@ table-whole x h =
 
 -- ---- each section
 
-plain-parts : (x : Region) → is_plain x ≡ true → IsPlain x
+plain-parts : (x : Region) → is_plain x ≡ true → IsSectionRegion x
 plain-parts x t =
     let last = not (is_loadable x) && is_page_mapped x in
     let p = and_parts (not (is_comm x)) last t in
     let q = and_parts (not (is_loadable x)) (is_page_mapped x) p.1 in
     record { no_comm = not-true (is_comm x) p.0; no_loadable = not-true (is_loadable x) q.0; pages = q.1 }
 
-plain-whole : (x : Region) → IsPlain x → is_plain x ≡ true
+plain-whole : (x : Region) → IsSectionRegion x → is_plain x ≡ true
 plain-whole x h =
     and_from (not (is_comm x)) (not (is_loadable x) && is_page_mapped x) (not_from_false (is_comm x) h.no_comm) (
     and_from (not (is_loadable x)) (is_page_mapped x) (not_from_false (is_loadable x) h.no_loadable) h.pages)

@@ -15,7 +15,7 @@ use Rattle.jh_check.specs.Regions.{Spot, pair_breaks, region_breaks, breaks_alon
 use Rattle.jh_check.specs.Devices.{is_shmem, are_same_section, is_good_shmem, device_breaks, cpus_break}
 use Rattle.jh_check.specs.Findings.{spot, findings}
 use Rattle.jh_check.specs.Clean.{IsSameSection}
-use Rattle.jh_check.specs.Broken.{Located, BreakTogether, HasEarlierComm, BreaksAlone, BreaksMemory, TellsOfTwo, TellsOfOne, TellsOfMemory, TellsOfDevice, TellsOfCpus, Tells, IsBroken}
+use Rattle.jh_check.specs.Broken.{Located, BreakTogether, HasEarlierComm, BreaksAlone, BreaksMemory, TellsOfTwo, TellsOfOne, TellsOfMemory, TellsOfDevice, TellsOfCpus, IsFoundBy, IsBroken}
 use Rattle.jh_check.proofs.BoolLemmas.{not-both}
 use Rattle.jh_check.proofs.BreakLemmas.{share-parts, within-parts}
 use Rattle.jh_check.proofs.CleanLemmas.{positive, not-zero, get-take, take-get, any-at, any-of, virt-common, phys-common, common-virt, common-phys, shared, same-section-from, same-section-to}
@@ -379,7 +379,7 @@ tell-both : (rule : Rule) (h : Region) (all : List CellConfig) (f : Finding) →
 tell-both rule h all f (inl t) = inl (tell-one rule h all f t)
 tell-both rule h all f (inr t) = inr (tell-memory rule h f t)
 
-tells : (rule : Rule) (h : Region) (all : List CellConfig) (f : Finding) → OfRule rule h all f → Tells rule h all f
+tells : (rule : Rule) (h : Region) (all : List CellConfig) (f : Finding) → OfRule rule h all f → IsFoundBy rule h all f
 tells VirtOverlap h all f p = two-tell VirtOverlap all f p
 tells PhysOverlap h all f p = two-tell PhysOverlap all f p
 tells Hypervisor h all f p = one-tells Hypervisor h all f p
@@ -394,7 +394,7 @@ tells Shmem h all f p = device-tells all f p
 tells NoCpu h all f p = cpus-tell all f p
 tells PhysAlign h all f p = both-tell PhysAlign h all f p
 
-told : (rule : Rule) (h : Region) (all : List CellConfig) (f : Finding) → Tells rule h all f → OfRule rule h all f
+told : (rule : Rule) (h : Region) (all : List CellConfig) (f : Finding) → IsFoundBy rule h all f → OfRule rule h all f
 told VirtOverlap h all f t = tell-two VirtOverlap all f t
 told PhysOverlap h all f t = tell-two PhysOverlap all f t
 told Hypervisor h all f t = tell-one Hypervisor h all f t

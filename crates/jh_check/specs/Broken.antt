@@ -126,22 +126,22 @@ pub record TellsOfCpus (all : List CellConfig) (finding : Finding) : Type 0 wher
   pub told : finding ≡ finding_of NoCpu a 0 0 0
 
 -- by its rule
-abbrev pub Tells : Rule → Region → List CellConfig → Finding → Type 0
-Tells VirtOverlap h all f = TellsOfTwo VirtOverlap all f
-Tells PhysOverlap h all f = TellsOfTwo PhysOverlap all f
-Tells Hypervisor h all f = TellsOfOne Hypervisor h all f
-Tells OutOfRange h all f = TellsOfOne OutOfRange h all f ⊎ TellsOfMemory OutOfRange h f
-Tells RootNotIdentity h all f = TellsOfOne RootNotIdentity h all f
-Tells CommInRoot h all f = TellsOfOne CommInRoot h all f
-Tells CommShape h all f = TellsOfOne CommShape h all f
-Tells ExecuteWithoutRead h all f = TellsOfOne ExecuteWithoutRead h all f
-Tells SubpageTaken h all f = TellsOfTwo SubpageTaken all f
-Tells CellsOverlap h all f = TellsOfTwo CellsOverlap all f
-Tells Shmem h all f = TellsOfDevice all f
-Tells NoCpu h all f = TellsOfCpus all f
-Tells PhysAlign h all f = TellsOfOne PhysAlign h all f ⊎ TellsOfMemory PhysAlign h f
+abbrev pub IsFoundBy : Rule → Region → List CellConfig → Finding → Type 0
+IsFoundBy VirtOverlap h all f = TellsOfTwo VirtOverlap all f
+IsFoundBy PhysOverlap h all f = TellsOfTwo PhysOverlap all f
+IsFoundBy Hypervisor h all f = TellsOfOne Hypervisor h all f
+IsFoundBy OutOfRange h all f = TellsOfOne OutOfRange h all f ⊎ TellsOfMemory OutOfRange h f
+IsFoundBy RootNotIdentity h all f = TellsOfOne RootNotIdentity h all f
+IsFoundBy CommInRoot h all f = TellsOfOne CommInRoot h all f
+IsFoundBy CommShape h all f = TellsOfOne CommShape h all f
+IsFoundBy ExecuteWithoutRead h all f = TellsOfOne ExecuteWithoutRead h all f
+IsFoundBy SubpageTaken h all f = TellsOfTwo SubpageTaken all f
+IsFoundBy CellsOverlap h all f = TellsOfTwo CellsOverlap all f
+IsFoundBy Shmem h all f = TellsOfDevice all f
+IsFoundBy NoCpu h all f = TellsOfCpus all f
+IsFoundBy PhysAlign h all f = TellsOfOne PhysAlign h all f ⊎ TellsOfMemory PhysAlign h f
 
 -- a rule is broken, and the finding tells it
 pub record IsBroken (system : SystemConfig) (cells : List CellConfig) (finding : Finding) : Type 0 where
   pub rule : Rule
-  pub by : Tells rule system.hypervisor_memory (system.root ∷ cells) finding
+  pub by : IsFoundBy rule system.hypervisor_memory (system.root ∷ cells) finding

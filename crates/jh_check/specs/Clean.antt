@@ -95,7 +95,7 @@ pub record IsStateTable (region : Region) : Type 0 where
   pub no_write : has_flags 0x2 region ≡ false
 
 -- no communication region, never root's while the cell is loaded, and whole pages
-pub record IsPlain (region : Region) : Type 0 where
+pub record IsSectionRegion (region : Region) : Type 0 where
   pub no_comm : is_comm region ≡ false
   pub no_loadable : is_loadable region ≡ false
   pub pages : is_page_mapped region ≡ true
@@ -112,7 +112,7 @@ pub record IsGoodDevice (cell : CellConfig) (device : PciDevice) : Type 0 where
   -- its sections exist
   pub exist : device.shmem_regions_start + (2 + device.shmem_peers) ≤ length cell.memory_regions
   pub table : (x : Region) → IsSection cell device 0 x → IsStateTable x
-  pub plain : (k : ℕ) (x : Region) → IsSection cell device k x → IsPlain x
+  pub plain : (k : ℕ) (x : Region) → IsSection cell device k x → IsSectionRegion x
   -- the outputs of others can't be written, and all outputs have one size
   pub read_only : (p : ℕ) (x : Region) → p ≢ device.shmem_dev_id → IsSection cell device (2 + p) x → has_flags 0x2 x ≡ false
   pub alike : (p q : ℕ) (x y : Region) → IsSection cell device (2 + p) x → IsSection cell device (2 + q) y → x.size ≡ y.size

@@ -4,7 +4,7 @@ use Rattle.std.specs.Prelude.{map, nat_lt}
 use Rattle.std.proofs.lemmas.List.{take_all}
 use Rattle.std.proofs.lemmas.Bool.{cases_Bool}
 use Rattle.jh_outside.specs.Count.{Rose}
-use Rattle.jh_outside.specs.Reads.{Told, HandsOut}
+use Rattle.jh_outside.specs.Reads.{KnownFile, HandsOut}
 use Rattle.jh_outside.specs.Writes.{Appended}
 use Rattle.jh_cellcfg.specs.declared.config.CellConfig.{CellConfig}
 use Rattle.jh_cellcfg.specs.declared.config.SystemConfig.{SystemConfig}
@@ -81,9 +81,9 @@ BoardsAreUnrefused = (contents : Contents) (board file : List ℕ) (image : Imag
 -- ---- one file
 
 -- what a file with these bytes hands out, where more are asked, is all of them
-handed_held : (told : Told) (most : ℕ) (bytes handed : List ℕ) → told ≡ Some (Some bytes) → length bytes < most → HandsOut told most handed → handed ≡ bytes
+handed_held : (told : KnownFile) (most : ℕ) (bytes handed : List ℕ) → told ≡ Some (Some bytes) → length bytes < most → HandsOut told most handed → handed ≡ bytes
 handed_held told most bytes handed is within h =
-    let hands : handed ≡ take most bytes = subst (λ (t : Told). HandsOut t most handed) is h in
+    let hands : handed ≡ take most bytes = subst (λ (t : KnownFile). HandsOut t most handed) is h in
     hands ∙ take_all most bytes (omega arith)
 
 -- a file that holds a value ends no call but where it can't be read

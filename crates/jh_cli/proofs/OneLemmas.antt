@@ -1,7 +1,7 @@
 -- What files spell, and what they are refused for, is one.
 use Rattle.std.proofs.Common.{◌≡◌, ◌≢◌, ℕ, ◌+◌, Bool, true, false, List, [], ◌∷◌, ◌++◌, length, Option, None, Some, Result, Err, ◌↔◌, inl, inr, refl, sym, ◌∙◌, ap, subst}
 use Rattle.std.specs.Prelude.{fold, IsTrue, codes}
-use Rattle.jh_outside.specs.Reads.{Told, HandsOut}
+use Rattle.jh_outside.specs.Reads.{KnownFile, HandsOut}
 use Rattle.jh_cellcfg.specs.declared.config.CellConfig.{CellConfig}
 use Rattle.jh_cellcfg.specs.declared.config.SystemConfig.{SystemConfig}
 use Rattle.jh_cellcfg.specs.Faults.{first_fault}
@@ -59,7 +59,7 @@ OneLine = (text : List ℕ) (m n : ℕ) → IsFirstBadLine text m → IsFirstBad
 
 -- ---- one file
 
-pub one_handed : (told : Told) (most : ℕ) (a b : List ℕ) → told ≢ None → HandsOut told most a → HandsOut told most b → a ≡ b
+pub one_handed : (told : KnownFile) (most : ℕ) (a b : List ℕ) → told ≢ None → HandsOut told most a → HandsOut told most b → a ≡ b
 one_handed None most a b is h k = absurd (is refl)
 one_handed (Some None) most a b is h k = absurd h
 one_handed (Some (Some held)) most a b is h k = h ∙ sym k

@@ -15,7 +15,7 @@ use Rattle.jh_ivshmem.specs.Specs.{IsWithin, is_device, is_peer, is_other, is_be
 use Rattle.jh_ivshmem.specs.Endpoint.{raised, taken, cleared, fresh, is_open}
 use Rattle.jh_ivshmem.specs.Registers.{register_written, is_in_table}
 use Rattle.jh_ivshmem.specs.Changes.{changed}
-use Rattle.jh_ivshmem.specs.Links.{endpoint_at, joined, rung, told, told_of, state_written, written, reset_of, left_by, taken_of}
+use Rattle.jh_ivshmem.specs.Links.{endpoint_at, joined, rung, others_raised, told_of, state_written, written, reset_of, left_by, taken_of}
 use Rattle.jh_ivshmem.proofs.NamedLemmas.{named-cell, named-device}
 use Rattle.jh_history.specs.declared.device_change.DeviceChange.TheVariants.{Join, Reset, Leave}
 use Rattle.jh_history.specs.Endpoints.{endpoint_changed, endpoints_changed}
@@ -182,7 +182,7 @@ follow-space cell device e at width value list held same =
     }
 
 told_follow : (e : Endpoint) (value : ℕ) (list : List Endpoint) → Follow list (told_of e value list)
-told_follow e value list = follow_either (e.state == value) list list (told e.spec list) (follow-same list) (follow_stays (is_other e.spec.bdf e.spec.id) (raised 0) (raised_stays 0) list)
+told_follow e value list = follow_either (e.state == value) list list (others_raised e.spec list) (follow-same list) (follow_stays (is_other e.spec.bdf e.spec.id) (raised 0) (raised_stays 0) list)
 
 -- a write to a register
 pub follow-written : (e : Endpoint) (bar at value : ℕ) (list : List Endpoint) → Follow list (written e bar at value list)

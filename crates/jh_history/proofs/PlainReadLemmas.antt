@@ -9,7 +9,7 @@ use Rattle.jh_history.specs.Access.{reach_by, memory_read}
 use Rattle.jh_history.specs.Facts.{Facts}
 use Rattle.jh_history.specs.Grants.{granted_in, granted, is_kept}
 use Rattle.jh_history.specs.Lives.{regions_in}
-use Rattle.jh_history.specs.PlainView.{PlainView, Stands, IsFit, last_byte}
+use Rattle.jh_history.specs.PlainView.{PlainView, StandsFor, IsFit, last_byte}
 use Rattle.jh_history.proofs.FactsLemmas.{same_function}
 use Rattle.jh_history.proofs.GrantedLemmas.{regions-within}
 use Rattle.jh_history.proofs.ReadLemmas.{read-one, granted-beyond}
@@ -18,7 +18,7 @@ use Rattle.jh_history.proofs.ReadLemmas.{read-one, granted-beyond}
 abbrev pub read_in : PlainView → ℕ → Option ℕ
 read_in p at = memory_read (last_byte p.image p.bytes) (reach_by (granted_in p.image p.cells p.image.system.root.id Read) at 1)
 
-pub plain-reads : (p : PlainView) (i : Image) (f : Facts) (at : ℕ) → IsFit p.image p.cells → Stands p i f → read_in p at ≡ option_map f.byte (granted i f i.system.root.id Read at)
+pub plain-reads : (p : PlainView) (i : Image) (f : Facts) (at : ℕ) → IsFit p.image p.cells → StandsFor p i f → read_in p at ≡ option_map f.byte (granted i f i.system.root.id Read at)
 plain-reads p i f at fit stands =
     let id = p.image.system.root.id in
     read-one (last_byte p.image p.bytes) (granted_in p.image p.cells id Read) at (λ a le. granted-beyond id (regions_in p.image p.cells id) (is_kept p.image p.cells id) a (regions-within p.image p.cells id fit.sound.clean) le)

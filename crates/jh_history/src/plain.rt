@@ -26,7 +26,7 @@ ghost use Rattle.jh_history.specs.Bytes.{byte_written, byte_after};
 ghost use Rattle.jh_history.specs.History.{facts, after, start, coming_by, coming_of};
 ghost use Rattle.jh_history.specs.Due.{due, IsLegal, IsQuiet};
 ghost use Rattle.jh_history.specs.Admitted.{IsAdmitted, IsPlainAct, IsPlainEntry};
-ghost use Rattle.jh_history.specs.PlainView.{last_byte, Stands, IsSameBut, IsDueBeside, HasWords, MayCommit, MayFollow};
+ghost use Rattle.jh_history.specs.PlainView.{last_byte, StandsFor, IsSameBut, IsDueBeside, HasWords, MayCommit, MayFollow};
 
 use crate::access::{Access, Reach, Wanted};
 use crate::boxed::BoxedCell;
@@ -177,7 +177,7 @@ impl<'a> Plain<'a> {
     /// What holds at opening.
     fn open(alloc: Global, image: &'a Image) -> Result<Self, NoMemory>
         requires { IsAdmitted image.now }
-        ensures { IfOk result (λ plain. Stands plain image.now (start image.now)) }
+        ensures { IfOk result (λ plain. StandsFor plain image.now (start image.now)) }
     {
         legal_journals_are_sound();
         devices_may_change();
@@ -203,8 +203,8 @@ impl<'a> Plain<'a> {
     /// Writes the value where the cell's access reaches, which is a device.
     fn write_device(&mut self, cell: u32, reach: &Reach, value: u64) -> Result<(), NoMemory>
         requires { HasWords self.old }
-        ensures bytes { OnOk result ((i : TheImage) (f : Facts) → Stands self.old i f → (q : ThePlace) → last_byte i self.new.bytes q ≡ with_slot_if (slot_of_reach (devices_of i f cell) reach.now value) f.byte q) }
-        ensures endpoints { OnOk result ((i : TheImage) (f : Facts) → Stands self.old i f → self.new.endpoints ≡ endpoints_put (devices_of i f cell) reach.now value) }
+        ensures bytes { OnOk result ((i : TheImage) (f : Facts) → StandsFor self.old i f → (q : ThePlace) → last_byte i self.new.bytes q ≡ with_slot_if (slot_of_reach (devices_of i f cell) reach.now value) f.byte q) }
+        ensures endpoints { OnOk result ((i : TheImage) (f : Facts) → StandsFor self.old i f → self.new.endpoints ≡ endpoints_put (devices_of i f cell) reach.now value) }
         ensures others { IsSameBut self.old self.new }
     {
         let list = devices_in(self.image, self.cells.configs(), cell);
@@ -217,8 +217,8 @@ impl<'a> Plain<'a> {
     fn write_at(&mut self, cell: u32, wanted: &Wanted, value: u64) -> Result<(), NoMemory>
         requires few { wanted.now.width ≤ 8 }
         requires words { HasWords self.old }
-        ensures bytes { OnOk result ((i : TheImage) (f : Facts) → Stands self.old i f → (q : ThePlace) → last_byte i self.new.bytes q ≡ write_of f.byte (devices_of i f cell) (reach_of i f cell wanted.now) value q) }
-        ensures endpoints { OnOk result ((i : TheImage) (f : Facts) → Stands self.old i f → self.new.endpoints ≡ endpoints_put (devices_of i f cell) (reach_of i f cell wanted.now) value) }
+        ensures bytes { OnOk result ((i : TheImage) (f : Facts) → StandsFor self.old i f → (q : ThePlace) → last_byte i self.new.bytes q ≡ write_of f.byte (devices_of i f cell) (reach_of i f cell wanted.now) value q) }
+        ensures endpoints { OnOk result ((i : TheImage) (f : Facts) → StandsFor self.old i f → self.new.endpoints ≡ endpoints_put (devices_of i f cell) (reach_of i f cell wanted.now) value) }
         ensures others { IsSameBut self.old self.new }
     {
         let reach = reach_in(self.image, &self.cells, &self.endpoints, cell, wanted);
@@ -248,8 +248,8 @@ impl<'a> Plain<'a> {
     fn write(&mut self, cell: u32, act: &Act) -> Result<(), NoMemory>
         requires plain { IsPlainAct act.now }
         requires words { HasWords self.old }
-        ensures bytes { OnOk result ((i : TheImage) (f : Facts) → Stands self.old i f → (q : ThePlace) → last_byte i self.new.bytes q ≡ byte_written i f cell act.now q) }
-        ensures endpoints { OnOk result ((i : TheImage) (f : Facts) → Stands self.old i f → IsNextOf cell f.endpoints act.now → self.new.endpoints ≡ endpoints_acted i f cell act.now) }
+        ensures bytes { OnOk result ((i : TheImage) (f : Facts) → StandsFor self.old i f → (q : ThePlace) → last_byte i self.new.bytes q ≡ byte_written i f cell act.now q) }
+        ensures endpoints { OnOk result ((i : TheImage) (f : Facts) → StandsFor self.old i f → IsNextOf cell f.endpoints act.now → self.new.endpoints ≡ endpoints_acted i f cell act.now) }
         ensures commit { OnOk result (act.now ≡ Commits → self.new.endpoints ≡ self.old.endpoints) }
         ensures others { IsSameBut self.old self.new }
     {
@@ -299,9 +299,9 @@ impl<'a> Plain<'a> {
     fn change(&mut self, entry: &Entry) -> Result<(), NoMemory>
         requires plain { IsPlainEntry entry.now }
         requires may { MayFollow self.old entry.now }
-        ensures cpus { OnOk result ((i : TheImage) (f : Facts) → Stands self.old i f → (k : ℕ) → k < 16 → slice_get self.new.cpus k ≡ Some (cpu_after i f entry.now k)) }
-        ensures bytes { OnOk result ((i : TheImage) (f : Facts) → Stands self.old i f → (q : ThePlace) → last_byte i self.new.bytes q ≡ byte_after i f entry.now q) }
-        ensures endpoints { OnOk result ((i : TheImage) (f : Facts) → Stands self.old i f → self.new.endpoints ≡ endpoints_after i f entry.now) }
+        ensures cpus { OnOk result ((i : TheImage) (f : Facts) → StandsFor self.old i f → (k : ℕ) → k < 16 → slice_get self.new.cpus k ≡ Some (cpu_after i f entry.now k)) }
+        ensures bytes { OnOk result ((i : TheImage) (f : Facts) → StandsFor self.old i f → (q : ThePlace) → last_byte i self.new.bytes q ≡ byte_after i f entry.now q) }
+        ensures endpoints { OnOk result ((i : TheImage) (f : Facts) → StandsFor self.old i f → self.new.endpoints ≡ endpoints_after i f entry.now) }
         ensures image { self.new.image ≡ self.old.image }
         ensures cells { self.new.cells ≡ self.old.cells }
         ensures call { self.new.call ≡ self.old.call }
@@ -322,7 +322,7 @@ impl<'a> Plain<'a> {
 
     /// The configuration that the call reads, where it is a create.
     fn read_for(&self, call: &Call) -> Result<Option<BoxedCell>, NoMemory>
-        ensures { IfOk result (λ coming. (i : TheImage) (f : Facts) → Stands self.now i f → coming ≡ coming_by i f call.now) }
+        ensures { IfOk result (λ coming. (i : TheImage) (f : Facts) → StandsFor self.now i f → coming ≡ coming_by i f call.now) }
     {
         match *call {
             Call::Create { at } => {
@@ -335,7 +335,7 @@ impl<'a> Plain<'a> {
 
     /// That of the open call.
     fn read_coming(&self) -> Result<Option<BoxedCell>, NoMemory>
-        ensures { IfOk result (λ coming. (i : TheImage) (f : Facts) → Stands self.now i f → coming ≡ coming_of i f) }
+        ensures { IfOk result (λ coming. (i : TheImage) (f : Facts) → StandsFor self.now i f → coming ≡ coming_of i f) }
     {
         match self.call.as_ref() {
             Some(begun) => self.read_for(&begun.call),
@@ -345,7 +345,7 @@ impl<'a> Plain<'a> {
 
     /// The configuration that the open call reads at the entry, where that is a Decide.
     fn coming(&self, entry: &Entry) -> Result<Option<BoxedCell>, NoMemory>
-        ensures { IfOk result (λ coming. (i : TheImage) (f : Facts) → Stands self.now i f → (lives : List TheLive) → call_by lives coming f.call entry.now entry.now.act ≡ call_by lives (coming_of i f) f.call entry.now entry.now.act) }
+        ensures { IfOk result (λ coming. (i : TheImage) (f : Facts) → StandsFor self.now i f → (lives : List TheLive) → call_by lives coming f.call entry.now entry.now.act ≡ call_by lives (coming_of i f) f.call entry.now entry.now.act) }
     {
         match entry.act {
             Act::Decide { .. } => self.read_coming(),
@@ -378,7 +378,7 @@ impl<'a> Plain<'a> {
         requires plain { IsPlainEntry entry.now }
         requires due { IsDueBeside self.old.image self.old.cells self.old.call entry.now }
         requires may { MayFollow self.old entry.now }
-        ensures { OnOk result ((i : TheImage) (f : Facts) → Stands self.old i f → Stands self.new i (after i f entry.now)) }
+        ensures { OnOk result ((i : TheImage) (f : Facts) → StandsFor self.old i f → StandsFor self.new i (after i f entry.now)) }
     {
         let coming = self.coming(entry)?;
         self.change(entry)?;
@@ -390,7 +390,7 @@ impl<'a> Plain<'a> {
     fn after(alloc: Global, image: &'a Image, entries: &[Entry]) -> Result<Self, NoMemory>
         requires admitted { IsAdmitted image.now }
         requires legal { IsLegal image.now entries.now }
-        ensures { IfOk result (λ plain. Stands plain image.now (facts image.now entries.now)) }
+        ensures { IfOk result (λ plain. StandsFor plain image.now (facts image.now entries.now)) }
     {
         legal_journals_are_sound();
         devices_may_change();

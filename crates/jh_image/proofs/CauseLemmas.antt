@@ -25,7 +25,7 @@ use Rattle.jh_spec.specs.Json.{IsText}
 use Rattle.jh_image.specs.Boards.{board_told, IsListingAnswer}
 use Rattle.jh_image.specs.Opening.{IsFit}
 use Rattle.jh_image.specs.Files.{Contents, HasBytes, IsOversize, Lists, IsPreloadOf, IsProgramOf, Preloads, Programs}
-use Rattle.jh_image.specs.Images.{HasSystem, IsReady, IsNextPreload, HasPreloads, IsNextProgram, MakesImage, Comes, the_board, the_system, a_preload, a_program}
+use Rattle.jh_image.specs.Images.{HasSystem, IsReady, IsNextPreload, HasPreloads, IsNextProgram, MakesImage, IsNextFile, the_board, the_system, a_preload, a_program}
 use Rattle.jh_image.specs.Causes.{IsBadBoard, IsBadSystem, HasFindings, IsSmall, IsBadPreload, IsBadProgram, StopsReading}
 use Rattle.jh_image.specs.Laws.{AreTold}
 use Rattle.jh_image.proofs.OneLemmas.{OneSpelling, bytes-one, text-one, listing-one, system-one, preload-one, preloads-one, programs-one}
@@ -362,7 +362,7 @@ FromSystem contents board file cause = AtSystem contents board file cause ⊎ Fr
 abbrev Stage : Contents → List ℕ → List ℕ → ImageCause → Type 0
 Stage contents board file cause = AtBoard contents board file cause ⊎ FromSystem contents board file cause
 
-came-oversize : (contents : Contents) (board file : List ℕ) → Comes contents board file → IsOversize contents file → Stage contents board file Oversize
+came-oversize : (contents : Contents) (board file : List ℕ) → IsNextFile contents board file → IsOversize contents file → Stage contents board file Oversize
 came-oversize contents board file the_board over = inl (large_board refl over)
 came-oversize contents board file (the_system listing lists) over = inr (inl (large_system listing lists refl over))
 came-oversize contents board file (a_preload listing system preloads entry next) over =

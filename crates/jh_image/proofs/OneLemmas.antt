@@ -2,7 +2,7 @@
 use Rattle.std.proofs.Common.{◌≡◌, ◌≢◌, ℕ, ◌+◌, List, [], ◌∷◌, ◌++◌, length, Some, None, Result, Ok, refl, sym, ap, subst, ◌∙◌, arith}
 use Rattle.std.proofs.lemmas.List.{length_push}
 use Rattle.serde_json.specs.Data.{Data}
-use Rattle.jh_outside.specs.Reads.{Told, HandsOut}
+use Rattle.jh_outside.specs.Reads.{KnownFile, HandsOut}
 use Rattle.jh_cellcfg.specs.declared.region.Region.{Region}
 use Rattle.jh_cellcfg.specs.declared.config.SystemConfig.{SystemConfig}
 use Rattle.jh_syscfg.specs.Layout.{IsSystem, IsSystemWithinLimits, system_spelling}
@@ -26,7 +26,7 @@ OneSpelling = (a b : SystemConfig) → IsSystem a → IsSystem b → IsSystemWit
 
 -- ---- bytes
 
-hands-one : (told : Told) (most : ℕ) (one other : List ℕ) → told ≢ None → HandsOut told most one → HandsOut told most other → one ≡ other
+hands-one : (told : KnownFile) (most : ℕ) (one other : List ℕ) → told ≢ None → HandsOut told most one → HandsOut told most other → one ≡ other
 hands-one None most one other tells h k = absurd (tells refl)
 hands-one (Some None) most one other tells h k = absurd h
 hands-one (Some (Some held)) most one other tells h k = h ∙ sym k

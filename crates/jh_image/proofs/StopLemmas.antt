@@ -16,7 +16,7 @@ use Rattle.jh_image.specs.declared.fault.ImageFault.{ImageFault}
 use Rattle.jh_image.specs.declared.fault.ImageFault.TheVariants.{Refused, NoMemory}
 use Rattle.jh_image.specs.Boards.{IsListingAnswer}
 use Rattle.jh_image.specs.Files.{Contents, HasBytes}
-use Rattle.jh_image.specs.Images.{HasSystem, IsNextProgram, Comes, a_program}
+use Rattle.jh_image.specs.Images.{HasSystem, IsNextProgram, IsNextFile, a_program}
 use Rattle.jh_image.specs.Causes.{IsBadBoard, StopsReading, OnRefused, IsCountedAt, IsCounted, HandsOutNothing, IsRefusal, IsBoardRefusal, IsUnsound, IsPoolSmall, IsProgramUnread}
 
 -- an error that is passed up
@@ -34,8 +34,8 @@ on_refused P Q (Refused file cause) f h = f file cause h
 on_refused P Q NoMemory f h = tt
 
 -- a file whose turn comes, and that can't be read or is too large
-pub unread-stops : (contents : Contents) (board name : List ℕ) → Comes contents board name → (file : List ℕ) (cause : ImageCause) → HandsOutNothing contents name file cause → StopsReading contents board file cause
-unread-stops contents board name comes file ReadFault h = subst (λ f. Comes contents board f) (sym h) comes
+pub unread-stops : (contents : Contents) (board name : List ℕ) → IsNextFile contents board name → (file : List ℕ) (cause : ImageCause) → HandsOutNothing contents name file cause → StopsReading contents board file cause
+unread-stops contents board name comes file ReadFault h = subst (λ f. IsNextFile contents board f) (sym h) comes
 unread-stops contents board name comes file Oversize h = subst (λ f. StopsReading contents board f Oversize) (sym h.0) (comes, h.1)
 unread-stops contents board name comes file _ h = absurd h
 
@@ -60,7 +60,7 @@ unsound-stops contents board listing system has file _ h = absurd h
 -- a program whose turn comes, and that can't be read or is none
 pub program-stops : (contents : Contents) (board : List ℕ) (listing : Listing) (system : SystemConfig) (preloads : List Preload) (programs : List Program) (entry : ProgramFile) → IsNextProgram contents board listing system preloads programs entry
     → (file : List ℕ) (cause : ImageCause) → IsProgramUnread contents entry.file file cause → StopsReading contents board file cause
-program-stops contents board listing system preloads programs entry next file ReadFault h = subst (λ f. Comes contents board f) (sym h) (a_program listing system preloads programs entry next)
+program-stops contents board listing system preloads programs entry next file ReadFault h = subst (λ f. IsNextFile contents board f) (sym h) (a_program listing system preloads programs entry next)
 program-stops contents board listing system preloads programs entry next file Oversize h = subst (λ f. StopsReading contents board f Oversize) (sym h.0) (a_program listing system preloads programs entry next, h.1)
 program-stops contents board listing system preloads programs entry next file (BadProgram fault) h = record {
   listing = listing;

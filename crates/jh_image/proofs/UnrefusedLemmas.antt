@@ -27,7 +27,7 @@ use Rattle.jh_image.specs.declared.fault.ImageCause.TheVariants.{ReadFault, Over
 use Rattle.jh_image.specs.Boards.{board_told, IsListingAnswer}
 use Rattle.jh_image.specs.Opening.{IsFit}
 use Rattle.jh_image.specs.Files.{Contents, Hands, HasBytes, IsOversize, Lists, IsPreloadOf, IsProgramOf, Preloads, no_preloads, one_more_preload, Programs, no_programs, one_more_program}
-use Rattle.jh_image.specs.Images.{HasSystem, MakesImage, Comes, the_board, the_system, a_preload, a_program, IsImage}
+use Rattle.jh_image.specs.Images.{HasSystem, MakesImage, IsNextFile, the_board, the_system, a_preload, a_program, IsImage}
 use Rattle.jh_image.specs.Causes.{IsBadBoard, IsBadSystem, IsSmall, IsBadPreload, IsBadProgram, StopsReading}
 use Rattle.jh_image.specs.Laws.{AreTold}
 use Rattle.jh_image.proofs.OneLemmas.{OneSpelling, bytes-one, listing-told, listing-one, system-one, preload-one, preloads-one, makes-one}
@@ -104,7 +104,7 @@ program-at contents files all (one_more_program fs ps f p rest is) number file e
 
 -- each file whose turn comes has bytes, and not too many
 came : (contents : Contents) (board : List ℕ) (listing : Listing) (image : Image) → AreTold contents → MakesImage contents board listing image
-    → (file : List ℕ) → Comes contents board file → (bytes : List ℕ) × HasBytes contents file bytes
+    → (file : List ℕ) → IsNextFile contents board file → (bytes : List ℕ) × HasBytes contents file bytes
 came contents board listing image told makes file the_board = let lists = makes.loaded.ready.has.lists in (lists.bytes, lists.has)
 came contents board listing image told makes file (the_system more lists) =
     let has = makes.loaded.ready.has in

@@ -7,7 +7,7 @@ use Rattle.jh_ivshmem.specs.Specs.{is_device, is_before, is_peer, is_other, is_c
 use Rattle.jh_ivshmem.specs.Endpoint.{raised, taken, cleared, fresh}
 use Rattle.jh_ivshmem.specs.Registers.{register_written}
 use Rattle.jh_ivshmem.specs.Changes.{changed}
-use Rattle.jh_ivshmem.specs.Links.{besides, joined, told, told_of, written, reset_of, left_by, taken_of}
+use Rattle.jh_ivshmem.specs.Links.{besides, joined, others_raised, told_of, written, reset_of, left_by, taken_of}
 use Rattle.jh_ivshmem.proofs.ChangeLemmas.{raised-spec, register_written-spec, taken-spec, cleared-spec}
 
 -- an element that fails stands in no filtered list
@@ -84,9 +84,9 @@ other_concerned s other h = or_right (is_device s.cell s.device other) (other.bd
 pub besides-told : (e : Endpoint) (value : ℕ) (list : List Endpoint) → besides (is_concerned e.spec) (told_of e value list) ≡ besides (is_concerned e.spec) list
 besides-told e value list =
     elim (cases_Bool (e.state == value)) as (λ _. besides (is_concerned e.spec) (told_of e value list) ≡ besides (is_concerned e.spec) list) [
-      | inl same ↦ ap (λ b. besides (is_concerned e.spec) (cond b list (told e.spec list))) same
+      | inl same ↦ ap (λ b. besides (is_concerned e.spec) (cond b list (others_raised e.spec list))) same
       | inr other ↦
-          ap (λ b. besides (is_concerned e.spec) (cond b list (told e.spec list))) other
+          ap (λ b. besides (is_concerned e.spec) (cond b list (others_raised e.spec list))) other
           ∙ besides-changed (is_concerned e.spec) (is_other e.spec.bdf e.spec.id) (raised 0) (raised-spec 0) (other_concerned e.spec) list
     ]
 

@@ -11,7 +11,7 @@ use Rattle.jh_ivshmem.specs.Specs.{AreApart, is_device, is_before, is_peer, is_o
 use Rattle.jh_ivshmem.specs.Endpoint.{raised, taken, cleared, fresh, vector_at, fresh_vector}
 use Rattle.jh_ivshmem.specs.Registers.{register_written}
 use Rattle.jh_ivshmem.specs.Changes.{changed}
-use Rattle.jh_ivshmem.specs.Links.{endpoint_at, is_pending, joined, told, told_of, written, reset_of, left_by, taken_of}
+use Rattle.jh_ivshmem.specs.Links.{endpoint_at, is_pending, joined, others_raised, told_of, written, reset_of, left_by, taken_of}
 use Rattle.jh_ivshmem.proofs.ApartLemmas.{device_is, devices_apart}
 use Rattle.jh_ivshmem.proofs.ChangeLemmas.{raised-spec, register_written-spec, taken-spec, cleared-spec}
 use Rattle.jh_ivshmem.proofs.LawLemmas.{raised-keeps_pending, register_written-keeps_pending}
@@ -80,9 +80,9 @@ pub pending-told : (cell device v : ℕ) (e : Endpoint) (value : ℕ) (list : Li
     → is_pending cell device v (told_of e value list) ≡ true
 pending-told cell device v e value list h =
     elim (cases_Bool (e.state == value)) as (λ _. is_pending cell device v (told_of e value list) ≡ true) [
-      | inl same ↦ ap (λ b. is_pending cell device v (cond b list (told e.spec list))) same ∙ h
+      | inl same ↦ ap (λ b. is_pending cell device v (cond b list (others_raised e.spec list))) same ∙ h
       | inr other ↦
-          ap (λ b. is_pending cell device v (cond b list (told e.spec list))) other
+          ap (λ b. is_pending cell device v (cond b list (others_raised e.spec list))) other
           ∙ pending-changed cell device v (is_other e.spec.bdf e.spec.id) (raised 0) (raised-spec 0)
           (λ o here meant was. raised-keeps_pending 0 v o was) list h
     ]

@@ -12,7 +12,7 @@ use Rattle.jh_ivshmem.specs.declared.spec.EndpointSpec.{EndpointSpec}
 use Rattle.jh_ivshmem.specs.Specs.{is_device, is_other, is_before}
 use Rattle.jh_ivshmem.specs.Changes.{changed}
 use Rattle.jh_ivshmem.specs.Endpoint.{raised, cleared, fresh, vector_at, fresh_vector, fresh_vectors}
-use Rattle.jh_ivshmem.specs.Links.{endpoint_at, told, told_of, reset_of, left_by, joined}
+use Rattle.jh_ivshmem.specs.Links.{endpoint_at, others_raised, told_of, reset_of, left_by, joined}
 use Rattle.jh_ivshmem.specs.declared.vector.Vector.{Vector}
 use Rattle.jh_ivshmem.proofs.ChangeLemmas.{raised-spec, cleared-spec}
 use Rattle.jh_ivshmem.proofs.LawLemmas.{closed_control}
@@ -49,14 +49,14 @@ abbrev pub is_told : Endpoint → ℕ → Endpoint → Bool
 is_told e value o = not (eqb e.state value) && is_other e.spec.bdf e.spec.id o.spec
 
 told_by : (e o : Endpoint) (value : ℕ) (list : List Endpoint) (id n : ℕ) (same : Bool) → eqb e.state value ≡ same → endpoint_at id n list ≡ Some o
-    → endpoint_at id n (cond same list (told e.spec list)) ≡ Some (cond (not same && is_other e.spec.bdf e.spec.id o.spec) (raised 0 o) o)
+    → endpoint_at id n (cond same list (others_raised e.spec list)) ≡ Some (cond (not same && is_other e.spec.bdf e.spec.id o.spec) (raised 0 o) o)
 told_by e o value list id n true is there = there
 told_by e o value list id n false is there = found-changed id n (is_other e.spec.bdf e.spec.id) (raised 0) list o (raised-spec 0) there
 
 pub found-told : (e o : Endpoint) (value : ℕ) (list : List Endpoint) (id n : ℕ) → endpoint_at id n list ≡ Some o → endpoint_at id n (told_of e value list) ≡ Some (cond (is_told e value o) (raised 0 o) o)
 found-told e o value list id n there = told_by e o value list id n (eqb e.state value) refl there
 
-untold_by : (e : Endpoint) (list : List Endpoint) (id n : ℕ) (same : Bool) → endpoint_at id n list ≡ None → endpoint_at id n (cond same list (told e.spec list)) ≡ None
+untold_by : (e : Endpoint) (list : List Endpoint) (id n : ℕ) (same : Bool) → endpoint_at id n list ≡ None → endpoint_at id n (cond same list (others_raised e.spec list)) ≡ None
 untold_by e list id n true there = there
 untold_by e list id n false there = none-changed id n (is_other e.spec.bdf e.spec.id) (raised 0) list (raised-spec 0) there
 

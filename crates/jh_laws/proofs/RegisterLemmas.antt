@@ -10,7 +10,7 @@ use Rattle.jh_ivshmem.specs.Specs.{IsWithin, is_device, is_peer, is_other, is_be
 use Rattle.jh_ivshmem.specs.Endpoint.{raised, taken, cleared, fresh, fresh_vector, vector_at, is_open}
 use Rattle.jh_ivshmem.specs.Registers.{word_of, with_word, register_of, register_written, is_in_table}
 use Rattle.jh_ivshmem.specs.Changes.{changed}
-use Rattle.jh_ivshmem.specs.Links.{endpoint_at, joined, rung, told, told_of, state_written, written, reset_of, left_by}
+use Rattle.jh_ivshmem.specs.Links.{endpoint_at, joined, rung, others_raised, told_of, state_written, written, reset_of, left_by}
 use Rattle.jh_vpci.specs.Writes.{written as config_written}
 use Rattle.jh_script.specs.declared.image.Image.{Image}
 use Rattle.jh_history.specs.declared.access.Access.TheVariants.{Write as ToWrite}
@@ -130,7 +130,7 @@ changed_fit t f keeps (e ∷ list) h =
     (changed_fit t f keeps list (All-tail HasRegisters e list h))
 
 told_fit : (e : Endpoint) (value : ℕ) (list : List Endpoint) → HaveRegisters list → HaveRegisters (told_of e value list)
-told_fit e value list h = either (e.state == value) list (told e.spec list) h (changed_fit (is_other e.spec.bdf e.spec.id) (raised 0) (raised_fit 0) list h)
+told_fit e value list h = either (e.state == value) list (others_raised e.spec list) h (changed_fit (is_other e.spec.bdf e.spec.id) (raised 0) (raised_fit 0) list h)
 
 state_fit : (e : Endpoint) (value : ℕ) (list : List Endpoint) → value < 2 ^ 32 → HaveRegisters list → HaveRegisters (state_written e value list)
 state_fit e value list small h =

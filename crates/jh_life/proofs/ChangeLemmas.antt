@@ -14,8 +14,8 @@ use Rattle.jh_cellcfg.specs.declared.live.Live.{Live}
 use Rattle.jh_cellcfg.specs.Cells.{name_of}
 use Rattle.jh_cellcfg.specs.Lives.{has_id}
 use Rattle.jh_life.specs.Lives.{new_live, configs_of, marks_of}
-use Rattle.jh_life.specs.Stands.{AreTwo}
-use Rattle.jh_life.specs.Changes.{Change, Created, Dropped, Marked, marked, without, after, told, AreNew}
+use Rattle.jh_life.specs.SoundRecords.{AreTwo}
+use Rattle.jh_life.specs.Changes.{Change, Created, Dropped, Marked, marked, without, after, live_after, AreNew}
 
 -- ---- one cell with an id
 
@@ -115,7 +115,7 @@ pick true known new none = ap (λ (o : Option Live). option_or o (Some new)) (no
 pick false None new none = refl
 pick false (Some x) new none = refl
 
-tell-created : (id : ℕ) (config : CellConfig) (lives : List Live) → find (has_id config.id) lives ≡ None → find (has_id id) (lives ++ new_live config ∷ []) ≡ told id (find (has_id id) lives) (Created config)
+tell-created : (id : ℕ) (config : CellConfig) (lives : List Live) → find (has_id config.id) lives ≡ None → find (has_id id) (lives ++ new_live config ∷ []) ≡ live_after id (find (has_id id) lives) (Created config)
 tell-created id config lives none =
     find-append (has_id id) lives (new_live config ∷ [])
     ∙ pick (config.id == id) (find (has_id id) lives) (new_live config) (λ e. subst (λ k. find (has_id k) lives ≡ None) (eqb-true config.id id e) none)
@@ -135,7 +135,7 @@ nothing : (g : Bool) → ◌≡◌ {A = Option Live} None (cond g None None)
 nothing true = refl
 nothing false = refl
 
-tell-dropped : (id gone : ℕ) (lives : List Live) → find (has_id id) (without gone lives) ≡ told id (find (has_id id) lives) (Dropped gone)
+tell-dropped : (id gone : ℕ) (lives : List Live) → find (has_id id) (without gone lives) ≡ live_after id (find (has_id id) lives) (Dropped gone)
 tell-dropped id gone [] = nothing (gone == id)
 tell-dropped id gone (x ∷ xs) =
     elim (cases_Bool (has_id gone x)) [
@@ -148,7 +148,7 @@ tell-dropped id gone (x ∷ xs) =
           ne_eqb x.config.id id (λ e. both_ways (has_id gone x) isnt (eq-eqb x.config.id gone (e ∙ sym (eqb-true gone id g))))))
     ]
 
-mark_of : (id set : ℕ) (on : Bool) (lives : List Live) (known : Option Live) → find (has_id id) lives ≡ known → option_map (marked set on) known ≡ told id known (Marked set on)
+mark_of : (id set : ℕ) (on : Bool) (lives : List Live) (known : Option Live) → find (has_id id) lives ≡ known → option_map (marked set on) known ≡ live_after id known (Marked set on)
 mark_of id set on lives None found = nothing (set == id)
 mark_of id set on lives (Some live) found =
     let has : has_id id live ≡ true = (IsFound-from_find (has_id id) lives live found).passes in
@@ -162,16 +162,16 @@ mark_of id set on lives (Some live) found =
           rw (miss, other) refl
     ]
 
-tell-marked : (id set : ℕ) (on : Bool) (lives : List Live) → find (has_id id) (map (marked set on) lives) ≡ told id (find (has_id id) lives) (Marked set on)
+tell-marked : (id set : ℕ) (on : Bool) (lives : List Live) → find (has_id id) (map (marked set on) lives) ≡ live_after id (find (has_id id) lives) (Marked set on)
 tell-marked id set on lives = find-map (marked set on) (has_id id) lives ∙ mark_of id set on lives (find (has_id id) lives) refl
 
 -- ---- and all
 
-pub changes-told : (id : ℕ) (changes : List Change) (lives : List Live) → AreNew lives changes → find (has_id id) (fold after lives changes) ≡ fold (told id) (find (has_id id) lives) changes
+pub changes-told : (id : ℕ) (changes : List Change) (lives : List Live) → AreNew lives changes → find (has_id id) (fold after lives changes) ≡ fold (live_after id) (find (has_id id) lives) changes
 changes-told id [] lives new = refl
 changes-told id (Created config ∷ changes) lives new =
-    changes-told id changes (after lives (Created config)) new.1 ∙ ap (λ (o : Option Live). fold (told id) o changes) (tell-created id config lives new.0)
+    changes-told id changes (after lives (Created config)) new.1 ∙ ap (λ (o : Option Live). fold (live_after id) o changes) (tell-created id config lives new.0)
 changes-told id (Dropped gone ∷ changes) lives new =
-    changes-told id changes (without gone lives) new ∙ ap (λ (o : Option Live). fold (told id) o changes) (tell-dropped id gone lives)
+    changes-told id changes (without gone lives) new ∙ ap (λ (o : Option Live). fold (live_after id) o changes) (tell-dropped id gone lives)
 changes-told id (Marked set on ∷ changes) lives new =
-    changes-told id changes (map (marked set on) lives) new ∙ ap (λ (o : Option Live). fold (told id) o changes) (tell-marked id set on lives)
+    changes-told id changes (map (marked set on) lives) new ∙ ap (λ (o : Option Live). fold (live_after id) o changes) (tell-marked id set on lives)

@@ -11,7 +11,7 @@ use Rattle.jh_cellcfg.specs.declared.config.CellConfig.{CellConfig}
 use Rattle.jh_cellcfg.specs.declared.live.Live.{Live}
 use Rattle.jh_check.specs.Refusals.{is_namesake, is_known}
 use Rattle.jh_life.specs.Lives.{configs_of, marks_of}
-use Rattle.jh_life.specs.Stands.{joined, AreTwo, Stands}
+use Rattle.jh_life.specs.SoundRecords.{joined, AreTwo, AreSoundRecords}
 use Rattle.jh_life.proofs.PageLemmas.{own_pages}
 
 abbrev live_of : CellConfig → Bool → Live
@@ -53,7 +53,7 @@ length-removed zero (x ∷ xs) l = refl
 length-removed (suc i) (x ∷ xs) l = ap (λ n. suc n) (length-removed i xs (omega arith))
 
 -- the records stand at each change
-pub stands-push : (root : CellConfig) (configs : List CellConfig) (marks : List Bool) (taken : ℕ) (new : CellConfig) (more : ℕ) → Stands root configs marks taken → length configs < 15 → is_known (root ∷ configs) new ≡ false → more ≡ own_pages new → Stands root (configs ++ new ∷ []) (marks ++ false ∷ []) (taken + more)
+pub stands-push : (root : CellConfig) (configs : List CellConfig) (marks : List Bool) (taken : ℕ) (new : CellConfig) (more : ℕ) → AreSoundRecords root configs marks taken → length configs < 15 → is_known (root ∷ configs) new ≡ false → more ≡ own_pages new → AreSoundRecords root (configs ++ new ∷ []) (marks ++ false ∷ []) (taken + more)
 stands-push root configs marks taken new more h few unknown own =
     let even = h.even in
     let a = length_push configs new in
@@ -67,11 +67,11 @@ stands-push root configs marks taken new more h few unknown own =
     }
 
 -- those of one of them are among the pages that are taken
-pub own-among : (root : CellConfig) (configs : List CellConfig) (marks : List Bool) (taken i : ℕ) (d : CellConfig) (gone : ℕ) → Stands root configs marks taken → i < length configs → gone ≡ own_pages (get_or configs i d) → sum_by own_pages (remove configs i) + gone ≡ taken
+pub own-among : (root : CellConfig) (configs : List CellConfig) (marks : List Bool) (taken i : ℕ) (d : CellConfig) (gone : ℕ) → AreSoundRecords root configs marks taken → i < length configs → gone ≡ own_pages (get_or configs i d) → sum_by own_pages (remove configs i) + gone ≡ taken
 own-among root configs marks taken i d gone h l own =
     ap (λ n. sum_by own_pages (remove configs i) + n) own ∙ sum_by-remove own_pages configs i d l ∙ sym h.pages
 
-pub stands-remove : (root : CellConfig) (configs : List CellConfig) (marks : List Bool) (taken i : ℕ) (d : CellConfig) (gone : ℕ) → Stands root configs marks taken → i < length configs → gone ≡ own_pages (get_or configs i d) → Stands root (remove configs i) (remove marks i) (taken - gone)
+pub stands-remove : (root : CellConfig) (configs : List CellConfig) (marks : List Bool) (taken i : ℕ) (d : CellConfig) (gone : ℕ) → AreSoundRecords root configs marks taken → i < length configs → gone ≡ own_pages (get_or configs i d) → AreSoundRecords root (remove configs i) (remove marks i) (taken - gone)
 stands-remove root configs marks taken i d gone h l own =
     let even = h.even in
     let few = h.few in

@@ -6,7 +6,7 @@ ghost use Rattle.jh_check.specs.Refusals.{is_known};
 ghost use Rattle.jh_shape.specs.Claims.{has_bit};
 ghost use Rattle.jh_shape.specs.Pages.{pages_of};
 ghost use Rattle.jh_life.specs.Lives.{new_live, has_config_id, configs_of, marks_of, cells_of, is_loadable_at, place_of};
-ghost use Rattle.jh_life.specs.Stands.{AreTwo};
+ghost use Rattle.jh_life.specs.SoundRecords.{AreTwo};
 ghost use Rattle.jh_life.specs.Verdict.{verdict_of_create};
 
 use crate::copy::copy_of_system;
@@ -36,7 +36,7 @@ pub struct Cells {
 impl Model for Cells {
     ghost use Rattle.std.specs.Prelude.{◌-◌, min, vec_len, vec_capacity};
     ghost use Rattle.jh_life.specs.Seen.{Seen};
-    ghost use Rattle.jh_life.specs.Stands.{Stands, joined};
+    ghost use Rattle.jh_life.specs.SoundRecords.{AreSoundRecords, joined};
 
     ghost Value = { Seen };
 
@@ -46,7 +46,7 @@ impl Model for Cells {
       spare = min (vec_capacity c.configs - vec_len c.configs) (vec_capacity c.marks - vec_len c.marks);
     } };
 
-    ghost invariant = { λ c. Stands c.system.root c.configs.items c.marks.items c.taken };
+    ghost invariant = { λ c. AreSoundRecords c.system.root c.configs.items c.marks.items c.taken };
 }
 
 /// The index of the cell with the id.

@@ -2,7 +2,7 @@
 use Rattle.std.proofs.Common.{◌≡◌, ◌≢◌, ℕ, ◌+◌, ◌<◌, Bool, true, false, cond, ◌||◌, eqb, List, [], ◌∷◌, ◌++◌, refl, arith}
 use Rattle.std.specs.List.{list_any}
 use Rattle.std.proofs.lemmas.Bool.Decides.{nat_tests}
-use Rattle.jh_pool.specs.Stands.{often}
+use Rattle.jh_pool.specs.SoundPool.{often}
 
 pub often_push : (page : ℕ) (xs : List ℕ) (x : ℕ) → often page (xs ++ x ∷ []) ≡ often page xs + cond (eqb x page) 1 0
 often_push page [] x = omega arith

@@ -4,7 +4,7 @@ use Rattle.std.specs.List.{list_any}
 use Rattle.std.proofs.lemmas.Bool.{cases_eq}
 use Rattle.jh_num.specs.declared.address.TheConstants.{ADDRESS_END}
 use Rattle.jh_pool.specs.Pages.{IsPageIn}
-use Rattle.jh_pool.specs.Stands.{often, Stands}
+use Rattle.jh_pool.specs.SoundPool.{often, IsSoundPool}
 use Rattle.jh_pool.proofs.ListLemmas.{often_same, often_other, any-from_often}
 
 -- the last k pages of n are free, each once
@@ -58,7 +58,7 @@ opens_more base n k capacity capacity' next free aligned lt more is opens =
       all = λ j small le. all_by_cases (base + 4096 * j) next free (λ ne. opens.all j small (omega arith)) (cases_eq (base + 4096 * j) next);
     }
 
-pub opened_stands : (base n k capacity : ℕ) (free : List ℕ) → base % 4096 ≡ 0 → base + 4096 * n ≤ ADDRESS_END → k ≡ n → Opens base n k free capacity → Stands base n free capacity
+pub opened_stands : (base n k capacity : ℕ) (free : List ℕ) → base % 4096 ≡ 0 → base + 4096 * n ≤ ADDRESS_END → k ≡ n → Opens base n k free capacity → IsSoundPool base n free capacity
 opened_stands base n k capacity free aligned place e opens =
     let len : length free ≡ k = opens.len in
     record { aligned = aligned; place = place; pages = opens.pages; once = opens.once; few = omega arith; room = opens.room }

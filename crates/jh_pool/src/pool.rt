@@ -18,13 +18,13 @@ pub struct Pool {
 impl Model for Pool {
     ghost use Rattle.std.specs.Prelude.{vec_capacity};
     ghost use Rattle.jh_pool.specs.Pages.{PoolView};
-    ghost use Rattle.jh_pool.specs.Stands.{Stands};
+    ghost use Rattle.jh_pool.specs.SoundPool.{IsSoundPool};
 
     ghost Value = { PoolView };
 
     ghost view = { λ p. record { base = p.base; size = p.size; free = p.free.items } };
 
-    ghost invariant = { λ p. Stands p.base p.size p.free.items (vec_capacity p.free) };
+    ghost invariant = { λ p. IsSoundPool p.base p.size p.free.items (vec_capacity p.free) };
 }
 
 impl Pool {

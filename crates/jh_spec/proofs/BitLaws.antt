@@ -8,7 +8,7 @@ use Rattle.std.proofs.lemmas.Option.{same_Some, none-some}
 use Rattle.jh_num.proofs.Lists.{IsFound-from_list_any, list_any-from_Contains}
 use Rattle.serde_json.specs.Data.{Data}
 use Rattle.jh_spec.specs.Json.{list_told}
-use Rattle.jh_spec.specs.Told.{u64_told}
+use Rattle.jh_spec.specs.Fields.{u64_told}
 use Rattle.jh_spec.specs.Cpus.{names_cpu, are_new, cpu_bit, cpu_byte, bitmap, bitmap_of, cpus_told}
 use Rattle.jh_spec.proofs.Marks.{length-bitmap}
 

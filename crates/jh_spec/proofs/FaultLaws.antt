@@ -14,7 +14,7 @@ use Rattle.jh_spec.specs.declared.spec.Kind.{Kind}
 use Rattle.jh_spec.specs.declared.spec.Kind.TheVariants.{Cell, System}
 use Rattle.jh_spec.specs.Faults.{◌>>=◌, member_told, no_name, all_listed}
 use Rattle.jh_spec.specs.Json.{list_at, unlisted}
-use Rattle.jh_spec.specs.Told.{u8_at, u16_at, u32_at, u64_at, region_told, irqchip_told, device_told}
+use Rattle.jh_spec.specs.Fields.{u8_at, u16_at, u32_at, u64_at, region_told, irqchip_told, device_told}
 use Rattle.jh_spec.specs.Cells.{cell_name, cpu_set_size, cpu_set_in, console_at, region_at, cell_names, system_names, identity_told, lists_told, settings_told, cell_told, root_of, root_in, root_told, platform_told, system_told}
 use Rattle.jh_spec.specs.Specs.{names_with_kind, kind_told, told_by, object_told, spec_told}
 use Rattle.jh_spec.specs.Laws.{blamed, identity_members, lists_members, settings_members, cell_members, platform_members, root_member, system_members, blame}

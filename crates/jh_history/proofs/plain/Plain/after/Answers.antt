@@ -8,7 +8,7 @@ use Rattle.jh_history.specs.Facts.{Facts}
 use Rattle.jh_history.specs.Due.{due_at}
 use Rattle.jh_history.specs.History.{facts}
 use Rattle.jh_history.specs.Sound.{IsSound}
-use Rattle.jh_history.specs.PlainView.{Stands}
+use Rattle.jh_history.specs.PlainView.{StandsFor}
 use Rattle.jh_history.proofs.FactsLemmas.{facts-nil, facts-next}
 use Rattle.jh_history.proofs.FollowLemmas.{may-follow}
 use Rattle.jh_history.proofs.LegalLemmas.{due-index}
@@ -57,9 +57,9 @@ loop-entry-preserved c =
     let f = facts c.args.image.now (take c.loop-entry.entry-index c.args.entries.now) in
     let next = sym (facts-next c.args.image.now c.args.entries.now c.loop-entry.entry-index _ lt) in
     record {
-      stands = subst (λ (g : Facts). Stands c.follow.new.self c.args.image.now g) next (c.in_ok-follow.ensures c.args.image.now f c.loop-entry.invariant.stands);
+      stands = subst (λ (g : Facts). StandsFor c.follow.new.self c.args.image.now g) next (c.in_ok-follow.ensures c.args.image.now f c.loop-entry.invariant.stands);
       sound = subst (λ (g : Facts). IsSound c.args.image.now g) next (c.legal_journals_are_sound.ensures.after c.args.image.now f _ c.loop-entry.invariant.sound (due-index c.args.image.now c.args.entries.now c.loop-entry.entry-index _ c.requires.legal lt));
     }
 
 pub returns : goal.returns
-returns c = subst (λ (entries : List Entry). Stands c.loop-entry.plain c.args.image.now (facts c.args.image.now entries)) (take_all c.loop-entry.entry-index c.args.entries.now c.loop-entry-test.false) c.loop-entry.invariant.stands
+returns c = subst (λ (entries : List Entry). StandsFor c.loop-entry.plain c.args.image.now (facts c.args.image.now entries)) (take_all c.loop-entry.entry-index c.args.entries.now c.loop-entry-test.false) c.loop-entry.invariant.stands

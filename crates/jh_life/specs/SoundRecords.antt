@@ -17,7 +17,7 @@ AreTwo earlier later = is_namesake later earlier ≡ false
 
 -- each cell has a mark, there are at most 15, no two of them and root have one name or one id, and so many pages are
 -- taken by them without root: their tables, and a communication page for each
-pub record Stands (root : CellConfig) (configs : List CellConfig) (marks : List Bool) (taken : ℕ) : Type 0 where
+pub record AreSoundRecords (root : CellConfig) (configs : List CellConfig) (marks : List Bool) (taken : ℕ) : Type 0 where
   pub even : length marks ≡ length configs
   pub few : length configs ≤ 15
   pub differ : AllPairs AreTwo (root ∷ configs)

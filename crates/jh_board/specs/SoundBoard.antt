@@ -6,7 +6,7 @@ use Rattle.jh_history.specs.Admitted.{IsAdmitted}
 use Rattle.jh_board.specs.Means.{Means}
 use Rattle.jh_board.specs.declared.board.Board.TheInside.{Inside}
 
-pub record Stands (b : Inside) : Type 0 where
+pub record IsSoundBoard (b : Inside) : Type 0 where
   pub admitted : IsAdmitted b.image
   pub legal : IsLegal b.image b.journal.entries
   pub within : length b.journal.entries ≤ b.limit

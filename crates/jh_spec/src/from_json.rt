@@ -8,13 +8,13 @@ ghost use Rattle.jh_spec.specs.Json.{told_or};
 use serde_json::Value;
 
 /// A value of a configuration that a JSON value may tell.
-pub trait Told: Copy {
+pub trait FromJson: Copy {
     ghost tells: { Data → Option Self };
 
     /// What stands for a missing member.
     ghost missing: { Self };
 
-    fn told(value: &Value) -> Option<Self>
+    fn from_json(value: &Value) -> Option<Self>
         ensures { result ≡ tells (view value.now) };
 
     fn missing() -> Self
@@ -22,11 +22,11 @@ pub trait Told: Copy {
 }
 
 /// What the member of this name tells, or what stands for a missing one.
-pub fn member<T: Told>(object: &Value, name: &str) -> Option<T>
+pub fn member<T: FromJson>(object: &Value, name: &str) -> Option<T>
     ensures { result ≡ told_or T.tells T.missing (get name.now (view object.now)) }
 {
     match object.get(name) {
-        Some(value) => T::told(value),
+        Some(value) => T::from_json(value),
         None => Some(T::missing()),
     }
 }
