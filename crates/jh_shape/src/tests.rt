@@ -48,7 +48,7 @@ fn pages(regions: &[Region]) -> u64 {
 }
 
 /// The pages of root's tables beside other cells, of which those of the mask hold.
-fn pages_beside(regions: &[Region], cells: &[CellConfig], held: u16) -> u64
+fn pages_beside<'a>(regions: &'a [Region], cells: &'a [CellConfig], held: u16) -> u64
     requires { length cells.now ≤ 15 }
 {
     let target = Target {
