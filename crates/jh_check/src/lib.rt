@@ -5,7 +5,7 @@ mod bus;
 mod checking;
 mod devices;
 mod finding;
-mod found;
+mod search;
 mod laws;
 mod links;
 mod pairing;

@@ -6,7 +6,7 @@ use Rattle.jh_spec.specs.Specs.{IsSpecAnswer}
 use Rattle.jh_spec.specs.declared.spec.Spec.{Spec}
 use Rattle.jh_spec.specs.declared.spec.Spec.TheVariants.{Cell, System}
 use Rattle.jh_spec.specs.declared.spec.SpecFault.TheVariants.{Json, Member}
-use Rattle.jh_cli.specs.Reading.{Said, Contents, Reads, IsOversize}
+use Rattle.jh_cli.specs.Reading.{Reply, Contents, Reads, IsOversize}
 use Rattle.jh_cli.specs.declared.status.Status.TheVariants.{Good}
 use Rattle.jh_cli.specs.Limits.{most_of_a_file}
 
@@ -33,5 +33,5 @@ packed (Cell cell) = spelling cell
 packed (System system) = system_spelling system
 
 -- what a pack of this file ends with
-abbrev pub Packs : Contents → List ℕ → Said → Type 0
+abbrev pub Packs : Contents → List ℕ → Reply → Type 0
 Packs contents name = Reads contents name SpecRefusal IsSpecFile (λ spec said. said ≡ record { status = Good; text = packed spec })

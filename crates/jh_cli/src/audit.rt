@@ -9,7 +9,7 @@ ghost use Rattle.jh_cli.specs.Limits.{most_of_a_journal, journal_limit};
 ghost use Rattle.jh_cli.specs.Lines.{refusal_line};
 ghost use Rattle.jh_cli.specs.Reading.{SpellsAt, StopsAt};
 ghost use Rattle.jh_cli.specs.Audit.{IsJournalFile, JournalRefusal, IsAudited, AuditsBy, Audits, due_text, verdict_text, verdict_status};
-ghost use Rattle.jh_cli.specs.Stopped.{said_of, OnEnded, OnTold, IsCounted};
+ghost use Rattle.jh_cli.specs.Stopped.{said_of, OnEnded, OnEnding, IsCounted};
 
 use crate::boards::open;
 use crate::ending::{Ending, Stop, read_below, refused_for};
@@ -112,9 +112,9 @@ fn audit_by<F: Files>(
     name: &str,
 ) -> Result<Ending, Stop>
     requires admitted { IsAdmitted image }
-    ensures ends { OnTold result (AuditsBy (F.contents files.old) name.now image) }
-    ensures counted { OnTold result (IsCounted (F.faults files.old) (F.faults files.new) (F.failed files.new)) }
-    ensures asked { OnTold result (ReadsIn F.asks F.failed (name.now ∷ []) files.old files.new) }
+    ensures ends { OnEnding result (AuditsBy (F.contents files.old) name.now image) }
+    ensures counted { OnEnding result (IsCounted (F.faults files.old) (F.faults files.new) (F.failed files.new)) }
+    ensures asked { OnEnding result (ReadsIn F.asks F.failed (name.now ∷ []) files.old files.new) }
 {
     let journal = journal(alloc, files, name)?;
     Ok(tell_verdict(alloc, image, &journal)?)
@@ -127,9 +127,9 @@ pub fn audit<F: Files>(
     board: &str,
     name: &str,
 ) -> Result<Ending, Stop>
-    ensures ends { OnTold result (Audits (F.contents files.old) board.now name.now) }
-    ensures counted { OnTold result (IsCounted (F.faults files.old) (F.faults files.new) (F.failed files.new)) }
-    ensures asked { OnTold result (ReadsBoard F.asks F.failed (F.contents files.old) board.now (name.now ∷ []) files.old files.new) }
+    ensures ends { OnEnding result (Audits (F.contents files.old) board.now name.now) }
+    ensures counted { OnEnding result (IsCounted (F.faults files.old) (F.faults files.new) (F.failed files.new)) }
+    ensures asked { OnEnding result (ReadsBoard F.asks F.failed (F.contents files.old) board.now (name.now ∷ []) files.old files.new) }
 {
     let image = open(alloc, files, board)?;
     audit_by(alloc, files, image, name)

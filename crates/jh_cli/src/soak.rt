@@ -1,7 +1,7 @@
 //! Running the board of so many rounds.
 ghost use Rattle.std.specs.Prelude.{◌≡◌, ◌≤◌, ◌&&◌, nat_le, Some, None, if◌then◌else◌, IfOk};
 ghost use Rattle.jh_cli.specs.Soak.{TellsRounds, summary_line, IsSoaked, Soaks};
-ghost use Rattle.jh_cli.specs.Stopped.{said_of, OnTold};
+ghost use Rattle.jh_cli.specs.Stopped.{said_of, OnEnding};
 
 use crate::ending::{Ending, Stop};
 use crate::limits::JOURNAL_LIMIT;
@@ -83,7 +83,7 @@ pub fn soak<R: Threads + Wait + Sync, G: Gate + Sync>(
     word: &str,
     gate: &G,
 ) -> Result<Ending, Stop>
-    ensures { OnTold result (Soaks word.now) }
+    ensures { OnEnding result (Soaks word.now) }
 {
     match read_rounds(alloc, word)? {
         Some(rounds) => Ok(render(rt, alloc, rounds, gate)?),

@@ -3,7 +3,7 @@ use Rattle.jh_check.specs.Bus.{HasPlaces}
 use Rattle.jh_check.specs.Cells.{cells_of}
 use Rattle.jh_check.specs.Lists.{found_from, capped}
 use Rattle.jh_check.specs.Findings.{in_devices_at, in_devices}
-use Rattle.jh_check.proofs.found.in_devices.Given as goal
+use Rattle.jh_check.proofs.search.in_devices.Given as goal
 
 abbrev pub invariant-loop-a : goal.invariant-loop-a
 invariant-loop-a l = record {

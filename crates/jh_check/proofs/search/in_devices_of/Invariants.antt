@@ -2,7 +2,7 @@ use Rattle.std.proofs.Common.{◌≡◌, ◌++◌, take, drop}
 use Rattle.jh_check.specs.Cells.{cells_of}
 use Rattle.jh_check.specs.Lists.{found_from, capped}
 use Rattle.jh_check.specs.Findings.{device_at, in_devices_of}
-use Rattle.jh_check.proofs.found.in_devices_of.Given as goal
+use Rattle.jh_check.proofs.search.in_devices_of.Given as goal
 
 abbrev pub invariant-loop-n : goal.invariant-loop-n
 invariant-loop-n l =

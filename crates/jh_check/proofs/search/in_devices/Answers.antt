@@ -8,7 +8,7 @@ use Rattle.jh_check.specs.Lists.{capped}
 use Rattle.jh_check.specs.Findings.{in_devices, in_devices_at}
 use Rattle.jh_check.proofs.BusLemmas.{places-none, places-more}
 use Rattle.jh_check.proofs.ListLemmas.{found-step, found-done}
-use Rattle.jh_check.proofs.found.in_devices.Goals as goal
+use Rattle.jh_check.proofs.search.in_devices.Goals as goal
 
 pub loop-a-init : goal.loop-a-init
 unfolding in_devices

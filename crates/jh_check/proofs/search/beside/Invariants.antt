@@ -2,7 +2,7 @@ use Rattle.std.proofs.Common.{◌≡◌, ◌++◌, drop}
 use Rattle.jh_check.specs.Sites.{spot_of}
 use Rattle.jh_check.specs.Lists.{found_from, capped}
 use Rattle.jh_check.specs.Findings.{beside_at, beside}
-use Rattle.jh_check.proofs.found.beside.Given as goal
+use Rattle.jh_check.proofs.search.beside.Given as goal
 
 abbrev pub invariant-loop-s : goal.invariant-loop-s
 invariant-loop-s l =

@@ -5,7 +5,7 @@ use Rattle.jh_check.specs.Lists.{capped}
 use Rattle.jh_check.specs.Findings.{in_devices_of, device_at}
 use Rattle.jh_check.proofs.BusLemmas.{agrees-unmarked}
 use Rattle.jh_check.proofs.ListLemmas.{found-step, found-done}
-use Rattle.jh_check.proofs.found.in_devices_of.Goals as goal
+use Rattle.jh_check.proofs.search.in_devices_of.Goals as goal
 
 pub loop-n-init : goal.loop-n-init
 unfolding in_devices_of

@@ -1,4 +1,4 @@
-//! What is found, in its order.
+//! The search for findings, each in its order.
 ghost use Rattle.std.specs.Prelude.{◌≡◌, ◌≤◌, ◌<◌, ◌++◌, true, false, length, take, OnOk, [], ◌∷◌};
 ghost use Rattle.jh_check.specs.Cells.{cells_of};
 ghost use Rattle.jh_check.specs.Sites.{spot_of};

@@ -5,7 +5,7 @@ use Rattle.jh_check.specs.Lists.{capped, found_from}
 use Rattle.jh_check.specs.Findings.{beside, beside_at}
 use Rattle.jh_check.proofs.ListLemmas.{append_nil, found-step}
 use Rattle.jh_check.proofs.ReachLemmas.{found-skip, found-rest, beside-outside}
-use Rattle.jh_check.proofs.found.beside.Goals as goal
+use Rattle.jh_check.proofs.search.beside.Goals as goal
 
 pub loop-s-init : goal.loop-s-init
 unfolding beside

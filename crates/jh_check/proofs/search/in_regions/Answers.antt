@@ -3,7 +3,7 @@ use Rattle.jh_check.specs.Cells.{cells_of}
 use Rattle.jh_check.specs.Lists.{capped}
 use Rattle.jh_check.specs.Findings.{in_regions, in_regions_at}
 use Rattle.jh_check.proofs.ListLemmas.{found-step, found-done}
-use Rattle.jh_check.proofs.found.in_regions.Goals as goal
+use Rattle.jh_check.proofs.search.in_regions.Goals as goal
 
 pub loop-a-init : goal.loop-a-init
 unfolding in_regions

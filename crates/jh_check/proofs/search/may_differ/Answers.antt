@@ -3,7 +3,7 @@ use Rattle.std.proofs.lemmas.Bool.{not-false}
 use Rattle.jh_check.specs.Cells.{cells_of}
 use Rattle.jh_check.specs.Devices.{agrees_with_all}
 use Rattle.jh_check.proofs.BusLemmas.{agrees-unmarked}
-use Rattle.jh_check.proofs.found.may_differ.Goals as goal
+use Rattle.jh_check.proofs.search.may_differ.Goals as goal
 
 pub returns-then-not-is_marked : goal.returns-then-not-is_marked
 returns-then-not-is_marked c = λ f.

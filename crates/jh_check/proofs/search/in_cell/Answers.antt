@@ -3,7 +3,7 @@ use Rattle.jh_cellcfg.specs.declared.region.Region.{Region}
 use Rattle.jh_check.specs.Lists.{capped}
 use Rattle.jh_check.specs.Findings.{in_cell, in_cell_at}
 use Rattle.jh_check.proofs.ListLemmas.{found-step, found-done}
-use Rattle.jh_check.proofs.found.in_cell.Goals as goal
+use Rattle.jh_check.proofs.search.in_cell.Goals as goal
 
 pub loop-r-init : goal.loop-r-init
 unfolding in_cell
