@@ -6,7 +6,7 @@ use Rattle.std.proofs.lemmas.Bool.{and_parts, and_from, and_left, eq-eqb, ne_eqb
 use Rattle.std.proofs.lemmas.Option.{slice_get-get_or}
 use Rattle.std.proofs.lemmas.List.{get_or_default}
 use Rattle.std.proofs.lemmas.List.Elements.{All-contains}
-use Rattle.jh_num.proofs.Lists.{IsFound, IsFound-from_find, find-None, find-nothing, find-unique}
+use Rattle.jh_num.proofs.Lists.{IsJudged, IsJudged-from_find, find-None, find-nothing, find-unique}
 use Rattle.jh_num.specs.declared.no_memory.NoMemory.{NoMemory}
 use Rattle.jh_num.specs.declared.range.Range.{Range}
 use Rattle.jh_num.specs.Bytes.{has_byte}
@@ -35,7 +35,7 @@ use Rattle.jh_board.specs.Maps.{is_kept_at, is_right, is_told, place_told, told_
 
 numbered_live : (image : Image) (lives : List Live) (id : ℕ) (c : CellConfig) → live_in lives id ≡ Some c → (a : ℕ) × IsNumbered image.system (configs_of lives) a c
 numbered_live image lives id c e =
-    let held = (IsFound-from_find (has_number id) (configs_of lives) c (live_in-is lives (configs_of lives) id refl ∙ e)).held in
+    let held = (IsJudged-from_find (has_number id) (configs_of lives) c (live_in-is lives (configs_of lives) id refl ∙ e)).held in
     (suc held.0, slice_get-get_or (configs_of lives) held.0 c held.1 ∙ ap Some held.2)
 
 numbered_by : (image : Image) (lives : List Live) (id : ℕ) (c : CellConfig) (b : Bool) → cond b (Some image.system.root) (live_in lives id) ≡ Some c → (a : ℕ) × IsNumbered image.system (configs_of lives) a c
@@ -175,8 +175,8 @@ told_by leads single kept id regions runs access at page apart is (Some r) e = �
     closed : ℕ → Bool
     closed p = kept (Physical p)
 
-    found : IsFound (gives access at) regions r
-    found = IsFound-from_find (gives access at) regions r e
+    found : IsJudged (gives access at) regions r
+    found = IsJudged-from_find (gives access at) regions r e
 
     has : has_address r at ≡ true
     has = (gives_parts access at r found.passes).0

@@ -11,4 +11,4 @@ pub mod SoundBoard
 pub mod Indexed
 pub mod IsIndexed
 pub mod Maps
-pub mod Found
+pub mod Judged

@@ -18,7 +18,7 @@ ghost use Rattle.jh_history.specs.Pages.{with_page_write};
 ghost use Rattle.jh_history.specs.Due.{due_at};
 ghost use Rattle.jh_history.specs.Wants.{IsReachOfEntry};
 ghost use Rattle.jh_board.specs.Pages.{byte_of, HoldsComm, HoldsPlace};
-ghost use Rattle.jh_board.specs.Found.{IsFound};
+ghost use Rattle.jh_board.specs.Judged.{IsJudged};
 ghost use Rattle.jh_board.specs.Means.{Means, IsReady, IsReadyFor};
 ghost use Rattle.jh_board.specs.Steps.{begins, goes_on, create_of, change_of_call, change_of_cells, changed_cells, IsNext, IsRead, IsFree, WillBeReady, IsPrepared, MayWrite, MayWriteOf, MayWriteSlot, MayCommit, MayJoin, IsSameButDevices, joined_cells, devices_held, memory_written, memory_after, slot_after, endpoints_acted_by};
 
@@ -28,7 +28,7 @@ use crate::granted::devices_of;
 use crate::held::Held;
 use crate::indexed::IndexedImage;
 use crate::memory::Memory;
-use crate::state::{FoundCreate, creation_by};
+use crate::state::{JudgedCreate, creation_by};
 use jh_call::Call;
 use jh_cellcfg::CellConfig;
 use jh_history::{
@@ -110,10 +110,10 @@ fn coming_of(
     image: &IndexedImage,
     held: &Held,
     entry: &Entry,
-    found: Option<FoundCreate>,
+    found: Option<JudgedCreate>,
 ) -> Result<Option<BoxedCell>, NoMemory>
     requires next { IsNext image.now held.now entry.now }
-    requires found { IfSome found (IsFound image.now held.now) }
+    requires found { IfSome found (IsJudged image.now held.now) }
     ensures read { (f : Facts) → Means image.now held.now f → due_at image.now f entry.now.cpu ≡ Some entry.now → IfOk result (IsRead image.now f entry.now) }
     ensures ready { (f : Facts) → Means image.now held.now f → due_at image.now f entry.now.cpu ≡ Some entry.now → IfOk result (WillBeReady image.now f entry.now) }
     ensures free { (f : Facts) → Means image.now held.now f → due_at image.now f entry.now.cpu ≡ Some entry.now → IfOk result (IsFree f) }
@@ -159,10 +159,10 @@ fn prepare(
     image: &IndexedImage,
     held: &mut Held,
     entry: &Entry,
-    found: Option<FoundCreate>,
+    found: Option<JudgedCreate>,
 ) -> Result<Option<BoxedCell>, NoMemory>
     requires next { IsNext image.now held.old entry.now }
-    requires found { IfSome found (IsFound image.now held.old) }
+    requires found { IfSome found (IsJudged image.now held.old) }
     ensures means { (f : Facts) → Means image.now held.old f → Means image.now held.new f }
     ensures ok { (f : Facts) → Means image.now held.old f → due_at image.now f entry.now.cpu ≡ Some entry.now → IfOk result (IsPrepared image.now held.new f entry.now) }
 {
@@ -317,10 +317,10 @@ pub fn make(
     held: &mut Held,
     entry: &Entry,
     reach: &Reach,
-    found: Option<FoundCreate>,
+    found: Option<JudgedCreate>,
 ) -> Result<(), NoMemory>
     requires next { IsNext image.now held.old entry.now }
-    requires found { IfSome found (IsFound image.now held.old) }
+    requires found { IfSome found (IsJudged image.now held.old) }
     requires reached { (f : Facts) → Means image.now held.old f → IsReachOfEntry image.now f entry.now reach.now }
     ensures ok { OnOk result ((f : Facts) → Means image.now held.old f → due_at image.now f entry.now.cpu ≡ Some entry.now → Means image.now held.new (after image.now f entry.now)) }
     ensures err { OnErr result ((f : Facts) → Means image.now held.old f → Means image.now held.new f) }

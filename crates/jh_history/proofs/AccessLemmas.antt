@@ -9,24 +9,24 @@ use Rattle.jh_history.specs.Places.{further, places_in_row}
 use Rattle.jh_history.specs.Access.{places_from, memory_or_nothing, reach_by}
 use Rattle.jh_history.proofs.PlaceLemmas.{further-none, further-next}
 
-abbrev Found : Type 0
-Found = Option (List Place)
+abbrev MaybePlaces : Type 0
+MaybePlaces = Option (List Place)
 
 -- the places of two stretches, one behind the other
-abbrev both : Found → Found → Found
+abbrev both : MaybePlaces → MaybePlaces → MaybePlaces
 both low high = option_and_then (λ (ps : List Place). option_map (λ (qs : List Place). ps ++ qs) high) low
 
-both_one : (p : Place) (low high : Found) → option_map (λ (ps : List Place). p ∷ ps) (both low high) ≡ both (option_map (λ (ps : List Place). p ∷ ps) low) high
+both_one : (p : Place) (low high : MaybePlaces) → option_map (λ (ps : List Place). p ∷ ps) (both low high) ≡ both (option_map (λ (ps : List Place). p ∷ ps) low) high
 both_one p None high = refl
 both_one p (Some ps) None = refl
 both_one p (Some ps) (Some qs) = refl
 
-split_by : (o : Option Place) (low high whole : Found) → whole ≡ both low high
+split_by : (o : Option Place) (low high whole : MaybePlaces) → whole ≡ both low high
     → option_and_then (λ (p : Place). option_map (λ (ps : List Place). p ∷ ps) whole) o ≡ both (option_and_then (λ (p : Place). option_map (λ (ps : List Place). p ∷ ps) low) o) high
 split_by None low high whole e = refl
 split_by (Some p) low high whole e = ap (option_map (λ (ps : List Place). p ∷ ps)) e ∙ both_one p low high
 
-nil_both : (high : Found) → high ≡ both (Some []) high
+nil_both : (high : MaybePlaces) → high ≡ both (Some []) high
 nil_both None = refl
 nil_both (Some qs) = refl
 

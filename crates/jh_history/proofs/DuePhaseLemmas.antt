@@ -19,7 +19,7 @@ use Rattle.jh_history.specs.Facts.{Facts}
 use Rattle.jh_history.specs.Due.{due_at, caller_act, state_act, is_idle_but}
 use Rattle.jh_history.specs.Phases.{phase_act, keeps_decide, keeps_commit, configs_of, decision, settled_of, heard_of}
 use Rattle.jh_history.specs.Sound.{IsSoundCall, IsSound}
-use Rattle.jh_history.proofs.SoundDueLemmas.{next-from_due, Comes, IsOfProgram, IsOfState, state-parts, IsOfCall, call-parts}
+use Rattle.jh_history.proofs.SoundDueLemmas.{next-from_due, IsOutcomeOf, IsOfProgram, IsOfState, state-parts, IsOfCall, call-parts}
 
 -- ---- what is due, by the call that is open
 
@@ -56,7 +56,7 @@ IsLater (Noted id how) = Unit {0}
 IsLater (Finish answer) = Unit {0}
 
 -- no program comes to it
-not_of_program : (image : Image) (cell : ℕ) (op : Op) (act : Act) → IsLater act → Comes image cell op act → ⊥
+not_of_program : (image : Image) (cell : ℕ) (op : Op) (act : Act) → IsLater act → IsOutcomeOf image cell op act → ⊥
 not_of_program image cell op (Read width at got) later comes = later
 not_of_program image cell op (Write width at value ok) later comes = later
 not_of_program image cell op (Fetch at got) later comes = later

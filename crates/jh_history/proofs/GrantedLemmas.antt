@@ -26,10 +26,10 @@ use Rattle.jh_history.proofs.LiveLemmas.{has_number, live_in-is}
 abbrev unless_any : (Place → Bool) → List Place → Option (List Place)
 unless_any kept ps = cond (list_any kept ps) None (Some ps)
 
-abbrev Found : Type 0
-Found = Option (List Place)
+abbrev MaybePlaces : Type 0
+MaybePlaces = Option (List Place)
 
-abbrev with_first : Place → Found → Found
+abbrev with_first : Place → MaybePlaces → MaybePlaces
 with_first p rest = option_map (λ (ps : List Place). p ∷ ps) rest
 
 -- one place more, which is kept or isn't, before others, of which one is kept or none is
@@ -42,14 +42,14 @@ kept_rest : (p : Place) (b : Bool) → option_and_then (λ (q : Place). with_fir
 kept_rest p true = refl
 kept_rest p false = refl
 
-more_at : (kept : Place → Bool) (p : Place) (rest : Found) → option_and_then (λ (q : Place). with_first q (option_and_then (unless_any kept) rest)) (unless kept p) ≡ option_and_then (unless_any kept) (with_first p rest)
+more_at : (kept : Place → Bool) (p : Place) (rest : MaybePlaces) → option_and_then (λ (q : Place). with_first q (option_and_then (unless_any kept) rest)) (unless kept p) ≡ option_and_then (unless_any kept) (with_first p rest)
 more_at kept p None = kept_rest p (kept p)
 more_at kept p (Some ps) = more_by p ps (kept p) (list_any kept ps)
 
-more_from : (kept : Place → Bool) (o : Option Place) (rest whole : Found) → whole ≡ option_and_then (unless_any kept) rest
+more_from : (kept : Place → Bool) (o : Option Place) (rest whole : MaybePlaces) → whole ≡ option_and_then (unless_any kept) rest
     → option_and_then (λ (q : Place). with_first q whole) (option_and_then (unless kept) o) ≡ option_and_then (unless_any kept) (option_and_then (λ (q : Place). with_first q rest) o)
 more_from kept None rest whole e = refl
-more_from kept (Some p) rest whole e = ap (λ (w : Found). option_and_then (λ (q : Place). with_first q w) (unless kept p)) e ∙ more_at kept p rest
+more_from kept (Some p) rest whole e = ap (λ (w : MaybePlaces). option_and_then (λ (q : Place). with_first q w) (unless kept p)) e ∙ more_at kept p rest
 
 -- the places of addresses, unless one of them is kept
 pub granted_from : (id : ℕ) (regions : List Region) (kept : Place → Bool) (access : Access) (at count : ℕ)
@@ -66,11 +66,11 @@ memory_by : (places : List Place) (b : Bool) → memory_or_nothing (cond b None 
 memory_by places true = refl
 memory_by places false = refl
 
-memory_of : (kept : Place → Bool) (o : Found) → memory_or_nothing (option_and_then (unless_any kept) o) ≡ unless_kept kept (memory_or_nothing o)
+memory_of : (kept : Place → Bool) (o : MaybePlaces) → memory_or_nothing (option_and_then (unless_any kept) o) ≡ unless_kept kept (memory_or_nothing o)
 memory_of kept None = refl
 memory_of kept (Some places) = memory_by places (list_any kept places)
 
-within_by : (kept : Place → Bool) (b : Bool) (one other : Found) → one ≡ option_and_then (unless_any kept) other → cond b (memory_or_nothing one) Nothing ≡ unless_kept kept (cond b (memory_or_nothing other) Nothing)
+within_by : (kept : Place → Bool) (b : Bool) (one other : MaybePlaces) → one ≡ option_and_then (unless_any kept) other → cond b (memory_or_nothing one) Nothing ≡ unless_kept kept (cond b (memory_or_nothing other) Nothing)
 within_by kept true one other e = ap memory_or_nothing e ∙ memory_of kept other
 within_by kept false one other e = refl
 

@@ -36,7 +36,7 @@ use Rattle.jh_history.proofs.LegalLemmas.{due-split, IsLegal-begin, IsLegal-rest
 use Rattle.jh_history.specs.Sound.{HasCome, IsAboutLive, IsCreate, IsNews, IsOpen, IsSoundCall, IsSound}
 use Rattle.jh_laws.specs.Ways.{is_phase, is_call, is_decide, is_finish, is_agreement, is_commit, call_begun, begun_by, begun, IsBegun, IsNoteOr, IsTelling, IsBehindGo, IsBehindCommit, MayFollow}
 use Rattle.jh_history.proofs.SoundCpusLemmas.{come-rests, halting-rests, root-unnamed}
-use Rattle.jh_history.proofs.SoundDueLemmas.{IsNext, next-from_due, Comes, IsOfProgram, state-parts, IsOfCall, call-parts}
+use Rattle.jh_history.proofs.SoundDueLemmas.{IsNext, next-from_due, IsOutcomeOf, IsOfProgram, state-parts, IsOfCall, call-parts}
 use Rattle.jh_history.proofs.SoundDecideLemmas.{coming-from_decision}
 use Rattle.jh_history.proofs.SoundLemmas.{sound-after, legal-sound}
 
@@ -54,7 +54,7 @@ IsEntryOf image f o entry =
     ((o.caller ≡ entry.cpu) × (phase_act image f (is_idle_but image f o.caller) o.caller o.call o.phase ≡ Some entry.act))
     ⊎ IsBeside image f o entry
 
-no_call : (image : Image) (cell : ℕ) (op : Op) (act : Act) → cell ≢ image.system.root.id → Comes image cell op act → is_call act ≡ false
+no_call : (image : Image) (cell : ℕ) (op : Op) (act : Act) → cell ≢ image.system.root.id → IsOutcomeOf image cell op act → is_call act ≡ false
 no_call image cell op (Read width at got) other comes = refl
 no_call image cell op (Write width at value ok) other comes = refl
 no_call image cell op (Fetch at got) other comes = refl
@@ -278,7 +278,7 @@ phase_follows image f entry caller call (ToFinish answer) idle opens h more =
     absurd (both_ways (is_finish entry.act) more (ap is_finish (sym (same_Some (Finish answer) entry.act h))))
 
 -- where no call is open, an entry begins one or is none of a call
-none_act : (image : Image) (cell : ℕ) (op : Op) (act : Act) → Comes image cell op act → is_phase act ≡ false
+none_act : (image : Image) (cell : ℕ) (op : Op) (act : Act) → IsOutcomeOf image cell op act → is_phase act ≡ false
 none_act image cell op (Read width at got) comes = refl
 none_act image cell op (Write width at value ok) comes = refl
 none_act image cell op (Fetch at got) comes = refl

@@ -210,18 +210,18 @@ pending_fits image f id n v sound is =
 
 -- ---- operations
 
-abbrev Told : Option Act → Type 0
-Told o = IfSome o TellsTyped
+abbrev IsTypedAct : Option Act → Type 0
+IsTypedAct o = IfSome o TellsTyped
 
-await_told : (width at value : ℕ) (o : Option ℕ) → Told (await_of width at value o)
+await_told : (width at value : ℕ) (o : Option ℕ) → IsTypedAct (await_of width at value o)
 await_told width at value None = tt
-await_told width at value (Some got) = cond_both (eqb got value) (Some (Await width at value true)) None Told (λ _. tt) (λ _. tt)
+await_told width at value (Some got) = cond_both (eqb got value) (Some (Await width at value true)) None IsTypedAct (λ _. tt) (λ _. tt)
 
-irq_told : (o : Option (ℕ × ℕ)) → ((n v : ℕ) → o ≡ Some (n, v) → (n < 2 ^ 32) × (v < 256)) → Told (option_map (λ (next : ℕ × ℕ). Irq next.0 next.1) o)
+irq_told : (o : Option (ℕ × ℕ)) → ((n v : ℕ) → o ≡ Some (n, v) → (n < 2 ^ 32) × (v < 256)) → IsTypedAct (option_map (λ (next : ℕ × ℕ). Irq next.0 next.1) o)
 irq_told None h = tt
 irq_told (Some next) h = h next.0 next.1 refl
 
-op_told : (image : Image) (f : Facts) (id : ℕ) (op : Op) → IsSound image f → IsTypedBoard f → IsPlain op → Told (act_of image f id op)
+op_told : (image : Image) (f : Facts) (id : ℕ) (op : Op) → IsSound image f → IsTypedBoard f → IsPlain op → IsTypedAct (act_of image f id op)
 op_told image f id (ReadOp width at) sound typed plain = got_fits image f id ToRead at width (got_by image f id ToRead at width) sound typed (got-of_cell image f id ToRead at width sound (width-some width plain))
 op_told image f id (WriteOp width at value) sound typed plain = tt
 op_told image f id (FetchOp at) sound typed plain = got_fits image f id ToFetch at 4 (got_by image f id ToFetch at 4) sound typed (got-of_cell image f id ToFetch at 4 sound (omega arith))
@@ -232,7 +232,7 @@ op_told image f id (HvcOp code a b) sound typed plain =
     cond_both (eqb id image.system.root.id && is_management call) (Begin code a b) (Hvc code a b (answer_of call (seen_of image f id call))) TellsTyped
     (λ _. tt) (λ _. answer_fits call (seen_of image f id call) (few_seen image f id call sound typed))
 
-told_by : (act : Act) (o : Option Act) → Told o → o ≡ Some act → TellsTyped act
+told_by : (act : Act) (o : Option Act) → IsTypedAct o → o ≡ Some act → TellsTyped act
 told_by act None h is = absurd (none-some act is)
 told_by act (Some other) h is = subst TellsTyped (same_Some other act is) h
 

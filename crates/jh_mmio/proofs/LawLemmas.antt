@@ -51,19 +51,19 @@ no_region_by ecam at n o true k h = no_ecam _ k h
 no_region_by ecam at n o false k h = no_windows at n o k h
 
 -- so the first region that takes the access is the one that answers, and it lets the access through
-record Answers (regions : List Region) (at n : ℕ) (write : Bool) (first : Option ℕ) (told : ℕ) : Type 0 where
+record IsAnsweredBy (regions : List Region) (at n : ℕ) (write : Bool) (first : Option ℕ) (told : ℕ) : Type 0 where
   number : ℕ
   it : first ≡ Some number
   tells : told ≡ number_told number
   lets : option_map_or (lets_through at n write) (slice_get regions number) false ≡ true
 
-let_through : (at n : ℕ) (write : Bool) (regions : List Region) (m told : ℕ) (b : Bool) → option_map_or (lets_through at n write) (slice_get regions m) false ≡ b → cond b (Subpage (number_told m)) Nothing ≡ Subpage told → Answers regions at n write (Some m) told
+let_through : (at n : ℕ) (write : Bool) (regions : List Region) (m told : ℕ) (b : Bool) → option_map_or (lets_through at n write) (slice_get regions m) false ≡ b → cond b (Subpage (number_told m)) Nothing ≡ Subpage told → IsAnsweredBy regions at n write (Some m) told
 let_through at n write regions m told true e h =
     let same : told ≡ number_told m = cc in
     record { number = m; it = refl; tells = same; lets = e }
 let_through at n write regions m told false e h = absurd (no_window false m told h)
 
-answers_by : (regions : List Region) (ecam : Range) (windows : List Window) (at n : ℕ) (write : Bool) (first : Option ℕ) (told : ℕ) → option_map_or (by_subpage regions at n write) first (behind_regions ecam windows at n) ≡ Subpage told → Answers regions at n write first told
+answers_by : (regions : List Region) (ecam : Range) (windows : List Window) (at n : ℕ) (write : Bool) (first : Option ℕ) (told : ℕ) → option_map_or (by_subpage regions at n write) first (behind_regions ecam windows at n) ≡ Subpage told → IsAnsweredBy regions at n write first told
 answers_by regions ecam windows at n write None told h = absurd (no_region_by ecam at n (position (window_has at n) windows) (lies_between ecam.start ecam.end at n) told h)
 answers_by regions ecam windows at n write (Some m) told h = let_through at n write regions m told _ refl h
 

@@ -4,9 +4,9 @@ use Rattle.jh_script.specs.declared.image.Image.{Image}
 use Rattle.jh_history.specs.Facts.{Facts}
 use Rattle.jh_history.specs.Phases.{creation_of}
 use Rattle.jh_board.specs.declared.held.Held.{Held}
-use Rattle.jh_board.specs.declared.state.FoundCreate.{FoundCreate}
+use Rattle.jh_board.specs.declared.state.JudgedCreate.{JudgedCreate}
 use Rattle.jh_board.specs.Means.{Means}
 
 -- it is what comes of the create where what is held stands
-abbrev pub IsFound : Image → Held → FoundCreate → Type 0
-IsFound image held found = (f : Facts) → Means image held f → found.creation ≡ creation_of image f found.caller found.at
+abbrev pub IsJudged : Image → Held → JudgedCreate → Type 0
+IsJudged image held found = (f : Facts) → Means image held f → found.creation ≡ creation_of image f found.caller found.at
