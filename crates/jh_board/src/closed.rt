@@ -90,7 +90,8 @@ pub fn close_again(closed: &mut ByteSet, cells: &[CellConfig], loadable: u16)
     requires within { All (λ (c : TheCell). AreInRange c.memory_regions) cells.now }
     requires some { length closed.old.ranges < closed.old.room }
     requires room { count_regions cells.now ≤ closed.old.room }
-    ensures bytes { (lives : List Live) → configs_of lives ≡ cells.now → ((i : ℕ) → has_bit loadable i ≡ is_loadable_at lives i) → (place : ℕ) → has_byte closed.new.ranges place ≡ is_closed_by lives place }
+    ensures bytes { (lives : List Live) → configs_of lives ≡ cells.now → ((i : ℕ) → has_bit loadable i ≡ is_loadable_at lives i)
+        → (place : ℕ) → has_byte closed.new.ranges place ≡ is_closed_by lives place }
     ensures few { length closed.new.ranges ≤ count_regions cells.now }
     ensures room { closed.old.room ≤ closed.new.room }
 {

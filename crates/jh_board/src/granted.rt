@@ -130,7 +130,8 @@ pub fn row_of_root(image: &IndexedImage, cells: &LiveCells, at: u64, count: u16)
 /// The subpage region of the cell that has the whole access.
 fn whole(image: &IndexedImage, cells: &LiveCells, cell: u32, wanted: &Wanted) -> Option<Region>
     requires { 0 < wanted.now.width }
-    ensures found { (closed : ℕ → Bool) → find (takes_all closed wanted.now.at wanted.now.width) (regions_in image.now cells.now.lives cell) ≡ unless_closed closed wanted.now.at wanted.now.width result }
+    ensures found { (closed : ℕ → Bool)
+        → find (takes_all closed wanted.now.at wanted.now.width) (regions_in image.now cells.now.lives cell) ≡ unless_closed closed wanted.now.at wanted.now.width result }
     ensures within { IfSome result IsInRange }
     ensures first { IfSome result (λ (r : TheRegion). IsTrue (has_address r wanted.now.at)) }
 {

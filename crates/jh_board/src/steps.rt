@@ -234,8 +234,10 @@ fn make_devices(image: &IndexedImage, held: &mut Held, entry: &Entry, reach: &Re
 /// Changes the devices of the cell that a Commit is about, with their words of the state tables. It takes no memory.
 fn make_commit(held: &mut Held, act: &Act)
     requires { MayCommit held.old act.now }
-    ensures bytes { (f : Facts) → f.cells ≡ held.old.cells.lives → f.call ≡ held.old.call → (q : ThePlace) → byte_of held.new.memory q ≡ with_words (specs_changing f act.now) (byte_of held.old.memory) q }
-    ensures list { (f : Facts) → f.cells ≡ held.old.cells.lives → f.call ≡ held.old.call → held.new.endpoints.list ≡ endpoints_changed (change_by f.call) (specs_changing f act.now) held.old.endpoints.list }
+    ensures bytes { (f : Facts) → f.cells ≡ held.old.cells.lives → f.call ≡ held.old.call → (q : ThePlace)
+        → byte_of held.new.memory q ≡ with_words (specs_changing f act.now) (byte_of held.old.memory) q }
+    ensures list { (f : Facts) → f.cells ≡ held.old.cells.lives → f.call ≡ held.old.call
+        → held.new.endpoints.list ≡ endpoints_changed (change_by f.call) (specs_changing f act.now) held.old.endpoints.list }
     ensures spare { changing_by held.old.cells.lives held.old.call act.now ≡ None → held.new.endpoints.spare ≡ held.old.endpoints.spare }
     ensures others { IsSameButDevices held.old held.new }
 {

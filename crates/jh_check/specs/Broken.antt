@@ -79,7 +79,8 @@ BreaksMemory _ h = ⊥
 -- agrees with each that it is linked with in a cell before its own
 pub record StandsAmong (all : List CellConfig) (a : ℕ) (cell : CellConfig) (n : ℕ) (device : PciDevice) : Type 0 where
   pub single : (m : ℕ) (other : PciDevice) → m < n → IsDevice cell m other → AreLinked other device → ⊥
-  pub links : (b : ℕ) (other_cell : CellConfig) → b < a → slice_get all b ≡ Some other_cell → (m : ℕ) (other : PciDevice) → IsDevice other_cell m other → AreLinked device other → AgreesWith cell device other_cell other
+  pub links : (b : ℕ) (other_cell : CellConfig) → b < a → slice_get all b ≡ Some other_cell → (m : ℕ) (other : PciDevice)
+      → IsDevice other_cell m other → AreLinked device other → AgreesWith cell device other_cell other
 
 -- ---- findings
 

@@ -18,7 +18,8 @@ use Rattle.jh_check.specs.Laws.{IsNumbered, IsItem, AddressesAreSingle, Hypervis
 -- at most one region of a cell has a place, communication regions aside, which have none
 abbrev pub PlacesAreSingle : SystemConfig → List CellConfig → Type 0
 PlacesAreSingle system cells =
-    (a : ℕ) (cell : CellConfig) → IsNumbered system cells a cell → (r s : ℕ) (x y : Region) → IsItem cell r x → IsItem cell s y → is_comm x ≡ false → is_comm y ≡ false → (place : ℕ) → has_place x place ≡ true → has_place y place ≡ true → r ≡ s
+    (a : ℕ) (cell : CellConfig) → IsNumbered system cells a cell → (r s : ℕ) (x y : Region) → IsItem cell r x → IsItem cell s y
+    → is_comm x ≡ false → is_comm y ≡ false → (place : ℕ) → has_place x place ≡ true → has_place y place ≡ true → r ≡ s
 
 -- so is each region of each cell, root too, that isn't empty
 abbrev pub EachRegion : SystemConfig → List CellConfig → (Region → Type 0) → Type 0
@@ -63,7 +64,9 @@ CommsArePages system cells =
 -- a subpage region that a cell besides root holds unshared has no place of a page-mapped region of root
 abbrev pub RootKeepsItsPages : SystemConfig → List CellConfig → Type 0
 RootKeepsItsPages system cells =
-    (a : ℕ) (cell : CellConfig) → 0 < a → IsNumbered system cells a cell → (r s : ℕ) (x y : Region) → IsItem cell r x → IsItem system.root s y → is_unshared x ≡ true → is_page_mapped x ≡ false → is_page_mapped y ≡ true → (place : ℕ) → has_place x place ≡ true → has_place y place ≡ true → ⊥
+    (a : ℕ) (cell : CellConfig) → 0 < a → IsNumbered system cells a cell → (r s : ℕ) (x y : Region) → IsItem cell r x
+    → IsItem system.root s y → is_unshared x ≡ true → is_page_mapped x ≡ false → is_page_mapped y ≡ true → (place : ℕ)
+    → has_place x place ≡ true → has_place y place ≡ true → ⊥
 
 -- ---- devices
 
@@ -117,7 +120,8 @@ pub record IsGoodDevice (cell : CellConfig) (device : PciDevice) : Type 0 where
   pub read_only : (p : ℕ) (x : Region) → p ≢ device.shmem_dev_id → IsSection cell device (2 + p) x → has_flags 0x2 x ≡ false
   pub alike : (p q : ℕ) (x y : Region) → IsSection cell device (2 + p) x → IsSection cell device (2 + q) y → x.size ≡ y.size
   -- each section that isn't empty begins where the one that isn't before it ended
-  pub row : (j k : ℕ) (x y : Region) → j < k → IsSection cell device j x → IsSection cell device k y → 0 < x.size → 0 < y.size → ((i : ℕ) (z : Region) → j < i → i < k → IsSection cell device i z → z.size ≡ 0) → y.virt_start ≡ virt_end x
+  pub row : (j k : ℕ) (x y : Region) → j < k → IsSection cell device j x → IsSection cell device k y → 0 < x.size → 0 < y.size
+      → ((i : ℕ) (z : Region) → j < i → i < k → IsSection cell device i z → z.size ≡ 0) → y.virt_start ≡ virt_end x
 
 abbrev pub DevicesAreGood : SystemConfig → List CellConfig → Type 0
 DevicesAreGood system cells =
@@ -137,7 +141,8 @@ pub record AgreesWith (cell : CellConfig) (device : PciDevice) (other_cell : Cel
 
 abbrev pub LinksAgree : SystemConfig → List CellConfig → Type 0
 LinksAgree system cells =
-    (a b : ℕ) (one other : CellConfig) → b < a → IsNumbered system cells a one → IsNumbered system cells b other → (m n : ℕ) (d e : PciDevice) → IsDevice one m d → IsDevice other n e → AreLinked d e → AgreesWith one d other e
+    (a b : ℕ) (one other : CellConfig) → b < a → IsNumbered system cells a one → IsNumbered system cells b other
+    → (m n : ℕ) (d e : PciDevice) → IsDevice one m d → IsDevice other n e → AreLinked d e → AgreesWith one d other e
 
 -- ---- cells together
 
@@ -160,7 +165,9 @@ pub record IsSameSection (one : CellConfig) (r : ℕ) (other : CellConfig) (s : 
 -- section of linked devices of theirs
 abbrev pub CellsShareAsTheySay : SystemConfig → List CellConfig → Type 0
 CellsShareAsTheySay system cells =
-    (a b : ℕ) (one other : CellConfig) → 0 < a → a < b → IsNumbered system cells a one → IsNumbered system cells b other → (r s : ℕ) (x y : Region) → IsItem one r x → IsItem other s y → is_comm x ≡ false → is_comm y ≡ false → (place : ℕ) → has_place x place ≡ true → has_place y place ≡ true → both_shared x y ≡ false → IsSameSection one r other s
+    (a b : ℕ) (one other : CellConfig) → 0 < a → a < b → IsNumbered system cells a one → IsNumbered system cells b other
+    → (r s : ℕ) (x y : Region) → IsItem one r x → IsItem other s y → is_comm x ≡ false → is_comm y ≡ false → (place : ℕ)
+    → has_place x place ≡ true → has_place y place ≡ true → both_shared x y ≡ false → IsSameSection one r other s
 
 -- ---- CPUs
 
@@ -223,7 +230,10 @@ pub record IsSoundRoot (system : SystemConfig) : Type 0 where
 -- of each page of root's page-mapped regions a region that another cell holds unshared has all places or none
 abbrev pub PagesAreWhole : SystemConfig → List CellConfig → Type 0
 PagesAreWhole system cells =
-    (a : ℕ) (cell : CellConfig) → 0 < a → IsNumbered system cells a cell → (r s : ℕ) (x y : Region) → IsItem cell r x → IsItem system.root s y → is_unshared x ≡ true → is_page_mapped y ≡ true → (at : ℕ) → at % PAGE_SIZE ≡ 0 → has_address y at ≡ true → (j k : ℕ) → j < PAGE_SIZE → k < PAGE_SIZE → has_place x (place_in y at + j) ≡ has_place x (place_in y at + k)
+    (a : ℕ) (cell : CellConfig) → 0 < a → IsNumbered system cells a cell → (r s : ℕ) (x y : Region) → IsItem cell r x
+    → IsItem system.root s y → is_unshared x ≡ true → is_page_mapped y ≡ true → (at : ℕ) → at % PAGE_SIZE ≡ 0
+    → has_address y at ≡ true → (j k : ℕ) → j < PAGE_SIZE → k < PAGE_SIZE
+    → has_place x (place_in y at + j) ≡ has_place x (place_in y at + k)
 
 -- the CPU set names a CPU, and none above 15
 pub record IsSoundCpuSet (set : List ℕ) : Type 0 where
@@ -244,4 +254,5 @@ EndpointsMayJoin system cells =
 -- two linked devices of different cells have different numbers
 abbrev pub LinksHaveNumbers : SystemConfig → List CellConfig → Type 0
 LinksHaveNumbers system cells =
-    (a b : ℕ) (one other : CellConfig) → a ≢ b → IsNumbered system cells a one → IsNumbered system cells b other → (m n : ℕ) (d e : PciDevice) → IsDevice one m d → IsDevice other n e → AreLinked d e → d.shmem_dev_id ≢ e.shmem_dev_id
+    (a b : ℕ) (one other : CellConfig) → a ≢ b → IsNumbered system cells a one → IsNumbered system cells b other
+    → (m n : ℕ) (d e : PciDevice) → IsDevice one m d → IsDevice other n e → AreLinked d e → d.shmem_dev_id ≢ e.shmem_dev_id

@@ -22,10 +22,13 @@ AddressesAreSingle system cells =
 -- no region of any cell, root too, has a place of the hypervisor's memory
 abbrev pub HypervisorIsAlone : SystemConfig → List CellConfig → Type 0
 HypervisorIsAlone system cells =
-    (a : ℕ) (cell : CellConfig) → IsNumbered system cells a cell → (r : ℕ) (x : Region) → IsItem cell r x → is_comm x ≡ false → (place : ℕ) → has_place x place ≡ true → has_place system.hypervisor_memory place ≡ true → ⊥
+    (a : ℕ) (cell : CellConfig) → IsNumbered system cells a cell → (r : ℕ) (x : Region) → IsItem cell r x → is_comm x ≡ false
+    → (place : ℕ) → has_place x place ≡ true → has_place system.hypervisor_memory place ≡ true → ⊥
 
 -- two cells besides root hold no place unshared, but in the sections at the same offset of two linked devices:
 -- that memory is theirs together
 abbrev pub CellsAreApart : SystemConfig → List CellConfig → Type 0
 CellsAreApart system cells =
-    (a b : ℕ) (one other : CellConfig) → 0 < a → a < b → IsNumbered system cells a one → IsNumbered system cells b other → (r s : ℕ) (x y : Region) → IsItem one r x → IsItem other s y → is_unshared x ≡ true → is_unshared y ≡ true → (place : ℕ) → has_place x place ≡ true → has_place y place ≡ true → are_same_section one r other s ≡ true
+    (a b : ℕ) (one other : CellConfig) → 0 < a → a < b → IsNumbered system cells a one → IsNumbered system cells b other
+    → (r s : ℕ) (x y : Region) → IsItem one r x → IsItem other s y → is_unshared x ≡ true → is_unshared y ≡ true → (place : ℕ)
+    → has_place x place ≡ true → has_place y place ≡ true → are_same_section one r other s ≡ true

@@ -65,7 +65,9 @@ IsOwn one b other = one.cell ≡ b → (one.item < length other.memory_regions) 
 -- reach of that one's number
 abbrev pub TellsOthers : Rule → Bool → ℕ → CellConfig → List Reach → Type 0
 TellsOthers rule pass b other reaches =
-    (one : Spot) (s : ℕ) (d : Region) → IsOwn one b other → passes_shared rule one.region ≡ pass → s < length other.memory_regions → pair_breaks rule one (spot b other s (slice_index_or other.memory_regions s d)) ≡ true → (reached : IsReached reaches (span_of rule one.item one.region)) × (is_within rule ≡ false → reached.by.item ≡ s)
+    (one : Spot) (s : ℕ) (d : Region) → IsOwn one b other → passes_shared rule one.region ≡ pass → s < length other.memory_regions
+    → pair_breaks rule one (spot b other s (slice_index_or other.memory_regions s d)) ≡ true
+    → (reached : IsReached reaches (span_of rule one.item one.region)) × (is_within rule ≡ false → reached.by.item ≡ s)
 
 -- those by which the region is looked for
 abbrev pub reaches_for : Rule → Region → Reaches → List Reach

@@ -39,7 +39,8 @@ pair_breaks VirtOverlap one other = (one.cell == other.cell) && (nat_lt one.item
 pair_breaks PhysOverlap one other = (one.cell == other.cell) && (nat_lt one.item other.item && share_places one.region other.region)
 pair_breaks SubpageTaken one other = not (one.cell == 0) && ((other.cell == 0) && takes_pages one.region other.region)
 pair_breaks CellsOverlap one other =
-    nat_lt 0 one.cell && (nat_lt one.cell other.cell && (share_places one.region other.region && (not (both_shared one.region other.region) && not (are_same_section one.config one.item other.config other.item))))
+    nat_lt 0 one.cell
+    && (nat_lt one.cell other.cell && (share_places one.region other.region && (not (both_shared one.region other.region) && not (are_same_section one.config one.item other.config other.item))))
 pair_breaks _ one other = false
 
 -- a communication region that counts

@@ -28,4 +28,5 @@ AreByPlace seats = IsNonDecreasingBy (λ (seat : Seat). seat.place) seats
 -- the device of the seat fits that one, if it is of one of so many cells
 abbrev pub AgreesAt : List CellConfig → ℕ → List Region → PciDevice → Seat → Type 0
 AgreesAt cells number regions device seat =
-    (c : CellConfig) (d : PciDevice) → seat.cell < number → seat.item < length (slice_index_or cells seat.cell c).pci_devices → agrees_with regions device (slice_index_or cells seat.cell c).memory_regions (slice_index_or (slice_index_or cells seat.cell c).pci_devices seat.item d) ≡ true
+    (c : CellConfig) (d : PciDevice) → seat.cell < number → seat.item < length (slice_index_or cells seat.cell c).pci_devices
+    → agrees_with regions device (slice_index_or cells seat.cell c).memory_regions (slice_index_or (slice_index_or cells seat.cell c).pci_devices seat.item d) ≡ true

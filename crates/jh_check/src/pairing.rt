@@ -10,11 +10,11 @@ ghost use Rattle.jh_check.specs.Findings.{beside, between, from_cell, in_pairs};
 
 use crate::checking::MAX_FINDINGS;
 use crate::finding::Finding;
-use crate::search::beside;
 use crate::links::{find_partners, holders_of, partner_of};
 use crate::pairs::Site;
 use crate::reach::{Reaches, find_window, may_meet, measure};
 use crate::rule::Rule;
+use crate::search::beside;
 use crate::setup::Setup;
 use crate::spans::takes_part;
 use jh_cellcfg::CellConfig;

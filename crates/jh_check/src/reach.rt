@@ -271,7 +271,8 @@ pub(crate) fn find_window(reaches: &Reaches, rule: Rule, item: usize, region: &R
     requires any { IsRising reaches.now.any.items }
     requires unshared { IsRising reaches.now.unshared.items }
     ensures all { is_within rule ≡ true → (s : ℕ) → s < 2 ^ 64 → IsIn result s }
-    ensures told { is_within rule ≡ false → (x : Reach) → Contains (reaches_for rule region.now reaches.now) x → x.start < (span_of rule item region.now).end → (span_of rule item region.now).start < x.end → IsIn result x.item }
+    ensures told { is_within rule ≡ false → (x : Reach) → Contains (reaches_for rule region.now reaches.now) x
+        → x.start < (span_of rule item region.now).end → (span_of rule item region.now).start < x.end → IsIn result x.item }
 {
     if is_within(rule) {
         return Window {

@@ -17,7 +17,8 @@ use jh_text::{one_answer, texts_go_both_ways};
 /// Good words and files are answered: the status is that of the command's answer, or tells that a file could not be
 /// read.
 pub fn good_inputs_are_answered()
-    ensures { (contents : Contents) (asked : Option Asked) (said : Reply) (good : AreGood contents asked) → Outcome contents asked said → IsAnswer contents asked good said.status ⊎ (said.status ≡ Status.ReadFault) }
+    ensures { (contents : Contents) (asked : Option Asked) (said : Reply) (good : AreGood contents asked)
+        → Outcome contents asked said → IsAnswer contents asked good said.status ⊎ (said.status ≡ Status.ReadFault) }
 {
     spelling_has_no_fault();
     system_has_no_fault();

@@ -249,7 +249,8 @@ fn goes_on(
     begun: OpenCall,
     entry: &Entry,
 ) -> Called
-    ensures phase { (lives : List TheLive) → configs_of lives ≡ cells.now → result.call ≡ Some (record { caller = begun.caller; call = begun.call; phase = phase_after lives coming entry.now.cell begun.call begun.phase entry.now.act }) }
+    ensures phase { (lives : List TheLive) → configs_of lives ≡ cells.now
+        → result.call ≡ Some (record { caller = begun.caller; call = begun.call; phase = phase_after lives coming entry.now.cell begun.call begun.phase entry.now.act }) }
     ensures created { result.created ≡ created_at begun.call begun.phase entry.now.act }
 {
     let OpenCall {

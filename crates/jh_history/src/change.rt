@@ -199,7 +199,8 @@ fn act_on(image: &Image, call: Option<&OpenCall>, entry: &Entry, i: u8, cpu: &mu
 
 /// Whether the act changes more CPUs than that which makes it.
 fn is_for_many(act: &Act) -> bool
-    ensures { (image : TheImage) (call : Option TheOpenCall) (own i : ℕ) (cpu : TheCpu) → result ≡ false → acted image call act.now own i cpu ≡ (if i == own then changed (change_of act.now) cpu else cpu) }
+    ensures { (image : TheImage) (call : Option TheOpenCall) (own i : ℕ) (cpu : TheCpu) → result ≡ false
+        → acted image call act.now own i cpu ≡ (if i == own then changed (change_of act.now) cpu else cpu) }
 {
     matches!(
         act,
@@ -222,7 +223,8 @@ fn act_on_all(image: &Image, call: Option<&OpenCall>, entry: &Entry, cpus: &mut 
 pub fn cpus_after(cpus: &mut [Cpu], image: &Image, call: Option<&OpenCall>, entry: &Entry)
     requires admitted { IsAdmitted image.now }
     requires cpus { length cpus.old ≡ 16 }
-    ensures { (f : Facts) → f.call ≡ option_copied call.entry → ((i : ℕ) → i < 16 → slice_get cpus.old i ≡ Some (f.cpu i)) → (i : ℕ) → i < 16 → slice_get cpus.new i ≡ Some (cpu_after image.now f entry.now i) }
+    ensures { (f : Facts) → f.call ≡ option_copied call.entry → ((i : ℕ) → i < 16 → slice_get cpus.old i ≡ Some (f.cpu i))
+        → (i : ℕ) → i < 16 → slice_get cpus.new i ≡ Some (cpu_after image.now f entry.now i) }
 {
     if is_for_many(&entry.act) {
         act_on_all(image, call, entry, cpus);

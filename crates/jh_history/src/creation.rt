@@ -111,7 +111,8 @@ pub fn judged(
     requires admitted { IsAdmitted image.now }
     requires few { length cells.now ≤ 15 }
     requires cpus { length cpus.now ≡ 16 }
-    ensures told { (f : Facts) → configs_of f.cells ≡ cells.now → ((i : ℕ) → i < 16 → slice_get cpus.now i ≡ Some (f.cpu i)) → IfOk result (λ told. IfSome told (λ creation. creation ≡ creation_by image.now f caller (as_read read))) }
+    ensures told { (f : Facts) → configs_of f.cells ≡ cells.now → ((i : ℕ) → i < 16 → slice_get cpus.now i ≡ Some (f.cpu i))
+        → IfOk result (λ told. IfSome told (λ creation. creation ≡ creation_by image.now f caller (as_read read))) }
     ensures untold { IfOk result (λ told. IfNone told (length cells.now ≡ 15)) }
 {
     match read {

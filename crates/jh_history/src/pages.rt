@@ -184,7 +184,8 @@ fn at_decide(cells: &[CellConfig], call: Option<&OpenCall>) -> Option<PageWrite>
 
 /// What a Settle writes at which the cell's time is over.
 fn at_timeout(cells: &[CellConfig], call: Option<&OpenCall>) -> Option<PageWrite>
-    ensures { (lives : List TheLive) → configs_of lives ≡ cells.now → result ≡ option_and_then (λ (o : TheOpenCall). option_map (on_page (State STATE_FAILED)) (named_cell lives o.call)) (option_copied call.entry) }
+    ensures { (lives : List TheLive) → configs_of lives ≡ cells.now
+        → result ≡ option_and_then (λ (o : TheOpenCall). option_map (on_page (State STATE_FAILED)) (named_cell lives o.call)) (option_copied call.entry) }
 {
     match call {
         Some(begun) => on_page_of(
@@ -215,7 +216,9 @@ pub fn page_write(
     entry: &Entry,
 ) -> Option<PageWrite>
     requires { length cpus.now ≡ 16 }
-    ensures { (f : Facts) → configs_of f.cells ≡ cells.now → f.call ≡ option_copied call.entry → ((i : ℕ) → i < 16 → slice_get cpus.now i ≡ Some (cpu_after image.now f entry.now i)) → result ≡ page_write_by image.now f entry.now entry.now.act }
+    ensures { (f : Facts) → configs_of f.cells ≡ cells.now → f.call ≡ option_copied call.entry
+        → ((i : ℕ) → i < 16 → slice_get cpus.now i ≡ Some (cpu_after image.now f entry.now i))
+        → result ≡ page_write_by image.now f entry.now entry.now.act }
 {
     match entry.act {
         Act::Read { got, .. } | Act::Fetch { got, .. } => {

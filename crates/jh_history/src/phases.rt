@@ -200,7 +200,8 @@ fn named_cell<'a, K: Known>(known: &'a K, call: &Call) -> Option<&'a CellConfig>
 
 /// How the cell met the request to shut down; nothing yet where it hasn't.
 fn settled_in<K: Known>(known: &K, caller: u8, cell: &CellConfig, waited: u64) -> Option<Settled>
-    ensures { (i : TheImage) (f : Facts) → K.Knows known.now i f → result ≡ settled_by (is_passive cell.now) (state_word f cell.now.id) (reply_word f cell.now.id) (is_over cell.now.msg_reply_timeout waited (is_idle_but i f caller)) }
+    ensures { (i : TheImage) (f : Facts) → K.Knows known.now i f
+        → result ≡ settled_by (is_passive cell.now) (state_word f cell.now.id) (reply_word f cell.now.id) (is_over cell.now.msg_reply_timeout waited (is_idle_but i f caller)) }
 {
     let state = state_word(known, cell.id);
     let reply = reply_word(known, cell.id);

@@ -142,7 +142,9 @@ offset_in system at = at - system.pci_mmconfig_base
 -- bytes of the function that is there, or the number whose bits are all set where none is; or the register of the device
 pub record IsReadBy (image : Image) (f : Facts) (id : ℕ) (access : Access) (at width value : ℕ) : Type 0 where
   pub bytes : (place : ℕ → Place) → AreItsPlaces image f.cells id access at width place → value ≡ little_endian width (λ k. f.byte (place k))
-  pub function : (e : Endpoint) → IsAnsweredByWindow image f.cells id access at width → HasFunction image f id (offset_in image.system at) e → value ≡ config_read e.space (offset_in image.system at % 4096) width
+  pub function : (e : Endpoint) → IsAnsweredByWindow image f.cells id access at width
+      → HasFunction image f id (offset_in image.system at) e
+      → value ≡ config_read e.space (offset_in image.system at % 4096) width
   pub ones : IsAnsweredByWindow image f.cells id access at width → ((e : Endpoint) → HasFunction image f id (offset_in image.system at) e → ⊥) → value ≡ 256 ^ width - 1
   pub register : (n bar offset : ℕ) (e : Endpoint) → IsAnsweredByRegister image f id access at width n bar offset e → value ≡ register_of e bar offset
 

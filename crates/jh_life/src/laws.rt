@@ -25,7 +25,9 @@ pub fn a_place_is_dropped_by_its_id(cells: &Cells)
 
 /// The cell whose mark is put at a place is the one with its id, and the others stay with theirs.
 pub fn a_place_is_marked_by_its_id(cells: &Cells)
-    ensures { (i : ℕ) (cell : Live) (on : Bool) (new : List Live) → slice_get cells.now.lives i ≡ Some cell → configs_of new ≡ configs_of cells.now.lives → marks_of new ≡ slice_set (marks_of cells.now.lives) i on → new ≡ map (marked cell.config.id on) cells.now.lives }
+    ensures { (i : ℕ) (cell : Live) (on : Bool) (new : List Live) → slice_get cells.now.lives i ≡ Some cell
+        → configs_of new ≡ configs_of cells.now.lives → marks_of new ≡ slice_set (marks_of cells.now.lives) i on
+        → new ≡ map (marked cell.config.id on) cells.now.lives }
 {
     live_cells_differ(cells);
 }
@@ -43,13 +45,16 @@ pub fn a_cell_is_as_it_was_last_set()
 
 /// Which cells are loadable, and how much room there is, changes no verdict.
 pub fn a_verdict_goes_by_the_listed_cells(_new: &CellConfig)
-    ensures { (one other : Seen) (locked : Bool) (owned caller pool : ℕ) → one.system ≡ other.system → configs_of one.lives ≡ configs_of other.lives → verdict_of_create one locked _new.now owned caller pool ≡ verdict_of_create other locked _new.now owned caller pool }
+    ensures { (one other : Seen) (locked : Bool) (owned caller pool : ℕ) → one.system ≡ other.system
+        → configs_of one.lives ≡ configs_of other.lives
+        → verdict_of_create one locked _new.now owned caller pool ≡ verdict_of_create other locked _new.now owned caller pool }
 {}
 
 /// A new cell isn't refused exactly where no cell is locked, nothing of what it would be refused for holds, and the
 /// pages of all cells with it are there.
 pub fn a_cell_is_let_in_where_nothing_holds(cells: &Cells, new: &CellConfig)
-    ensures { (locked : Bool) (owned caller pool : ℕ) → (verdict_of_create cells.now locked new.now owned caller pool ≡ None) ↔ ((locked ≡ false) × IsAccepted cells.now.system (configs_of cells.now.lives) new.now (may_have owned caller) (pages_of cells.now.system.root.memory_regions (configs_of cells.now.lives ++ new.now ∷ [])) pool) }
+    ensures { (locked : Bool) (owned caller pool : ℕ)
+        → (verdict_of_create cells.now locked new.now owned caller pool ≡ None) ↔ ((locked ≡ false) × IsAccepted cells.now.system (configs_of cells.now.lives) new.now (may_have owned caller) (pages_of cells.now.system.root.memory_regions (configs_of cells.now.lives ++ new.now ∷ [])) pool) }
 {
     nothing_is_refused_that_is_accepted(cells.system(), cells.list(), new);
 }

@@ -94,7 +94,9 @@ impl Pool {
 /// Where each page that is taken is had once, and no other page is had, the sum over all pages of how
 /// often each is had is how many are taken.
 pub fn pages_taken_once_are_counted(pool: &Pool)
-    ensures { (had : ℕ → ℕ) → ((page : ℕ) → IsPageOf pool.now page → had page ≤ 1) → ((page : ℕ) → IsPageOf pool.now page → 0 < had page ↔ IsTaken pool.now page) → sum_by had (pages_of pool.now) ≡ used_of pool.now }
+    ensures { (had : ℕ → ℕ) → ((page : ℕ) → IsPageOf pool.now page → had page ≤ 1)
+        → ((page : ℕ) → IsPageOf pool.now page → 0 < had page ↔ IsTaken pool.now page)
+        → sum_by had (pages_of pool.now) ≡ used_of pool.now }
 {
     let _ = &pool.free;
 }

@@ -48,7 +48,8 @@ fits_blocks level region =
 
 abbrev pub may_be_block : Claims → ℕ → ℕ → Region → Bool
 may_be_block claims level start region =
-    nat_lt 0 level && (may_have_blocks region && (not (is_comm region) && (((region.phys_start % slot_size level) == (region.virt_start % slot_size level)) && not (claims.root && are_cut claims.holders (place_in region start) (slot_size level)))))
+    nat_lt 0 level
+    && (may_have_blocks region && (not (is_comm region) && (((region.phys_start % slot_size level) == (region.virt_start % slot_size level)) && not (claims.root && are_cut claims.holders (place_in region start) (slot_size level)))))
 
 -- one descriptor of that level maps the whole slot, by this region
 abbrev pub is_leaf_by : Claims → ℕ → ℕ → Region → Bool

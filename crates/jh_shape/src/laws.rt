@@ -64,13 +64,16 @@ pub fn each_wanted_table_is_counted()
 
 /// Where a table is wanted, one is wanted in the slot of the level above that it lies in.
 pub fn tables_stand_below_tables()
-    ensures { (claims : Claims) (level start : ℕ) → level < 3 → start % slot_size (level + 1) ≡ 0 → want_of claims (level + 1) start ≡ Want.Table → want_of claims level (start - start % slot_size level) ≡ Want.Table }
+    ensures { (claims : Claims) (level start : ℕ) → level < 3 → start % slot_size (level + 1) ≡ 0
+        → want_of claims (level + 1) start ≡ Want.Table → want_of claims level (start - start % slot_size level) ≡ Want.Table }
 {}
 
 /// A page of a page-mapped region is granted wholly or not at all: what one byte of a page of addresses
 /// is granted, each is, at the places beside it.
 pub fn a_page_is_granted_wholly_or_not_at_all()
-    ensures { (claims : Claims) (page place j k : ℕ) (rights : RightsOf) (device : Bool) → IsSound claims → page % 4096 ≡ 0 → j < 4096 → k < 4096 → IsGranted claims (page + j) (place + j) rights device → IsGranted claims (page + k) (place + k) rights device }
+    ensures { (claims : Claims) (page place j k : ℕ) (rights : RightsOf) (device : Bool) → IsSound claims → page % 4096 ≡ 0
+        → j < 4096 → k < 4096 → IsGranted claims (page + j) (place + j) rights device
+        → IsGranted claims (page + k) (place + k) rights device }
 {}
 
 /// A place is closed to root exactly where a live cell holds it for itself, and doesn't leave it to root

@@ -85,7 +85,11 @@ irqchip_told d =
     })
 
 abbrev pub device_names : List (List ℕ)
-device_names = codes "kind" ∷ codes "iommu" ∷ codes "domain" ∷ codes "bdf" ∷ codes "bar_mask" ∷ codes "caps_start" ∷ codes "num_caps" ∷ codes "num_msi_vectors" ∷ codes "msi_bits" ∷ codes "num_msix_vectors" ∷ codes "msix_region_size" ∷ codes "msix_address" ∷ codes "shmem_regions_start" ∷ codes "shmem_dev_id" ∷ codes "shmem_peers" ∷ codes "shmem_protocol" ∷ []
+device_names =
+    codes "kind" ∷ codes "iommu" ∷ codes "domain" ∷ codes "bdf" ∷ codes "bar_mask" ∷ codes "caps_start"
+    ∷ codes "num_caps" ∷ codes "num_msi_vectors" ∷ codes "msi_bits" ∷ codes "num_msix_vectors"
+    ∷ codes "msix_region_size" ∷ codes "msix_address" ∷ codes "shmem_regions_start" ∷ codes "shmem_dev_id"
+    ∷ codes "shmem_peers" ∷ codes "shmem_protocol" ∷ []
 
 abbrev pub device_told : Data → Option PciDevice
 device_told d =
@@ -105,7 +109,11 @@ device_told d =
     let shmem_dev_id_is = u8_at (codes "shmem_dev_id") d in
     let shmem_peers_is = u8_at (codes "shmem_peers") d in
     let shmem_protocol_is = u16_at (codes "shmem_protocol") d in
-    where_told (has_only device_names d && is_some kind_is && is_some iommu_is && is_some domain_is && is_some bdf_is && is_some bar_mask_is && is_some caps_start_is && is_some num_caps_is && is_some num_msi_vectors_is && is_some msi_bits_is && is_some num_msix_vectors_is && is_some msix_region_size_is && is_some msix_address_is && is_some shmem_regions_start_is && is_some shmem_dev_id_is && is_some shmem_peers_is && is_some shmem_protocol_is)
+    where_told (has_only device_names d && is_some kind_is && is_some iommu_is && is_some domain_is && is_some bdf_is
+    && is_some bar_mask_is && is_some caps_start_is && is_some num_caps_is && is_some num_msi_vectors_is
+    && is_some msi_bits_is && is_some num_msix_vectors_is && is_some msix_region_size_is
+    && is_some msix_address_is && is_some shmem_regions_start_is && is_some shmem_dev_id_is
+    && is_some shmem_peers_is && is_some shmem_protocol_is)
     (record {
       kind = unwrap_or kind_is 0;
       iommu = unwrap_or iommu_is 0;

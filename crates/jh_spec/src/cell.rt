@@ -10,11 +10,11 @@ ghost use Rattle.jh_spec.specs.Json.{told_or};
 
 use crate::cpus::{cpu_set, cpu_set_size};
 use crate::fault::{fault_of, named};
+use crate::from_json::{FromJson, member};
 use crate::json::first_unlisted;
 use crate::list::list_at;
 use crate::name::cell_name;
 use crate::spec::SpecFault;
-use crate::from_json::{FromJson, member};
 use jh_cellcfg::{CellConfig, Console, Irqchip, PciDevice, Record, Region, Writer};
 use jh_num::{NoMemory, Seq};
 use serde_json::Value;

@@ -4,8 +4,8 @@ ghost use Rattle.serde_json.specs.View.{view};
 ghost use Rattle.jh_spec.specs.Cpus.{bitmap_of, are_new, mark_byte, AreMarks};
 ghost use Rattle.jh_spec.specs.Cells.{cpu_set_size, cpu_set_in, size_told};
 
-use crate::list::list;
 use crate::from_json::FromJson;
+use crate::list::list;
 use jh_num::{NoMemory, Seq};
 use serde_json::Value;
 use std::alloc::Global;

@@ -2,8 +2,8 @@
 ghost use Rattle.std.specs.Prelude.{replicate};
 ghost use Rattle.jh_spec.specs.Fields.{u8_told, u16_told, u32_told, u64_told, words_told};
 
-use crate::json::number_below;
 use crate::from_json::FromJson;
+use crate::json::number_below;
 use serde_json::Value;
 
 impl FromJson for u8 {

@@ -2,8 +2,8 @@
 ghost use Rattle.jh_spec.specs.Fields.{region_told, irqchip_told, device_told, console_told};
 ghost use Rattle.jh_spec.specs.Cells.{no_region, no_irqchip, no_device, no_console};
 
-use crate::json::has_only;
 use crate::from_json::{FromJson, member};
+use crate::json::has_only;
 use jh_cellcfg::{Console, Irqchip, PciDevice, Region};
 use serde_json::Value;
 
