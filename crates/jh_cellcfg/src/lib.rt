@@ -33,6 +33,3 @@ pub use record::Record;
 pub use region::Region;
 pub use write::{write_body, write_cell};
 pub use writer::Writer;
-
-#[cfg(test)]
-mod tests;

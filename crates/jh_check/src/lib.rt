@@ -32,6 +32,3 @@ pub use laws::{
 pub use refusal::{refusal_of, refusal_without_cpus};
 pub use rule::Rule;
 pub use verdict::{NewCell, clean_with};
-
-#[cfg(test)]
-mod tests;

@@ -15,6 +15,3 @@ pub use laws::{
     a_verdict_goes_by_the_listed_cells, cells_are_listed_in_order_of_creation,
     each_number_has_its_causes,
 };
-
-#[cfg(test)]
-mod tests;

@@ -20,6 +20,3 @@ pub use laws::{
 pub use level::{FIRST_LEVEL, LAST_LEVEL};
 pub use target::Target;
 pub use want::Want;
-
-#[cfg(test)]
-mod tests;

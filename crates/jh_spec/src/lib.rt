@@ -18,6 +18,3 @@ pub use laws::{
     a_cpu_that_is_named_has_its_bit, each_field_is_its_members_number, the_first_fault_is_to_blame,
 };
 pub use spec::{Spec, SpecFault, read_spec};
-
-#[cfg(test)]
-mod tests;

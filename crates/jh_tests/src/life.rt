@@ -1,7 +1,7 @@
 //! A cell that comes and goes. Each cause of a refusal, alone and beside the others, and a board of 15 cells are
 //! shown by the rows.
 
-use crate::{Cells, MOST_CELLS};
+use jh_life::{Cells, MOST_CELLS};
 use jh_cellcfg::{CellConfig, Console, Region, SystemConfig};
 use jh_num::{NoMemory, Seq};
 use std::alloc::Global;

@@ -2,7 +2,7 @@
 ghost use Rattle.std.specs.Prelude.{IfOk};
 ghost use Rattle.jh_history.specs.Admitted.{IsAdmitted};
 
-use crate::{Board, Turn, TurnFault};
+use jh_board::{Board, Turn, TurnFault};
 use jh_cellcfg::{CellConfig, Console, Region, SystemConfig};
 use jh_history::{Act, Entry, admit};
 use jh_num::{NoMemory, Seq, Steps};

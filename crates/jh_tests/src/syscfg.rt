@@ -1,5 +1,5 @@
 //! The field that no SPEC makes. All others, and refusals, are shown by the rows.
-use super::*;
+use jh_syscfg::{read_system, system_fits, write_system};
 use std::test::*;
 
 /// The system `tiny` with bytes of root's head, which nothing looks at. The number in front of a group of bytes is

@@ -1,7 +1,7 @@
 //! The top call where a read fails in its turn, a sink fills up, memory is wanted, and workers wait for one another. What
 //! it writes for words and files is shown by rows.
 
-use crate::{Status, jailhouse};
+use jh_cli::{Status, jailhouse};
 use jh_num::NoMemory;
 use jh_outside::{Gate, MemFiles, MemSink, NoGate, Sink};
 use std::alloc::Global;

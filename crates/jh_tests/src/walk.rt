@@ -2,7 +2,7 @@
 ghost use Rattle.std.specs.Prelude.{◌≡◌, ◌+◌, ◌%◌, ◌<◌, ◌≤◌, length};
 ghost use Rattle.jh_num.specs.declared.address.TheConstants.{ADDRESS_END};
 
-use crate::{Hit, walk};
+use jh_walk::{Hit, walk};
 use jh_frames::Frames;
 use jh_num::{Probe, Rights, Steps};
 use std::test::Fail;

@@ -3,7 +3,7 @@ ghost use Rattle.std.specs.Prelude.{◌≡◌, ◌+◌, ◌≤◌, ◌<◌, leng
 ghost use Rattle.jh_num.specs.declared.address.TheConstants.{ADDRESS_END};
 ghost use Rattle.jh_frames.specs.Memory.{IsOwn};
 
-use crate::Frames;
+use jh_frames::Frames;
 use jh_num::NoMemory;
 use std::alloc::Global;
 use std::test::Fail;

@@ -2,7 +2,7 @@
 ghost use Rattle.std.specs.Prelude.{IfOk};
 ghost use Rattle.jh_history.specs.Admitted.{IsAdmitted};
 
-use crate::{Ended, follow, play, run};
+use jh_run::{Ended, follow, play, run};
 use jh_cellcfg::{CellConfig, Console, Region, SystemConfig};
 use jh_history::{Act, Entry, Journal, admit, due, is_on_board, quiet};
 use jh_num::{NoMemory, Seq};

@@ -3,7 +3,7 @@
 ghost use Rattle.std.specs.Prelude.{◌≡◌, ◌%◌, ◌<◌};
 ghost use Rattle.jh_ivshmem.specs.Specs.{IsWithin};
 
-use crate::{EndpointSpec, Endpoints, Slot};
+use jh_ivshmem::{EndpointSpec, Endpoints, Slot};
 use jh_num::NoMemory;
 use jh_vpci::FunctionSpec;
 use std::process::Abort;

@@ -1,5 +1,5 @@
 //! The parts that no SPEC makes. The fields of all others, refusals and limits are shown by the rows.
-use super::*;
+use jh_cellcfg::{CellConfig, fits, read_cell, write_cell};
 use jh_num::Seq;
 use std::alloc::{AllocError, Global};
 use std::test::*;

@@ -1,6 +1,6 @@
 //! Why a SPEC is refused. What a good one makes is shown by the rows.
 
-use crate::{SpecFault, read_spec};
+use jh_spec::{SpecFault, read_spec};
 use std::alloc::Global;
 use std::process::Abort;
 

@@ -1,6 +1,6 @@
 //! Maps of small cells.
 
-use crate::{Run, map_of};
+use jh_map::{Run, map_of};
 use jh_cellcfg::Region;
 use jh_num::{ByteSet, NoMemory, Range, Rights};
 use std::alloc::Global;

@@ -1,6 +1,6 @@
 //! What is read of a program and of a schedule. Each rule of a line and of an item, and the limits, are shown by rows.
 
-use crate::{read_program, read_schedule};
+use jh_script::{read_program, read_schedule};
 use std::alloc::{AllocError, Global};
 use std::test::Fail;
 

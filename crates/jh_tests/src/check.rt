@@ -1,6 +1,6 @@
 //! The sections of a device, and a finding. What else is found, and what a new cell is refused for, the rows show.
 
-use crate::{check, sections_of};
+use jh_check::{check, sections_of};
 use jh_cellcfg::{CellConfig, Console, PciDevice, Region, SystemConfig};
 use jh_num::{NoMemory, Seq};
 use std::alloc::Global;

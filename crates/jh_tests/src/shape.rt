@@ -2,7 +2,7 @@
 ghost use Rattle.std.specs.Prelude.{◌≡◌, ◌≤◌, length, IfOk};
 ghost use Rattle.jh_shape.specs.Suits.{IsSlot};
 
-use crate::{Target, Want};
+use jh_shape::{Target, Want};
 use jh_cellcfg::{CellConfig, Region};
 use jh_num::{Rights, Seq};
 use std::alloc::{AllocError, Global};
