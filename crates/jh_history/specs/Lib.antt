@@ -26,4 +26,4 @@ pub mod Admitted
 pub mod LiveView
 pub mod ReadView
 pub mod PlainView
-pub mod Apart
+pub mod Private
