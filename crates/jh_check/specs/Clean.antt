@@ -63,7 +63,7 @@ CommsArePages system cells =
 abbrev pub RootKeepsItsPages : SystemConfig → List CellConfig → Type 0
 RootKeepsItsPages system cells =
     EachOtherCell system cells (λ cell. EachTwoItems cell system.root (λ r s x y.
-      is_unshared x ≡ true → is_page_mapped x ≡ false → is_page_mapped y ≡ true → SharesNoPlace x y))
+    is_unshared x ≡ true → is_page_mapped x ≡ false → is_page_mapped y ≡ true → SharesNoPlace x y))
 
 -- ---- devices
 
@@ -169,7 +169,7 @@ pub record IsSameSection (one : CellConfig) (r : ℕ) (other : CellConfig) (s : 
 abbrev pub CellsShareAsTheySay : SystemConfig → List CellConfig → Type 0
 CellsShareAsTheySay system cells =
     EachTwoOthers system cells (λ one other. EachTwoItems one other (λ r s x y.
-      is_comm x ≡ false → is_comm y ≡ false → MeetOnlyIf x y (both_shared x y ≡ false → IsSameSection one r other s)))
+    is_comm x ≡ false → is_comm y ≡ false → MeetOnlyIf x y (both_shared x y ≡ false → IsSameSection one r other s)))
 
 -- ---- CPUs
 
@@ -236,7 +236,7 @@ HasWholePages holder region =
 abbrev pub PagesAreWhole : SystemConfig → List CellConfig → Type 0
 PagesAreWhole system cells =
     EachOtherCell system cells (λ cell. EachTwoItems cell system.root (λ r s x y.
-      is_unshared x ≡ true → is_page_mapped y ≡ true → HasWholePages x y))
+    is_unshared x ≡ true → is_page_mapped y ≡ true → HasWholePages x y))
 
 -- the CPU set names a CPU, and none above 15
 pub record IsSoundCpuSet (set : List ℕ) : Type 0 where

@@ -67,4 +67,4 @@ HypervisorIsAlone system cells =
 abbrev pub CellsAreApart : SystemConfig → List CellConfig → Type 0
 CellsAreApart system cells =
     EachTwoOthers system cells (λ one other. EachTwoItems one other (λ r s x y.
-      is_unshared x ≡ true → is_unshared y ≡ true → MeetOnlyIf x y (are_same_section one r other s ≡ true)))
+    is_unshared x ≡ true → is_unshared y ≡ true → MeetOnlyIf x y (are_same_section one r other s ≡ true)))

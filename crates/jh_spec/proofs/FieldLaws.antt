@@ -1,5 +1,5 @@
 -- Each field is its member's number.
-use Rattle.std.proofs.Common.{◌≡◌, ◌⊎◌, ℕ, ◌^◌, ◌<◌, Bool, true, false, ◌==◌, cond, if◌then◌else◌, nat_lt, List, [], ◌∷◌, length, codes, Option, Some, None, Result, Ok, Err, replicate, inl, inr, refl, sym, ap, ◌∙◌, subst, option_and_then}
+use Rattle.std.proofs.Common.{◌≡◌, ℕ, ◌^◌, ◌<◌, Bool, true, false, ◌==◌, cond, if◌then◌else◌, nat_lt, List, ◌∷◌, length, codes, Option, Some, None, Result, Ok, Err, replicate, inl, inr, refl, sym, ap, subst, option_and_then}
 use Rattle.std.proofs.lemmas.Bool.{ltb-true, eqb-true}
 use Rattle.std.proofs.lemmas.Option.{same_Some, none-some}
 use Rattle.serde_json.specs.Data.{Data}
@@ -13,7 +13,6 @@ use Rattle.jh_cellcfg.specs.declared.region.Region.{Region}
 use Rattle.jh_cellcfg.specs.Spelling.{console_bytes}
 use Rattle.jh_syscfg.specs.declared.platform.Platform.{Platform}
 use Rattle.jh_spec.specs.declared.spec.SpecFault.{SpecFault}
-use Rattle.jh_spec.specs.declared.spec.SpecFault.TheVariants.{Json, Member, NoMemory}
 use Rattle.jh_spec.specs.declared.cell.Identity.{Identity}
 use Rattle.jh_spec.specs.declared.cell.Lists.{Lists}
 use Rattle.jh_spec.specs.declared.cell.Settings.{Settings}
