@@ -20,7 +20,7 @@ abbrev pub PlacesAreSingle : SystemConfig → List CellConfig → Type 0
 PlacesAreSingle system cells =
     EachCell system cells (λ cell. EachTwoItems cell cell (λ r s x y. is_comm x ≡ false → is_comm y ≡ false → MeetOnlyIf x y (r ≡ s)))
 
--- each region of each cell is so, root too, that isn't empty
+-- P holds of each region of each cell, root too, that isn't empty
 abbrev pub EachRegion : SystemConfig → List CellConfig → (Region → Type 0) → Type 0
 EachRegion system cells P = EachCell system cells (λ cell. EachItem cell (λ r x. 0 < x.size → P x))
 
@@ -71,11 +71,11 @@ RootKeepsItsPages system cells =
 abbrev pub IsDevice : CellConfig → ℕ → PciDevice → Type 0
 IsDevice cell n device = slice_get cell.pci_devices n ≡ Some device
 
--- each device of the cell is so
+-- P holds of each device of the cell
 abbrev pub EachDevice : CellConfig → (PciDevice → Type 0) → Type 0
 EachDevice cell P = (n : ℕ) (device : PciDevice) → IsDevice cell n device → P device
 
--- each device of the one cell and each of the other are so, by their numbers
+-- P holds of each device of the one cell with each of the other, and of their numbers
 abbrev pub EachTwoDevices : CellConfig → CellConfig → (ℕ → ℕ → PciDevice → PciDevice → Type 0) → Type 0
 EachTwoDevices one other P = (m n : ℕ) (d e : PciDevice) → IsDevice one m d → IsDevice other n e → P m n d e
 

@@ -14,37 +14,37 @@ IsNumbered system cells a cell = slice_get (system.root ∷ cells) a ≡ Some ce
 abbrev pub IsItem : CellConfig → ℕ → Region → Type 0
 IsItem cell r region = slice_get cell.memory_regions r ≡ Some region
 
--- each cell is so, root too
+-- P holds of each cell, root too
 abbrev pub EachCell : SystemConfig → List CellConfig → (CellConfig → Type 0) → Type 0
 EachCell system cells P = (a : ℕ) (cell : CellConfig) → IsNumbered system cells a cell → P cell
 
--- each two cells whose numbers are so are so
+-- P holds of each two cells of such numbers
 abbrev pub EachTwoCells : SystemConfig → List CellConfig → (ℕ → ℕ → Type 0) → (CellConfig → CellConfig → Type 0) → Type 0
 EachTwoCells system cells Numbers P =
     (a b : ℕ) (one other : CellConfig) → Numbers a b → IsNumbered system cells a one → IsNumbered system cells b other → P one other
 
--- each cell besides root is so
+-- P holds of each cell besides root
 abbrev pub EachOtherCell : SystemConfig → List CellConfig → (CellConfig → Type 0) → Type 0
 EachOtherCell system cells P = (a : ℕ) (cell : CellConfig) → 0 < a → IsNumbered system cells a cell → P cell
 
--- each two cells besides root are so
+-- P holds of each two cells besides root
 abbrev pub EachTwoOthers : SystemConfig → List CellConfig → (CellConfig → CellConfig → Type 0) → Type 0
 EachTwoOthers system cells P =
     (a b : ℕ) (one other : CellConfig) → 0 < a → a < b → IsNumbered system cells a one → IsNumbered system cells b other → P one other
 
--- each region of the cell is so, by its number
+-- P holds of each region of the cell and its number
 abbrev pub EachItem : CellConfig → (ℕ → Region → Type 0) → Type 0
 EachItem cell P = (r : ℕ) (x : Region) → IsItem cell r x → P r x
 
--- each region of the one cell and each of the other are so, by their numbers
+-- P holds of each region of the one cell with each of the other, and of their numbers
 abbrev pub EachTwoItems : CellConfig → CellConfig → (ℕ → ℕ → Region → Region → Type 0) → Type 0
 EachTwoItems one other P = (r s : ℕ) (x y : Region) → IsItem one r x → IsItem other s y → P r s x y
 
--- both regions have an address only where this holds
+-- the regions have an address together only where P holds
 abbrev pub GiveTogetherOnlyIf : Region → Region → Type 0 → Type 0
 GiveTogetherOnlyIf x y P = (at : ℕ) → has_address x at ≡ true → has_address y at ≡ true → P
 
--- both regions have a place only where this holds
+-- the regions have a place together only where P holds
 abbrev pub MeetOnlyIf : Region → Region → Type 0 → Type 0
 MeetOnlyIf x y P = (place : ℕ) → has_place x place ≡ true → has_place y place ≡ true → P
 
