@@ -7,7 +7,7 @@ use Rattle.jh_cellcfg.specs.declared.region.Region.{Region}
 use Rattle.jh_cellcfg.specs.declared.config.PciDevice.{PciDevice}
 use Rattle.jh_cellcfg.specs.declared.config.CellConfig.{CellConfig}
 use Rattle.jh_check.specs.Devices.{is_shmem, are_linked, are_same_memory, sections_of, agrees_with, agrees_with_all}
-use Rattle.jh_check.specs.Bus.{HasPlaces}
+use Rattle.jh_check.specs.Private.Bus.{HasPlaces}
 use Rattle.jh_check.proofs.BoolLemmas.{false-from_not, not-both, and-right, and-both}
 
 -- all pass a test where each does

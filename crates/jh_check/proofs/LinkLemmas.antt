@@ -8,7 +8,7 @@ use Rattle.std.proofs.lemmas.Option.{slice_get_read}
 use Rattle.jh_cellcfg.specs.declared.config.PciDevice.{PciDevice}
 use Rattle.jh_cellcfg.specs.declared.config.CellConfig.{CellConfig}
 use Rattle.jh_check.specs.Devices.{are_linked, section_count, is_section, are_sections_of, are_same_section}
-use Rattle.jh_check.specs.Links.{ArePartners}
+use Rattle.jh_check.specs.Private.Links.{ArePartners}
 use Rattle.jh_check.proofs.CleanLemmas.{any-at, at-section}
 
 any-holds : {X : Type 0} (p : X → Bool) (xs : List X) (x : X) → Contains xs x → p x ≡ true → list_any p xs ≡ true

@@ -19,7 +19,7 @@ use Rattle.jh_check.specs.Devices.{are_same_section}
 use Rattle.jh_check.specs.Spans.{takes_part, span_of, is_within}
 use Rattle.jh_check.specs.Lists.{capped, found_from, only_if}
 use Rattle.jh_check.specs.Findings.{spot, beside, beside_at, finding_of}
-use Rattle.jh_check.specs.Reaches.{passes_shared, may_follow, reaches_for, HasOthers, InOrder, IsRising, IsReached, TellsEach, TellsPairs, IsOwn, TellsOthers, AreOf, IsIn, HasHits}
+use Rattle.jh_check.specs.Private.Reaches.{passes_shared, may_follow, reaches_for, HasOthers, InOrder, IsRising, IsReached, TellsEach, TellsPairs, IsOwn, TellsOthers, AreOf, IsIn, HasHits}
 use Rattle.jh_check.proofs.BoolLemmas.{false-from_not, not-both, and-left, and-right, and-both}
 use Rattle.jh_check.proofs.ListLemmas.{append_nil, found-drop, found-end, found-none}
 use Rattle.jh_check.proofs.BreakLemmas.{pair-order, pair-joins, pair-takes_part, pair-second, pair-meets, beside-none, joins-same, two-parts, pages-parts, overlap-second, meet-swap}

@@ -8,7 +8,7 @@ use Rattle.jh_cellcfg.specs.declared.config.PciDevice.{PciDevice}
 use Rattle.jh_cellcfg.specs.declared.config.CellConfig.{CellConfig}
 use Rattle.jh_check.specs.declared.seats.Seat.{Seat}
 use Rattle.jh_check.specs.Devices.{is_shmem, are_linked, are_same_memory, sections_of, agrees_with, agrees_with_all}
-use Rattle.jh_check.specs.Seats.{seat_of, HasSeats, AgreesAt}
+use Rattle.jh_check.specs.Private.Seats.{seat_of, HasSeats, AgreesAt}
 use Rattle.jh_check.proofs.BoolLemmas.{and-right}
 use Rattle.jh_check.proofs.BusLemmas.{all-each}
 

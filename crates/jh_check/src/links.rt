@@ -1,6 +1,6 @@
 //! The regions of two cells that are sections of linked devices at the same offset, looked up once for two cells.
 ghost use Rattle.std.specs.Prelude.{◌≡◌, ◌≢◌, ◌<◌, ℕ, true, None, Some, length, slice_index_or, IfOk};
-ghost use Rattle.jh_check.specs.Links.{ArePartners};
+ghost use Rattle.jh_check.specs.Private.Links.{ArePartners};
 
 use crate::bus::{MAX_PLACES, place_of};
 use crate::devices::{are_linked, is_shmem, section_count};

@@ -4,8 +4,8 @@ ghost use Rattle.jh_check.specs.Cells.{cells_of};
 ghost use Rattle.jh_check.specs.Sites.{spot_of};
 ghost use Rattle.jh_check.specs.Lists.{capped};
 ghost use Rattle.jh_check.specs.Spans.{joins};
-ghost use Rattle.jh_check.specs.Reaches.{IsOwn, AreOf, AreOfEach};
-ghost use Rattle.jh_check.specs.Links.{ArePartners, IsPartner};
+ghost use Rattle.jh_check.specs.Private.Reaches.{IsOwn, AreOf, AreOfEach};
+ghost use Rattle.jh_check.specs.Private.Links.{ArePartners, IsPartner};
 ghost use Rattle.jh_check.specs.Findings.{beside, between, from_cell, in_pairs};
 
 use crate::checking::MAX_FINDINGS;

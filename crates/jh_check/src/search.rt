@@ -4,11 +4,11 @@ ghost use Rattle.jh_check.specs.Cells.{cells_of};
 ghost use Rattle.jh_check.specs.Sites.{spot_of};
 ghost use Rattle.jh_check.specs.Lists.{capped, only_if};
 ghost use Rattle.jh_check.specs.Regions.{pair_breaks, hypervisor_breaks};
-ghost use Rattle.jh_check.specs.Reaches.{HasHits};
-ghost use Rattle.jh_check.specs.Links.{IsPartner};
+ghost use Rattle.jh_check.specs.Private.Reaches.{HasHits};
+ghost use Rattle.jh_check.specs.Private.Links.{IsPartner};
 ghost use Rattle.jh_check.specs.Devices.{agrees_with_all};
-ghost use Rattle.jh_check.specs.Bus.{HasPlaces};
-ghost use Rattle.jh_check.specs.Seats.{HasSeats, AreByPlace};
+ghost use Rattle.jh_check.specs.Private.Bus.{HasPlaces};
+ghost use Rattle.jh_check.specs.Private.Seats.{HasSeats, AreByPlace};
 ghost use Rattle.jh_check.specs.Findings.{item_of, finding_of, beside, in_cell, in_regions, in_hypervisor, in_devices_of, in_devices, in_cpus};
 
 use crate::bus::{is_marked, mark, marks};

@@ -3,7 +3,7 @@ ghost use Rattle.std.specs.Prelude.{◌≡◌, ◌≤◌, length, OnOk, IfOk, Co
 ghost use Rattle.jh_cellcfg.specs.declared.config.PciDevice.{PciDevice};
 ghost use Rattle.jh_check.specs.Cells.{cells_of};
 ghost use Rattle.jh_check.specs.declared.seats.Seat.{Seat};
-ghost use Rattle.jh_check.specs.Seats.{HasSeatsOf, HasSeats, AreByPlace};
+ghost use Rattle.jh_check.specs.Private.Seats.{HasSeatsOf, HasSeats, AreByPlace};
 
 use crate::setup::Setup;
 use jh_cellcfg::PciDevice;

@@ -1,5 +1,5 @@
 -- What accesses by root reach, by what it is granted.
-use Rattle.std.proofs.Common.{◌≡◌, ℕ, ◌+◌, ◌-◌, ◌<◌, ◌≤◌, get_or, Bool, true, cond, Option, Some, None, refl, sym, ap, subst, ◌∙◌, arith}
+use Rattle.std.proofs.Common.{◌≡◌, ℕ, ◌+◌, ◌-◌, ◌<◌, ◌≤◌, get_or, Bool, true, cond, Option, Some, None, refl, sym, ap, ◌∙◌, arith}
 use Rattle.std.specs.Prelude.{find, option_map}
 use Rattle.std.proofs.lemmas.Option.{none-some, same_Some}
 use Rattle.jh_num.specs.declared.address.TheConstants.{ADDRESS_END}
@@ -14,7 +14,7 @@ use Rattle.jh_history.specs.declared.access.Access.TheVariants.{Read, Write, Fet
 use Rattle.jh_history.specs.Access.{gives, right_of, region_of, place_in_cell, place_of}
 use Rattle.jh_history.specs.Grants.{granted}
 use Rattle.jh_history.specs.Admitted.{IsAdmitted}
-use Rattle.jh_laws.specs.Grants.{may, IsGranted, AreGranted}
+use Rattle.jh_laws.specs.Grants.{may, IsGranted}
 use Rattle.jh_laws.proofs.RootLemmas.{regions, has_address-first, has_address-last, has_address-from, gives-address, gives-pages, gives-right, gives-from, root_region, only_one}
 
 -- the right that an access needs
@@ -72,10 +72,3 @@ granted-same image access at place admitted granted =
     let identity : r.phys_start ≡ r.virt_start = own.identity in
     let same : r.phys_start + (at - r.virt_start) ≡ at = omega arith in
     granted.given ∙ ap (λ (b : Bool). cond b (Page image.system.root.id (at - r.virt_start)) (Physical (r.phys_start + (at - r.virt_start)))) own.memory ∙ ap Physical same
-
--- so the bytes of a granted access are granted the addresses themselves
-pub granted_at : (image : Image) (access : Access) (at width : ℕ) → IsAdmitted image → AreGranted image.system.root access at width → (k : ℕ) → k < width → IsGranted image.system.root access (at + k) (Physical (at + k))
-granted_at image access at width admitted granted k lt =
-    let found = granted k lt in
-    let P : Place → Type 0 = IsGranted image.system.root access (at + k) in
-    subst P (granted-same image access (at + k) found.0 admitted found.1) found.1

@@ -14,7 +14,7 @@ use Rattle.jh_cellcfg.specs.declared.region.Region.{Region}
 use Rattle.jh_cellcfg.specs.Regions.{has_address, has_place, is_comm, place_in, byte_in, virt_end, phys_end, IsInRange}
 use Rattle.jh_map.specs.declared.run.Run.{Run}
 use Rattle.jh_map.specs.Maps.{is_granted, leads_to, IsIn, IsRunOf, IsRunIn, IsTold, EndsBefore, IsMap}
-use Rattle.jh_map.specs.Places.{AreFree, run_to}
+use Rattle.jh_map.specs.Private.Places.{AreFree, run_to}
 use Rattle.jh_map.proofs.MapLemmas.{has_low, has_high, has_from, granted_has, alone}
 
 -- an empty region grants nothing

@@ -11,7 +11,7 @@ use Rattle.jh_board.specs.BoardView.{BoardView}
 use Rattle.jh_run.specs.declared.ended.Ended.{Ended}
 use Rattle.jh_run.specs.declared.ended.Ended.TheVariants.{Quiet, Full}
 use Rattle.jh_run.specs.Ends.{is_full}
-use Rattle.jh_run.specs.Ran.{Ran}
+use Rattle.jh_run.specs.Private.Ran.{Ran}
 use Rattle.jh_run.specs.Plays.{IsBoardOf, Follows, Plays, IsFullAtItem, IsFullAtCpu}
 
 -- the laws on items, as they are stated

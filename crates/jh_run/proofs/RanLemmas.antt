@@ -12,7 +12,7 @@ use Rattle.jh_board.specs.Turns.{Turns, Refuses}
 use Rattle.jh_board.specs.declared.turn.Turn.{Turn}
 use Rattle.jh_board.specs.declared.turn.Turn.TheVariants.{Made, Edited, NotNow, Done}
 use Rattle.jh_board.specs.declared.turn.TurnFault.TheVariants.{Full}
-use Rattle.jh_run.specs.Ran.{Ran, IsSameBut}
+use Rattle.jh_run.specs.Private.Ran.{Ran, IsSameBut}
 use Rattle.jh_run.proofs.RunLemmas.{run-append, cut-behind, cut-before, run-quiet}
 
 entries_of : (old new : BoardView) → new ≡ old → new.entries ≡ old.entries

@@ -5,7 +5,7 @@ ghost use Rattle.jh_history.specs.Items.{rounds, cpus_of};
 ghost use Rattle.jh_history.specs.Lives.{is_on_board};
 ghost use Rattle.jh_history.specs.Admitted.{IsAdmitted};
 ghost use Rattle.jh_run.specs.Plays.{Follows, Plays, IsFullAtItem, IsFullAtCpu};
-ghost use Rattle.jh_run.specs.Ran.{Ran};
+ghost use Rattle.jh_run.specs.Private.Ran.{Ran};
 
 use crate::ended::{Ended, how_ended};
 use jh_board::{Board, TurnFault};

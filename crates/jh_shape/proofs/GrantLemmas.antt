@@ -9,12 +9,12 @@ use Rattle.std.proofs.lemmas.List.{get_or_default}
 use Rattle.std.proofs.lemmas.List.Elements.{All-contains, All-contains_itself}
 use Rattle.std.proofs.lemmas.List.Folds.{list_any_at, Any-from_list_any}
 use Rattle.jh_cellcfg.specs.declared.region.Region.{Region}
-use Rattle.jh_cellcfg.specs.Regions.{virt_end, phys_end, has_address, has_place, place_in, is_comm, is_page_mapped, is_unshared, is_loadable, is_device, may_have_blocks, rights_of}
+use Rattle.jh_cellcfg.specs.Regions.{virt_end, phys_end, has_address, has_place, place_in, is_comm, is_page_mapped, is_unshared, is_loadable, is_device, rights_of}
 use Rattle.jh_shape.specs.declared.want.Want.{Want}
 use Rattle.jh_shape.specs.declared.want.Want.TheVariants.{Nothing, Leaf}
 use Rattle.jh_shape.specs.Claims.{Claims, Holder}
 use Rattle.jh_shape.specs.Intervals.{touches, spans}
-use Rattle.jh_shape.specs.Shapes.{slot_size, is_mapped, meets_in_part, are_cut, takes, is_closed, may_be_block, is_leaf_by, leaf_region, is_met, is_met_by, is_kept_from, leaf_of, out_of}
+use Rattle.jh_shape.specs.Shapes.{slot_size, is_mapped, meets_in_part, are_cut, takes, is_closed, fits_blocks, may_be_block, is_leaf_by, leaf_region, is_met, is_met_by, is_kept_from, leaf_of, out_of}
 use Rattle.jh_shape.specs.Suits.{AreDisjoint, IsFit, IsWhole, IsSound, IsSlot}
 use Rattle.jh_num.specs.declared.rights.Rights.{Rights}
 use Rattle.jh_shape.specs.Grants.{place_at, IsGranted, TellsGrants}
@@ -112,12 +112,8 @@ has_later claims level start k region h l =
 block_uncut : (claims : Claims) (level start : ℕ) (region : Region) → may_be_block claims level start region ≡ true → claims.root ≡ true → are_cut claims.holders (place_in region start) (slot_size level) ≡ false
 block_uncut claims level start region e root =
     let cut = are_cut claims.holders (place_in region start) (slot_size level) in
-    let aligned = (region.phys_start % slot_size level) == (region.virt_start % slot_size level) in
-    let a = and_parts (nat_lt 0 level) (may_have_blocks region && (not (is_comm region) && (aligned && not (claims.root && cut)))) e in
-    let b = and_parts (may_have_blocks region) (not (is_comm region) && (aligned && not (claims.root && cut))) a.1 in
-    let c = and_parts (not (is_comm region)) (aligned && not (claims.root && cut)) b.1 in
-    let d = and_parts aligned (not (claims.root && cut)) c.1 in
-    let none : (claims.root && cut) ≡ false = not-true (claims.root && cut) d.1 in
+    let parts = and_parts (fits_blocks level region) (not (claims.root && cut)) e in
+    let none : (claims.root && cut) ≡ false = not-true (claims.root && cut) parts.1 in
     sym (ap (λ v. v && cut) root) ∙ none
 
 uncut : (claims : Claims) (level start : ℕ) (region : Region) → IsSlot level start → is_leaf_by claims level start region ≡ true → LeafBy claims level start region → (IsTrue claims.root → IsWhole claims region) → claims.root ≡ true → is_comm region ≡ false → are_cut claims.holders (place_in region start) (slot_size level) ≡ false

@@ -14,7 +14,7 @@ use Rattle.jh_shape.specs.Claims.{Claims, Holder}
 use Rattle.jh_shape.specs.Intervals.{touches, spans}
 use Rattle.jh_shape.specs.Laws.{IsMet, IsCut, IsBlock, Serves, IsServed, IsTaken, is_to_table, tables_by}
 use Rattle.jh_shape.specs.Pages.{count_below, tables_at, tables_of}
-use Rattle.jh_shape.specs.Shapes.{holder_of_live, slot_size, is_mapped, meets_in_part, are_cut, takes, is_closed, may_be_block, is_leaf_by, is_leaf, is_met, is_met_by, is_table, leaf_region, is_kept_from, want_from, want_of}
+use Rattle.jh_shape.specs.Shapes.{holder_of_live, slot_size, is_mapped, meets_in_part, are_cut, takes, is_closed, is_aligned_alike, fits_blocks, may_be_block, is_leaf_by, is_leaf, is_met, is_met_by, is_table, leaf_region, is_kept_from, want_from, want_of}
 
 -- a slot has an address
 pub size_some : (level : ℕ) → 0 < slot_size level
@@ -143,40 +143,34 @@ cut_back holders place size h =
     (not_from_false (spans first end place size) open_end))))
 
 -- a block may map the slot
-abbrev free : Claims → ℕ → ℕ → Region → Bool
-free claims level start region = not (claims.root && are_cut claims.holders (place_in region start) (slot_size level))
-
-abbrev aligned : ℕ → Region → Bool
-aligned level region = (region.phys_start % slot_size level) == (region.virt_start % slot_size level)
-
 pub block_there : (claims : Claims) (level start : ℕ) (region : Region) → may_be_block claims level start region ≡ true → IsBlock claims level start region
 block_there claims level start region h =
-    let f = free claims level start region in
-    let g = aligned level region in
-    let a = and_parts (nat_lt 0 level) (may_have_blocks region && (not (is_comm region) && (g && f))) h in
-    let b = and_parts (may_have_blocks region) (not (is_comm region) && (g && f)) a.1 in
-    let c = and_parts (not (is_comm region)) (g && f) b.1 in
-    let d = and_parts g f c.1 in
+    let aligned = is_aligned_alike level region in
     let cut = are_cut claims.holders (place_in region start) (slot_size level) in
+    let a = and_parts (fits_blocks level region) (not (claims.root && cut)) h in
+    let b = and_parts (nat_lt 0 level) (may_have_blocks region && (not (is_comm region) && aligned)) a.0 in
+    let c = and_parts (may_have_blocks region) (not (is_comm region) && aligned) b.1 in
+    let d = and_parts (not (is_comm region)) aligned c.1 in
     record {
-      below = ltb-true 0 level a.0;
-      huge = b.0;
-      memory = not-true (is_comm region) c.0;
-      aligned = eqb-true (region.phys_start % slot_size level) (region.virt_start % slot_size level) d.0;
-      whole = λ root is_cut. both_ways (claims.root && cut) (not-true (claims.root && cut) d.1) (and_from claims.root cut root (cut_back claims.holders (place_in region start) (slot_size level) is_cut));
+      below = ltb-true 0 level b.0;
+      huge = c.0;
+      memory = not-true (is_comm region) d.0;
+      aligned = eqb-true (region.phys_start % slot_size level) (region.virt_start % slot_size level) d.1;
+      whole = λ root is_cut. both_ways (claims.root && cut) (not-true (claims.root && cut) a.1) (and_from claims.root cut root (cut_back claims.holders (place_in region start) (slot_size level) is_cut));
     }
 
 pub block_back : (claims : Claims) (level start : ℕ) (region : Region) → IsBlock claims level start region → may_be_block claims level start region ≡ true
 block_back claims level start region h =
-    let f = free claims level start region in
-    let g = aligned level region in
+    let aligned = is_aligned_alike level region in
     let cut = are_cut claims.holders (place_in region start) (slot_size level) in
     let uncut : (claims.root && cut) ≡ false =
     false_from_ne_true (claims.root && cut) (λ yes. let p = and_parts claims.root cut yes in h.whole p.0 (cut_there claims.holders (place_in region start) (slot_size level) (size_some level) p.1)) in
-    and_from (nat_lt 0 level) (may_have_blocks region && (not (is_comm region) && (g && f))) (lt-ltb 0 level h.below)
-    (and_from (may_have_blocks region) (not (is_comm region) && (g && f)) h.huge
-    (and_from (not (is_comm region)) (g && f) (not_from_false (is_comm region) h.memory)
-    (and_from g f (eq-eqb (region.phys_start % slot_size level) (region.virt_start % slot_size level) h.aligned) (not_from_false (claims.root && cut) uncut))))
+    and_from (fits_blocks level region) (not (claims.root && cut))
+    (and_from (nat_lt 0 level) (may_have_blocks region && (not (is_comm region) && aligned)) (lt-ltb 0 level h.below)
+    (and_from (may_have_blocks region) (not (is_comm region) && aligned) h.huge
+    (and_from (not (is_comm region)) aligned (not_from_false (is_comm region) h.memory)
+    (eq-eqb (region.phys_start % slot_size level) (region.virt_start % slot_size level) h.aligned))))
+    (not_from_false (claims.root && cut) uncut)
 
 -- one descriptor serves the slot
 pub leaf_by_there : (claims : Claims) (level start : ℕ) (region : Region) → Contains claims.regions region → is_leaf_by claims level start region ≡ true → Serves claims level start region

@@ -1,5 +1,5 @@
 -- Holders that cut more leave fewer leaves and more tables.
-use Rattle.std.proofs.Common.{◌≡◌, ℕ, ◌+◌, ◌-◌, ◌*◌, ◌/◌, ◌≤◌, ◌==◌, ◌%◌, zero, suc, Bool, true, false, not, ◌&&◌, ◌||◌, cond, nat_lt, List, [], ◌∷◌, ◌++◌, map, ⊎_elim, refl, sym, ap, subst, ◌∙◌, arith}
+use Rattle.std.proofs.Common.{◌≡◌, ℕ, ◌+◌, ◌-◌, ◌*◌, ◌/◌, ◌≤◌, ◌==◌, zero, suc, Bool, true, false, not, ◌&&◌, ◌||◌, cond, List, [], ◌∷◌, ◌++◌, map, ⊎_elim, refl, sym, ap, subst, ◌∙◌, arith}
 use Rattle.std.specs.List.{list_any, sum_by}
 use Rattle.std.proofs.lemmas.Bool.{and_parts, and_from, or_cases, or_left, or_right, cases_Bool, both_ways, false_from_ne_true, not-true, not_from_false}
 use Rattle.std.proofs.lemmas.List.{map-append, append-nil}
@@ -7,12 +7,12 @@ use Rattle.std.proofs.lemmas.List.Sums.{sum_by-append}
 use Rattle.jh_num.specs.declared.address.TheConstants.{ADDRESS_END}
 use Rattle.jh_cellcfg.specs.declared.config.CellConfig.{CellConfig}
 use Rattle.jh_cellcfg.specs.declared.region.Region.{Region}
-use Rattle.jh_cellcfg.specs.Regions.{virt_end, is_comm, may_have_blocks, place_in}
+use Rattle.jh_cellcfg.specs.Regions.{virt_end, place_in}
 use Rattle.jh_shape.specs.declared.target.Target.{Target}
 use Rattle.jh_shape.specs.declared.level.TheConstants.{FIRST_LEVEL, LAST_LEVEL}
 use Rattle.jh_shape.specs.Claims.{Claims, Holder, has_bit, held_from, one_more, claims_of}
 use Rattle.jh_shape.specs.Intervals.{spans}
-use Rattle.jh_shape.specs.Shapes.{slot_size, is_mapped, meets_in_part, are_cut, may_be_block, is_leaf_by, is_leaf, is_met, is_met_by, is_table}
+use Rattle.jh_shape.specs.Shapes.{slot_size, is_mapped, meets_in_part, are_cut, fits_blocks, may_be_block, is_leaf_by, is_leaf, is_met, is_met_by, is_table}
 use Rattle.jh_shape.specs.Pages.{count_below, tables_at, tables_from, tables_of, holder_of, root_claims, cell_claims, pages_of}
 use Rattle.jh_num.proofs.Booleans.{same_test}
 use Rattle.jh_num.proofs.Lists.{list_any-weaker, list_any-fewer}
@@ -39,17 +39,9 @@ block_fewer few many h level start region e =
     let place = place_in region start in
     let size = slot_size level in
     let free : Claims → Bool = λ c. not (c.root && are_cut c.holders place size) in
-    let aligned = (region.phys_start % size) == (region.virt_start % size) in
-    let plain = not (is_comm region) in
-    let blocks = may_have_blocks region in
-    let a = and_parts (nat_lt 0 level) (blocks && (plain && (aligned && free many))) e in
-    let b = and_parts blocks (plain && (aligned && free many)) a.1 in
-    let c = and_parts plain (aligned && free many) b.1 in
-    let d = and_parts aligned (free many) c.1 in
-    let kept : free few ≡ true = not_both few.root many.root (are_cut few.holders place size) (are_cut many.holders place size) h.root (h.cut place size) d.1 in
-    and_from (nat_lt 0 level) (blocks && (plain && (aligned && free few))) a.0
-    (and_from blocks (plain && (aligned && free few)) b.0
-    (and_from plain (aligned && free few) c.0 (and_from aligned (free few) d.0 kept)))
+    let parts = and_parts (fits_blocks level region) (free many) e in
+    let kept : free few ≡ true = not_both few.root many.root (are_cut few.holders place size) (are_cut many.holders place size) h.root (h.cut place size) parts.1 in
+    and_from (fits_blocks level region) (free few) parts.0 kept
 
 pub leaf_fewer : (few many : Claims) → CutsMore few many → (level start : ℕ) (region : Region) → is_leaf_by many level start region ≡ true → is_leaf_by few level start region ≡ true
 leaf_fewer few many h level start region e =

@@ -1,13 +1,13 @@
 -- Slots that are alike.
-use Rattle.std.proofs.Common.{◌≡◌, ℕ, ◌+◌, ◌*◌, ◌<◌, ◌≤◌, ◌==◌, ◌%◌, min, Bool, true, not, ◌&&◌, ◌||◌, nat_lt, nat_le, length, get_or, take, ⊎_elim, sym, ap, subst, ◌∙◌, arith}
+use Rattle.std.proofs.Common.{◌≡◌, ℕ, ◌+◌, ◌*◌, ◌<◌, ◌≤◌, ◌==◌, min, Bool, true, not, ◌&&◌, ◌||◌, nat_le, length, get_or, take, ⊎_elim, sym, ap, subst, ◌∙◌, arith}
 use Rattle.std.specs.List.{list_any}
 use Rattle.std.proofs.lemmas.Bool.{and_parts, leb-true, cases_Bool}
 use Rattle.std.proofs.lemmas.List.{take_all}
 use Rattle.jh_cellcfg.specs.declared.region.Region.{Region}
-use Rattle.jh_cellcfg.specs.Regions.{virt_end, is_comm, may_have_blocks, place_in}
+use Rattle.jh_cellcfg.specs.Regions.{virt_end, place_in}
 use Rattle.jh_shape.specs.Claims.{Claims}
 use Rattle.jh_shape.specs.Intervals.{touches, spans}
-use Rattle.jh_shape.specs.Shapes.{slot_size, is_mapped, are_cut, may_be_block, is_leaf_by, is_leaf, is_met, is_met_by, is_table}
+use Rattle.jh_shape.specs.Shapes.{slot_size, is_mapped, are_cut, fits_blocks, may_be_block, is_leaf_by, is_leaf, is_met, is_met_by, is_table}
 use Rattle.jh_num.proofs.Lists.{list_any-agree_more}
 
 -- a region meets two slots alike
@@ -19,7 +19,7 @@ same_met level a b region start end es ee t =
 -- blocks may map two slots alike
 same_block : (claims : Claims) (level a b : ℕ) (region : Region) → (claims.root ≡ true → are_cut claims.holders (place_in region a) (slot_size level) ≡ are_cut claims.holders (place_in region b) (slot_size level)) → may_be_block claims level a region ≡ may_be_block claims level b region
 same_block claims level a b region cut =
-    let front : Bool → Bool = λ v. nat_lt 0 level && (may_have_blocks region && (not (is_comm region) && (((region.phys_start % slot_size level) == (region.virt_start % slot_size level)) && not v))) in
+    let front : Bool → Bool = λ v. fits_blocks level region && not v in
     let ca = are_cut claims.holders (place_in region a) (slot_size level) in
     let cb = are_cut claims.holders (place_in region b) (slot_size level) in
     ⊎_elim

@@ -11,7 +11,7 @@ use Rattle.jh_history.specs.declared.entry.Settled.{Settled}
 use Rattle.jh_history.specs.declared.entry.Heard.{Heard}
 use Rattle.jh_text.specs.Ranges.{is_width, IsReadableAct, IsReadable}
 use Rattle.jh_text.specs.Text.{hexadecimal, got_text, ok_text, decision_text, settled_text, heard_text, act_words, entry_text}
-use Rattle.jh_text.specs.Reading.{max_u64, split_once, number_of, hexadecimal_of, answer_of, width_of, got_of, ok_of, decision_of, settled_of, heard_of, read_of, attempt_of, write_of, await_of, fetch_of, irq_of, call_of, decide_of, settle_of, note_of, noted_of, finish_of, named_of, act_of, entry_of}
+use Rattle.jh_text.specs.Private.Reading.{max_u64, split_once, number_of, hexadecimal_of, answer_of, width_of, got_of, ok_of, decision_of, settled_of, heard_of, read_of, attempt_of, write_of, await_of, fetch_of, irq_of, call_of, decide_of, settle_of, note_of, noted_of, finish_of, named_of, act_of, entry_of}
 use Rattle.jh_text.proofs.Numbers.{Lacks-digits}
 use Rattle.jh_text.proofs.Splits.{Lacks, Lacks-cons, split_once-front}
 use Rattle.jh_text.proofs.Spellings.{decimal_again, hexadecimal_again, answer_again, answer_is_not, width_again, width_le, widest, got_again, ok_again, decision_again, settled_again, heard_again}

@@ -16,7 +16,7 @@ use Rattle.jh_text.specs.Ranges.{IsReadableAct, IsReadable}
 use Rattle.jh_text.specs.Text.{hexadecimal, got_text, ok_text, decision_text, settled_text, heard_text, act_words, entry_words, entry_text, line, journal_text}
 use Rattle.jh_text.specs.declared.fault.TheConstants.{MAX_ENTRIES}
 use Rattle.jh_text.specs.Faults.{BeginsWithNoLine, IsTooLong}
-use Rattle.jh_text.specs.Reading.{split_once, entry_of}
+use Rattle.jh_text.specs.Private.Reading.{split_once, entry_of}
 use Rattle.jh_text.proofs.Numbers.{Lacks-digits}
 use Rattle.jh_text.proofs.Splits.{Lacks, Lacks-cons, Lacks-append, split_once-front, split_once_whole}
 use Rattle.jh_text.proofs.Spellings.{width_le, widest}

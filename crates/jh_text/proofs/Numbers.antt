@@ -6,7 +6,7 @@ use Rattle.std.specs.Str.Parse.{AllDigits}
 use Rattle.std.proofs.lemmas.Bool.{lt-ltb, le-leb, ne_eqb}
 use Rattle.std.proofs.lemmas.Fmt.{digits_is_IsNumeral}
 use Rattle.jh_script.specs.Numbers.{are_digits, value_of}
-use Rattle.jh_text.specs.Reading.{number_of}
+use Rattle.jh_text.specs.Private.Reading.{number_of}
 use Rattle.jh_text.proofs.Splits.{Lacks, Lacks-cons}
 
 -- where each byte is a digit, all are

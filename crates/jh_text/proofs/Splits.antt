@@ -7,7 +7,7 @@ use Rattle.std.specs.List.{prefix_len, position_or_len}
 use Rattle.std.proofs.lemmas.Bool.{lt-ltb, ltb-true, eq-eqb, eqb-true}
 use Rattle.std.proofs.lemmas.List.Folds.{prefix_len-append}
 use Rattle.std.proofs.Math.Seq.{take-append_seam, drop-append-add}
-use Rattle.jh_text.specs.Reading.{split_once}
+use Rattle.jh_text.specs.Private.Reading.{split_once}
 
 abbrev differs : ℕ → ℕ → Bool
 differs byte c = not (c == byte)

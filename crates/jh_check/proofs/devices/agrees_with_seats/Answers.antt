@@ -3,7 +3,7 @@ use Rattle.std.proofs.lemmas.Bool.{cases_eq}
 use Rattle.std.proofs.lemmas.List.{get_or_default}
 use Rattle.jh_check.specs.declared.seats.Seat.{Seat}
 use Rattle.jh_check.specs.Cells.{cells_of}
-use Rattle.jh_check.specs.Seats.{AgreesAt}
+use Rattle.jh_check.specs.Private.Seats.{AgreesAt}
 use Rattle.jh_check.proofs.devices.agrees_with_seats.Goals as goal
 
 pub loop-seat-preserved : goal.loop-seat-preserved

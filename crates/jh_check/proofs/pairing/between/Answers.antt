@@ -2,7 +2,7 @@ use Rattle.std.proofs.Common.{◌≡◌, ℕ, ◌<◌, ◌++◌, length, get_or,
 use Rattle.jh_cellcfg.specs.declared.region.Region.{Region}
 use Rattle.jh_check.specs.Lists.{capped}
 use Rattle.jh_cellcfg.specs.declared.config.CellConfig.{CellConfig}
-use Rattle.jh_check.specs.Reaches.{IsOwn}
+use Rattle.jh_check.specs.Private.Reaches.{IsOwn}
 use Rattle.jh_check.specs.Findings.{between, between_at, spot}
 use Rattle.std.proofs.lemmas.List.{get_or_default}
 use Rattle.jh_check.proofs.ListLemmas.{found-step, found-done}

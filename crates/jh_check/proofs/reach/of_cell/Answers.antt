@@ -3,7 +3,7 @@ use Rattle.std.proofs.lemmas.Result.{IfOk-weaker}
 use Rattle.jh_cellcfg.specs.declared.region.Region.{Region}
 use Rattle.jh_check.specs.declared.spans.Span.{Span}
 use Rattle.jh_check.specs.Spans.{is_within}
-use Rattle.jh_check.specs.Reaches.{HasOthers, TellsEach, TellsPairs, TellsOthers}
+use Rattle.jh_check.specs.Private.Reaches.{HasOthers, TellsEach, TellsPairs, TellsOthers}
 use Rattle.jh_check.proofs.ReachLemmas.{others-each, others-pairs}
 use Rattle.jh_check.proofs.reach.of_cell.Goals as goal
 

@@ -1,6 +1,6 @@
 use Rattle.std.proofs.Common.{◌≡◌, ◌<◌, ◌++◌, List, length, take, get_or, refl, sym, subst, arith}
-use Rattle.jh_check.specs.Bus.{HasPlaces}
-use Rattle.jh_check.specs.Seats.{HasSeats, AreByPlace}
+use Rattle.jh_check.specs.Private.Bus.{HasPlaces}
+use Rattle.jh_check.specs.Private.Seats.{HasSeats, AreByPlace}
 use Rattle.std.specs.List.{Contains}
 use Rattle.jh_cellcfg.specs.declared.config.PciDevice.{PciDevice}
 use Rattle.jh_check.specs.Cells.{cells_of}

@@ -1,5 +1,5 @@
 use Rattle.std.proofs.Common.{◌≡◌, ◌++◌, length, take, drop}
-use Rattle.jh_check.specs.Bus.{HasPlaces}
+use Rattle.jh_check.specs.Private.Bus.{HasPlaces}
 use Rattle.jh_check.specs.Cells.{cells_of}
 use Rattle.jh_check.specs.Lists.{found_from, capped}
 use Rattle.jh_check.specs.Findings.{in_devices_at, in_devices}

@@ -5,7 +5,7 @@ use Rattle.std.proofs.lemmas.List.Sorted.{Contains-permutation, IsNonDecreasingB
 use Rattle.jh_cellcfg.specs.declared.config.CellConfig.{CellConfig}
 use Rattle.jh_check.specs.declared.seats.Seat.{Seat}
 use Rattle.jh_check.specs.Cells.{cells_of}
-use Rattle.jh_check.specs.Seats.{seat_of, HasSeatsOf}
+use Rattle.jh_check.specs.Private.Seats.{seat_of, HasSeatsOf}
 use Rattle.jh_check.proofs.seats.seats_of.Goals as goal
 
 pub loop-c-preserved : goal.loop-c-preserved

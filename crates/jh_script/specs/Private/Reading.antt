@@ -1,4 +1,4 @@
--- How the reader makes a number of digits, one after the other. No public clause rests on this file.
+-- How the reader makes a number of digits, one after the other.
 use Rattle.std.specs.Prelude.{◌&&◌, ℕ, ◌+◌, ◌*◌, ◌^◌, nat_lt, if◌then◌else◌, Option, Some, None, List, [], ◌∷◌}
 use Rattle.std.specs.Char.{digit_value, is_digit}
 use Rattle.jh_script.specs.Operations.{◌>>=◌}
