@@ -2,7 +2,8 @@
 ghost use Rattle.std.specs.Prelude.{◌≡◌, ◌<◌, ◌≤◌, ◌↔◌, [], length, Some, IfOk, IsTrue};
 ghost use Rattle.jh_history.specs.Admitted.{IsAdmitted};
 ghost use Rattle.jh_board.specs.Turns.{MakesDue};
-ghost use Rattle.jh_audit.specs.Judges.{Judges, Compares, most_entries};
+ghost use Rattle.jh_text.specs.Faults.{max_entries};
+ghost use Rattle.jh_audit.specs.Judges.{Judges, Compares};
 
 use crate::compared::Compared;
 use crate::verdict::Verdict;
@@ -10,10 +11,11 @@ use jh_board::{Board, TurnFault};
 use jh_history::{Act, Entry, Journal};
 use jh_num::NoMemory;
 use jh_script::Image;
+use jh_text::MAX_ENTRIES;
 use std::alloc::Global;
 
 /// How many entries a journal may have that is audited.
-pub const AUDIT_LIMIT: u32 = 262_144;
+pub const AUDIT_LIMIT: u32 = MAX_ENTRIES as u32;
 
 /// Makes what is due to the entry's CPU, and tells it. A CPU that the board lacks makes nothing.
 fn try_entry(board: &mut Board, entry: &Entry) -> Result<Option<Entry>, NoMemory>
@@ -100,7 +102,7 @@ fn judge_entries(board: &mut Board, entries: &[Entry]) -> Result<Verdict, NoMemo
 /// Judges the journal by the image.
 pub fn audit(alloc: Global, image: Image, journal: &Journal) -> Result<Verdict, NoMemory>
     requires admitted { IsAdmitted image }
-    requires few { length journal.now.entries ≤ most_entries }
+    requires few { length journal.now.entries ≤ max_entries }
     // legal exactly where each entry is the one due; else the first that isn't, and what was due there
     ensures { IfOk result (Judges image journal.now.entries) }
 {

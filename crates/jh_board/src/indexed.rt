@@ -5,7 +5,7 @@ ghost use Rattle.jh_cellcfg.specs.declared.region.Region.{Region as TheRegion};
 ghost use Rattle.jh_cellcfg.specs.Regions.{has_address, IsInRange};
 ghost use Rattle.jh_mmio.specs.Dispatch.{takes_all, unless_closed};
 ghost use Rattle.jh_mmio.specs.Index.{IsRegionAt};
-ghost use Rattle.jh_script.specs.Operations.{IsPlain};
+ghost use Rattle.jh_script.specs.Operations.{IsWellFormed};
 ghost use Rattle.jh_history.specs.Access.{region_of};
 ghost use Rattle.jh_history.specs.Admitted.{IsAdmitted, pool_pages};
 ghost use Rattle.jh_history.specs.Facts.{Facts};
@@ -28,7 +28,7 @@ use std::marker::Model;
 #[derive(Drop)]
 pub struct IndexedImage {
     image: Image,
-    /// Of each CPU the place of root's program among the programs, or their number where it has none.
+    /// Of each CPU the index of root's program among the programs, or their number where it has none.
     programs: [usize; 16],
     /// Root's regions.
     regions: RegionIndex,
@@ -46,8 +46,8 @@ impl Model for IndexedImage {
     ghost invariant = { IsIndexed };
 }
 
-/// The place of the first program of the CPU in the cell of that name, or the number of programs.
-fn place_of_program(programs: &[Program], name: &[u8], cpu: u8) -> usize
+/// The index of the first program of the CPU in the cell of that name, or the number of programs.
+fn index_of_program(programs: &[Program], name: &[u8], cpu: u8) -> usize
     ensures { find (is_program_of name.now cpu) programs.now ≡ slice_get programs.now result }
 {
     for (k, program) in programs.iter().enumerate() {
@@ -58,16 +58,16 @@ fn place_of_program(programs: &[Program], name: &[u8], cpu: u8) -> usize
     programs.len()
 }
 
-/// The place of root's program of each CPU.
+/// The index of root's program of each CPU.
 fn root_programs(image: &Image) -> [usize; 16]
     ensures { AreRootPrograms image.now result }
 {
     let name = image.system.root.name();
-    let mut places = [0; 16];
+    let mut indices = [0; 16];
     for cpu in 0..16u8 {
-        places[cpu as usize] = place_of_program(image.programs.as_slice(), name, cpu);
+        indices[cpu as usize] = index_of_program(image.programs.as_slice(), name, cpu);
     }
-    places
+    indices
 }
 
 /// The region, where it gives the address with the right.
@@ -166,7 +166,7 @@ impl IndexedImage {
     fn root_ops(&self, cpu: u8) -> &[Op]
         requires { cpu < 16 }
         ensures ops { result.now ≡ program_of self.now (name_of self.now.system.root) cpu }
-        ensures plain { All IsPlain result.now }
+        ensures plain { All IsWellFormed result.now }
     {
         match self.image.programs.get(self.programs[cpu as usize]) {
             Some(program) => program.ops.as_slice(),
@@ -178,7 +178,7 @@ impl IndexedImage {
     fn ops<'a>(&'a self, cells: &LiveCells, id: u32, cpu: u8) -> &'a [Op]
         requires { cpu < 16 }
         ensures ops { result.now ≡ ops_in self.now cells.now.lives id cpu }
-        ensures plain { All IsPlain result.now }
+        ensures plain { All IsWellFormed result.now }
     {
         if id == self.image.system.root.id {
             return self.root_ops(cpu);
@@ -193,7 +193,7 @@ impl IndexedImage {
     pub fn operation(&self, cells: &LiveCells, cpu: u8, state: Cpu) -> Option<Op>
         requires { cpu < 16 }
         ensures told { (f : Facts) → f.cells ≡ cells.now.lives → result ≡ op_at self.now f state cpu }
-        ensures plain { IfSome result IsPlain }
+        ensures plain { IfSome result IsWellFormed }
     {
         self.ops(cells, state.owner, cpu)
             .get(state.position as usize)

@@ -10,8 +10,8 @@ use Rattle.jh_cellcfg.specs.declared.config.Irqchip.{Irqchip}
 use Rattle.jh_cellcfg.specs.declared.config.PciDevice.{PciDevice}
 use Rattle.jh_cellcfg.specs.declared.fault.ConfigFault.{ConfigFault}
 use Rattle.jh_cellcfg.specs.declared.fault.ConfigFault.TheVariants.{Short, Name, Count, Trailing}
-use Rattle.jh_cellcfg.specs.declared.fault.Which.{Which}
-use Rattle.jh_cellcfg.specs.declared.fault.Which.TheVariants.{CpuSet, MemoryRegions, CacheRegions, Irqchips, PioRegions, PciDevices, PciCaps, StreamIds, Total}
+use Rattle.jh_cellcfg.specs.declared.fault.Part.{Part}
+use Rattle.jh_cellcfg.specs.declared.fault.Part.TheVariants.{CpuSet, MemoryRegions, CacheRegions, Irqchips, PioRegions, PciDevices, PciCaps, StreamIds, Total}
 use Rattle.jh_cellcfg.specs.declared.header.Counts.{Counts}
 use Rattle.jh_cellcfg.specs.declared.header.Header.{Header}
 use Rattle.jh_cellcfg.specs.Faults.{fault_if, first_of, over, count_fault, limits_fault, length_fault, counts_at, start_fault, body_fault, header_fault, header_size, first_fault, refusal, Gives}
@@ -78,8 +78,8 @@ first_none {os = os} here rest = record { none = subst (λ (o : Option ConfigFau
 passes : (test : Bool) (fault : ConfigFault) → test ≡ false → fault_if test fault ≡ None
 passes test fault is = ap (λ (b : Bool). fault_if b fault) is
 
-fits_in : (which : Which) (most found : ℕ) → found ≤ most → over which most found ≡ None
-fits_in which most found le = passes (nat_lt most found) (Count which found) (le-ltb _ _ le)
+fits_in : (part : Part) (most found : ℕ) → found ≤ most → over part most found ≡ None
+fits_in part most found le = passes (nat_lt most found) (Count part found) (le-ltb _ _ le)
 
 some_is_not_zero : (n : ℕ) → 1 ≤ n → (n == 0) ≡ false
 some_is_not_zero n le = ne_eqb n 0 (λ e. omega arith)

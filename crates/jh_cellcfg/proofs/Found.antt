@@ -10,7 +10,7 @@ use Rattle.std.proofs.lemmas.Nat.{le_bytes_2}
 use Rattle.jh_cellcfg.specs.declared.config.CellConfig.{CellConfig}
 use Rattle.jh_cellcfg.specs.declared.fault.ConfigFault.{ConfigFault}
 use Rattle.jh_cellcfg.specs.declared.fault.ConfigFault.TheVariants.{Short, Signature, Revision, Name, Count, Trailing}
-use Rattle.jh_cellcfg.specs.declared.fault.Which.TheVariants.{CpuSet, MemoryRegions, CacheRegions, Irqchips, PioRegions, PciDevices, PciCaps, StreamIds, Total}
+use Rattle.jh_cellcfg.specs.declared.fault.Part.TheVariants.{CpuSet, MemoryRegions, CacheRegions, Irqchips, PioRegions, PciDevices, PciCaps, StreamIds, Total}
 use Rattle.jh_cellcfg.specs.declared.header.Counts.{Counts}
 use Rattle.jh_cellcfg.specs.declared.header.Header.{Header}
 use Rattle.jh_cellcfg.specs.Spelling.{u16_bytes, counts_of, header_of, header_bytes, parts_bytes, body_bytes, spelling}

@@ -17,7 +17,7 @@ mod write;
 mod writer;
 
 pub use config::{CellConfig, Console, Irqchip, PciDevice, SystemConfig};
-pub use fault::{ConfigFault, Which};
+pub use fault::{ConfigFault, Part};
 pub use flags::{CellFlags, RegionFlags};
 pub use header::{Counts, Header};
 pub use laws::{

@@ -11,7 +11,7 @@ use Rattle.jh_cellcfg.specs.declared.config.PciDevice.{PciDevice}
 use Rattle.jh_cellcfg.specs.declared.config.CellConfig.{CellConfig}
 use Rattle.jh_cellcfg.specs.declared.config.SystemConfig.{SystemConfig}
 use Rattle.jh_cellcfg.specs.Regions.{has_flags, virt_end, is_page_mapped, is_comm, is_loadable}
-use Rattle.jh_check.specs.Devices.{is_shmem, are_linked, section_count, sections_of, has_good_peers, has_good_bars, bars_of, has_all_sections, is_good_table, has_good_table, is_plain, are_read_only, are_alike, follows, are_in_a_row, is_twice, is_same_memory, are_same_memory, agrees_with, agrees_with_all, has_good_sections, is_good_shmem, device_breaks, is_zero, cpus_break}
+use Rattle.jh_check.specs.Devices.{is_shmem, are_linked, section_count, sections_of, has_good_peers, has_good_bars, bars_of, has_all_sections, is_good_table, has_good_table, is_section_region, are_read_only, are_alike, follows, are_in_a_row, is_twice, is_same_memory, are_same_memory, agrees_with, agrees_with_all, has_good_sections, is_good_shmem, device_breaks, is_zero, cpus_break}
 use Rattle.jh_check.specs.Broken.{StandsAmong}
 use Rattle.jh_check.specs.Clean.{IsDevice, IsShmem, AreLinked, IsSection, IsStateTable, IsSectionRegion, IsGoodDevice, DevicesAreGood, DevicesAreSingle, AgreesWith, LinksAgree, IsSoundBitmap, CpusAreFew}
 use Rattle.jh_check.proofs.BoolLemmas.{false-from_not, not-both}
@@ -130,14 +130,14 @@ table-whole x h =
 
 -- ---- each section
 
-plain-parts : (x : Region) → is_plain x ≡ true → IsSectionRegion x
+plain-parts : (x : Region) → is_section_region x ≡ true → IsSectionRegion x
 plain-parts x t =
     let last = not (is_loadable x) && is_page_mapped x in
     let p = and_parts (not (is_comm x)) last t in
     let q = and_parts (not (is_loadable x)) (is_page_mapped x) p.1 in
     record { no_comm = not-true (is_comm x) p.0; no_loadable = not-true (is_loadable x) q.0; pages = q.1 }
 
-plain-whole : (x : Region) → IsSectionRegion x → is_plain x ≡ true
+plain-whole : (x : Region) → IsSectionRegion x → is_section_region x ≡ true
 plain-whole x h =
     and_from (not (is_comm x)) (not (is_loadable x) && is_page_mapped x) (not_from_false (is_comm x) h.no_comm) (
     and_from (not (is_loadable x)) (is_page_mapped x) (not_from_false (is_loadable x) h.no_loadable) h.pages)
@@ -316,8 +316,8 @@ sound-from cell d peers bars all sound =
     let u = and_parts (nat_le d.num_msix_vectors 16) (pointwise nat_eq d.bar_mask (bars_of d)) bars in
     let last = are_alike (drop 2 xs) && are_in_a_row xs in
     let third = are_read_only d.shmem_dev_id 0 (drop 2 xs) && last in
-    let v = and_parts (has_good_table xs) (list_all is_plain xs && third) sound in
-    let w = and_parts (list_all is_plain xs) third v.1 in
+    let v = and_parts (has_good_table xs) (list_all is_section_region xs && third) sound in
+    let w = and_parts (list_all is_section_region xs) third v.1 in
     let y = and_parts (are_read_only d.shmem_dev_id 0 (drop 2 xs)) last w.1 in
     let z = and_parts (are_alike (drop 2 xs)) (are_in_a_row xs) y.1 in
     record {
@@ -328,7 +328,7 @@ sound-from cell d peers bars all sound =
       bars = same-numbers d.bar_mask (bars_of d) u.1;
       exist = leb-true (d.shmem_regions_start + section_count d) (length cell.memory_regions) all;
       table = λ x h. table-parts x (table-at xs x v.0 (section-in cell d 0 x h));
-      plain = λ k x h. plain-parts x (all-at is_plain xs w.0 k x (section-in cell d k x h));
+      plain = λ k x h. plain-parts x (all-at is_section_region xs w.0 k x (section-in cell d k x h));
       read_only = λ k x n h. read_only-at d.shmem_dev_id 0 (drop 2 xs) y.0 k x (output-in cell d k x h) (λ e. n (let f : k ≡ 0 + k = omega arith in f ∙ e));
       alike = λ i j x x' h h'. alike-at (drop 2 xs) z.0 i j x x' (output-in cell d i x h) (output-in cell d j x' h');
       row = λ j k x x' l h h' some some' between. row-at xs z.1 j k x x' l (section-in cell d j x h) (section-in cell d k x' h') some some' (λ i t m n g. between i t m n (in-section cell d i t g));
@@ -351,12 +351,12 @@ sound-sections cell d g =
     let last = are_alike (drop 2 xs) && are_in_a_row xs in
     let third = are_read_only d.shmem_dev_id 0 (drop 2 xs) && last in
     let table = table-from xs first.0 (section-in cell d 0 first.0 first.1) (table-whole first.0 (g.table first.0 first.1)) in
-    let plain = all-from is_plain xs (λ k x h. plain-whole x (g.plain k x (in-section cell d k x h))) in
+    let plain = all-from is_section_region xs (λ k x h. plain-whole x (g.plain k x (in-section cell d k x h))) in
     let read_only = read_only-from d.shmem_dev_id 0 (drop 2 xs) (λ k x h n. g.read_only k x (λ e. n (let f : 0 + k ≡ k = omega arith in f ∙ e)) (in-output cell d k x h)) in
     let alike = alike-from (drop 2 xs) (λ i j x y h k. g.alike i j x y (in-output cell d i x h) (in-output cell d j y k)) in
     let row = row-from xs (λ j k x y l h h' some some' between. g.row j k x y l (in-section cell d j x h) (in-section cell d k y h') some some' (λ i z m n u. between i z m n (section-in cell d i z u))) in
-    and_from (has_good_table xs) (list_all is_plain xs && third) table (
-    and_from (list_all is_plain xs) third plain (
+    and_from (has_good_table xs) (list_all is_section_region xs && third) table (
+    and_from (list_all is_section_region xs) third plain (
     and_from (are_read_only d.shmem_dev_id 0 (drop 2 xs)) last read_only (
     and_from (are_alike (drop 2 xs)) (are_in_a_row xs) alike row)))
 

@@ -1,5 +1,5 @@
 -- What breaks a rule, in the rule's own words, and the finding that tells it: by the numbers of what breaks it.
-use Rattle.std.specs.Prelude.{◌≡◌, ◌≢◌, ℕ, ◌*◌, ◌%◌, ◌^◌, ◌<◌, true, false, List, ◌∷◌, Some, slice_get, ◌⊎◌}
+use Rattle.std.specs.Prelude.{◌≡◌, ◌≢◌, ℕ, ◌%◌, ◌<◌, true, false, List, ◌∷◌, Some, slice_get, ◌⊎◌}
 use Rattle.jh_num.specs.declared.address.TheConstants.{ADDRESS_END, PAGE_SIZE}
 use Rattle.jh_cellcfg.specs.declared.region.Region.{Region}
 use Rattle.jh_cellcfg.specs.declared.config.PciDevice.{PciDevice}
@@ -9,7 +9,7 @@ use Rattle.jh_cellcfg.specs.Regions.{has_flags, has_address, has_place, virt_end
 use Rattle.jh_check.specs.declared.finding.Finding.{Finding}
 use Rattle.jh_check.specs.declared.rule.Rule.{Rule}
 use Rattle.jh_check.specs.declared.rule.Rule.TheVariants.{VirtOverlap, PhysOverlap, Hypervisor, OutOfRange, RootNotIdentity, CommInRoot, CommShape, ExecuteWithoutRead, SubpageTaken, CellsOverlap, Shmem, NoCpu, PhysAlign}
-use Rattle.jh_check.specs.Regions.{both_shared}
+use Rattle.jh_check.specs.Regions.{both_shared, most_memory}
 use Rattle.jh_check.specs.Findings.{finding_of}
 use Rattle.jh_check.specs.Laws.{IsItem}
 use Rattle.jh_check.specs.Clean.{IsDevice, IsShmem, AreLinked, IsGoodDevice, AgreesWith, IsSameSection, IsSoundBitmap}
@@ -71,11 +71,11 @@ BreaksAlone _ h at = ⊥
 
 -- the hypervisor's memory breaks a rule
 abbrev pub BreaksMemory : Rule → Region → Type 0
-BreaksMemory OutOfRange h = (h.size ≡ 0) ⊎ ((64 * 2 ^ 20 < h.size) ⊎ (ADDRESS_END < phys_end h))
+BreaksMemory OutOfRange h = (h.size ≡ 0) ⊎ ((most_memory < h.size) ⊎ (ADDRESS_END < phys_end h))
 BreaksMemory PhysAlign h = (0 < h.size) × ((h.phys_start % PAGE_SIZE ≢ 0) ⊎ (h.size % PAGE_SIZE ≢ 0))
 BreaksMemory _ h = ⊥
 
--- what is asked of an ivshmem device beside others: no earlier one of its cell has its place on the bus, and it
+-- what is asked of an ivshmem device beside others: no earlier one of its cell has its bdf, and it
 -- agrees with each that it is linked with in a cell before its own
 pub record StandsAmong (all : List CellConfig) (a : ℕ) (cell : CellConfig) (n : ℕ) (device : PciDevice) : Type 0 where
   pub single : (m : ℕ) (other : PciDevice) → m < n → IsDevice cell m other → AreLinked other device → ⊥

@@ -7,8 +7,8 @@ ghost use Rattle.jh_check.specs.Regions.{pair_breaks, hypervisor_breaks};
 ghost use Rattle.jh_check.specs.Private.Reaches.{HasHits};
 ghost use Rattle.jh_check.specs.Private.Links.{IsPartner};
 ghost use Rattle.jh_check.specs.Devices.{agrees_with_all};
-ghost use Rattle.jh_check.specs.Private.Bus.{HasPlaces};
-ghost use Rattle.jh_check.specs.Private.Seats.{HasSeats, AreByPlace};
+ghost use Rattle.jh_check.specs.Private.Bus.{HasBdfs};
+ghost use Rattle.jh_check.specs.Private.Seats.{HasSeats, AreByBdf};
 ghost use Rattle.jh_check.specs.Findings.{item_of, finding_of, beside, in_cell, in_regions, in_hypervisor, in_devices_of, in_devices, in_cpus};
 
 use crate::bus::{is_marked, mark, marks};
@@ -140,7 +140,7 @@ pub(crate) fn in_hypervisor(
     put(found, breaks, finding(rule, HYPERVISOR, 0, 0, 0))
 }
 
-/// Whether the device may not fit one that is linked with it, of a cell with a lower number. The places of the devices
+/// Whether the device may not fit one that is linked with it, of a cell with a lower number. The bdfs of the devices
 /// of these are marked.
 fn may_differ(
     setup: &Setup,
@@ -152,9 +152,9 @@ fn may_differ(
 ) -> bool
     requires count { a ≤ length (cells_of setup.now) }
     requires length { length marks.now ≡ 65536 }
-    requires places { HasPlaces (take a (cells_of setup.now)) marks.now }
+    requires bdfs { HasBdfs (take a (cells_of setup.now)) marks.now }
     requires seats { HasSeats (cells_of setup.now) seats.now }
-    requires order { AreByPlace seats.now }
+    requires order { AreByBdf seats.now }
     ensures { result ≡ false → agrees_with_all (take a (cells_of setup.now)) cell.now.memory_regions device.now ≡ true }
 {
     if !is_marked(marks, device) {
@@ -163,7 +163,7 @@ fn may_differ(
     !agrees_with_linked(setup, a, cell.memory_regions.as_slice(), device, seats)
 }
 
-/// Each device of a cell, where the places of the devices of those with lower numbers are marked.
+/// Each device of a cell, where the bdfs of the devices of those with lower numbers are marked.
 fn in_devices_of(
     found: &mut Seq<Finding>,
     setup: &Setup,
@@ -174,9 +174,9 @@ fn in_devices_of(
 ) -> Result<(), NoMemory>
     requires count { a ≤ length (cells_of setup.now) }
     requires length { length marks.now ≡ 65536 }
-    requires places { HasPlaces (take a (cells_of setup.now)) marks.now }
+    requires bdfs { HasBdfs (take a (cells_of setup.now)) marks.now }
     requires seats { HasSeats (cells_of setup.now) seats.now }
-    requires order { AreByPlace seats.now }
+    requires order { AreByBdf seats.now }
     ensures { OnOk result (capped found.new ≡ capped (found.old ++ in_devices_of (take a (cells_of setup.now)) a cell.now)) }
 {
     let devices = cell.pci_devices.as_slice();

@@ -32,7 +32,7 @@ pub record IsNoJournal (bytes words : List ℕ) : Type 0 where
 abbrev pub JournalRefusal : List ℕ → List ℕ → Type 0
 JournalRefusal bytes words = IsOversizeAt most_of_a_journal bytes words ⊎ IsNoJournal bytes words
 
--- the line that tells that the entry was due in the place of the one in this line
+-- the line that tells that the entry was due instead of the one in this line
 abbrev pub due_text : ℕ → Entry → List ℕ
 due_text number entry = codes "illegal line " ++ (decimal number ++ (codes ": due " ++ (entry_text entry ++ 10 ∷ [])))
 

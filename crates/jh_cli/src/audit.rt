@@ -81,7 +81,7 @@ fn verdict_text(alloc: Global, count: usize, verdict: &Verdict) -> Result<Vec<u8
     Ok(text.into_bytes())
 }
 
-/// The line that tells that this entry was due in the place of the journal's.
+/// The line that tells that this entry was due instead of the journal's.
 fn due_text(alloc: Global, line: u32, entry: &Entry) -> Result<Vec<u8>, NoMemory>
     ensures { IfOk result (λ text. text.items ≡ due_text line entry.now) }
 {

@@ -9,7 +9,7 @@ use Rattle.jh_cellcfg.specs.Regions.{IsInRange}
 use Rattle.jh_script.specs.declared.image.Image.{Image}
 use Rattle.jh_script.specs.declared.image.Program.{Program}
 use Rattle.jh_script.specs.declared.op.Op.{Op}
-use Rattle.jh_script.specs.Operations.{IsPlain, is_width}
+use Rattle.jh_script.specs.Operations.{IsWellFormed, is_width}
 use Rattle.jh_history.specs.Lives.{program_of, is_program_of}
 use Rattle.jh_check.specs.Clean.{IsSoundRoot}
 use Rattle.jh_check.proofs.GivenLemmas.{sound-root}
@@ -39,8 +39,8 @@ unfolding program_of
 program_of-all P image name cpu all = All-from_recursion P (program_of image name cpu) (found P (is_program_of name cpu) image.programs (recursion_from_All (λ (x : Program). All P x.ops) image.programs all))
 
 -- the operations of each CPU are plain
-pub program_of-plain : (image : Image) (name : List ℕ) (cpu : ℕ) → IsAdmitted image → All IsPlain (program_of image name cpu)
-program_of-plain image name cpu admitted = program_of-all IsPlain image name cpu (λ i d lt. (admitted.programs i d lt).plain)
+pub program_of-plain : (image : Image) (name : List ℕ) (cpu : ℕ) → IsAdmitted image → All IsWellFormed (program_of image name cpu)
+program_of-plain image name cpu admitted = program_of-all IsWellFormed image name cpu (λ i d lt. (admitted.programs i d lt).plain)
 
 few_at : (b : Bool) (x : Program) (o : Option Program) → IsSoundProgram x → length (option_map_or (λ (p : Program). p.ops) o []) ≤ 4096 → length (option_map_or (λ (p : Program). p.ops) (cond b (Some x) o) []) ≤ 4096
 few_at true x o fine rest = fine.few

@@ -13,9 +13,10 @@ use crate::access::{Access, ConfigBytes, Reach, Register, Wanted};
 use crate::devices::Devices;
 use crate::grants::place_in_cell;
 use crate::place::{Places, Run};
+use crate::within::ends_within;
 use jh_cellcfg::{Region, SystemConfig};
 use jh_mmio::{Hitting, Window, behind, lets_through};
-use jh_num::{ADDRESS_END, Range};
+use jh_num::Range;
 
 /// How many bytes of the ECAM window a bus has.
 const BUS: u64 = 0x10_0000;
@@ -40,8 +41,7 @@ pub fn ecam_of(system: &SystemConfig) -> Range
 pub fn is_within(wanted: &Wanted) -> bool
     ensures { IsTrue result ↔ ((0 < wanted.now.width) × (wanted.now.at + wanted.now.width ≤ ADDRESS_END)) }
 {
-    let width = u64::from(wanted.width);
-    width > 0 && wanted.at <= ADDRESS_END && width <= ADDRESS_END - wanted.at
+    wanted.width > 0 && ends_within(wanted.at, u64::from(wanted.width))
 }
 
 /// The places that the region of the cell gives so many addresses from one of its own on.

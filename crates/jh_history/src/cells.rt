@@ -7,7 +7,7 @@ ghost use Rattle.jh_cellcfg.specs.declared.region.Region.{Region as TheRegion};
 ghost use Rattle.jh_cellcfg.specs.Regions.{has_address, IsInRange};
 ghost use Rattle.jh_mmio.specs.Dispatch.{takes_all};
 ghost use Rattle.jh_history.specs.declared.place.Place.TheVariants.{Physical};
-ghost use Rattle.jh_script.specs.Operations.{IsPlain};
+ghost use Rattle.jh_script.specs.Operations.{IsWellFormed};
 ghost use Rattle.jh_history.specs.Access.{right_of, gives, region_of, memory_or_nothing, reach_by};
 ghost use Rattle.jh_history.specs.Grants.{granted_in, is_kept, behind_in, reach_in};
 ghost use Rattle.jh_history.specs.Devices.{list_in};
@@ -131,7 +131,7 @@ pub(crate) fn devices_in<'a>(image: &'a Image, cells: &'a [CellConfig], id: u32)
 fn ops_in<'a>(image: &'a Image, cells: &[CellConfig], id: u32, cpu: u8) -> &'a [Op]
     requires { IsAdmitted image.now }
     ensures ops { (lives : List TheLive) → configs_of lives ≡ cells.now → result.now ≡ ops_in image.now lives id cpu }
-    ensures plain { All IsPlain result.now }
+    ensures plain { All IsWellFormed result.now }
 {
     match config_in(image, cells, u64::from(id)) {
         Some(cell) => program_of(image, cell.name(), cpu),
@@ -143,7 +143,7 @@ fn ops_in<'a>(image: &'a Image, cells: &[CellConfig], id: u32, cpu: u8) -> &'a [
 pub(crate) fn op_at(image: &Image, cells: &[CellConfig], state: Cpu, cpu: u8) -> Option<Op>
     requires { IsAdmitted image.now }
     ensures op { (f : Facts) → configs_of f.cells ≡ cells.now → result ≡ op_at image.now f state cpu }
-    ensures plain { IfSome result IsPlain }
+    ensures plain { IfSome result IsWellFormed }
 {
     ops_in(image, cells, state.owner, cpu)
         .get(state.position as usize)

@@ -7,9 +7,6 @@ use jh_cellcfg::{CellConfig, PciDevice, Region};
 use jh_ivshmem::EndpointSpec;
 use jh_vpci::FunctionSpec;
 
-/// The kind of an ivshmem device, by `JAILHOUSE_PCI_TYPE_IVSHMEM`.
-const IVSHMEM: u8 = 3;
-
 /// The sections of a device that every device has, in their order from its first.
 const STATE_TABLE: u8 = 0;
 
@@ -22,7 +19,7 @@ pub fn is_endpoint(number: usize, device: &PciDevice) -> bool
     ensures value { result ≡ is_endpoint number device.now }
     ensures small { result ≡ true → number < 2 ^ 32 }
 {
-    number <= u32::MAX as usize && device.kind == IVSHMEM
+    number <= u32::MAX as usize && device.is_shmem()
 }
 
 /// The section of the device.

@@ -2,7 +2,7 @@
 ghost use Rattle.std.specs.Prelude.{◌≡◌, ◌≢◌, ℕ, Option, option_map, true, false, nat_eq};
 ghost use Rattle.jh_script.specs.declared.image.Image.{Image as TheImage};
 ghost use Rattle.jh_history.specs.declared.access.Reach.{Reach as TheReach};
-ghost use Rattle.jh_history.specs.Admitted.{IsPlainAct};
+ghost use Rattle.jh_history.specs.Admitted.{IsWellFormedAct};
 ghost use Rattle.jh_history.specs.Wants.{IsReachOfAct};
 ghost use Rattle.jh_history.specs.Facts.{Facts};
 ghost use Rattle.jh_history.specs.Hypercalls.{state_told, state_seen, mode_seen, cpu_told, cpu_seen, seen_of, hvc_act};
@@ -105,7 +105,7 @@ fn is_management(call: &Call) -> bool
 pub(crate) fn hvc_act<K: Known>(known: &K, cell: u32, code: u64, a: u64, b: u64) -> Act
     ensures act { (i : TheImage) (f : Facts) → K.Knows known.now i f → result ≡ hvc_act i f cell code a b }
     ensures reached { (i : TheImage) (f : Facts) (own : ℕ) (found : TheReach) → IsReachOfAct i f own result found }
-    ensures plain { IsPlainAct result }
+    ensures plain { IsWellFormedAct result }
 {
     let call = decode(code, a, b);
     let root = cell == known.root();

@@ -1,7 +1,7 @@
 //! What a CPU does next, told by what is known.
 ghost use Rattle.std.specs.Prelude.{◌≡◌, ◌<◌, ◌≤◌, ℕ, None, IfSome, IfOk, IsTrue, ◌↔◌, is_some, option_map, option_copied};
 ghost use Rattle.jh_script.specs.declared.image.Image.{Image as TheImage};
-ghost use Rattle.jh_script.specs.Operations.{IsPlain};
+ghost use Rattle.jh_script.specs.Operations.{IsWellFormed};
 ghost use Rattle.jh_cellcfg.specs.Cells.{is_cpu_set};
 ghost use Rattle.jh_check.specs.Refusals.{any_below};
 ghost use Rattle.jh_history.specs.Access.{read_of, is_reached};
@@ -10,7 +10,7 @@ ghost use Rattle.jh_history.specs.Facts.{Facts};
 ghost use Rattle.jh_history.specs.Wants.{wanted_of, goes_on, pending_op, wanted_at, IsReachOf, IsReachIn, IsReachAt, IsReachOfAct, IsReachOfEntry};
 ghost use Rattle.jh_history.specs.Grants.{devices_of};
 ghost use Rattle.jh_history.specs.Due.{irq_of, act_of, await_of, state_act, call_of, is_other_due, is_idle_but, caller_act, next_act, entry_by, due_at};
-ghost use Rattle.jh_history.specs.Admitted.{IsPlainAct};
+ghost use Rattle.jh_history.specs.Admitted.{IsWellFormedAct};
 
 use crate::access::{Access, Reach, Wanted};
 use crate::call::OpenCall;
@@ -26,7 +26,7 @@ use jh_script::Op;
 
 /// The access that the operation makes.
 fn wanted_of(op: Op) -> Option<Wanted>
-    requires { IsPlain op }
+    requires { IsWellFormed op }
     ensures wanted { result ≡ wanted_of op }
     ensures few { IfSome result (λ wanted. wanted.width ≤ 8) }
 {
@@ -61,7 +61,7 @@ fn goes_on(state: Cpu) -> bool
 fn pending_op<K: Known>(known: &K, cpu: u8, state: Cpu) -> Option<Op>
     requires { cpu < 16 }
     ensures op { (i : TheImage) (f : Facts) → K.Knows known.now i f → result ≡ pending_op i f state cpu }
-    ensures plain { IfSome result IsPlain }
+    ensures plain { IfSome result IsWellFormed }
 {
     if goes_on(state) {
         known.operation(cpu, state)
@@ -165,7 +165,7 @@ fn await_of(width: u8, at: u64, value: u64, got: Option<u64>) -> Option<Act>
 fn irq_of<K: Known>(known: &K, cell: u32) -> Option<Act>
     ensures act { (i : TheImage) (f : Facts) → K.Knows known.now i f → result ≡ irq_of cell f.endpoints }
     ensures reached { (i : TheImage) (f : Facts) (found : TheReach) → IfSome result (λ act. IsReachOfAct i f cell act found) }
-    ensures plain { IfSome result IsPlainAct }
+    ensures plain { IfSome result IsWellFormedAct }
 {
     match known.endpoints().pending(cell) {
         Some((device, vector)) => Some(Act::Irq { device, vector }),
@@ -175,10 +175,10 @@ fn irq_of<K: Known>(known: &K, cell: u32) -> Option<Act>
 
 /// What the cell's operation comes to, where it is due; `reach` is what its access reaches.
 fn act_of<K: Known>(known: &K, cell: u32, op: Op, reach: &Reach) -> Option<Act>
-    requires { IsPlain op }
+    requires { IsWellFormed op }
     ensures act { (i : TheImage) (f : Facts) → K.Knows known.now i f → IsReachOf i f cell op reach.now → result ≡ act_of i f cell op }
     ensures reached { (i : TheImage) (f : Facts) → IsReachOf i f cell op reach.now → IfSome result (λ act. IsReachOfAct i f cell act reach.now) }
-    ensures plain { IfSome result IsPlainAct }
+    ensures plain { IfSome result IsWellFormedAct }
 {
     match op {
         Op::Read { width, at } => {
@@ -213,7 +213,7 @@ fn state_act<K: Known>(known: &K, cpu: u8, state: Cpu, reach: &Reach) -> Option<
     requires { cpu < 16 }
     ensures act { (i : TheImage) (f : Facts) → K.Knows known.now i f → IsReachIn i f state cpu reach.now → result ≡ state_act i f state cpu }
     ensures reached { (i : TheImage) (f : Facts) → K.Knows known.now i f → IsReachIn i f state cpu reach.now → IfSome result (λ act. IsReachOfAct i f state.owner act reach.now) }
-    ensures plain { IfSome result IsPlainAct }
+    ensures plain { IfSome result IsWellFormedAct }
 {
     if state.asked {
         return Some(Act::Stop);
@@ -237,7 +237,7 @@ fn is_await_due(value: u64, got: Option<u64>) -> bool
 
 /// Whether the cell's operation is due.
 fn is_op_due<K: Known>(known: &K, cell: u32, op: Op) -> bool
-    requires { IsPlain op }
+    requires { IsWellFormed op }
     ensures { (i : TheImage) (f : Facts) → K.Knows known.now i f → result ≡ is_some (act_of i f cell op) }
 {
     match op {
@@ -316,7 +316,7 @@ pub(crate) fn is_idle_but<K: Known>(known: &K, caller: u8) -> bool
 fn caller_act<K: Known>(known: &K, state: Cpu, begun: &OpenCall) -> Result<Option<Act>, NoMemory>
     ensures act { (i : TheImage) (f : Facts) → K.Knows known.now i f → IfOk result (λ act. act ≡ caller_act i f state begun.now) }
     ensures reached { (i : TheImage) (f : Facts) (cell : ℕ) (found : TheReach) → IfOk result (λ act. IfSome act (λ act. IsReachOfAct i f cell act found)) }
-    ensures plain { IfOk result (λ act. IfSome act IsPlainAct) }
+    ensures plain { IfOk result (λ act. IfSome act IsWellFormedAct) }
 {
     if state.asked {
         return Ok(Some(Act::Stop));
@@ -347,7 +347,7 @@ fn next_act<K: Known>(
     requires { cpu < 16 }
     ensures act { (i : TheImage) (f : Facts) → K.Knows known.now i f → IsReachIn i f state cpu reach.now → IfOk result (λ act. act ≡ next_act i f state cpu) }
     ensures reached { (i : TheImage) (f : Facts) → K.Knows known.now i f → IsReachIn i f state cpu reach.now → IfOk result (λ act. IfSome act (λ act. IsReachOfAct i f state.owner act reach.now)) }
-    ensures plain { IfOk result (λ act. IfSome act IsPlainAct) }
+    ensures plain { IfOk result (λ act. IfSome act IsWellFormedAct) }
 {
     match call_of(known, cpu) {
         Some(begun) => caller_act(known, state, begun),
@@ -383,7 +383,7 @@ pub fn next_of<K: Known>(known: &K, cpu: u8, reach: &Reach) -> Result<Option<Ent
     ensures due { (i : TheImage) (f : Facts) → K.Knows known.now i f → IsReachAt i f cpu reach.now → IfOk result (λ entry. entry ≡ due_at i f cpu) }
     ensures reached { (i : TheImage) (f : Facts) → K.Knows known.now i f → IsReachAt i f cpu reach.now → IfOk result (λ entry. IfSome entry (λ entry. IsReachOfEntry i f entry reach.now)) }
     ensures cpu { IfOk result (λ entry. IfSome entry (λ entry. entry.cpu ≡ cpu)) }
-    ensures plain { IfOk result (λ entry. IfSome entry (λ entry. IsPlainAct entry.act)) }
+    ensures plain { IfOk result (λ entry. IfSome entry (λ entry. IsWellFormedAct entry.act)) }
 {
     if !known.has_cpu(cpu) {
         return Ok(None);

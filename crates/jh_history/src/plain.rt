@@ -25,7 +25,7 @@ ghost use Rattle.jh_history.specs.Facts.{Facts};
 ghost use Rattle.jh_history.specs.Bytes.{byte_written, byte_after};
 ghost use Rattle.jh_history.specs.History.{facts, after, start, coming_by, coming_of};
 ghost use Rattle.jh_history.specs.Due.{due, IsLegal, IsQuiet};
-ghost use Rattle.jh_history.specs.Admitted.{IsAdmitted, IsPlainAct, IsPlainEntry};
+ghost use Rattle.jh_history.specs.Admitted.{IsAdmitted, IsWellFormedAct, IsWellFormedEntry};
 ghost use Rattle.jh_history.specs.PlainView.{last_byte, StandsFor, IsSameBut, IsDueBeside, HasWords, MayCommit, MayFollow};
 
 use crate::access::{Access, Reach, Wanted};
@@ -246,7 +246,7 @@ impl<'a> Plain<'a> {
 
     /// Changes bytes and endpoints as the act of the cell does itself.
     fn write(&mut self, cell: u32, act: &Act) -> Result<(), NoMemory>
-        requires plain { IsPlainAct act.now }
+        requires plain { IsWellFormedAct act.now }
         requires words { HasWords self.old }
         ensures bytes { OnOk result ((i : TheImage) (f : Facts) → StandsFor self.old i f → (q : ThePlace) → last_byte i self.new.bytes q ≡ byte_written i f cell act.now q) }
         ensures endpoints { OnOk result ((i : TheImage) (f : Facts) → StandsFor self.old i f → IsNextOf cell f.endpoints act.now → self.new.endpoints ≡ endpoints_acted i f cell act.now) }
@@ -297,7 +297,7 @@ impl<'a> Plain<'a> {
 
     /// Changes CPUs, endpoints and bytes as the entry does.
     fn change(&mut self, entry: &Entry) -> Result<(), NoMemory>
-        requires plain { IsPlainEntry entry.now }
+        requires plain { IsWellFormedEntry entry.now }
         requires may { MayFollow self.old entry.now }
         ensures cpus { OnOk result ((i : TheImage) (f : Facts) → StandsFor self.old i f → (k : ℕ) → k < 16 → slice_get self.new.cpus k ≡ Some (cpu_after i f entry.now k)) }
         ensures bytes { OnOk result ((i : TheImage) (f : Facts) → StandsFor self.old i f → (q : ThePlace) → last_byte i self.new.bytes q ≡ byte_after i f entry.now q) }
@@ -375,7 +375,7 @@ impl<'a> Plain<'a> {
 
     /// Goes on by an entry that is due.
     fn follow(&mut self, entry: &Entry) -> Result<(), NoMemory>
-        requires plain { IsPlainEntry entry.now }
+        requires plain { IsWellFormedEntry entry.now }
         requires due { IsDueBeside self.old.image self.old.cells self.old.call entry.now }
         requires may { MayFollow self.old entry.now }
         ensures { OnOk result ((i : TheImage) (f : Facts) → StandsFor self.old i f → StandsFor self.new i (after i f entry.now)) }

@@ -8,16 +8,13 @@ ghost use Rattle.jh_history.specs.ReadView.{bytes_by, read_behind, read_by, as_r
 
 use crate::boxed::BoxedCell;
 use crate::call::Creation;
-use jh_cellcfg::{ConfigFault, Which, cell_size, read_cell};
+use jh_cellcfg::{ConfigFault, Part, cell_size, read_cell};
 use jh_num::error::{E2BIG, EINVAL};
-use jh_num::{ADDRESS_END, NoMemory, Seq};
+use jh_num::{ADDRESS_END, NoMemory, PAGE_SIZE, Seq};
 use std::alloc::Global;
 
 /// How many bytes a configuration's header has.
 const HEADER: u32 = 132;
-
-/// How many bytes a page has.
-const PAGE: u64 = 4096;
 
 /// Tells what root may read.
 pub trait RootBytes {
@@ -47,7 +44,7 @@ fn in_page(at: u64, end: u64) -> u16
     ensures page { at % 4096 + result ≤ 4096 }
     ensures few { at + result ≤ end }
 {
-    let left = PAGE - at % PAGE;
+    let left = PAGE_SIZE - at % PAGE_SIZE;
     left.min(end - at) as u16
 }
 
@@ -84,7 +81,7 @@ fn refused_for(fault: &ConfigFault) -> i64
 {
     match fault {
         ConfigFault::Count {
-            which: Which::Total,
+            part: Part::Total,
             ..
         } => E2BIG,
         _ => EINVAL,

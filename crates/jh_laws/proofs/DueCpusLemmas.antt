@@ -18,7 +18,7 @@ use Rattle.jh_call.specs.declared.call.Call.TheVariants.{Create, Start, Loadable
 use Rattle.jh_script.specs.declared.image.Image.{Image}
 use Rattle.jh_script.specs.declared.op.Op.{Op}
 use Rattle.jh_script.specs.declared.op.Op.TheVariants.{Read as ReadOp, Write as WriteOp, Fetch as FetchOp, Await as AwaitOp, Irq as IrqOp, Hvc as HvcOp}
-use Rattle.jh_script.specs.Operations.{IsPlain}
+use Rattle.jh_script.specs.Operations.{IsWellFormed}
 use Rattle.jh_history.specs.declared.place.Place.{Place}
 use Rattle.jh_history.specs.declared.place.Place.TheVariants.{Physical}
 use Rattle.jh_history.specs.declared.access.Access.TheVariants.{Read as ToRead}
@@ -79,7 +79,7 @@ irq_due : (image : Image) (f : Facts) (id : ℕ) (o : Option (ℕ × ℕ)) → I
 irq_due image f id None sound is due = absurd (false≢true due)
 irq_due image f id (Some next) sound is due = (next.0, next.1, (next-is image f id next.0 next.1 sound is).pending)
 
-op_due : (image : Image) (f : Facts) (id : ℕ) (op : Op) → IsSound image f → IsPlain op → is_some (act_of image f id op) ≡ true → IsDueIn image f id op
+op_due : (image : Image) (f : Facts) (id : ℕ) (op : Op) → IsSound image f → IsWellFormed op → is_some (act_of image f id op) ≡ true → IsDueIn image f id op
 op_due image f id (ReadOp width at) sound plain due = tt
 op_due image f id (WriteOp width at value) sound plain due = tt
 op_due image f id (FetchOp at) sound plain due = tt
@@ -87,7 +87,7 @@ op_due image f id (AwaitOp width at value) sound plain due = await_due image f i
 op_due image f id IrqOp sound plain due = irq_due image f id (pending_of id f.endpoints) sound refl due
 op_due image f id (HvcOp code a b) sound plain due = tt
 
-due_op : (image : Image) (f : Facts) (id : ℕ) (op : Op) → IsSound image f → IsPlain op → IsDueIn image f id op → is_some (act_of image f id op) ≡ true
+due_op : (image : Image) (f : Facts) (id : ℕ) (op : Op) → IsSound image f → IsWellFormed op → IsDueIn image f id op → is_some (act_of image f id op) ≡ true
 due_op image f id (ReadOp width at) sound plain due = refl
 due_op image f id (WriteOp width at value) sound plain due = refl
 due_op image f id (FetchOp at) sound plain due = refl
@@ -124,7 +124,7 @@ some_of : {X : Type 0} (o : Option X) → is_some o ≡ true → (x : X) × (o �
 some_of None h = absurd (false≢true h)
 some_of (Some x) h = (x, refl)
 
-plain_at : (image : Image) (f : Facts) (cpu : ℕ) (op : Op) → IsAdmitted image → op_at image f (f.cpu cpu) cpu ≡ Some op → IsPlain op
+plain_at : (image : Image) (f : Facts) (cpu : ℕ) (op : Op) → IsAdmitted image → op_at image f (f.cpu cpu) cpu ≡ Some op → IsWellFormed op
 plain_at image f cpu op admitted at = ops-plain image cpu (cell_in image f.cells (f.cpu cpu).owner) (f.cpu cpu).position op admitted at
 
 -- what the state alone makes due

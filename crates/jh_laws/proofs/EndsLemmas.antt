@@ -13,7 +13,7 @@ use Rattle.jh_cellcfg.specs.Cells.{name_of}
 use Rattle.jh_script.specs.declared.image.Image.{Image}
 use Rattle.jh_script.specs.declared.op.Op.{Op}
 use Rattle.jh_script.specs.declared.op.Op.TheVariants.{Read as ReadOp, Write as WriteOp, Fetch as FetchOp, Await as AwaitOp, Irq as IrqOp, Hvc as HvcOp}
-use Rattle.jh_script.specs.Operations.{IsPlain, is_width}
+use Rattle.jh_script.specs.Operations.{IsWellFormed, is_width}
 use Rattle.jh_cpu.specs.declared.cpu.Cpu.{Cpu}
 use Rattle.jh_ivshmem.specs.declared.endpoint.Endpoint.{Endpoint}
 use Rattle.jh_ivshmem.specs.Links.{pending_of}
@@ -218,7 +218,7 @@ irq_ends : (image : Image) (f : Facts) (id : ℕ) (o : Option (ℕ × ℕ)) → 
 irq_ends image f id None = tt
 irq_ends image f id (Some next) = tt
 
-op_ends : (image : Image) (f : Facts) (id : ℕ) (op : Op) → IsSound image f → IsPlain op → Ends image f id (act_of image f id op)
+op_ends : (image : Image) (f : Facts) (id : ℕ) (op : Op) → IsSound image f → IsWellFormed op → Ends image f id (act_of image f id op)
 op_ends image f id (ReadOp width at) sound plain = got-of_cell image f id ToRead at width sound (width-some width plain)
 op_ends image f id (WriteOp width at value) sound plain = reached-of_cell image f id ToWrite at width sound (width-some width plain.0)
 op_ends image f id (FetchOp at) sound plain = got-of_cell image f id ToFetch at 4 sound (omega arith)
@@ -233,7 +233,7 @@ ends_by image f id act None h is = absurd (none-some act is)
 ends_by image f id act (Some other) h is = let P : Act → Type 0 = EndsAsGranted image f id in subst P (same_Some other act is) h
 
 -- the operations of a cell are plain
-pub ops-plain : (image : Image) (cpu : ℕ) (o : Option CellConfig) (i : ℕ) (op : Op) → IsAdmitted image → slice_get (option_map_or (λ (c : CellConfig). program_of image (name_of c) cpu) o []) i ≡ Some op → IsPlain op
+pub ops-plain : (image : Image) (cpu : ℕ) (o : Option CellConfig) (i : ℕ) (op : Op) → IsAdmitted image → slice_get (option_map_or (λ (c : CellConfig). program_of image (name_of c) cpu) o []) i ≡ Some op → IsWellFormed op
 ops-plain image cpu None i op admitted h = absurd (none-some op h)
 ops-plain image cpu (Some c) i op admitted h = op-plain image (name_of c) cpu i op admitted h
 
@@ -295,7 +295,7 @@ irq_small : (o : Option (ℕ × ℕ)) → Small (option_map (λ (next : ℕ × �
 irq_small None = tt
 irq_small (Some next) = tt
 
-op_small : (image : Image) (f : Facts) (id : ℕ) (op : Op) → IsPlain op → Small (act_of image f id op)
+op_small : (image : Image) (f : Facts) (id : ℕ) (op : Op) → IsWellFormed op → Small (act_of image f id op)
 op_small image f id (ReadOp width at) plain = tt
 op_small image f id (WriteOp width at value) plain = (width-some width plain.0, plain.1)
 op_small image f id (FetchOp at) plain = tt
@@ -325,7 +325,7 @@ phase_small (Noted who how) h = tt
 phase_small (Finish answer) h = tt
 
 -- what a plain operation comes to
-pub op-small : (image : Image) (f : Facts) (id : ℕ) (op : Op) (act : Act) → IsPlain op → act_of image f id op ≡ Some act → IsSmallAct act
+pub op-small : (image : Image) (f : Facts) (id : ℕ) (op : Op) (act : Act) → IsWellFormed op → act_of image f id op ≡ Some act → IsSmallAct act
 op-small image f id op act plain is = small_by act (act_of image f id op) (op_small image f id op plain) is
 
 pub made-small : (image : Image) (f : Facts) (entry : Entry) → IsAdmitted image → IsMadeBy image f entry → IsSmallAct entry.act

@@ -22,7 +22,7 @@ use Rattle.jh_ivshmem.specs.Specs.{is_device}
 use Rattle.jh_script.specs.declared.image.Image.{Image}
 use Rattle.jh_script.specs.declared.op.Op.{Op}
 use Rattle.jh_script.specs.declared.op.Op.TheVariants.{Read as ReadOp, Write as WriteOp, Fetch as FetchOp, Await as AwaitOp, Irq as IrqOp, Hvc as HvcOp}
-use Rattle.jh_script.specs.Operations.{IsPlain, is_width}
+use Rattle.jh_script.specs.Operations.{IsWellFormed, is_width}
 use Rattle.jh_history.specs.declared.access.Access.TheVariants.{Read as ToRead, Write as ToWrite, Fetch as ToFetch}
 use Rattle.jh_history.specs.declared.entry.Entry.{Entry}
 use Rattle.jh_history.specs.declared.entry.Act.{Act}
@@ -185,7 +185,7 @@ await_access image f cell width at value act (Some got) plain e h = await_equal 
 no_irq : (image : Image) (f : Facts) (cell : ℕ) → f.endpoints ≡ [] → act_of image f cell IrqOp ≡ None
 no_irq image f cell bare = ap (irq_of cell) bare
 
-pub act_access : (image : Image) (f : Facts) (cell : ℕ) (op : Op) (act : Act) → f.endpoints ≡ [] → IsPlain op → IsNoCall op → act_of image f cell op ≡ Some act → IsAccessOf image f cell op act
+pub act_access : (image : Image) (f : Facts) (cell : ℕ) (op : Op) (act : Act) → f.endpoints ≡ [] → IsWellFormed op → IsNoCall op → act_of image f cell op ≡ Some act → IsAccessOf image f cell op act
 act_access image f cell (ReadOp width at) act bare plain silent h =
     let P : Act → Type 0 = IsAccessOf image f cell (ReadOp width at) in
     subst P (same_Some (Read width at (got_by image f cell ToRead at width)) act h) (record { access = (plain, refl); operation = refl })

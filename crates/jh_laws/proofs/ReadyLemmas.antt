@@ -8,7 +8,7 @@ use Rattle.jh_cellcfg.specs.Cells.{name_of}
 use Rattle.jh_script.specs.declared.image.Image.{Image}
 use Rattle.jh_script.specs.declared.op.Op.{Op}
 use Rattle.jh_script.specs.declared.op.Op.TheVariants.{Read as ReadOp, Write as WriteOp, Fetch as FetchOp, Await as AwaitOp, Irq as IrqOp, Hvc as HvcOp}
-use Rattle.jh_script.specs.Operations.{IsPlain}
+use Rattle.jh_script.specs.Operations.{IsWellFormed}
 use Rattle.jh_history.specs.declared.access.Access.{Access}
 use Rattle.jh_history.specs.declared.access.Access.TheVariants.{Read as ToRead, Write as ToWrite, Fetch as ToFetch}
 use Rattle.jh_history.specs.declared.entry.Entry.{Entry}
@@ -43,7 +43,7 @@ await_due : (image : Image) (entries : List Entry) (width at value : ℕ) (act :
 await_due image entries width at value act None outcome h = λ granted. absurd (false≢true (outcome.answered.1 granted))
 await_due image entries width at value act (Some got) outcome h = equal_due image entries width at value got act (eqb got value) outcome refl h
 
-op_due : (image : Image) (entries : List Entry) (op : Op) (act : Act) → (facts image entries).endpoints ≡ [] → IsSound image (facts image entries) → IsPlain op → IsNoCall op → act_of image (facts image entries) image.system.root.id op ≡ Some act → IsDueOp image entries image.system.root op
+op_due : (image : Image) (entries : List Entry) (op : Op) (act : Act) → (facts image entries).endpoints ≡ [] → IsSound image (facts image entries) → IsWellFormed op → IsNoCall op → act_of image (facts image entries) image.system.root.id op ≡ Some act → IsDueOp image entries image.system.root op
 op_due image entries (ReadOp width at) act bare sound plain silent h = tt
 op_due image entries (WriteOp width at value) act bare sound plain silent h = tt
 op_due image entries (FetchOp at) act bare sound plain silent h = tt
@@ -61,7 +61,7 @@ await_act image entries width at value (Some got) sound outcome due =
     let same : got ≡ value = value-of image entries ToRead at width got value sound answered (outcome.reads got refl) (due answered) in
     (Await width at value true, ap (λ (b : Bool). cond b (Some (Await width at value true)) None) (eq-eqb got value same))
 
-due_act : (image : Image) (entries : List Entry) (op : Op) → IsSound image (facts image entries) → IsPlain op → IsDueOp image entries image.system.root op → (act : Act) × (act_of image (facts image entries) image.system.root.id op ≡ Some act)
+due_act : (image : Image) (entries : List Entry) (op : Op) → IsSound image (facts image entries) → IsWellFormed op → IsDueOp image entries image.system.root op → (act : Act) × (act_of image (facts image entries) image.system.root.id op ≡ Some act)
 due_act image entries (ReadOp width at) sound plain due = (Read width at (got_after image entries at width), refl)
 due_act image entries (WriteOp width at value) sound plain due = (Write width at value (is_reached (reach image (facts image entries) image.system.root.id ToWrite at width)), refl)
 due_act image entries (FetchOp at) sound plain due = (Fetch at (got_by image (facts image entries) image.system.root.id ToFetch at 4), refl)
@@ -134,14 +134,14 @@ await_from image entries width at value (Some v) true sound got awaited =
 await_from image entries width at value (Some v) false sound got awaited = absurd (false≢true (awaited.answered.1 (got.answered.0 refl)))
 
 -- and so is each access
-act_from : (image : Image) (entries : List Entry) (op : Op) (act : Act) → IsSound image (facts image entries) → IsPlain op → op_of act ≡ Some op → HasItsOutcome image entries image.system.root act → act_of image (facts image entries) image.system.root.id op ≡ Some act
+act_from : (image : Image) (entries : List Entry) (op : Op) (act : Act) → IsSound image (facts image entries) → IsWellFormed op → op_of act ≡ Some op → HasItsOutcome image entries image.system.root act → act_of image (facts image entries) image.system.root.id op ≡ Some act
 act_from image entries op (Read width at got) sound plain is h =
-    let P : Op → Type 0 = λ o. IsPlain o → act_of image (facts image entries) image.system.root.id o ≡ Some (Read width at got) in
+    let P : Op → Type 0 = λ o. IsWellFormed o → act_of image (facts image entries) image.system.root.id o ≡ Some (Read width at got) in
     subst P (same_Some (ReadOp width at) op is)
     (λ own. ap (λ (g : Option ℕ). Some (Read width at g)) (got_same image entries ToRead at width (got_after image entries at width) got sound (got-of image entries ToRead at width sound (some_width width own)) h))
     plain
 act_from image entries op (Write width at value ok) sound plain is h =
-    let P : Op → Type 0 = λ o. IsPlain o → act_of image (facts image entries) image.system.root.id o ≡ Some (Write width at value ok) in
+    let P : Op → Type 0 = λ o. IsWellFormed o → act_of image (facts image entries) image.system.root.id o ≡ Some (Write width at value ok) in
     let r = is_reached (reach image (facts image entries) image.system.root.id ToWrite at width) in
     subst P (same_Some (WriteOp width at value) op is)
     (λ own. let reached = reached-of image (facts image entries) ToWrite at width sound (some_width width own.0) in
@@ -153,7 +153,7 @@ act_from image entries op (Fetch at got) sound plain is h =
     subst P (same_Some (FetchOp at) op is)
     (ap (λ (g : Option ℕ). Some (Fetch at g)) (got_same image entries ToFetch at 4 r got sound (got-of image entries ToFetch at 4 sound (omega arith)) h))
 act_from image entries op (Await width at value ok) sound plain is h =
-    let P : Op → Type 0 = λ o. IsPlain o → act_of image (facts image entries) image.system.root.id o ≡ Some (Await width at value ok) in
+    let P : Op → Type 0 = λ o. IsWellFormed o → act_of image (facts image entries) image.system.root.id o ≡ Some (Await width at value ok) in
     subst P (same_Some (AwaitOp width at value) op is)
     (λ own. await_from image entries width at value (got_after image entries at width) ok sound (got-of image entries ToRead at width sound (some_width width own.0)) h)
     plain

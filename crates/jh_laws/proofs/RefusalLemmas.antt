@@ -9,8 +9,8 @@ use Rattle.jh_cellcfg.specs.declared.config.CellConfig.{CellConfig}
 use Rattle.jh_cellcfg.specs.declared.config.SystemConfig.{SystemConfig}
 use Rattle.jh_cellcfg.specs.declared.fault.ConfigFault.{ConfigFault}
 use Rattle.jh_cellcfg.specs.declared.fault.ConfigFault.TheVariants.{Short, Signature, Revision, Name, Count, Trailing, NoMemory}
-use Rattle.jh_cellcfg.specs.declared.fault.Which.{Which}
-use Rattle.jh_cellcfg.specs.declared.fault.Which.TheVariants.{CpuSet, MemoryRegions, CacheRegions, Irqchips, PioRegions, PciDevices, PciCaps, StreamIds, Total}
+use Rattle.jh_cellcfg.specs.declared.fault.Part.{Part}
+use Rattle.jh_cellcfg.specs.declared.fault.Part.TheVariants.{CpuSet, MemoryRegions, CacheRegions, Irqchips, PioRegions, PciDevices, PciCaps, StreamIds, Total}
 use Rattle.jh_cellcfg.specs.Faults.{header_fault, header_size}
 use Rattle.jh_check.specs.Refusals.{is_known, names_beyond, by_check, refusal_of}
 use Rattle.jh_check.specs.declared.verdict.NewCell.{NewCell}
@@ -67,7 +67,7 @@ abbrev FitsRead : ReadCell → Type 0
 FitsRead (Reads config) = Unit {0}
 FitsRead (Refuses number) = FitsSigned w64 number
 
-count_fits : (which : Which) (found : ℕ) → FitsSigned w64 (refused_for (Count which found))
+count_fits : (part : Part) (found : ℕ) → FitsSigned w64 (refused_for (Count part found))
 count_fits Total found = long_fits
 count_fits CpuSet found = invalid_fits
 count_fits MemoryRegions found = invalid_fits
@@ -79,7 +79,7 @@ count_fits PciCaps found = invalid_fits
 count_fits StreamIds found = invalid_fits
 
 fault_fits : (fault : ConfigFault) → FitsSigned w64 (refused_for fault)
-fault_fits (Count which found) = count_fits which found
+fault_fits (Count part found) = count_fits part found
 fault_fits (Short need) = invalid_fits
 fault_fits Signature = invalid_fits
 fault_fits (Revision found) = invalid_fits

@@ -16,7 +16,7 @@ use Rattle.jh_check.proofs.GivenLemmas.{zero-names}
 use Rattle.jh_script.specs.declared.image.Image.{Image}
 use Rattle.jh_script.specs.declared.image.Program.{Program}
 use Rattle.jh_script.specs.declared.op.Op.{Op}
-use Rattle.jh_script.specs.Operations.{IsPlain}
+use Rattle.jh_script.specs.Operations.{IsWellFormed}
 use Rattle.jh_history.specs.declared.access.Access.{Access}
 use Rattle.jh_history.specs.Access.{gives, right_of}
 use Rattle.jh_history.specs.Admitted.{IsAdmitted, IsSoundProgram}
@@ -89,13 +89,13 @@ pub program_of-few : (image : Image) (name : List ℕ) (cpu : ℕ) → IsAdmitte
 unfolding program_of
 program_of-few image name cpu admitted = few_ops image name cpu (find (is_program_of name cpu) image.programs) admitted refl
 
-at_op : (ops : List Op) (i : ℕ) (op : Op) → All IsPlain ops → slice_get ops i ≡ Some op → IsPlain op
+at_op : (ops : List Op) (i : ℕ) (op : Op) → All IsWellFormed ops → slice_get ops i ≡ Some op → IsWellFormed op
 at_op ops i op all e =
     let within : i < length ops = slice_get_within ops i op e in
-    let P : Op → Type 0 = IsPlain in
+    let P : Op → Type 0 = IsWellFormed in
     subst P (get_or_from_slice_get ops i op op e) (all i op within)
 
-pub op-plain : (image : Image) (name : List ℕ) (cpu i : ℕ) (op : Op) → IsAdmitted image → slice_get (program_of image name cpu) i ≡ Some op → IsPlain op
+pub op-plain : (image : Image) (name : List ℕ) (cpu i : ℕ) (op : Op) → IsAdmitted image → slice_get (program_of image name cpu) i ≡ Some op → IsWellFormed op
 op-plain image name cpu i op admitted e = at_op (program_of image name cpu) i op (program_of-plain image name cpu admitted) e
 
 -- the program is that of the name and CPU which it has

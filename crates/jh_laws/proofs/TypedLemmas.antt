@@ -27,7 +27,7 @@ use Rattle.jh_ivshmem.proofs.NamedLemmas.{named-device}
 use Rattle.jh_script.specs.declared.image.Image.{Image}
 use Rattle.jh_script.specs.declared.op.Op.{Op}
 use Rattle.jh_script.specs.declared.op.Op.TheVariants.{Read as ReadOp, Write as WriteOp, Fetch as FetchOp, Await as AwaitOp, Irq as IrqOp, Hvc as HvcOp}
-use Rattle.jh_script.specs.Operations.{IsPlain}
+use Rattle.jh_script.specs.Operations.{IsWellFormed}
 use Rattle.jh_history.specs.declared.place.Place.{Place}
 use Rattle.jh_history.specs.declared.place.Place.TheVariants.{Physical}
 use Rattle.jh_history.specs.declared.access.Access.{Access}
@@ -221,7 +221,7 @@ irq_told : (o : Option (ℕ × ℕ)) → ((n v : ℕ) → o ≡ Some (n, v) → 
 irq_told None h = tt
 irq_told (Some next) h = h next.0 next.1 refl
 
-op_told : (image : Image) (f : Facts) (id : ℕ) (op : Op) → IsSound image f → IsTypedBoard f → IsPlain op → IsTypedAct (act_of image f id op)
+op_told : (image : Image) (f : Facts) (id : ℕ) (op : Op) → IsSound image f → IsTypedBoard f → IsWellFormed op → IsTypedAct (act_of image f id op)
 op_told image f id (ReadOp width at) sound typed plain = got_fits image f id ToRead at width (got_by image f id ToRead at width) sound typed (got-of_cell image f id ToRead at width sound (width-some width plain))
 op_told image f id (WriteOp width at value) sound typed plain = tt
 op_told image f id (FetchOp at) sound typed plain = got_fits image f id ToFetch at 4 (got_by image f id ToFetch at 4) sound typed (got-of_cell image f id ToFetch at 4 sound (omega arith))

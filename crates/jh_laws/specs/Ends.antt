@@ -8,6 +8,7 @@ use Rattle.jh_cellcfg.specs.declared.config.SystemConfig.{SystemConfig}
 use Rattle.jh_cellcfg.specs.declared.live.Live.{Live}
 use Rattle.jh_cellcfg.specs.declared.region.Region.{Region}
 use Rattle.jh_cellcfg.specs.Regions.{is_page_mapped, allows_width, allows_unaligned}
+use Rattle.jh_check.specs.Clean.{IsShmem}
 use Rattle.jh_vpci.specs.Space.{window_of}
 use Rattle.jh_vpci.specs.Words.{read_of as config_read}
 use Rattle.jh_ivshmem.specs.declared.endpoint.Endpoint.{Endpoint}
@@ -77,7 +78,7 @@ pub record IsDeviceOf (image : Image) (f : Facts) (id n : ℕ) (device : PciDevi
   pub live : IsLive image f.cells cell
   pub named : cell.id ≡ id
   pub item : slice_get cell.pci_devices n ≡ Some device
-  pub kind : device.kind ≡ 3
+  pub kind : IsShmem device
   pub there : endpoint_at id n f.endpoints ≡ Some e
 
 -- the access lies in the window of the BAR of the cell's device, which is enabled

@@ -49,7 +49,7 @@ single root lives id differ j k d l within at_j at_k =
     let b = eqb-true other.config.id id at_k in
     both_ways (one.config.id == other.config.id) ids (eq-eqb one.config.id other.config.id (omega arith))
 
--- ---- a place and its id
+-- ---- a cell's number and its id
 
 without-none : (id : ℕ) (xs : List Live) → ((k : ℕ) (d : Live) → k < length xs → has_id id (get_or xs k d) ≡ false) → without id xs ≡ xs
 without-none id [] h = refl

@@ -11,7 +11,7 @@ use Rattle.jh_script.specs.declared.image.Image.{Image}
 use Rattle.jh_script.specs.declared.image.Program.{Program}
 use Rattle.jh_script.specs.declared.op.Op.{Op}
 use Rattle.jh_script.specs.declared.op.Op.TheVariants.{Read as ReadOp, Write as WriteOp, Fetch as FetchOp, Await as AwaitOp, Hvc as HvcOp}
-use Rattle.jh_script.specs.Operations.{IsPlain}
+use Rattle.jh_script.specs.Operations.{IsWellFormed}
 use Rattle.jh_history.specs.declared.entry.Entry.{Entry}
 use Rattle.jh_history.specs.declared.entry.Act.{Act}
 use Rattle.jh_history.specs.declared.entry.Act.TheVariants.{Read, Write, Fetch, Await, Irq, Hvc, Begin, Stop, Decide, Settle, Commit, Note, Noted, Finish}
@@ -53,7 +53,7 @@ program-ops Q image name cpu all = found-ops Q image.programs (is_program_of nam
 
 -- the operation that the entry makes is within its limits, and its numbers are below the ends of their types
 record IsFitOp (op : Op) : Type 0 where
-  plain : IsPlain op
+  plain : IsWellFormed op
   typed : IsTypedOp op
 
 fit-op : (laws : JournalLaws) (m : AdmittedMoment) (op : Op) → HasTypedNumbers m.image → op_of m.entry.act ≡ Some op → IsFitOp op
@@ -61,9 +61,9 @@ fit-op laws m op numbers is =
     let own = laws.operation m op is in
     let ops = program_of m.image (name_of own.0) m.entry.cpu in
     let position = (state_before m m.entry.cpu).position in
-    let plain : All (λ (p : Program). All IsPlain p.ops) m.image.programs = λ k d lt. (m.admitted.programs k d lt).plain in
+    let plain : All (λ (p : Program). All IsWellFormed p.ops) m.image.programs = λ k d lt. (m.admitted.programs k d lt).plain in
     record {
-      plain = got-all IsPlain ops position op (program-ops IsPlain m.image (name_of own.0) m.entry.cpu plain) own.3;
+      plain = got-all IsWellFormed ops position op (program-ops IsWellFormed m.image (name_of own.0) m.entry.cpu plain) own.3;
       typed = got-all IsTypedOp ops position op (program-ops IsTypedOp m.image (name_of own.0) m.entry.cpu numbers.ops) own.3;
     }
 

@@ -8,37 +8,37 @@ use Rattle.std.proofs.lemmas.Bool.{false≢true}
 use Rattle.jh_script.specs.declared.op.Op.{Op}
 use Rattle.jh_script.specs.declared.op.Op.TheVariants.{Read, Write, Await, Hvc}
 use Rattle.jh_script.specs.declared.image.Program.{Program}
-use Rattle.jh_script.specs.Operations.{IsPlain}
+use Rattle.jh_script.specs.Operations.{IsWellFormed}
 use Rattle.jh_history.specs.Admitted.{IsSoundProgram, IsOtherProgram}
 use Rattle.jh_run.specs.Soak.{number_writes, number_reads, round_ops, rounds_ops, beside_ops, answer_ops, ops_a, ops_b, program, programs_of}
 
 -- ---- each operation is plain
 
-one : (op : Op) → IsPlain op → All IsPlain (op ∷ [])
-one op is = All-cons IsPlain op [] is (All-nil IsPlain)
+one : (op : Op) → IsWellFormed op → All IsWellFormed (op ∷ [])
+one op is = All-cons IsWellFormed op [] is (All-nil IsWellFormed)
 
-writes-plain : (base first n : ℕ) → first + n ≤ 512 → All IsPlain (number_writes base first n)
+writes-plain : (base first n : ℕ) → first + n ≤ 512 → All IsWellFormed (number_writes base first n)
 unfolding number_writes
-writes-plain base first zero h = All-nil IsPlain
+writes-plain base first zero h = All-nil IsWellFormed
 writes-plain base first (suc n) h =
-    All-append IsPlain (number_writes base first n) (Write 8 (base + 8 * (first + n)) (first + n) ∷ []) (writes-plain base first n (omega arith))
+    All-append IsWellFormed (number_writes base first n) (Write 8 (base + 8 * (first + n)) (first + n) ∷ []) (writes-plain base first n (omega arith))
     (one (Write 8 (base + 8 * (first + n)) (first + n)) (refl, omega arith))
 
-reads-plain : (base n : ℕ) → All IsPlain (number_reads base n)
+reads-plain : (base n : ℕ) → All IsWellFormed (number_reads base n)
 unfolding number_reads
-reads-plain base zero = All-nil IsPlain
-reads-plain base (suc n) = All-append IsPlain (number_reads base n) (Read 8 (base + 8 * n) ∷ []) (reads-plain base n) (one (Read 8 (base + 8 * n)) refl)
+reads-plain base zero = All-nil IsWellFormed
+reads-plain base (suc n) = All-append IsWellFormed (number_reads base n) (Read 8 (base + 8 * n) ∷ []) (reads-plain base n) (one (Read 8 (base + 8 * n)) refl)
 
-round-plain : (r : ℕ) → r ≤ 400 → All IsPlain (round_ops r)
-round-plain r h = All-from_recursion IsPlain (round_ops r) (tt, (tt, (tt, ((refl, omega arith), (tt, (tt, (tt, (tt, (refl, tt)))))))))
+round-plain : (r : ℕ) → r ≤ 400 → All IsWellFormed (round_ops r)
+round-plain r h = All-from_recursion IsWellFormed (round_ops r) (tt, (tt, (tt, ((refl, omega arith), (tt, (tt, (tt, (tt, (refl, tt)))))))))
 
-rounds-plain : (n : ℕ) → n ≤ 400 → All IsPlain (rounds_ops n)
+rounds-plain : (n : ℕ) → n ≤ 400 → All IsWellFormed (rounds_ops n)
 unfolding rounds_ops
-rounds-plain zero h = All-nil IsPlain
-rounds-plain (suc n) h = All-append IsPlain (rounds_ops n) (round_ops (n + 1)) (rounds-plain n (omega arith)) (round-plain (n + 1) (omega arith))
+rounds-plain zero h = All-nil IsWellFormed
+rounds-plain (suc n) h = All-append IsWellFormed (rounds_ops n) (round_ops (n + 1)) (rounds-plain n (omega arith)) (round-plain (n + 1) (omega arith))
 
-answer-plain : (message reply : ℕ) → message ≤ 16 → reply ≤ 16 → All IsPlain (answer_ops message reply)
-answer-plain message reply h k = All-from_recursion IsPlain (answer_ops message reply) ((refl, omega arith), ((refl, omega arith), tt))
+answer-plain : (message reply : ℕ) → message ≤ 16 → reply ≤ 16 → All IsWellFormed (answer_ops message reply)
+answer-plain message reply h k = All-from_recursion IsWellFormed (answer_ops message reply) ((refl, omega arith), ((refl, omega arith), tt))
 
 -- ---- they are few
 
@@ -81,7 +81,7 @@ beside-sound =
     let reads = reads-few 0x40000000 256 in
     record {
       few = omega arith;
-      plain = All-append IsPlain (number_writes 0x40000000 0 256) (number_reads 0x40000000 256) (writes-plain 0x40000000 0 256 (omega arith)) (reads-plain 0x40000000 256);
+      plain = All-append IsWellFormed (number_writes 0x40000000 0 256) (number_reads 0x40000000 256) (writes-plain 0x40000000 0 256 (omega arith)) (reads-plain 0x40000000 256);
     }
 
 a-sound : IsSoundProgram (program (codes "a") 2 ops_a)
@@ -93,8 +93,8 @@ a-sound =
     let writes = writes-few 0 1 16 in
     record {
       few = omega arith;
-      plain = All-append IsPlain front (answer_ops 1 3)
-          (All-append IsPlain (Read 8 0 ∷ []) (number_writes 0 1 16) (one (Read 8 0) refl) (writes-plain 0 1 16 (omega arith))) (answer-plain 1 3 (omega arith) (omega arith));
+      plain = All-append IsWellFormed front (answer_ops 1 3)
+          (All-append IsWellFormed (Read 8 0 ∷ []) (number_writes 0 1 16) (one (Read 8 0) refl) (writes-plain 0 1 16 (omega arith))) (answer-plain 1 3 (omega arith) (omega arith));
     }
 
 b-sound : IsSoundProgram (program (codes "b") 3 ops_b)
@@ -106,8 +106,8 @@ b-sound =
     let writes = writes-few 0 1 16 in
     record {
       few = omega arith;
-      plain = All-append IsPlain front (answer_ops 1 3)
-          (All-append IsPlain (number_writes 0 1 16) (answer_ops 2 4) (writes-plain 0 1 16 (omega arith)) (answer-plain 2 4 (omega arith) (omega arith))) (answer-plain 1 3 (omega arith) (omega arith));
+      plain = All-append IsWellFormed front (answer_ops 1 3)
+          (All-append IsWellFormed (number_writes 0 1 16) (answer_ops 2 4) (writes-plain 0 1 16 (omega arith)) (answer-plain 2 4 (omega arith) (omega arith))) (answer-plain 1 3 (omega arith) (omega arith));
     }
 
 pub programs-sound : (n : ℕ) → n ≤ 400 → All IsSoundProgram (programs_of n)

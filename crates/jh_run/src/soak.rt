@@ -4,7 +4,7 @@ ghost use Rattle.jh_cellcfg.specs.Limits.{is_name};
 ghost use Rattle.jh_history.specs.Admitted.{IsAdmitted};
 ghost use Rattle.jh_run.specs.Soak.{region, plain_cell, loadable_cell, soak_system, cell_a, cell_b, number_writes, number_reads, round_ops, rounds_ops, beside_ops, ops_a, ops_b, answer_ops, program, programs_of, preload, soak_board};
 
-use jh_cellcfg::{CellConfig, Console, Region, SystemConfig, write_cell};
+use jh_cellcfg::{CellConfig, Region, SystemConfig, write_cell};
 use jh_num::{NoMemory, Seq};
 use jh_script::{Image, Op, Preload, Program};
 use std::alloc::Global;
@@ -64,25 +64,8 @@ fn soak_system(alloc: Global) -> Result<SystemConfig, NoMemory>
     ensures { IfOk result (λ system. system ≡ soak_system) }
 {
     let memory = region(0x4000_0000, 0x4000_0000, 0x3fc0_0000, 0xf);
-    Ok(SystemConfig {
-        flags: 0,
-        hypervisor_memory: region(0x7fc0_0000, 0, 0x40_0000, 0),
-        debug_console: Console {
-            address: 0,
-            size: 0,
-            kind: 0,
-            flags: 0,
-            divider: 0,
-            gate_nr: 0,
-            clock_reg: 0,
-        },
-        pci_mmconfig_base: 0,
-        pci_mmconfig_end_bus: 0,
-        pci_is_virtual: 0,
-        pci_domain: 0,
-        root_head: [0; 8],
-        root: plain_cell(alloc, NAME, 0, 0xf, &[memory])?,
-    })
+    let root = plain_cell(alloc, NAME, 0, 0xf, &[memory])?;
+    Ok(SystemConfig::bare(region(0x7fc0_0000, 0, 0x40_0000, 0), root))
 }
 
 /// The configuration of a cell with memory at address 0, which root may load, and a communication region, at

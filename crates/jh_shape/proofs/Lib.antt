@@ -3,6 +3,7 @@ pub mod HoldersLemmas
 pub mod WantLemmas
 pub mod SteadyLemmas
 pub mod CountLemmas
+pub mod PageLemmas
 pub mod OrderLemmas
 pub mod GrantLemmas
 pub mod LawLemmas

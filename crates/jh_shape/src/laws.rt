@@ -1,6 +1,6 @@
 //! What holds of shapes and pages, whatever the regions are: each law is the contract of a function that
 //! does nothing.
-ghost use Rattle.std.specs.Prelude.{◌≡◌, ℕ, ◌+◌, ◌-◌, ◌%◌, ◌<◌, ◌≤◌, List, [], ◌∷◌, ◌++◌, map, Bool, IsTrue, ◌↔◌};
+ghost use Rattle.std.specs.Prelude.{◌≡◌, ℕ, ◌+◌, ◌-◌, ◌%◌, ◌^◌, ◌<◌, ◌≤◌, List, [], ◌∷◌, ◌++◌, map, Bool, IsTrue, ◌↔◌};
 ghost use Rattle.jh_cellcfg.specs.declared.live.Live.{Live as LiveOf};
 ghost use Rattle.jh_num.specs.declared.rights.Rights.{Rights as RightsOf};
 ghost use Rattle.jh_shape.specs.Claims.{Claims, claims_of};
@@ -41,6 +41,11 @@ pub fn loadable_cells_change_no_shape(_target: &Target, _loadable: u16)
 pub fn the_communication_page_changes_no_count(_target: &Target, _comm: u64)
     ensures tables { (level start : ℕ) → is_table (claims_of (record _target.now { comm = _comm })) level start ≡ is_table (claims_of _target.now) level start }
     ensures pages { tables_of (claims_of (record _target.now { comm = _comm })) ≡ tables_of (claims_of _target.now) }
+{}
+
+/// A cell's tables take at most 2^20 pages.
+pub fn tables_are_few()
+    ensures { (claims : Claims) → tables_of claims ≤ 2 ^ 20 }
 {}
 
 /// Tables begin at level 1, and pages stand at level 3.

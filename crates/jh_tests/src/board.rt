@@ -3,7 +3,7 @@ ghost use Rattle.std.specs.Prelude.{IfOk};
 ghost use Rattle.jh_history.specs.Admitted.{IsAdmitted};
 
 use jh_board::{Board, Turn, TurnFault};
-use jh_cellcfg::{CellConfig, Console, Region, SystemConfig};
+use jh_cellcfg::{CellConfig, Region, SystemConfig};
 use jh_history::{Act, Entry, admit};
 use jh_num::{NoMemory, Seq, Steps};
 use jh_script::{Image, Op, Program};
@@ -33,25 +33,7 @@ fn root(alloc: Global) -> Result<CellConfig, NoMemory> {
 }
 
 fn system(root: CellConfig) -> SystemConfig {
-    SystemConfig {
-        flags: 0,
-        hypervisor_memory: region(0x7fc0_0000, 0x1_0000, 0),
-        debug_console: Console {
-            address: 0,
-            size: 0,
-            kind: 0,
-            flags: 0,
-            divider: 0,
-            gate_nr: 0,
-            clock_reg: 0,
-        },
-        pci_mmconfig_base: 0,
-        pci_mmconfig_end_bus: 0,
-        pci_is_virtual: 0,
-        pci_domain: 0,
-        root_head: [0; 8],
-        root,
-    }
+    SystemConfig::bare(region(0x7fc0_0000, 0x1_0000, 0), root)
 }
 
 fn read(width: u8) -> Op {

@@ -1,7 +1,7 @@
 //! The sections of a device, and a finding. What else is found, and what a new cell is refused for, the rows show.
 
 use jh_check::{check, sections_of};
-use jh_cellcfg::{CellConfig, Console, PciDevice, Region, SystemConfig};
+use jh_cellcfg::{CellConfig, PciDevice, Region, SystemConfig};
 use jh_num::{NoMemory, Seq};
 use std::alloc::Global;
 use std::test::Fail;
@@ -49,29 +49,12 @@ fn sections_stand_where_the_device_says(rt: HostRuntime) {
 
 /// Root with that region and CPU 0.
 fn system(alloc: Global, region: Region) -> Result<SystemConfig, NoMemory> {
-    Ok(SystemConfig {
-        flags: 0,
-        hypervisor_memory: plain(0x7fc0_0000, 0x40_0000, 0x3),
-        debug_console: Console {
-            address: 0,
-            size: 0,
-            kind: 0,
-            flags: 0,
-            divider: 0,
-            gate_nr: 0,
-            clock_reg: 0,
-        },
-        pci_mmconfig_base: 0,
-        pci_mmconfig_end_bus: 0,
-        pci_is_virtual: 0,
-        pci_domain: 0,
-        root_head: [0; 8],
-        root: CellConfig {
-            cpu_set: Seq::from_vec(Vec::from_slice(alloc, &[1])?),
-            memory_regions: Seq::from_vec(Vec::from_slice(alloc, &[region])?),
-            ..CellConfig::empty(alloc, 0)
-        },
-    })
+    let root = CellConfig {
+        cpu_set: Seq::from_vec(Vec::from_slice(alloc, &[1])?),
+        memory_regions: Seq::from_vec(Vec::from_slice(alloc, &[region])?),
+        ..CellConfig::empty(alloc, 0)
+    };
+    Ok(SystemConfig::bare(plain(0x7fc0_0000, 0x40_0000, 0x3), root))
 }
 
 /// How many findings there are where root has a page with these flags.

@@ -2,7 +2,7 @@
 //! shown by the rows.
 
 use jh_life::{Cells, MOST_CELLS};
-use jh_cellcfg::{CellConfig, Console, Region, SystemConfig};
+use jh_cellcfg::{CellConfig, Region, SystemConfig};
 use jh_num::{NoMemory, Seq};
 use std::alloc::Global;
 use std::test::Fail;
@@ -44,31 +44,9 @@ fn cell(
 
 /// Root alone, with CPUs 0 to 3 and 1 GB of memory.
 fn alone(alloc: Global) -> Result<Cells, NoMemory> {
-    let system = SystemConfig {
-        flags: 0,
-        hypervisor_memory: region(0x8000_0000, 0x1_0000, 0),
-        debug_console: Console {
-            address: 0,
-            size: 0,
-            kind: 0,
-            flags: 0,
-            divider: 0,
-            gate_nr: 0,
-            clock_reg: 0,
-        },
-        pci_mmconfig_base: 0,
-        pci_mmconfig_end_bus: 0,
-        pci_is_virtual: 0,
-        pci_domain: 0,
-        root_head: [0; 8],
-        root: cell(
-            alloc,
-            b'r',
-            0,
-            0xff,
-            &[region(ROOT, 0x4000_0000, READ_WRITE)],
-        )?,
-    };
+    let memory = region(ROOT, 0x4000_0000, READ_WRITE);
+    let root = cell(alloc, b'r', 0, 0xff, &[memory])?;
+    let system = SystemConfig::bare(region(0x8000_0000, 0x1_0000, 0), root);
     Cells::open(alloc, &system)
 }
 

@@ -3,7 +3,7 @@ ghost use Rattle.std.specs.Prelude.{IfOk};
 ghost use Rattle.jh_history.specs.Admitted.{IsAdmitted};
 
 use jh_run::{Ended, follow, play, run};
-use jh_cellcfg::{CellConfig, Console, Region, SystemConfig};
+use jh_cellcfg::{CellConfig, Region, SystemConfig};
 use jh_history::{Act, Entry, Journal, admit, due, is_on_board, quiet};
 use jh_num::{NoMemory, Seq};
 use jh_outside::{Gate, NoGate};
@@ -40,30 +40,13 @@ fn root(alloc: Global) -> Result<CellConfig, NoMemory> {
 }
 
 fn system(root: CellConfig) -> SystemConfig {
-    SystemConfig {
+    let memory = Region {
+        phys_start: 0x7fc0_0000,
+        virt_start: 0x7fc0_0000,
+        size: 0x1_0000,
         flags: 0,
-        hypervisor_memory: Region {
-            phys_start: 0x7fc0_0000,
-            virt_start: 0x7fc0_0000,
-            size: 0x1_0000,
-            flags: 0,
-        },
-        debug_console: Console {
-            address: 0,
-            size: 0,
-            kind: 0,
-            flags: 0,
-            divider: 0,
-            gate_nr: 0,
-            clock_reg: 0,
-        },
-        pci_mmconfig_base: 0,
-        pci_mmconfig_end_bus: 0,
-        pci_is_virtual: 0,
-        pci_domain: 0,
-        root_head: [0; 8],
-        root,
-    }
+    };
+    SystemConfig::bare(memory, root)
 }
 
 /// The image of that root, whose CPU 0 has this program.

@@ -1,7 +1,7 @@
 //! The one entry whose text a line may be.
 //!
-//! These functions go by the places of the words, and take some words that no entry's text has: a number
-//! with leading zeros or in upper case, anything in the place of an equals sign. Whether the line is the
+//! These functions go by the order of the words, and take some words that no entry's text has: a number
+//! with leading zeros or in upper case, anything instead of an equals sign. Whether the line is the
 //! text of the entry that they find is then seen by printing it.
 ghost use Rattle.std.specs.Prelude.{◌≡◌, ◌^◌, ◌<◌, IfSome, IsTrue};
 ghost use Rattle.jh_text.specs.Ranges.{is_width, IsReadableAct, IsReadable};

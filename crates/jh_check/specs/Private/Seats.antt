@@ -9,7 +9,7 @@ use Rattle.jh_check.specs.Devices.{agrees_with}
 
 -- the seat of the device that has that number in the cell of that number
 abbrev pub seat_of : ℕ → ℕ → PciDevice → Seat
-seat_of cell item device = record { place = device.bdf; cell = cell; item = item }
+seat_of cell item device = record { bdf = device.bdf; cell = cell; item = item }
 
 -- each device of a cell has its seat among them
 abbrev pub HasSeatsOf : ℕ → List PciDevice → List Seat → Type 0
@@ -21,9 +21,9 @@ abbrev pub HasSeats : List CellConfig → List Seat → Type 0
 HasSeats cells seats =
     (c : ℕ) (d : CellConfig) → c < length cells → HasSeatsOf c (slice_index_or cells c d).pci_devices seats
 
--- they stand in the order of their places
-abbrev pub AreByPlace : List Seat → Type 0
-AreByPlace seats = IsNonDecreasingBy (λ (seat : Seat). seat.place) seats
+-- they stand in the order of their bdfs
+abbrev pub AreByBdf : List Seat → Type 0
+AreByBdf seats = IsNonDecreasingBy (λ (seat : Seat). seat.bdf) seats
 
 -- the device of the seat fits that one, if it is of one of so many cells
 abbrev pub AgreesAt : List CellConfig → ℕ → List Region → PciDevice → Seat → Type 0

@@ -1,5 +1,5 @@
 use Rattle.std.proofs.Common.{◌≡◌, ◌++◌, length, take, drop}
-use Rattle.jh_check.specs.Private.Bus.{HasPlaces}
+use Rattle.jh_check.specs.Private.Bus.{HasBdfs}
 use Rattle.jh_check.specs.Cells.{cells_of}
 use Rattle.jh_check.specs.Lists.{found_from, capped}
 use Rattle.jh_check.specs.Findings.{in_devices_at, in_devices}
@@ -9,5 +9,5 @@ abbrev pub invariant-loop-a : goal.invariant-loop-a
 invariant-loop-a l = record {
   told : capped (l.found ++ found_from (in_devices_at (cells_of l.setup)) l.a (drop l.a (cells_of l.setup))) ≡ capped (l.initial.found ++ in_devices (cells_of l.setup));
   length : length l.marks.items ≡ 65536;
-  places : HasPlaces (take l.a (cells_of l.setup)) l.marks.items;
+  bdfs : HasBdfs (take l.a (cells_of l.setup)) l.marks.items;
 }

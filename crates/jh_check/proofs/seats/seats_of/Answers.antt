@@ -29,4 +29,4 @@ pub returns-clause-each : goal.returns-clause-each
 returns-clause-each c = λ k d h item x i. Contains-permutation _ _ _ c.sort_unstable_by_key.ensures.permutation (c.loop-c.invariant k d (omega arith) item x i)
 
 pub returns-clause-order : goal.returns-clause-order
-returns-clause-order c = IsNonDecreasingBy-from_sort_by_key (λ (seat : Seat). seat.place) _ c.sort_unstable_by_key.ensures.sorted (λ a r q k. search rules)
+returns-clause-order c = IsNonDecreasingBy-from_sort_by_key (λ (seat : Seat). seat.bdf) _ c.sort_unstable_by_key.ensures.sorted (λ a r q k. search rules)

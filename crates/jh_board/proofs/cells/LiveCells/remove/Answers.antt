@@ -77,5 +77,5 @@ returns-clause-lives c =
     rw (← c.self.view_is)
     (c.drop_cell.ensures.lives
     ∙ ap (λ k. remove lives k) index
-    ∙ c.a_place_is_dropped_by_its_id.ensures c.in-Some.index cell.0 cell.1.at
+    ∙ c.a_cell_is_dropped_by_its_id.ensures c.in-Some.index cell.0 cell.1.at
     ∙ ap (λ id. without id lives) cell.1.is)

@@ -10,7 +10,7 @@ pub overflow_add-self : goal.overflow_add-self
 overflow_add-self c =
     let few = c.self.invariant.few in
     let own = c.cell_pages.ensures.bound in
-    let taken : c.self.inside.taken ≤ 1048577 * length c.self.inside.configs.items = rw c.self.invariant.pages (own-le c.self.inside.configs.items) in
+    let taken : c.self.inside.taken ≤ 1048577 * length c.self.inside.configs.items = rw c.self.invariant.pages (own-le c.tables_are_few.ensures c.self.inside.configs.items) in
     omega arith
 
 pub invariant_of-self-2 : goal.invariant_of-self-2

@@ -21,7 +21,7 @@ overflow_sub-self c =
     let root = c.self.inside.system.root in
     let configs = c.self.inside.configs.items in
     let marks = c.self.inside.marks.items in
-    let i = c.args.place - 1 in
+    let i = c.args.number - 1 in
     let d = c.index-live-index.result in
     let gone = c.cell_pages-gone.result in
     let lives : length c.args.self.now.lives ≡ length configs = rw (← c.self.view_is) (length-joined configs marks c.self.invariant.even) in
@@ -34,7 +34,7 @@ pub invariant_of-self : goal.invariant_of-self
 invariant_of-self c =
     let configs = c.self.inside.configs.items in
     let marks = c.self.inside.marks.items in
-    let i = c.args.place - 1 in
+    let i = c.args.number - 1 in
     let d = c.index-live-index.result in
     let gone = c.cell_pages-gone.result in
     let lives : length c.args.self.now.lives ≡ length configs = rw (← c.self.view_is) (length-joined configs marks c.self.invariant.even) in
@@ -46,7 +46,7 @@ pub returns-clause-lives : goal.returns-clause-lives
 returns-clause-lives c =
     let configs = c.self.inside.configs.items in
     let marks = c.self.inside.marks.items in
-    let i = c.args.place - 1 in
+    let i = c.args.number - 1 in
     let lives : length c.args.self.now.lives ≡ length configs = rw (← c.self.view_is) (length-joined configs marks c.self.invariant.even) in
     let index : i < length configs = omega arith in
     rw (c.remove.ensures.items, c.remove-2.ensures.items, ← c.self.view_is) (joined-remove i configs marks c.self.invariant.even index)

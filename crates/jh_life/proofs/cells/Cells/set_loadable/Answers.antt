@@ -13,14 +13,14 @@ pub returns-clause-list : goal.returns-clause-list
 returns-clause-list c =
     let configs = c.self.inside.configs.items in
     let marks = c.self.inside.marks.items in
-    let even : length (set marks (c.args.place - 1) c.args.on) ≡ length configs = length-set marks (c.args.place - 1) c.args.on ∙ c.self.invariant.even in
-    rw (← c.self.view_is) (list-joined configs (set marks (c.args.place - 1) c.args.on) even ∙ sym (list-joined configs marks c.self.invariant.even))
+    let even : length (set marks (c.args.number - 1) c.args.on) ≡ length configs = length-set marks (c.args.number - 1) c.args.on ∙ c.self.invariant.even in
+    rw (← c.self.view_is) (list-joined configs (set marks (c.args.number - 1) c.args.on) even ∙ sym (list-joined configs marks c.self.invariant.even))
 
 pub returns-clause-marks : goal.returns-clause-marks
 returns-clause-marks c =
     let configs = c.self.inside.configs.items in
     let marks = c.self.inside.marks.items in
-    let even : length (set marks (c.args.place - 1) c.args.on) ≡ length configs = length-set marks (c.args.place - 1) c.args.on ∙ c.self.invariant.even in
+    let even : length (set marks (c.args.number - 1) c.args.on) ≡ length configs = length-set marks (c.args.number - 1) c.args.on ∙ c.self.invariant.even in
     rw (← c.self.view_is)
-    (marks-joined configs (set marks (c.args.place - 1) c.args.on) even
-    ∙ ap (λ (l : List Bool). set l (c.args.place - 1) c.args.on) (sym (marks-joined configs marks c.self.invariant.even)))
+    (marks-joined configs (set marks (c.args.number - 1) c.args.on) even
+    ∙ ap (λ (l : List Bool). set l (c.args.number - 1) c.args.on) (sym (marks-joined configs marks c.self.invariant.even)))

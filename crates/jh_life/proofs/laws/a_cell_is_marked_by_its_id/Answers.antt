@@ -2,7 +2,7 @@ use Rattle.std.proofs.Common.{refl, sym, map, ◌∙◌}
 use Rattle.std.proofs.lemmas.Bool.{eq-eqb}
 use Rattle.jh_life.specs.Changes.{marked}
 use Rattle.jh_life.proofs.ChangeLemmas.{single, lives-same, marked-configs, marked-marks}
-use Rattle.jh_life.proofs.laws.a_place_is_marked_by_its_id.Goals as goal
+use Rattle.jh_life.proofs.laws.a_cell_is_marked_by_its_id.Goals as goal
 
 pub returns : goal.returns
 returns c = λ i cell on new is configs marks.

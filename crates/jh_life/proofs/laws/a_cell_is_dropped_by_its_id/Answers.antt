@@ -1,7 +1,7 @@
 use Rattle.std.proofs.Common.{refl}
 use Rattle.std.proofs.lemmas.Bool.{eq-eqb}
 use Rattle.jh_life.proofs.ChangeLemmas.{single, remove-without}
-use Rattle.jh_life.proofs.laws.a_place_is_dropped_by_its_id.Goals as goal
+use Rattle.jh_life.proofs.laws.a_cell_is_dropped_by_its_id.Goals as goal
 
 pub returns : goal.returns
 returns c = λ i cell is.

@@ -1,8 +1,8 @@
 use Rattle.std.proofs.Common.{true, List, ap, ◌∙◌}
 use Rattle.jh_shape.specs.Claims.{Holder}
 use Rattle.jh_shape.specs.Pages.{tables_of}
-use Rattle.jh_life.proofs.PageLemmas.{tables-le, all-held}
-use Rattle.jh_life.proofs.counting.root_tables.Goals as goal
+use Rattle.jh_shape.proofs.PageLemmas.{tables-le, all-held}
+use Rattle.jh_shape.proofs.pages.root_tables.Goals as goal
 
 pub returns-clause-value : goal.returns-clause-value
 returns-clause-value c =

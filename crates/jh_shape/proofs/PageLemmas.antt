@@ -1,5 +1,5 @@
 -- How many pages tables take at most, and the cells that root's tables depend on.
-use Rattle.std.proofs.Common.{◌≡◌, ℕ, zero, suc, ◌+◌, ◌*◌, ◌/◌, ◌^◌, ◌≤◌, Bool, true, false, cond, List, [], ◌∷◌, ◌++◌, length, map, Option, Some, None, refl, sym, ap, ◌∙◌, arith}
+use Rattle.std.proofs.Common.{◌≡◌, ℕ, ◌+◌, ◌*◌, ◌/◌, ◌^◌, ◌≤◌, true, false, List, [], ◌∷◌, ◌++◌, length, map, Option, Some, None, refl, sym, ap, ◌∙◌, arith}
 use Rattle.std.specs.Prelude.{option_to_list}
 use Rattle.std.specs.Option.{option_copied}
 use Rattle.std.specs.Borrow.{Bor}
@@ -8,21 +8,13 @@ use Rattle.std.proofs.lemmas.Nat.Bits.{bit_at-zero, bit_at_ones}
 use Rattle.jh_num.specs.declared.address.TheConstants.{ADDRESS_END}
 use Rattle.jh_cellcfg.specs.declared.config.CellConfig.{CellConfig}
 use Rattle.jh_shape.specs.Claims.{Claims, Holder, has_bit, held_from, one_more}
-use Rattle.jh_shape.specs.Pages.{count_below, tables_at, tables_of, holder_of}
+use Rattle.jh_shape.specs.Pages.{tables_at, tables_of, holder_of}
 use Rattle.jh_shape.specs.Shapes.{slot_size, is_table}
-
-count_one : (b : Bool) (m n : ℕ) → m ≤ n → m + cond b 1 0 ≤ suc n
-count_one true m n h = omega arith
-count_one false m n h = omega arith
-
-count-le : (test : ℕ → Bool) (n : ℕ) → count_below test n ≤ n
-unfolding count_below
-count-le test zero = omega arith
-count-le test (suc n) = count_one (test n) (count_below test n) n (count-le test n)
+use Rattle.jh_shape.proofs.CountLemmas.{count_below-le}
 
 at-le : (claims : Claims) (level : ℕ) → tables_at claims level ≤ ADDRESS_END / slot_size level
 unfolding tables_at
-at-le claims level = count-le (λ slot. is_table claims level (slot * slot_size level)) (ADDRESS_END / slot_size level)
+at-le claims level = count_below-le (λ slot. is_table claims level (slot * slot_size level)) (ADDRESS_END / slot_size level)
 
 -- the first table, at most 512 of level 1 and 512 times as many of level 2
 pub tables-le : (claims : Claims) → tables_of claims ≤ 2 ^ 20

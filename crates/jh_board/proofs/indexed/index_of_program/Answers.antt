@@ -3,7 +3,7 @@ use Rattle.std.proofs.Common.{◌≡◌, ℕ, length, drop, sym, subst, arith}
 use Rattle.std.specs.Prelude.{find}
 use Rattle.jh_history.specs.Lives.{is_program_of}
 use Rattle.jh_num.proofs.Lists.{find-here, find-nowhere}
-use Rattle.jh_board.proofs.indexed.place_of_program.Goals as goal
+use Rattle.jh_board.proofs.indexed.index_of_program.Goals as goal
 
 pub returns-then-is_program_of : goal.returns-then-is_program_of
 returns-then-is_program_of c =
