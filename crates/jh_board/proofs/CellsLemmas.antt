@@ -25,9 +25,6 @@ use Rattle.jh_history.specs.Commits.{is_other, marked}
 use Rattle.jh_history.specs.Lives.{live_in}
 use Rattle.jh_board.specs.Closed.{IsIndexOf, live_regions, count_regions, AreInRange}
 
-config_of : Live → CellConfig
-config_of live = live.config
-
 -- ---- the index of a cell
 
 position-map : (id : ℕ) (lives : List Live) → position_or_len (has_config_id id) (configs_of lives) ≡ position_or_len (has_id id) lives
@@ -52,16 +49,8 @@ pub index-few : (lives : List Live) (id : ℕ) (r : Option ℕ) → IsIndexOf li
 index-few lives id None is few = tt
 index-few lives id (Some k) is few = let within = is.within in omega arith
 
--- its configuration
-pub live-none : (lives : List Live) (id : ℕ) → IsIndexOf lives id None → live_in lives id ≡ None
-live-none lives id is = ap (option_map (λ (l : Live). l.config)) is
-
 pub live-some : (lives : List Live) (id k : ℕ) → IsIndexOf lives id (Some k) → live_in lives id ≡ slice_get (configs_of lives) k
 live-some lives id k is = ap (option_map (λ (l : Live). l.config)) is.found ∙ sym (slice_get-map (λ (l : Live). l.config) lives k)
-
--- its regions
-pub regions-none : (lives : List Live) (id : ℕ) → IsIndexOf lives id None → live_regions lives id ≡ []
-regions-none lives id is = ap (λ (o : Option CellConfig). option_map_or (λ (c : CellConfig). c.memory_regions) o []) (live-none lives id is)
 
 given : (o : Option CellConfig) (regions : List Region) → option_map (λ (c : CellConfig). c.memory_regions) o ≡ Some regions → option_map_or (λ (c : CellConfig). c.memory_regions) o [] ≡ regions
 given None regions is = absurd (none-some regions is)

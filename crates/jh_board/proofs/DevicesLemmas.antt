@@ -3,7 +3,7 @@ use Rattle.std.proofs.Common.{◌≡◌, ℕ, zero, suc, ◌+◌, ◌<◌, ◌�
 use Rattle.std.specs.Prelude.{All, AllPairs, Contains, slice_get}
 use Rattle.std.specs.List.{AllByRecursion}
 use Rattle.std.proofs.lemmas.Bool.{and_parts, eqb-true}
-use Rattle.std.proofs.lemmas.Option.{slice_get-get_or, get_or_from_slice_get}
+use Rattle.std.proofs.lemmas.Option.{slice_get-get_or}
 use Rattle.std.proofs.lemmas.List.{take_all, length-append, get_or_append_left, get_or-append-add, get_or_default}
 use Rattle.std.proofs.lemmas.List.Elements.{All-contains, All-contains_itself, All-from_recursion, recursion_from_All}
 use Rattle.std.proofs.lemmas.List.Sums.{fold-append}
@@ -113,11 +113,6 @@ all_right P xs ys all k d below =
     let within : length xs + k < length (xs ++ ys) = omega arith in
     subst P (get_or-append-add xs ys k d) (all (length xs + k) d within)
 
-pub all-before : (P : EndpointSpec → Type 0) (config : CellConfig) (n : ℕ) → n < length config.pci_devices → All P (specs_of config) → All P (specs_before config n)
-all-before P config n lt all =
-    let Q : List EndpointSpec → Type 0 = All P in
-    all_left P (specs_before config n) (specs_rest config n) (subst Q (specs_around config n lt) all)
-
 pub all-at : (P : EndpointSpec → Type 0) (config : CellConfig) (n : ℕ) → n < length config.pci_devices → All P (specs_of config) → All P (specs_at config n)
 all-at P config n lt all =
     let Q : List EndpointSpec → Type 0 = All P in
@@ -182,13 +177,6 @@ unfolding specs_of
 specs-within config good range =
     All-from_recursion IsWithin (specs_from config 0 config.pci_devices)
     (within_from config 0 config.pci_devices range (recursion_from_All (λ (d : PciDevice). IsShmem d → IsGoodDevice config d) config.pci_devices good))
-
--- the device of a number is good where it has an endpoint
-pub good-at : (config : CellConfig) (n : ℕ) (device : PciDevice) → HasGoodDevices config → slice_get config.pci_devices n ≡ Some device → n < length config.pci_devices → is_endpoint n device ≡ true → IsGoodDevice config device
-good-at config n device good item below passes =
-    let own : get_or config.pci_devices n device ≡ device = get_or_from_slice_get config.pci_devices n device device item in
-    let P : PciDevice → Type 0 = λ d. IsShmem d → IsGoodDevice config d in
-    subst P own (good n device below) (is-shmem n device passes)
 
 -- ---- endpoints that join
 

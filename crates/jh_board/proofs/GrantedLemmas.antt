@@ -17,7 +17,6 @@ use Rattle.jh_history.specs.declared.access.Reach.{Reach}
 use Rattle.jh_history.specs.declared.access.Reach.TheVariants.{Memory, Nothing}
 use Rattle.jh_history.specs.Places.{places_in_row}
 use Rattle.jh_history.specs.Access.{places_from, place_of, memory_or_nothing, reach_by}
-use Rattle.jh_history.specs.Devices.{list_in}
 use Rattle.jh_history.specs.Grants.{is_kept, unless, granted_in}
 use Rattle.jh_history.specs.Lives.{live_in, regions_in}
 use Rattle.jh_board.specs.Closed.{is_closed_by, live_regions}
@@ -101,10 +100,6 @@ open-all kept places = cond (list_any kept places) None (Some places)
 
 abbrev open-place : (Place → Bool) → (ℕ → Option Place) → ℕ → Option Place
 open-place kept place at = option_and_then (unless kept) (place at)
-
-kept-first : (kept : Place → Bool) (p : Place) (rest : Option (List Place)) → None ≡ option_and_then (λ (ps : List Place). cond (true || list_any kept ps) None (Some ps)) rest
-kept-first kept p None = refl
-kept-first kept p (Some ps) = refl
 
 open-more : (kept : Place → Bool) (p : Place) (b : Bool) (rest : Option (List Place)) → kept p ≡ b
     → cond b None (option_map (λ (ps : List Place). p ∷ ps) (option_and_then (open-all kept) rest)) ≡ option_and_then (open-all kept) (option_map (λ (ps : List Place). p ∷ ps) rest)
@@ -199,15 +194,6 @@ regions-root image lives id own = ap (λ (b : Bool). option_map_or (λ (c : Cell
 
 pub regions-live : (image : Image) (lives : List Live) (id : ℕ) → (id ≡ image.system.root.id → ⊥) → regions_in image lives id ≡ live_regions lives id
 regions-live image lives id other = ap (λ (b : Bool). option_map_or (λ (c : CellConfig). c.memory_regions) (cond b (Some image.system.root) (live_in lives id)) []) (ne_eqb id image.system.root.id other)
-
--- the devices of root, and those of another cell
-pub devices-root : (image : Image) (lives : List Live) (id : ℕ) → id ≡ image.system.root.id → list_in image lives id ≡ image.system.root.pci_devices
-devices-root image lives id own = ap (λ (b : Bool). option_map_or (λ (c : CellConfig). c.pci_devices) (cond b (Some image.system.root) (live_in lives id)) []) (eq-eqb id image.system.root.id own)
-
-pub devices-live : (image : Image) (lives : List Live) (id : ℕ) (found : Option CellConfig) → (id ≡ image.system.root.id → ⊥) → found ≡ live_in lives id → list_in image lives id ≡ option_map_or (λ (c : CellConfig). c.pci_devices) found []
-devices-live image lives id found other is =
-    ap (λ (b : Bool). option_map_or (λ (c : CellConfig). c.pci_devices) (cond b (Some image.system.root) (live_in lives id)) []) (ne_eqb id image.system.root.id other)
-    ∙ ap (λ (o : Option CellConfig). option_map_or (λ (c : CellConfig). c.pci_devices) o []) (sym is)
 
 -- the first run decides, or the second
 pub kept-low : (image : Image) (lives : List Live) (id : ℕ) (low high places : List Place) (a : Bool) → id ≡ image.system.root.id → places ≡ low ++ high

@@ -1,8 +1,7 @@
 -- Regions and programs by an index.
-use Rattle.std.proofs.Common.{◌≡◌, ℕ, ◌<◌, List, [], true, false, cond, eqb, Option, Some, None, refl, sym, ◌∙◌, ap, get_or, arith}
+use Rattle.std.proofs.Common.{◌≡◌, ℕ, ◌<◌, List, [], true, false, cond, Option, Some, None, refl, sym, ◌∙◌, ap, get_or}
 use Rattle.std.specs.Prelude.{slice_get, Contains, IfSome, IsTrue}
 use Rattle.std.specs.Option.{option_map_or}
-use Rattle.std.proofs.lemmas.Bool.Decides.{nat_tests}
 use Rattle.std.proofs.lemmas.Option.{none-some, same_Some}
 use Rattle.jh_num.proofs.Lists.{IsJudged-from_find, find-None}
 use Rattle.jh_cellcfg.specs.Cells.{name_of}
@@ -12,7 +11,7 @@ use Rattle.jh_script.specs.declared.image.Image.{Image}
 use Rattle.jh_script.specs.declared.image.Program.{Program}
 use Rattle.jh_history.specs.declared.access.Access.{Access}
 use Rattle.jh_history.specs.Access.{gives, region_of}
-use Rattle.jh_history.specs.Lives.{program_of, regions_in}
+use Rattle.jh_history.specs.Lives.{program_of}
 use Rattle.jh_cellcfg.specs.Regions.{has_address, IsInRange}
 use Rattle.std.proofs.lemmas.List.Elements.{All-contains}
 use Rattle.jh_history.specs.Admitted.{IsAdmitted}
@@ -51,13 +50,6 @@ pub root_ops_at : (image : Image) (places : List ℕ) (cpu : ℕ) (at : Option P
     → option_map_or (λ (p : Program). p.ops) at [] ≡ program_of image (name_of image.system.root) cpu
 unfolding program_of
 root_ops_at image places cpu at are lt is = ap (λ (o : Option Program). option_map_or (λ (p : Program). p.ops) o []) (is ∙ sym (are cpu lt))
-
--- the regions of root, and of no cell
-pub regions_in-root : (image : Image) (id : ℕ) → id ≡ image.system.root.id → image.system.root.memory_regions ≡ regions_in image [] id
-regions_in-root image id e = let t : eqb id image.system.root.id ≡ true = grind (arith, nat_tests) in rw t refl
-
-pub regions_in-other : (image : Image) (id : ℕ) → (id ≡ image.system.root.id → ⊥) → [] ≡ regions_in image [] id
-regions_in-other image id other = let t : eqb id image.system.root.id ≡ false = grind (arith, nat_tests) in rw t refl
 
 -- a region of root that is found is in range
 found_in_range : (image : Image) (access : Access) (at : ℕ) (o : Option Region) → IsAdmitted image → region_of image.system.root.memory_regions access at ≡ o → IfSome o IsInRange

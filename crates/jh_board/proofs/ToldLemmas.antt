@@ -58,9 +58,6 @@ cell-apart image lives id c clean e i j d lt jl at i_has j_has =
     let same : i ≡ j = clean.addresses a.0 c a.1 i j (get_or c.memory_regions i d) (get_or c.memory_regions j d) (slice_get-get_or c.memory_regions i d (omega arith)) (slice_get-get_or c.memory_regions j d jl) at i_has j_has in
     absurd (omega arith)
 
-pub cell-regions : (image : Image) (lives : List Live) (id : ℕ) (c : CellConfig) → cell_in image lives id ≡ Some c → c.memory_regions ≡ regions_in image lives id
-cell-regions image lives id c e = ap (λ (o : Option CellConfig). option_map_or (λ (x : CellConfig). x.memory_regions) o []) (sym e)
-
 apart_of : (o : Option CellConfig) → ((c : CellConfig) → o ≡ Some c → AllPairs SharesNoAddress c.memory_regions) → AllPairs SharesNoAddress (option_map_or (λ (x : CellConfig). x.memory_regions) o [])
 apart_of None each = λ i j d lt jl. absurd (omega arith)
 apart_of (Some c) each = each c refl

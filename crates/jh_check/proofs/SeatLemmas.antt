@@ -1,5 +1,5 @@
 -- The seats of devices: those at one place stand side by side, and tell of all that are linked.
-use Rattle.std.proofs.Common.{◌≡◌, ℕ, ◌+◌, ◌-◌, ◌<◌, ◌≤◌, Bool, true, false, ◌&&◌, not, ◌==◌, nat_lt, leb, List, length, get_or, take, drop, length-drop, sym, ap, subst, ◌∙◌, inl, inr, arith}
+use Rattle.std.proofs.Common.{◌≡◌, ℕ, ◌+◌, ◌-◌, ◌<◌, ◌≤◌, true, false, ◌&&◌, not, ◌==◌, nat_lt, leb, List, length, get_or, take, drop, length-drop, sym, ap, subst, ◌∙◌, inl, inr, arith}
 use Rattle.std.specs.List.{Contains, AllWithin, list_all}
 use Rattle.std.proofs.lemmas.Bool.{cases_Bool, cases_lt, ltb-true, leb-false, eqb-true, not_from_false, or_left}
 use Rattle.std.proofs.lemmas.List.{get_or-take, get_or-drop, length-take}

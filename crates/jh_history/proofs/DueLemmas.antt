@@ -17,7 +17,7 @@ use Rattle.jh_history.specs.Facts.{Facts}
 use Rattle.jh_history.specs.History.{facts}
 use Rattle.jh_history.specs.Lives.{is_on_board}
 use Rattle.jh_history.specs.Grants.{reach, devices_of}
-use Rattle.jh_history.specs.Wants.{wanted_of, pending_op, IsReachOf, IsReachIn, IsReachOfAct, IsReachOfEntry}
+use Rattle.jh_history.specs.Wants.{wanted_of, IsReachOf, IsReachOfAct, IsReachOfEntry}
 use Rattle.jh_history.specs.Due.{due, IsLegal, due_at, entry_of, next_act, act_of, await_of, entry_by}
 use Rattle.jh_history.proofs.FactsLemmas.{IsLegal-push}
 
@@ -93,10 +93,6 @@ write-reaches i f cell op width at value found is reached = reached (record { ac
 pub entry-reaches : (i : Image) (f : Facts) (cpu cell : ℕ) (found : Reach) (o : Option Act) → IfSome o (λ act. IsReachOfAct i f cell act found) → IfSome (option_map (entry_by cpu cell) o) (λ entry. IsReachOfEntry i f entry found)
 entry-reaches i f cpu cell found None reached = tt
 entry-reaches i f cpu cell found (Some act) reached = reached
-
--- the reach of a pending operation
-pub pending-reach : (i : Image) (f : Facts) (state : Cpu) (cpu : ℕ) (op : Op) (found : Reach) → pending_op i f state cpu ≡ Some op → IsReachIn i f state cpu found → IsReachOf i f state.owner op found
-pending-reach i f state cpu op found is reached = reached op is
 
 is_some-entry : (cpu cell : ℕ) (o : Option Act) → is_some (option_map (entry_by cpu cell) o) ≡ is_some o
 is_some-entry cpu cell None = refl

@@ -1,5 +1,5 @@
 -- Items, one after another.
-use Rattle.std.proofs.Common.{◌≡◌, ℕ, zero, suc, ◌+◌, List, [], ◌∷◌, ◌++◌, Bool, true, false, refl, sym, ◌∙◌, ap, append_assoc, add-zero, add-one, add-suc, cond, arith, ◌⊎◌, inl, inr, ◌<◌, length, Option, Some, None}
+use Rattle.std.proofs.Common.{◌≡◌, ℕ, zero, suc, ◌+◌, List, [], ◌∷◌, ◌++◌, Bool, true, false, refl, sym, ◌∙◌, ap, append_assoc, add-zero, add-suc, cond, arith, ◌⊎◌, inl, inr, ◌<◌, length, Option, Some, None}
 use Rattle.std.specs.List.{fold, AllByRecursion, filter}
 use Rattle.std.specs.Prelude.{nat_lt, IsTrue}
 use Rattle.std.proofs.lemmas.Bool.{false≢true, cases_eq, cases_lt}
@@ -121,10 +121,3 @@ quiet_at image es cpu true few all e = elim (cases_lt cpu 16) [
 pub IsQuiet-from_cpus : (image : Image) (es : List Entry) → ((cpu : ℕ) → IsTrue (is_on_board image cpu) → cpu < 16) → NoneDue image es (cpus_of image) → IsQuiet image es
 unfolding cpus_of
 IsQuiet-from_cpus image es few all cpu = quiet_at image es cpu (is_on_board image cpu) (few cpu) all refl
-
--- one number more that passes, or that doesn't
-pub filter_below_more : (p : ℕ → Bool) (k : ℕ) → p k ≡ true → filter p (below (k + 1)) ≡ filter p (below k) ++ k ∷ []
-filter_below_more p k e = rw (add-one, filter-append, e) refl
-
-pub filter_below_skip : (p : ℕ → Bool) (k : ℕ) → p k ≡ false → filter p (below (k + 1)) ≡ filter p (below k)
-filter_below_skip p k e = rw (add-one, filter-append, e) (append-nil (filter p (below k)))

@@ -150,12 +150,6 @@ marks_to-all id loadable (c ∷ cs) (m ∷ ms) e =
     ap (λ (live : Live). live ∷ joined cs (marks_to (length cs) id loadable cs ms)) (marked_by id loadable c m (has_number id c))
     ∙ ap (λ (rest : List Live). marked id loadable (live_of c m) ∷ rest) (marks_to-all id loadable cs ms (omega arith))
 
-pub marks_to-length : (n id : ℕ) (loadable : Bool) (cells : List CellConfig) (marks : List Bool) → length marks ≡ length cells → length (marks_to n id loadable cells marks) ≡ length cells
-marks_to-length zero id loadable cells marks e = e
-marks_to-length (suc n) id loadable [] marks e = e
-marks_to-length (suc n) id loadable (c ∷ cs) [] e = e
-marks_to-length (suc n) id loadable (c ∷ cs) (m ∷ ms) e = ap (λ k. suc k) (marks_to-length n id loadable cs ms (omega arith))
-
 pub marks_to-put : (i id : ℕ) (loadable : Bool) (cells : List CellConfig) (marks : List Bool) (d : CellConfig) → length marks ≡ length cells → i < length cells → has_number id (get_or cells i d) ≡ true
     → set (marks_to i id loadable cells marks) i loadable ≡ marks_to (suc i) id loadable cells marks
 marks_to-put i id loadable [] marks d e lt is = absurd (omega arith)

@@ -1,4 +1,3 @@
-pub mod AnyLemmas
 pub mod HoldersLemmas
 pub mod WantLemmas
 pub mod SteadyLemmas

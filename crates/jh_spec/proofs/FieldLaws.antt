@@ -1,6 +1,6 @@
 -- Each field is its member's number.
-use Rattle.std.proofs.Common.{◌≡◌, ◌⊎◌, ℕ, ◌^◌, ◌<◌, Bool, true, false, ◌&&◌, ◌==◌, cond, if◌then◌else◌, nat_lt, List, [], ◌∷◌, length, codes, Option, Some, None, Result, Ok, Err, is_some, unwrap_or, replicate, inl, inr, refl, sym, ap, ◌∙◌, subst, option_and_then}
-use Rattle.std.proofs.lemmas.Bool.{and_parts, ltb-true, eqb-true, cases_Bool, false≢true}
+use Rattle.std.proofs.Common.{◌≡◌, ℕ, ◌^◌, ◌<◌, Bool, true, false, ◌&&◌, ◌==◌, cond, if◌then◌else◌, nat_lt, List, ◌∷◌, length, codes, Option, Some, None, Result, Ok, Err, is_some, unwrap_or, replicate, inl, inr, refl, sym, ap, subst, option_and_then}
+use Rattle.std.proofs.lemmas.Bool.{and_parts, ltb-true, eqb-true, false≢true}
 use Rattle.std.proofs.lemmas.Option.{same_Some, none-some}
 use Rattle.serde_json.specs.Data.{Data}
 use Rattle.serde_json.specs.Find.{get}
@@ -13,13 +13,12 @@ use Rattle.jh_cellcfg.specs.declared.region.Region.{Region}
 use Rattle.jh_cellcfg.specs.Spelling.{console_bytes}
 use Rattle.jh_syscfg.specs.declared.platform.Platform.{Platform}
 use Rattle.jh_spec.specs.declared.spec.SpecFault.{SpecFault}
-use Rattle.jh_spec.specs.declared.spec.SpecFault.TheVariants.{Json, Member, NoMemory}
 use Rattle.jh_spec.specs.declared.cell.Identity.{Identity}
 use Rattle.jh_spec.specs.declared.cell.Lists.{Lists}
 use Rattle.jh_spec.specs.declared.cell.Settings.{Settings}
 use Rattle.jh_spec.specs.Faults.{◌>>=◌, member_told, all_listed}
 use Rattle.jh_spec.specs.Json.{told_or, number_told, number_below, list_told, list_at, has_only}
-use Rattle.jh_spec.specs.Fields.{u8_at, u16_at, u32_at, u64_at, u32_told, words_at, words_told, where_told, region_names, irqchip_names, device_names, console_names, region_told, irqchip_told, device_told, console_told}
+use Rattle.jh_spec.specs.Fields.{u8_at, u16_at, u32_at, u64_at, u32_told, words_at, words_told, region_names, irqchip_names, device_names, console_names, region_told, irqchip_told, device_told, console_told}
 use Rattle.jh_spec.specs.Cells.{cell_name, cpu_set_size, cpu_set_in, console_at, region_at, cell_names, system_names, identity_told, lists_told, settings_told, cell_of, cell_told, root_of, root_in, root_told, platform_told, system_of, system_told}
 use Rattle.jh_spec.specs.Laws.{IsNumberOf, AreWordsOf, IsRegionOf, IsIrqchipOf, IsDeviceOf, IsConsoleOf, IsCellOf, IsSystemOf}
 

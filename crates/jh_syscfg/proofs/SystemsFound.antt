@@ -10,7 +10,7 @@ use Rattle.jh_cellcfg.specs.declared.config.SystemConfig.{SystemConfig}
 use Rattle.jh_cellcfg.specs.declared.fault.ConfigFault.{ConfigFault}
 use Rattle.jh_cellcfg.specs.declared.fault.ConfigFault.TheVariants.{Short, Signature, Revision}
 use Rattle.jh_cellcfg.specs.Faults.{fault_if, first_of, u16_at, body_fault}
-use Rattle.jh_cellcfg.specs.Spelling.{u16_bytes, body_bytes}
+use Rattle.jh_cellcfg.specs.Spelling.{u16_bytes}
 use Rattle.jh_cellcfg.proofs.Fields.{IsBytes, IsBytes-take, IsBytes-drop}
 use Rattle.jh_cellcfg.proofs.Found.{body_found, all_bytes}
 use Rattle.jh_syscfg.specs.Layout.{platform_bytes, system_spelling, IsSystem, IsSystemWithinLimits}

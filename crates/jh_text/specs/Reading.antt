@@ -1,6 +1,6 @@
 -- How the reader finds the one entry whose text a line may be, as functions on lists. It may find one where the line
 -- is no entry's text: the reader then sees that the entry's text is another. No public clause rests on this file.
-use Rattle.std.specs.Prelude.{◌≡◌, ◌&&◌, ℕ, ◌+◌, ◌-◌, ◌*◌, ◌^◌, ℤ, pos, ◌-ℤ◌, Bool, true, false, ◌==◌, nat_le, nat_lt, if◌then◌else◌, Option, Some, None, option_and_then, option_map, position, List, [], ◌∷◌, take, drop, codes}
+use Rattle.std.specs.Prelude.{◌≡◌, ℕ, ◌+◌, ◌-◌, ◌^◌, ℤ, pos, ◌-ℤ◌, Bool, true, false, ◌==◌, nat_le, if◌then◌else◌, Option, Some, None, option_and_then, option_map, position, List, [], ◌∷◌, take, drop, codes}
 use Rattle.std.specs.Str.{bytes_eq}
 use Rattle.jh_script.specs.Numbers.{value_of}
 use Rattle.jh_text.specs.Ranges.{is_width}

@@ -37,10 +37,6 @@ is_page q word n page = if nat_eq page q then 1 else 0
 abbrev pub times : (ℕ → ℕ) → ℕ → ℕ → ℕ → ℕ
 times word n page q = count (is_page q) word n page
 
--- how many pages are reached, each as often as it is
-abbrev pub pages_of : (ℕ → ℕ) → ℕ → ℕ → ℕ
-pages_of word n page = count (λ word n page. 1) word n page
-
 -- the 512 words of each page that is reached are the same
 pub record SameTables (word word' : ℕ → ℕ) (n table : ℕ) : Type 0 where
   pub words : (page i : ℕ) → 0 < times word n table page → i < 512 → word' (page + 8 * i) ≡ word (page + 8 * i)
