@@ -1,5 +1,5 @@
 -- The cells that live, by their ids and their indexes.
-use Rattle.std.proofs.Common.{◌≡◌, ℕ, zero, suc, ◌+◌, ◌*◌, ◌/◌, ◌^◌, ◌<◌, ◌≤◌, Bool, true, false, cond, not, List, [], ◌∷◌, ◌++◌, length, get_or, map, remove, position, sum_by, Option, Some, None, refl, sym, ap, subst, ◌∙◌, arith}
+use Rattle.std.proofs.Common.{◌≡◌, ℕ, zero, suc, ◌+◌, ◌*◌, ◌^◌, ◌<◌, ◌≤◌, Bool, true, false, cond, not, List, [], ◌∷◌, ◌++◌, length, get_or, map, remove, position, sum_by, Option, Some, None, refl, sym, ap, subst, ◌∙◌, arith}
 use Rattle.std.specs.Prelude.{All, IfSome, filter, slice_get, option_map, nat_lt}
 use Rattle.std.specs.Option.{option_map_or}
 use Rattle.std.specs.List.{find, position_or_len, Contains, AllByRecursion}
@@ -9,16 +9,14 @@ use Rattle.std.proofs.lemmas.List.{length-map, map-append}
 use Rattle.std.proofs.lemmas.List.Folds.{find_at}
 use Rattle.std.proofs.lemmas.List.Sums.{sum_by-append, sum_by-remove}
 use Rattle.std.proofs.lemmas.List.Elements.{All-contains, All-map, All-from_recursion, recursion_from_All}
-use Rattle.jh_num.specs.declared.address.TheConstants.{ADDRESS_END}
 use Rattle.jh_num.proofs.Lists.{IsJudged-from_find, find-None, Contains-head, Contains-tail}
 use Rattle.jh_cellcfg.specs.declared.config.CellConfig.{CellConfig}
 use Rattle.jh_cellcfg.specs.declared.region.Region.{Region}
 use Rattle.jh_cellcfg.specs.declared.live.Live.{Live}
 use Rattle.jh_cellcfg.specs.Lives.{has_id}
 use Rattle.jh_cellcfg.specs.Regions.{IsInRange}
-use Rattle.jh_shape.specs.Claims.{Claims}
-use Rattle.jh_shape.specs.Pages.{count_below, tables_at, tables_of, pages_of, root_claims, cell_claims}
-use Rattle.jh_shape.specs.Shapes.{slot_size, is_table}
+use Rattle.jh_shape.specs.Pages.{tables_of, pages_of, root_claims, cell_claims}
+use Rattle.jh_shape.proofs.PageLemmas.{tables-le}
 use Rattle.jh_life.specs.Lives.{configs_of, has_config_id, new_live}
 use Rattle.jh_life.specs.Changes.{marked as marked_of}
 use Rattle.jh_history.specs.Commits.{is_other, marked}
@@ -162,27 +160,6 @@ pub configs-added : (lives : List Live) (new : CellConfig) → configs_of (lives
 configs-added lives new = map-append (λ (l : Live). l.config) lives (new_live new ∷ [])
 
 -- ---- pages
-
-count_one : (b : Bool) (m n : ℕ) → m ≤ n → m + cond b 1 0 ≤ suc n
-count_one true m n h = omega arith
-count_one false m n h = omega arith
-
-count-le : (test : ℕ → Bool) (n : ℕ) → count_below test n ≤ n
-unfolding count_below
-count-le test zero = omega arith
-count-le test (suc n) = count_one (test n) (count_below test n) n (count-le test n)
-
-tables_at-le : (claims : Claims) (level : ℕ) → tables_at claims level ≤ ADDRESS_END / slot_size level
-unfolding tables_at
-tables_at-le claims level = count-le (λ slot. is_table claims level (slot * slot_size level)) (ADDRESS_END / slot_size level)
-
-tables-le : (claims : Claims) → tables_of claims ≤ 2 ^ 20
-unfolding tables_of
-tables-le claims =
-    let one : tables_at claims 1 ≤ 512 = tables_at-le claims 1 in
-    let two : tables_at claims 2 ≤ 262144 = tables_at-le claims 2 in
-    let all : 1 + (tables_at claims 1 + (tables_at claims 2 + 0)) ≤ 2 ^ 20 = omega arith in
-    all
 
 cells-le : (cells : List CellConfig) → sum_by (λ (c : CellConfig). tables_of (cell_claims c) + 1) cells ≤ 1048577 * length cells
 cells-le [] = omega arith

@@ -1,5 +1,5 @@
 -- The regions of live cells, and what a map tells of grants.
-use Rattle.std.proofs.Common.{◌≡◌, ℕ, suc, ◌+◌, ◌-◌, ◌<◌, leb, ltb, Bool, true, false, cond, ◌&&◌, ◌||◌, not, eqb, List, [], length, get_or, map, Option, Some, None, Result, refl, sym, ap, subst, ◌∙◌, ⊎_elim, arith}
+use Rattle.std.proofs.Common.{◌≡◌, ℕ, ◌+◌, ◌-◌, ◌<◌, leb, ltb, Bool, true, false, cond, ◌&&◌, ◌||◌, not, eqb, List, [], length, get_or, map, Option, Some, None, Result, refl, sym, ap, subst, ◌∙◌, ⊎_elim, arith}
 use Rattle.std.specs.Prelude.{AllPairs, Contains, IfOk, find, option_map, option_and_then}
 use Rattle.std.specs.Option.{option_map_or}
 use Rattle.std.proofs.lemmas.Bool.{and_parts, and_from, and_left, eq-eqb, ne_eqb, cases_Bool, cases_order, both_ways, false_from_ne_true, leb-true, ltb-true, le-leb, lt-ltb}
@@ -18,6 +18,7 @@ use Rattle.jh_check.specs.Clean.{IsClean, SharesNoAddress}
 use Rattle.jh_check.specs.Laws.{IsNumbered}
 use Rattle.jh_map.specs.declared.run.Run.{Run}
 use Rattle.jh_map.specs.Maps.{is_granted, leads_to, IsIn, IsRunOf, IsRunIn, IsMap}
+use Rattle.jh_map.proofs.MapLemmas.{granted_has}
 use Rattle.jh_script.specs.declared.image.Image.{Image}
 use Rattle.jh_history.specs.declared.access.Access.{Access}
 use Rattle.jh_history.specs.declared.access.Access.TheVariants.{Read, Write, Fetch}
@@ -25,26 +26,17 @@ use Rattle.jh_history.specs.declared.place.Place.{Place}
 use Rattle.jh_history.specs.declared.place.Place.TheVariants.{Physical, Page}
 use Rattle.jh_history.specs.Access.{right_of, gives, place_in_cell, region_of, place_of}
 use Rattle.jh_history.specs.Grants.{unless, granted_by}
-use Rattle.jh_history.specs.Lives.{live_in, cell_in, regions_in}
+use Rattle.jh_history.specs.Lives.{cell_in, regions_in}
 use Rattle.jh_history.specs.Phases.{configs_of}
-use Rattle.jh_history.proofs.LiveLemmas.{has_number, live_in-is}
+use Rattle.jh_history.proofs.GrantedLemmas.{numbered_cell}
 use Rattle.jh_board.specs.Closed.{AreInRange, is_closed_by}
 use Rattle.jh_board.specs.Maps.{is_kept_at, is_right, is_told, place_told, told_grant}
 
 -- ---- regions of live cells
 
-numbered_live : (image : Image) (lives : List Live) (id : ℕ) (c : CellConfig) → live_in lives id ≡ Some c → (a : ℕ) × IsNumbered image.system (configs_of lives) a c
-numbered_live image lives id c e =
-    let held = (IsJudged-from_find (has_number id) (configs_of lives) c (live_in-is lives (configs_of lives) id refl ∙ e)).held in
-    (suc held.0, slice_get-get_or (configs_of lives) held.0 c held.1 ∙ ap Some held.2)
-
-numbered_by : (image : Image) (lives : List Live) (id : ℕ) (c : CellConfig) (b : Bool) → cond b (Some image.system.root) (live_in lives id) ≡ Some c → (a : ℕ) × IsNumbered image.system (configs_of lives) a c
-numbered_by image lives id c true e = (0, e)
-numbered_by image lives id c false e = numbered_live image lives id c e
-
 -- a live cell has a number
 numbered : (image : Image) (lives : List Live) (id : ℕ) (c : CellConfig) → cell_in image lives id ≡ Some c → (a : ℕ) × IsNumbered image.system (configs_of lives) a c
-numbered image lives id c e = numbered_by image lives id c (eqb id image.system.root.id) e
+numbered image lives id c e = numbered_cell image lives id c (eqb id image.system.root.id) e
 
 -- so its regions lie within addresses and places, and no two of them share an address
 pub cell-within : (image : Image) (lives : List Live) (id : ℕ) (c : CellConfig) → IsClean image.system (configs_of lives) → cell_in image lives id ≡ Some c → AreInRange c.memory_regions
@@ -88,9 +80,6 @@ RunsLead = (closed : ℕ → Bool) (r : Region) (run : Run) (at : ℕ) → IsRun
 
 abbrev pub RunsAreSingle : Type 0
 RunsAreSingle = (closed : ℕ → Bool) (regions : List Region) (runs : List Run) (one other : Run) (at : ℕ) → IsMap closed regions runs → Contains runs one → Contains runs other → IsIn one at → IsIn other at → one ≡ other
-
-granted_has : (closed : ℕ → Bool) (r : Region) (at : ℕ) → is_granted closed r at ≡ true → has_address r at ≡ true
-granted_has closed r at h = (and_parts (has_address r at) (is_comm r || not (closed (place_in r at))) h).0
 
 right_is : (access : Access) (r : Region) → is_right access (rights_of r) ≡ has_flags (right_of access) r
 right_is Read r = refl

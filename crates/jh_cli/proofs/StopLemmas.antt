@@ -47,7 +47,7 @@ pub counted_behind : (old mid new : ℕ) (failed : List ℕ) → old ≤ mid →
 counted_behind old mid new failed le r h =
     on_told (IsCounted mid new failed) (IsCounted old new failed) r (λ said counted is. let both = counted is in (rose_behind old mid new le both.0, both.1)) h
 
-abbrev refused_said : List ℕ → List ℕ → Reply
+abbrev pub refused_said : List ℕ → List ℕ → Reply
 refused_said name words = record { status = Refused; text = refusal_line name words }
 
 -- the fault's text is that of the words that it displays

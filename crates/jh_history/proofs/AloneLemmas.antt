@@ -19,7 +19,6 @@ use Rattle.jh_history.specs.declared.place.Place.{Place}
 use Rattle.jh_history.specs.declared.access.Access.TheVariants.{Read as ToRead}
 use Rattle.jh_history.specs.declared.call.OpenCall.{OpenCall}
 use Rattle.jh_history.specs.declared.change.Change.{Change}
-use Rattle.jh_history.specs.declared.change.Change.TheVariants.{Stay, Step, Fail, Stop as Halt}
 use Rattle.jh_history.specs.declared.comm.PageWrite.{PageWrite}
 use Rattle.jh_history.specs.declared.entry.Entry.{Entry}
 use Rattle.jh_history.specs.declared.entry.Act.{Act}
@@ -43,6 +42,7 @@ use Rattle.jh_history.specs.Alone.{IsAlone, IsByRoot, is_phase}
 use Rattle.jh_history.proofs.AdmittedLemmas.{program_of-all}
 use Rattle.jh_history.proofs.DueLemmas.{due_at-absent, due_at-present}
 use Rattle.jh_history.proofs.LegalLemmas.{due-split, IsLegal-begin}
+use Rattle.jh_history.proofs.SoundCpusLemmas.{changed-owner}
 
 -- at opening
 pub alone-start : (image : Image) → IsAlone image (start image)
@@ -169,14 +169,8 @@ acted-own image call (Note id) own i cpu h = absurd (both_ways true h refl)
 acted-own image call (Noted id how) own i cpu h = absurd (both_ways true h refl)
 acted-own image call (Finish answer) own i cpu h = absurd (both_ways true h refl)
 
-owner_kept : (change : Change) (cpu : Cpu) → (changed change cpu).owner ≡ cpu.owner
-owner_kept Stay cpu = refl
-owner_kept Step cpu = refl
-owner_kept Fail cpu = refl
-owner_kept Halt cpu = refl
-
 owner_if : (b : Bool) (change : Change) (cpu : Cpu) → (cond b (changed change cpu) cpu).owner ≡ cpu.owner
-owner_if true change cpu = owner_kept change cpu
+owner_if true change cpu = changed-owner change cpu
 owner_if false change cpu = refl
 
 -- and root is alone behind it

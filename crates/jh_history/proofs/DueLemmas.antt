@@ -31,7 +31,7 @@ pub due_at-present : (image : Image) (f : Facts) (cpu : ℕ) → is_on_board ima
 unfolding due_at
 due_at-present image f cpu e = rw e refl
 
-by_cpu : (cpu cell : ℕ) (entry : Entry) (o : Option Act) → option_map (entry_by cpu cell) o ≡ Some entry → entry.cpu ≡ cpu
+pub by_cpu : (cpu cell : ℕ) (entry : Entry) (o : Option Act) → option_map (entry_by cpu cell) o ≡ Some entry → entry.cpu ≡ cpu
 by_cpu cpu cell entry None h = absurd (none-some entry h)
 by_cpu cpu cell entry (Some act) h = ap (λ (e : Entry). e.cpu) (sym (same_Some (entry_by cpu cell act) entry h))
 
@@ -94,7 +94,7 @@ pub entry-reaches : (i : Image) (f : Facts) (cpu cell : ℕ) (found : Reach) (o 
 entry-reaches i f cpu cell found None reached = tt
 entry-reaches i f cpu cell found (Some act) reached = reached
 
-is_some-entry : (cpu cell : ℕ) (o : Option Act) → is_some (option_map (entry_by cpu cell) o) ≡ is_some o
+pub is_some-entry : (cpu cell : ℕ) (o : Option Act) → is_some (option_map (entry_by cpu cell) o) ≡ is_some o
 is_some-entry cpu cell None = refl
 is_some-entry cpu cell (Some act) = refl
 

@@ -11,6 +11,7 @@ use Rattle.jh_history.specs.Phases.{configs_of}
 use Rattle.jh_history.specs.Calls.{is_told, is_told_by, first_told, behind}
 use Rattle.jh_history.specs.Commits.{marked, is_other}
 use Rattle.jh_history.specs.LiveView.{joined}
+use Rattle.jh_history.proofs.LoopLemmas.{live_of}
 
 abbrev config : Live → CellConfig
 config live = live.config
@@ -111,9 +112,6 @@ pub length-joined : (cells : List CellConfig) (marks : List Bool) → length mar
 length-joined [] marks e = refl
 length-joined (c ∷ cs) [] e = absurd (omega arith)
 length-joined (c ∷ cs) (m ∷ ms) e = ap (λ n. suc n) (length-joined cs ms (omega arith))
-
-abbrev live_of : CellConfig → Bool → Live
-live_of c mark = record { config = c; loadable = mark }
 
 pub joined-push : (cells : List CellConfig) (marks : List Bool) (c : CellConfig) (mark : Bool) → length marks ≡ length cells → joined (cells ++ c ∷ []) (marks ++ mark ∷ []) ≡ joined cells marks ++ live_of c mark ∷ []
 joined-push [] [] c mark e = refl

@@ -70,11 +70,11 @@ not_commit act e other = both_ways true (sym (ap is_commit e) ∙ other) refl
 abbrev Names : List CellConfig → Type 0
 Names configs = All (λ (c : CellConfig). IsSoundBitmap c.cpu_set → IsSoundCpuSet c.cpu_set) configs
 
-after-cells : (image : Image) (f : Facts) (entry : Entry) → (after image f entry).cells ≡ cells_by f.call f.cells entry.act
+pub after-cells : (image : Image) (f : Facts) (entry : Entry) → (after image f entry).cells ≡ cells_by f.call f.cells entry.act
 unfolding after
 after-cells image f entry = refl
 
-after-call : (image : Image) (f : Facts) (entry : Entry) → (after image f entry).call ≡ call_by f.cells (coming_of image f) f.call entry entry.act
+pub after-call : (image : Image) (f : Facts) (entry : Entry) → (after image f entry).call ≡ call_by f.cells (coming_of image f) f.call entry entry.act
 unfolding after
 after-call image f entry = refl
 

@@ -37,7 +37,7 @@ use Rattle.jh_history.specs.Cpus.{is_running}
 use Rattle.jh_history.specs.Pages.{named_cell}
 use Rattle.jh_history.specs.Wants.{goes_on, pending_op}
 use Rattle.jh_history.specs.Phases.{phase_act, keeps_decide, keeps_commit, configs_of, decision, is_down, is_over, settled_by, settled_of, heard_by, heard_of, state_word, reply_word}
-use Rattle.jh_history.specs.Due.{due_at, entry_of, entry_by, next_act, state_act, act_of, await_of, got_by, caller_act, is_idle_but}
+use Rattle.jh_history.specs.Due.{due_at, entry_of, next_act, state_act, act_of, await_of, got_by, caller_act, is_idle_but}
 use Rattle.jh_history.specs.Admitted.{IsAdmitted}
 use Rattle.jh_history.specs.Sound.{AreSoundCells, IsHalted, IsAsked, IsHalting, IsCaller, IsOpen, IsSound}
 use Rattle.jh_laws.specs.Ends.{IsAnswered, IsReadBy, IsGotBy}
@@ -46,6 +46,7 @@ use Rattle.jh_history.proofs.SoundCpusLemmas.{calm-goes, goes-calm, goes-running
 use Rattle.jh_history.proofs.SoundDecideLemmas.{board-few, halted-to_decide, found-live}
 use Rattle.jh_history.proofs.SoundCommitLemmas.{halted-to_commit, named-board}
 use Rattle.jh_history.proofs.SoundDueLemmas.{IsOfProgram, state-parts}
+use Rattle.jh_history.proofs.DueLemmas.{is_some-entry}
 use Rattle.jh_laws.proofs.CallLemmas.{sound-open}
 use Rattle.jh_laws.proofs.HeldLemmas.{found-by_id}
 use Rattle.jh_laws.proofs.PendingLemmas.{next-some, next-is}
@@ -91,15 +92,11 @@ due_op image f id (HvcOp code a b) sound plain due = refl
 
 -- ---- what is due, by the act
 
-some_entry : (cpu cell : ℕ) (o : Option Act) → is_some (option_map (entry_by cpu cell) o) ≡ is_some o
-some_entry cpu cell None = refl
-some_entry cpu cell (Some act) = refl
-
 due_on : (image : Image) (f : Facts) (cpu : ℕ) → is_on_board image cpu ≡ true → is_some (due_at image f cpu) ≡ is_some (next_act image f (f.cpu cpu) cpu)
 unfolding due_at
 due_on image f cpu on =
     let here : cond (is_on_board image cpu) (entry_of image f (f.cpu cpu) cpu) None ≡ entry_of image f (f.cpu cpu) cpu = rw on refl in
-    ap (λ (o : Option Entry). is_some o) here ∙ some_entry cpu (f.cpu cpu).owner (next_act image f (f.cpu cpu) cpu)
+    ap (λ (o : Option Entry). is_some o) here ∙ is_some-entry cpu (f.cpu cpu).owner (next_act image f (f.cpu cpu) cpu)
 
 due_off : (image : Image) (f : Facts) (cpu : ℕ) → is_on_board image cpu ≡ false → is_some (due_at image f cpu) ≡ false
 unfolding due_at
@@ -260,7 +257,7 @@ some_else false x o h = inr h
 some_first : {X : Type 0} (b : Bool) (x : X) (o : Option X) → b ≡ true → is_some (cond b (Some x) o) ≡ true
 some_first b x o h = ap (λ (c : Bool). is_some (cond c (Some x) o)) h
 
-some_later : {X : Type 0} (b : Bool) (x : X) (o : Option X) → is_some o ≡ true → is_some (cond b (Some x) o) ≡ true
+pub some_later : {X : Type 0} (b : Bool) (x : X) (o : Option X) → is_some o ≡ true → is_some (cond b (Some x) o) ≡ true
 some_later true x o h = refl
 some_later false x o h = h
 

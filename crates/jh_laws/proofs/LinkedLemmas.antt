@@ -90,7 +90,7 @@ not_device id n e o differs named =
     let parts = and_parts (eqb o.spec.cell e.spec.cell) (eqb o.spec.device e.spec.device) same in
     differs (sym (eqb-true o.spec.cell id own.0) ∙ eqb-true o.spec.cell e.spec.cell parts.0) (sym (eqb-true o.spec.device n own.1) ∙ eqb-true o.spec.device e.spec.device parts.1))
 
-told_spec : (b : Bool) (o : Endpoint) → (cond b (raised 0 o) o).spec ≡ o.spec
+pub told_spec : (b : Bool) (o : Endpoint) → (cond b (raised 0 o) o).spec ≡ o.spec
 told_spec true o = raised-spec 0 o
 told_spec false o = refl
 

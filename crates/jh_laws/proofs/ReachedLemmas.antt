@@ -272,7 +272,7 @@ pub data Way (image : Image) (f : Facts) (id : ℕ) (access : Access) (at width 
   OnNothing : (IsAnswered image f id access at width → ⊥) → reach image f id access at width ≡ Nothing → Way image f id access at width
 
 -- some register answers
-abbrev ByRegister : Image → Facts → ℕ → Access → ℕ → ℕ → Type 0
+abbrev pub ByRegister : Image → Facts → ℕ → Access → ℕ → ℕ → Type 0
 ByRegister image f id access at width = (n : ℕ) × (bar : ℕ) × (offset : ℕ) × (e : Endpoint) × IsAnsweredByRegister image f id access at width n bar offset e
 
 -- nothing answers where memory doesn't, and neither a region nor the window nor a register does

@@ -1,12 +1,12 @@
 -- What a turn of a running board tells.
 use Rattle.std.proofs.Common.{◌≡◌, ℕ, List, Bool, true, false, Option, Some, None, sym, ap, subst, inl, inr}
-use Rattle.std.specs.Prelude.{IfSome, option_map, if◌then◌else◌}
-use Rattle.std.proofs.lemmas.Option.{none-some, same_Some}
+use Rattle.std.specs.Prelude.{IfSome, if◌then◌else◌}
+use Rattle.std.proofs.lemmas.Option.{none-some}
 use Rattle.jh_history.specs.declared.entry.Entry.{Entry}
-use Rattle.jh_history.specs.declared.entry.Act.{Act}
 use Rattle.jh_script.specs.declared.image.Image.{Image}
 use Rattle.jh_history.specs.Lives.{is_on_board}
-use Rattle.jh_history.specs.Due.{due, due_at, entry_by, IsQuiet}
+use Rattle.jh_history.specs.Due.{due, due_at, IsQuiet}
+use Rattle.jh_history.proofs.DueLemmas.{by_cpu}
 use Rattle.jh_turn.specs.Histories.{Grows}
 use Rattle.jh_board.specs.BoardView.{BoardView}
 use Rattle.jh_run.specs.Origins.{Origin}
@@ -21,10 +21,6 @@ use Rattle.jh_run.specs.declared.run_turn.RunTurn.TheVariants.{Made, Edited, Not
 
 abbrev pub board_origin : BoardView → Origin
 board_origin board = record { image = board.image; limit = board.limit }
-
-by_cpu : (cpu cell : ℕ) (entry : Entry) (o : Option Act) → option_map (entry_by cpu cell) o ≡ Some entry → entry.cpu ≡ cpu
-by_cpu cpu cell entry None h = absurd (none-some entry h)
-by_cpu cpu cell entry (Some act) h = ap (λ (e : Entry). e.cpu) (sym (same_Some (entry_by cpu cell act) entry h))
 
 on_board : (b : Bool) (o : Option Entry) (entry : Entry) → (if b then o else None) ≡ Some entry → o ≡ Some entry
 on_board true o entry h = h

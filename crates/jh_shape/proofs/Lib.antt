@@ -6,3 +6,4 @@ pub mod OrderLemmas
 pub mod GrantLemmas
 pub mod LawLemmas
 pub mod MarkLemmas
+pub mod PageLemmas

@@ -1,5 +1,5 @@
 use Rattle.std.proofs.Common.{◌≤◌, ◌^◌, arith}
-use Rattle.jh_history.proofs.CountLemmas.{tables-le}
+use Rattle.jh_shape.proofs.PageLemmas.{tables-le}
 use Rattle.jh_history.proofs.counting.cell_pages.Goals as goal
 
 pub overflow_add-result : goal.overflow_add-result

@@ -1,7 +1,7 @@
 use Rattle.std.proofs.Common.{true, List, ap, ◌∙◌}
 use Rattle.jh_shape.specs.Claims.{Holder}
 use Rattle.jh_shape.specs.Pages.{tables_of}
-use Rattle.jh_history.proofs.CountLemmas.{tables-le, all-held}
+use Rattle.jh_shape.proofs.PageLemmas.{tables-le, all-held}
 use Rattle.jh_history.proofs.counting.root_tables.Goals as goal
 
 pub returns-clause-value : goal.returns-clause-value

@@ -15,21 +15,23 @@ count_one : (b : Bool) (m n : ℕ) → m ≤ n → m + cond b 1 0 ≤ suc n
 count_one true m n h = omega arith
 count_one false m n h = omega arith
 
-count-le : (test : ℕ → Bool) (n : ℕ) → count_below test n ≤ n
+-- a count of numbers below another is no greater
+pub count-le : (test : ℕ → Bool) (n : ℕ) → count_below test n ≤ n
 unfolding count_below
 count-le test zero = omega arith
 count-le test (suc n) = count_one (test n) (count_below test n) n (count-le test n)
 
-at-le : (claims : Claims) (level : ℕ) → tables_at claims level ≤ ADDRESS_END / slot_size level
+-- the tables of one level
+pub tables_at-le : (claims : Claims) (level : ℕ) → tables_at claims level ≤ ADDRESS_END / slot_size level
 unfolding tables_at
-at-le claims level = count-le (λ slot. is_table claims level (slot * slot_size level)) (ADDRESS_END / slot_size level)
+tables_at-le claims level = count-le (λ slot. is_table claims level (slot * slot_size level)) (ADDRESS_END / slot_size level)
 
 -- the first table, at most 512 of level 1 and 512 times as many of level 2
 pub tables-le : (claims : Claims) → tables_of claims ≤ 2 ^ 20
 unfolding tables_of
 tables-le claims =
-    let one : tables_at claims 1 ≤ 512 = at-le claims 1 in
-    let two : tables_at claims 2 ≤ 262144 = at-le claims 2 in
+    let one : tables_at claims 1 ≤ 512 = tables_at-le claims 1 in
+    let two : tables_at claims 2 ≤ 262144 = tables_at-le claims 2 in
     let all : 1 + (tables_at claims 1 + (tables_at claims 2 + 0)) ≤ 2 ^ 20 = omega arith in
     all
 
