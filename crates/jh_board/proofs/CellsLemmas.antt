@@ -9,7 +9,7 @@ use Rattle.std.proofs.lemmas.List.{length-map, map-append}
 use Rattle.std.proofs.lemmas.List.Folds.{find_at}
 use Rattle.std.proofs.lemmas.List.Sums.{sum_by-append, sum_by-remove}
 use Rattle.std.proofs.lemmas.List.Elements.{All-contains, All-map, All-from_recursion, recursion_from_All}
-use Rattle.jh_num.proofs.Lists.{IsJudged-from_find, find-None, Contains-head, Contains-tail}
+use Rattle.jh_num.proofs.Lists.{IsFound-from_find, find-None, Contains-head, Contains-tail}
 use Rattle.jh_cellcfg.specs.declared.config.CellConfig.{CellConfig}
 use Rattle.jh_cellcfg.specs.declared.region.Region.{Region}
 use Rattle.jh_cellcfg.specs.declared.live.Live.{Live}
@@ -87,7 +87,7 @@ pub record IsCell (lives : List Live) (id k : ℕ) (cell : Live) : Type 0 where
 cell_by : (lives : List Live) (id k : ℕ) (o : Option Live) → slice_get lives k ≡ o → find (has_id id) lives ≡ o → k < length lives → (cell : Live) × IsCell lives id k cell
 cell_by [] id k None at found within = absurd (omega arith)
 cell_by (x ∷ xs) id k None at found within = absurd (none-some _ (sym at ∙ slice_get-get_or (x ∷ xs) k x within))
-cell_by lives id k (Some cell) at found within = (cell, record { at = at; is = eqb-true cell.config.id id (IsJudged-from_find (has_id id) lives cell found).passes })
+cell_by lives id k (Some cell) at found within = (cell, record { at = at; is = eqb-true cell.config.id id (IsFound-from_find (has_id id) lives cell found).passes })
 
 pub cell-at : (lives : List Live) (id k : ℕ) → IsIndexOf lives id (Some k) → (cell : Live) × IsCell lives id k cell
 cell-at lives id k is = cell_by lives id k (slice_get lives k) refl is.found is.within

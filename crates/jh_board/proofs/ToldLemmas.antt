@@ -6,7 +6,7 @@ use Rattle.std.proofs.lemmas.Bool.{and_parts, and_from, and_left, eq-eqb, ne_eqb
 use Rattle.std.proofs.lemmas.Option.{slice_get-get_or}
 use Rattle.std.proofs.lemmas.List.{get_or_default}
 use Rattle.std.proofs.lemmas.List.Elements.{All-contains}
-use Rattle.jh_num.proofs.Lists.{IsJudged, IsJudged-from_find, find-None, find-nothing, find-unique}
+use Rattle.jh_num.proofs.Lists.{IsFound, IsFound-from_find, find-None, find-nothing, find-unique}
 use Rattle.jh_num.specs.declared.no_memory.NoMemory.{NoMemory}
 use Rattle.jh_num.specs.declared.range.Range.{Range}
 use Rattle.jh_num.specs.Bytes.{has_byte}
@@ -161,8 +161,8 @@ told_by leads single kept id regions runs access at page apart is (Some r) e = �
     closed : ℕ → Bool
     closed p = kept (Physical p)
 
-    found : IsJudged (gives access at) regions r
-    found = IsJudged-from_find (gives access at) regions r e
+    found : IsFound (gives access at) regions r
+    found = IsFound-from_find (gives access at) regions r e
 
     has : has_address r at ≡ true
     has = (gives_parts access at r found.passes).0
