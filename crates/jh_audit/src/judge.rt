@@ -61,6 +61,7 @@ fn compare(board: &mut Board, entry: &Entry) -> Result<Compared, NoMemory>
     requires { length board.old.entries < board.old.limit }
     ensures { IfOk result (λ compared. Compares board.old entry.now compared board.new) }
 {
+    // for the proof: the entries so far are legal
     let _ = board.journal();
     let expected = try_entry(board, entry)?;
     if is_due(expected, entry) {
@@ -74,6 +75,7 @@ fn compare(board: &mut Board, entry: &Entry) -> Result<Compared, NoMemory>
 fn whole_verdict(board: &Board) -> Verdict
     ensures { Judges board.now.image board.now.entries result }
 {
+    // for the proof: the entries so far are legal
     let _ = board.journal();
     Verdict::Legal {
         quiet: board.is_quiet(),

@@ -1,5 +1,5 @@
 -- The cells that live, by their ids and their indexes.
-use Rattle.std.proofs.Common.{◌≡◌, ℕ, zero, suc, ◌+◌, ◌*◌, ◌/◌, ◌^◌, ◌<◌, ◌≤◌, Bool, true, false, cond, not, List, [], ◌∷◌, ◌++◌, length, get_or, map, remove, position, sum_by, Option, Some, None, refl, sym, ap, subst, ◌∙◌, arith}
+use Rattle.std.proofs.Common.{◌≡◌, ℕ, zero, suc, ◌+◌, ◌*◌, ◌^◌, ◌<◌, ◌≤◌, Bool, true, false, cond, not, List, [], ◌∷◌, ◌++◌, length, get_or, map, remove, position, sum_by, Option, Some, None, refl, sym, ap, subst, ◌∙◌, arith}
 use Rattle.std.specs.Prelude.{All, IfSome, filter, slice_get, option_map, nat_lt}
 use Rattle.std.specs.Option.{option_map_or}
 use Rattle.std.specs.List.{find, position_or_len, Contains, AllByRecursion}
@@ -9,24 +9,19 @@ use Rattle.std.proofs.lemmas.List.{length-map, map-append}
 use Rattle.std.proofs.lemmas.List.Folds.{find_at}
 use Rattle.std.proofs.lemmas.List.Sums.{sum_by-append, sum_by-remove}
 use Rattle.std.proofs.lemmas.List.Elements.{All-contains, All-map, All-from_recursion, recursion_from_All}
-use Rattle.jh_num.specs.declared.address.TheConstants.{ADDRESS_END}
-use Rattle.jh_num.proofs.Lists.{IsJudged-from_find, find-None, Contains-head, Contains-tail}
+use Rattle.jh_num.proofs.Lists.{IsFound-from_find, find-None, Contains-head, Contains-tail}
 use Rattle.jh_cellcfg.specs.declared.config.CellConfig.{CellConfig}
 use Rattle.jh_cellcfg.specs.declared.region.Region.{Region}
 use Rattle.jh_cellcfg.specs.declared.live.Live.{Live}
 use Rattle.jh_cellcfg.specs.Lives.{has_id}
 use Rattle.jh_cellcfg.specs.Regions.{IsInRange}
-use Rattle.jh_shape.specs.Claims.{Claims}
-use Rattle.jh_shape.specs.Pages.{count_below, tables_at, tables_of, pages_of, root_claims, cell_claims}
-use Rattle.jh_shape.specs.Shapes.{slot_size, is_table}
+use Rattle.jh_shape.specs.Pages.{tables_of, pages_of, root_claims, cell_claims}
+use Rattle.jh_shape.proofs.PageLemmas.{tables-le}
 use Rattle.jh_life.specs.Lives.{configs_of, has_config_id, new_live}
 use Rattle.jh_life.specs.Changes.{marked as marked_of}
 use Rattle.jh_history.specs.Commits.{is_other, marked}
 use Rattle.jh_history.specs.Lives.{live_in}
 use Rattle.jh_board.specs.Closed.{IsIndexOf, live_regions, count_regions, AreInRange}
-
-config_of : Live → CellConfig
-config_of live = live.config
 
 -- ---- the index of a cell
 
@@ -52,16 +47,8 @@ pub index-few : (lives : List Live) (id : ℕ) (r : Option ℕ) → IsIndexOf li
 index-few lives id None is few = tt
 index-few lives id (Some k) is few = let within = is.within in omega arith
 
--- its configuration
-pub live-none : (lives : List Live) (id : ℕ) → IsIndexOf lives id None → live_in lives id ≡ None
-live-none lives id is = ap (option_map (λ (l : Live). l.config)) is
-
 pub live-some : (lives : List Live) (id k : ℕ) → IsIndexOf lives id (Some k) → live_in lives id ≡ slice_get (configs_of lives) k
 live-some lives id k is = ap (option_map (λ (l : Live). l.config)) is.found ∙ sym (slice_get-map (λ (l : Live). l.config) lives k)
-
--- its regions
-pub regions-none : (lives : List Live) (id : ℕ) → IsIndexOf lives id None → live_regions lives id ≡ []
-regions-none lives id is = ap (λ (o : Option CellConfig). option_map_or (λ (c : CellConfig). c.memory_regions) o []) (live-none lives id is)
 
 given : (o : Option CellConfig) (regions : List Region) → option_map (λ (c : CellConfig). c.memory_regions) o ≡ Some regions → option_map_or (λ (c : CellConfig). c.memory_regions) o [] ≡ regions
 given None regions is = absurd (none-some regions is)
@@ -100,7 +87,7 @@ pub record IsCell (lives : List Live) (id k : ℕ) (cell : Live) : Type 0 where
 cell_by : (lives : List Live) (id k : ℕ) (o : Option Live) → slice_get lives k ≡ o → find (has_id id) lives ≡ o → k < length lives → (cell : Live) × IsCell lives id k cell
 cell_by [] id k None at found within = absurd (omega arith)
 cell_by (x ∷ xs) id k None at found within = absurd (none-some _ (sym at ∙ slice_get-get_or (x ∷ xs) k x within))
-cell_by lives id k (Some cell) at found within = (cell, record { at = at; is = eqb-true cell.config.id id (IsJudged-from_find (has_id id) lives cell found).passes })
+cell_by lives id k (Some cell) at found within = (cell, record { at = at; is = eqb-true cell.config.id id (IsFound-from_find (has_id id) lives cell found).passes })
 
 pub cell-at : (lives : List Live) (id k : ℕ) → IsIndexOf lives id (Some k) → (cell : Live) × IsCell lives id k cell
 cell-at lives id k is = cell_by lives id k (slice_get lives k) refl is.found is.within
@@ -173,27 +160,6 @@ pub configs-added : (lives : List Live) (new : CellConfig) → configs_of (lives
 configs-added lives new = map-append (λ (l : Live). l.config) lives (new_live new ∷ [])
 
 -- ---- pages
-
-count_one : (b : Bool) (m n : ℕ) → m ≤ n → m + cond b 1 0 ≤ suc n
-count_one true m n h = omega arith
-count_one false m n h = omega arith
-
-count-le : (test : ℕ → Bool) (n : ℕ) → count_below test n ≤ n
-unfolding count_below
-count-le test zero = omega arith
-count-le test (suc n) = count_one (test n) (count_below test n) n (count-le test n)
-
-tables_at-le : (claims : Claims) (level : ℕ) → tables_at claims level ≤ ADDRESS_END / slot_size level
-unfolding tables_at
-tables_at-le claims level = count-le (λ slot. is_table claims level (slot * slot_size level)) (ADDRESS_END / slot_size level)
-
-tables-le : (claims : Claims) → tables_of claims ≤ 2 ^ 20
-unfolding tables_of
-tables-le claims =
-    let one : tables_at claims 1 ≤ 512 = tables_at-le claims 1 in
-    let two : tables_at claims 2 ≤ 262144 = tables_at-le claims 2 in
-    let all : 1 + (tables_at claims 1 + (tables_at claims 2 + 0)) ≤ 2 ^ 20 = omega arith in
-    all
 
 cells-le : (cells : List CellConfig) → sum_by (λ (c : CellConfig). tables_of (cell_claims c) + 1) cells ≤ 1048577 * length cells
 cells-le [] = omega arith

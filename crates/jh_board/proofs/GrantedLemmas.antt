@@ -17,9 +17,9 @@ use Rattle.jh_history.specs.declared.access.Reach.{Reach}
 use Rattle.jh_history.specs.declared.access.Reach.TheVariants.{Memory, Nothing}
 use Rattle.jh_history.specs.Places.{places_in_row}
 use Rattle.jh_history.specs.Access.{places_from, place_of, memory_or_nothing, reach_by}
-use Rattle.jh_history.specs.Devices.{list_in}
 use Rattle.jh_history.specs.Grants.{is_kept, unless, granted_in}
 use Rattle.jh_history.specs.Lives.{live_in, regions_in}
+use Rattle.jh_history.proofs.GrantedLemmas.{unless_kept}
 use Rattle.jh_board.specs.Closed.{is_closed_by, live_regions}
 
 -- ---- which places root is kept from
@@ -102,10 +102,6 @@ open-all kept places = cond (list_any kept places) None (Some places)
 abbrev open-place : (Place → Bool) → (ℕ → Option Place) → ℕ → Option Place
 open-place kept place at = option_and_then (unless kept) (place at)
 
-kept-first : (kept : Place → Bool) (p : Place) (rest : Option (List Place)) → None ≡ option_and_then (λ (ps : List Place). cond (true || list_any kept ps) None (Some ps)) rest
-kept-first kept p None = refl
-kept-first kept p (Some ps) = refl
-
 open-more : (kept : Place → Bool) (p : Place) (b : Bool) (rest : Option (List Place)) → kept p ≡ b
     → cond b None (option_map (λ (ps : List Place). p ∷ ps) (option_and_then (open-all kept) rest)) ≡ option_and_then (open-all kept) (option_map (λ (ps : List Place). p ∷ ps) rest)
 open-more kept p true None is = refl
@@ -153,24 +149,19 @@ row-granted image lives id access at n row b is kept free =
 pub row-lacking : (image : Image) (lives : List Live) (id : ℕ) (access : Access) (at n : ℕ) → None ≡ places_from (place_of id (regions_in image lives id) access) at n → None ≡ places_from (granted_in image lives id access) at n
 row-lacking image lives id access at n is = row-open-all image lives id access at n None is
 
--- what is reached, where no place of it is kept
-abbrev pub reach_open : (Place → Bool) → Reach → Reach
-reach_open kept (Memory places) = cond (list_any kept places) Nothing (Memory places)
-reach_open kept found = found
-
-reached : (kept : Place → Bool) (found : Option (List Place)) → memory_or_nothing (option_and_then (open-all kept) found) ≡ reach_open kept (memory_or_nothing found)
+reached : (kept : Place → Bool) (found : Option (List Place)) → memory_or_nothing (option_and_then (open-all kept) found) ≡ unless_kept kept (memory_or_nothing found)
 reached kept None = refl
 reached kept (Some ps) = elim (list_any kept ps) as (λ b. memory_or_nothing (cond b None (Some ps)) ≡ cond b Nothing (Memory ps)) [ true ↦ refl | false ↦ refl ]
 
-reach-by-open : (kept : Place → Bool) (place : ℕ → Option Place) (at width : ℕ) → reach_by (open-place kept place) at width ≡ reach_open kept (reach_by place at width)
+reach-by-open : (kept : Place → Bool) (place : ℕ → Option Place) (at width : ℕ) → reach_by (open-place kept place) at width ≡ unless_kept kept (reach_by place at width)
 unfolding reach_by
-reach-by-open kept place at width = elim (nat_le (at + width) ADDRESS_END) as (λ b. cond b (memory_or_nothing (places_from (open-place kept place) at width)) Nothing ≡ reach_open kept (cond b (memory_or_nothing (places_from place at width)) Nothing)) [
+reach-by-open kept place at width = elim (nat_le (at + width) ADDRESS_END) as (λ b. cond b (memory_or_nothing (places_from (open-place kept place) at width)) Nothing ≡ unless_kept kept (cond b (memory_or_nothing (places_from place at width)) Nothing)) [
   | true ↦ ap memory_or_nothing (places-open kept place at width) ∙ reached kept (places_from place at width)
   | false ↦ refl
 ]
 
 pub reach-granted : (image : Image) (lives : List Live) (id : ℕ) (access : Access) (at width : ℕ)
-    → reach_by (granted_in image lives id access) at width ≡ reach_open (is_kept image lives id) (reach_by (place_of id (regions_in image lives id) access) at width)
+    → reach_by (granted_in image lives id access) at width ≡ unless_kept (is_kept image lives id) (reach_by (place_of id (regions_in image lives id) access) at width)
 reach-granted image lives id access at width = reach-by-open (is_kept image lives id) (place_of id (regions_in image lives id) access) at width
 
 abbrev pub reach_of : Image → List Live → ℕ → Access → ℕ → ℕ → Reach
@@ -180,18 +171,18 @@ pub reach-shut : (image : Image) (lives : List Live) (id : ℕ) (access : Access
     → b ≡ list_any (is_kept image lives id) places → b ≡ true → Nothing ≡ reach_by (granted_in image lives id access) at width
 reach-shut image lives id access at width found places b same is kept shut =
     let e : list_any (is_kept image lives id) places ≡ true = sym kept ∙ shut in
-    let all : reach_open (is_kept image lives id) (Memory places) ≡ Nothing = rw e refl in
-    sym (reach-granted image lives id access at width ∙ ap (reach_open (is_kept image lives id)) (sym same ∙ is) ∙ all)
+    let all : unless_kept (is_kept image lives id) (Memory places) ≡ Nothing = rw e refl in
+    sym (reach-granted image lives id access at width ∙ ap (unless_kept (is_kept image lives id)) (sym same ∙ is) ∙ all)
 
 pub reach-free : (image : Image) (lives : List Live) (id : ℕ) (access : Access) (at width : ℕ) (found : Reach) (places : List Place) (b : Bool) → found ≡ reach_of image lives id access at width → found ≡ Memory places
     → b ≡ list_any (is_kept image lives id) places → b ≡ false → Memory places ≡ reach_by (granted_in image lives id access) at width
 reach-free image lives id access at width found places b same is kept free =
     let e : list_any (is_kept image lives id) places ≡ false = sym kept ∙ free in
-    let all : reach_open (is_kept image lives id) (Memory places) ≡ Memory places = rw e refl in
-    sym (reach-granted image lives id access at width ∙ ap (reach_open (is_kept image lives id)) (sym same ∙ is) ∙ all)
+    let all : unless_kept (is_kept image lives id) (Memory places) ≡ Memory places = rw e refl in
+    sym (reach-granted image lives id access at width ∙ ap (unless_kept (is_kept image lives id)) (sym same ∙ is) ∙ all)
 
 pub reach-nothing : (image : Image) (lives : List Live) (id : ℕ) (access : Access) (at width : ℕ) (found : Reach) → found ≡ reach_of image lives id access at width → found ≡ Nothing → Nothing ≡ reach_by (granted_in image lives id access) at width
-reach-nothing image lives id access at width found same is = sym (reach-granted image lives id access at width ∙ ap (reach_open (is_kept image lives id)) (sym same ∙ is))
+reach-nothing image lives id access at width found same is = sym (reach-granted image lives id access at width ∙ ap (unless_kept (is_kept image lives id)) (sym same ∙ is))
 
 -- the regions of root, and of a cell that lives besides it
 pub regions-root : (image : Image) (lives : List Live) (id : ℕ) → id ≡ image.system.root.id → regions_in image lives id ≡ image.system.root.memory_regions
@@ -199,15 +190,6 @@ regions-root image lives id own = ap (λ (b : Bool). option_map_or (λ (c : Cell
 
 pub regions-live : (image : Image) (lives : List Live) (id : ℕ) → (id ≡ image.system.root.id → ⊥) → regions_in image lives id ≡ live_regions lives id
 regions-live image lives id other = ap (λ (b : Bool). option_map_or (λ (c : CellConfig). c.memory_regions) (cond b (Some image.system.root) (live_in lives id)) []) (ne_eqb id image.system.root.id other)
-
--- the devices of root, and those of another cell
-pub devices-root : (image : Image) (lives : List Live) (id : ℕ) → id ≡ image.system.root.id → list_in image lives id ≡ image.system.root.pci_devices
-devices-root image lives id own = ap (λ (b : Bool). option_map_or (λ (c : CellConfig). c.pci_devices) (cond b (Some image.system.root) (live_in lives id)) []) (eq-eqb id image.system.root.id own)
-
-pub devices-live : (image : Image) (lives : List Live) (id : ℕ) (found : Option CellConfig) → (id ≡ image.system.root.id → ⊥) → found ≡ live_in lives id → list_in image lives id ≡ option_map_or (λ (c : CellConfig). c.pci_devices) found []
-devices-live image lives id found other is =
-    ap (λ (b : Bool). option_map_or (λ (c : CellConfig). c.pci_devices) (cond b (Some image.system.root) (live_in lives id)) []) (ne_eqb id image.system.root.id other)
-    ∙ ap (λ (o : Option CellConfig). option_map_or (λ (c : CellConfig). c.pci_devices) o []) (sym is)
 
 -- the first run decides, or the second
 pub kept-low : (image : Image) (lives : List Live) (id : ℕ) (low high places : List Place) (a : Bool) → id ≡ image.system.root.id → places ≡ low ++ high

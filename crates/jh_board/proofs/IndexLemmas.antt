@@ -1,10 +1,9 @@
 -- Regions and programs by an index.
-use Rattle.std.proofs.Common.{◌≡◌, ℕ, ◌<◌, List, [], true, false, cond, eqb, Option, Some, None, refl, sym, ◌∙◌, ap, get_or, arith}
+use Rattle.std.proofs.Common.{◌≡◌, ℕ, ◌<◌, List, [], true, false, cond, Option, Some, None, refl, sym, ◌∙◌, ap, get_or}
 use Rattle.std.specs.Prelude.{slice_get, Contains, IfSome, IsTrue}
 use Rattle.std.specs.Option.{option_map_or}
-use Rattle.std.proofs.lemmas.Bool.Decides.{nat_tests}
 use Rattle.std.proofs.lemmas.Option.{none-some, same_Some}
-use Rattle.jh_num.proofs.Lists.{IsJudged-from_find, find-None}
+use Rattle.jh_num.proofs.Lists.{IsFound-from_find, find-None}
 use Rattle.jh_cellcfg.specs.Cells.{name_of}
 use Rattle.jh_cellcfg.specs.declared.region.Region.{Region}
 use Rattle.jh_mmio.specs.Index.{IsRegionAt}
@@ -12,7 +11,7 @@ use Rattle.jh_script.specs.declared.image.Image.{Image}
 use Rattle.jh_script.specs.declared.image.Program.{Program}
 use Rattle.jh_history.specs.declared.access.Access.{Access}
 use Rattle.jh_history.specs.Access.{gives, region_of}
-use Rattle.jh_history.specs.Lives.{program_of, regions_in}
+use Rattle.jh_history.specs.Lives.{program_of}
 use Rattle.jh_cellcfg.specs.Regions.{has_address, IsInRange}
 use Rattle.std.proofs.lemmas.List.Elements.{All-contains}
 use Rattle.jh_history.specs.Admitted.{IsAdmitted}
@@ -23,7 +22,7 @@ use Rattle.jh_board.specs.Indexed.{AreRootPrograms}
 giving_by : (regions : List Region) (access : Access) (at : ℕ) (c : Region) (o : Option Region) → region_of regions access at ≡ o → IsRegionAt regions at (Some c) → cond (gives access at c) (Some c) None ≡ o
 giving_by regions access at c None e is = let no : gives access at c ≡ false = find-None (gives access at) regions c e is.own in rw no refl
 giving_by regions access at c (Some r) e is =
-    let found = IsJudged-from_find (gives access at) regions r e in
+    let found = IsFound-from_find (gives access at) regions r e in
     let same : c ≡ r = same_Some c r (is.only r found.held (gives-has access at r found.passes)) in
     let yes : gives access at c ≡ true = ap (gives access at) same ∙ found.passes in
     rw yes (ap (λ (x : Region). Some x) same)
@@ -41,7 +40,7 @@ giving-false regions access at c is fails = let e : None ≡ cond (gives access 
 none_by : (regions : List Region) (access : Access) (at : ℕ) (o : Option Region) → region_of regions access at ≡ o → IsRegionAt regions at None → None ≡ o
 none_by regions access at None e is = refl
 none_by regions access at (Some r) e is =
-    let found = IsJudged-from_find (gives access at) regions r e in absurd (none-some r (is.only r found.held (gives-has access at r found.passes)))
+    let found = IsFound-from_find (gives access at) regions r e in absurd (none-some r (is.only r found.held (gives-has access at r found.passes)))
 
 pub region_of-none : (regions : List Region) (access : Access) (at : ℕ) → IsRegionAt regions at None → None ≡ region_of regions access at
 region_of-none regions access at is = none_by regions access at (region_of regions access at) refl is
@@ -52,18 +51,11 @@ pub root_ops_at : (image : Image) (places : List ℕ) (cpu : ℕ) (at : Option P
 unfolding program_of
 root_ops_at image places cpu at are lt is = ap (λ (o : Option Program). option_map_or (λ (p : Program). p.ops) o []) (is ∙ sym (are cpu lt))
 
--- the regions of root, and of no cell
-pub regions_in-root : (image : Image) (id : ℕ) → id ≡ image.system.root.id → image.system.root.memory_regions ≡ regions_in image [] id
-regions_in-root image id e = let t : eqb id image.system.root.id ≡ true = grind (arith, nat_tests) in rw t refl
-
-pub regions_in-other : (image : Image) (id : ℕ) → (id ≡ image.system.root.id → ⊥) → [] ≡ regions_in image [] id
-regions_in-other image id other = let t : eqb id image.system.root.id ≡ false = grind (arith, nat_tests) in rw t refl
-
 -- a region of root that is found is in range
 found_in_range : (image : Image) (access : Access) (at : ℕ) (o : Option Region) → IsAdmitted image → region_of image.system.root.memory_regions access at ≡ o → IfSome o IsInRange
 found_in_range image access at None admitted e = tt
 found_in_range image access at (Some r) admitted e =
-    let found = IsJudged-from_find (gives access at) image.system.root.memory_regions r e in
+    let found = IsFound-from_find (gives access at) image.system.root.memory_regions r e in
     All-contains (λ (x : Region). 0 < x.size → IsInRange x) image.system.root.memory_regions r (within image admitted) found.held (has-some r at (gives-has access at r found.passes))
 
 pub region_of-in_range : (image : Image) (access : Access) (at : ℕ) (o : Option Region) → IsAdmitted image → o ≡ region_of image.system.root.memory_regions access at → IfSome o IsInRange

@@ -1,14 +1,12 @@
 -- What a board holds, by the facts.
-use Rattle.std.proofs.Common.{◌≡◌, ℕ, ◌<◌, List, [], Some, None, true, false, refl, ◌∙◌, ap}
+use Rattle.std.proofs.Common.{◌≡◌, ℕ, ◌<◌, List, [], Some, None, ◌∙◌, ap}
 use Rattle.std.specs.Prelude.{slice_get, replicate, fold}
-use Rattle.std.proofs.lemmas.Bool.{both_ways}
 use Rattle.std.proofs.lemmas.Option.{slice_get-get_or}
 use Rattle.std.proofs.lemmas.List.{length-replicate, get_or-replicate}
 use Rattle.std.proofs.lemmas.List.Elements.{All-from_recursion}
 use Rattle.jh_cellcfg.specs.declared.live.Live.{Live}
 use Rattle.jh_script.specs.declared.image.Image.{Image}
 use Rattle.jh_cpu.specs.declared.cpu.Cpu.{Cpu}
-use Rattle.jh_history.specs.Places.{is_physical}
 use Rattle.jh_history.specs.DueFacts.{NamesCpu}
 use Rattle.jh_history.specs.History.{facts, start}
 use Rattle.jh_history.specs.Bytes.{preloaded, loaded_byte}
@@ -16,7 +14,7 @@ use Rattle.jh_history.proofs.FactsLemmas.{facts-nil}
 use Rattle.jh_history.specs.declared.place.Place.{Place}
 use Rattle.jh_history.specs.declared.place.Place.TheVariants.{Physical, Page}
 use Rattle.jh_board.specs.declared.held.Held.{Held}
-use Rattle.jh_board.specs.Pages.{byte_at, byte_of, comm_byte, MayHold, MemoryView}
+use Rattle.jh_board.specs.Pages.{byte_at, byte_of, comm_byte, MemoryView}
 use Rattle.jh_board.specs.Means.{Means, HoldsPageOf, HoldsWords}
 
 -- an element of equal elements
@@ -45,8 +43,3 @@ pub loaded-bytes : (image : Image) (memory : MemoryView) → ((a : ℕ) → byte
     → (q : Place) → byte_of memory q ≡ loaded_byte image q
 loaded-bytes image memory same none (Physical a) = same a
 loaded-bytes image memory same none (Page cell offset) = none cell offset
-
--- places of physical memory can be written
-pub MayHold-physical : (memory : MemoryView) (q : Place) → is_physical q ≡ true → MayHold memory q
-MayHold-physical memory (Physical a) h = tt
-MayHold-physical memory (Page cell offset) h = absurd (both_ways false refl h)

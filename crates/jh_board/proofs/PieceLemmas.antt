@@ -10,7 +10,8 @@ use Rattle.std.proofs.Math.Nat.{div-div-eq-div-mul, div-one, pow-suc, pow-le-pow
 use Rattle.jh_num.specs.Memory.{spelled, stored}
 use Rattle.jh_history.specs.declared.place.Place.{Place}
 use Rattle.jh_history.specs.declared.place.Place.TheVariants.{Physical, Page}
-use Rattle.jh_history.specs.Places.{places_in_row, further, with_byte, written}
+use Rattle.jh_history.specs.Places.{places_in_row, with_byte, written}
+use Rattle.jh_history.proofs.ValueLemmas.{row-length}
 use Rattle.jh_board.specs.Pages.{page_at, byte_in, bytes_from, byte_at, byte_of, comm_byte, MemoryView}
 
 abbrev Pages : Type 0
@@ -165,10 +166,6 @@ fits-zero n =
     let least : 0 ≤ n = omega arith in
     let h : 256 ^ 0 ≤ 256 ^ n = pow-le-pow_right (omega arith) least in
     omega (arith, h)
-
-row-length : (p : Place) (n : ℕ) → length (places_in_row p n) ≡ n
-row-length p zero = refl
-row-length p (suc n) = ap suc (row-length (further p 1) n)
 
 -- a number of so many bytes as a row has places
 pub fits-in_row : (v n : ℕ) (p : Place) (places : List Place) → places ≡ places_in_row p n → v < 256 ^ n → v < 256 ^ length places

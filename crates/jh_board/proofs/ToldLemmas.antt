@@ -1,12 +1,12 @@
 -- The regions of live cells, and what a map tells of grants.
-use Rattle.std.proofs.Common.{◌≡◌, ℕ, suc, ◌+◌, ◌-◌, ◌<◌, leb, ltb, Bool, true, false, cond, ◌&&◌, ◌||◌, not, eqb, List, [], length, get_or, map, Option, Some, None, Result, refl, sym, ap, subst, ◌∙◌, ⊎_elim, arith}
+use Rattle.std.proofs.Common.{◌≡◌, ℕ, ◌+◌, ◌-◌, ◌<◌, leb, ltb, Bool, true, false, cond, ◌&&◌, ◌||◌, not, eqb, List, [], length, get_or, map, Option, Some, None, Result, refl, sym, ap, subst, ◌∙◌, ⊎_elim, arith}
 use Rattle.std.specs.Prelude.{AllPairs, Contains, IfOk, find, option_map, option_and_then}
 use Rattle.std.specs.Option.{option_map_or}
 use Rattle.std.proofs.lemmas.Bool.{and_parts, and_from, and_left, eq-eqb, ne_eqb, cases_Bool, cases_order, both_ways, false_from_ne_true, leb-true, ltb-true, le-leb, lt-ltb}
 use Rattle.std.proofs.lemmas.Option.{slice_get-get_or}
 use Rattle.std.proofs.lemmas.List.{get_or_default}
 use Rattle.std.proofs.lemmas.List.Elements.{All-contains}
-use Rattle.jh_num.proofs.Lists.{IsJudged, IsJudged-from_find, find-None, find-nothing, find-unique}
+use Rattle.jh_num.proofs.Lists.{IsFound, IsFound-from_find, find-None, find-nothing, find-unique}
 use Rattle.jh_num.specs.declared.no_memory.NoMemory.{NoMemory}
 use Rattle.jh_num.specs.declared.range.Range.{Range}
 use Rattle.jh_num.specs.Bytes.{has_byte}
@@ -18,6 +18,7 @@ use Rattle.jh_check.specs.Clean.{IsClean, SharesNoAddress}
 use Rattle.jh_check.specs.Laws.{IsNumbered}
 use Rattle.jh_map.specs.declared.run.Run.{Run}
 use Rattle.jh_map.specs.Maps.{is_granted, leads_to, IsIn, IsRunOf, IsRunIn, IsMap}
+use Rattle.jh_map.proofs.MapLemmas.{granted_has}
 use Rattle.jh_script.specs.declared.image.Image.{Image}
 use Rattle.jh_history.specs.declared.access.Access.{Access}
 use Rattle.jh_history.specs.declared.access.Access.TheVariants.{Read, Write, Fetch}
@@ -25,26 +26,17 @@ use Rattle.jh_history.specs.declared.place.Place.{Place}
 use Rattle.jh_history.specs.declared.place.Place.TheVariants.{Physical, Page}
 use Rattle.jh_history.specs.Access.{right_of, gives, place_in_cell, region_of, place_of}
 use Rattle.jh_history.specs.Grants.{unless, granted_by}
-use Rattle.jh_history.specs.Lives.{live_in, cell_in, regions_in}
+use Rattle.jh_history.specs.Lives.{cell_in, regions_in}
 use Rattle.jh_history.specs.Phases.{configs_of}
-use Rattle.jh_history.proofs.LiveLemmas.{has_number, live_in-is}
+use Rattle.jh_history.proofs.GrantedLemmas.{numbered_cell}
 use Rattle.jh_board.specs.Closed.{AreInRange, is_closed_by}
 use Rattle.jh_board.specs.Maps.{is_kept_at, is_right, is_told, place_told, told_grant}
 
 -- ---- regions of live cells
 
-numbered_live : (image : Image) (lives : List Live) (id : ℕ) (c : CellConfig) → live_in lives id ≡ Some c → (a : ℕ) × IsNumbered image.system (configs_of lives) a c
-numbered_live image lives id c e =
-    let held = (IsJudged-from_find (has_number id) (configs_of lives) c (live_in-is lives (configs_of lives) id refl ∙ e)).held in
-    (suc held.0, slice_get-get_or (configs_of lives) held.0 c held.1 ∙ ap Some held.2)
-
-numbered_by : (image : Image) (lives : List Live) (id : ℕ) (c : CellConfig) (b : Bool) → cond b (Some image.system.root) (live_in lives id) ≡ Some c → (a : ℕ) × IsNumbered image.system (configs_of lives) a c
-numbered_by image lives id c true e = (0, e)
-numbered_by image lives id c false e = numbered_live image lives id c e
-
 -- a live cell has a number
 numbered : (image : Image) (lives : List Live) (id : ℕ) (c : CellConfig) → cell_in image lives id ≡ Some c → (a : ℕ) × IsNumbered image.system (configs_of lives) a c
-numbered image lives id c e = numbered_by image lives id c (eqb id image.system.root.id) e
+numbered image lives id c e = numbered_cell image lives id c (eqb id image.system.root.id) e
 
 -- so its regions lie within addresses and places, and no two of them share an address
 pub cell-within : (image : Image) (lives : List Live) (id : ℕ) (c : CellConfig) → IsClean image.system (configs_of lives) → cell_in image lives id ≡ Some c → AreInRange c.memory_regions
@@ -57,9 +49,6 @@ cell-apart image lives id c clean e i j d lt jl at i_has j_has =
     let a = numbered image lives id c e in
     let same : i ≡ j = clean.addresses a.0 c a.1 i j (get_or c.memory_regions i d) (get_or c.memory_regions j d) (slice_get-get_or c.memory_regions i d (omega arith)) (slice_get-get_or c.memory_regions j d jl) at i_has j_has in
     absurd (omega arith)
-
-pub cell-regions : (image : Image) (lives : List Live) (id : ℕ) (c : CellConfig) → cell_in image lives id ≡ Some c → c.memory_regions ≡ regions_in image lives id
-cell-regions image lives id c e = ap (λ (o : Option CellConfig). option_map_or (λ (x : CellConfig). x.memory_regions) o []) (sym e)
 
 apart_of : (o : Option CellConfig) → ((c : CellConfig) → o ≡ Some c → AllPairs SharesNoAddress c.memory_regions) → AllPairs SharesNoAddress (option_map_or (λ (x : CellConfig). x.memory_regions) o [])
 apart_of None each = λ i j d lt jl. absurd (omega arith)
@@ -91,9 +80,6 @@ RunsLead = (closed : ℕ → Bool) (r : Region) (run : Run) (at : ℕ) → IsRun
 
 abbrev pub RunsAreSingle : Type 0
 RunsAreSingle = (closed : ℕ → Bool) (regions : List Region) (runs : List Run) (one other : Run) (at : ℕ) → IsMap closed regions runs → Contains runs one → Contains runs other → IsIn one at → IsIn other at → one ≡ other
-
-granted_has : (closed : ℕ → Bool) (r : Region) (at : ℕ) → is_granted closed r at ≡ true → has_address r at ≡ true
-granted_has closed r at h = (and_parts (has_address r at) (is_comm r || not (closed (place_in r at))) h).0
 
 right_is : (access : Access) (r : Region) → is_right access (rights_of r) ≡ has_flags (right_of access) r
 right_is Read r = refl
@@ -175,8 +161,8 @@ told_by leads single kept id regions runs access at page apart is (Some r) e = �
     closed : ℕ → Bool
     closed p = kept (Physical p)
 
-    found : IsJudged (gives access at) regions r
-    found = IsJudged-from_find (gives access at) regions r e
+    found : IsFound (gives access at) regions r
+    found = IsFound-from_find (gives access at) regions r e
 
     has : has_address r at ≡ true
     has = (gives_parts access at r found.passes).0

@@ -227,6 +227,7 @@ impl LiveCells {
         a_cell_is_dropped_by_its_id(&self.cells);
         self.regions -= self.cells.list()[index].memory_regions.len();
         self.cells.drop_cell(index as u32 + 1);
+        // its index goes with it
         let _ = self.indexes.remove(index);
         close_again(&mut self.closed, self.cells.list(), self.cells.loadable());
         self.used = count_pages(&self.cells);

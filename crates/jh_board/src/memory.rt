@@ -163,6 +163,7 @@ impl Memory {
     {
         let (low, high) = places.runs();
         let rest = self.write_run(low, value);
+        // what is left of the value has no place
         let _rest = self.write_run(high, rest);
     }
 

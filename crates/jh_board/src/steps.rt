@@ -225,6 +225,7 @@ fn make_devices(image: &IndexedImage, held: &mut Held, entry: &Entry, reach: &Re
             write_slot_if(&mut held.memory, slot);
         }
         Act::Irq { .. } => {
+            // the entry names the vector already
             let _ = held.endpoints.take(entry.cell);
         }
         _ => {}

@@ -20,6 +20,7 @@ use Rattle.jh_cellcfg.specs.Spelling.{u16_bytes, u32_bytes, region_bytes, irqchi
 use Rattle.jh_cellcfg.specs.Limits.{is_name, parts_size, whole_size, AreWithinLimits, IsWithinLimits}
 use Rattle.jh_cellcfg.specs.Widths.{IsRegion, IsIrqchip, IsDevice, IsWordArray, IsHeader, IsCell}
 use Rattle.jh_cellcfg.proofs.Splits.{array_splits, list_splits, u32_splits, region_splits, irqchip_splits, device_splits, header_splits}
+use Rattle.jh_cellcfg.proofs.Found.{Free}
 
 -- the header of a configuration within the limits
 pub header_fits : (c : CellConfig) → IsCell c → IsWithinLimits c → IsHeader (header_of c)
@@ -65,9 +66,6 @@ pub one_spelling : (a b : CellConfig) → IsCell a → IsCell b → IsWithinLimi
 one_spelling a b fa fb la lb e = one_body a b fa fb la lb (ap (drop 8) e)
 
 -- ---- a spelling has no fault
-
-record Free (faults : List (Option ConfigFault)) : Type 0 where
-  none : first_of faults ≡ None
 
 none_left : Free []
 none_left = record { none = refl }

@@ -35,14 +35,14 @@ pub record Field {R : Type 0} (f : R → List ℕ) (Fits : R → Type 0) (size :
   pub len : (x : R) → Fits x → length (f x) ≡ size
   pub takes : (bytes : List ℕ) → IsBytes bytes → size ≤ length bytes → Taken f Fits bytes
 
-u8_takes : (bytes : List ℕ) → IsBytes bytes → 1 ≤ length bytes → Taken u8_bytes (λ n. n < 2 ^ 8) bytes
+pub u8_takes : (bytes : List ℕ) → IsBytes bytes → 1 ≤ length bytes → Taken u8_bytes (λ n. n < 2 ^ 8) bytes
 u8_takes [] all long = absurd (omega arith)
 u8_takes (b ∷ rest) all long = record { value = b; rest = rest; is = refl; fits = all 0; more = λ i. all (suc i) }
 
-u8_field : Field u8_bytes (λ n. n < 2 ^ 8) 1
+pub u8_field : Field u8_bytes (λ n. n < 2 ^ 8) 1
 u8_field = record { len = λ x h. refl; takes = u8_takes }
 
-u16_field : Field u16_bytes (λ n. n < 2 ^ 16) 2
+pub u16_field : Field u16_bytes (λ n. n < 2 ^ 16) 2
 u16_field = record {
   len = λ x h. refl;
   takes = λ bytes all long.
@@ -70,7 +70,7 @@ u32_field = record {
       };
 }
 
-u64_field : Field u64_bytes (λ n. n < 2 ^ 64) 8
+pub u64_field : Field u64_bytes (λ n. n < 2 ^ 64) 8
 u64_field = record {
   len = λ x h. refl;
   takes = λ bytes all long.

@@ -21,17 +21,17 @@ use Rattle.jh_cellcfg.proofs.Headers.{header_name, header_counts}
 use Rattle.jh_cellcfg.proofs.Fields.{IsBytes, IsBytes-drop, IsBytes-take, array_field, list_field, both, u32_field, region_field, irqchip_field, device_field, header_field}
 
 -- none of these is a fault
-record Free (faults : List (Option ConfigFault)) : Type 0 where
-  none : first_of faults ≡ None
+pub record Free (faults : List (Option ConfigFault)) : Type 0 where
+  pub none : first_of faults ≡ None
 
 free : (faults : List (Option ConfigFault)) → first_of faults ≡ None → Free faults
 free faults e = record { none = e }
 
-head_of : (o : Option ConfigFault) (os : List (Option ConfigFault)) → first_of (o ∷ os) ≡ None → o ≡ None
+pub head_of : (o : Option ConfigFault) (os : List (Option ConfigFault)) → first_of (o ∷ os) ≡ None → o ≡ None
 head_of None os e = refl
 head_of (Some fault) os e = absurd cc
 
-rest_of : (o : Option ConfigFault) (os : List (Option ConfigFault)) → first_of (o ∷ os) ≡ None → first_of os ≡ None
+pub rest_of : (o : Option ConfigFault) (os : List (Option ConfigFault)) → first_of (o ∷ os) ≡ None → first_of os ≡ None
 rest_of None os e = e
 rest_of (Some fault) os e = absurd cc
 
@@ -41,7 +41,7 @@ head_none {o = o} {os = os} faults = head_of o os faults.none
 rest_none : {o : Option ConfigFault} {os : List (Option ConfigFault)} → Free (o ∷ os) → Free os
 rest_none {o = o} {os = os} faults = record { none = rest_of o os faults.none }
 
-passed : (test : Bool) (fault : ConfigFault) → fault_if test fault ≡ None → test ≡ false
+pub passed : (test : Bool) (fault : ConfigFault) → fault_if test fault ≡ None → test ≡ false
 passed true fault e = absurd cc
 passed false fault e = refl
 
@@ -183,11 +183,11 @@ body_found front body all long none =
       t.is ∙ (λ i. header_bytes (sym found.2 i) ++ found.3 i),
     )
 
-and_splits : (a b : Bool) → (a && b) ≡ true → (a ≡ true) × (b ≡ true)
+pub and_splits : (a b : Bool) → (a && b) ≡ true → (a ≡ true) × (b ≡ true)
 and_splits true b e = (refl, e)
 and_splits false b e = absurd cc
 
-pointwise_same : (xs ys : List ℕ) → pointwise nat_eq xs ys ≡ true → xs ≡ ys
+pub pointwise_same : (xs ys : List ℕ) → pointwise nat_eq xs ys ≡ true → xs ≡ ys
 pointwise_same [] [] e = refl
 pointwise_same [] (y ∷ ys) e = absurd cc
 pointwise_same (x ∷ xs) [] e = absurd cc

@@ -9,12 +9,13 @@ use Rattle.jh_cellcfg.specs.declared.config.CellConfig.{CellConfig}
 use Rattle.jh_cellcfg.specs.declared.config.Irqchip.{Irqchip}
 use Rattle.jh_cellcfg.specs.declared.config.PciDevice.{PciDevice}
 use Rattle.jh_cellcfg.specs.declared.fault.ConfigFault.{ConfigFault}
-use Rattle.jh_cellcfg.specs.Spelling.{u8_bytes, u16_bytes, u32_bytes, u64_bytes, region_bytes, irqchip_bytes, device_bytes, counts_of, header_of, header_bytes, parts_bytes, body_bytes, spelling}
+use Rattle.jh_cellcfg.specs.Spelling.{u16_bytes, u32_bytes, u64_bytes, region_bytes, irqchip_bytes, device_bytes, counts_of, header_of, header_bytes, parts_bytes, body_bytes, spelling}
 use Rattle.jh_cellcfg.specs.Widths.{IsRegion, IsIrqchip, IsDevice, IsCell}
 use Rattle.jh_cellcfg.specs.Limits.{IsWithinLimits}
 use Rattle.jh_cellcfg.specs.Reading.{records, word_of, same_bytes, region_of, irqchip_of, device_of, config_with, config_of_body, config_of}
 use Rattle.jh_cellcfg.proofs.Headers.{behind_name, regrouped, header_name, header_counts}
 use Rattle.jh_cellcfg.proofs.Faultless.{header_fits, length-flat_map_each, length-words, length-irqchip_bytes, length-device_bytes, length-header_bytes}
+use Rattle.jh_cellcfg.proofs.Splits.{behind_mask}
 
 -- a record that is read as it is spelled, from so many bytes
 record Reads {X : Type 0} (read : List ℕ → X) (f : X → List ℕ) (Fits : X → Type 0) (size : ℕ) : Type 0 where
@@ -83,12 +84,6 @@ irqchip_back c fits =
 
 irqchip_reads : Reads irqchip_of irqchip_bytes IsIrqchip 32
 irqchip_reads = record { len = length-irqchip_bytes; back = irqchip_back }
-
--- a device's bytes behind its mask
-abbrev behind_mask : PciDevice → List ℕ
-behind_mask d =
-    u16_bytes d.caps_start ++ (u16_bytes d.num_caps ++ (u8_bytes d.num_msi_vectors ++ (u8_bytes d.msi_bits ++ (u16_bytes d.num_msix_vectors
-    ++ (u16_bytes d.msix_region_size ++ (u64_bytes d.msix_address ++ (u32_bytes d.shmem_regions_start ++ (u8_bytes d.shmem_dev_id ++ (u8_bytes d.shmem_peers ++ u16_bytes d.shmem_protocol)))))))))
 
 device_back : (d : PciDevice) → IsDevice d → device_of (device_bytes d) ≡ d
 device_back d fits =

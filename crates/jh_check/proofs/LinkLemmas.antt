@@ -1,9 +1,7 @@
 -- What is noted of two cells: sections of linked devices at the same offset.
 use Rattle.std.proofs.Common.{◌≡◌, ◌≢◌, ℕ, ◌+◌, ◌-◌, ◌<◌, Bool, true, ◌&&◌, ◌==◌, List, Option, None, Some, length, get_or, refl, sym, subst, ◌∙◌, inl, inr, arith}
 use Rattle.std.specs.List.{Contains, list_any}
-use Rattle.std.proofs.Math.ListN.{replicate}
-use Rattle.std.proofs.lemmas.Bool.{and_from, eq-eqb, cases_eq, cases_lt}
-use Rattle.std.proofs.lemmas.List.{get_or-replicate, get_or_past, length-replicate}
+use Rattle.std.proofs.lemmas.Bool.{and_from, eq-eqb, cases_eq}
 use Rattle.std.proofs.lemmas.Option.{slice_get_read}
 use Rattle.jh_cellcfg.specs.declared.config.PciDevice.{PciDevice}
 use Rattle.jh_cellcfg.specs.declared.config.CellConfig.{CellConfig}
@@ -39,14 +37,3 @@ partners-more one other old new d e k known others own cd ce linked h i = λ ite
           subst (λ t. are_same_section one item other t ≡ true) g (subst (λ j. are_same_section one j other mate ≡ true) (sym f) (same-section one other d e k cd ce linked h i))
       | inr n ↦ known item s (sym (others item n) ∙ noted)
     ]
-
--- at first nothing is
-same-everywhere : {X : Type 0} (n i : ℕ) (x : X) → get_or (replicate n x) i x ≡ x
-same-everywhere n i x =
-    elim (cases_lt i n) [
-      | inl h ↦ get_or-replicate n i x x h
-      | inr h ↦ get_or_past (replicate n x) i x (omega (arith, length-replicate n x))
-    ]
-
-pub partners-none : (one other : CellConfig) (n : ℕ) → ArePartners one other (replicate n None)
-partners-none one other n = λ item s noted. let both = sym (same-everywhere n item None) ∙ noted in cc

@@ -273,11 +273,6 @@ others-pairs rule pass b cell spans reaches w has tells = λ one s d own passes 
     in
     (tells (span_of rule one.item one.region) (span_of rule s y) cx cy differ (span-some rule one.item one.region w t) (pair-meets rule one other breaks), λ f. absurd (not-both (is_within rule) w f))
 
--- no region passes over shared ones by another rule
-pub others-none : (rule : Rule) (b : ℕ) (cell : CellConfig) (reaches : List Reach) → rule ≢ CellsOverlap → TellsOthers rule true b cell reaches
-others-none CellsOverlap b cell reaches n = absurd (n refl)
-others-none _ b cell reaches n = λ one s d own passes within breaks. absurd (false≢true passes)
-
 pub rising-none : IsRising []
 rising-none = record { starts = λ i j d h k. absurd (omega arith); ends = λ i j d h k. absurd (omega arith) }
 

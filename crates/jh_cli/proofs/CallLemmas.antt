@@ -1,5 +1,5 @@
 -- What a call is, by what was told and what was sent.
-use Rattle.std.proofs.Common.{◌≡◌, ◌≢◌, ℕ, List, Option, Result, Ok, Err, inl, inr, refl, sym, ◌∙◌, ap, subst, arith}
+use Rattle.std.proofs.Common.{◌≡◌, ◌≢◌, ℕ, List, Option, Result, Ok, Err, inl, inr, refl, sym, ◌∙◌, ap, arith}
 use Rattle.jh_outside.specs.Count.{Rose}
 use Rattle.jh_outside.specs.Trail.{Ask}
 use Rattle.jh_cli.specs.declared.status.Status.{Status}

@@ -12,7 +12,6 @@ use Rattle.jh_cellcfg.specs.Faults.{first_fault}
 use Rattle.jh_cellcfg.specs.Limits.{IsWithinLimits}
 use Rattle.jh_cellcfg.specs.Spelling.{spelling}
 use Rattle.jh_cellcfg.specs.Widths.{IsCell}
-use Rattle.jh_syscfg.specs.Layout.{IsSystem, IsSystemWithinLimits, system_spelling}
 use Rattle.jh_syscfg.specs.SystemFaults.{system_fault}
 use Rattle.jh_check.specs.Lists.{is_any, capped}
 use Rattle.jh_check.specs.Findings.{findings}
@@ -36,6 +35,7 @@ use Rattle.jh_image.specs.declared.fault.ImageCause.TheVariants.{ReadFault as Ca
 use Rattle.jh_image.specs.Causes.{StopsReading}
 use Rattle.jh_image.specs.Images.{IsImage}
 use Rattle.jh_image.specs.Laws.{AreTold as AreAllTold}
+use Rattle.jh_image.proofs.UnrefusedLemmas.{SpellingsAreFaultless}
 use Rattle.jh_run.specs.Maps.{Maps}
 use Rattle.jh_run.specs.Soak.{soak_board}
 use Rattle.jh_cli.specs.declared.status.Status.{Status}
@@ -62,9 +62,6 @@ use Rattle.jh_cli.proofs.ToldLemmas.{all_told, each_is_told, is_image, stops}
 
 abbrev pub CellsAreFaultless : Type 0
 CellsAreFaultless = (config : CellConfig) → IsCell config → IsWithinLimits config → first_fault (spelling config) ≡ None
-
-abbrev pub SystemsAreFaultless : Type 0
-SystemsAreFaultless = (system : SystemConfig) → IsSystem system → IsSystemWithinLimits system → system_fault (system_spelling system) ≡ None
 
 abbrev pub NoBadLine : Type 0
 NoBadLine = (text : List ℕ) (entries : List Entry) (number : ℕ) → IsJournalText text entries → IsFirstBadLine text number → ⊥
@@ -131,7 +128,7 @@ ok_one r one other h k = cc
 
 -- ---- check
 
-pub system_sound : SystemsAreFaultless → (system : SystemConfig) → IsSound SystemRefusal IsSystemFile most_of_a_file system
+pub system_sound : SpellingsAreFaultless → (system : SystemConfig) → IsSound SystemRefusal IsSystemFile most_of_a_file system
 system_sound faultless system bytes words within form (inl over) = no_more most_of_a_file bytes within over.0
 system_sound faultless system bytes words within form (inr bad) =
     some_none (system_fault bytes) bad.fault (ap system_fault form.spelled ∙ faultless system form.typed form.limits) bad.first
@@ -164,7 +161,7 @@ cells_unrefused faultless contents names cells system said held (inl among) = am
 cells_unrefused faultless contents names cells system said held (inr all) =
     of_verdict said (checked_status (capped (findings system all.0))) (ap (λ (s : Reply). s.status) all.2) (checked_unrefused (is_any (capped (findings system all.0))))
 
-check_unrefused : CellsAreFaultless → SystemsAreFaultless → (contents : Contents) (system : List ℕ) (cells : List (List ℕ)) (said : Reply) → AreGoodToCheck contents system cells → Checks contents system cells said → IsAnswered IsVerdict said
+check_unrefused : CellsAreFaultless → SpellingsAreFaultless → (contents : Contents) (system : List ℕ) (cells : List (List ℕ)) (said : Reply) → AreGoodToCheck contents system cells → Checks contents system cells said → IsAnswered IsVerdict said
 check_unrefused cells_faultless systems_faultless contents system cells said good h =
     reads_unrefused IsVerdict most_of_a_file contents system SystemRefusal IsSystemFile (ChecksCells contents cells) good.of_system said (system_sound systems_faultless good.of_system) good.system_held
     (λ bytes other form form_other went. cells_unrefused cells_faultless contents cells good.of_cells other said good.cells_held went) h
@@ -320,7 +317,7 @@ soak_unrefused word said rounds are (inr (n, others, soaked)) = inl (run_ends (s
 
 -- ---- all of them
 
-pub good_answered : CellsAreFaultless → SystemsAreFaultless → NoBadLine → NotLong → OneImage → BoardsAreUnrefused
+pub good_answered : CellsAreFaultless → SpellingsAreFaultless → NoBadLine → NotLong → OneImage → BoardsAreUnrefused
     → (contents : Contents) (asked : Option Asked) (said : Reply) (good : AreGood contents asked) → Outcome contents asked said → IsAnswer contents asked good said.status ⊎ (said.status ≡ ReadFault)
 good_answered cells systems no_bad not_long one_image unrefused contents None said good h = absurd good
 good_answered cells systems no_bad not_long one_image unrefused contents (Some (CheckOf system names)) said good h = check_unrefused cells systems contents system names said good h

@@ -9,7 +9,6 @@ use Rattle.jh_cellcfg.specs.Limits.{IsWithinLimits}
 use Rattle.jh_cellcfg.specs.Spelling.{spelling}
 use Rattle.jh_cellcfg.specs.Texts.{fault_text as config_text}
 use Rattle.jh_cellcfg.specs.Widths.{IsCell}
-use Rattle.jh_syscfg.specs.Layout.{IsSystem, IsSystemWithinLimits, system_spelling}
 use Rattle.jh_syscfg.specs.SystemFaults.{system_fault}
 use Rattle.jh_spec.specs.declared.spec.Spec.{Spec}
 use Rattle.jh_spec.specs.declared.spec.SpecFault.{SpecFault}
@@ -29,9 +28,9 @@ use Rattle.jh_text.specs.FaultText.{fault_text as journal_fault_text}
 use Rattle.jh_audit.specs.declared.verdict.Verdict.{Verdict}
 use Rattle.jh_audit.specs.declared.verdict.Verdict.TheVariants.{Legal, Illegal}
 use Rattle.jh_audit.specs.Judges.{Judges, IsFirstIllegal}
-use Rattle.jh_cli.specs.declared.status.Status.TheVariants.{Refused, ReadFault}
+use Rattle.jh_image.proofs.OneLemmas.{OneSpelling}
+use Rattle.jh_cli.specs.declared.status.Status.TheVariants.{ReadFault}
 use Rattle.jh_cli.specs.Limits.{most_of_a_file, most_of_a_journal}
-use Rattle.jh_cli.specs.Lines.{refusal_line}
 use Rattle.jh_cli.specs.Reading.{Reply, Contents, StopsAt, SpellsAt, ReadsAt}
 use Rattle.jh_cli.specs.Check.{IsCellFile, CellRefusal, IsSystemFile, SystemRefusal, SpellCells, ChecksCells, checked}
 use Rattle.jh_cli.specs.Pack.{IsSpecFile, SpecRefusal}
@@ -39,14 +38,12 @@ use Rattle.jh_cli.specs.Play.{ScheduleRefusal}
 use Rattle.jh_cli.specs.Audit.{JournalRefusal, IsAudited, verdict_status, verdict_text}
 use Rattle.jh_cli.specs.Complete.{AreTold}
 use Rattle.jh_cli.proofs.GoodLemmas.{CellsAreFaultless, no_more, ok_one, cell_sound, same_for_image}
+use Rattle.jh_cli.proofs.StopLemmas.{refused_said}
 
 -- ---- the laws of the layers below
 
 abbrev pub OneCell : Type 0
 OneCell = (a b : CellConfig) → IsCell a → IsCell b → IsWithinLimits a → IsWithinLimits b → spelling a ≡ spelling b → a ≡ b
-
-abbrev pub OneSystem : Type 0
-OneSystem = (a b : SystemConfig) → IsSystem a → IsSystem b → IsSystemWithinLimits a → IsSystemWithinLimits b → system_spelling a ≡ system_spelling b → a ≡ b
 
 abbrev pub OneJournal : Type 0
 OneJournal = (text : List ℕ) (a b : List Entry) → IsJournalText text a → IsJournalText text b → a ≡ b
@@ -63,9 +60,6 @@ pub one_handed : (told : KnownFile) (most : ℕ) (a b : List ℕ) → told ≢ N
 one_handed None most a b is h k = absurd (is refl)
 one_handed (Some None) most a b is h k = absurd h
 one_handed (Some (Some held)) most a b is h k = h ∙ sym k
-
-abbrev refused_said : List ℕ → List ℕ → Reply
-refused_said name words = record { status = Refused; text = refusal_line name words }
 
 abbrev audited_said : ℕ → Verdict → Reply
 audited_said count verdict = record { status = verdict_status verdict; text = verdict_text count verdict }
@@ -132,7 +126,7 @@ cell_words bytes v w (inl h) (inr k) = absurd (no_more most_of_a_file bytes k.wi
 cell_words bytes v w (inr h) (inl k) = absurd (no_more most_of_a_file bytes h.within k.0)
 cell_words bytes v w (inr h) (inr k) = h.told ∙ ap config_text (some_one (first_fault bytes) h.fault k.fault h.first k.first) ∙ sym k.told
 
-pub system_values : OneSystem → (bytes : List ℕ) (a b : SystemConfig) → IsSystemFile bytes a → IsSystemFile bytes b → a ≡ b
+pub system_values : OneSpelling → (bytes : List ℕ) (a b : SystemConfig) → IsSystemFile bytes a → IsSystemFile bytes b → a ≡ b
 system_values one bytes a b h k = one a b h.typed k.typed h.limits k.limits (sym h.spelled ∙ k.spelled)
 
 cell_values : OneCell → (bytes : List ℕ) (a b : CellConfig) → IsCellFile bytes a → IsCellFile bytes b → a ≡ b

@@ -9,6 +9,8 @@ use Rattle.jh_image.specs.declared.fault.ImageCause.{ImageCause}
 use Rattle.jh_image.specs.declared.fault.ImageCause.TheVariants.{ReadFault as CantBeRead}
 use Rattle.jh_image.specs.Causes.{StopsReading}
 use Rattle.jh_image.specs.Laws.{AreTold as AreAllTold}
+use Rattle.jh_image.proofs.OneLemmas.{OneSpelling}
+use Rattle.jh_image.proofs.UnrefusedLemmas.{SpellingsAreFaultless}
 use Rattle.jh_run.specs.Maps.{IsMapsText, Maps}
 use Rattle.jh_cli.specs.declared.status.Status.TheVariants.{Good, ReadFault}
 use Rattle.jh_cli.specs.Limits.{most_of_a_file, most_of_a_journal, journal_limit}
@@ -22,9 +24,9 @@ use Rattle.jh_cli.specs.Map.{mapped_said, IsMapped, MapsBy}
 use Rattle.jh_cli.specs.Audit.{IsJournalFile, JournalRefusal, IsAudited, AuditsBy}
 use Rattle.jh_cli.specs.Outcome.{Outcome}
 use Rattle.jh_cli.specs.Complete.{IsBoardTold, AreFilesTold}
-use Rattle.jh_cli.proofs.GoodLemmas.{CellsAreFaultless, SystemsAreFaultless, NoBadLine, NotLong, OneImage, BoardsAreUnrefused, IsAnswered, system_sound, spec_sound, schedule_sound, one_schedule, journal_sound, board_unrefused}
+use Rattle.jh_cli.proofs.GoodLemmas.{CellsAreFaultless, NoBadLine, NotLong, OneImage, BoardsAreUnrefused, IsAnswered, system_sound, spec_sound, schedule_sound, one_schedule, journal_sound, board_unrefused}
 use Rattle.jh_cli.proofs.ToldLemmas.{all_told, each_is_told, is_image, stops}
-use Rattle.jh_cli.proofs.OneLemmas.{OneCell, OneSystem, OneJournal, NotBoth, OneLine, IsRead, one_reading, system_words, system_values, one_check, spec_words, spec_values, schedule_words, journal_words, one_audited}
+use Rattle.jh_cli.proofs.OneLemmas.{OneCell, OneJournal, NotBoth, OneLine, IsRead, one_reading, system_words, system_values, one_check, spec_words, spec_values, schedule_words, journal_words, one_audited}
 
 -- ---- boards
 
@@ -73,7 +75,7 @@ one_mapped one_maps image cpus one other (found, is, told) (more, also, said) = 
 
 -- ---- all of them
 
-pub one_outcome : CellsAreFaultless → SystemsAreFaultless → OneCell → OneSystem → NoBadLine → NotLong → OneJournal → NotBoth → OneLine → OneImage → BoardsAreUnrefused → OneCause → OneMaps
+pub one_outcome : CellsAreFaultless → SpellingsAreFaultless → OneCell → OneSpelling → NoBadLine → NotLong → OneJournal → NotBoth → OneLine → OneImage → BoardsAreUnrefused → OneCause → OneMaps
     → (contents : Contents) (asked : Option Asked) (one other : Reply) → IsSerial asked → AreFilesTold contents asked → Outcome contents asked one → Outcome contents asked other → IsRead one → IsRead other → one ≡ other
 one_outcome cells systems one_cell one_system no_bad not_long one_journal not_both one_line one_image unrefused one_cause one_maps contents None one other serial told h k read also = h ∙ sym k
 one_outcome cells systems one_cell one_system no_bad not_long one_journal not_both one_line one_image unrefused one_cause one_maps contents (Some (CheckOf system names)) one other serial told h k read also =

@@ -23,15 +23,6 @@ refuses most contents name Why bytes words handed why stop h =
     let P : Reply → Type 0 = λ said. said ≡ record { status = Refused; text = refusal_line name words } in
     on_stop P (StopsAt most contents name Why) stop (λ said told. inr (record { bytes = bytes; handed = handed; words = words; why = why; told = told })) h
 
--- a file that stops the call for some reasons stops it for more
-stopped_more : (most : ℕ) (contents : Contents) (name : List ℕ) (Why Other : List ℕ → List ℕ → Type 0) → ((bytes words : List ℕ) → Why bytes words → Other bytes words) → (said : Reply) → StopsAt most contents name Why said → StopsAt most contents name Other said
-stopped_more most contents name Why Other more said (inl fault) = inl fault
-stopped_more most contents name Why Other more said (inr is) = inr (record { bytes = is.bytes; handed = is.handed; words = is.words; why = more is.bytes is.words is.why; told = is.told })
-
-pub stops_more : (most : ℕ) (contents : Contents) (name : List ℕ) (Why Other : List ℕ → List ℕ → Type 0) → ((bytes words : List ℕ) → Why bytes words → Other bytes words)
-    → (stop : Stop) → OnEnded stop (StopsAt most contents name Why) → OnEnded stop (StopsAt most contents name Other)
-stops_more most contents name Why Other more stop h = on_stop (StopsAt most contents name Why) (StopsAt most contents name Other) stop (stopped_more most contents name Why Other more) h
-
 -- what is said carries over
 pub on_told : (P Q : Reply → Type 0) (r : Result Ending Stop) → ((said : Reply) → P said → Q said) → OnEnding r P → OnEnding r Q
 on_told P Q (Ok told) f h = f (said_of told) h
@@ -56,7 +47,7 @@ pub counted_behind : (old mid new : ℕ) (failed : List ℕ) → old ≤ mid →
 counted_behind old mid new failed le r h =
     on_told (IsCounted mid new failed) (IsCounted old new failed) r (λ said counted is. let both = counted is in (rose_behind old mid new le both.0, both.1)) h
 
-abbrev refused_said : List ℕ → List ℕ → Reply
+abbrev pub refused_said : List ℕ → List ℕ → Reply
 refused_said name words = record { status = Refused; text = refusal_line name words }
 
 -- the fault's text is that of the words that it displays

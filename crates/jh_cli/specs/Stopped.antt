@@ -1,4 +1,4 @@
--- What a step of a play says of the files and of how it stopped.
+-- What a step of a command says of the files, and of how it stopped.
 use Rattle.std.specs.Prelude.{◌≡◌, ℕ, ⊤, List, Result, Ok, Err}
 use Rattle.jh_outside.specs.Count.{Rose}
 use Rattle.jh_cli.specs.declared.ending.Ending.{Ending}

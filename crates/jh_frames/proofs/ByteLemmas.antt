@@ -1,18 +1,9 @@
 -- Numbers that bytes spell, and bytes that are stored.
 use Rattle.std.proofs.Common.{◌≡◌, ℕ, suc, ◌+◌, ◌-◌, ◌*◌, ◌^◌, ◌<◌, ◌≤◌, ◌⊎◌, inl, inr, List, get_or, take, drop, length, refl, sym, ap, ◌∙◌, leb, ltb, arith, drop-cons}
 use Rattle.std.proofs.lemmas.Bool.{le-leb, lt-leb, lt-ltb, le-ltb, and_right, cases_lt}
-use Rattle.std.proofs.lemmas.Grind.{pow_more}
 use Rattle.std.proofs.lemmas.List.{length-take, length-drop, get_or-take, get_or-drop, drop_all}
-use Rattle.std.proofs.Math.Nat.{pow-le-pow_right}
 use Rattle.jh_num.specs.Memory.{spelled, stored}
-
--- a value of one byte more
-pub byte_fits : (v b m : ℕ) → v < 256 ^ m → b < 256 → v * 256 + b < 256 ^ (m + 1)
-byte_fits v b m small byte = rw (pow_more 256 m) (grind arith)
-
--- eight bytes fit
-pub word_fits : (v m : ℕ) → m ≤ 8 → v < 256 ^ m → v < 2 ^ 64
-word_fits v m few small = let le : 256 ^ m ≤ 256 ^ 8 = pow-le-pow_right (omega arith) few in omega arith
+use Rattle.jh_num.proofs.MemoryLemmas.{word_fits, byte_fits}
 
 pub next_fits : (v b m : ℕ) → m < 8 → v < 256 ^ m → b < 256 → v * 256 + b < 2 ^ 64
 next_fits v b m few small byte =

@@ -12,6 +12,7 @@ pub fn bytes_are_those_of_pages(frames: &Frames)
     ensures byte { (place : ℕ) → byte_at frames.now place ≡ byte_in (page_of frames.now (place / 4096)) (place % 4096) }
     ensures held { (place : ℕ) → holds frames.now place ≡ is_some (page_of frames.now (place / 4096)) }
 {
+    // for the proof: the hypervisor's range is whole pages
     let _ = frames.holds(0);
 }
 

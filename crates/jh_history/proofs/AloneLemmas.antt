@@ -6,7 +6,7 @@ use Rattle.std.specs.List.{fold, AllByRecursion}
 use Rattle.std.specs.Option.{option_map_or}
 use Rattle.std.proofs.lemmas.List.Elements.{recursion_from_All}
 use Rattle.jh_cellcfg.specs.Cells.{name_of}
-use Rattle.std.proofs.lemmas.Bool.{and_right, both_ways}
+use Rattle.std.proofs.lemmas.Bool.{both_ways}
 use Rattle.jh_num.proofs.Booleans.{same_number}
 use Rattle.std.proofs.lemmas.Option.{none-some, same_Some}
 use Rattle.jh_cellcfg.specs.declared.config.CellConfig.{CellConfig}
@@ -16,20 +16,15 @@ use Rattle.jh_script.specs.declared.image.Image.{Image}
 use Rattle.jh_script.specs.declared.op.Op.{Op}
 use Rattle.jh_script.specs.declared.op.Op.TheVariants.{Read as ReadOp, Write as WriteOp, Fetch as FetchOp, Await as AwaitOp, Irq as IrqOp, Hvc as HvcOp}
 use Rattle.jh_history.specs.declared.place.Place.{Place}
-use Rattle.jh_history.specs.declared.place.Place.TheVariants.{Physical, Page}
-use Rattle.jh_history.specs.declared.access.Access.{Access}
 use Rattle.jh_history.specs.declared.access.Access.TheVariants.{Read as ToRead}
 use Rattle.jh_history.specs.declared.call.OpenCall.{OpenCall}
 use Rattle.jh_history.specs.declared.change.Change.{Change}
-use Rattle.jh_history.specs.declared.change.Change.TheVariants.{Stay, Step, Fail, Stop as Halt}
 use Rattle.jh_history.specs.declared.comm.PageWrite.{PageWrite}
 use Rattle.jh_history.specs.declared.entry.Entry.{Entry}
 use Rattle.jh_history.specs.declared.entry.Act.{Act}
 use Rattle.jh_history.specs.declared.entry.Act.TheVariants.{Read, Write, Fetch, Await, Irq, Hvc, Begin, Stop, Decide, Settle, Commit, Note, Noted, Finish}
-use Rattle.jh_history.specs.Access.{place_of, reach_by, or_behind}
 use Rattle.jh_history.specs.Facts.{Facts}
-use Rattle.jh_history.specs.Lives.{is_on_board, cell_in, regions_in, program_of, ops_in, op_at}
-use Rattle.jh_history.specs.Grants.{is_kept, unless, granted_in, granted, behind_in, reach}
+use Rattle.jh_history.specs.Lives.{is_on_board, cell_in, program_of, ops_in, op_at}
 use Rattle.jh_history.specs.Cpus.{change_of, changed, acted}
 use Rattle.jh_history.specs.Calls.{call_by}
 use Rattle.jh_history.specs.Commits.{cells_by}
@@ -45,28 +40,9 @@ use Rattle.jh_history.specs.Admitted.{HasNoCall, IsNoCall}
 use Rattle.jh_history.specs.Due.{due_at, state_act, next_act, act_of, await_of, got_by, entry_by, IsLegal, IsLegalFrom}
 use Rattle.jh_history.specs.Alone.{IsAlone, IsByRoot, is_phase}
 use Rattle.jh_history.proofs.AdmittedLemmas.{program_of-all}
-use Rattle.jh_history.proofs.FactsLemmas.{same_function}
 use Rattle.jh_history.proofs.DueLemmas.{due_at-absent, due_at-present}
 use Rattle.jh_history.proofs.LegalLemmas.{due-split, IsLegal-begin}
-
--- root alone is kept from nothing
-not_kept : (image : Image) (id : ℕ) (p : Place) → is_kept image [] id p ≡ false
-not_kept image id (Physical p) = and_right (eqb id image.system.root.id) false refl
-not_kept image id (Page cell offset) = refl
-
-all_open : (image : Image) (id : ℕ) (o : Option Place) → option_and_then (unless (is_kept image [] id)) o ≡ o
-all_open image id None = refl
-all_open image id (Some p) = rw (not_kept image id p) refl
-
--- so what a cell is granted is what its regions give
-pub granted-alone : (image : Image) (f : Facts) (id : ℕ) (access : Access) (at : ℕ) → f.cells ≡ [] → granted image f id access at ≡ place_of id (regions_in image [] id) access at
-granted-alone image f id access at none = ap (λ (cells : List Live). granted_in image cells id access at) none ∙ all_open image id (place_of id (regions_in image [] id) access at)
-
-pub reach-alone : (image : Image) (f : Facts) (id : ℕ) (access : Access) (at width : ℕ) → f.cells ≡ []
-    → reach image f id access at width ≡ or_behind (reach_by (place_of id (regions_in image [] id) access) at width) (behind_in image [] f.endpoints id access at width)
-reach-alone image f id access at width none =
-    ap (λ (place : ℕ → Option Place). or_behind (reach_by place at width) (behind_in image f.cells f.endpoints id access at width)) (same_function (granted image f id access) (place_of id (regions_in image [] id) access) (λ a. granted-alone image f id access a none))
-    ∙ ap (λ (cells : List Live). or_behind (reach_by (place_of id (regions_in image [] id) access) at width) (behind_in image cells f.endpoints id access at width)) none
+use Rattle.jh_history.proofs.SoundCpusLemmas.{changed-owner}
 
 -- at opening
 pub alone-start : (image : Image) → IsAlone image (start image)
@@ -193,14 +169,8 @@ acted-own image call (Note id) own i cpu h = absurd (both_ways true h refl)
 acted-own image call (Noted id how) own i cpu h = absurd (both_ways true h refl)
 acted-own image call (Finish answer) own i cpu h = absurd (both_ways true h refl)
 
-owner_kept : (change : Change) (cpu : Cpu) → (changed change cpu).owner ≡ cpu.owner
-owner_kept Stay cpu = refl
-owner_kept Step cpu = refl
-owner_kept Fail cpu = refl
-owner_kept Halt cpu = refl
-
 owner_if : (b : Bool) (change : Change) (cpu : Cpu) → (cond b (changed change cpu) cpu).owner ≡ cpu.owner
-owner_if true change cpu = owner_kept change cpu
+owner_if true change cpu = changed-owner change cpu
 owner_if false change cpu = refl
 
 -- and root is alone behind it

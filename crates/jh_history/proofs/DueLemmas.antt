@@ -17,7 +17,7 @@ use Rattle.jh_history.specs.Facts.{Facts}
 use Rattle.jh_history.specs.History.{facts}
 use Rattle.jh_history.specs.Lives.{is_on_board}
 use Rattle.jh_history.specs.Grants.{reach, devices_of}
-use Rattle.jh_history.specs.Wants.{wanted_of, pending_op, IsReachOf, IsReachIn, IsReachOfAct, IsReachOfEntry}
+use Rattle.jh_history.specs.Wants.{wanted_of, IsReachOf, IsReachOfAct, IsReachOfEntry}
 use Rattle.jh_history.specs.Due.{due, IsLegal, due_at, entry_of, next_act, act_of, await_of, entry_by}
 use Rattle.jh_history.proofs.FactsLemmas.{IsLegal-push}
 
@@ -31,7 +31,7 @@ pub due_at-present : (image : Image) (f : Facts) (cpu : ℕ) → is_on_board ima
 unfolding due_at
 due_at-present image f cpu e = rw e refl
 
-by_cpu : (cpu cell : ℕ) (entry : Entry) (o : Option Act) → option_map (entry_by cpu cell) o ≡ Some entry → entry.cpu ≡ cpu
+pub by_cpu : (cpu cell : ℕ) (entry : Entry) (o : Option Act) → option_map (entry_by cpu cell) o ≡ Some entry → entry.cpu ≡ cpu
 by_cpu cpu cell entry None h = absurd (none-some entry h)
 by_cpu cpu cell entry (Some act) h = ap (λ (e : Entry). e.cpu) (sym (same_Some (entry_by cpu cell act) entry h))
 
@@ -94,11 +94,7 @@ pub entry-reaches : (i : Image) (f : Facts) (cpu cell : ℕ) (found : Reach) (o 
 entry-reaches i f cpu cell found None reached = tt
 entry-reaches i f cpu cell found (Some act) reached = reached
 
--- the reach of a pending operation
-pub pending-reach : (i : Image) (f : Facts) (state : Cpu) (cpu : ℕ) (op : Op) (found : Reach) → pending_op i f state cpu ≡ Some op → IsReachIn i f state cpu found → IsReachOf i f state.owner op found
-pending-reach i f state cpu op found is reached = reached op is
-
-is_some-entry : (cpu cell : ℕ) (o : Option Act) → is_some (option_map (entry_by cpu cell) o) ≡ is_some o
+pub is_some-entry : (cpu cell : ℕ) (o : Option Act) → is_some (option_map (entry_by cpu cell) o) ≡ is_some o
 is_some-entry cpu cell None = refl
 is_some-entry cpu cell (Some act) = refl
 

@@ -95,11 +95,11 @@ unless : (b : Bool) (other act : Act) → cond b None (Some other) ≡ Some act 
 unless true other act h = absurd (none-some act h)
 unless false other act h = sym (same_Some other act h)
 
-settle_act : (o : Option Settled) (act : Act) → option_map (λ (how : Settled). Settle how) o ≡ Some act → (how : Settled) × (act ≡ Settle how)
+pub settle_act : (o : Option Settled) (act : Act) → option_map (λ (how : Settled). Settle how) o ≡ Some act → (how : Settled) × (act ≡ Settle how)
 settle_act None act h = absurd (none-some act h)
 settle_act (Some how) act h = (how, sym (same_Some (Settle how) act h))
 
-noted_act : (id : ℕ) (o : Option Heard) (act : Act) → option_map (λ (how : Heard). Noted id how) o ≡ Some act → (how : Heard) × (act ≡ Noted id how)
+pub noted_act : (id : ℕ) (o : Option Heard) (act : Act) → option_map (λ (how : Heard). Noted id how) o ≡ Some act → (how : Heard) × (act ≡ Noted id how)
 noted_act id None act h = absurd (none-some act h)
 noted_act id (Some how) act h = (how, sym (same_Some (Noted id how) act h))
 

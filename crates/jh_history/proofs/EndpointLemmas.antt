@@ -17,6 +17,7 @@ use Rattle.jh_ivshmem.specs.Registers.{register_written, is_in_table}
 use Rattle.jh_ivshmem.specs.Changes.{changed}
 use Rattle.jh_ivshmem.specs.Links.{endpoint_at, joined, rung, others_raised, told_of, state_written, written, reset_of, left_by, taken_of}
 use Rattle.jh_ivshmem.proofs.NamedLemmas.{named-cell, named-device}
+use Rattle.jh_ivshmem.proofs.ChangeLemmas.{cleared-spec}
 use Rattle.jh_history.specs.declared.device_change.DeviceChange.TheVariants.{Join, Reset, Leave}
 use Rattle.jh_history.specs.Endpoints.{endpoint_changed, endpoints_changed}
 use Rattle.jh_history.specs.Sound.{IsSoundEndpoint}
@@ -205,14 +206,10 @@ cleared_sound : (e : Endpoint) → IsSoundEndpoint e → IsSoundEndpoint (cleare
 unfolding cleared
 cleared_sound e sound = record { within = sound.within; function = sound.function; windows = record { pages = refl; tables = refl }; vectors = refl }
 
-cleared_spec : (e : Endpoint) → (cleared e).spec ≡ e.spec
-unfolding cleared
-cleared_spec e = refl
-
 reset_follow : (e : Endpoint) (list : List Endpoint) → Follow list (reset_of e list)
 reset_follow e list =
     let there : List Endpoint = told_of e 0 list in
-    follow-both list there (reset_of e list) (told_follow e 0 list) (follow-changed (is_device e.spec.cell e.spec.device) cleared cleared_spec cleared_sound there)
+    follow-both list there (reset_of e list) (told_follow e 0 list) (follow-changed (is_device e.spec.cell e.spec.device) cleared cleared-spec cleared_sound there)
 
 -- the devices of a cell that is started are reset
 pub follow-reset : (specs : List EndpointSpec) (list : List Endpoint) → Follow list (endpoints_changed Reset specs list)

@@ -4,7 +4,6 @@ use Rattle.std.specs.List.{fold}
 use Rattle.std.proofs.lemmas.List.{take_more}
 use Rattle.std.proofs.lemmas.List.Sums.{fold-append}
 use Rattle.jh_script.specs.declared.image.Image.{Image}
-use Rattle.jh_history.specs.declared.place.Place.{Place}
 use Rattle.jh_history.specs.declared.entry.Entry.{Entry}
 use Rattle.jh_history.specs.Facts.{Facts}
 use Rattle.jh_history.specs.History.{start, after, facts}
@@ -51,11 +50,3 @@ IsLegal-nil image = tt
 -- the entry at a place of a list
 pub facts-next : (image : Image) (entries : List Entry) (i : ℕ) (d : Entry) → i < length entries → facts image (take (i + 1) entries) ≡ after image (facts image (take i entries)) (get_or entries i d)
 facts-next image entries i d lt = ap (facts image) (take_more entries i d lt) ∙ facts-push image (take i entries) (get_or entries i d)
-
-pub byte-next : (image : Image) (entries : List Entry) (i : ℕ) (d : Entry) (q : Place) → i < length entries → (facts image (take (i + 1) entries)).byte q ≡ byte_after image (facts image (take i entries)) (get_or entries i d) q
-unfolding after
-byte-next image entries i d q lt = ap (λ (f : Facts). f.byte q) (facts-next image entries i d lt)
-
-pub cpu-next : (image : Image) (entries : List Entry) (i : ℕ) (d : Entry) (k : ℕ) → i < length entries → (facts image (take (i + 1) entries)).cpu k ≡ cpu_after image (facts image (take i entries)) (get_or entries i d) k
-unfolding after
-cpu-next image entries i d k lt = ap (λ (f : Facts). f.cpu k) (facts-next image entries i d lt)

@@ -1,5 +1,5 @@
 -- What lets the slow plain program follow an entry: the devices that it changes may be changed.
-use Rattle.std.proofs.Common.{◌≡◌, ℕ, ◌+◌, ◌*◌, ◌^◌, ◌<◌, ◌≤◌, List, [], Option, Some, None, inl, inr, refl, sym, ap, subst, ◌∙◌, arith}
+use Rattle.std.proofs.Common.{◌≡◌, ℕ, ◌+◌, ◌*◌, ◌^◌, ◌<◌, List, [], Option, Some, None, inl, inr, refl, sym, ap, subst, ◌∙◌, arith}
 use Rattle.std.specs.Prelude.{IfSome}
 use Rattle.std.specs.Option.{option_map_or}
 use Rattle.jh_cellcfg.specs.declared.config.CellConfig.{CellConfig}
@@ -7,7 +7,6 @@ use Rattle.jh_cellcfg.specs.declared.live.Live.{Live}
 use Rattle.jh_ivshmem.specs.declared.endpoint.Endpoint.{Endpoint}
 use Rattle.jh_ivshmem.specs.declared.spec.EndpointSpec.{EndpointSpec}
 use Rattle.jh_ivshmem.specs.declared.spec.Slot.{Slot}
-use Rattle.jh_ivshmem.specs.Specs.{slot_of}
 use Rattle.jh_script.specs.declared.image.Image.{Image}
 use Rattle.jh_history.specs.declared.access.Reach.{Reach}
 use Rattle.jh_history.specs.declared.call.OpenCall.{OpenCall}
@@ -20,7 +19,7 @@ use Rattle.jh_history.specs.DueFacts.{IsWordOf}
 use Rattle.jh_history.specs.Endpoints.{change_by, changing_at, changing_by, specs_changing, IsNextOf, MayChange}
 use Rattle.jh_history.specs.Facts.{Facts}
 use Rattle.jh_history.specs.Grants.{devices_of}
-use Rattle.jh_history.specs.PlainView.{PlainView, StandsFor, IsSameBut, HasWords, MayCommit, MayFollow}
+use Rattle.jh_history.specs.PlainView.{PlainView, StandsFor, IsSameBut, MayCommit, MayFollow}
 use Rattle.jh_history.proofs.PlainStepLemmas.{commit-or}
 
 -- ---- words of state tables

@@ -94,12 +94,12 @@ within_at image cells (Some c) clean numbered = λ i d lt some.
     let a = numbered c refl in
     clean.within a.0 c a.1 i (get_or c.memory_regions i d) (slice_get-get_or c.memory_regions i d lt) some
 
-numbered_live : (image : Image) (lives : List Live) (id : ℕ) (c : CellConfig) → live_in lives id ≡ Some c → (a : ℕ) × IsNumbered image.system (configs_of lives) a c
+pub numbered_live : (image : Image) (lives : List Live) (id : ℕ) (c : CellConfig) → live_in lives id ≡ Some c → (a : ℕ) × IsNumbered image.system (configs_of lives) a c
 numbered_live image lives id c e =
     let held = (IsFound-from_find (has_number id) (configs_of lives) c (live_in-is lives (configs_of lives) id refl ∙ e)).held in
     (suc held.0, slice_get-get_or (configs_of lives) held.0 c held.1 ∙ ap Some held.2)
 
-numbered_cell : (image : Image) (lives : List Live) (id : ℕ) (c : CellConfig) (b : Bool) → cond b (Some image.system.root) (live_in lives id) ≡ Some c → (a : ℕ) × IsNumbered image.system (configs_of lives) a c
+pub numbered_cell : (image : Image) (lives : List Live) (id : ℕ) (c : CellConfig) (b : Bool) → cond b (Some image.system.root) (live_in lives id) ≡ Some c → (a : ℕ) × IsNumbered image.system (configs_of lives) a c
 numbered_cell image lives id c true e = (0, e)
 numbered_cell image lives id c false e = numbered_live image lives id c e
 

@@ -1,5 +1,5 @@
 -- Items, one after another.
-use Rattle.std.proofs.Common.{◌≡◌, ℕ, zero, suc, ◌+◌, List, [], ◌∷◌, ◌++◌, Bool, true, false, refl, sym, ◌∙◌, ap, append_assoc, add-zero, add-one, add-suc, cond, arith, ◌⊎◌, inl, inr, ◌<◌, length, Option, Some, None}
+use Rattle.std.proofs.Common.{◌≡◌, ℕ, zero, suc, ◌+◌, List, [], ◌∷◌, ◌++◌, Bool, true, false, refl, sym, ◌∙◌, ap, append_assoc, add-zero, add-suc, cond, arith, ◌⊎◌, inl, inr, ◌<◌, length, Option, Some, None}
 use Rattle.std.specs.List.{fold, AllByRecursion, filter}
 use Rattle.std.specs.Prelude.{nat_lt, IsTrue}
 use Rattle.std.proofs.lemmas.Bool.{false≢true, cases_eq, cases_lt}
@@ -14,8 +14,8 @@ use Rattle.jh_history.specs.Lives.{is_on_board}
 use Rattle.jh_history.specs.Due.{due, IsQuiet}
 use Rattle.jh_history.specs.Items.{Reached, with_due, with_item, items, below, rounds, cpus_of}
 
-abbrev at : List Entry → Bool → Reached
-at entries full = record { entries = entries; full = full }
+abbrev pub reached : List Entry → Bool → Reached
+reached entries full = record { entries = entries; full = full }
 
 -- after a stop nothing changes
 fold-full : (image : Image) (limit : ℕ) (cpus : List ℕ) (es : List Entry) → fold (with_item image limit) (record { entries = es; full = true }) cpus ≡ record { entries = es; full = true }
@@ -69,18 +69,18 @@ grow_some image cpu cpus es fs entry (inl same) = let n = ap length same.0 ∙ l
 grow_some image cpu cpus es fs entry (inr more) = let n = length_push es entry in inr (omega arith)
 
 grow_limit : (image : Image) (limit cpu : ℕ) (cpus : List ℕ) (es fs : List Entry) (entry : Entry) (b : Bool)
-    → ((es' : List Entry) → fold (with_item image limit) (at es' false) cpus ≡ at fs false → Grows image cpus es' fs)
-    → fold (with_item image limit) (cond b (at (es ++ entry ∷ []) false) (at es true)) cpus ≡ at fs false → Grows image (cpu ∷ cpus) es fs
+    → ((es' : List Entry) → fold (with_item image limit) (reached es' false) cpus ≡ reached fs false → Grows image cpus es' fs)
+    → fold (with_item image limit) (cond b (reached (es ++ entry ∷ []) false) (reached es true)) cpus ≡ reached fs false → Grows image (cpu ∷ cpus) es fs
 grow_limit image limit cpu cpus es fs entry true ih h = grow_some image cpu cpus es fs entry (ih (es ++ entry ∷ []) h)
 grow_limit image limit cpu cpus es fs entry false ih h = absurd (false≢true (sym (ap (λ (r : Reached). r.full) (sym (fold-full image limit cpus es) ∙ h))))
 
 grow_item : (image : Image) (limit cpu : ℕ) (cpus : List ℕ) (es fs : List Entry) (o : Option Entry)
-    → ((es' : List Entry) → fold (with_item image limit) (at es' false) cpus ≡ at fs false → Grows image cpus es' fs)
-    → due image es cpu ≡ o → fold (with_item image limit) (with_due limit es o) cpus ≡ at fs false → Grows image (cpu ∷ cpus) es fs
+    → ((es' : List Entry) → fold (with_item image limit) (reached es' false) cpus ≡ reached fs false → Grows image cpus es' fs)
+    → due image es cpu ≡ o → fold (with_item image limit) (with_due limit es o) cpus ≡ reached fs false → Grows image (cpu ∷ cpus) es fs
 grow_item image limit cpu cpus es fs None ih e h = grow_none image cpu cpus es fs e (ih es h)
 grow_item image limit cpu cpus es fs (Some entry) ih e h = grow_limit image limit cpu cpus es fs entry (nat_lt (length es) limit) ih h
 
-grow : (image : Image) (limit : ℕ) (cpus : List ℕ) (es fs : List Entry) → fold (with_item image limit) (at es false) cpus ≡ at fs false → Grows image cpus es fs
+grow : (image : Image) (limit : ℕ) (cpus : List ℕ) (es fs : List Entry) → fold (with_item image limit) (reached es false) cpus ≡ reached fs false → Grows image cpus es fs
 grow image limit [] es fs h = inl (sym (ap (λ (r : Reached). r.entries) h), tt)
 grow image limit (cpu ∷ cpus) es fs h = grow_item image limit cpu cpus es fs (due image es cpu) (λ es' h'. grow image limit cpus es' fs h') refl h
 
@@ -121,10 +121,3 @@ quiet_at image es cpu true few all e = elim (cases_lt cpu 16) [
 pub IsQuiet-from_cpus : (image : Image) (es : List Entry) → ((cpu : ℕ) → IsTrue (is_on_board image cpu) → cpu < 16) → NoneDue image es (cpus_of image) → IsQuiet image es
 unfolding cpus_of
 IsQuiet-from_cpus image es few all cpu = quiet_at image es cpu (is_on_board image cpu) (few cpu) all refl
-
--- one number more that passes, or that doesn't
-pub filter_below_more : (p : ℕ → Bool) (k : ℕ) → p k ≡ true → filter p (below (k + 1)) ≡ filter p (below k) ++ k ∷ []
-filter_below_more p k e = rw (add-one, filter-append, e) refl
-
-pub filter_below_skip : (p : ℕ → Bool) (k : ℕ) → p k ≡ false → filter p (below (k + 1)) ≡ filter p (below k)
-filter_below_skip p k e = rw (add-one, filter-append, e) (append-nil (filter p (below k)))

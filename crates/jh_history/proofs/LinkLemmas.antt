@@ -6,13 +6,10 @@ use Rattle.std.proofs.lemmas.List.Kept.{AllPairs-cons, AllPairs-filter}
 use Rattle.jh_num.proofs.Lists.{Contains-head, Contains-tail, Contains-cases, IsFound-from_filter, Contains-filter}
 use Rattle.jh_ivshmem.specs.declared.spec.EndpointSpec.{EndpointSpec}
 use Rattle.jh_ivshmem.specs.Specs.{AreApart, ComesBefore, is_device, is_before}
-use Rattle.jh_ivshmem.proofs.ApartLemmas.{device_turned, peer_turned}
+use Rattle.jh_ivshmem.proofs.OrderLemmas.{apart_turned}
 use Rattle.jh_history.proofs.EndpointLemmas.{placed, without}
 
 -- ---- apart and in order
-
-apart_turned : (a b : EndpointSpec) → AreApart a b → AreApart b a
-apart_turned a b apart = record { devices = sym (device_turned a b) ∙ apart.devices; peers = sym (peer_turned a b) ∙ apart.peers }
 
 -- the lower cell comes first, in one cell the lower device
 abbrev IsLower : EndpointSpec → EndpointSpec → Type 0

@@ -11,6 +11,7 @@ use Rattle.jh_history.specs.Phases.{configs_of}
 use Rattle.jh_history.specs.Calls.{is_told, is_told_by, first_told, behind}
 use Rattle.jh_history.specs.Commits.{marked, is_other}
 use Rattle.jh_history.specs.LiveView.{joined}
+use Rattle.jh_history.proofs.LoopLemmas.{live_of}
 
 abbrev config : Live → CellConfig
 config live = live.config
@@ -112,9 +113,6 @@ length-joined [] marks e = refl
 length-joined (c ∷ cs) [] e = absurd (omega arith)
 length-joined (c ∷ cs) (m ∷ ms) e = ap (λ n. suc n) (length-joined cs ms (omega arith))
 
-abbrev live_of : CellConfig → Bool → Live
-live_of c mark = record { config = c; loadable = mark }
-
 pub joined-push : (cells : List CellConfig) (marks : List Bool) (c : CellConfig) (mark : Bool) → length marks ≡ length cells → joined (cells ++ c ∷ []) (marks ++ mark ∷ []) ≡ joined cells marks ++ live_of c mark ∷ []
 joined-push [] [] c mark e = refl
 joined-push [] (m ∷ ms) c mark e = absurd (omega arith)
@@ -149,12 +147,6 @@ marks_to-all id loadable (c ∷ cs) [] e = absurd (omega arith)
 marks_to-all id loadable (c ∷ cs) (m ∷ ms) e =
     ap (λ (live : Live). live ∷ joined cs (marks_to (length cs) id loadable cs ms)) (marked_by id loadable c m (has_number id c))
     ∙ ap (λ (rest : List Live). marked id loadable (live_of c m) ∷ rest) (marks_to-all id loadable cs ms (omega arith))
-
-pub marks_to-length : (n id : ℕ) (loadable : Bool) (cells : List CellConfig) (marks : List Bool) → length marks ≡ length cells → length (marks_to n id loadable cells marks) ≡ length cells
-marks_to-length zero id loadable cells marks e = e
-marks_to-length (suc n) id loadable [] marks e = e
-marks_to-length (suc n) id loadable (c ∷ cs) [] e = e
-marks_to-length (suc n) id loadable (c ∷ cs) (m ∷ ms) e = ap (λ k. suc k) (marks_to-length n id loadable cs ms (omega arith))
 
 pub marks_to-put : (i id : ℕ) (loadable : Bool) (cells : List CellConfig) (marks : List Bool) (d : CellConfig) → length marks ≡ length cells → i < length cells → has_number id (get_or cells i d) ≡ true
     → set (marks_to i id loadable cells marks) i loadable ≡ marks_to (suc i) id loadable cells marks

@@ -99,9 +99,6 @@ page-by byte other k true after said within beyond = elim (cases_lt k 4096) [
   | inr le ↦ rw (le-ltb k 4096 le) (beyond le)
 ]
 
-abbrev FourBytes : List ℕ → Type 0
-FourBytes list = length list ≡ 4
-
 pub put-state : (byte : Place → ℕ) (cell state : ℕ) (list : List ℕ) (q : Place) → list ≡ to_le_bytes w32 state → put_in_page cell 8 list byte q ≡ with_page (record { cell = cell; change = State state }) byte q
 put-state byte cell state list (Physical p) e = refl
 put-state byte cell state list (Page other k) e =

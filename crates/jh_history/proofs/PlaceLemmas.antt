@@ -1,5 +1,5 @@
 -- Places in a row, and writes over places.
-use Rattle.std.proofs.Common.{◌≡◌, ℕ, suc, ◌+◌, ◌-◌, ◌/◌, ◌%◌, ◌<◌, ◌≤◌, List, [], ◌∷◌, refl, ap, ◌∙◌, arith}
+use Rattle.std.proofs.Common.{◌≡◌, ℕ, suc, ◌+◌, ◌-◌, ◌/◌, ◌%◌, ◌<◌, List, [], ◌∷◌, refl, ap, ◌∙◌, arith}
 use Rattle.jh_history.specs.declared.place.Place.{Place}
 use Rattle.jh_history.specs.declared.place.Place.TheVariants.{Physical, Page}
 use Rattle.jh_history.specs.Places.{further, places_in_row, written, over, with_byte}
@@ -23,9 +23,6 @@ pub row-next : (p : Place) (k n : ℕ) → k < n → places_in_row (further p k)
 row-next p k n lt =
     let e : n - k ≡ suc (n - (k + 1)) = omega arith in
     ap (places_in_row (further p k)) e ∙ ap (λ (q : Place). further p k ∷ places_in_row q (n - (k + 1))) (further-more p k)
-
-pub row-end : (p : Place) (k n : ℕ) → n ≤ k → places_in_row p (n - k) ≡ []
-row-end p k n le = let e : n - k ≡ 0 = omega arith in ap (places_in_row p) e
 
 -- a write at one place depends on the byte that was there alone
 pub written-over : (f : Place → ℕ) (places : List Place) (value : ℕ) (q : Place) → written f places value q ≡ over places value q (f q)

@@ -1,6 +1,6 @@
 -- What an entry does to the open call and to the live cells, for the slow plain program.
 use Rattle.std.proofs.Common.{◌≡◌, ℤ, ◌≤◌, Bool, true, false, List, length, Option, Some, None, refl, sym, ap, subst, ◌∙◌, inl, inr, ◌⊎◌}
-use Rattle.std.specs.Prelude.{option_map, All}
+use Rattle.std.specs.Prelude.{All}
 use Rattle.std.proofs.lemmas.Bool.{both_ways}
 use Rattle.jh_check.specs.Clean.{IsSoundBitmap, IsSoundCpuSet}
 use Rattle.jh_script.specs.declared.image.Image.{Image}
@@ -10,17 +10,14 @@ use Rattle.jh_history.specs.Phases.{configs_of}
 use Rattle.jh_history.specs.Sound.{AreSoundCells, IsSound}
 use Rattle.jh_history.specs.PlainView.{IsFit}
 use Rattle.jh_history.proofs.FewLemmas.{few-sound}
-use Rattle.std.proofs.lemmas.Option.{none-some, same_Some}
 use Rattle.jh_cellcfg.specs.declared.config.CellConfig.{CellConfig}
 use Rattle.jh_cellcfg.specs.declared.live.Live.{Live}
-use Rattle.jh_call.specs.declared.call.Call.{Call}
 use Rattle.jh_history.specs.declared.call.OpenCall.{OpenCall}
-use Rattle.jh_history.specs.declared.call.Phase.{Phase}
 use Rattle.jh_history.specs.declared.entry.Entry.{Entry}
 use Rattle.jh_history.specs.declared.entry.Act.{Act}
 use Rattle.jh_history.specs.declared.entry.Act.TheVariants.{Read, Write, Fetch, Await, Irq, Hvc, Begin, Stop, Decide, Settle, Commit, Note, Noted, Finish}
 use Rattle.jh_history.specs.Calls.{call_by}
-use Rattle.jh_history.specs.Commits.{committed_cells, cells_by, created, created_by}
+use Rattle.jh_history.specs.Commits.{cells_by}
 
 -- what a create reads matters at its Decide alone
 coming_by : (lives : List Live) (a b : Option CellConfig) (call : Option OpenCall) (entry : Entry) (act : Act) → ((refused : Option ℤ) → act ≡ Decide refused → ⊥) → call_by lives a call entry act ≡ call_by lives b call entry act
@@ -41,23 +38,6 @@ coming_by lives a b call entry (Finish answer) other = refl
 
 pub coming-elsewhere : (lives : List Live) (a b : Option CellConfig) (call : Option OpenCall) (entry : Entry) → ((refused : Option ℤ) → entry.act ≡ Decide refused → ⊥) → call_by lives a call entry entry.act ≡ call_by lives b call entry entry.act
 coming-elsewhere lives a b call entry other = coming_by lives a b call entry entry.act other
-
-abbrev call_of : OpenCall → Call
-call_of o = o.call
-
--- the cells after a Commit
-pub commit-some : (begun : Option OpenCall) (act : Act) (call : Call) (made : Option CellConfig) (old new : List Live) → act ≡ Commit → Some call ≡ option_map call_of begun → made ≡ created_by begun act
-    → ((phase : Phase) → made ≡ created call phase → new ≡ committed_cells call phase old) → new ≡ cells_by begun old act
-commit-some None act call made old new is there m h = absurd (none-some call (sym there))
-commit-some (Some o) act call made old new is there m h =
-    let same : call ≡ o.call = same_Some call o.call there in
-    h o.phase (m ∙ ap (λ (a : Act). created_by (Some o) a) is ∙ ap (λ (k : Call). created k o.phase) (sym same))
-    ∙ ap (λ (k : Call). committed_cells k o.phase old) same
-    ∙ ap (λ (a : Act). cells_by (Some o) old a) (sym is)
-
-pub commit-none : (begun : Option OpenCall) (act : Act) (old : List Live) → act ≡ Commit → None ≡ option_map call_of begun → old ≡ cells_by begun old act
-commit-none None act old is there = ap (λ (a : Act). cells_by None old a) (sym is)
-commit-none (Some o) act old is there = absurd (none-some o.call there)
 
 other_by : (begun : Option OpenCall) (old : List Live) (act : Act) → (act ≡ Commit → ⊥) → old ≡ cells_by begun old act
 other_by begun old (Read width at got) other = refl
@@ -90,11 +70,11 @@ not_commit act e other = both_ways true (sym (ap is_commit e) ∙ other) refl
 abbrev Names : List CellConfig → Type 0
 Names configs = All (λ (c : CellConfig). IsSoundBitmap c.cpu_set → IsSoundCpuSet c.cpu_set) configs
 
-after-cells : (image : Image) (f : Facts) (entry : Entry) → (after image f entry).cells ≡ cells_by f.call f.cells entry.act
+pub after-cells : (image : Image) (f : Facts) (entry : Entry) → (after image f entry).cells ≡ cells_by f.call f.cells entry.act
 unfolding after
 after-cells image f entry = refl
 
-after-call : (image : Image) (f : Facts) (entry : Entry) → (after image f entry).call ≡ call_by f.cells (coming_of image f) f.call entry entry.act
+pub after-call : (image : Image) (f : Facts) (entry : Entry) → (after image f entry).call ≡ call_by f.cells (coming_of image f) f.call entry entry.act
 unfolding after
 after-call image f entry = refl
 

@@ -18,7 +18,7 @@ use Rattle.std.proofs.lemmas.Bool.{cases_lt, and_parts, ltb-true, both_ways}
 use Rattle.jh_history.specs.declared.access.Reach.{Reach}
 use Rattle.jh_history.specs.declared.access.Reach.TheVariants.{Memory, Nothing}
 use Rattle.std.proofs.lemmas.Option.{none-some, same_Some}
-use Rattle.std.proofs.lemmas.List.{append-nil, append_assoc}
+use Rattle.std.proofs.lemmas.List.{append_assoc}
 use Rattle.jh_num.proofs.Lists.{IsFound-from_find}
 use Rattle.jh_history.proofs.AccessLemmas.{reach_by-within, reach_by-beyond}
 use Rattle.jh_history.proofs.GrantLemmas.{region_of-has, has-some}
@@ -47,13 +47,6 @@ bytes_by-last byte at zero = last_one (byte at) ∙ (let e : at ≡ at + 0 = ome
 bytes_by-last byte at (suc k) =
     last_more (byte at) (bytes_by byte (at + 1) k) (byte ((at + 1) + k)) (bytes_by byte (at + 1) (suc k)) (bytes_by-last byte (at + 1) k)
     ∙ (let e : (at + 1) + k ≡ at + suc k = omega arith in ap (λ (a : ℕ). with_last (bytes_by byte at (suc k)) (byte a)) e)
-
-pub bytes_by-more : (byte : ℕ → Option ℕ) (at k b : ℕ) (bs : List ℕ) → bytes_by byte at k ≡ Some bs → byte (at + k) ≡ Some b → bytes_by byte at (k + 1) ≡ Some (bs ++ b ∷ [])
-bytes_by-more byte at k b bs low last =
-    (let e : k + 1 ≡ suc k = omega arith in ap (bytes_by byte at) e)
-    ∙ bytes_by-last byte at k
-    ∙ ap (λ (o : Bytes). with_last o (byte (at + k))) low
-    ∙ ap (with_last (Some bs)) last
 
 -- where one may not be read
 lacks : (o : Option ℕ) → option_and_then (λ (b : ℕ). option_map (λ (bs : List ℕ). b ∷ bs) None) o ≡ None
@@ -118,10 +111,6 @@ pub bytes_by-grown : (byte : ℕ → Option ℕ) (at k b : ℕ) (old items : Lis
 bytes_by-grown byte at k b old items low last =
     ap (option_map (λ (row : List ℕ). old ++ row)) ((let e : k + 1 ≡ suc k = omega arith in ap (bytes_by byte at) e) ∙ bytes_by-last byte at k ∙ ap (with_last (bytes_by byte at k)) last)
     ∙ grown old items b (bytes_by byte at k) low
-
--- a row put behind others: as it begins, where it is whole, and where it lacks a byte
-pub row-begins : (old : List ℕ) → option_map (λ (row : List ℕ). old ++ row) (Some []) ≡ Some old
-row-begins old = ap Some (append-nil old)
 
 row_none : (old : List ℕ) (row : Bytes) → option_map (λ (bs : List ℕ). old ++ bs) row ≡ None → row ≡ None
 row_none old None e = refl

@@ -65,7 +65,7 @@ record IsSoundBut (image : Image) (f : Facts) : Type 0 where
   cpus : AreOwned image (configs_of f.cells) f.cpu
   call : IsSoundCall image (configs_of f.cells) f.cpu f.call
 
-abbrev opened_call : ℕ → Call → Phase → OpenCall
+abbrev pub opened_call : ℕ → Call → Phase → OpenCall
 opened_call caller call phase = record { caller = caller; call = call; phase = phase }
 
 -- the facts behind an act of the CPU, whatever it writes

@@ -1,13 +1,13 @@
 -- The endpoints of cells' ivshmem devices: of which device each is, and where the check finds nothing that each is within
 -- its limits, and that any two are apart, in one cell and in two.
-use Rattle.std.proofs.Common.{◌≡◌, ◌≢◌, ℕ, zero, suc, ◌+◌, ◌<◌, ◌≤◌, ◌^◌, List, [], ◌∷◌, ◌++◌, get_or, Bool, true, false, cond, ◌&&◌, nat_lt, nat_eq, eqb, Some, refl, sym, ap, subst, ◌∙◌, inl, inr, ⊎_elim, arith}
+use Rattle.std.proofs.Common.{◌≡◌, ◌≢◌, ℕ, suc, ◌+◌, ◌<◌, ◌≤◌, ◌^◌, List, [], ◌∷◌, ◌++◌, get_or, Bool, true, false, cond, ◌&&◌, nat_lt, nat_eq, eqb, Some, refl, sym, ap, subst, ◌∙◌, inl, inr, ⊎_elim, arith}
 use Rattle.std.specs.Prelude.{Contains, All, AllPairs, slice_get}
 use Rattle.std.specs.Cmp.Lexicographic.{pointwise}
-use Rattle.std.proofs.lemmas.Bool.{both_ways, and_parts, and_from, and_left, and_right, or_right, or_parts, eqb-true, eq-eqb, ne_eqb, lt-ltb, false_from_ne_true, cases_Bool}
-use Rattle.std.proofs.lemmas.Option.{none-some, same_Some, slice_get-get_or}
+use Rattle.std.proofs.lemmas.Bool.{both_ways, and_parts, and_left, and_right, or_parts, eqb-true, eq-eqb, ne_eqb, false_from_ne_true, cases_Bool}
+use Rattle.std.proofs.lemmas.Option.{same_Some, slice_get-get_or}
 use Rattle.std.proofs.lemmas.List.Elements.{All-contains_itself, Contains-push, Contains-append_left}
 use Rattle.std.proofs.lemmas.List.Kept.{AllPairs-cons}
-use Rattle.jh_num.proofs.Lists.{Contains-head, Contains-tail, Contains-cases, list_any-false}
+use Rattle.jh_num.proofs.Lists.{Contains-cases, list_any-false}
 use Rattle.jh_cellcfg.specs.declared.config.CellConfig.{CellConfig}
 use Rattle.jh_cellcfg.specs.declared.config.PciDevice.{PciDevice}
 use Rattle.jh_cellcfg.specs.declared.config.SystemConfig.{SystemConfig}
@@ -19,7 +19,7 @@ use Rattle.jh_check.specs.Laws.{IsNumbered, IsItem}
 use Rattle.jh_check.specs.Refusals.{is_namesake, is_known}
 use Rattle.jh_check.proofs.GivenLemmas.{may-join, numbers-differ}
 use Rattle.jh_ivshmem.specs.declared.spec.EndpointSpec.{EndpointSpec}
-use Rattle.jh_ivshmem.specs.Specs.{IsWithin, AreApart, ComesBefore}
+use Rattle.jh_ivshmem.specs.Specs.{IsWithin, AreApart}
 use Rattle.jh_history.specs.Devices.{is_endpoint, section_at, place_of_section, spec_of, specs_from, specs_of}
 use Rattle.jh_history.specs.Endpoints.{HasGoodDevices}
 
@@ -83,29 +83,6 @@ specs-device config spec held =
     let same : h.k ≡ h.number = omega arith in
     record { number = h.number; device = h.device; item = ap (slice_get config.pci_devices) (sym same) ∙ h.item; passes = h.passes; is = h.is }
 
--- each ivshmem device has one
-held_by : (config : CellConfig) (n number : ℕ) (device first : PciDevice) (devices : List PciDevice) (b : Bool) → is_endpoint n first ≡ b
-    → Contains (specs_from config (n + 1) devices) (spec_of config number device)
-    → Contains (cond b (spec_of config n first ∷ specs_from config (n + 1) devices) (specs_from config (n + 1) devices)) (spec_of config number device)
-held_by config n number device first devices true passes rest = Contains-tail (spec_of config n first) (specs_from config (n + 1) devices) (spec_of config number device) rest
-held_by config n number device first devices false passes rest = rest
-
-held_from : (config : CellConfig) (n k number : ℕ) (device : PciDevice) (devices : List PciDevice) → number ≡ n + k → slice_get devices k ≡ Some device → is_endpoint number device ≡ true → Contains (specs_from config n devices) (spec_of config number device)
-held_from config n k number device [] place item passes = absurd (none-some device item)
-held_from config n zero number device (first ∷ devices) place item passes =
-    let same : number ≡ n = omega arith in
-    let own : first ≡ device = same_Some first device item in
-    let passed : is_endpoint n first ≡ true = ap (λ (m : ℕ). is_endpoint m first) (sym same) ∙ ap (is_endpoint number) own ∙ passes in
-    let P : EndpointSpec → Type 0 = Contains (specs_from config n (first ∷ devices)) in
-    let is : spec_of config n first ≡ spec_of config number device = ap (λ (m : ℕ). spec_of config m first) (sym same) ∙ ap (spec_of config number) own in
-    subst P is (rw passed (Contains-head (spec_of config n first) (specs_from config (n + 1) devices)))
-held_from config n (suc k) number device (first ∷ devices) place item passes =
-    held_by config n number device first devices (is_endpoint n first) refl (held_from config (n + 1) k number device devices (omega arith) item passes)
-
-pub specs-held : (config : CellConfig) (number : ℕ) (device : PciDevice) → IsDevice config number device → is_endpoint number device ≡ true → Contains (specs_of config) (spec_of config number device)
-unfolding specs_of
-specs-held config number device item passes = held_from config 0 number number device config.pci_devices (omega arith) item passes
-
 -- ---- two devices of a cell
 
 -- it holds of the endpoints of each two ivshmem devices of the cell, the lower first
@@ -163,13 +140,6 @@ specs-apart_by config single =
 
 pub specs-apart : (system : SystemConfig) (configs : List CellConfig) (a : ℕ) (config : CellConfig) → IsClean system configs → IsNumbered system configs a config → AllPairs AreApart (specs_of config)
 specs-apart system configs a config clean numbered = specs-apart_by config (λ m n one other i i' linked. clean.single a config numbered m n one other i i' linked)
-
--- they stand in order
-pub specs-order : (config : CellConfig) → AllPairs ComesBefore (specs_of config)
-specs-order config =
-    specs-pairs ComesBefore config
-    (λ l m one other below i i' kind kind'.
-    or_right (nat_lt config.id config.id) (eqb config.id config.id && nat_lt l m) (and_from (eqb config.id config.id) (nat_lt l m) (eq-eqb config.id config.id refl) (lt-ltb l m below)))
 
 pub devices-good : (system : SystemConfig) (configs : List CellConfig) (a : ℕ) (config : CellConfig) → IsClean system configs → IsNumbered system configs a config → HasGoodDevices config
 devices-good system configs a config clean numbered k d below kind =

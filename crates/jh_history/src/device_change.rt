@@ -42,6 +42,7 @@ fn reset(endpoints: &mut Endpoints, spec: EndpointSpec) -> Slot
     ensures spare { endpoints.new.spare ≡ endpoints.old.spare }
 {
     if endpoints.has(spec.cell, spec.device) {
+        // its slot is the one told below
         let _ = endpoints.reset(spec.cell, spec.device);
     }
     cleared(spec)
@@ -55,6 +56,7 @@ fn leave(endpoints: &mut Endpoints, spec: EndpointSpec) -> Slot
     ensures spare { endpoints.old.spare ≤ endpoints.new.spare }
 {
     if endpoints.has(spec.cell, spec.device) {
+        // its slot is the one told below
         let _ = endpoints.leave(spec.cell, spec.device);
     }
     cleared(spec)

@@ -54,6 +54,7 @@ fn leave(cells: &mut Vec<CellConfig>, marks: &mut Vec<bool>, id: u64)
 {
     for i in (0..cells.len()).rev() {
         if u64::from(cells[i].id) == id {
+            // the cell is dropped, and its mark with it
             let _ = cells.remove(i);
             let _ = marks.remove(i);
         }

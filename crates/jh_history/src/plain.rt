@@ -241,6 +241,7 @@ impl<'a> Plain<'a> {
         ensures bytes { self.new.bytes ≡ self.old.bytes }
         ensures others { IsSameBut self.old self.new }
     {
+        // the entry names the vector already
         let _ = self.endpoints.take(cell);
     }
 

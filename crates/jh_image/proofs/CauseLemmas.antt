@@ -1,6 +1,6 @@
 -- Where files tell what they hold, no two causes but a failed read stop the reading of a board.
-use Rattle.std.proofs.Common.{◌≡◌, ◌≢◌, ℕ, zero, suc, ◌<◌, ◌≤◌, List, [], ◌∷◌, length, take, slice_get, Some, None, Ok, Err, ◌⊎◌, inl, inr, refl, sym, ap, subst, ◌∙◌, arith, take-take}
-use Rattle.std.proofs.lemmas.Option.{none-some, same_Some}
+use Rattle.std.proofs.Common.{◌≡◌, ◌≢◌, ℕ, zero, suc, ◌<◌, ◌≤◌, List, [], ◌∷◌, length, take, slice_get, Some, Err, ◌⊎◌, inl, inr, refl, sym, ap, subst, ◌∙◌, arith, take-take}
+use Rattle.std.proofs.lemmas.Option.{same_Some}
 use Rattle.jh_cellcfg.specs.declared.region.Region.{Region}
 use Rattle.jh_cellcfg.specs.declared.config.SystemConfig.{SystemConfig}
 use Rattle.jh_cellcfg.specs.declared.fault.ConfigFault.{ConfigFault}
@@ -10,7 +10,6 @@ use Rattle.jh_check.specs.Lists.{capped}
 use Rattle.jh_check.specs.Findings.{findings}
 use Rattle.jh_script.specs.declared.image.Preload.{Preload}
 use Rattle.jh_script.specs.declared.image.Program.{Program}
-use Rattle.jh_script.specs.declared.image.Image.{Image}
 use Rattle.jh_script.specs.declared.fault.ScriptFault.{ScriptFault}
 use Rattle.jh_script.specs.Programs.{program_of}
 use Rattle.jh_history.specs.Admitted.{root_pages, pool_pages}
@@ -21,14 +20,13 @@ use Rattle.jh_image.specs.declared.board.PreloadFile.{PreloadFile}
 use Rattle.jh_image.specs.declared.board.ProgramFile.{ProgramFile}
 use Rattle.jh_image.specs.declared.fault.ImageCause.{ImageCause}
 use Rattle.jh_image.specs.declared.fault.ImageCause.TheVariants.{ReadFault, Oversize, Json, Member, System, Findings, PoolSmall, Preload as BadPreload, Program as BadProgram}
-use Rattle.jh_spec.specs.Json.{IsText}
 use Rattle.jh_image.specs.Boards.{board_told, IsListingAnswer}
 use Rattle.jh_image.specs.Opening.{IsFit}
 use Rattle.jh_image.specs.Files.{Contents, HasBytes, IsOversize, Lists, IsPreloadOf, IsProgramOf, Preloads, Programs}
-use Rattle.jh_image.specs.Images.{HasSystem, IsReady, IsNextPreload, HasPreloads, IsNextProgram, MakesImage, IsNextFile, the_board, the_system, a_preload, a_program}
+use Rattle.jh_image.specs.Images.{HasSystem, IsReady, IsNextPreload, HasPreloads, IsNextProgram, IsNextFile, the_board, the_system, a_preload, a_program}
 use Rattle.jh_image.specs.Causes.{IsBadBoard, IsBadSystem, HasFindings, IsSmall, IsBadPreload, IsBadProgram, StopsReading}
 use Rattle.jh_image.specs.Laws.{AreTold}
-use Rattle.jh_image.proofs.OneLemmas.{OneSpelling, bytes-one, text-one, listing-one, system-one, preload-one, preloads-one, programs-one}
+use Rattle.jh_image.proofs.OneLemmas.{OneSpelling, bytes-one, text-one, listing-one, system-one, preload-one, preloads-one}
 use Rattle.jh_image.proofs.UnrefusedLemmas.{SpellingsAreFaultless, preload-at, program-at, not-oversize, ok-err, board-faultless, system-faultless, system-clean, system-roomy}
 
 -- what is to be shown of two stops: one cause, and one file

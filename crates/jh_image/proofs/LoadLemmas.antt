@@ -23,7 +23,7 @@ use Rattle.jh_image.specs.declared.board.ProgramFile.{ProgramFile}
 use Rattle.jh_image.specs.Boards.{Seat, seat_of, is_seat, are_distinct}
 use Rattle.jh_image.specs.Opening.{IsFit}
 use Rattle.jh_image.specs.Files.{Contents, IsPreloadOf, IsProgramOf, Preloads, no_preloads, one_more_preload, Programs, no_programs, one_more_program}
-use Rattle.jh_image.specs.Images.{IsReady, HasPreloads, IsNextPreload, IsNextProgram}
+use Rattle.jh_image.specs.Images.{HasPreloads, IsNextProgram}
 
 -- the front of a list with one item more
 front_more : {X : Type 0} (xs : List X) (i : ℕ) (x : X) → i < length xs → x ≡ get_or xs i x → take i xs ++ x ∷ [] ≡ take (i + 1) xs
@@ -58,17 +58,6 @@ loaded-more contents hypervisor files i file preloads preload lt is of fit so_fa
   apart = all_pairs_push IsOtherPreload preloads preload so_far.apart (λ k d within. fit.apart k d within);
 }
 
-pub loaded-end : (contents : Contents) (hypervisor : Region) (files : List PreloadFile) (i : ℕ) (preloads : List Preload) → length files ≤ i → LoadedSoFar contents hypervisor files i preloads → Preloads contents hypervisor files preloads
-loaded-end contents hypervisor files i preloads le so_far = subst (λ fs. Preloads contents hypervisor fs preloads) (take_all i files le) so_far.read
-
-pub loaded-next : (contents : Contents) (board : List ℕ) (listing : Listing) (system : SystemConfig) (i : ℕ) (file : PreloadFile) (preloads : List Preload) → IsReady contents board listing system → i < length listing.preloads → file ≡ get_or listing.preloads i file
-    → LoadedSoFar contents system.hypervisor_memory listing.preloads i preloads → IsNextPreload contents board listing system preloads file
-loaded-next contents board listing system i file preloads ready lt is so_far = record {
-  ready = ready;
-  before = subst (λ n. Preloads contents system.hypervisor_memory (take n listing.preloads) preloads) (sym so_far.count_is) so_far.read;
-  next = subst (λ n. slice_get listing.preloads n ≡ Some file) (sym so_far.count_is) (slice_get_read listing.preloads (length listing.preloads) i file refl lt is);
-}
-
 -- ---- programs
 
 abbrev pub program_seat : Program → Seat
@@ -100,9 +89,6 @@ scripts-more contents files i file programs program lt is of sound so_far = reco
   seats = map_push program_seat programs program ∙ ap (λ ss. ss ++ program_seat program ∷ []) so_far.seats ∙ ap (λ s. map seat_of (take i files) ++ s ∷ []) (same-seat contents file program of)
       ∙ sym (map_push seat_of (take i files) file) ∙ ap (map seat_of) (front_more files i file lt is);
 }
-
-pub scripts-end : (contents : Contents) (files : List ProgramFile) (i : ℕ) (programs : List Program) → length files ≤ i → ScriptsSoFar contents files i programs → Programs contents files programs
-scripts-end contents files i programs le so_far = subst (λ fs. Programs contents fs programs) (take_all i files le) so_far.read
 
 pub scripts-next : (contents : Contents) (board : List ℕ) (listing : Listing) (system : SystemConfig) (preloads : List Preload) (i : ℕ) (file : ProgramFile) (programs : List Program) → HasPreloads contents board listing system preloads → i < length listing.programs → file ≡ get_or listing.programs i file
     → ScriptsSoFar contents listing.programs i programs → IsNextProgram contents board listing system preloads programs file

@@ -30,7 +30,7 @@ use Rattle.jh_image.specs.Files.{Contents, Hands, HasBytes, IsOversize, Lists, I
 use Rattle.jh_image.specs.Images.{HasSystem, MakesImage, IsNextFile, the_board, the_system, a_preload, a_program, IsImage}
 use Rattle.jh_image.specs.Causes.{IsBadBoard, IsBadSystem, IsSmall, IsBadPreload, IsBadProgram, StopsReading}
 use Rattle.jh_image.specs.Laws.{AreTold}
-use Rattle.jh_image.proofs.OneLemmas.{OneSpelling, bytes-one, listing-told, listing-one, system-one, preload-one, preloads-one, makes-one}
+use Rattle.jh_image.proofs.OneLemmas.{OneSpelling, bytes-one, listing-told, listing-one, system-one, preload-one, preloads-one}
 
 -- a spelling has no fault
 abbrev pub SpellingsAreFaultless : Type 0

@@ -25,7 +25,7 @@ use Rattle.jh_image.specs.declared.fault.ImageFault.TheVariants.{Refused, NoMemo
 use Rattle.jh_image.specs.Boards.{IsListingAnswer}
 use Rattle.jh_image.specs.Opening.{IsFit}
 use Rattle.jh_image.specs.Files.{Contents, HasBytes, IsOversize, IsPreloadOf, Lists}
-use Rattle.jh_image.specs.Images.{HasSystem, IsNextPreload, IsNextProgram, MakesImage, IsNextFile, IsImage}
+use Rattle.jh_image.specs.Images.{HasSystem, IsNextPreload, IsNextProgram, IsNextFile, IsImage}
 
 -- the file is the board's, and its bytes are refused for that
 pub record IsBadBoard (contents : Contents) (board file : List ℕ) (fault : BoardFault) : Type 0 where

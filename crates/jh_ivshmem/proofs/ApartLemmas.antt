@@ -3,6 +3,7 @@ use Rattle.std.proofs.Common.{ℕ, ◌≡◌, ◌≢◌, ◌<◌, Bool, true, fa
 use Rattle.std.proofs.lemmas.Bool.{cases_Bool, cases_eq, cases_lt}
 use Rattle.std.proofs.lemmas.Bool.Decides.{nat_tests}
 use Rattle.std.proofs.lemmas.List.{length-set, length-map, get_or-map, get_or-set_same, get_or-set_other, get_or_default, same_lists}
+use Rattle.jh_vpci.proofs.BitLemmas.{equals}
 use Rattle.jh_ivshmem.specs.declared.endpoint.Endpoint.{Endpoint}
 use Rattle.jh_ivshmem.specs.declared.spec.EndpointSpec.{EndpointSpec}
 use Rattle.jh_ivshmem.specs.Specs.{is_device, is_peer, AreApart}
@@ -12,9 +13,6 @@ use Rattle.jh_ivshmem.specs.Keys.{key_of, is_key_apart}
 both_true : (a b : Bool) → (a && b) ≡ true → (a ≡ true) × (b ≡ true)
 both_true true b h = (refl, h)
 both_true false b h = cc
-
-equals : (a b : ℕ) → (a == b) ≡ true → a ≡ b
-equals a b h = grind (arith, nat_tests)
 
 never : (b : Bool) → b ≡ true → b ≡ false → ⊥
 never b h g = cc

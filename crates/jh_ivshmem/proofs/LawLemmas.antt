@@ -4,6 +4,7 @@ use Rattle.std.proofs.lemmas.Bool.{cases_Bool, cases_eq, cases_lt}
 use Rattle.std.proofs.lemmas.Bool.Decides.{nat_tests}
 use Rattle.std.proofs.lemmas.List.{get_or-set_same, get_or-set_other, get_or_past}
 use Rattle.jh_vpci.specs.Space.{has_vectors, is_open as is_function_open}
+use Rattle.jh_vpci.proofs.BitLemmas.{differs}
 use Rattle.jh_ivshmem.specs.declared.endpoint.Endpoint.{Endpoint}
 use Rattle.jh_ivshmem.specs.declared.vector.Vector.{Vector}
 use Rattle.jh_ivshmem.specs.declared.spec.EndpointSpec.{EndpointSpec}
@@ -221,9 +222,6 @@ stays-at test f list k d within fails = changed-at test f list k d within ∙ rw
 pub meant-at : (test : EndpointSpec → Bool) (f : Endpoint → Endpoint) (list : List Endpoint) (k : ℕ) (d : Endpoint)
     → k < length list → test (get_or list k d).spec ≡ true → get_or (changed test f list) k d ≡ f (get_or list k d)
 meant-at test f list k d within passes = changed-at test f list k d within ∙ rw passes refl
-
-differs : (a b : ℕ) → a ≢ b → (a == b) ≡ false
-differs a b h = grind (arith, nat_tests)
 
 no_peer : (bdf id : ℕ) (s : EndpointSpec) → s.bdf ≢ bdf → is_peer bdf id s ≡ false
 no_peer bdf id s other = rw (differs s.bdf bdf other) refl

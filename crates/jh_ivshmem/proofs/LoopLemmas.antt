@@ -92,10 +92,6 @@ at_end whom change before now ks i changes past =
     ∙ ap (λ l. map (changing whom change) before ++ l) (drop_all i before past)
     ∙ append-nil (map (changing whom change) before)
 
-pub at_start : (whom : Whom) (change : Change) (before : List Endpoint) (ks : List Key) → AreKept before ks
-    → Changes whom change before before ks 0
-at_start whom change before ks kept = record { list = refl; count = refl; kept = kept }
-
 -- the endpoint of a device is changed alone
 pub record ChangesOne (cell device : ℕ) (change : Change) (es now : List Endpoint) (ks : List Key) : Type 0 where
   pub list : now ≡ changed (is_device cell device) (after change) es

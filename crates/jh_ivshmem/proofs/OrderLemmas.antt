@@ -267,7 +267,7 @@ inserted_joins s (e ∷ es) (suc i) bound place =
     ))
     ∙ sym (ap (λ b. cond b (e ∷ joined s es) (fresh s ∷ e ∷ es)) passes)
 
-apart_turned : (a b : EndpointSpec) → AreApart a b → AreApart b a
+pub apart_turned : (a b : EndpointSpec) → AreApart a b → AreApart b a
 apart_turned a b apart = record { devices = sym (device_turned a b) ∙ apart.devices; peers = sym (peer_turned a b) ∙ apart.peers }
 
 -- of two that are apart the one comes before the other that the other doesn't come before

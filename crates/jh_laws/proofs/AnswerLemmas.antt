@@ -31,7 +31,8 @@ use Rattle.jh_history.specs.Sound.{IsSound}
 use Rattle.jh_laws.specs.Ways.{is_phase, is_decide, is_commit, call_begun, begun}
 use Rattle.jh_laws.specs.Exchanges.{how_many, made_by_named, made_by_cell, IsSettledBy, IsHeardBy}
 use Rattle.jh_history.proofs.SoundLemmas.{sound-after}
-use Rattle.jh_laws.proofs.CallLemmas.{Expects, phase-expects, expects-counted, phase-of_due, begun-of, call-after, stretch, IsBeside, entry-of_call, not_same}
+use Rattle.jh_history.proofs.PlainStepLemmas.{after-call}
+use Rattle.jh_laws.proofs.CallLemmas.{Expects, phase-expects, expects-counted, phase-of_due, begun-of, stretch, IsBeside, entry-of_call, not_same}
 use Rattle.jh_laws.proofs.DueCpusLemmas.{named-of, live-of, settled_with, heard_with}
 use Rattle.jh_laws.proofs.ExchangeLemmas.{counted_over, waits-over, settle-counts, noted-counts, settled-as, heard-as}
 
@@ -133,7 +134,7 @@ own_act image f o entry act sound is due own act_is =
 decided_call : (image : Image) (f : Facts) (entry : Entry) (o : OpenCall) (call : Call) → f.call ≡ Some o → o.caller ≡ entry.cpu → o.call ≡ call → entry.act ≡ Decide None
     → (after image f entry).call ≡ Some (record { caller = entry.cpu; call = call; phase = decided call (coming_by image f call) None })
 decided_call image f entry o call opens caller same act =
-    call-after image f entry
+    after-call image f entry
     ∙ ap (λ (c : Option OpenCall). call_by f.cells (option_and_then (λ (x : OpenCall). coming_by image f x.call) c) c entry entry.act) opens
     ∙ ap (call_by f.cells (coming_by image f o.call) (Some o) entry) act
     ∙ ap (λ (k : Call). Some (record { caller = o.caller; call = k; phase = decided k (coming_by image f k) None })) same
@@ -142,7 +143,7 @@ decided_call image f entry o call opens caller same act =
 noted_call : (image : Image) (f : Facts) (entry : Entry) (o : OpenCall) (id about : ℕ) (answer : ℤ) → f.call ≡ Some o → o.caller ≡ entry.cpu → o.phase ≡ ToNote id about answer → entry.act ≡ Note id
     → (after image f entry).call ≡ Some (record { caller = entry.cpu; call = o.call; phase = ToNoted id about answer 0 })
 noted_call image f entry o id about answer opens caller phase act =
-    call-after image f entry
+    after-call image f entry
     ∙ ap (λ (c : Option OpenCall). call_by f.cells (coming_of image f) c entry entry.act) opens
     ∙ ap (call_by f.cells (coming_of image f) (Some o) entry) act
     ∙ ap (λ (p : Phase). Some (record { caller = o.caller; call = o.call; phase = after_note p })) phase

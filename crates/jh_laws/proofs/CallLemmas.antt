@@ -39,6 +39,8 @@ use Rattle.jh_history.proofs.SoundCpusLemmas.{come-rests, halting-rests, root-un
 use Rattle.jh_history.proofs.SoundDueLemmas.{IsNext, next-from_due, IsOutcomeOf, IsOfProgram, state-parts, IsOfCall, call-parts}
 use Rattle.jh_history.proofs.SoundDecideLemmas.{coming-from_decision}
 use Rattle.jh_history.proofs.SoundLemmas.{sound-after, legal-sound}
+use Rattle.jh_history.proofs.DuePhaseLemmas.{noted_act, settle_act}
+use Rattle.jh_history.proofs.PlainStepLemmas.{after-call}
 
 -- ---- an entry beside a call
 
@@ -122,14 +124,10 @@ counted_act cells coming o entry (Note id) own = absurd (both_ways true own refl
 counted_act cells coming o entry (Noted id how) own = absurd (both_ways true own refl)
 counted_act cells coming o entry (Finish answer) own = absurd (both_ways true own refl)
 
-pub call-after : (image : Image) (f : Facts) (entry : Entry) → (after image f entry).call ≡ call_by f.cells (coming_of image f) f.call entry entry.act
-unfolding after
-call-after image f entry = refl
-
 pub call-counted : (image : Image) (f : Facts) (o : OpenCall) (entry : Entry) → f.call ≡ Some o → is_call entry.act ≡ false
     → (after image f entry).call ≡ Some (record { caller = o.caller; call = o.call; phase = counted entry.cell o.call o.phase })
 call-counted image f o entry is own =
-    call-after image f entry
+    after-call image f entry
     ∙ ap (λ (c : Option OpenCall). call_by f.cells (coming_of image f) c entry entry.act) is
     ∙ counted_act f.cells (coming_of image f) o entry entry.act own
 
@@ -144,25 +142,17 @@ Expects (ToNote id about answer) next = next ≡ Note id
 Expects (ToNoted id about answer waited) next = (how : Heard) × (next ≡ Noted id how)
 Expects (ToFinish answer) next = next ≡ Finish answer
 
-settle_of : (o : Option Settled) (act : Act) → option_map (λ (how : Settled). Settle how) o ≡ Some act → (how : Settled) × (act ≡ Settle how)
-settle_of None act h = absurd (none-some act h)
-settle_of (Some how) act h = (how, sym (same_Some (Settle how) act h))
-
-noted_of : (id : ℕ) (o : Option Heard) (act : Act) → option_map (λ (how : Heard). Noted id how) o ≡ Some act → (how : Heard) × (act ≡ Noted id how)
-noted_of id None act h = absurd (none-some act h)
-noted_of id (Some how) act h = (how, sym (same_Some (Noted id how) act h))
-
 unless_of : (b : Bool) (made act : Act) → cond b None (Some made) ≡ Some act → act ≡ made
 unless_of true made act h = absurd (none-some act h)
 unless_of false made act h = sym (same_Some made act h)
 
 pub phase-expects : (image : Image) (f : Facts) (idle : Bool) (caller : ℕ) (call : Call) (phase : Phase) (act : Act) → phase_act image f idle caller call phase ≡ Some act → Expects phase act
 phase-expects image f idle caller call ToDecide act h = (decision image f caller call, unless_of (any_below (λ i. keeps_decide image caller i (f.cpu i)) 16) (Decide (decision image f caller call)) act h)
-phase-expects image f idle caller call (ToSettle waited) act h = settle_of (settled_of f idle call waited) act h
+phase-expects image f idle caller call (ToSettle waited) act h = settle_act (settled_of f idle call waited) act h
 phase-expects image f idle caller call (ToCreate config) act h = sym (same_Some Commit act h)
 phase-expects image f idle caller call ToCommit act h = unless_of (any_below (λ i. keeps_commit image call i (f.cpu i)) 16) Commit act h
 phase-expects image f idle caller call (ToNote id about answer) act h = sym (same_Some (Note id) act h)
-phase-expects image f idle caller call (ToNoted id about answer waited) act h = noted_of id (heard_of f idle id waited) act h
+phase-expects image f idle caller call (ToNoted id about answer waited) act h = noted_act id (heard_of f idle id waited) act h
 phase-expects image f idle caller call (ToFinish answer) act h = sym (same_Some (Finish answer) act h)
 
 -- counting changes nothing of it
@@ -253,7 +243,7 @@ phase_follows image f entry caller call ToDecide idle opens h more =
 phase_follows image f entry caller call (ToSettle waited) idle opens h more =
     let o : OpenCall = record { caller = caller; call = call; phase = ToSettle waited } in
     let P : Act → Type 0 = λ act. GoesOnWith (call_by f.cells (coming_by image f call) (Some o) entry act) caller act in
-    let how = settle_of (settled_of f idle call waited) entry.act h in
+    let how = settle_act (settled_of f idle call waited) entry.act h in
     subst P (sym how.1) (record { caller = caller; call = call; phase = after_settle how.0 }, refl, refl, λ next e. settle_follows call how.0 next e)
 phase_follows image f entry caller call (ToCreate config) idle opens h more =
     let o : OpenCall = record { caller = caller; call = call; phase = ToCreate config } in
@@ -271,7 +261,7 @@ phase_follows image f entry caller call (ToNote id about answer) idle opens h mo
 phase_follows image f entry caller call (ToNoted id about answer waited) idle opens h more =
     let o : OpenCall = record { caller = caller; call = call; phase = ToNoted id about answer waited } in
     let P : Act → Type 0 = λ act. GoesOnWith (call_by f.cells (coming_by image f call) (Some o) entry act) caller act in
-    let how = noted_of id (heard_of f idle id waited) entry.act h in
+    let how = noted_act id (heard_of f idle id waited) entry.act h in
     let told : Option ℕ = first_told about (behind id f.cells) in
     subst P (sym how.1) (record { caller = caller; call = call; phase = telling about answer told }, refl, refl, λ next e. noted_follows call (configs_of f.cells) id about how.0 answer told next opens.phase.1 e)
 phase_follows image f entry caller call (ToFinish answer) idle opens h more =
@@ -349,7 +339,7 @@ phase-goes image f entry sound due phase more =
     let next = phase_follows image f entry o.caller o.call o.phase (is_idle_but image f o.caller) (sound-open image f o sound of.opens) of.act more in
     let coming : coming_of image f ≡ coming_by image f o.call = ap (option_and_then (λ (c : OpenCall). coming_by image f c.call)) of.opens in
     let behind_it : (after image f entry).call ≡ call_by f.cells (coming_by image f o.call) (Some o) entry entry.act =
-    call-after image f entry
+    after-call image f entry
     ∙ ap (λ (c : Option OpenCall). call_by f.cells (coming_of image f) c entry entry.act) of.opens
     ∙ ap (λ (k : Option CellConfig). call_by f.cells k (Some o) entry entry.act) coming in
     (next.0, behind_it ∙ next.1, next.2 ∙ of.caller, next.3)
@@ -359,7 +349,7 @@ begin_goes : (image : Image) (f : Facts) (entry : Entry) (code a b : ℕ) → en
 begin_goes image f entry code a b is =
     let P : Act → Type 0 = λ act. GoesOnWith (call_by f.cells (coming_of image f) f.call entry act) entry.cpu act in
     let Q : Option OpenCall → Type 0 = λ c. GoesOnWith c entry.cpu entry.act in
-    subst Q (sym (call-after image f entry))
+    subst Q (sym (after-call image f entry))
     (subst P (sym is) (record { caller = entry.cpu; call = decoded code a b; phase = ToDecide }, refl, refl, λ next e. e))
 
 pub call-goes : (image : Image) (f : Facts) (entry : Entry) (act : Act) → entry.act ≡ act → IsSound image f → due_at image f entry.cpu ≡ Some entry → is_call act ≡ true → is_finish act ≡ false → GoesOnWith (after image f entry).call entry.cpu entry.act
@@ -675,7 +665,7 @@ agreement_settles Stop h = absurd (both_ways false refl h)
 settled_call : (image : Image) (f : Facts) (o : OpenCall) (entry : Entry) (how : Settled) → f.call ≡ Some o → entry.act ≡ Settle how → after_settle how ≡ ToCommit
     → (after image f entry).call ≡ Some (record { caller = o.caller; call = o.call; phase = ToCommit })
 settled_call image f o entry how opens act commits =
-    call-after image f entry
+    after-call image f entry
     ∙ ap (λ (c : Option OpenCall). call_by f.cells (coming_of image f) c entry entry.act) opens
     ∙ ap (λ (x : Act). call_by f.cells (coming_of image f) (Some o) entry x) act
     ∙ ap (λ (p : Phase). Some (record { caller = o.caller; call = o.call; phase = p })) commits
@@ -709,7 +699,7 @@ begun_from image f b [] h = h
 begun_from image f b (entry ∷ entries) h =
     let P : Option OpenCall → Type 0 = IsBegun (begun_by b entry entry.act) in
     begun_from image (after image f entry) (begun_by b entry entry.act) entries
-    (subst P (sym (call-after image f entry)) (begun_act f.cells (coming_of image f) b f.call entry entry.act refl h))
+    (subst P (sym (after-call image f entry)) (begun_act f.cells (coming_of image f) b f.call entry entry.act refl h))
 
 pub begun-call : (image : Image) (entries : List Entry) → IsBegun (begun entries) (facts image entries).call
 unfolding facts

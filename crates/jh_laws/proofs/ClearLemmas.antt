@@ -36,6 +36,7 @@ use Rattle.jh_history.proofs.SpecsLemmas.{specs-pairs, held-numbered, other-id}
 use Rattle.jh_laws.specs.Vectors.{PutsRegister, IsAbout, Clears}
 use Rattle.jh_laws.proofs.CallLemmas.{Expects, phase-of_due, phase-expects, sound-open, not_same}
 use Rattle.jh_history.specs.Due.{due_at, is_idle_but}
+use Rattle.jh_history.proofs.SoundLemmas.{opened_call}
 use Rattle.jh_laws.specs.Ways.{is_phase, is_commit}
 use Rattle.jh_laws.proofs.HeldLemmas.{found-by_id}
 use Rattle.jh_laws.proofs.DevicesLemmas.{endpoint-held, endpoint-sound, cell-named}
@@ -90,9 +91,6 @@ pub record IsIdle (image : Image) (f : Facts) (entry : Entry) : Type 0 where
 abbrev pub CommitCases : Image → Facts → Entry → Type 0
 CommitCases image f entry = IsClear image f entry ⊎ IsJoin image f entry ⊎ IsIdle image f entry
 
-abbrev opened_as : ℕ → Call → Phase → OpenCall
-opened_as caller call phase = record { caller = caller; call = call; phase = phase }
-
 -- what stands there, by the call that is open
 commit_after : (image : Image) (f : Facts) (entry : Entry) (o : OpenCall) → f.call ≡ Some o → entry.act ≡ Commit
     → endpoints_after image f entry ≡ endpoints_changed (device_change o.call) (option_map_or specs_of (changing_by f.cells (Some o) Commit) []) f.endpoints
@@ -103,7 +101,7 @@ commit_after image f entry o is commits =
 about_of : (f : Facts) (entry : Entry) (o : OpenCall) (k : ℕ) → f.call ≡ Some o → Clears f entry k → IsAbout o.call k
 about_of f entry o k is clears = let P : OpenCall → Type 0 = λ c. IsAbout c.call k in subst P (same_Some clears.call o (sym clears.begun ∙ is)) clears.about
 
-clear_case : (image : Image) (f : Facts) (entry : Entry) (caller id : ℕ) (call : Call) (config : CellConfig) → IsSound image f → f.call ≡ Some (opened_as caller call ToCommit) → entry.act ≡ Commit → IsClearing (device_change call)
+clear_case : (image : Image) (f : Facts) (entry : Entry) (caller id : ℕ) (call : Call) (config : CellConfig) → IsSound image f → f.call ≡ Some (opened_call caller call ToCommit) → entry.act ≡ Commit → IsClearing (device_change call)
     → ((k : ℕ) → IsAbout call k → k ≡ id) → IsAbout call id → Contains (configs_of f.cells) config → config.id ≡ id
     → endpoints_after image f entry ≡ endpoints_changed (device_change call) (option_map_or specs_of (live_in f.cells id) []) f.endpoints → IsClear image f entry
 clear_case image f entry caller id call config sound is commits clearing only about lives named after =
@@ -115,34 +113,34 @@ clear_case image f entry caller id call config sound is commits clearing only ab
       clearing = clearing;
       lives = lives;
       named = named;
-      clears = record { call = opened_as caller call ToCommit; begun = is; about = about; commits = commits };
-      only = λ k clears. only k (about_of f entry (opened_as caller call ToCommit) k is clears);
+      clears = record { call = opened_call caller call ToCommit; begun = is; about = about; commits = commits };
+      only = λ k clears. only k (about_of f entry (opened_call caller call ToCommit) k is clears);
       after = after ∙ ap (λ (o : Option CellConfig). endpoints_changed (device_change call) (option_map_or specs_of o []) f.endpoints) found;
     }
 
 same_named : (id : ℕ) (config : CellConfig) → eqb id config.id ≡ true → config.id ≡ id
 same_named id config is = sym (eqb-true id config.id is)
 
-commit_case : (image : Image) (f : Facts) (entry : Entry) (caller : ℕ) (call : Call) → IsSound image f → f.call ≡ Some (opened_as caller call ToCommit) → entry.act ≡ Commit → IsInPhase image (configs_of f.cells) f.cpu caller call ToCommit → CommitCases image f entry
+commit_case : (image : Image) (f : Facts) (entry : Entry) (caller : ℕ) (call : Call) → IsSound image f → f.call ≡ Some (opened_call caller call ToCommit) → entry.act ≡ Commit → IsInPhase image (configs_of f.cells) f.cpu caller call ToCommit → CommitCases image f entry
 commit_case image f entry caller (Start id) sound is commits phase =
-    inl (clear_case image f entry caller id (Start id) phase.0 sound is commits tt (λ k about. sym about) refl phase.1 (same_named id phase.0 phase.2) (commit_after image f entry (opened_as caller (Start id) ToCommit) is commits))
+    inl (clear_case image f entry caller id (Start id) phase.0 sound is commits tt (λ k about. sym about) refl phase.1 (same_named id phase.0 phase.2) (commit_after image f entry (opened_call caller (Start id) ToCommit) is commits))
 commit_case image f entry caller (Destroy id) sound is commits phase =
-    inl (clear_case image f entry caller id (Destroy id) phase.0 sound is commits tt (λ k about. sym about) refl phase.1 (same_named id phase.0 phase.2) (commit_after image f entry (opened_as caller (Destroy id) ToCommit) is commits))
+    inl (clear_case image f entry caller id (Destroy id) phase.0 sound is commits tt (λ k about. sym about) refl phase.1 (same_named id phase.0 phase.2) (commit_after image f entry (opened_call caller (Destroy id) ToCommit) is commits))
 commit_case image f entry caller (Loadable id) sound is commits phase =
-    inr (inr (record { none = λ k clears. about_of f entry (opened_as caller (Loadable id) ToCommit) k is clears; after = commit_after image f entry (opened_as caller (Loadable id) ToCommit) is commits }))
+    inr (inr (record { none = λ k clears. about_of f entry (opened_call caller (Loadable id) ToCommit) k is clears; after = commit_after image f entry (opened_call caller (Loadable id) ToCommit) is commits }))
 commit_case image f entry caller (Create at) sound is commits phase = absurd (false≢true phase.2)
 commit_case image f entry caller (Info kind) sound is commits phase = absurd (false≢true phase.2)
 commit_case image f entry caller (State id) sound is commits phase = absurd (false≢true phase.2)
 commit_case image f entry caller (CpuInfo cpu kind) sound is commits phase = absurd (false≢true phase.2)
 commit_case image f entry caller Unknown sound is commits phase = absurd (false≢true phase.2)
 
-create_case : (image : Image) (f : Facts) (entry : Entry) (caller : ℕ) (call : Call) (config : CellConfig) → f.call ≡ Some (opened_as caller call (ToCreate config)) → entry.act ≡ Commit → IsInPhase image (configs_of f.cells) f.cpu caller call (ToCreate config) → CommitCases image f entry
+create_case : (image : Image) (f : Facts) (entry : Entry) (caller : ℕ) (call : Call) (config : CellConfig) → f.call ≡ Some (opened_call caller call (ToCreate config)) → entry.act ≡ Commit → IsInPhase image (configs_of f.cells) f.cpu caller call (ToCreate config) → CommitCases image f entry
 create_case image f entry caller (Create at) config is commits phase =
     inr (inl (record {
       config = config;
-      none = λ k clears. about_of f entry (opened_as caller (Create at) (ToCreate config)) k is clears;
+      none = λ k clears. about_of f entry (opened_call caller (Create at) (ToCreate config)) k is clears;
       others = λ other held same. other-id (image.system.root ∷ configs_of f.cells) config other phase.1.unknown held (sym same);
-      after = commit_after image f entry (opened_as caller (Create at) (ToCreate config)) is commits;
+      after = commit_after image f entry (opened_call caller (Create at) (ToCreate config)) is commits;
     }))
 create_case image f entry caller (Start id) config is commits phase = absurd phase.0
 create_case image f entry caller (Destroy id) config is commits phase = absurd phase.0
@@ -152,7 +150,7 @@ create_case image f entry caller (State id) config is commits phase = absurd pha
 create_case image f entry caller (CpuInfo cpu kind) config is commits phase = absurd phase.0
 create_case image f entry caller Unknown config is commits phase = absurd phase.0
 
-phase_case : (image : Image) (f : Facts) (entry : Entry) (caller : ℕ) (call : Call) (phase : Phase) → IsSound image f → f.call ≡ Some (opened_as caller call phase) → entry.act ≡ Commit → IsInPhase image (configs_of f.cells) f.cpu caller call phase → Expects phase Commit → CommitCases image f entry
+phase_case : (image : Image) (f : Facts) (entry : Entry) (caller : ℕ) (call : Call) (phase : Phase) → IsSound image f → f.call ≡ Some (opened_call caller call phase) → entry.act ≡ Commit → IsInPhase image (configs_of f.cells) f.cpu caller call phase → Expects phase Commit → CommitCases image f entry
 phase_case image f entry caller call ToCommit sound is commits holds expects = commit_case image f entry caller call sound is commits holds
 phase_case image f entry caller call (ToCreate config) sound is commits holds expects = create_case image f entry caller call config is commits holds
 phase_case image f entry caller call ToDecide sound is commits holds expects = absurd (not_same is_commit Commit (Decide expects.0) refl refl expects.1)

@@ -30,11 +30,8 @@ use Rattle.jh_history.proofs.LegalLemmas.{due-split, IsLegal-begin, facts-append
 use Rattle.jh_history.specs.Sound.{IsInPhase, IsOpen, IsSound}
 use Rattle.jh_laws.specs.Ways.{is_phase, is_commit, is_finish, call_begun, begun}
 use Rattle.jh_history.proofs.SoundLemmas.{sound-after, legal-sound}
-use Rattle.jh_laws.proofs.CallLemmas.{Expects, phase-expects, phase-of_due, phase-goes, sound-open, call-after, call-counted, IsBeside, entry-of_call, along, stretch, begun-of, past_from, not_same, IsPast}
-
-pub cells-after : (image : Image) (f : Facts) (entry : Entry) → (after image f entry).cells ≡ cells_by f.call f.cells entry.act
-unfolding after
-cells-after image f entry = refl
+use Rattle.jh_history.proofs.PlainStepLemmas.{after-call, after-cells}
+use Rattle.jh_laws.proofs.CallLemmas.{Expects, phase-expects, phase-of_due, phase-goes, sound-open, call-counted, IsBeside, entry-of_call, along, stretch, begun-of, past_from, not_same, IsPast}
 
 -- no other entry than a Commit changes which cells live
 kept_by : (call : Option OpenCall) (cells : List Live) (act : Act) → is_commit act ≡ false → cells_by call cells act ≡ cells
@@ -56,7 +53,7 @@ kept_by call cells (Finish answer) h = refl
 pub cells-kept : (image : Image) (before : List Entry) (entry : Entry) → is_commit entry.act ≡ false → (facts image (before ++ entry ∷ [])).cells ≡ (facts image before).cells
 cells-kept image before entry h =
     let f : Facts = facts image before in
-    ap (λ (g : Facts). g.cells) (facts-push image before entry) ∙ cells-after image f entry ∙ kept_by f.call f.cells entry.act h
+    ap (λ (g : Facts). g.cells) (facts-push image before entry) ∙ after-cells image f entry ∙ kept_by f.call f.cells entry.act h
 
 -- a Commit is one of the call that was begun
 pub record IsCommitOf (image : Image) (before : List Entry) (entry : Entry) (call : Call) : Type 0 where
@@ -83,7 +80,7 @@ commit-of image before rest entry first admitted legal act is =
       expects = subst E act (phase-expects image f (is_idle_but image f o.caller) o.caller o.call o.phase entry.act of.act);
       holds = subst P call (subst Q of.caller opens.phase);
       cells = ap (λ (g : Facts). g.cells) (facts-push image before entry)
-          ∙ cells-after image f entry
+          ∙ after-cells image f entry
           ∙ ap (λ (c : Option OpenCall). cells_by c f.cells entry.act) of.opens
           ∙ ap (cells_by (Some o) f.cells) act
           ∙ ap (λ (k : Call). committed_cells k o.phase f.cells) call;
@@ -144,7 +141,7 @@ creating_commits image caller at config f entry sound is due own =
     ⊎_elim
     (λ made.
     let act : entry.act ≡ Commit = phase-expects image f (is_idle_but image f caller) caller (Create at) (ToCreate config) entry.act made.1 in
-    cells-after image f entry ∙ ap (λ (c : Option OpenCall). cells_by c f.cells entry.act) is ∙ ap (cells_by (Some o) f.cells) act)
+    after-cells image f entry ∙ ap (λ (c : Option OpenCall). cells_by c f.cells entry.act) is ∙ ap (cells_by (Some o) f.cells) act)
     (λ (beside : IsBeside image f o entry). absurd (beside.other own))
     (entry-of_call image f o entry sound is due)
 
@@ -164,7 +161,7 @@ decided_call image f entry at sound due act o opens caller call =
     let goes = phase-goes image f entry sound due phase (ap is_finish act) in
     let coming : coming_of image f ≡ coming_by image f o.call = ap (option_and_then (λ (c : OpenCall). coming_by image f c.call)) opens in
     let made : (after image f entry).call ≡ Some (record { caller = entry.cpu; call = Create at; phase = decided (Create at) (config_read (read_at image f at)) None }) =
-    call-after image f entry
+    after-call image f entry
     ∙ ap (λ (c : Option OpenCall). call_by f.cells (coming_of image f) c entry entry.act) opens
     ∙ ap (λ (k : Option CellConfig). call_by f.cells k (Some o) entry entry.act) coming
     ∙ ap (call_by f.cells (coming_by image f o.call) (Some o) entry) act

@@ -49,7 +49,7 @@ use Rattle.jh_laws.specs.Held.{IsGrantedTo, AreGrantedTo}
 use Rattle.jh_laws.proofs.HeldLemmas.{granted-to}
 use Rattle.jh_laws.specs.Ends.{IsAnsweredBy, IsAnsweredByWindow, IsAnsweredByRegister, HasFunction, IsAnswered, AreItsPlaces, GivesPlaces, offset_in, IsReadBy, IsGotBy, IsAwaitedBy, EndsAsGranted}
 use Rattle.jh_laws.proofs.DevicesLemmas.{function-is, function-has, told-function, told-ones, told-register, same-register}
-use Rattle.jh_laws.proofs.ReachedLemmas.{Way, OnMemory, OnRegion, OnWindow, OnRegister, OnNothing, way, places-of_memory, places-of_region, region-places}
+use Rattle.jh_laws.proofs.ReachedLemmas.{Way, OnMemory, OnRegion, OnWindow, OnRegister, OnNothing, way, places-of_memory, places-of_region, region-places, ByRegister}
 
 -- ---- what a reading access gets
 
@@ -153,9 +153,6 @@ window_value image f id access at width n m None window is one other sound =
 window_value image f id access at width n m (Some e) window is one other sound =
     let has = function-has image f id (offset_in image.system at) e is in
     one.function e window has ∙ sym (other.function e window has)
-
-abbrev ByRegister : Image → Facts → ℕ → Access → ℕ → ℕ → Type 0
-ByRegister image f id access at width = (n : ℕ) × (bar : ℕ) × (offset : ℕ) × (e : Endpoint) × IsAnsweredByRegister image f id access at width n bar offset e
 
 pub one-value : (image : Image) (f : Facts) (id : ℕ) (access : Access) (at width n m : ℕ) → IsSound image f → IsAnswered image f id access at width → IsReadBy image f id access at width n → IsReadBy image f id access at width m → n ≡ m
 one-value image f id access at width n m sound answered one other =

@@ -58,7 +58,8 @@ use Rattle.jh_history.proofs.SoundDecideLemmas.{board-few, found-live, settled-o
 use Rattle.jh_laws.proofs.HeldLemmas.{two-ids}
 use Rattle.jh_history.proofs.SoundStepLemmas.{begun-owner, finished-owner}
 use Rattle.jh_history.proofs.SoundLemmas.{sound-start, sound-after, legal-sound}
-use Rattle.jh_laws.proofs.CallLemmas.{call-after, sound-open}
+use Rattle.jh_history.proofs.PlainStepLemmas.{after-call}
+use Rattle.jh_laws.proofs.CallLemmas.{sound-open}
 use Rattle.jh_laws.proofs.FewLemmas.{IsTyped, ArePreloadsBytes, MayWriteBytes, page-write-small, write-small, words-small, opening-small, config-typed, read-bytes, picked, picked-few, index-small, length-map, get-map}
 use Rattle.jh_laws.proofs.RegisterLemmas.{HaveRegisters, registers-after, registers-open}
 use Rattle.jh_laws.proofs.RefusalLemmas.{FitsRefusal, refusal-fits}
@@ -429,7 +430,7 @@ root_commit image f entry None is act sound has =
 root_commit image f entry (Some o) is act sound has =
     let next : OpenCall = record { caller = o.caller; call = o.call; phase = after_commit o.call o.phase f.cells } in
     let opens : (after image f entry).call ≡ Some next =
-    call-after image f entry
+    after-call image f entry
     ∙ ap (λ (c : Option OpenCall). call_by f.cells (coming_of image f) c entry entry.act) is
     ∙ ap (call_by f.cells (coming_of image f) (Some o) entry) act in
     let caller = (sound-open image (after image f entry) next sound opens).caller in

@@ -90,7 +90,7 @@ not_device id n e o differs named =
     let parts = and_parts (eqb o.spec.cell e.spec.cell) (eqb o.spec.device e.spec.device) same in
     differs (sym (eqb-true o.spec.cell id own.0) ∙ eqb-true o.spec.cell e.spec.cell parts.0) (sym (eqb-true o.spec.device n own.1) ∙ eqb-true o.spec.device e.spec.device parts.1))
 
-told_spec : (b : Bool) (o : Endpoint) → (cond b (raised 0 o) o).spec ≡ o.spec
+pub told_spec : (b : Bool) (o : Endpoint) → (cond b (raised 0 o) o).spec ≡ o.spec
 told_spec true o = raised-spec 0 o
 told_spec false o = refl
 
@@ -332,17 +332,6 @@ cleared-all change [] list id n o clears others pairs links there = there
 cleared-all change (s ∷ specs) list id n o clears others pairs links there =
     cleared_first change s specs list id n o (endpoint_at s.cell s.device list) clears others pairs links there
     (λ l x has at. cleared-all change specs l id n x clears (λ t held. others t (Contains-tail s specs t held)) (pairs_rest s specs pairs) has at) refl
-
--- no endpoint comes
-pub none-all : (change : DeviceChange) (specs : List EndpointSpec) (list : List Endpoint) (id n : ℕ) → IsClearing change → endpoint_at id n list ≡ None → endpoint_at id n (endpoints_changed change specs list) ≡ None
-none-all change [] list id n clears none = none
-none-all change (s ∷ specs) list id n clears none =
-    none-all change specs (endpoint_changed change list s) id n clears
-    (ap (endpoint_at id n) (one_cleared change list s (endpoint_at s.cell s.device list) clears refl) ∙ none_one (endpoint_at s.cell s.device list))
-  where
-    none_one : (q : Option Endpoint) → endpoint_at id n (option_map_or (λ (e : Endpoint). cleared_by change e list) q list) ≡ None
-    none_one None = none
-    none_one (Some e) = none-cleared change e list id n none
 
 -- ---- devices that join
 

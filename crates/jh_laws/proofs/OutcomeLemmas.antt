@@ -1,11 +1,9 @@
 -- Each access of a legal journal has its outcome.
 use Rattle.std.proofs.Common.{◌≡◌, ℕ, ◌<◌, List, [], ◌∷◌, ◌++◌, Bool, true, false, Option, refl, sym, subst, ◌∙◌, inl, arith}
-use Rattle.std.specs.Prelude.{IsTrue}
 use Rattle.std.proofs.lemmas.Bool.{false≢true}
 use Rattle.jh_ivshmem.specs.declared.endpoint.Endpoint.{Endpoint}
 use Rattle.jh_ivshmem.specs.declared.spec.EndpointSpec.{EndpointSpec}
 use Rattle.jh_script.specs.declared.image.Image.{Image}
-use Rattle.jh_script.specs.Operations.{is_width}
 use Rattle.jh_history.specs.declared.access.Access.TheVariants.{Read as ToRead, Write as ToWrite, Fetch as ToFetch}
 use Rattle.jh_history.specs.declared.entry.Entry.{Entry}
 use Rattle.jh_history.specs.declared.entry.Act.{Act}
@@ -28,11 +26,8 @@ use Rattle.jh_laws.specs.Outcomes.{HasItsOutcome}
 use Rattle.jh_history.specs.Phases.{configs_of}
 use Rattle.jh_history.specs.Sound.{AreSoundCells, AreOwned, IsSoundCall, AreEndpoints, IsSound}
 use Rattle.jh_history.proofs.LegalLemmas.{IsLegal-begin}
-use Rattle.jh_laws.proofs.EndsLemmas.{got-of_cell, reached-of_cell, one-value}
+use Rattle.jh_laws.proofs.EndsLemmas.{got-of_cell, reached-of_cell, one-value, width-some}
 use Rattle.jh_laws.proofs.MadeLemmas.{IsSilent, AllRoots, AwaitOf, IsAccess, no-specs_of_root, made-access, made-at}
-
-pub some_width : (w : ℕ) → IsTrue (is_width w) → 0 < w
-some_width w h = grind arith
 
 -- root alone, without devices, is sound
 no_endpoints : (image : Image) → IsAdmitted image → HasNoDevice image → AreEndpoints image [] []
@@ -79,14 +74,14 @@ awaited image entries at width value false got outcome e = record {
 
 pub outcome : (image : Image) (entries : List Entry) (act : Act) → IsSound image (facts image entries) → IsAccess image (facts image entries) image.system.root.id act → HasItsOutcome image entries image.system.root act
 outcome image entries (Read width at got) sound access =
-    let P : Option ℕ → Type 0 = IsGotBy image (facts image entries) image.system.root.id ToRead at width in subst P (sym access.1) (got-of image entries ToRead at width sound (some_width width access.0))
+    let P : Option ℕ → Type 0 = IsGotBy image (facts image entries) image.system.root.id ToRead at width in subst P (sym access.1) (got-of image entries ToRead at width sound (width-some width access.0))
 outcome image entries (Write width at value ok) sound access =
-    let reached = reached-of image (facts image entries) ToWrite at width sound (some_width width access.0) in
+    let reached = reached-of image (facts image entries) ToWrite at width sound (width-some width access.0) in
     (λ h. reached.0 (sym access.1 ∙ h), λ all. access.1 ∙ reached.1 all)
 outcome image entries (Fetch at got) sound access =
     let P : Option ℕ → Type 0 = IsGotBy image (facts image entries) image.system.root.id ToFetch at 4 in subst P (sym access) (got-of image entries ToFetch at 4 sound (omega arith))
 outcome image entries (Await width at value ok) sound access =
-    awaited image entries at width value ok (got_by image (facts image entries) image.system.root.id ToRead at width) (got-of image entries ToRead at width sound (some_width width access.0)) access.1
+    awaited image entries at width value ok (got_by image (facts image entries) image.system.root.id ToRead at width) (got-of image entries ToRead at width sound (width-some width access.0)) access.1
 outcome image entries _ sound access = absurd access
 
 pub outcome-at : (image : Image) (before rest : List Entry) (entry : Entry) → IsSilent image → IsLegal image (before ++ entry ∷ rest) → HasItsOutcome image before image.system.root entry.act

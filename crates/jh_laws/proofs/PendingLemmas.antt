@@ -13,7 +13,7 @@ use Rattle.jh_ivshmem.specs.declared.endpoint.Endpoint.{Endpoint}
 use Rattle.jh_ivshmem.specs.declared.vector.Vector.{Vector}
 use Rattle.jh_ivshmem.specs.Endpoint.{fresh_vector, vector_at, pending_in}
 use Rattle.jh_ivshmem.specs.Links.{endpoint_at, earlier, pending_at, pending_of}
-use Rattle.jh_ivshmem.specs.Specs.{is_device, is_peer, AreApart}
+use Rattle.jh_ivshmem.specs.Specs.{is_device, AreApart}
 use Rattle.jh_ivshmem.proofs.NamedLemmas.{named-cell, named-device}
 use Rattle.jh_ivshmem.proofs.OrderLemmas.{pairs_of}
 use Rattle.jh_history.specs.Facts.{Facts}
@@ -41,18 +41,6 @@ not_both a b apart same =
 
 pub one-endpoint : (image : Image) (f : Facts) (a b : Endpoint) → IsSound image f → Contains f.endpoints a → Contains f.endpoints b → a.spec.cell ≡ b.spec.cell → a.spec.device ≡ b.spec.device → a ≡ b
 one-endpoint image f a b sound in_a in_b cell device = one-of_pairs ApartAs IsOneDevice not_both (λ x y h. (sym h.0, sym h.1)) f.endpoints a b (endpoints-apart image f sound) in_a in_b (cell, device)
-
--- and so are two with one number of one link
-abbrev IsOnePeer : Endpoint → Endpoint → Type 0
-IsOnePeer a b = (a.spec.bdf ≡ b.spec.bdf) × (a.spec.id ≡ b.spec.id)
-
-not_peers : (a b : Endpoint) → ApartAs a b → IsOnePeer a b → ⊥
-not_peers a b apart same =
-    both_ways (is_peer a.spec.bdf a.spec.id b.spec) apart.peers
-    (and_from (eqb b.spec.bdf a.spec.bdf) (eqb b.spec.id a.spec.id) (eq-eqb b.spec.bdf a.spec.bdf (sym same.0)) (eq-eqb b.spec.id a.spec.id (sym same.1)))
-
-pub one-peer : (image : Image) (f : Facts) (a b : Endpoint) → IsSound image f → Contains f.endpoints a → Contains f.endpoints b → a.spec.bdf ≡ b.spec.bdf → a.spec.id ≡ b.spec.id → a ≡ b
-one-peer image f a b sound in_a in_b bdf id = one-of_pairs ApartAs IsOnePeer not_peers (λ x y h. (sym h.0, sym h.1)) f.endpoints a b (endpoints-apart image f sound) in_a in_b (bdf, id)
 
 -- an endpoint is the one that is found by its cell and its device
 pub endpoint-found : (image : Image) (f : Facts) (e : Endpoint) → IsSound image f → Contains f.endpoints e → endpoint_at e.spec.cell e.spec.device f.endpoints ≡ Some e

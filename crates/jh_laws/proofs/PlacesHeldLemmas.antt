@@ -40,7 +40,7 @@ use Rattle.jh_history.specs.Commits.{cells_by}
 use Rattle.jh_history.specs.Devices.{place_of_section, specs_of}
 use Rattle.jh_history.specs.Endpoints.{changing, changing_by, specs_changing, with_words}
 use Rattle.jh_history.specs.Facts.{Facts}
-use Rattle.jh_history.specs.Places.{is_same, with_byte, written}
+use Rattle.jh_history.specs.Places.{is_same, with_byte, written, is_physical, number_of}
 use Rattle.jh_history.specs.Pages.{page_after, with_page_write, page_write_by}
 use Rattle.jh_history.specs.Bytes.{byte_written, byte_after}
 use Rattle.jh_history.specs.History.{cells_after, facts}
@@ -68,14 +68,6 @@ use Rattle.jh_laws.proofs.StoredLemmas.{IsGivenTo, listed-at, byte_put, IsStored
 use Rattle.jh_history.proofs.SoundLemmas.{legal-sound}
 
 -- ---- places
-
-abbrev pub is_memory : Place → Bool
-is_memory (Physical p) = true
-is_memory (Page cell offset) = false
-
-abbrev pub number_in : Place → ℕ
-number_in (Physical p) = p
-number_in (Page cell offset) = offset
 
 abbrev cell_in_place : Place → ℕ
 cell_in_place (Physical p) = p
@@ -192,9 +184,9 @@ given_place image cells id at p h =
     given_by (is_comm r) refl h.given
   where
     given_by : (b : Bool) → is_comm h.region ≡ b → Physical p ≡ cond b (Page h.cell.id (at - h.region.virt_start)) (Physical (h.region.phys_start + (at - h.region.virt_start))) → (is_comm h.region ≡ false) × (has_place h.region p ≡ true)
-    given_by true is e = absurd (true≢false (ap is_memory e))
+    given_by true is e = absurd (true≢false (ap is_physical e))
     given_by false is e =
-        let same : p ≡ h.region.phys_start + (at - h.region.virt_start) = ap number_in e in
+        let same : p ≡ h.region.phys_start + (at - h.region.virt_start) = ap number_of e in
         let first : h.region.virt_start ≤ at = h.first in
         let last : at < h.region.virt_start + h.region.size = h.last in
         (is, and_from (nat_le h.region.phys_start p) (nat_lt p (phys_end h.region)) (le-leb h.region.phys_start p (omega arith)) (lt-ltb p (phys_end h.region) (omega arith)))
@@ -319,7 +311,7 @@ table_has image configs config spec value k place clean held own there =
     let own_id : device.shmem_dev_id < device.shmem_peers = good.own in
     let few : device.shmem_peers ≤ 16 = good.few in
     let below : k < 4 = there.0 in
-    let is : place ≡ spec.table + 4 * spec.id + k = ap number_in there.1 in
+    let is : place ≡ spec.table + 4 * spec.id + k = ap number_of there.1 in
     record {
       number = at;
       region = table;
@@ -471,7 +463,7 @@ cleared_there image f entry live number region place sound held h = record {
   writes = inr (h.held, refl);
   index = h.index;
   within = h.there.0;
-  there = ap number_in h.there.1;
+  there = ap number_of h.there.1;
   owner = changing_owner image f entry live number region place h.spec 0 h.index sound held (changing-is image f entry h.spec sound h.held) h.there;
 }
 
@@ -483,7 +475,7 @@ put_there image f entry live number region place sound held h = record {
   writes = inl (h.endpoint, refl, h.puts, h.other);
   index = h.index;
   within = h.there.0;
-  there = ap number_in h.there.1;
+  there = ap number_of h.there.1;
   owner = endpoint_owner image f entry live number region place h.endpoint h.value h.index sound held (register-held image f entry.cell entry.act 0x10 h.value h.endpoint h.puts) h.there;
 }
 
@@ -508,13 +500,13 @@ page_owner image cells id at cell offset h = sym h.named ∙ owner_by (is_comm h
   where
     owner_by : (b : Bool) → Page cell offset ≡ cond b (Page h.cell.id (at - h.region.virt_start)) (Physical (h.region.phys_start + (at - h.region.virt_start))) → h.cell.id ≡ cell
     owner_by true e = sym (ap cell_in_place e)
-    owner_by false e = absurd (false≢true (ap is_memory e))
+    owner_by false e = absurd (false≢true (ap is_physical e))
 
 page_writes : (image : Image) (f : Facts) (entry : Entry) (cell offset : ℕ) → IsSound image f → IsSmallAct entry.act → with_words (specs_changing f entry.act) (byte_written image f entry.cell entry.act) (Page cell offset) ≢ f.byte (Page cell offset) → entry.cell ≡ cell
 page_writes image f entry cell offset sound small changed =
     ⊎_elim
     (λ (write : MayWrite image f entry.cell (Page cell offset)). page_owner image f.cells entry.cell write.0 cell offset write.1)
-    (λ (word : PutsWordAt image f entry.cell entry.act (Page cell offset)). absurd (false≢true (ap is_memory word.there.1)))
+    (λ (word : PutsWordAt image f entry.cell entry.act (Page cell offset)). absurd (false≢true (ap is_physical word.there.1)))
     (written_by image f entry.cell entry.act (Page cell offset) sound small (λ e. changed (words-page (specs_changing f entry.act) (byte_written image f entry.cell entry.act) cell offset ∙ e)))
 
 page_by : (image : Image) (f : Facts) (entry : Entry) (cell offset : ℕ) (write : Option PageWrite) → page_write_by image f entry entry.act ≡ write → IsSound image f → IsSmallAct entry.act

@@ -38,6 +38,7 @@ use Rattle.jh_history.specs.Admitted.{IsAdmitted}
 use Rattle.jh_history.specs.Sound.{IsHalted, IsAsked, IsHalting, IsAboutLive, IsTold, IsCaller, IsOpen, IsSound}
 use Rattle.jh_history.proofs.SoundCpusLemmas.{root-unnamed}
 use Rattle.jh_history.proofs.SoundLemmas.{legal-sound}
+use Rattle.jh_laws.proofs.DueCpusLemmas.{some_later}
 
 -- nothing is due to a CPU
 not_made : (cpu cell : ℕ) (o : Option Act) → option_map (entry_by cpu cell) o ≡ None → o ≡ None
@@ -105,21 +106,17 @@ idle_but image f o none =
 over_idle : (timeout waited : ℕ) → is_over timeout waited true ≡ true
 over_idle timeout waited = or_right (not (eqb timeout 0) && nat_le timeout waited) true refl
 
-some_cond : {X : Type 0} (b : Bool) (x : X) (o : Option X) → is_some o ≡ true → is_some (cond b (Some x) o) ≡ true
-some_cond true x o h = refl
-some_cond false x o h = h
-
 settled_idle : (passive : Bool) (state reply : ℕ) → is_some (settled_by passive state reply true) ≡ true
 settled_idle passive state reply =
-    some_cond (passive || is_down state) Agreed (cond (eqb reply REPLY_REQUEST_APPROVED) (Some Agreed) (cond (not (eqb reply 0)) (Some Denied) (Some Timeout)))
-    (some_cond (eqb reply REPLY_REQUEST_APPROVED) Agreed (cond (not (eqb reply 0)) (Some Denied) (Some Timeout))
-    (some_cond (not (eqb reply 0)) Denied (Some Timeout) refl))
+    some_later (passive || is_down state) Agreed (cond (eqb reply REPLY_REQUEST_APPROVED) (Some Agreed) (cond (not (eqb reply 0)) (Some Denied) (Some Timeout)))
+    (some_later (eqb reply REPLY_REQUEST_APPROVED) Agreed (cond (not (eqb reply 0)) (Some Denied) (Some Timeout))
+    (some_later (not (eqb reply 0)) Denied (Some Timeout) refl))
 
 heard_idle : (state reply : ℕ) → is_some (heard_by state reply true) ≡ true
 heard_idle state reply =
-    some_cond (is_down state) Down (cond (eqb reply REPLY_RECEIVED) (Some Received) (cond (not (eqb reply 0)) (Some Other) (Some Silent)))
-    (some_cond (eqb reply REPLY_RECEIVED) Received (cond (not (eqb reply 0)) (Some Other) (Some Silent))
-    (some_cond (not (eqb reply 0)) Other (Some Silent) refl))
+    some_later (is_down state) Down (cond (eqb reply REPLY_RECEIVED) (Some Received) (cond (not (eqb reply 0)) (Some Other) (Some Silent)))
+    (some_later (eqb reply REPLY_RECEIVED) Received (cond (not (eqb reply 0)) (Some Other) (Some Silent))
+    (some_later (not (eqb reply 0)) Other (Some Silent) refl))
 
 -- the cell that lives is found
 live_some : (cells : List Live) (config : CellConfig) (id : ℕ) → Contains (configs_of cells) config → config.id ≡ id → (c : CellConfig) × (live_in cells id ≡ Some c)

@@ -32,7 +32,7 @@ use Rattle.jh_laws.specs.Vectors.{PutsRegister, Rings, Clears, NotifiesPeer, Dro
 use Rattle.jh_laws.specs.Ways.{is_commit}
 use Rattle.jh_laws.proofs.DevicesLemmas.{endpoint-held, endpoint-sound, same-register}
 use Rattle.jh_laws.proofs.EndsLemmas.{IsSmallAct}
-use Rattle.jh_laws.proofs.LinkedLemmas.{found-changed, found-told, is_told}
+use Rattle.jh_laws.proofs.LinkedLemmas.{found-changed, found-told, is_told, told_spec}
 use Rattle.jh_laws.proofs.ReachedLemmas.{Way, OnMemory, OnRegion, OnWindow, OnRegister, OnNothing, way}
 use Rattle.jh_laws.proofs.WordLemmas.{value-fits}
 use Rattle.jh_laws.proofs.WrittenLemmas.{IsWrite, register-write}
@@ -503,10 +503,6 @@ foreign_device : (image : Image) (f : Facts) (entry : Entry) (w : IsWrite entry.
 foreign_device image f entry w m bar offset x o e put same foreign =
     ap (is_device x.spec.cell x.spec.device) same
     ∙ and_left (eqb e.spec.cell x.spec.cell) (eqb e.spec.device x.spec.device) (ne_eqb e.spec.cell x.spec.cell (λ is. foreign (sym (put_cell image f entry w m bar offset x put) ∙ sym is)))
-
-told_spec : (b : Bool) (o : Endpoint) → (cond b (raised 0 o) o).spec ≡ o.spec
-told_spec true o = raised-spec 0 o
-told_spec false o = refl
 
 -- a register that is neither calls nothing
 same_place : (image : Image) (f : Facts) (entry : Entry) (w : IsWrite entry.act) (m bar offset place value : ℕ) (x bell : Endpoint) → IsPut image f entry w m bar offset x → PutsRegister image f entry.cell entry.act place value bell → (eqb bar 0 && eqb offset place) ≡ true

@@ -262,9 +262,6 @@ true_wide width h = elim (cases_Bool (eqb width 1)) [
 abbrev is_wide : ℕ → Bool
 is_wide width = eqb width 1 || eqb width 2 || eqb width 4
 
-ecam_hit : (start at width : ℕ) → IsWide width → (at - start) % width ≡ 0 → by_ecam_at start at width ≡ Ecam
-ecam_hit start at width wide aligned = ap (λ (b : Bool). cond b Ecam HitsNothing) (and_from (is_wide width) (eqb ((at - start) % width) 0) (wide_true width wide) (eq-eqb ((at - start) % width) 0 aligned))
-
 -- ---- the ways in which an access ends
 
 pub data Way (image : Image) (f : Facts) (id : ℕ) (access : Access) (at width : ℕ) : Type 0 where
@@ -275,7 +272,7 @@ pub data Way (image : Image) (f : Facts) (id : ℕ) (access : Access) (at width 
   OnNothing : (IsAnswered image f id access at width → ⊥) → reach image f id access at width ≡ Nothing → Way image f id access at width
 
 -- some register answers
-abbrev ByRegister : Image → Facts → ℕ → Access → ℕ → ℕ → Type 0
+abbrev pub ByRegister : Image → Facts → ℕ → Access → ℕ → ℕ → Type 0
 ByRegister image f id access at width = (n : ℕ) × (bar : ℕ) × (offset : ℕ) × (e : Endpoint) × IsAnsweredByRegister image f id access at width n bar offset e
 
 -- nothing answers where memory doesn't, and neither a region nor the window nor a register does

@@ -26,7 +26,8 @@ use Rattle.jh_laws.specs.Outcomes.{HasItsOutcome}
 use Rattle.jh_laws.specs.Operations.{op_of, IsDueOp, IsReady, IsOwn}
 use Rattle.jh_laws.proofs.RootLemmas.{op-plain}
 use Rattle.jh_laws.proofs.MadeLemmas.{IsSilent, op-silent, IsMade, due_at-made, due_at-running, made-access, roots-at}
-use Rattle.jh_laws.proofs.OutcomeLemmas.{some_width, got-of, reached-of, value-of, outcome}
+use Rattle.jh_laws.proofs.OutcomeLemmas.{got-of, reached-of, value-of, outcome}
+use Rattle.jh_laws.proofs.EndsLemmas.{width-some}
 
 -- what root's read of so many bytes gets after the entries
 abbrev got_after : Image → List Entry → ℕ → ℕ → Option ℕ
@@ -48,7 +49,7 @@ op_due image entries (ReadOp width at) act bare sound plain silent h = tt
 op_due image entries (WriteOp width at value) act bare sound plain silent h = tt
 op_due image entries (FetchOp at) act bare sound plain silent h = tt
 op_due image entries (AwaitOp width at value) act bare sound plain silent h =
-    await_due image entries width at value act (got_after image entries at width) (got-of image entries ToRead at width sound (some_width width plain.0)) h
+    await_due image entries width at value act (got_after image entries at width) (got-of image entries ToRead at width sound (width-some width plain.0)) h
 op_due image entries IrqOp act bare sound plain silent h = none-some act (sym (ap (irq_of image.system.root.id) bare) ∙ h)
 op_due image entries (HvcOp code a b) act bare sound plain silent h = silent
 
@@ -66,7 +67,7 @@ due_act image entries (ReadOp width at) sound plain due = (Read width at (got_af
 due_act image entries (WriteOp width at value) sound plain due = (Write width at value (is_reached (reach image (facts image entries) image.system.root.id ToWrite at width)), refl)
 due_act image entries (FetchOp at) sound plain due = (Fetch at (got_by image (facts image entries) image.system.root.id ToFetch at 4), refl)
 due_act image entries (AwaitOp width at value) sound plain due =
-    await_act image entries width at value (got_after image entries at width) sound (got-of image entries ToRead at width sound (some_width width plain.0)) due
+    await_act image entries width at value (got_after image entries at width) sound (got-of image entries ToRead at width sound (width-some width plain.0)) due
 due_act image entries IrqOp sound plain due = absurd due
 due_act image entries (HvcOp code a b) sound plain due = absurd due
 
@@ -138,13 +139,13 @@ act_from : (image : Image) (entries : List Entry) (op : Op) (act : Act) → IsSo
 act_from image entries op (Read width at got) sound plain is h =
     let P : Op → Type 0 = λ o. IsWellFormed o → act_of image (facts image entries) image.system.root.id o ≡ Some (Read width at got) in
     subst P (same_Some (ReadOp width at) op is)
-    (λ own. ap (λ (g : Option ℕ). Some (Read width at g)) (got_same image entries ToRead at width (got_after image entries at width) got sound (got-of image entries ToRead at width sound (some_width width own)) h))
+    (λ own. ap (λ (g : Option ℕ). Some (Read width at g)) (got_same image entries ToRead at width (got_after image entries at width) got sound (got-of image entries ToRead at width sound (width-some width own)) h))
     plain
 act_from image entries op (Write width at value ok) sound plain is h =
     let P : Op → Type 0 = λ o. IsWellFormed o → act_of image (facts image entries) image.system.root.id o ≡ Some (Write width at value ok) in
     let r = is_reached (reach image (facts image entries) image.system.root.id ToWrite at width) in
     subst P (same_Some (WriteOp width at value) op is)
-    (λ own. let reached = reached-of image (facts image entries) ToWrite at width sound (some_width width own.0) in
+    (λ own. let reached = reached-of image (facts image entries) ToWrite at width sound (width-some width own.0) in
     ap (λ (b : Bool). Some (Write width at value b)) (same_test r ok (λ passes. h.1 (reached.0 passes)) (λ passes. reached.1 (h.0 passes))))
     plain
 act_from image entries op (Fetch at got) sound plain is h =
@@ -155,7 +156,7 @@ act_from image entries op (Fetch at got) sound plain is h =
 act_from image entries op (Await width at value ok) sound plain is h =
     let P : Op → Type 0 = λ o. IsWellFormed o → act_of image (facts image entries) image.system.root.id o ≡ Some (Await width at value ok) in
     subst P (same_Some (AwaitOp width at value) op is)
-    (λ own. await_from image entries width at value (got_after image entries at width) ok sound (got-of image entries ToRead at width sound (some_width width own.0)) h)
+    (λ own. await_from image entries width at value (got_after image entries at width) ok sound (got-of image entries ToRead at width sound (width-some width own.0)) h)
     plain
 act_from image entries op _ sound plain is h = absurd h
 

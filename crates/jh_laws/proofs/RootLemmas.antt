@@ -66,11 +66,6 @@ root_region image r at admitted held has =
     (λ lt. let sound = (sound_root image admitted).regions held.0 r held.1 lt in record { within = sound.within.virt; identity = sound.identity; memory = sound.no_comm })
     some
 
--- at most one region of root gives an address
-pub only_one : (image : Image) (access : Access) (at : ℕ) → IsAdmitted image → IsOnly (gives access at) (regions image)
-only_one image access at admitted j k d lt within at_j at_k =
-    (sound_root image admitted).addresses j k d lt within at (gives-address access at (get_or (regions image) j d) at_j) (gives-address access at (get_or (regions image) k d) at_k)
-
 -- a board has at most the CPUs below 16
 pub few_cpus : (image : Image) → IsAdmitted image → (cpu : ℕ) → IsTrue (is_on_board image cpu) → cpu < 16
 few_cpus image admitted cpu on =

@@ -15,12 +15,9 @@ use Rattle.jh_history.specs.Items.{Reached, with_due, items, played, below, roun
 use Rattle.jh_history.specs.Admitted.{IsAdmitted}
 use Rattle.jh_history.proofs.DueLemmas.{IsLegal-made}
 use Rattle.jh_history.proofs.FactsLemmas.{IsLegal-nil}
-use Rattle.jh_history.proofs.ItemsLemmas.{items-append, items-append_full, items-nil, items-one, items-quiet, rounds-append, Grows, items-grows, IsQuiet-from_cpus}
+use Rattle.jh_history.proofs.ItemsLemmas.{items-append, items-append_full, items-nil, items-one, items-quiet, rounds-append, Grows, items-grows, IsQuiet-from_cpus, reached}
 use Rattle.jh_laws.specs.Runs.{IsRun, IsCutShort}
 use Rattle.jh_laws.proofs.RootLemmas.{few_cpus}
-
-abbrev reached : List Entry → Bool → Reached
-reached entries full = record { entries = entries; full = full }
 
 never_both : (es fs : List Entry) → reached es false ≡ reached fs true → ⊥
 never_both es fs e = false≢true (ap (λ (r : Reached). r.full) e)

@@ -45,7 +45,7 @@ use Rattle.jh_laws.specs.States.{changes_others, is_stop, HasBegun, HasAgreed, H
 use Rattle.jh_laws.proofs.RootLemmas.{program_of-few}
 use Rattle.jh_history.proofs.SoundCommitLemmas.{configs-joined}
 use Rattle.jh_history.proofs.SoundLemmas.{legal-sound}
-use Rattle.jh_laws.proofs.CommitLemmas.{cells-after}
+use Rattle.jh_history.proofs.PlainStepLemmas.{after-cells}
 use Rattle.jh_laws.proofs.CallLemmas.{Expects, phase-expects, phase-of_due, sound-open, begun-of, not_same, IsMadeBy, Stopping, Running as Runs, Calling, made-by, phase_call}
 
 -- CPU i behind an entry
@@ -375,7 +375,7 @@ commit-cpus image before rest entry first i admitted legal act is =
     let E : Act → Type 0 = Expects of.phase in
     let cells : made ≡ committed_cells call of.phase f.cells =
     ap (λ (g : Facts). g.cells) (facts-push image before entry)
-    ∙ cells-after image f entry
+    ∙ after-cells image f entry
     ∙ ap (λ (c : Option OpenCall). cells_by c f.cells entry.act) of.opens
     ∙ ap (cells_by (Some o) f.cells) act in
     let same : (facts image (before ++ entry ∷ [])).cpu i ≡ committed image call of.phase i (f.cpu i) =

@@ -127,21 +127,12 @@ entry-now image f entry id n e sound due small there =
     inl (record { endpoint = now.endpoint; there = ap (endpoint_at id n) (after_acted image f entry other) ∙ now.there; become = now.become }))
     (commit-or entry.act)
 
--- the facts behind the entry
-abbrev Behind : Image → List Entry → Entry → Facts
-Behind image before entry = facts image (before ++ entry ∷ [])
-
 endpoints_behind : (image : Image) (before : List Entry) (entry : Entry) → (facts image (before ++ entry ∷ [])).endpoints ≡ endpoints_after image (facts image before) entry
 unfolding after
 endpoints_behind image before entry = ap (λ (f : Facts). f.endpoints) (facts-push image before entry)
 
 abbrev Kept : Image → List Entry → Entry → ℕ → ℕ → ℕ → Type 0
 Kept image before entry id n v = IsPendingIn (facts image before) id n v × (Drops (facts image before) entry id n v → ⊥)
-
-raises_of : (image : Image) (f : Facts) (entry : Entry) (id n v : ℕ) (e : Endpoint) → endpoint_at id n f.endpoints ≡ Some e → Raises image f entry id n v → (is_open e v ≡ true) × Calls image f entry e v
-raises_of image f entry id n v e there h =
-    let P : Endpoint → Type 0 = λ o. (is_open o v ≡ true) × Calls image f entry o v in
-    subst P (same_Some h.peer e (sym h.there ∙ there)) (h.let_through, h.by)
 
 drops_of : (f : Facts) (entry : Entry) (id n v : ℕ) (e : Endpoint) → e.spec.cell ≡ id → e.spec.device ≡ n → IsDropped f entry e v → Drops f entry id n v
 drops_of f entry id n v e cell device drop =

@@ -27,7 +27,7 @@ use Rattle.jh_history.specs.declared.entry.Act.TheVariants.{Read, Write, Fetch, 
 use Rattle.jh_history.specs.Access.{place_in_cell, with_slot_if}
 use Rattle.jh_history.specs.Endpoints.{specs_changing, with_words}
 use Rattle.jh_history.specs.Facts.{Facts}
-use Rattle.jh_history.specs.Places.{further}
+use Rattle.jh_history.specs.Places.{further, is_physical, number_of}
 use Rattle.jh_history.specs.Lives.{cell_in}
 use Rattle.jh_history.specs.Pages.{page_after, with_page_write, page_write_by}
 use Rattle.jh_history.specs.Bytes.{byte_written, byte_after}
@@ -51,7 +51,7 @@ use Rattle.jh_laws.proofs.EndsLemmas.{IsSmallAct, small-at}
 use Rattle.jh_laws.proofs.StoredLemmas.{byte_put, write-stored, register-stored, IsStored, IsWord, placed}
 use Rattle.jh_laws.proofs.WordLemmas.{IsByteAt, IsApart, state-word, value-fits, state-put, slot-at, slot-other, zero-byte, words-put, words-kept, words-page, specs-none}
 use Rattle.jh_history.proofs.GrantLemmas.{place_in_cell-further}
-use Rattle.jh_laws.proofs.PlacesHeldLemmas.{is_memory, physical-kept, byte-behind}
+use Rattle.jh_laws.proofs.PlacesHeldLemmas.{physical-kept, byte-behind}
 use Rattle.jh_history.proofs.SoundLemmas.{legal-sound}
 
 -- ---- no two addresses of a cell have one place
@@ -85,10 +85,6 @@ comm_only image configs zero cell r s x y sound is item_x item_y some_x some_y c
 comm_only image configs (suc a) cell r s x y sound is item_x item_y some_x some_y comm_x comm_y =
     sym ((sound.clean.comms (suc a) cell (omega arith) is r x item_x some_x comm_x).only s y item_y some_y comm_y)
 
-abbrev offset_in : Place → ℕ
-offset_in (Physical p) = p
-offset_in (Page cell offset) = offset
-
 single_by : (image : Image) (cells : List Live) (cell : CellConfig) (access : Access) (a b : ℕ) (q : Place) (g : IsGranted cell access a q) (h : IsGranted cell access b q) (one other : Bool) → AreSoundCells image.system (configs_of cells) → IsLive image cells cell
     → is_comm g.region ≡ one → is_comm h.region ≡ other
     → q ≡ cond one (Page cell.id (a - g.region.virt_start)) (Physical (g.region.phys_start + (a - g.region.virt_start)))
@@ -102,13 +98,13 @@ single_by image cells cell access a b q g h true true sound live comm_x comm_y a
     let first_b : y.virt_start ≤ b = h.first in
     let last_b : b < y.virt_start + y.size = h.last in
     let same = comm_only image (configs_of cells) number.0 cell g.held.0 h.held.0 x y sound number.1 (item_of cell x g.held) (item_of cell y h.held) (omega arith) (omega arith) comm_x comm_y in
-    same_offset x y a b (same_item cell g.held.0 h.held.0 x y same (item_of cell x g.held) (item_of cell y h.held)) first_a first_b (ap offset_in (sym at_a ∙ at_b))
+    same_offset x y a b (same_item cell g.held.0 h.held.0 x y same (item_of cell x g.held) (item_of cell y h.held)) first_a first_b (ap number_of (sym at_a ∙ at_b))
 single_by image cells cell access a b q g h false false sound live comm_x comm_y at_a at_b =
     let number = number-of image cells cell live in
     let x : Region = g.region in
     let y : Region = h.region in
     let p : ℕ = x.phys_start + (a - x.virt_start) in
-    let same_place : p ≡ y.phys_start + (b - y.virt_start) = ap offset_in (sym at_a ∙ at_b) in
+    let same_place : p ≡ y.phys_start + (b - y.virt_start) = ap number_of (sym at_a ∙ at_b) in
     let same : g.held.0 ≡ h.held.0 = sound.clean.places number.0 cell number.1 g.held.0 h.held.0 x y (item_of cell x g.held) (item_of cell y h.held) comm_x comm_y p (in_place x a p g.first g.last refl) (in_place y b p h.first h.last same_place) in
     let one : x ≡ y = same_item cell g.held.0 h.held.0 x y same (item_of cell x g.held) (item_of cell y h.held) in
     let P : Region → Type 0 = λ r. p ≡ r.phys_start + (b - r.virt_start) in
@@ -117,8 +113,8 @@ single_by image cells cell access a b q g h false false sound live comm_x comm_y
     let first_a : x.virt_start ≤ a = g.first in
     let first_b : x.virt_start ≤ b = subst Q (sym one) h.first in
     omega arith
-single_by image cells cell access a b q g h true false sound live comm_x comm_y at_a at_b = absurd (false≢true (ap is_memory (sym at_a ∙ at_b)))
-single_by image cells cell access a b q g h false true sound live comm_x comm_y at_a at_b = absurd (true≢false (ap is_memory (sym at_a ∙ at_b)))
+single_by image cells cell access a b q g h true false sound live comm_x comm_y at_a at_b = absurd (false≢true (ap is_physical (sym at_a ∙ at_b)))
+single_by image cells cell access a b q g h false true sound live comm_x comm_y at_a at_b = absurd (true≢false (ap is_physical (sym at_a ∙ at_b)))
 
 pub single-address : (image : Image) (cells : List Live) (id : ℕ) (access : Access) (a b : ℕ) (q : Place) → AreSoundCells image.system (configs_of cells) → IsGrantedTo image cells id access a q → IsGrantedTo image cells id access b q → a ≡ b
 single-address image cells id access a b q sound g h =
@@ -133,8 +129,8 @@ single-address image cells id access a b q sound g h =
 -- ---- a write that succeeds
 
 further_index : (p : Place) (j k : ℕ) → further p j ≡ further p k → j ≡ k
-further_index (Physical p) j k e = let same : p + j ≡ p + k = ap offset_in e in omega arith
-further_index (Page cell offset) j k e = let same : offset + j ≡ offset + k = ap offset_in e in omega arith
+further_index (Physical p) j k e = let same : p + j ≡ p + k = ap number_of e in omega arith
+further_index (Page cell offset) j k e = let same : offset + j ≡ offset + k = ap number_of e in omega arith
 
 -- no two bytes of an access have one place
 one_index : (image : Image) (f : Facts) (id at width : ℕ) (place : ℕ → Place) (j k : ℕ) → AreSoundCells image.system (configs_of f.cells) → AreItsPlaces image f.cells id ToWrite at width place → j < width → k < width → place j ≡ place k → j ≡ k

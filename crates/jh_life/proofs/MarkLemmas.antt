@@ -1,5 +1,5 @@
 -- Marks as bits.
-use Rattle.std.proofs.Common.{◌≡◌, ℕ, zero, suc, ◌+◌, ◌^◌, ◌/◌, ◌<◌, ◌≤◌, Bool, false, List, [], ◌∷◌, length, get_or, replicate, refl, subst, ⊎_elim, arith}
+use Rattle.std.proofs.Common.{◌≡◌, ℕ, zero, suc, ◌+◌, ◌^◌, ◌/◌, ◌<◌, ◌≤◌, Bool, false, List, [], ◌∷◌, length, get_or, refl, subst, ⊎_elim, arith}
 use Rattle.std.specs.Int.{bit_at}
 use Rattle.std.proofs.lemmas.Bool.{cases_lt}
 use Rattle.std.proofs.lemmas.Nat.Bits.{bit_at-zero}
@@ -13,11 +13,6 @@ pub past-end : (xs : List Bool) (i : ℕ) → length xs ≤ i → get_or xs i fa
 past-end [] i l = refl
 past-end (b ∷ xs) zero l = absurd (omega arith)
 past-end (b ∷ xs) (suc i) l = past-end xs i (omega arith)
-
-pub none-set : (n i : ℕ) → get_or (replicate n false) i false ≡ false
-none-set zero i = refl
-none-set (suc n) zero = refl
-none-set (suc n) (suc i) = none-set n i
 
 -- a bit past the width
 pub high-bit : (mask k : ℕ) → mask < 2 ^ 16 → 16 ≤ k → has_bit mask k ≡ false

@@ -213,6 +213,7 @@ impl Cells {
         let live = self.configs.as_slice();
         let gone = cell_pages(&live[index]);
         self.taken -= gone;
+        // the configuration is dropped, and its mark with it
         let _ = self.configs.remove(index);
         let _ = self.marks.remove(index);
     }
@@ -235,5 +236,6 @@ pub fn live_cells_differ(cells: &Cells)
     ensures differ { AllPairs AreTwo (cells_of cells.now) }
     ensures few { length cells.now.lives ≤ 15 }
 {
+    // for the proof: the invariant of the records
     let _ = &cells.system;
 }

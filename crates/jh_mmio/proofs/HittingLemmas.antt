@@ -76,12 +76,6 @@ whole_from closed at n r h open_is =
     and_from (has_size r && not (is_page_mapped r)) (lies_between r.virt_start (virt_end r) at n && not (is_at_closed closed at n r)) whole.0
     (and_from (lies_between r.virt_start (virt_end r) at n) (not (is_at_closed closed at n r)) whole.1 (ap not open_is))
 
-pub whole-has : (at n : ℕ) (r : Region) → 0 < n → has_whole at n r ≡ true → IsTrue (has_address r at)
-whole-has at n r some h =
-    let whole = and_parts (has_size r && not (is_page_mapped r)) (lies_between r.virt_start (virt_end r) at n) h in
-    let parts = lies_parts r.virt_start (virt_end r) at n some whole.1 in
-    has_address-from r at parts.0 (omega arith)
-
 found_is : (regions : List Region) (closed : ℕ → Bool) (at n : ℕ) (o : Option Region) (s : Region) → 0 < n → IsRegionAt regions at o → find (takes_all closed at n) regions ≡ Some s → o ≡ Some s
 found_is regions closed at n o s some is e =
     let found = IsFound-from_find (takes_all closed at n) regions s e in

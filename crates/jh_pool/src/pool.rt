@@ -72,6 +72,7 @@ impl Pool {
         ensures size { self.new.size ≡ self.old.size }
         ensures used { used_of self.new + 1 ≡ used_of self.old }
     {
+        // succeeds, since there is room for all pages
         let _ = self.free.push(page);
     }
 
@@ -98,5 +99,6 @@ pub fn pages_taken_once_are_counted(pool: &Pool)
         → ((page : ℕ) → IsPageOf pool.now page → 0 < had page ↔ IsTaken pool.now page)
         → sum_by had (pages_of pool.now) ≡ used_of pool.now }
 {
+    // for the proof: the invariant of the pool
     let _ = &pool.free;
 }

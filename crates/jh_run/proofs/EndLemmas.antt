@@ -6,6 +6,7 @@ use Rattle.jh_script.specs.declared.image.Image.{Image}
 use Rattle.jh_history.specs.declared.entry.Entry.{Entry}
 use Rattle.jh_history.specs.Due.{due, IsQuiet}
 use Rattle.jh_history.specs.Items.{Reached, items, played, cpus_of, rounds}
+use Rattle.jh_history.proofs.ItemsLemmas.{reached}
 use Rattle.jh_laws.specs.Runs.{IsRun, IsCutShort}
 use Rattle.jh_board.specs.BoardView.{BoardView}
 use Rattle.jh_run.specs.declared.ended.Ended.{Ended}
@@ -23,9 +24,6 @@ CutLaw = (image : Image) (limit : ℕ) (cpus : List ℕ) (before after : List En
 
 abbrev opened : Image → ℕ → BoardView
 opened image limit = record { image = image; limit = limit; entries = [] }
-
-abbrev reached : List Entry → Bool → Reached
-reached entries full = record { entries = entries; full = full }
 
 ended_full : (ended : Ended) → is_full ended ≡ true → ended ≡ Full
 ended_full Quiet h = absurd (false≢true h)

@@ -1,6 +1,5 @@
 -- Programs that grow operation by operation.
 use Rattle.std.proofs.Common.{◌≡◌, ℕ, ◌+◌, ◌*◌, List, [], ◌∷◌, ◌++◌, refl, sym, ap, subst, ◌∙◌, append_assoc, add-one}
-use Rattle.jh_script.specs.declared.op.Op.{Op}
 use Rattle.jh_script.specs.declared.op.Op.TheVariants.{Read, Write}
 use Rattle.jh_run.specs.Soak.{number_writes, number_reads, round_ops, rounds_ops}
 

@@ -1,14 +1,11 @@
 -- The configurations that are loaded on the board of `soak` lie apart, and outside the hypervisor's memory.
-use Rattle.std.proofs.Common.{◌≡◌, ℕ, ◌+◌, ◌<◌, ◌≤◌, Bool, List, [], ◌∷◌, length, refl, sym, ap, subst, ◌∙◌, arith}
+use Rattle.std.proofs.Common.{◌≡◌, ℕ, ◌+◌, ◌≤◌, [], ◌∷◌, length, refl, arith}
 use Rattle.std.specs.Prelude.{All, AllPairs, IsTrue, ◌&&◌, nat_le, nat_lt}
 use Rattle.std.proofs.lemmas.Bool.Decides.{nat_tests}
 use Rattle.std.proofs.lemmas.List.Elements.{All-nil, All-from_recursion}
 use Rattle.std.proofs.lemmas.List.Kept.{AllPairs-cons}
-use Rattle.jh_num.specs.declared.address.TheConstants.{ADDRESS_END}
-use Rattle.jh_cellcfg.specs.Regions.{has_place}
 use Rattle.jh_cellcfg.specs.Spelling.{spelling}
-use Rattle.jh_script.specs.declared.image.Preload.{Preload}
-use Rattle.jh_history.specs.Admitted.{has_byte_at, IsSoundPreload, IsOtherPreload}
+use Rattle.jh_history.specs.Admitted.{IsSoundPreload, IsOtherPreload}
 use Rattle.jh_run.specs.Soak.{soak_system, cell_a, cell_b, preload}
 
 size_a : length (spelling cell_a) ≡ 204

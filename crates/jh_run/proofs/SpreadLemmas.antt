@@ -1,7 +1,7 @@
 -- Ports that are spread over workers, one after another, and gathered again.
 use Rattle.std.proofs.Common.{◌≡◌, ℕ, ◌+◌, ◌<◌, List, [], ◌∷◌, ◌++◌, length, take, drop, All, Contains, map, refl, sym, subst, ap, ◌∙◌, inl, inr, ◌⊎◌, arith, append-nil, append_assoc, length-append}
 use Rattle.std.proofs.lemmas.List.{map-append, length_push, take-append-le, take_all}
-use Rattle.std.proofs.lemmas.List.Elements.{All-nil, All-push, All-contains, Contains-append_left, Contains-append_right, Contains-push, Contains-push_cases, at_from_Contains}
+use Rattle.std.proofs.lemmas.List.Elements.{All-push, All-contains, Contains-append_left, Contains-append_right, Contains-push, Contains-push_cases, at_from_Contains}
 use mathlib.Core.List.{IsPrefix}
 use Rattle.jh_turn.specs.declared.turner.Turner.{Ghosts}
 use Rattle.jh_turn.specs.declared.shared.Shared.{Shared}
@@ -77,15 +77,6 @@ module _ {T E A : Type 0} {G : Ghosts T E A} {X : Type 0} where
     pub each : (who : ℕ) → Contains (map port_caller came) who → Contains (map port_caller own) who ⊎ Contains (map caller children) who
     pub count : length own + length children ≡ length came
     pub last : marks < length came → 0 < length own
-
-  pub spread-start : (shared : Shared T E A) (caller : X → ℕ) (IsGiven : X → Type 0) (marks : ℕ) → Spreading shared caller IsGiven marks [] [] []
-  spread-start shared caller IsGiven marks = record {
-    held = All-nil (IsPortOf shared);
-    given = All-nil IsGiven;
-    each = λ who h. inl h;
-    count = refl;
-    last = λ lt. absurd (omega arith);
-  }
 
   own_each : (caller : X → ℕ) (came own : List (Port T E A G)) (children : List X) (p q : Port T E A G) (who : ℕ) → port_caller q ≡ port_caller p
       → Contains (map port_caller came) who ⊎ (port_caller p ≡ who) → ((n : ℕ) → Contains (map port_caller came) n → Contains (map port_caller own) n ⊎ Contains (map caller children) n)

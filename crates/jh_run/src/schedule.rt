@@ -113,6 +113,7 @@ pub fn follow(
     items_run_until_one_is_cut_short();
     let mut board = opened(alloc, image, limit)?;
     let full = follow_on(&mut board, schedule)?;
+    // for the proof: the entries are legal, and no more than the limit
     let _ = board.journal();
     Ok((board, how_ended(full)))
 }
@@ -136,6 +137,7 @@ pub fn play(
     let cpus = cpus_of(alloc, &image)?;
     let mut board = opened(alloc, image, limit)?;
     let full = play_on(&mut board, schedule, cpus.as_slice(), limit)?;
+    // for the proof: the entries are legal, and no more than the limit
     let _ = board.journal();
     Ok((board, how_ended(full)))
 }

@@ -1,6 +1,6 @@
 -- The cells that hold, one by one.
-use Rattle.std.proofs.Common.{◌≡◌, ℕ, ◌+◌, ◌<◌, ◌≤◌, Bool, true, false, cond, ◌||◌, List, [], ◌∷◌, ◌++◌, length, get_or, take, refl, sym, ap, ◌∙◌, arith}
-use Rattle.std.proofs.lemmas.List.{take_more, take_all, length-take-le}
+use Rattle.std.proofs.Common.{◌≡◌, ℕ, ◌+◌, ◌<◌, Bool, true, false, cond, ◌||◌, List, [], ◌∷◌, ◌++◌, length, get_or, take, refl, sym, ap, ◌∙◌, arith}
+use Rattle.std.proofs.lemmas.List.{take_more, length-take-le}
 use Rattle.std.proofs.lemmas.List.Folds.{list_any-append}
 use Rattle.std.proofs.Math.Bool.{or-false}
 use Rattle.std.specs.List.{list_any}
@@ -23,18 +23,6 @@ held_from-append held loadable index (x ∷ xs) ys =
 pub are_cut-append : (xs ys : List Holder) (place size : ℕ) → are_cut (xs ++ ys) place size ≡ (are_cut xs place size || are_cut ys place size)
 are_cut-append xs ys place size =
     list_any-append (λ (holder : Holder). list_any (λ (region : Region). meets_in_part region place size) holder.regions) xs ys
-
--- two lists of cells that cut two slots alike
-pub are_cut-agree : (xs ys : List Holder) (a b size : ℕ) → are_cut xs a size ≡ are_cut xs b size → are_cut ys a size ≡ are_cut ys b size → are_cut (xs ++ ys) a size ≡ are_cut (xs ++ ys) b size
-are_cut-agree xs ys a b size e f =
-    are_cut-append xs ys a size
-    ∙ ap (λ v. v || are_cut ys a size) e
-    ∙ ap (λ v. are_cut xs b size || v) f
-    ∙ sym (are_cut-append xs ys b size)
-
--- one cell, by its regions
-pub are_cut-agree_one : (regions : List Region) (loadable : Bool) (a b size : ℕ) → list_any (λ (region : Region). meets_in_part region a size) regions ≡ list_any (λ (region : Region). meets_in_part region b size) regions → are_cut (record { regions = regions; loadable = loadable } ∷ []) a size ≡ are_cut (record { regions = regions; loadable = loadable } ∷ []) b size
-are_cut-agree_one regions loadable a b size e = ap (λ v. v || false) e
 
 -- the cells so far and one more, which holds or doesn't
 next_cell : (held loadable : ℕ) (cells : List CellConfig) (index : ℕ) (cell : CellConfig) → index < length cells → cell ≡ get_or cells index cell → held_from held loadable 0 (take (index + 1) cells) ≡ held_from held loadable 0 (take index cells) ++ held_from held loadable index (cell ∷ [])
@@ -60,11 +48,3 @@ cut_same held loadable cells index cell place size l e bit =
     ∙ are_cut-append (held_from held loadable 0 (take index cells)) (held_from held loadable index (cell ∷ [])) place size
     ∙ ap (λ b. are_cut (held_from held loadable 0 (take index cells)) place size || b) none
     ∙ or-false (are_cut (held_from held loadable 0 (take index cells)) place size)
-
--- all the cells, and the one beyond the list
-pub cut_all : (held loadable : ℕ) (cells : List CellConfig) (index : ℕ) (beyond : List Holder) (place size : ℕ) (b own : Bool) → length cells ≤ index → b ≡ are_cut (held_from held loadable 0 (take index cells)) place size → own ≡ are_cut beyond place size → (b || own) ≡ are_cut (held_from held loadable 0 cells ++ beyond) place size
-cut_all held loadable cells index beyond place size b own l e f =
-    let all : take index cells ≡ cells = take_all index cells l in
-    ap (λ v. v || own) (e ∙ ap (λ xs. are_cut (held_from held loadable 0 xs) place size) all)
-    ∙ ap (λ v. are_cut (held_from held loadable 0 cells) place size || v) f
-    ∙ sym (are_cut-append (held_from held loadable 0 cells) beyond place size)

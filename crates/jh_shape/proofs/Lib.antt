@@ -1,4 +1,3 @@
-pub mod AnyLemmas
 pub mod HoldersLemmas
 pub mod WantLemmas
 pub mod SteadyLemmas
@@ -8,3 +7,4 @@ pub mod OrderLemmas
 pub mod GrantLemmas
 pub mod LawLemmas
 pub mod MarkLemmas
+pub mod PageLemmas

@@ -1,5 +1,5 @@
 -- A CPU's bit in the bitmap.
-use Rattle.std.proofs.Common.{◌≡◌, ◌↔◌, ◌⊎◌, ℕ, zero, suc, ◌+◌, ◌*◌, ◌/◌, ◌%◌, ◌^◌, ◌<◌, ◌≤◌, Bool, true, false, cond, List, [], ◌∷◌, ◌++◌, ◌==◌, length, get_or, option_and_then, Option, Some, None, inl, inr, refl, sym, ap, ◌∙◌, subst, arith, IsTrue}
+use Rattle.std.proofs.Common.{◌≡◌, ◌↔◌, ℕ, zero, suc, ◌+◌, ◌*◌, ◌/◌, ◌%◌, ◌<◌, ◌≤◌, Bool, true, false, cond, List, [], ◌∷◌, ◌++◌, ◌==◌, length, get_or, option_and_then, Some, None, inl, inr, refl, sym, ap, ◌∙◌, subst, arith}
 use Rattle.std.specs.Prelude.{Contains}
 use Rattle.std.specs.Int.{bit_at}
 use Rattle.std.proofs.lemmas.Bool.{cases_lt, eqb-true, eq-eqb, false≢true}
@@ -9,7 +9,7 @@ use Rattle.jh_num.proofs.Lists.{IsFound-from_list_any, list_any-from_Contains}
 use Rattle.serde_json.specs.Data.{Data}
 use Rattle.jh_spec.specs.Json.{list_told}
 use Rattle.jh_spec.specs.Fields.{u64_told}
-use Rattle.jh_spec.specs.Cpus.{names_cpu, are_new, cpu_bit, cpu_byte, bitmap, bitmap_of, cpus_told}
+use Rattle.jh_spec.specs.Cpus.{names_cpu, are_new, cpu_byte, bitmap, bitmap_of, cpus_told}
 use Rattle.jh_spec.proofs.Marks.{length-bitmap}
 
 byte_at : (bytes : ℕ) (cpus : List ℕ) (k : ℕ) → k < bytes → get_or (bitmap bytes cpus) k 0 ≡ cpu_byte cpus (8 * k)

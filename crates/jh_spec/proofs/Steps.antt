@@ -1,8 +1,8 @@
 -- One step of a chain of steps that may find a fault, and the steps behind it.
-use Rattle.std.proofs.Common.{◌≡◌, ℕ, List, Option, Result, Ok, Err, refl, sym, ap, ◌∙◌}
+use Rattle.std.proofs.Common.{◌≡◌, ℕ, List, Result, Ok, Err, refl, sym, ap, ◌∙◌}
 use Rattle.jh_spec.specs.declared.spec.SpecFault.{SpecFault}
 use Rattle.jh_spec.specs.declared.spec.SpecFault.TheVariants.{Json, Member, NoMemory}
-use Rattle.jh_spec.specs.Faults.{◌>>=◌, IsAsWanted, IsFaultOf, member_told}
+use Rattle.jh_spec.specs.Faults.{◌>>=◌, IsAsWanted, IsFaultOf}
 
 -- this step found no fault
 pub step : {X Y : Type 0} (w : Result X SpecFault) (x : X) (next : X → Result Y SpecFault) (r : Result Y SpecFault) → IsAsWanted w (Ok x) → IsAsWanted (next x) r → IsAsWanted (w >>= next) r
@@ -26,6 +26,3 @@ pub at_fault : {X : Type 0} (w : Result X SpecFault) (name : List ℕ) (fault : 
 at_fault w name NoMemory is h = record { answer = tt }
 at_fault w name Json is h = absurd h
 at_fault w name (Member found) is h = record { answer = is ∙ ap (λ n. Err (Member n)) (sym h) }
-
-pub named_as : {X : Type 0} (name : List ℕ) (o told : Option X) (r : Result X SpecFault) → o ≡ told → IsAsWanted (member_told name o) r → IsAsWanted (member_told name told) r
-named_as name o told r is h = rw (← is) h

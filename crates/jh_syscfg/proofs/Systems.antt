@@ -1,14 +1,13 @@
 -- What the format promises of all systems: one spelling each, which has no fault.
-use Rattle.std.proofs.Common.{◌≡◌, ℕ, ◌+◌, ◌≤◌, List, [], ◌∷◌, ◌++◌, length, drop, Option, None, Result, Ok, Err, refl, sym, ap, subst, ◌∙◌, length-append, arith}
-use Rattle.std.specs.Prelude.{nat_lt, codes, IfOk}
+use Rattle.std.proofs.Common.{◌≡◌, ℕ, ◌+◌, ◌≤◌, List, [], ◌∷◌, ◌++◌, length, drop, Option, None, Result, Ok, Err, refl, sym, ap, ◌∙◌, length-append, arith}
+use Rattle.std.specs.Prelude.{codes, IfOk}
 use Rattle.std.proofs.lemmas.Bool.{le-ltb}
 use Rattle.std.proofs.lemmas.List.{drop_at}
 use Rattle.jh_cellcfg.specs.declared.config.SystemConfig.{SystemConfig}
 use Rattle.jh_cellcfg.specs.declared.fault.ConfigFault.{ConfigFault}
 use Rattle.jh_cellcfg.specs.declared.fault.ConfigFault.TheVariants.{Short}
 use Rattle.jh_cellcfg.specs.Faults.{fault_if, first_of, body_fault, refusal}
-use Rattle.jh_cellcfg.specs.Limits.{parts_size}
-use Rattle.jh_cellcfg.specs.Spelling.{u16_bytes, counts_of, body_bytes}
+use Rattle.jh_cellcfg.specs.Spelling.{u16_bytes, body_bytes}
 use Rattle.jh_cellcfg.proofs.Faultless.{length-body_bytes, body_unfaulted, one_body}
 use Rattle.jh_syscfg.specs.Layout.{platform_bytes, platform_of, system_spelling, IsPlatform, IsSystem, IsSystemWithinLimits}
 use Rattle.jh_syscfg.specs.SystemFaults.{system_start_fault, system_fault, GivesSystem}

@@ -145,7 +145,7 @@ fourth false false false d h p q r = h
 pub differs : (a b : ℕ) → a ≢ b → (a == b) ≡ false
 differs a b h = grind (arith, nat_tests)
 
-equals : (a b : ℕ) → (a == b) ≡ true → a ≡ b
+pub equals : (a b : ℕ) → (a == b) ≡ true → a ≡ b
 equals a b h = grind (arith, nat_tests)
 
 command_other : (a b c : Bool) (k : ℕ) → k < 32 → k ≢ 1 → k ≢ 2 → k ≢ 10

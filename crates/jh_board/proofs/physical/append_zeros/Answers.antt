@@ -1,5 +1,5 @@
 -- One zero more.
-use Rattle.std.proofs.Common.{◌≡◌, ◌++◌, ◌∙◌}
+use Rattle.std.proofs.Common.{◌∙◌}
 use Rattle.jh_board.proofs.RowLemmas.{row-last, row-none}
 use Rattle.jh_board.proofs.physical.append_zeros.Goals as goal
 

@@ -1,9 +1,8 @@
-use Rattle.std.proofs.Common.{◌≡◌, ◌<◌, ◌++◌, [], ◌∙◌, sym, take, length, get_or, refl}
+use Rattle.std.proofs.Common.{◌≡◌, ◌<◌, ◌++◌, [], take, length, get_or, refl}
 use Rattle.jh_cellcfg.specs.declared.config.PciDevice.{PciDevice}
 use Rattle.jh_check.specs.Cells.{cells_of}
 use Rattle.jh_check.specs.Lists.{capped}
 use Rattle.jh_check.specs.Findings.{in_devices_of, device_at}
-use Rattle.jh_check.proofs.BusLemmas.{agrees-unmarked}
 use Rattle.jh_check.proofs.ListLemmas.{found-step, found-done}
 use Rattle.jh_check.proofs.search.in_devices_of.Goals as goal
 

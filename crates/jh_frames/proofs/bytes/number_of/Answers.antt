@@ -1,6 +1,7 @@
 -- One byte more, from the last on.
 use Rattle.std.proofs.Common.{◌+◌, ◌-◌, ◌*◌, ◌^◌, ◌<◌, length, arith}
-use Rattle.jh_frames.proofs.ByteLemmas.{spelled-start, spelled-more, spelled-end, byte_fits, next_fits}
+use Rattle.jh_num.proofs.MemoryLemmas.{byte_fits}
+use Rattle.jh_frames.proofs.ByteLemmas.{spelled-start, spelled-more, spelled-end, next_fits}
 use Rattle.jh_frames.proofs.bytes.number_of.Goals as goal
 
 pub loop-k-init : goal.loop-k-init

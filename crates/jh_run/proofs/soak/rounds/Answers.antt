@@ -1,5 +1,5 @@
 -- One round more.
-use Rattle.std.proofs.Common.{◌≡◌, ◌++◌, ◌+◌, sym, ap, ◌∙◌}
+use Rattle.std.proofs.Common.{◌++◌, ◌+◌, sym, ap, ◌∙◌}
 use Rattle.jh_run.specs.Soak.{round_ops, rounds_ops}
 use Rattle.jh_run.proofs.SoakLemmas.{rounds-none, rounds-more}
 use Rattle.jh_run.proofs.soak.rounds.Goals as goal

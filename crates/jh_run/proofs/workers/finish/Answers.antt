@@ -1,5 +1,5 @@
 -- The ports that were driven here come first, and those of the workers behind them.
-use Rattle.std.proofs.Common.{◌≡◌, ℕ, ◌⊎◌, inl, inr, List, length, map, Contains, sym, ap, subst, ◌∙◌, arith}
+use Rattle.std.proofs.Common.{inl, inr, map, ap, ◌∙◌, arith}
 use Rattle.jh_turn.specs.Ports.{port_caller, opened_value}
 use Rattle.jh_run.specs.Drives.{stop_of}
 use Rattle.jh_run.specs.Running.{origin_of}

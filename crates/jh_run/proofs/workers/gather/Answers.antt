@@ -1,8 +1,7 @@
 -- Each worker's port is put behind the others.
-use Rattle.std.proofs.Common.{◌≡◌, ℕ, ◌<◌, ◌++◌, ◌∷◌, [], List, length, map, Contains, refl, sym, ap, subst, ◌∙◌, arith, append-nil}
+use Rattle.std.proofs.Common.{◌≡◌, ◌++◌, refl, sym, ap, ◌∙◌, arith, append-nil}
 use Rattle.std.proofs.lemmas.List.{nil_from_length}
-use Rattle.jh_turn.specs.Ports.{port_caller}
-use Rattle.jh_run.proofs.SpreadLemmas.{Gathering, gather-start, gather-next, port_of-same, All-at, split-next, split-more, split-few}
+use Rattle.jh_run.proofs.SpreadLemmas.{gather-start, gather-next, port_of-same, All-at, split-next, split-more, split-few}
 use Rattle.jh_run.proofs.workers.gather.Goals as goal
 
 pub loop-child-init : goal.loop-child-init

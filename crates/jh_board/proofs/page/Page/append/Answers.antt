@@ -1,5 +1,5 @@
 -- A piece of the page's list.
-use Rattle.std.proofs.Common.{◌≡◌, ℕ, ◌+◌, ◌≤◌, ◌++◌, List, length, ap, ◌∙◌, arith}
+use Rattle.std.proofs.Common.{ℕ, ◌+◌, ◌≤◌, ◌++◌, List, length, ap, ◌∙◌, arith}
 use Rattle.std.specs.Prelude.{slice_range}
 use Rattle.jh_board.proofs.RowLemmas.{slice-piece}
 use Rattle.jh_board.proofs.page.Page.append.Goals as goal

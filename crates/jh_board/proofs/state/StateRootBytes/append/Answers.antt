@@ -1,14 +1,11 @@
 -- The bytes at the places of the row, where root is granted them all.
-use Rattle.std.proofs.Common.{◌≡◌, ℕ, ◌++◌, List, Option, Some, None, map, ap, sym, subst, ◌∙◌}
+use Rattle.std.proofs.Common.{ℕ, ◌++◌, List, Option, Some, map, ap, sym, ◌∙◌}
 use Rattle.std.specs.Prelude.{option_map}
 use Rattle.jh_history.specs.declared.access.Access.TheVariants.{Read}
 use Rattle.jh_history.specs.declared.place.Place.{Place}
-use Rattle.jh_history.specs.Access.{places_from, reach_by, memory_read}
 use Rattle.jh_history.specs.Grants.{granted_in}
 use Rattle.jh_history.specs.Places.{places_in_row}
-use Rattle.jh_history.specs.ReadView.{bytes_by}
 use Rattle.jh_board.specs.Pages.{byte_of}
-use Rattle.jh_board.specs.StateView.{StateView}
 use Rattle.jh_board.proofs.RootReadLemmas.{root-beyond}
 use Rattle.jh_board.proofs.state.StateRootBytes.append.Goals as goal
 

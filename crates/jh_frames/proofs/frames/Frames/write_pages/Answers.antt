@@ -1,7 +1,6 @@
 -- The bytes of one page more are stored.
-use Rattle.std.proofs.Common.{◌≡◌, ℕ, ◌+◌, ◌-◌, ◌/◌, ◌%◌, ◌<◌, ◌≤◌, true, false, cond, length, take, drop, arith, ap, ◌∙◌}
+use Rattle.std.proofs.Common.{◌≡◌, ◌+◌, ◌-◌, ◌/◌, ◌%◌, ◌<◌, ◌≤◌, true, cond, length, arith, ap, ◌∙◌}
 use Rattle.std.specs.Prelude.{IsOk}
-use Rattle.std.proofs.lemmas.List.{length-take, length-drop}
 use Rattle.jh_frames.specs.Memory.{byte_at, holds, missing, pages_in}
 use Rattle.jh_frames.proofs.ByteLemmas.{stored-more}
 use Rattle.jh_frames.proofs.HeldLemmas.{on_ok, lacking, lacking_at, missing_split, within_pages, held_more}

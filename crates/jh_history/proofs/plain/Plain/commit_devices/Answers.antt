@@ -1,15 +1,13 @@
 -- The devices of the cell that a Commit is about.
-use Rattle.std.proofs.Common.{◌≡◌, List, [], Option, Some, None, sym, ap, subst, ◌∙◌}
+use Rattle.std.proofs.Common.{◌≡◌, List, Option, Some, None, sym, ap, subst, ◌∙◌}
 use Rattle.std.specs.Prelude.{IfSome}
 use Rattle.std.specs.Option.{option_copied}
 use Rattle.jh_cellcfg.specs.declared.config.CellConfig.{CellConfig}
-use Rattle.jh_cellcfg.specs.declared.live.Live.{Live}
-use Rattle.jh_ivshmem.specs.declared.endpoint.Endpoint.{Endpoint}
 use Rattle.jh_ivshmem.specs.declared.spec.EndpointSpec.{EndpointSpec}
 use Rattle.jh_history.specs.declared.call.OpenCall.{OpenCall}
 use Rattle.jh_history.specs.declared.device_change.DeviceChange.{DeviceChange}
 use Rattle.jh_history.specs.Devices.{specs_of}
-use Rattle.jh_history.specs.Endpoints.{change_by, changing_by, endpoints_changed, specs_changing, with_words, MayChange}
+use Rattle.jh_history.specs.Endpoints.{change_by, changing_by, endpoints_changed, with_words, MayChange}
 use Rattle.jh_history.specs.PlainView.{PlainView, last_byte}
 use Rattle.jh_history.proofs.FollowLemmas.{specs-changing}
 use Rattle.jh_history.proofs.plain.Plain.commit_devices.Goals as goal

@@ -2,7 +2,7 @@
 use Rattle.std.proofs.Common.{◌≡◌, true, false, inl, inr, ◌∙◌, ap, sym, ⊎_elim}
 use Rattle.jh_history.specs.declared.access.Reach.{Reach}
 use Rattle.jh_history.specs.declared.access.Reach.TheVariants.{Memory, Subpage}
-use Rattle.jh_history.specs.Access.{with_slot_if, slot_of_reach, write_of}
+use Rattle.jh_history.specs.Access.{write_of}
 use Rattle.jh_history.specs.Endpoints.{endpoints_put}
 use Rattle.jh_history.specs.Grants.{devices_of}
 use Rattle.jh_history.specs.Places.{over}

@@ -1,5 +1,5 @@
 -- A write that reaches a device.
-use Rattle.std.proofs.Common.{◌≡◌, ◌+◌, ◌^◌, ◌<◌, ℕ, Option, sym, ap, subst, ◌∙◌}
+use Rattle.std.proofs.Common.{◌+◌, ◌^◌, ◌<◌, ℕ, Option, sym, ap, subst, ◌∙◌}
 use Rattle.std.specs.Prelude.{IfSome}
 use Rattle.jh_ivshmem.specs.declared.spec.Slot.{Slot}
 use Rattle.jh_history.specs.declared.place.Place.{Place}
