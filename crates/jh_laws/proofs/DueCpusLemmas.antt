@@ -266,7 +266,7 @@ some_else false x o h = inr h
 some_first : {X : Type 0} (b : Bool) (x : X) (o : Option X) → b ≡ true → is_some (cond b (Some x) o) ≡ true
 some_first b x o h = ap (λ (c : Bool). is_some (cond c (Some x) o)) h
 
-some_later : {X : Type 0} (b : Bool) (x : X) (o : Option X) → is_some o ≡ true → is_some (cond b (Some x) o) ≡ true
+pub some_later : {X : Type 0} (b : Bool) (x : X) (o : Option X) → is_some o ≡ true → is_some (cond b (Some x) o) ≡ true
 some_later true x o h = refl
 some_later false x o h = h
 

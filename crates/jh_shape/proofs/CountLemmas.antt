@@ -7,6 +7,15 @@ pub count_below-none : (test : ℕ → Bool) → count_below test 0 ≡ 0
 unfolding count_below
 count_below-none test = refl
 
+count_one : (b : Bool) (m n : ℕ) → m ≤ n → m + cond b 1 0 ≤ suc n
+count_one true m n h = omega arith
+count_one false m n h = omega arith
+
+pub count_below-le : (test : ℕ → Bool) (n : ℕ) → count_below test n ≤ n
+unfolding count_below
+count_below-le test zero = omega arith
+count_below-le test (suc n) = count_one (test n) (count_below test n) n (count_below-le test n)
+
 -- one number more
 pub count_below-suc : (test : ℕ → Bool) (n m : ℕ) → m ≡ suc n → count_below test m ≡ count_below test n + cond (test n) 1 0
 unfolding count_below
