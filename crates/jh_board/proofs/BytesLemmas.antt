@@ -8,15 +8,15 @@ use Rattle.std.proofs.lemmas.List.Elements.{recursion_from_All, All-from_recursi
 use Rattle.jh_history.specs.declared.place.Place.{Place}
 use Rattle.jh_history.specs.declared.place.Place.TheVariants.{Physical, Page}
 use Rattle.jh_history.specs.Places.{further, places_in_row, with_byte, over, written}
-use Rattle.jh_history.proofs.PlaceLemmas.{further-none, further-next, row-next, written-over}
+use Rattle.jh_history.proofs.PlaceLemmas.{further_none, further_next, row_next, written_over}
 use Rattle.jh_board.specs.Pages.{byte_of, page_at, Holds, HoldsPlace, MayHold, MemoryView}
 
 abbrev Pages : Type 0
 Pages = List (ℕ × List ℕ)
 
-pub MayHold-same : (old new : MemoryView) → ((q : Place) → HoldsPlace old q → HoldsPlace new q) → (q : Place) → MayHold old q → MayHold new q
-MayHold-same old new same (Physical a) h = tt
-MayHold-same old new same (Page cell offset) h = same (Page cell offset) h
+pub MayHold_same : (old new : MemoryView) → ((q : Place) → HoldsPlace old q → HoldsPlace new q) → (q : Place) → MayHold old q → MayHold new q
+MayHold_same old new same (Physical a) h = tt
+MayHold_same old new same (Page cell offset) h = same (Page cell offset) h
 
 -- a page is the first's or the last's of a run
 two_pages : (pages : Pages) (p k n : ℕ) → k ≤ n → n < 8 → Holds pages p → Holds pages (p + n) → Holds pages (p + k)
@@ -27,49 +27,49 @@ two_pages pages p k n le few first last =
       | inr other ↦ let e : (p + k) / 4096 ≡ (p + n) / 4096 = omega arith in subst P (sym e) last
     ]
 
-pub held-between : (memory : MemoryView) (p : Place) (k n : ℕ) → k ≤ n → n < 8 → HoldsPlace memory p → HoldsPlace memory (further p n) → HoldsPlace memory (further p k)
-held-between memory (Physical a) k n le few first last = two_pages memory.physical a k n le few first last
-held-between memory (Page cell offset) k n le few first last = let end = last.1 in (first.0, omega arith)
+pub held_between : (memory : MemoryView) (p : Place) (k n : ℕ) → k ≤ n → n < 8 → HoldsPlace memory p → HoldsPlace memory (further p n) → HoldsPlace memory (further p k)
+held_between memory (Physical a) k n le few first last = two_pages memory.physical a k n le few first last
+held_between memory (Page cell offset) k n le few first last = let end = last.1 in (first.0, omega arith)
 
 each_held : (pages : MemoryView) (p : Place) (count : ℕ) → ((k : ℕ) → k < count → HoldsPlace pages (further p k)) → AllByRecursion (HoldsPlace pages) (places_in_row p count)
 each_held pages p zero each = tt
 each_held pages p (suc count) each = (
-  subst (HoldsPlace pages) (further-none p) (each 0 (omega arith)),
-  each_held pages (further p 1) count (λ k lt. subst (HoldsPlace pages) (sym (further-next p k)) (each (k + 1) (omega arith))),
+  subst (HoldsPlace pages) (further_none p) (each 0 (omega arith)),
+  each_held pages (further p 1) count (λ k lt. subst (HoldsPlace pages) (sym (further_next p k)) (each (k + 1) (omega arith))),
 )
 
 -- so all of a run is held where its first and its last place are
-pub row-held : (pages : MemoryView) (p : Place) (count : ℕ) → 0 < count → count ≤ 8 → HoldsPlace pages p → HoldsPlace pages (further p (count - 1)) → All (HoldsPlace pages) (places_in_row p count)
-row-held pages p count some few first last =
-    All-from_recursion (HoldsPlace pages) (places_in_row p count) (each_held pages p count (λ k lt. held-between pages p k (count - 1) (omega arith) (omega arith) first last))
+pub row_held : (pages : MemoryView) (p : Place) (count : ℕ) → 0 < count → count ≤ 8 → HoldsPlace pages p → HoldsPlace pages (further p (count - 1)) → All (HoldsPlace pages) (places_in_row p count)
+row_held pages p count some few first last =
+    All-from_recursion (HoldsPlace pages) (places_in_row p count) (each_held pages p count (λ k lt. held_between pages p k (count - 1) (omega arith) (omega arith) first last))
 
 -- the k-th place of a run is one of its places
 at_place : (Q : Place → Type 0) (p : Place) (count k : ℕ) → k < count → AllByRecursion Q (places_in_row p count) → Q (further p k)
 at_place Q p zero k lt all = absurd (omega arith)
-at_place Q p (suc count) zero lt all = subst Q (sym (further-none p)) all.0
-at_place Q p (suc count) (suc k) lt all = let e : k + 1 ≡ suc k = omega arith in subst Q (further-next p k ∙ ap (further p) e) (at_place Q (further p 1) count k (omega arith) all.1)
+at_place Q p (suc count) zero lt all = subst Q (sym (further_none p)) all.0
+at_place Q p (suc count) (suc k) lt all = let e : k + 1 ≡ suc k = omega arith in subst Q (further_next p k ∙ ap (further p) e) (at_place Q (further p 1) count k (omega arith) all.1)
 
-pub All-at_place : (Q : Place → Type 0) (p : Place) (count k : ℕ) → k < count → All Q (places_in_row p count) → Q (further p k)
-All-at_place Q p count k lt all = at_place Q p count k lt (recursion_from_All Q (places_in_row p count) all)
+pub All_at_place : (Q : Place → Type 0) (p : Place) (count k : ℕ) → k < count → All Q (places_in_row p count) → Q (further p k)
+All_at_place Q p count k lt all = at_place Q p count k lt (recursion_from_All Q (places_in_row p count) all)
 
-pub All-high : (Q : Place → Type 0) (xs ys : List Place) → All Q (xs ++ ys) → All Q ys
-All-high Q xs ys all = All-from_recursion Q ys (high_of xs (recursion_from_All Q (xs ++ ys) all))
+pub All_high : (Q : Place → Type 0) (xs ys : List Place) → All Q (xs ++ ys) → All Q ys
+All_high Q xs ys all = All-from_recursion Q ys (high_of xs (recursion_from_All Q (xs ++ ys) all))
   where
     high_of : (zs : List Place) → AllByRecursion Q (zs ++ ys) → AllByRecursion Q ys
     high_of [] h = h
     high_of (z ∷ zs) h = high_of zs h.1
 
 -- one byte of a write
-pub over-more : (old new : MemoryView) (p at : Place) (byte k n rest : ℕ) (places : List Place) (q : Place) → k < n → at ≡ further p k → byte ≡ rest % 256 → byte_of new q ≡ with_byte (byte_of old) at byte q
+pub over_more : (old new : MemoryView) (p at : Place) (byte k n rest : ℕ) (places : List Place) (q : Place) → k < n → at ≡ further p k → byte ≡ rest % 256 → byte_of new q ≡ with_byte (byte_of old) at byte q
     → over (places_in_row (further p (k + 1)) (n - (k + 1)) ++ places) (rest / 256) q (byte_of new q) ≡ over (places_in_row (further p k) (n - k) ++ places) rest q (byte_of old q)
-over-more old new p at byte k n rest places q lt is_at is_byte is =
-    rw (is, is_at, is_byte) (ap (λ (ps : List Place). over (ps ++ places) rest q (byte_of old q)) (sym (row-next p k n lt)))
+over_more old new p at byte k n rest places q lt is_at is_byte is =
+    rw (is, is_at, is_byte) (ap (λ (ps : List Place). over (ps ++ places) rest q (byte_of old q)) (sym (row_next p k n lt)))
 
 -- the two runs of a write
-pub written-runs : (old middle new : MemoryView) (low high places : List Place) (value rest last : ℕ) (q : Place) → places ≡ low ++ high
+pub written_runs : (old middle new : MemoryView) (low high places : List Place) (value rest last : ℕ) (q : Place) → places ≡ low ++ high
     → ((ps : List Place) → over ps rest q (byte_of middle q) ≡ over (low ++ ps) value q (byte_of old q))
     → ((ps : List Place) → over ps last q (byte_of new q) ≡ over (high ++ ps) rest q (byte_of middle q))
     → byte_of new q ≡ written (byte_of old) places value q
-written-runs old middle new low high places value rest last q is first second =
+written_runs old middle new low high places value rest last q is first second =
     second [] ∙ first (high ++ []) ∙ ap (λ (ps : List Place). over (low ++ ps) value q (byte_of old q)) (append-nil high)
-    ∙ ap (λ (ps : List Place). over ps value q (byte_of old q)) (sym is) ∙ sym (written-over (byte_of old) places value q)
+    ∙ ap (λ (ps : List Place). over ps value q (byte_of old q)) (sym is) ∙ sym (written_over (byte_of old) places value q)

@@ -27,68 +27,68 @@ use Rattle.jh_board.specs.Steps.{goes_on, create_of}
 
 -- ---- readiness
 
-ready-telling : (held : Held) (about : ℕ) (answer : ℤ) (o : Option ℕ) → IsReadyIn held (telling about answer o)
-ready-telling held about answer None = tt
-ready-telling held about answer (Some id) = tt
+ready_telling : (held : Held) (about : ℕ) (answer : ℤ) (o : Option ℕ) → IsReadyIn held (telling about answer o)
+ready_telling held about answer None = tt
+ready_telling held about answer (Some id) = tt
 
-ready-created : (held : Held) (at : ℕ) (cells : List Live) (phase : Phase) → IsReadyIn held (after_commit (Create at) phase cells)
-ready-created held at cells ToDecide = tt
-ready-created held at cells (ToSettle waited) = tt
-ready-created held at cells (ToCreate config) = ready-telling held config.id (pos config.id) (first_told config.id cells)
-ready-created held at cells ToCommit = tt
-ready-created held at cells (ToNote id about answer) = tt
-ready-created held at cells (ToNoted id about answer waited) = tt
-ready-created held at cells (ToFinish answer) = tt
+ready_created : (held : Held) (at : ℕ) (cells : List Live) (phase : Phase) → IsReadyIn held (after_commit (Create at) phase cells)
+ready_created held at cells ToDecide = tt
+ready_created held at cells (ToSettle waited) = tt
+ready_created held at cells (ToCreate config) = ready_telling held config.id (pos config.id) (first_told config.id cells)
+ready_created held at cells ToCommit = tt
+ready_created held at cells (ToNote id about answer) = tt
+ready_created held at cells (ToNoted id about answer waited) = tt
+ready_created held at cells (ToFinish answer) = tt
 
-pub ready-committed : (held : Held) (call : Call) (cells : List Live) (phase : Phase) → IsReadyIn held (after_commit call phase cells)
-ready-committed held (Create at) cells phase = ready-created held at cells phase
-ready-committed held (Start id) cells phase = tt
-ready-committed held (Loadable id) cells phase = tt
-ready-committed held (Destroy id) cells phase = ready-telling held id (pos 0) (first_told id cells)
-ready-committed held (Info kind) cells phase = tt
-ready-committed held (State id) cells phase = tt
-ready-committed held (CpuInfo cpu kind) cells phase = tt
-ready-committed held Unknown cells phase = tt
+pub ready_committed : (held : Held) (call : Call) (cells : List Live) (phase : Phase) → IsReadyIn held (after_commit call phase cells)
+ready_committed held (Create at) cells phase = ready_created held at cells phase
+ready_committed held (Start id) cells phase = tt
+ready_committed held (Loadable id) cells phase = tt
+ready_committed held (Destroy id) cells phase = ready_telling held id (pos 0) (first_told id cells)
+ready_committed held (Info kind) cells phase = tt
+ready_committed held (State id) cells phase = tt
+ready_committed held (CpuInfo cpu kind) cells phase = tt
+ready_committed held Unknown cells phase = tt
 
 -- an act that goes on is a Decide
-pub going-decides : (act : Act) → goes_on act ≡ true → act ≡ Decide None
-going-decides (Read width at got) h = absurd (both_ways false refl h)
-going-decides (Write width at value ok) h = absurd (both_ways false refl h)
-going-decides (Fetch at got) h = absurd (both_ways false refl h)
-going-decides (Await width at value ok) h = absurd (both_ways false refl h)
-going-decides (Irq device vector) h = absurd (both_ways false refl h)
-going-decides (Hvc code a b answer) h = absurd (both_ways false refl h)
-going-decides (Begin code a b) h = absurd (both_ways false refl h)
-going-decides Stop h = absurd (both_ways false refl h)
-going-decides (Decide None) h = refl
-going-decides (Decide (Some refused)) h = absurd (both_ways false refl h)
-going-decides (Settle how) h = absurd (both_ways false refl h)
-going-decides Commit h = absurd (both_ways false refl h)
-going-decides (Note id) h = absurd (both_ways false refl h)
-going-decides (Noted id how) h = absurd (both_ways false refl h)
-going-decides (Finish answer) h = absurd (both_ways false refl h)
+pub going_decides : (act : Act) → goes_on act ≡ true → act ≡ Decide None
+going_decides (Read width at got) h = absurd (both_ways false refl h)
+going_decides (Write width at value ok) h = absurd (both_ways false refl h)
+going_decides (Fetch at got) h = absurd (both_ways false refl h)
+going_decides (Await width at value ok) h = absurd (both_ways false refl h)
+going_decides (Irq device vector) h = absurd (both_ways false refl h)
+going_decides (Hvc code a b answer) h = absurd (both_ways false refl h)
+going_decides (Begin code a b) h = absurd (both_ways false refl h)
+going_decides Stop h = absurd (both_ways false refl h)
+going_decides (Decide None) h = refl
+going_decides (Decide (Some refused)) h = absurd (both_ways false refl h)
+going_decides (Settle how) h = absurd (both_ways false refl h)
+going_decides Commit h = absurd (both_ways false refl h)
+going_decides (Note id) h = absurd (both_ways false refl h)
+going_decides (Noted id how) h = absurd (both_ways false refl h)
+going_decides (Finish answer) h = absurd (both_ways false refl h)
 
-pub create-at : (call : Call) (at : ℕ) → create_of call ≡ Some at → call ≡ Create at
-create-at (Create a) at h = ap Create (same_Some a at h)
-create-at (Start id) at h = absurd (none-some at h)
-create-at (Loadable id) at h = absurd (none-some at h)
-create-at (Destroy id) at h = absurd (none-some at h)
-create-at (Info kind) at h = absurd (none-some at h)
-create-at (State id) at h = absurd (none-some at h)
-create-at (CpuInfo cpu kind) at h = absurd (none-some at h)
-create-at Unknown at h = absurd (none-some at h)
+pub create_at : (call : Call) (at : ℕ) → create_of call ≡ Some at → call ≡ Create at
+create_at (Create a) at h = ap Create (same_Some a at h)
+create_at (Start id) at h = absurd (none-some at h)
+create_at (Loadable id) at h = absurd (none-some at h)
+create_at (Destroy id) at h = absurd (none-some at h)
+create_at (Info kind) at h = absurd (none-some at h)
+create_at (State id) at h = absurd (none-some at h)
+create_at (CpuInfo cpu kind) at h = absurd (none-some at h)
+create_at Unknown at h = absurd (none-some at h)
 
 -- ---- a create that goes on
 
 -- what it reads
-pub coming-is : (image : Image) (f : Facts) (o : OpenCall) (at : ℕ) (config : CellConfig) → f.call ≡ Some o → o.call ≡ Create at → read_at image f at ≡ Reads config → coming_of image f ≡ Some config
-coming-is image f o at config is create reads =
+pub coming_is : (image : Image) (f : Facts) (o : OpenCall) (at : ℕ) (config : CellConfig) → f.call ≡ Some o → o.call ≡ Create at → read_at image f at ≡ Reads config → coming_of image f ≡ Some config
+coming_is image f o at config is create reads =
     ap (option_and_then (λ (p : OpenCall). coming_by image f p.call)) is ∙ ap (coming_by image f) create ∙ ap config_read reads
 
 -- it is ready for what comes
-pub ready-create : (held : Held) (image : Image) (f : Facts) (entry : Entry) (o : OpenCall) (at : ℕ) (config : CellConfig) → f.call ≡ Some o → o.call ≡ Create at → coming_of image f ≡ Some config → entry.act ≡ Decide None
+pub ready_create : (held : Held) (image : Image) (f : Facts) (entry : Entry) (o : OpenCall) (at : ℕ) (config : CellConfig) → f.call ≡ Some o → o.call ≡ Create at → coming_of image f ≡ Some config → entry.act ≡ Decide None
     → IsReadyFor held config → IsReady held (call_after image f entry)
-ready-create held image f entry o at config is create coming act ready =
+ready_create held image f entry o at config is create coming act ready =
     let e : call_after image f entry ≡ call_by f.cells (Some config) (Some o) entry (Decide None) =
     ap (λ (c : Option CellConfig). call_by f.cells c f.call entry entry.act) coming
     ∙ ap (λ (k : Option OpenCall). call_by f.cells (Some config) k entry entry.act) is
@@ -98,12 +98,12 @@ ready-create held image f entry o at config is create coming act ready =
     subst P (sym e) (subst Q (sym create) ready)
 
 -- a call that waits for its Decide needs nothing
-pub ready-early : (held : Held) (call : Option OpenCall) (o : OpenCall) → call ≡ Some o → o.phase ≡ ToDecide → IsReady held call
-ready-early held call o is early =
+pub ready_early : (held : Held) (call : Option OpenCall) (o : OpenCall) → call ≡ Some o → o.phase ≡ ToDecide → IsReady held call
+ready_early held call o is early =
     let P : Option OpenCall → Type 0 = IsReady held in
     let Q : Phase → Type 0 = IsReadyIn held in
     subst P (sym is) (subst Q (sym early) tt)
 
 -- what comes isn't refused
-pub not-refused : (config : CellConfig) (number : ℤ) (c : Creation) → c ≡ Comes config → c ≡ Refused number → ⊥
-not-refused config number c comes refused = none-some number (ap refused_by (sym comes ∙ refused))
+pub not_refused : (config : CellConfig) (number : ℤ) (c : Creation) → c ≡ Comes config → c ≡ Refused number → ⊥
+not_refused config number c comes refused = none-some number (ap refused_by (sym comes ∙ refused))

@@ -6,7 +6,7 @@ use Rattle.std.proofs.lemmas.Bool.{and_parts, and_from, and_left, eq-eqb, ne_eqb
 use Rattle.std.proofs.lemmas.Option.{slice_get-get_or}
 use Rattle.std.proofs.lemmas.List.{get_or_default}
 use Rattle.std.proofs.lemmas.List.Elements.{All-contains}
-use Rattle.jh_num.proofs.Lists.{IsFound, IsFound-from_find, find-None, find-nothing, find-unique}
+use Rattle.jh_num.proofs.Lists.{IsFound, IsFound_from_find, find_None, find_nothing, find_unique}
 use Rattle.jh_num.specs.declared.no_memory.NoMemory.{NoMemory}
 use Rattle.jh_num.specs.declared.range.Range.{Range}
 use Rattle.jh_num.specs.Bytes.{has_byte}
@@ -39,13 +39,13 @@ numbered : (image : Image) (lives : List Live) (id : ℕ) (c : CellConfig) → c
 numbered image lives id c e = numbered_cell image lives id c (eqb id image.system.root.id) e
 
 -- so its regions lie within addresses and places, and no two of them share an address
-pub cell-within : (image : Image) (lives : List Live) (id : ℕ) (c : CellConfig) → IsClean image.system (configs_of lives) → cell_in image lives id ≡ Some c → AreInRange c.memory_regions
-cell-within image lives id c clean e k d lt some =
+pub cell_within : (image : Image) (lives : List Live) (id : ℕ) (c : CellConfig) → IsClean image.system (configs_of lives) → cell_in image lives id ≡ Some c → AreInRange c.memory_regions
+cell_within image lives id c clean e k d lt some =
     let a = numbered image lives id c e in
     clean.within a.0 c a.1 k (get_or c.memory_regions k d) (slice_get-get_or c.memory_regions k d lt) some
 
-pub cell-apart : (image : Image) (lives : List Live) (id : ℕ) (c : CellConfig) → IsClean image.system (configs_of lives) → cell_in image lives id ≡ Some c → AllPairs SharesNoAddress c.memory_regions
-cell-apart image lives id c clean e i j d lt jl at i_has j_has =
+pub cell_apart : (image : Image) (lives : List Live) (id : ℕ) (c : CellConfig) → IsClean image.system (configs_of lives) → cell_in image lives id ≡ Some c → AllPairs SharesNoAddress c.memory_regions
+cell_apart image lives id c clean e i j d lt jl at i_has j_has =
     let a = numbered image lives id c e in
     let same : i ≡ j = clean.addresses a.0 c a.1 i j (get_or c.memory_regions i d) (get_or c.memory_regions j d) (slice_get-get_or c.memory_regions i d (omega arith)) (slice_get-get_or c.memory_regions j d jl) at i_has j_has in
     absurd (omega arith)
@@ -54,8 +54,8 @@ apart_of : (o : Option CellConfig) → ((c : CellConfig) → o ≡ Some c → Al
 apart_of None each = λ i j d lt jl. absurd (omega arith)
 apart_of (Some c) each = each c refl
 
-pub regions-apart : (image : Image) (lives : List Live) (id : ℕ) → IsClean image.system (configs_of lives) → AllPairs SharesNoAddress (regions_in image lives id)
-regions-apart image lives id clean = apart_of (cell_in image lives id) (λ c e. cell-apart image lives id c clean e)
+pub regions_apart : (image : Image) (lives : List Live) (id : ℕ) → IsClean image.system (configs_of lives) → AllPairs SharesNoAddress (regions_in image lives id)
+regions_apart image lives id clean = apart_of (cell_in image lives id) (λ c e. cell_apart image lives id c clean e)
 
 -- regions of one list that share an address are one
 same_region : (regions : List Region) (r s : Region) (at : ℕ) → AllPairs SharesNoAddress regions → Contains regions r → Contains regions s → has_address r at ≡ true → has_address s at ≡ true → r ≡ s
@@ -153,16 +153,16 @@ second_of false b e = absurd (both_ways false refl e)
 pub told_by : RunsLead → RunsAreSingle → (kept : Place → Bool) (id : ℕ) (regions : List Region) (runs : List Run) (access : Access) (at : ℕ) → ((k : ℕ) → kept (Page id k) ≡ false) → AllPairs SharesNoAddress regions → IsMap (λ p. kept (Physical p)) regions runs
     → (o : Option Region) → find (gives access at) regions ≡ o → told_grant id runs access at ≡ option_and_then (unless kept) (option_map (λ (r : Region). place_in_cell id r at) o)
 told_by leads single kept id regions runs access at page apart is None e =
-    ap (option_map (place_told id at)) (find-nothing (is_told access at) runs (λ run held. false_from_ne_true (is_told access at run) (λ h.
+    ap (option_map (place_told id at)) (find_nothing (is_told access at) runs (λ run held. false_from_ne_true (is_told access at run) (λ h.
     let own = All-contains (IsRunIn (λ p. kept (Physical p)) regions) runs run is.own held in
-    both_ways (gives access at own.region) (find-None (gives access at) regions own.region e own.held) (told_gives (λ p. kept (Physical p)) access at own.region run own.of h))))
+    both_ways (gives access at own.region) (find_None (gives access at) regions own.region e own.held) (told_gives (λ p. kept (Physical p)) access at own.region run own.of h))))
 told_by leads single kept id regions runs access at page apart is (Some r) e = ⊎_elim granted not_granted (cases_Bool (is_granted closed r at))
   where
     closed : ℕ → Bool
     closed p = kept (Physical p)
 
     found : IsFound (gives access at) regions r
-    found = IsFound-from_find (gives access at) regions r e
+    found = IsFound_from_find (gives access at) regions r e
 
     has : has_address r at ≡ true
     has = (gives_parts access at r found.passes).0
@@ -174,14 +174,14 @@ told_by leads single kept id regions runs access at page apart is (Some r) e = �
     granted h =
         let told = is.whole r at found.held h in
         let here = gives_told closed access at r told.run told.of told.has found.passes in
-        let only = find-unique (is_told access at) runs told.run told.held here
+        let only = find_unique (is_told access at) runs told.run told.held here
         (λ other held passes. single closed regions runs other told.run at is held told.held (told_in access at other passes) told.has) in
         ap (option_map (place_told id at)) only ∙ ap Some (place_is leads closed id at r told.run told.of told.has)
         ∙ sym (open_as kept id (byte_in r at) (place_in r at) (is_comm r) page (sym as_left ∙ h))
 
     not_granted : is_granted closed r at ≡ false → told_grant id runs access at ≡ unless kept (place_in_cell id r at)
     not_granted h =
-        ap (option_map (place_told id at)) (find-nothing (is_told access at) runs (λ run held. false_from_ne_true (is_told access at run) (λ told.
+        ap (option_map (place_told id at)) (find_nothing (is_told access at) runs (λ run held. false_from_ne_true (is_told access at run) (λ told.
         let own = All-contains (IsRunIn closed regions) runs run is.own held in
         let own_granted = own.of.each at (told_in access at run told) in
         let same = same_region regions own.region r at apart own.held found.held (granted_has closed own.region at own_granted) has in

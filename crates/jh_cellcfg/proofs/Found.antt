@@ -18,7 +18,7 @@ use Rattle.jh_cellcfg.specs.Limits.{is_name, parts_size, whole_size, AreWithinLi
 use Rattle.jh_cellcfg.specs.Widths.{IsHeader, IsCell}
 use Rattle.jh_cellcfg.specs.Faults.{fault_if, first_of, over, u16_at, count_fault, limits_fault, length_fault, counts_at, start_fault, body_fault, first_fault}
 use Rattle.jh_cellcfg.proofs.Headers.{header_name, header_counts}
-use Rattle.jh_cellcfg.proofs.Fields.{IsBytes, IsBytes-drop, IsBytes-take, array_field, list_field, both, u32_field, region_field, irqchip_field, device_field, header_field}
+use Rattle.jh_cellcfg.proofs.Fields.{IsBytes, IsBytes_drop, IsBytes_take, array_field, list_field, both, u32_field, region_field, irqchip_field, device_field, header_field}
 
 -- none of these is a fault
 pub record Free (faults : List (Option ConfigFault)) : Type 0 where
@@ -205,7 +205,7 @@ start_found bytes all long none =
     let last = rest_none e in
     let number : u16_at bytes 6 ≡ 13 = eqb-true (u16_at bytes 6) 13 (both_true (u16_at bytes 6 == 13) (passed (not (u16_at bytes 6 == 13)) (Revision (u16_at bytes 6)) (head_none last))) in
     let two = take 2 (drop 6 bytes) in
-    let small : IsBytes two = IsBytes-take 2 (drop 6 bytes) (IsBytes-drop 6 bytes all) in
+    let small : IsBytes two = IsBytes_take 2 (drop 6 bytes) (IsBytes_drop 6 bytes all) in
     let len : length two ≡ 2 = omega (arith, length-take 2 (drop 6 bytes), length-drop 6 bytes) in
     let revision : u16_bytes 13 ≡ two = le_bytes_2 two 13 len small (sym number) in
     let behind : drop 6 bytes ≡ u16_bytes 13 ++ drop 8 bytes
@@ -228,5 +228,5 @@ bytes_found bytes each none =
     let long = ltb-false (length bytes) 132 (passed (nat_lt (length bytes) 132) (Short 132) (head_none e)) in
     let later = rest_none e in
     let start = start_found bytes all (omega arith) (head_none later) in
-    let found = body_found 8 (drop 8 bytes) (IsBytes-drop 8 bytes all) (omega (arith, length-drop 8 bytes)) (head_none (rest_none later)) in
+    let found = body_found 8 (drop 8 bytes) (IsBytes_drop 8 bytes all) (omega (arith, length-drop 8 bytes)) (head_none (rest_none later)) in
     (found.0, found.1, found.2, start ∙ ap (λ (l : List ℕ). codes "JHCELL" ++ (u16_bytes 13 ++ l)) found.3)

@@ -31,11 +31,11 @@ abbrev told_of : Reached → Reply
 told_of reached = record { status = played_status reached.full; text = journal_text reached.entries }
 
 -- the board at the played journal, and how it ended, tell the play
-pub IsPlayed-from : (image : Image) (cpus : List ℕ) (board : BoardView) (ended : Ended) (status : Status) (text : List ℕ)
+pub IsPlayed_from : (image : Image) (cpus : List ℕ) (board : BoardView) (ended : Ended) (status : Status) (text : List ℕ)
     → Plays image journal_limit cpus board ended → IsLegal image board.entries → ((ended ≡ Quiet) ↔ IsQuiet image board.entries) → ((ended ≡ Full) ↔ IsFullAtCpu image journal_limit board.entries)
     → status ≡ played_status (is_full ended) → text ≡ journal_text board.entries
     → IsPlayed image cpus (record { status = status; text = text })
-IsPlayed-from image cpus board ended status text plays legal quiet full is_status is_text =
+IsPlayed_from image cpus board ended status text plays legal quiet full is_status is_text =
     let entries : board.entries ≡ (played image journal_limit cpus).entries = ap (λ (r : Reached). r.entries) (sym plays.0) in
     let Legal : List Entry → Type 0 = λ es. IsLegal image es in
     let AtLimit : List Entry → Type 0 = λ es. IsFullAtCpu image journal_limit es in

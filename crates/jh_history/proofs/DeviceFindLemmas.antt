@@ -25,6 +25,6 @@ window_here p cell endpoints ds n past w lt h =
 pub window_end : (p : Window → Bool) (cell : ℕ) (endpoints : List Endpoint) (ds : List PciDevice) (n : ℕ) → length ds ≤ n → find p (windows_from cell endpoints n (drop n ds)) ≡ None
 window_end p cell endpoints ds n le = ap (first_from p cell endpoints n) (drop_all n ds le)
 
-pub window_found-all : (devices : Devices) (at width : ℕ) → window_found devices at width ≡ find (window_has at width) (windows_from devices.cell devices.endpoints 0 devices.list)
+pub window_found_all : (devices : Devices) (at width : ℕ) → window_found devices at width ≡ find (window_has at width) (windows_from devices.cell devices.endpoints 0 devices.list)
 unfolding windows_of
-window_found-all devices at width = refl
+window_found_all devices at width = refl

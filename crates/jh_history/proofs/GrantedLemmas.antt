@@ -4,7 +4,7 @@ use Rattle.std.specs.Prelude.{All, option_map, option_and_then}
 use Rattle.std.specs.List.{list_any}
 use Rattle.std.specs.Option.{option_map_or}
 use Rattle.std.proofs.lemmas.Option.{slice_get-get_or}
-use Rattle.jh_num.proofs.Lists.{IsFound-from_find}
+use Rattle.jh_num.proofs.Lists.{IsFound_from_find}
 use Rattle.jh_num.specs.declared.address.TheConstants.{ADDRESS_END}
 use Rattle.jh_cellcfg.specs.declared.config.CellConfig.{CellConfig}
 use Rattle.jh_cellcfg.specs.declared.live.Live.{Live}
@@ -21,7 +21,7 @@ use Rattle.jh_history.specs.Access.{place_of, places_from, memory_or_nothing, re
 use Rattle.jh_history.specs.Grants.{unless, granted_by}
 use Rattle.jh_history.specs.Lives.{live_in, cell_in, regions_in}
 use Rattle.jh_history.specs.Phases.{configs_of}
-use Rattle.jh_history.proofs.LiveLemmas.{has_number, live_in-is}
+use Rattle.jh_history.proofs.LiveLemmas.{has_number, live_in_is}
 
 abbrev unless_any : (Place → Bool) → List Place → Option (List Place)
 unless_any kept ps = cond (list_any kept ps) None (Some ps)
@@ -96,7 +96,7 @@ within_at image cells (Some c) clean numbered = λ i d lt some.
 
 pub numbered_live : (image : Image) (lives : List Live) (id : ℕ) (c : CellConfig) → live_in lives id ≡ Some c → (a : ℕ) × IsNumbered image.system (configs_of lives) a c
 numbered_live image lives id c e =
-    let held = (IsFound-from_find (has_number id) (configs_of lives) c (live_in-is lives (configs_of lives) id refl ∙ e)).held in
+    let held = (IsFound_from_find (has_number id) (configs_of lives) c (live_in_is lives (configs_of lives) id refl ∙ e)).held in
     (suc held.0, slice_get-get_or (configs_of lives) held.0 c held.1 ∙ ap Some held.2)
 
 pub numbered_cell : (image : Image) (lives : List Live) (id : ℕ) (c : CellConfig) (b : Bool) → cond b (Some image.system.root) (live_in lives id) ≡ Some c → (a : ℕ) × IsNumbered image.system (configs_of lives) a c
@@ -104,14 +104,14 @@ numbered_cell image lives id c true e = (0, e)
 numbered_cell image lives id c false e = numbered_live image lives id c e
 
 -- the regions of a live cell lie within addresses and places
-pub regions-within : (image : Image) (lives : List Live) (id : ℕ) → IsClean image.system (configs_of lives) → All InRange (regions_in image lives id)
-regions-within image lives id clean = within_at image (configs_of lives) (cell_in image lives id) clean (λ c e. numbered_cell image lives id c (eqb id image.system.root.id) e)
+pub regions_within : (image : Image) (lives : List Live) (id : ℕ) → IsClean image.system (configs_of lives) → All InRange (regions_in image lives id)
+regions_within image lives id clean = within_at image (configs_of lives) (cell_in image lives id) clean (λ c e. numbered_cell image lives id c (eqb id image.system.root.id) e)
 
 -- cells of these configurations
 abbrev pub unmarked : List CellConfig → List Live
 unmarked [] = []
 unmarked (c ∷ cs) = record { config = c; loadable = false } ∷ unmarked cs
 
-pub configs-unmarked : (cells : List CellConfig) → configs_of (unmarked cells) ≡ cells
-configs-unmarked [] = refl
-configs-unmarked (c ∷ cs) = ap (λ (rest : List CellConfig). c ∷ rest) (configs-unmarked cs)
+pub configs_unmarked : (cells : List CellConfig) → configs_of (unmarked cells) ≡ cells
+configs_unmarked [] = refl
+configs_unmarked (c ∷ cs) = ap (λ (rest : List CellConfig). c ∷ rest) (configs_unmarked cs)

@@ -35,16 +35,16 @@ use Rattle.jh_history.specs.Wants.{pending_op, goes_on}
 use Rattle.jh_history.specs.Due.{due_at, call_of, is_idle_but, caller_act, state_act, next_act, act_of, await_of, got_by, entry_by, IsLegal, IsLegalFrom}
 use Rattle.jh_script.specs.Operations.{IsWellFormed}
 use Rattle.jh_history.specs.Admitted.{IsAdmitted, IsWellFormedAct, IsWellFormedEntry}
-use Rattle.jh_history.proofs.AdmittedLemmas.{program_of-plain, width_le}
-use Rattle.jh_history.proofs.DueLemmas.{due_at-absent, due_at-present}
+use Rattle.jh_history.proofs.AdmittedLemmas.{program_of_plain, width_le}
+use Rattle.jh_history.proofs.DueLemmas.{due_at_absent, due_at_present}
 
 ops_by : (image : Image) (cpu : ℕ) (cell : Option CellConfig) → IsAdmitted image
     → AllByRecursion IsWellFormed (option_map_or (λ (c : CellConfig). program_of image (name_of c) cpu) cell [])
-ops_by image cpu (Some c) admitted = recursion_from_All IsWellFormed (program_of image (name_of c) cpu) (program_of-plain image (name_of c) cpu admitted)
+ops_by image cpu (Some c) admitted = recursion_from_All IsWellFormed (program_of image (name_of c) cpu) (program_of_plain image (name_of c) cpu admitted)
 ops_by image cpu None admitted = tt
 
-pub ops_in-plain : (image : Image) (cells : List Live) (id cpu : ℕ) → IsAdmitted image → AllByRecursion IsWellFormed (ops_in image cells id cpu)
-ops_in-plain image cells id cpu admitted = ops_by image cpu (cell_in image cells id) admitted
+pub ops_in_plain : (image : Image) (cells : List Live) (id cpu : ℕ) → IsAdmitted image → AllByRecursion IsWellFormed (ops_in image cells id cpu)
+ops_in_plain image cells id cpu admitted = ops_by image cpu (cell_in image cells id) admitted
 
 pub at_place : (ops : List Op) (i : ℕ) → AllByRecursion IsWellFormed ops → IfSome (slice_get ops i) IsWellFormed
 at_place [] i all = tt
@@ -80,7 +80,7 @@ plain_op image f cell None plain = tt
 plain_op image f cell (Some op) plain = plain_act image f cell op plain
 
 plain_pending : (image : Image) (f : Facts) (state : Cpu) (cpu : ℕ) (b : Bool) → IsAdmitted image → IfSome (cond b (op_at image f state cpu) None) IsWellFormed
-plain_pending image f state cpu true admitted = at_place (ops_in image f.cells state.owner cpu) state.position (ops_in-plain image f.cells state.owner cpu admitted)
+plain_pending image f state cpu true admitted = at_place (ops_in image f.cells state.owner cpu) state.position (ops_in_plain image f.cells state.owner cpu admitted)
 plain_pending image f state cpu false admitted = tt
 
 plain_state : (image : Image) (f : Facts) (state : Cpu) (cpu : ℕ) (asked : Bool) → IsAdmitted image
@@ -124,15 +124,15 @@ entry_plain cpu cell entry (Some act) plain h = let P : Entry → Type 0 = IsWel
 
 at_board : (image : Image) (f : Facts) (cpu : ℕ) (entry : Entry) (b : Bool) → IsAdmitted image → is_on_board image cpu ≡ b → due_at image f cpu ≡ Some entry → IsWellFormedEntry entry
 at_board image f cpu entry true admitted e h =
-    entry_plain cpu (f.cpu cpu).owner entry (next_act image f (f.cpu cpu) cpu) (plain_call image f (f.cpu cpu) cpu (call_of f cpu) admitted) (sym (due_at-present image f cpu e) ∙ h)
-at_board image f cpu entry false admitted e h = absurd (none-some entry (sym (due_at-absent image f cpu e) ∙ h))
+    entry_plain cpu (f.cpu cpu).owner entry (next_act image f (f.cpu cpu) cpu) (plain_call image f (f.cpu cpu) cpu (call_of f cpu) admitted) (sym (due_at_present image f cpu e) ∙ h)
+at_board image f cpu entry false admitted e h = absurd (none-some entry (sym (due_at_absent image f cpu e) ∙ h))
 
-pub due_at-plain : (image : Image) (f : Facts) (cpu : ℕ) (entry : Entry) → IsAdmitted image → due_at image f cpu ≡ Some entry → IsWellFormedEntry entry
-due_at-plain image f cpu entry admitted h = at_board image f cpu entry (is_on_board image cpu) admitted refl h
+pub due_at_plain : (image : Image) (f : Facts) (cpu : ℕ) (entry : Entry) → IsAdmitted image → due_at image f cpu ≡ Some entry → IsWellFormedEntry entry
+due_at_plain image f cpu entry admitted h = at_board image f cpu entry (is_on_board image cpu) admitted refl h
 
 plain_from : (image : Image) (f : Facts) (entries : List Entry) → IsAdmitted image → IsLegalFrom image f entries → AllByRecursion IsWellFormedEntry entries
 plain_from image f [] admitted legal = tt
-plain_from image f (entry ∷ entries) admitted legal = (due_at-plain image f entry.cpu entry admitted legal.0, plain_from image (after image f entry) entries admitted legal.1)
+plain_from image f (entry ∷ entries) admitted legal = (due_at_plain image f entry.cpu entry admitted legal.0, plain_from image (after image f entry) entries admitted legal.1)
 
 pub legal_is_plain : (image : Image) (entries : List Entry) → IsAdmitted image → IsLegal image entries → All IsWellFormedEntry entries
 unfolding IsLegal

@@ -48,9 +48,9 @@ next_by image f entry true on h = record {
 }
 next_by image f entry false on h = absurd (none-some entry h)
 
-pub next-from_due : (image : Image) (f : Facts) (entry : Entry) → due_at image f entry.cpu ≡ Some entry → IsNext image f entry
+pub next_from_due : (image : Image) (f : Facts) (entry : Entry) → due_at image f entry.cpu ≡ Some entry → IsNext image f entry
 unfolding due_at
-next-from_due image f entry due = next_by image f entry (is_on_board image entry.cpu) refl due
+next_from_due image f entry due = next_by image f entry (is_on_board image entry.cpu) refl due
 
 -- ---- of a CPU that has no call open
 
@@ -127,15 +127,15 @@ state_by : (image : Image) (f : Facts) (state : Cpu) (cpu : ℕ) (act : Act) (b 
 state_by image f state cpu act true asked h = inl (asked, same_Some Stop act h)
 state_by image f state cpu act false asked h = inr (program_by image f state cpu act (goes_on state) refl h)
 
-pub state-parts : (image : Image) (f : Facts) (state : Cpu) (cpu : ℕ) (act : Act) → state_act image f state cpu ≡ Some act → IsOfState image f state cpu act
-state-parts image f state cpu act h = state_by image f state cpu act state.asked refl h
+pub state_parts : (image : Image) (f : Facts) (state : Cpu) (cpu : ℕ) (act : Act) → state_act image f state cpu ≡ Some act → IsOfState image f state cpu act
+state_parts image f state cpu act h = state_by image f state cpu act state.asked refl h
 
 -- ---- of the caller
 
 -- the caller of a call makes its phases
-pub caller-phase : (image : Image) (f : Facts) (o : OpenCall) (act : Act) (state : Cpu) → IsCaller image o.caller o.call state → caller_act image f state o ≡ Some act
+pub caller_phase : (image : Image) (f : Facts) (o : OpenCall) (act : Act) (state : Cpu) → IsCaller image o.caller o.call state → caller_act image f state o ≡ Some act
     → phase_act image f (is_idle_but image f o.caller) o.caller o.call o.phase ≡ Some act
-caller-phase image f o act state caller h =
+caller_phase image f o act state caller h =
     let e : caller_act image f state o ≡ phase_act image f (is_idle_but image f o.caller) o.caller o.call o.phase = rw (caller.calm.asked, caller.calm.stopped, caller.running) refl in
     sym e ∙ h
 
@@ -151,9 +151,9 @@ call_by : (image : Image) (f : Facts) (o : OpenCall) (cpu : ℕ) (act : Act) (b 
 call_by image f o cpu act true own caller h =
     let is : o.caller ≡ cpu = eqb-true o.caller cpu own in
     let P : ℕ → Type 0 = λ k. IsCaller image o.caller o.call (f.cpu k) in
-    inl (is, caller-phase image f o act (f.cpu cpu) (subst P is caller) h)
-call_by image f o cpu act false own caller h = inr (λ e. both_ways (eqb o.caller cpu) own (eq-eqb o.caller cpu (sym e)), state-parts image f (f.cpu cpu) cpu act h)
+    inl (is, caller_phase image f o act (f.cpu cpu) (subst P is caller) h)
+call_by image f o cpu act false own caller h = inr (λ e. both_ways (eqb o.caller cpu) own (eq-eqb o.caller cpu (sym e)), state_parts image f (f.cpu cpu) cpu act h)
 
-pub call-parts : (image : Image) (f : Facts) (o : OpenCall) (cpu : ℕ) (act : Act) → IsCaller image o.caller o.call (f.cpu o.caller)
+pub call_parts : (image : Image) (f : Facts) (o : OpenCall) (cpu : ℕ) (act : Act) → IsCaller image o.caller o.call (f.cpu o.caller)
     → option_map_or (caller_act image f (f.cpu cpu)) (cond (eqb o.caller cpu) (Some o) None) (state_act image f (f.cpu cpu) cpu) ≡ Some act → IsOfCall image f o cpu act
-call-parts image f o cpu act caller h = call_by image f o cpu act (eqb o.caller cpu) refl caller h
+call_parts image f o cpu act caller h = call_by image f o cpu act (eqb o.caller cpu) refl caller h

@@ -11,10 +11,10 @@ use Rattle.jh_image.specs.Causes.{IsBoardRefusal}
 use Rattle.jh_image.specs.Order.{ask_for, preload_name, program_name, board_files, AsksBoardUntil, until_the_board, until_a_file}
 
 -- a cause that is no failed read is found in what was handed out
-pub board-asked : (A : Ask → Type 0) (name board : List ℕ) (fault : BoardFault) → A (handed name) → (file : List ℕ) (cause : ImageCause) → IsBoardRefusal board fault file cause → A (ask_for cause name)
-board-asked A name board boards.Json a file cause h = subst (λ k. A (ask_for k name)) (sym h.1) a
-board-asked A name board (boards.Member member) a file cause h = subst (λ k. A (ask_for k name)) (sym h.1) a
-board-asked A name board boards.NoMemory a file cause h = absurd h
+pub board_asked : (A : Ask → Type 0) (name board : List ℕ) (fault : BoardFault) → A (handed name) → (file : List ℕ) (cause : ImageCause) → IsBoardRefusal board fault file cause → A (ask_for cause name)
+board_asked A name board boards.Json a file cause h = subst (λ k. A (ask_for k name)) (sym h.1) a
+board_asked A name board (boards.Member member) a file cause h = subst (λ k. A (ask_for k name)) (sym h.1) a
+board_asked A name board boards.NoMemory a file cause h = absurd h
 
 module _ {S : Type 0} (one : S → Ask → S → Type 0) (failed : S → List ℕ) (contents : Contents) (board : List ℕ) where
   pub at_the_board : (s t : S) (cause : ImageCause) → Asks one failed s (ask_for cause board ∷ []) t → AsksBoardUntil one failed contents board cause s t

@@ -31,17 +31,17 @@ on_refused P Q (Refused file cause) f h = f file cause h
 on_refused P Q NoMemory f h = tt
 
 -- a file whose turn comes, and that can't be read or is too large
-pub unread-stops : (contents : Contents) (board name : List ℕ) → IsNextFile contents board name → (file : List ℕ) (cause : ImageCause) → HandsOutNothing contents name file cause → StopsReading contents board file cause
-unread-stops contents board name comes file ReadFault h = subst (λ f. IsNextFile contents board f) (sym h) comes
-unread-stops contents board name comes file Oversize h = subst (λ f. StopsReading contents board f Oversize) (sym h.0) (comes, h.1)
-unread-stops contents board name comes file _ h = absurd h
+pub unread_stops : (contents : Contents) (board name : List ℕ) → IsNextFile contents board name → (file : List ℕ) (cause : ImageCause) → HandsOutNothing contents name file cause → StopsReading contents board file cause
+unread_stops contents board name comes file ReadFault h = subst (λ f. IsNextFile contents board f) (sym h) comes
+unread_stops contents board name comes file Oversize h = subst (λ f. StopsReading contents board f Oversize) (sym h.0) (comes, h.1)
+unread_stops contents board name comes file _ h = absurd h
 
 -- a program whose turn comes, and that can't be read or is none
-pub program-stops : (contents : Contents) (board : List ℕ) (listing : Listing) (system : SystemConfig) (preloads : List Preload) (programs : List Program) (entry : ProgramFile) → IsNextProgram contents board listing system preloads programs entry
+pub program_stops : (contents : Contents) (board : List ℕ) (listing : Listing) (system : SystemConfig) (preloads : List Preload) (programs : List Program) (entry : ProgramFile) → IsNextProgram contents board listing system preloads programs entry
     → (file : List ℕ) (cause : ImageCause) → IsProgramUnread contents entry.file file cause → StopsReading contents board file cause
-program-stops contents board listing system preloads programs entry next file ReadFault h = subst (λ f. IsNextFile contents board f) (sym h) (a_program listing system preloads programs entry next)
-program-stops contents board listing system preloads programs entry next file Oversize h = subst (λ f. StopsReading contents board f Oversize) (sym h.0) (a_program listing system preloads programs entry next, h.1)
-program-stops contents board listing system preloads programs entry next file (BadProgram fault) h = record {
+program_stops contents board listing system preloads programs entry next file ReadFault h = subst (λ f. IsNextFile contents board f) (sym h) (a_program listing system preloads programs entry next)
+program_stops contents board listing system preloads programs entry next file Oversize h = subst (λ f. StopsReading contents board f Oversize) (sym h.0) (a_program listing system preloads programs entry next, h.1)
+program_stops contents board listing system preloads programs entry next file (BadProgram fault) h = record {
   listing = listing;
   system = system;
   preloads = preloads;
@@ -53,17 +53,17 @@ program-stops contents board listing system preloads programs entry next file (B
   has = subst (λ f. HasBytes contents f h.bytes) (sym h.file_is) h.has;
   told = h.told;
 }
-program-stops contents board listing system preloads programs entry next file _ h = absurd h
+program_stops contents board listing system preloads programs entry next file _ h = absurd h
 
 -- where nothing is found, a system with a small pool isn't admitted
-small-unsound : (board name : List ℕ) (system : SystemConfig) → findings system [] ≡ [] → (file : List ℕ) (cause : ImageCause) → IsPoolSmall board system file cause → IsUnsound board name system file cause
-small-unsound board name system clean file (PoolSmall need have) h = (h.0, clean, h.1, h.2, h.3)
-small-unsound board name system clean file _ h = absurd h
+small_unsound : (board name : List ℕ) (system : SystemConfig) → findings system [] ≡ [] → (file : List ℕ) (cause : ImageCause) → IsPoolSmall board system file cause → IsUnsound board name system file cause
+small_unsound board name system clean file (PoolSmall need have) h = (h.0, clean, h.1, h.2, h.3)
+small_unsound board name system clean file _ h = absurd h
 
-pub checked-ok : {X : Type 0} (system : SystemConfig) → findings system [] ≡ [] → (r : Result X ImageFault) → OnOk r (root_pages system ≤ pool_pages system) → OnOk r (IsAdmittedSystem system)
-checked-ok system clean (Ok x) h = record { clean = clean; room = h }
-checked-ok system clean (Err e) h = tt
+pub checked_ok : {X : Type 0} (system : SystemConfig) → findings system [] ≡ [] → (r : Result X ImageFault) → OnOk r (root_pages system ≤ pool_pages system) → OnOk r (IsAdmittedSystem system)
+checked_ok system clean (Ok x) h = record { clean = clean; room = h }
+checked_ok system clean (Err e) h = tt
 
-pub checked-err : {X : Type 0} (board name : List ℕ) (system : SystemConfig) → findings system [] ≡ [] → (r : Result X ImageFault) → IfErr r (OnRefused (IsPoolSmall board system)) → IfErr r (OnRefused (IsUnsound board name system))
-checked-err board name system clean (Ok x) h = tt
-checked-err board name system clean (Err e) h = on_refused (IsPoolSmall board system) (IsUnsound board name system) e (small-unsound board name system clean) h
+pub checked_err : {X : Type 0} (board name : List ℕ) (system : SystemConfig) → findings system [] ≡ [] → (r : Result X ImageFault) → IfErr r (OnRefused (IsPoolSmall board system)) → IfErr r (OnRefused (IsUnsound board name system))
+checked_err board name system clean (Ok x) h = tt
+checked_err board name system clean (Err e) h = on_refused (IsPoolSmall board system) (IsUnsound board name system) e (small_unsound board name system clean) h

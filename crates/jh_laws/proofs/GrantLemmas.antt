@@ -7,13 +7,13 @@ use Rattle.jh_history.specs.declared.access.Access.{Access}
 use Rattle.jh_history.specs.Grants.{granted}
 use Rattle.jh_history.specs.Admitted.{IsAdmitted}
 use Rattle.jh_laws.specs.Grants.{IsGranted}
-use Rattle.jh_laws.proofs.RootLemmas.{has_address-from, root_region}
+use Rattle.jh_laws.proofs.RootLemmas.{has_address_from, root_region}
 
 -- root's places are its addresses
-pub granted-same : (image : Image) (access : Access) (at : ℕ) (place : Place) → IsAdmitted image → IsGranted image.system.root access at place → place ≡ Physical at
-granted-same image access at place admitted granted =
+pub granted_same : (image : Image) (access : Access) (at : ℕ) (place : Place) → IsAdmitted image → IsGranted image.system.root access at place → place ≡ Physical at
+granted_same image access at place admitted granted =
     let r = granted.region in
-    let own = root_region image r at admitted granted.held (has_address-from r at granted.first granted.last) in
+    let own = root_region image r at admitted granted.held (has_address_from r at granted.first granted.last) in
     let first : r.virt_start ≤ at = granted.first in
     let identity : r.phys_start ≡ r.virt_start = own.identity in
     let same : r.phys_start + (at - r.virt_start) ≡ at = omega arith in

@@ -7,7 +7,7 @@ use Rattle.std.proofs.lemmas.Bool.Decides.{nat_tests}
 use Rattle.std.proofs.lemmas.List.{get_or-take, get_or_default, take_more, length-take-le}
 use Rattle.std.proofs.lemmas.List.Elements.{All-weaker, All-append, Contains-append_left, Contains-append_right, Contains-append_cases}
 use Rattle.std.proofs.lemmas.List.Sorted.{Contains-permutation, IsPermutation-sym}
-use Rattle.jh_num.proofs.Lists.{Contains-cases}
+use Rattle.jh_num.proofs.Lists.{Contains_cases}
 use Rattle.jh_cellcfg.specs.declared.region.Region.{Region}
 use Rattle.jh_cellcfg.specs.Regions.{has_address, is_comm, place_in, virt_end}
 use Rattle.jh_check.specs.Clean.{SharesNoAddress}
@@ -38,7 +38,7 @@ last_granted closed r run of = let some = of.some in of.each (run.end - 1) (reco
 
 -- the regions are one
 pub alone : (r s : Region) → Contains (r ∷ []) s → r ≡ s
-alone r s held = ⊎_elim (λ (e : r ≡ s). e) (λ (later : Contains [] s). absurd (omega (arith, later.1))) (Contains-cases r [] s held)
+alone r s held = ⊎_elim (λ (e : r ≡ s). e) (λ (later : Contains [] s). absurd (omega (arith, later.1))) (Contains_cases r [] s held)
 
 -- the addresses that the one region grants are below those of the other
 pub Precedes : (ℕ → Bool) → Region → Region → Type 0

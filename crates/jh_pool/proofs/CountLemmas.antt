@@ -7,7 +7,7 @@ use Rattle.std.proofs.lemmas.Bool.Decides.{nat_tests}
 use Rattle.std.proofs.lemmas.List.Sums.{sum_by-cons}
 use Rattle.jh_pool.specs.Pages.{IsPageIn, IsTaken}
 use Rattle.jh_pool.specs.SoundPool.{often, IsSoundPool}
-use Rattle.jh_pool.proofs.ListLemmas.{often-from_any, none-from_any}
+use Rattle.jh_pool.proofs.ListLemmas.{often_from_any, none_from_any}
 
 -- the pages of that many numbers from `a` on
 abbrev pages_from : ℕ → ℕ → ℕ → List ℕ
@@ -125,7 +125,7 @@ had_pages base n capacity xs had stands most each =
     let at : IsPageIn base n (base + 4096 * k) = page_at base n k stands.aligned (omega arith) in
     had_by_cases (list_any (λ x. eqb x (base + 4096 * k)) xs) (had (base + 4096 * k)) (often (base + 4096 * k) xs)
     (most (base + 4096 * k) at) (stands.once (base + 4096 * k))
-    (often-from_any (base + 4096 * k) xs) (none-from_any (base + 4096 * k) xs)
+    (often_from_any (base + 4096 * k) xs) (none_from_any (base + 4096 * k) xs)
     (λ some. ((each (base + 4096 * k) at).0 some).taken)
     (λ no. (each (base + 4096 * k) at).1 (record { in_range = at; taken = no }))) in
     let sum : sum_by (λ q. had q + often q xs) (pages_from base 0 n) ≡ sum_by had (pages_from base 0 n) + sum_by (λ q. often q xs) (pages_from base 0 n) = sum_plus had (λ q. often q xs) (pages_from base 0 n) in

@@ -5,14 +5,14 @@ use Rattle.std.specs.Prelude.{Result, Ok, Err, IsOk, is_ok, if◌then◌else◌,
 use Rattle.std.proofs.lemmas.Bool.{cases_eq}
 use Rattle.jh_pool.specs.Pages.{IsPageIn, IsTaken}
 use Rattle.jh_pool.specs.SoundPool.{often, IsSoundPool}
-use Rattle.jh_pool.proofs.ListLemmas.{often_same, often_other, none-from_any, any-from_none, any-from_often, any_alike}
+use Rattle.jh_pool.proofs.ListLemmas.{often_same, often_other, none_from_any, any_from_none, any_from_often, any_alike}
 use Rattle.jh_pool.proofs.CountLemmas.{few_pages}
 use Rattle.jh_pool.proofs.OpenLemmas.{next_by_cases, once_by_cases}
 
 pub more_stands : (base n capacity capacity' page : ℕ) (free : List ℕ) → capacity ≤ capacity' → IsPageIn base n page → list_any (λ x. eqb x page) free ≡ false → IsSoundPool base n free capacity → IsSoundPool base n (free ++ page ∷ []) capacity'
 more_stands base n capacity capacity' page free more at taken stands =
     let room : n ≤ capacity = stands.room in
-    let none : often page free ≡ 0 = none-from_any page free taken in
+    let none : often page free ≡ 0 = none_from_any page free taken in
     let pages : (q : ℕ) → 0 < often q (free ++ page ∷ []) → IsPageIn base n q = λ q some. next_by_cases (λ z. IsPageIn base n z) q page free (stands.pages q) at (cases_eq q page) some in
     let once : (q : ℕ) → often q (free ++ page ∷ []) ≤ 1 = λ q. once_by_cases q page free (stands.once q) none (cases_eq q page) in
     record { aligned = stands.aligned; place = stands.place; pages = pages; once = once; few = few_pages base n (free ++ page ∷ []) stands.aligned pages once; room = omega arith }
@@ -55,13 +55,13 @@ pub last_in_range : (base n capacity page : ℕ) (free : List ℕ) → IsSoundPo
 last_in_range base n capacity page free stands = stands.pages page (last_often page free)
 
 pub last_free : (page : ℕ) (free : List ℕ) → list_any (λ x. eqb x page) (free ++ page ∷ []) ≡ true
-last_free page free = any-from_often page (free ++ page ∷ []) (last_often page free)
+last_free page free = any_from_often page (free ++ page ∷ []) (last_often page free)
 
 pub last_once : (base n capacity page : ℕ) (free : List ℕ) → IsSoundPool base n (free ++ page ∷ []) capacity → list_any (λ x. eqb x page) free ≡ false
 last_once base n capacity page free stands =
     let same : often page (free ++ page ∷ []) ≡ often page free + 1 = often_same page free in
     let once : often page (free ++ page ∷ []) ≤ 1 = stands.once page in
-    any-from_none page free (omega arith)
+    any_from_none page free (omega arith)
 
 pub others_free : (q page : ℕ) (free : List ℕ) → (q ≡ page → ⊥) → list_any (λ x. eqb x q) (free ++ page ∷ []) ≡ list_any (λ x. eqb x q) free
 others_free q page free ne = any_alike q free (free ++ page ∷ []) (often_other q free page ne)

@@ -4,7 +4,7 @@ use Rattle.std.specs.List.{list_any}
 use Rattle.std.proofs.lemmas.Bool.{cases_eq}
 use Rattle.jh_pool.specs.Pages.{IsPageIn}
 use Rattle.jh_pool.specs.SoundPool.{often}
-use Rattle.jh_pool.proofs.ListLemmas.{often_same, often_other, any-from_often}
+use Rattle.jh_pool.proofs.ListLemmas.{often_same, often_other, any_from_often}
 
 -- the last k pages of n are free, each once
 pub record Opens (base n k : ℕ) (free : List ℕ) (capacity : ℕ) : Type 0 where
@@ -57,7 +57,7 @@ opens_more base n k capacity capacity' next free aligned lt more is opens =
 pub opened_free : (base n k capacity page : ℕ) (free : List ℕ) → base % 4096 ≡ 0 → k ≡ n → Opens base n k free capacity → IsPageIn base n page → list_any (λ x. eqb x page) free ≡ true
 opened_free base n k capacity page free aligned e opens is =
     let at : base + 4096 * (page / 4096 - base / 4096) ≡ page = omega (arith, is.aligned, is.above, is.below) in
-    any-from_often page free (subst (λ z. 0 < often z free) at (opens.all (page / 4096 - base / 4096) (omega (arith, is.aligned, is.above, is.below)) (omega arith)))
+    any_from_often page free (subst (λ z. 0 < often z free) at (opens.all (page / 4096 - base / 4096) (omega (arith, is.aligned, is.above, is.below)) (omega arith)))
 
 pub opened_used : (base n k capacity : ℕ) (free : List ℕ) → k ≡ n → Opens base n k free capacity → n - length free ≡ 0
 opened_used base n k capacity free e opens = let len : length free ≡ k = opens.len in omega arith

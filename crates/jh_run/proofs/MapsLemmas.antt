@@ -4,7 +4,7 @@ use Rattle.std.specs.Prelude.{Contains, find, option_map}
 use Rattle.std.proofs.lemmas.Bool.{eq-eqb, both_ways}
 use Rattle.std.proofs.lemmas.List.{append-nil}
 use Rattle.std.proofs.lemmas.Option.{none-some}
-use Rattle.jh_num.proofs.Lists.{Contains-cases, Contains-from_map, find-None}
+use Rattle.jh_num.proofs.Lists.{Contains_cases, Contains_from_map, find_None}
 use Rattle.jh_cellcfg.specs.declared.config.CellConfig.{CellConfig}
 use Rattle.jh_cellcfg.specs.declared.live.Live.{Live}
 use Rattle.jh_cellcfg.specs.declared.region.Region.{Region}
@@ -26,8 +26,8 @@ none_found (Some live) e = absurd (none-some live.config (sym e))
 
 not_found : (lives : List Live) (cell : CellConfig) → Contains (configs_of lives) cell → live_in lives cell.id ≡ None → ⊥
 not_found lives cell held e =
-    let live = Contains-from_map (λ (l : Live). l.config) lives cell held in
-    both_ways (eqb live.0.config.id cell.id) (find-None (has_id cell.id) lives live.0 (none_found (find (has_id cell.id) lives) e) live.1)
+    let live = Contains_from_map (λ (l : Live). l.config) lives cell held in
+    both_ways (eqb live.0.config.id cell.id) (find_None (has_id cell.id) lives live.0 (none_found (find (has_id cell.id) lives) e) live.1)
     (eq-eqb live.0.config.id cell.id (ap (λ (c : CellConfig). c.id) live.2))
 
 not_other : (image : Image) (lives : List Live) (cell : CellConfig) (b : Bool) → eqb cell.id image.system.root.id ≡ b → Contains (all_cells image lives) cell → cond b (Some image.system.root) (live_in lives cell.id) ≡ None → ⊥
@@ -35,7 +35,7 @@ not_other image lives cell true is held e = none-some image.system.root (sym e)
 not_other image lives cell false is held e = ⊎_elim
     (λ (same : image.system.root ≡ cell). both_ways (eqb cell.id image.system.root.id) is (eq-eqb cell.id image.system.root.id (sym (ap (λ (c : CellConfig). c.id) same))))
     (λ (later : Contains (configs_of lives) cell). not_found lives cell later e)
-    (Contains-cases image.system.root (configs_of lives) cell held)
+    (Contains_cases image.system.root (configs_of lives) cell held)
 
 pub lives_on : (image : Image) (lives : List Live) (cell : CellConfig) → Contains (all_cells image lives) cell → cell_in image lives cell.id ≡ None → ⊥
 lives_on image lives cell held e = not_other image lives cell (eqb cell.id image.system.root.id) refl held e

@@ -27,21 +27,21 @@ on_board true o entry h = h
 on_board false o entry h = absurd (none-some entry h)
 
 -- what is due to a CPU is its own
-pub due-own : (image : Image) (before : List Entry) (cpu : ℕ) (entry : Entry) → due image before cpu ≡ Some entry → entry.cpu ≡ cpu
+pub due_own : (image : Image) (before : List Entry) (cpu : ℕ) (entry : Entry) → due image before cpu ≡ Some entry → entry.cpu ≡ cpu
 unfolding due_at
-due-own image before cpu entry h = by_cpu cpu _ entry _ (on_board (is_on_board image cpu) _ entry h)
+due_own image before cpu entry h = by_cpu cpu _ entry _ (on_board (is_on_board image cpu) _ entry h)
 
 abbrev entries : BoardView → List Entry
 entries board = board.entries
 
 -- it leaves the entries, or adds one of the CPU
-pub Takes-grows : (old : BoardView) (cpu : ℕ) (turn : RunTurn) (new : BoardView) → Takes old cpu turn new → Grows whose_entry cpu old.entries new.entries
-Takes-grows old cpu (Made entry) new h = inr (entry, due-own old.image old.entries cpu entry h.0, ap entries h.2)
-Takes-grows old cpu (Edited left) new h = absurd h
-Takes-grows old cpu NotNow new h = inl (ap entries h.2)
-Takes-grows old cpu Done new h = inl (ap entries h.1)
-Takes-grows old cpu (Halted Full) new h = inl (ap entries h.2)
-Takes-grows old cpu (Halted NoMemory) new h = inl (ap entries h)
+pub Takes_grows : (old : BoardView) (cpu : ℕ) (turn : RunTurn) (new : BoardView) → Takes old cpu turn new → Grows whose_entry cpu old.entries new.entries
+Takes_grows old cpu (Made entry) new h = inr (entry, due_own old.image old.entries cpu entry h.0, ap entries h.2)
+Takes_grows old cpu (Edited left) new h = absurd h
+Takes_grows old cpu NotNow new h = inl (ap entries h.2)
+Takes_grows old cpu Done new h = inl (ap entries h.1)
+Takes_grows old cpu (Halted Full) new h = inl (ap entries h.2)
+Takes_grows old cpu (Halted NoMemory) new h = inl (ap entries h)
 
 -- what a port has seen after the last answer
 pub done_tells : (origin : Origin) (cpu : ℕ) (before after : List Entry) → IsTurnAnswer origin cpu before after Done → ExplainsStop origin Quiet after

@@ -21,7 +21,7 @@ use Rattle.jh_shape.specs.Grants.{place_at, IsGranted, TellsGrants}
 use Rattle.jh_shape.proofs.WantLemmas.{LeafBy, found, leaf_parts}
 use Rattle.jh_shape.proofs.SteadyLemmas.{place_later}
 use Rattle.jh_num.proofs.Booleans.{same_test}
-use Rattle.jh_num.proofs.Lists.{is_none-find}
+use Rattle.jh_num.proofs.Lists.{is_none_find}
 
 -- two tests agree on a list where a third fails
 any_agree : {X : Type 0} (p q r : X → Bool) → ((x : X) → r x ≡ false → p x ≡ q x) → (xs : List X) → list_any r xs ≡ false → list_any p xs ≡ list_any q xs
@@ -252,7 +252,7 @@ table_level claims level start slot none met =
     (page_spanned x start (slot_size level) size slot.begins a.0 a.1)
     (or_left (level == 3) (may_be_block claims level start x) (eq-eqb level 3 last))) in
     let any : list_any p claims.regions ≡ true = list_any_at p claims.regions f.0 x f.2 (rw f.3 leaf) in
-    let absent : true ≡ not (list_any p claims.regions) = sym (ap (λ r. is_none r) none) ∙ is_none-find p claims.regions in
+    let absent : true ≡ not (list_any p claims.regions) = sym (ap (λ r. is_none r) none) ∙ is_none_find p claims.regions in
     absurd (both_ways (list_any p claims.regions) (not-true (list_any p claims.regions) (sym absent)) any))
     (λ other. let bound = slot.last in omega arith)
     (cases_eq level 3)

@@ -10,7 +10,7 @@ use Rattle.jh_cellcfg.specs.declared.fault.ConfigFault.{ConfigFault}
 use Rattle.jh_cellcfg.specs.declared.fault.ConfigFault.TheVariants.{Short, Signature, Revision}
 use Rattle.jh_cellcfg.specs.Faults.{fault_if, u16_at, body_fault}
 use Rattle.jh_cellcfg.specs.Spelling.{u16_bytes}
-use Rattle.jh_cellcfg.proofs.Fields.{IsBytes, IsBytes-take, IsBytes-drop}
+use Rattle.jh_cellcfg.proofs.Fields.{IsBytes, IsBytes_take, IsBytes_drop}
 use Rattle.jh_cellcfg.proofs.Found.{body_found, all_bytes, pointwise_same, rest_of, head_of, passed}
 use Rattle.jh_syscfg.specs.Layout.{platform_bytes, system_spelling, IsSystem, IsSystemWithinLimits}
 use Rattle.jh_syscfg.specs.SystemFaults.{system_start_fault, system_fault}
@@ -30,7 +30,7 @@ start_found bytes all long none =
     let last = head_of revised [] (rest_of signed (revised ∷ []) none) in
     let number : u16_at bytes 6 ≡ 13 = eqb-true (u16_at bytes 6) 13 (held (u16_at bytes 6 == 13) (Revision (u16_at bytes 6)) last) in
     let two = take 2 (drop 6 bytes) in
-    let small : IsBytes two = IsBytes-take 2 (drop 6 bytes) (IsBytes-drop 6 bytes all) in
+    let small : IsBytes two = IsBytes_take 2 (drop 6 bytes) (IsBytes_drop 6 bytes all) in
     let len : length two ≡ 2 = omega (arith, length-take 2 (drop 6 bytes), length-drop 6 bytes) in
     let revision : u16_bytes 13 ≡ two = le_bytes_2 two 13 len small (sym number) in
     let behind : drop 6 bytes ≡ u16_bytes 13 ++ drop 8 bytes
@@ -46,7 +46,7 @@ system_found bytes each none =
     let long = ltb-false (length bytes) 220 (passed (nat_lt (length bytes) 220) (Short 220) (head_of short (system_start_fault bytes ∷ body ∷ []) none)) in
     let later = rest_of short (system_start_fault bytes ∷ body ∷ []) none in
     let start = start_found bytes all (omega arith) (head_of (system_start_fault bytes) (body ∷ []) later) in
-    let t = platform_field.takes (drop 8 bytes) (IsBytes-drop 8 bytes all) (omega (arith, length-drop 8 bytes)) in
+    let t = platform_field.takes (drop 8 bytes) (IsBytes_drop 8 bytes all) (omega (arith, length-drop 8 bytes)) in
     let p = t.value in
     let rest_is : drop 96 bytes ≡ t.rest = sym (drop-drop 88 8 bytes) ∙ ap (drop 88) t.is ∙ behind_platform p t.rest t.fits in
     let len : length (drop 8 bytes) ≡ 88 + length t.rest = ap length t.is ∙ length-append (platform_bytes p) t.rest ∙ ap (λ (k : ℕ). k + length t.rest) (platform_field.len p t.fits) in

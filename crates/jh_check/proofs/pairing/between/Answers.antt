@@ -5,7 +5,7 @@ use Rattle.jh_cellcfg.specs.declared.config.CellConfig.{CellConfig}
 use Rattle.jh_check.specs.Private.Reaches.{IsOwn}
 use Rattle.jh_check.specs.Findings.{between, between_at, spot}
 use Rattle.std.proofs.lemmas.List.{get_or_default}
-use Rattle.jh_check.proofs.ListLemmas.{found-step, found-done}
+use Rattle.jh_check.proofs.ListLemmas.{found_step, found_done}
 use Rattle.jh_check.proofs.pairing.between.Goals as goal
 
 pub loop-r-init : goal.loop-r-init
@@ -22,11 +22,11 @@ loop-r-preserved c =
     let h : c.loop-r.r < length regions = rw v at t in
     let a = c.in_ok-visit.ensures in
     let e : capped c.visit.new.found ≡ capped (c.loop-r.found ++ found c.loop-r.r (get_or regions c.loop-r.r none)) = cc in
-    found-step found regions c.loop-r.r none c.loop-r.found c.visit.new.found _ h e c.loop-r.invariant
+    found_step found regions c.loop-r.r none c.loop-r.found c.visit.new.found _ h e c.loop-r.invariant
 
 pub returns : goal.returns
 returns c =
-    found-done (between_at c.args.rule c.args.pair.now.a c.args.pair.now.one.now c.args.pair.now.b c.args.pair.now.other.now) c.args.pair.now.one.now.memory_regions c.loop-r.r c.loop-r.found _ (rw c.as_slice-region-items.ensures.value at c.loop-r-test.false) c.loop-r.invariant
+    found_done (between_at c.args.rule c.args.pair.now.a c.args.pair.now.one.now c.args.pair.now.b c.args.pair.now.other.now) c.args.pair.now.one.now.memory_regions c.loop-r.r c.loop-r.found _ (rw c.as_slice-region-items.ensures.value at c.loop-r-test.false) c.loop-r.invariant
 
 own : (a : ℕ) (one : CellConfig) (r : ℕ) (d : Region) (b : ℕ) (other : CellConfig) → r < length one.memory_regions → (a ≡ b → one ≡ other) → IsOwn (spot a one r (get_or one.memory_regions r d)) b other
 own a one r d b other h same = λ e.

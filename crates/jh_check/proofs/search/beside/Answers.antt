@@ -3,8 +3,8 @@ use Rattle.jh_cellcfg.specs.declared.region.Region.{Region}
 use Rattle.jh_check.specs.Sites.{spot_of}
 use Rattle.jh_check.specs.Lists.{capped, found_from}
 use Rattle.jh_check.specs.Findings.{beside, beside_at}
-use Rattle.jh_check.proofs.ListLemmas.{append_nil, found-step}
-use Rattle.jh_check.proofs.ReachLemmas.{found-skip, found-rest, beside-outside}
+use Rattle.jh_check.proofs.ListLemmas.{append_nil, found_step}
+use Rattle.jh_check.proofs.ReachLemmas.{found_skip, found_rest, beside_outside}
 use Rattle.jh_check.proofs.search.beside.Goals as goal
 
 pub loop-s-init : goal.loop-s-init
@@ -15,8 +15,8 @@ loop-s-init c =
     let none : Region = record { phys_start = 0; virt_start = 0; size = 0; flags = 0 } in
     let v = c.as_slice-regions.ensures.value in
     let size : length other.memory_regions < 2 ^ 64 = let t = c.as_slice-regions.type_inv in rw (sym v) (omega arith) in
-    ap (λ xs. capped (c.args.found.now ++ xs)) (sym (found-skip (beside_at c.args.rule one c.args.b other) other.memory_regions c.args.window.first none (λ i within below.
-    beside-outside c.args.rule one c.args.b other c.args.window c.requires.hits i none within (omega arith) (λ is. absurd (let f = is.0 in omega arith)))))
+    ap (λ xs. capped (c.args.found.now ++ xs)) (sym (found_skip (beside_at c.args.rule one c.args.b other) other.memory_regions c.args.window.first none (λ i within below.
+    beside_outside c.args.rule one c.args.b other c.args.window c.requires.hits i none within (omega arith) (λ is. absurd (let f = is.0 in omega arith)))))
 
 pub loop-s-preserved : goal.loop-s-preserved
 loop-s-preserved c =
@@ -32,7 +32,7 @@ loop-s-preserved c =
     let b = c.pair_breaks-breaks.ensures in
     let f = c.finding.ensures in
     let e : capped c.put.new.found ≡ capped (c.loop-s.found ++ found c.loop-s.s (get_or regions c.loop-s.s none)) = cc in
-    found-step found regions c.loop-s.s none c.loop-s.found c.put.new.found _ h e c.loop-s.invariant
+    found_step found regions c.loop-s.s none c.loop-s.found c.put.new.found _ h e c.loop-s.invariant
 
 pub returns : goal.returns
 returns c =
@@ -47,7 +47,7 @@ returns c =
     let p = c.saturating_add.ensures in
     let m = c.min-s-end.ensures in
     let t = c.loop-s-test.false in
-    let rest : found_from found c.loop-s.s (drop c.loop-s.s regions) ≡ [] = found-rest found regions c.loop-s.s none (λ i within beyond.
-    beside-outside c.args.rule one c.args.b other c.args.window c.requires.hits i none within (omega arith) (λ is. absurd (let l = is.1 in omega arith)))
+    let rest : found_from found c.loop-s.s (drop c.loop-s.s regions) ≡ [] = found_rest found regions c.loop-s.s none (λ i within beyond.
+    beside_outside c.args.rule one c.args.b other c.args.window c.requires.hits i none within (omega arith) (λ is. absurd (let l = is.1 in omega arith)))
     in
     ap capped (sym (append_nil c.loop-s.found)) ∙ ap (λ xs. capped (c.loop-s.found ++ xs)) (sym rest) ∙ c.loop-s.invariant

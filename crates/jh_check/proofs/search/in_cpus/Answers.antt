@@ -2,7 +2,7 @@ use Rattle.std.proofs.Common.{◌≡◌, ◌<◌, ◌++◌, length, get_or, refl
 use Rattle.jh_check.specs.Cells.{cells_of}
 use Rattle.jh_check.specs.Lists.{capped}
 use Rattle.jh_check.specs.Findings.{in_cpus, in_cpus_at}
-use Rattle.jh_check.proofs.ListLemmas.{found-step, found-done}
+use Rattle.jh_check.proofs.ListLemmas.{found_step, found_done}
 use Rattle.jh_check.proofs.search.in_cpus.Goals as goal
 
 pub loop-a-init : goal.loop-a-init
@@ -20,8 +20,8 @@ loop-a-preserved c =
     let h : c.loop-a.a < length all = omega arith in
     let a = c.in_ok-put.ensures in
     let e : capped c.put.new.found ≡ capped (c.loop-a.found ++ found c.loop-a.a (get_or all c.loop-a.a c.cell.result.now)) = cc in
-    found-step found all c.loop-a.a c.cell.result.now c.loop-a.found c.put.new.found _ h e c.loop-a.invariant
+    found_step found all c.loop-a.a c.cell.result.now c.loop-a.found c.put.new.found _ h e c.loop-a.invariant
 
 pub returns : goal.returns
 returns c =
-    found-done (in_cpus_at) (cells_of c.args.setup.now) c.loop-a.a c.loop-a.found _ (omega arith) c.loop-a.invariant
+    found_done (in_cpus_at) (cells_of c.args.setup.now) c.loop-a.a c.loop-a.found _ (omega arith) c.loop-a.invariant

@@ -3,7 +3,7 @@ use Rattle.jh_cellcfg.specs.declared.config.PciDevice.{PciDevice}
 use Rattle.jh_check.specs.Cells.{cells_of}
 use Rattle.jh_check.specs.Lists.{capped}
 use Rattle.jh_check.specs.Findings.{in_devices_of, device_at}
-use Rattle.jh_check.proofs.ListLemmas.{found-step, found-done}
+use Rattle.jh_check.proofs.ListLemmas.{found_step, found_done}
 use Rattle.jh_check.proofs.search.in_devices_of.Goals as goal
 
 pub loop-n-init : goal.loop-n-init
@@ -39,11 +39,11 @@ loop-n-preserved c =
     let b = c.device_breaks-breaks.ensures in
     let f = c.finding.ensures in
     let e : capped c.put.new.found ≡ capped (c.loop-n.found ++ found c.loop-n.n (get_or regions c.loop-n.n none)) = cc in
-    found-step found regions c.loop-n.n none c.loop-n.found c.put.new.found _ h e c.loop-n.invariant
+    found_step found regions c.loop-n.n none c.loop-n.found c.put.new.found _ h e c.loop-n.invariant
 
 pub returns : goal.returns
 returns c =
-    found-done (device_at (take c.args.a (cells_of c.args.setup.now)) c.args.a c.args.cell.now) c.args.cell.now.pci_devices c.loop-n.n c.loop-n.found _ (rw c.as_slice-devices.ensures.value at c.loop-n-test.false) c.loop-n.invariant
+    found_done (device_at (take c.args.a (cells_of c.args.setup.now)) c.args.a c.args.cell.now) c.args.cell.now.pci_devices c.loop-n.n c.loop-n.found _ (rw c.as_slice-devices.ensures.value at c.loop-n-test.false) c.loop-n.invariant
 
 pub device_breaks-breaks-requires-clause-doubted : goal.device_breaks-breaks-requires-clause-doubted
 device_breaks-breaks-requires-clause-doubted c = c.may_differ-doubted.ensures
