@@ -1,7 +1,7 @@
 //! The sections of a device, and a finding. What else is found, and what a new cell is refused for, the rows show.
 
-use jh_check::{check, sections_of};
 use jh_cellcfg::{CellConfig, PciDevice, Region, SystemConfig};
+use jh_check::{check, sections_of};
 use jh_num::{NoMemory, Seq};
 use std::alloc::Global;
 use std::test::Fail;

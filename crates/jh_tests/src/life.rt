@@ -1,8 +1,8 @@
 //! A cell that comes and goes. Each cause of a refusal, alone and beside the others, and a board of 15 cells are
 //! shown by the rows.
 
-use jh_life::{Cells, MOST_CELLS};
 use jh_cellcfg::{CellConfig, Region, SystemConfig};
+use jh_life::{Cells, MOST_CELLS};
 use jh_num::{NoMemory, Seq};
 use std::alloc::Global;
 use std::test::Fail;

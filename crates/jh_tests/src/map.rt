@@ -1,7 +1,7 @@
 //! Maps of small cells.
 
-use jh_map::{Run, map_of};
 use jh_cellcfg::Region;
+use jh_map::{Run, map_of};
 use jh_num::{ByteSet, NoMemory, Range, Rights};
 use std::alloc::Global;
 use std::process::Abort;

@@ -1,8 +1,8 @@
 //! Accesses of each width at each side of each border, by the plain form and by the index.
 ghost use Rattle.std.specs.Prelude.{◌≡◌};
 
-use jh_mmio::{Hitting, RegionIndex, Window, dispatch};
 use jh_cellcfg::Region;
+use jh_mmio::{Hitting, RegionIndex, Window, dispatch};
 use jh_num::{ByteSet, NoMemory, Range};
 use std::alloc::Global;
 use std::process::Abort;

@@ -2,11 +2,11 @@
 ghost use Rattle.std.specs.Prelude.{IfOk};
 ghost use Rattle.jh_history.specs.Admitted.{IsAdmitted};
 
-use jh_run::{Ended, follow, play, run};
 use jh_cellcfg::{CellConfig, Region, SystemConfig};
 use jh_history::{Act, Entry, Journal, admit, due, is_on_board, quiet};
 use jh_num::{NoMemory, Seq};
 use jh_outside::{Gate, NoGate};
+use jh_run::{Ended, follow, play, run};
 use jh_script::{Image, Op, Program};
 use std::alloc::Global;
 use std::process::Abort;

@@ -2,9 +2,9 @@
 ghost use Rattle.std.specs.Prelude.{◌≡◌, ◌≤◌, length, IfOk};
 ghost use Rattle.jh_shape.specs.Suits.{IsSlot};
 
-use jh_shape::{Target, Want};
 use jh_cellcfg::{CellConfig, Region};
 use jh_num::{Rights, Seq};
+use jh_shape::{Target, Want};
 use std::alloc::{AllocError, Global};
 use std::test::Fail;
 

@@ -2,9 +2,9 @@
 ghost use Rattle.std.specs.Prelude.{◌≡◌, ◌+◌, ◌%◌, ◌<◌, ◌≤◌, length};
 ghost use Rattle.jh_num.specs.declared.address.TheConstants.{ADDRESS_END};
 
-use jh_walk::{Hit, walk};
 use jh_frames::Frames;
 use jh_num::{Probe, Rights, Steps};
+use jh_walk::{Hit, walk};
 use std::test::Fail;
 
 const FIRST: u64 = 0x7fc0_0000;
