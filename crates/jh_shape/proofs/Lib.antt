@@ -7,4 +7,3 @@ pub mod OrderLemmas
 pub mod GrantLemmas
 pub mod LawLemmas
 pub mod MarkLemmas
-pub mod PageLemmas
