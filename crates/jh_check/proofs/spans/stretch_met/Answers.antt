@@ -2,7 +2,7 @@ use Rattle.std.proofs.Common.{nat_lt, leb, arith, rules}
 use Rattle.std.proofs.lemmas.List.Sorted.{IsPartitionPoint-from_clause}
 use Rattle.jh_check.specs.declared.spans.Span.{Span}
 use Rattle.jh_check.proofs.SpanLemmas.{apart_parted, apart_ended, met_within}
-use Rattle.jh_check.proofs.spans.met_by.Goals as goal
+use Rattle.jh_check.proofs.spans.stretch_met.Goals as goal
 
 pub returns-clause-each : goal.returns-clause-each
 returns-clause-each c =
