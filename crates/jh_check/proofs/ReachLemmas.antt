@@ -1,5 +1,5 @@
 -- How far spans reach, one span after the other, and what is told by it.
-use Rattle.std.proofs.Common.{◌≡◌, ◌≢◌, ℕ, zero, suc, ◌+◌, ◌^◌, leb, take, drop, length-drop, ◌-◌, ◌<◌, ◌≤◌, Bool, true, false, ◌&&◌, not, ◌==◌, nat_lt, List, [], ◌∷◌, ◌++◌, length, get_or, refl, sym, ap, subst, ◌∙◌, inl, inr, arith}
+use Rattle.std.proofs.Common.{◌≡◌, ◌≢◌, ℕ, zero, suc, ◌+◌, ◌^◌, leb, take, drop, length-drop, ◌-◌, ◌<◌, ◌≤◌, Bool, true, false, ◌&&◌, not, ◌==◌, nat_lt, if◌then◌else◌, List, [], ◌∷◌, ◌++◌, length, get_or, refl, sym, ap, subst, ◌∙◌, inl, inr, arith}
 use Rattle.std.specs.List.{Contains, AllWithin}
 use Rattle.std.specs.List.Sorted.{IsNonDecreasingBy}
 use Rattle.std.proofs.lemmas.Bool.{false≢true, cases_Bool, ltb-true, ltb-false, leb-true, cases_eq, cases_lt, cases_order}
@@ -18,10 +18,10 @@ use Rattle.jh_check.specs.Regions.{Spot, pair_breaks, share_places, takes_pages,
 use Rattle.jh_check.specs.Devices.{are_same_section}
 use Rattle.jh_check.specs.Spans.{takes_part, span_of, is_within}
 use Rattle.jh_check.specs.Lists.{capped, found_from, only_if}
-use Rattle.jh_check.specs.Findings.{spot, beside, beside_at, finding_of}
-use Rattle.jh_check.specs.Private.Reaches.{passes_shared, may_follow, reaches_for, HasOthers, InOrder, IsRising, IsReached, TellsEach, TellsPairs, IsOwn, TellsOthers, AreOf, IsIn, HasHits}
+use Rattle.jh_check.specs.Findings.{spot, beside, beside_at, between, between_at, finding_of}
+use Rattle.jh_check.specs.Private.Reaches.{passes_shared, may_follow, reaches_for, HasOthers, InOrder, IsRising, IsReached, TellsEach, TellsPairs, IsOwn, TellsOthers, AreOf, IsIn, HasHits, IsInside, IsExtent}
 use Rattle.jh_check.proofs.BoolLemmas.{false_from_not, not_both, and_left, and_right, and_both}
-use Rattle.jh_check.proofs.ListLemmas.{append_nil, found_drop, found_end, found_none}
+use Rattle.jh_check.proofs.ListLemmas.{append_nil, found_drop, found_end, found_none, found_none0}
 use Rattle.jh_check.proofs.BreakLemmas.{pair_order, pair_joins, pair_takes_part, pair_second, pair_meets, beside_none, joins_same, two_parts, pages_parts, overlap_second, meet_swap}
 
 -- ---- one span after the other
@@ -400,3 +400,36 @@ before_unreached reaches span rising before reached =
     let c : x.end ≤ (get_or reaches (length reaches - 1) x).end = subst (λ (r : Reach). r.end ≤ (get_or reaches (length reaches - 1) x).end) reached.is.2 a in
     let d = reached.ends in
     omega arith
+
+-- ---- regions that lie all beyond what others reach
+
+-- a region of the one cell is of the other where these are one
+pub own_spot : (a : ℕ) (one : CellConfig) (r : ℕ) (d : Region) (b : ℕ) (other : CellConfig) → r < length one.memory_regions → (a ≡ b → one ≡ other) → IsOwn (spot a one r (get_or one.memory_regions r d)) b other
+own_spot a one r d b other h same = λ e.
+    let x = get_or one.memory_regions r d in
+    let P : CellConfig → Type 0 = λ c. (r < length c.memory_regions) × (x ≡ get_or c.memory_regions r x) in
+    subst P (same e) (h, get_or_default one.memory_regions r d x h)
+
+-- what a span is reached by reaches into what has the span
+wider : (reaches : List Reach) (span extent : Span) → IsInside span extent → IsReached reaches span → IsReached reaches extent
+wider reaches span extent inside reached =
+    let low = inside.starts in
+    let high = inside.ends in
+    let a = reached.begins in
+    let b = reached.ends in
+    record { by = reached.by; is = reached.is; begins = omega arith; ends = omega arith }
+
+beyond_by : (b : Bool) (reaches : Reaches) (span extent : Span) → IsInside span extent → (IsReached reaches.any.items extent → ⊥) → (IsReached reaches.unshared.items extent → ⊥) → IsReached (if b then reaches.unshared.items else reaches.any.items) span → ⊥
+beyond_by true reaches span extent inside any unshared reached = unshared (wider reaches.unshared.items span extent inside reached)
+beyond_by false reaches span extent inside any unshared reached = any (wider reaches.any.items span extent inside reached)
+
+pub between_beyond : (rule : Rule) (a : ℕ) (one : CellConfig) (b : ℕ) (other : CellConfig) (reaches : Reaches) (extent : Span) → AreOf rule b other reaches → (a ≡ b → one ≡ other) → IsExtent rule one.memory_regions extent → (IsReached reaches.any.items extent → ⊥) → (IsReached reaches.unshared.items extent → ⊥) → between rule a one b other ≡ []
+unfolding between
+between_beyond rule a one b other reaches extent of same wide any unshared =
+    let none : Region = record { phys_start = 0; virt_start = 0; size = 0; flags = 0 } in
+    found_none0 (between_at rule a one b other) one.memory_regions none (λ r h.
+    let x = get_or one.memory_regions r none in
+    elim (cases_Bool (takes_part rule x)) [
+      | inl takes ↦ beside_unreached rule (spot a one r x) b other reaches of (own_spot a one r none b other h same) (λ reached. beyond_by (passes_shared rule x) reaches (span_of rule r x) extent (wide r none h h takes) any unshared reached)
+      | inr aside ↦ beside_apart rule (spot a one r x) b other aside
+    ])

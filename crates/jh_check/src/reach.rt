@@ -2,11 +2,11 @@
 ghost use Rattle.std.specs.Prelude.{◌≡◌, ◌≢◌, ◌<◌, ◌≤◌, ◌^◌, ℕ, true, false, length, OnOk, IfOk, Contains};
 ghost use Rattle.jh_check.specs.declared.spans.Span.{Span};
 ghost use Rattle.jh_check.specs.declared.reach.Reach.{Reach};
-ghost use Rattle.jh_check.specs.Spans.{is_within, span_of};
-ghost use Rattle.jh_check.specs.Private.Reaches.{passes_shared, may_follow, reaches_for, HasOthers, InOrder, IsRising, IsReached, TellsEach, TellsPairs, TellsOthers, AreOf, IsIn};
+ghost use Rattle.jh_check.specs.Spans.{is_within, span_of, takes_part};
+ghost use Rattle.jh_check.specs.Private.Reaches.{passes_shared, may_follow, reaches_for, HasOthers, InOrder, IsRising, IsReached, TellsEach, TellsPairs, TellsOthers, AreOf, IsIn, IsInside, IsExtent};
 
 use crate::rule::Rule;
-use crate::spans::{Span, are_apart, span_of};
+use crate::spans::{Span, are_apart, span_of, takes_part};
 use jh_cellcfg::{CellConfig, Region, RegionFlags};
 use jh_num::NoMemory;
 use std::alloc::Global;
@@ -198,6 +198,49 @@ pub(crate) fn measure(
     let any = of_cell(alloc, rule, false, b, cell)?;
     let unshared = of_unshared(alloc, rule, b, cell)?;
     Ok(Reaches { any, unshared })
+}
+
+/// The extent, made so wide that it has the region, where that takes part.
+fn widened(extent: Span, rule: Rule, item: usize, region: &Region) -> Span
+    ensures start { result.start ≤ extent.start }
+    ensures end { extent.end ≤ result.end }
+    ensures own { takes_part rule region.now ≡ true → IsInside (span_of rule item region.now) result }
+{
+    if !takes_part(rule, region) {
+        return extent;
+    }
+    let span = span_of(rule, item, region);
+    Span {
+        start: span.start.min(extent.start),
+        end: span.end.max(extent.end),
+        item,
+    }
+}
+
+/// What has all regions that take part: from the least of their starts to the farthest of their ends.
+pub(crate) fn extent_of(rule: Rule, regions: &[Region]) -> Span
+    ensures { IsExtent rule regions.now result }
+{
+    let mut extent = Span {
+        start: u64::MAX,
+        end: 0,
+        item: 0,
+    };
+    for (item, region) in regions.iter().enumerate() {
+        extent = widened(extent, rule, item, region);
+    }
+    extent
+}
+
+/// Whether one of those may reach into the extent; only then may a region within it break the rule with one of them.
+pub(crate) fn may_reach_into(reaches: &Reaches, extent: Span) -> bool
+    requires any { IsRising reaches.now.any.items }
+    requires unshared { IsRising reaches.now.unshared.items }
+    ensures any { result ≡ false → IsReached reaches.now.any.items extent → ⊥ }
+    ensures unshared { result ≡ false → IsReached reaches.now.unshared.items extent → ⊥ }
+{
+    let any = may_reach(reaches.any.as_slice(), extent);
+    any || may_reach(reaches.unshared.as_slice(), extent)
 }
 
 /// Whether all begin behind the span, or end before it.

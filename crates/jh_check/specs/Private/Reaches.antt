@@ -11,7 +11,7 @@ use Rattle.jh_check.specs.declared.reach.Reach.{Reach}
 use Rattle.jh_check.specs.declared.reach.Reaches.{Reaches}
 use Rattle.jh_check.specs.declared.reach.Window.{Window}
 use Rattle.jh_check.specs.Regions.{Spot, pair_breaks}
-use Rattle.jh_check.specs.Spans.{span_of, spans_meet, is_within}
+use Rattle.jh_check.specs.Spans.{takes_part, span_of, spans_meet, is_within}
 use Rattle.jh_check.specs.Findings.{spot}
 
 -- the rule lets the region meet those that are shared
@@ -72,6 +72,20 @@ TellsOthers rule pass b other reaches =
 -- those by which the region is looked for
 abbrev pub reaches_for : Rule → Region → Reaches → List Reach
 reaches_for rule region reaches = if passes_shared rule region then reaches.unshared.items else reaches.any.items
+
+-- the one is within the other
+pub record IsInside (span extent : Span) : Type 0 where
+  pub starts : extent.start ≤ span.start
+  pub ends : span.end ≤ extent.end
+
+-- each of the first regions that takes part is within it, and each of all
+abbrev pub IsExtentTo : Rule → List Region → ℕ → Span → Type 0
+IsExtentTo rule regions n extent =
+    (r : ℕ) (d : Region) → r < n → r < length regions → takes_part rule (slice_index_or regions r d) ≡ true
+    → IsInside (span_of rule r (slice_index_or regions r d)) extent
+
+abbrev pub IsExtent : Rule → List Region → Span → Type 0
+IsExtent rule regions extent = IsExtentTo rule regions (length regions) extent
 
 -- they tell of the cell, which has that number
 pub record AreOf (rule : Rule) (b : ℕ) (other : CellConfig) (reaches : Reaches) : Type 0 where

@@ -6,6 +6,7 @@ use Rattle.jh_check.specs.Private.Reaches.{IsOwn}
 use Rattle.jh_check.specs.Findings.{between, between_at, spot}
 use Rattle.std.proofs.lemmas.List.{get_or_default}
 use Rattle.jh_check.proofs.ListLemmas.{found_step, found_done}
+use Rattle.jh_check.proofs.ReachLemmas.{own_spot}
 use Rattle.jh_check.proofs.pairing.between.Goals as goal
 
 pub loop-r-init : goal.loop-r-init
@@ -28,17 +29,11 @@ pub returns : goal.returns
 returns c =
     found_done (between_at c.args.rule c.args.pair.now.a c.args.pair.now.one.now c.args.pair.now.b c.args.pair.now.other.now) c.args.pair.now.one.now.memory_regions c.loop-r.r c.loop-r.found _ (rw c.as_slice-region-items.ensures.value at c.loop-r-test.false) c.loop-r.invariant
 
-own : (a : ℕ) (one : CellConfig) (r : ℕ) (d : Region) (b : ℕ) (other : CellConfig) → r < length one.memory_regions → (a ≡ b → one ≡ other) → IsOwn (spot a one r (get_or one.memory_regions r d)) b other
-own a one r d b other h same = λ e.
-    let x = get_or one.memory_regions r d in
-    let P : CellConfig → Type 0 = λ c. (r < length c.memory_regions) × (x ≡ get_or c.memory_regions r x) in
-    subst P (same e) (h, get_or_default one.memory_regions r d x h)
-
 pub visit-requires-clause-own : goal.visit-requires-clause-own
 visit-requires-clause-own c =
     let none : Region = record { phys_start = 0; virt_start = 0; size = 0; flags = 0 } in
     let v = c.as_slice-region-items.ensures.value in
     let t = c.loop-r-test.true in
     let h : c.loop-r.r < length c.args.pair.now.one.now.memory_regions = rw v at t in
-    let k = own c.args.pair.now.a c.args.pair.now.one.now c.loop-r.r none c.args.pair.now.b c.args.pair.now.other.now h c.requires.same in
+    let k = own_spot c.args.pair.now.a c.args.pair.now.one.now c.loop-r.r none c.args.pair.now.b c.args.pair.now.other.now h c.requires.same in
     rw v k
