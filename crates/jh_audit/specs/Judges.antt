@@ -9,10 +9,6 @@ use Rattle.jh_audit.specs.declared.compared.Compared.TheVariants.{Same, Differs}
 use Rattle.jh_audit.specs.declared.verdict.Verdict.{Verdict}
 use Rattle.jh_audit.specs.declared.verdict.Verdict.TheVariants.{Legal, Illegal}
 
--- the most entries of a journal that is audited
-abbrev pub most_entries : ℕ
-most_entries = 262144
-
 -- the entry in this line, counted from 1, is the first that isn't the one due to its CPU, and this is what was
 pub record IsFirstIllegal (image : Image) (entries : List Entry) (line : ℕ) (expected : Option Entry) : Type 0 where
   pub before : List Entry

@@ -2,7 +2,8 @@
 ghost use Rattle.std.specs.Prelude.{◌≡◌, ◌<◌, ◌≤◌, ◌↔◌, [], length, Some, IfOk, IsTrue};
 ghost use Rattle.jh_history.specs.Admitted.{IsAdmitted};
 ghost use Rattle.jh_board.specs.Turns.{MakesDue};
-ghost use Rattle.jh_audit.specs.Judges.{Judges, Compares, most_entries};
+ghost use Rattle.jh_text.specs.Faults.{max_entries};
+ghost use Rattle.jh_audit.specs.Judges.{Judges, Compares};
 
 use crate::compared::Compared;
 use crate::verdict::Verdict;
@@ -10,10 +11,11 @@ use jh_board::{Board, TurnFault};
 use jh_history::{Act, Entry, Journal};
 use jh_num::NoMemory;
 use jh_script::Image;
+use jh_text::MAX_ENTRIES;
 use std::alloc::Global;
 
 /// How many entries a journal may have that is audited.
-pub const AUDIT_LIMIT: u32 = 262_144;
+pub const AUDIT_LIMIT: u32 = MAX_ENTRIES as u32;
 
 /// Makes what is due to the entry's CPU, and tells it. A CPU that the board lacks makes nothing.
 fn try_entry(board: &mut Board, entry: &Entry) -> Result<Option<Entry>, NoMemory>
@@ -59,6 +61,7 @@ fn compare(board: &mut Board, entry: &Entry) -> Result<Compared, NoMemory>
     requires { length board.old.entries < board.old.limit }
     ensures { IfOk result (λ compared. Compares board.old entry.now compared board.new) }
 {
+    // for the proof: the entries so far are legal
     let _ = board.journal();
     let expected = try_entry(board, entry)?;
     if is_due(expected, entry) {
@@ -72,6 +75,7 @@ fn compare(board: &mut Board, entry: &Entry) -> Result<Compared, NoMemory>
 fn whole_verdict(board: &Board) -> Verdict
     ensures { Judges board.now.image board.now.entries result }
 {
+    // for the proof: the entries so far are legal
     let _ = board.journal();
     Verdict::Legal {
         quiet: board.is_quiet(),
@@ -100,7 +104,7 @@ fn judge_entries(board: &mut Board, entries: &[Entry]) -> Result<Verdict, NoMemo
 /// Judges the journal by the image.
 pub fn audit(alloc: Global, image: Image, journal: &Journal) -> Result<Verdict, NoMemory>
     requires admitted { IsAdmitted image }
-    requires few { length journal.now.entries ≤ most_entries }
+    requires few { length journal.now.entries ≤ max_entries }
     // legal exactly where each entry is the one due; else the first that isn't, and what was due there
     ensures { IfOk result (Judges image journal.now.entries) }
 {

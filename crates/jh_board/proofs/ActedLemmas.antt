@@ -41,22 +41,22 @@ write_acted image f cell width at value true found is =
 write_acted image f cell width at value false found is = refl
 
 -- the bytes after what the act writes itself
-pub bytes-acted : (image : Image) (f : Facts) (cell : ℕ) (act : Act) (found : Reach) → IsReachOfAct image f cell act found
+pub bytes_acted : (image : Image) (f : Facts) (cell : ℕ) (act : Act) (found : Reach) → IsReachOfAct image f cell act found
     → byte_written image f cell act ≡ with_slot_if (slot_after (devices_of image f cell) act found) (memory_after f.byte act found)
-bytes-acted image f cell (Read width at got) found is = refl
-bytes-acted image f cell (Write width at value ok) found is = write_acted image f cell width at value ok found is
-bytes-acted image f cell (Fetch at got) found is = refl
-bytes-acted image f cell (Await width at value ok) found is = refl
-bytes-acted image f cell (Irq device vector) found is = refl
-bytes-acted image f cell (Hvc code a b answer) found is = refl
-bytes-acted image f cell (Begin code a b) found is = refl
-bytes-acted image f cell Stop found is = refl
-bytes-acted image f cell (Decide refused) found is = refl
-bytes-acted image f cell (Settle how) found is = refl
-bytes-acted image f cell Commit found is = refl
-bytes-acted image f cell (Note id) found is = refl
-bytes-acted image f cell (Noted id how) found is = refl
-bytes-acted image f cell (Finish answer) found is = refl
+bytes_acted image f cell (Read width at got) found is = refl
+bytes_acted image f cell (Write width at value ok) found is = write_acted image f cell width at value ok found is
+bytes_acted image f cell (Fetch at got) found is = refl
+bytes_acted image f cell (Await width at value ok) found is = refl
+bytes_acted image f cell (Irq device vector) found is = refl
+bytes_acted image f cell (Hvc code a b answer) found is = refl
+bytes_acted image f cell (Begin code a b) found is = refl
+bytes_acted image f cell Stop found is = refl
+bytes_acted image f cell (Decide refused) found is = refl
+bytes_acted image f cell (Settle how) found is = refl
+bytes_acted image f cell Commit found is = refl
+bytes_acted image f cell (Note id) found is = refl
+bytes_acted image f cell (Noted id how) found is = refl
+bytes_acted image f cell (Finish answer) found is = refl
 
 -- ---- devices
 
@@ -66,22 +66,22 @@ devices_written image f cell width at value true found is = ap (λ (r : Reach). 
 devices_written image f cell width at value false found is = refl
 
 -- the endpoints after what the act does to them itself
-pub devices-acted : (image : Image) (f : Facts) (cell : ℕ) (act : Act) (found : Reach) → IsReachOfAct image f cell act found → IsNextOf cell f.endpoints act
+pub devices_acted : (image : Image) (f : Facts) (cell : ℕ) (act : Act) (found : Reach) → IsReachOfAct image f cell act found → IsNextOf cell f.endpoints act
     → endpoints_acted image f cell act ≡ endpoints_acted_by (devices_of image f cell) act found
-devices-acted image f cell (Read width at got) found is next = refl
-devices-acted image f cell (Write width at value ok) found is next = devices_written image f cell width at value ok found is
-devices-acted image f cell (Fetch at got) found is next = refl
-devices-acted image f cell (Await width at value ok) found is next = refl
-devices-acted image f cell (Irq device vector) found is next = ap (λ (o : Option (ℕ × ℕ)). taken_of cell o f.endpoints) (sym next)
-devices-acted image f cell (Hvc code a b answer) found is next = refl
-devices-acted image f cell (Begin code a b) found is next = refl
-devices-acted image f cell Stop found is next = refl
-devices-acted image f cell (Decide refused) found is next = refl
-devices-acted image f cell (Settle how) found is next = refl
-devices-acted image f cell Commit found is next = refl
-devices-acted image f cell (Note id) found is next = refl
-devices-acted image f cell (Noted id how) found is next = refl
-devices-acted image f cell (Finish answer) found is next = refl
+devices_acted image f cell (Read width at got) found is next = refl
+devices_acted image f cell (Write width at value ok) found is next = devices_written image f cell width at value ok found is
+devices_acted image f cell (Fetch at got) found is next = refl
+devices_acted image f cell (Await width at value ok) found is next = refl
+devices_acted image f cell (Irq device vector) found is next = ap (λ (o : Option (ℕ × ℕ)). taken_of cell o f.endpoints) (sym next)
+devices_acted image f cell (Hvc code a b answer) found is next = refl
+devices_acted image f cell (Begin code a b) found is next = refl
+devices_acted image f cell Stop found is next = refl
+devices_acted image f cell (Decide refused) found is next = refl
+devices_acted image f cell (Settle how) found is next = refl
+devices_acted image f cell Commit found is next = refl
+devices_acted image f cell (Note id) found is next = refl
+devices_acted image f cell (Noted id how) found is next = refl
+devices_acted image f cell (Finish answer) found is next = refl
 
 -- ---- the word that a write writes
 
@@ -90,47 +90,47 @@ word_written P devices width at value true found h = h
 word_written P devices width at value false found h = tt
 
 -- what each word has that a write writes
-pub word-acted : (P : Slot → Type 0) (devices : Devices) (act : Act) (found : Reach) → ((value : ℕ) → IfSome (slot_of_reach devices found value) P) → IfSome (slot_after devices act found) P
-word-acted P devices (Read width at got) found h = tt
-word-acted P devices (Write width at value ok) found h = word_written P devices width at value ok found (h value)
-word-acted P devices (Fetch at got) found h = tt
-word-acted P devices (Await width at value ok) found h = tt
-word-acted P devices (Irq device vector) found h = tt
-word-acted P devices (Hvc code a b answer) found h = tt
-word-acted P devices (Begin code a b) found h = tt
-word-acted P devices Stop found h = tt
-word-acted P devices (Decide refused) found h = tt
-word-acted P devices (Settle how) found h = tt
-word-acted P devices Commit found h = tt
-word-acted P devices (Note id) found h = tt
-word-acted P devices (Noted id how) found h = tt
-word-acted P devices (Finish answer) found h = tt
+pub word_acted : (P : Slot → Type 0) (devices : Devices) (act : Act) (found : Reach) → ((value : ℕ) → IfSome (slot_of_reach devices found value) P) → IfSome (slot_after devices act found) P
+word_acted P devices (Read width at got) found h = tt
+word_acted P devices (Write width at value ok) found h = word_written P devices width at value ok found (h value)
+word_acted P devices (Fetch at got) found h = tt
+word_acted P devices (Await width at value ok) found h = tt
+word_acted P devices (Irq device vector) found h = tt
+word_acted P devices (Hvc code a b answer) found h = tt
+word_acted P devices (Begin code a b) found h = tt
+word_acted P devices Stop found h = tt
+word_acted P devices (Decide refused) found h = tt
+word_acted P devices (Settle how) found h = tt
+word_acted P devices Commit found h = tt
+word_acted P devices (Note id) found h = tt
+word_acted P devices (Noted id how) found h = tt
+word_acted P devices (Finish answer) found h = tt
 
 -- ---- any other act
 
 -- neither a word of a state table nor an endpoint changes by an act that is neither a write nor an interrupt
-pub other-acts : (devices : Devices) (act : Act) (found : Reach) → ((width at value : ℕ) (ok : Bool) → act ≡ Write width at value ok → ⊥) → ((device vector : ℕ) → act ≡ Irq device vector → ⊥)
+pub other_acts : (devices : Devices) (act : Act) (found : Reach) → ((width at value : ℕ) (ok : Bool) → act ≡ Write width at value ok → ⊥) → ((device vector : ℕ) → act ≡ Irq device vector → ⊥)
     → (slot_after devices act found ≡ None) × (endpoints_acted_by devices act found ≡ devices.endpoints)
-other-acts devices (Read width at got) found write irq = (refl, refl)
-other-acts devices (Write width at value ok) found write irq = absurd (write width at value ok refl)
-other-acts devices (Fetch at got) found write irq = (refl, refl)
-other-acts devices (Await width at value ok) found write irq = (refl, refl)
-other-acts devices (Irq device vector) found write irq = absurd (irq device vector refl)
-other-acts devices (Hvc code a b answer) found write irq = (refl, refl)
-other-acts devices (Begin code a b) found write irq = (refl, refl)
-other-acts devices Stop found write irq = (refl, refl)
-other-acts devices (Decide refused) found write irq = (refl, refl)
-other-acts devices (Settle how) found write irq = (refl, refl)
-other-acts devices Commit found write irq = (refl, refl)
-other-acts devices (Note id) found write irq = (refl, refl)
-other-acts devices (Noted id how) found write irq = (refl, refl)
-other-acts devices (Finish answer) found write irq = (refl, refl)
+other_acts devices (Read width at got) found write irq = (refl, refl)
+other_acts devices (Write width at value ok) found write irq = absurd (write width at value ok refl)
+other_acts devices (Fetch at got) found write irq = (refl, refl)
+other_acts devices (Await width at value ok) found write irq = (refl, refl)
+other_acts devices (Irq device vector) found write irq = absurd (irq device vector refl)
+other_acts devices (Hvc code a b answer) found write irq = (refl, refl)
+other_acts devices (Begin code a b) found write irq = (refl, refl)
+other_acts devices Stop found write irq = (refl, refl)
+other_acts devices (Decide refused) found write irq = (refl, refl)
+other_acts devices (Settle how) found write irq = (refl, refl)
+other_acts devices Commit found write irq = (refl, refl)
+other_acts devices (Note id) found write irq = (refl, refl)
+other_acts devices (Noted id how) found write irq = (refl, refl)
+other_acts devices (Finish answer) found write irq = (refl, refl)
 
 -- ---- an entry
 
 -- the bytes after the steps of an entry: what its act writes to memory, a word that it writes to a state table, the words
 -- of the devices that it changes, and what the hypervisor writes
-pub entry-bytes : (image : Image) (f : Facts) (entry : Entry) (found : Reach) (devices : Devices) (write : Option PageWrite) (old acted written changed new : Place → ℕ) → IsReachOfEntry image f entry found
+pub entry_bytes : (image : Image) (f : Facts) (entry : Entry) (found : Reach) (devices : Devices) (write : Option PageWrite) (old acted written changed new : Place → ℕ) → IsReachOfEntry image f entry found
     → devices ≡ devices_of image f entry.cell → write ≡ page_write_by image f entry entry.act
     → ((q : Place) → old q ≡ f.byte q)
     → ((q : Place) → acted q ≡ memory_after old entry.act found q)
@@ -138,7 +138,7 @@ pub entry-bytes : (image : Image) (f : Facts) (entry : Entry) (found : Reach) (d
     → ((q : Place) → changed q ≡ with_words (specs_changing f entry.act) written q)
     → ((q : Place) → new q ≡ with_page_write write changed q)
     → (q : Place) → new q ≡ byte_after image f entry q
-entry-bytes image f entry found devices write old acted written changed new reached same is first second third fourth fifth q =
+entry_bytes image f entry found devices write old acted written changed new reached same is first second third fourth fifth q =
     let act = entry.act in
     let before : old ≡ f.byte = same_function old f.byte first in
     let memory : acted ≡ memory_after f.byte act found = same_function acted (memory_after old act found) second ∙ ap (λ (byte : Place → ℕ). memory_after byte act found) before in
@@ -146,7 +146,7 @@ entry-bytes image f entry found devices write old acted written changed new reac
     same_function written (with_slot_if (slot_after devices act found) acted) third
     ∙ ap (λ (d : Devices). with_slot_if (slot_after d act found) acted) same
     ∙ ap (with_slot_if (slot_after (devices_of image f entry.cell) act found)) memory
-    ∙ sym (bytes-acted image f entry.cell act found reached) in
+    ∙ sym (bytes_acted image f entry.cell act found reached) in
     let words : changed ≡ with_words (specs_changing f act) (byte_written image f entry.cell act) =
     same_function changed (with_words (specs_changing f act) written) fourth ∙ ap (with_words (specs_changing f act)) own in
     fifth q
@@ -154,10 +154,10 @@ entry-bytes image f entry found devices write old acted written changed new reac
     ∙ ap (λ (byte : Place → ℕ). with_page_write (page_write_by image f entry act) byte q) words
 
 -- the endpoints after them
-pub entry-devices : (image : Image) (f : Facts) (entry : Entry) (found : Reach) (devices : Devices) (acted new : List Endpoint) → IsReachOfEntry image f entry found → IsNextOf entry.cell f.endpoints entry.act
+pub entry_devices : (image : Image) (f : Facts) (entry : Entry) (found : Reach) (devices : Devices) (acted new : List Endpoint) → IsReachOfEntry image f entry found → IsNextOf entry.cell f.endpoints entry.act
     → devices ≡ devices_of image f entry.cell → acted ≡ endpoints_acted_by devices entry.act found → new ≡ endpoints_changed (change_by f.call) (specs_changing f entry.act) acted
     → new ≡ endpoints_after image f entry
-entry-devices image f entry found devices acted new reached next same first second =
+entry_devices image f entry found devices acted new reached next same first second =
     second
     ∙ ap (endpoints_changed (change_by f.call) (specs_changing f entry.act))
-    (first ∙ ap (λ (d : Devices). endpoints_acted_by d entry.act found) same ∙ sym (devices-acted image f entry.cell entry.act found reached next))
+    (first ∙ ap (λ (d : Devices). endpoints_acted_by d entry.act found) same ∙ sym (devices_acted image f entry.cell entry.act found reached next))

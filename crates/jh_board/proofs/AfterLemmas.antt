@@ -34,89 +34,89 @@ use Rattle.jh_board.specs.declared.held.Held.{Held}
 use Rattle.jh_board.specs.Pages.{byte_of, HoldsComm, MayHold, MemoryView}
 use Rattle.jh_board.specs.Means.{Means, HoldsPageOf, HoldsWords, IsReady, IsReadyIn, IsReadyFor}
 use Rattle.jh_board.specs.Steps.{IsFree, MayWrite, MayWriteOf, MayJoin, IsPrepared}
-use Rattle.jh_board.proofs.KeptLemmas.{KeepsPages, comms-kept, words-kept, all-words-kept}
-use Rattle.jh_board.proofs.MadeLemmas.{ready-written}
+use Rattle.jh_board.proofs.KeptLemmas.{KeepsPages, comms_kept, words_kept, all_words_kept}
+use Rattle.jh_board.proofs.MadeLemmas.{ready_written}
 
-pub if-some : {X : Type 0} (o : Option X) (P : X → Type 0) → ((x : X) → o ≡ Some x → P x) → IfSome o P
-if-some None P h = tt
-if-some (Some x) P h = h x refl
+pub if_some : {X : Type 0} (o : Option X) (P : X → Type 0) → ((x : X) → o ≡ Some x → P x) → IfSome o P
+if_some None P h = tt
+if_some (Some x) P h = h x refl
 
-pub on-err : {T E : Type 0} (r : Result T E) (P : Type 0) → P → OnErr r P
-on-err (Ok value) P h = tt
-on-err (Err fault) P h = h
+pub on_err : {T E : Type 0} (r : Result T E) (P : Type 0) → P → OnErr r P
+on_err (Ok value) P h = tt
+on_err (Err fault) P h = h
 
 -- facts that what is held stands for have one open call
-pub free-same : (image : Image) (held : Held) (f g : Facts) (config : CellConfig) → Means image held f → Means image held g → IsFree f (Some config) → IsFree g (Some config)
-free-same image held f g config first second free = λ other. let P : Option OpenCall → Type 0 = IsReady other in subst P (sym first.call ∙ second.call) (free other)
+pub free_same : (image : Image) (held : Held) (f g : Facts) (config : CellConfig) → Means image held f → Means image held g → IsFree f (Some config) → IsFree g (Some config)
+free_same image held f g config first second free = λ other. let P : Option OpenCall → Type 0 = IsReady other in subst P (sym first.call ∙ second.call) (free other)
 
 -- ---- what is written is held
 
-live-page : (memory : MemoryView) (cells : List Live) (id : ℕ) → All (λ (live : Live). HoldsComm memory.comms live.config.id) cells → IsLive cells id → HoldsComm memory.comms id
-live-page memory cells id pages h =
+live_page : (memory : MemoryView) (cells : List Live) (id : ℕ) → All (λ (live : Live). HoldsComm memory.comms live.config.id) cells → IsLive cells id → HoldsComm memory.comms id
+live_page memory cells id pages h =
     let P : ℕ → Type 0 = HoldsComm memory.comms in
     subst P h.2 (All-contains (λ (live : Live). HoldsComm memory.comms live.config.id) cells h.0 pages h.1)
 
-may-place : (memory : MemoryView) (cells : List Live) → All (λ (live : Live). HoldsComm memory.comms live.config.id) cells → (q : Place) → IsOfCells cells q → MayHold memory q
-may-place memory cells pages (Physical p) h = tt
-may-place memory cells pages (Page id offset) h = (live-page memory cells id pages h.1, h.0)
+may_place : (memory : MemoryView) (cells : List Live) → All (λ (live : Live). HoldsComm memory.comms live.config.id) cells → (q : Place) → IsOfCells cells q → MayHold memory q
+may_place memory cells pages (Physical p) h = tt
+may_place memory cells pages (Page id offset) h = (live_page memory cells id pages h.1, h.0)
 
-may-reach : (memory : MemoryView) (cells : List Live) → All (λ (live : Live). HoldsComm memory.comms live.config.id) cells → (found : Reach) → ReachesCells cells found → MayWrite memory found
-may-reach memory cells pages (Memory places) h = All-weaker (IsOfCells cells) (MayHold memory) (may-place memory cells pages) places h
-may-reach memory cells pages (Subpage places) h = All-weaker (IsOfCells cells) (MayHold memory) (may-place memory cells pages) places h
-may-reach memory cells pages (Config bytes) h = tt
-may-reach memory cells pages (Window register) h = tt
-may-reach memory cells pages Nothing h = tt
+may_reach : (memory : MemoryView) (cells : List Live) → All (λ (live : Live). HoldsComm memory.comms live.config.id) cells → (found : Reach) → ReachesCells cells found → MayWrite memory found
+may_reach memory cells pages (Memory places) h = All-weaker (IsOfCells cells) (MayHold memory) (may_place memory cells pages) places h
+may_reach memory cells pages (Subpage places) h = All-weaker (IsOfCells cells) (MayHold memory) (may_place memory cells pages) places h
+may_reach memory cells pages (Config bytes) h = tt
+may_reach memory cells pages (Window register) h = tt
+may_reach memory cells pages Nothing h = tt
 
 -- what the act writes may be written
-pub may-write : (memory : MemoryView) (cells : List Live) → All (λ (live : Live). HoldsComm memory.comms live.config.id) cells → (act : Act) (found : Reach) → WritesCells cells act found → MayWriteOf memory act found
-may-write memory cells pages (Read width at got) found h = tt
-may-write memory cells pages (Write width at value ok) found h = may-reach memory cells pages found h
-may-write memory cells pages (Fetch at got) found h = tt
-may-write memory cells pages (Await width at value ok) found h = tt
-may-write memory cells pages (Irq device vector) found h = tt
-may-write memory cells pages (Hvc code a b answer) found h = tt
-may-write memory cells pages (Begin code a b) found h = tt
-may-write memory cells pages Stop found h = tt
-may-write memory cells pages (Decide refused) found h = tt
-may-write memory cells pages (Settle how) found h = tt
-may-write memory cells pages Commit found h = tt
-may-write memory cells pages (Note id) found h = tt
-may-write memory cells pages (Noted id how) found h = tt
-may-write memory cells pages (Finish answer) found h = tt
+pub may_write : (memory : MemoryView) (cells : List Live) → All (λ (live : Live). HoldsComm memory.comms live.config.id) cells → (act : Act) (found : Reach) → WritesCells cells act found → MayWriteOf memory act found
+may_write memory cells pages (Read width at got) found h = tt
+may_write memory cells pages (Write width at value ok) found h = may_reach memory cells pages found h
+may_write memory cells pages (Fetch at got) found h = tt
+may_write memory cells pages (Await width at value ok) found h = tt
+may_write memory cells pages (Irq device vector) found h = tt
+may_write memory cells pages (Hvc code a b answer) found h = tt
+may_write memory cells pages (Begin code a b) found h = tt
+may_write memory cells pages Stop found h = tt
+may_write memory cells pages (Decide refused) found h = tt
+may_write memory cells pages (Settle how) found h = tt
+may_write memory cells pages Commit found h = tt
+may_write memory cells pages (Note id) found h = tt
+may_write memory cells pages (Noted id how) found h = tt
+may_write memory cells pages (Finish answer) found h = tt
 
 -- ---- the cell that comes
 
-pub created-phase : (call : Call) (phase : Phase) (config : CellConfig) → created call phase ≡ Some config → phase ≡ ToCreate config
-created-phase (Create at) ToDecide config h = absurd (none-some config h)
-created-phase (Create at) (ToSettle waited) config h = absurd (none-some config h)
-created-phase (Create at) (ToCreate made) config h = ap ToCreate (same_Some made config h)
-created-phase (Create at) ToCommit config h = absurd (none-some config h)
-created-phase (Create at) (ToNote id about answer) config h = absurd (none-some config h)
-created-phase (Create at) (ToNoted id about answer waited) config h = absurd (none-some config h)
-created-phase (Create at) (ToFinish answer) config h = absurd (none-some config h)
-created-phase (Start id) phase config h = absurd (none-some config h)
-created-phase (Loadable id) phase config h = absurd (none-some config h)
-created-phase (Destroy id) phase config h = absurd (none-some config h)
-created-phase (Info kind) phase config h = absurd (none-some config h)
-created-phase (State id) phase config h = absurd (none-some config h)
-created-phase (CpuInfo cpu kind) phase config h = absurd (none-some config h)
-created-phase Unknown phase config h = absurd (none-some config h)
+pub created_phase : (call : Call) (phase : Phase) (config : CellConfig) → created call phase ≡ Some config → phase ≡ ToCreate config
+created_phase (Create at) ToDecide config h = absurd (none-some config h)
+created_phase (Create at) (ToSettle waited) config h = absurd (none-some config h)
+created_phase (Create at) (ToCreate made) config h = ap ToCreate (same_Some made config h)
+created_phase (Create at) ToCommit config h = absurd (none-some config h)
+created_phase (Create at) (ToNote id about answer) config h = absurd (none-some config h)
+created_phase (Create at) (ToNoted id about answer waited) config h = absurd (none-some config h)
+created_phase (Create at) (ToFinish answer) config h = absurd (none-some config h)
+created_phase (Start id) phase config h = absurd (none-some config h)
+created_phase (Loadable id) phase config h = absurd (none-some config h)
+created_phase (Destroy id) phase config h = absurd (none-some config h)
+created_phase (Info kind) phase config h = absurd (none-some config h)
+created_phase (State id) phase config h = absurd (none-some config h)
+created_phase (CpuInfo cpu kind) phase config h = absurd (none-some config h)
+created_phase Unknown phase config h = absurd (none-some config h)
 
-created-act : (o : OpenCall) (act : Act) (config : CellConfig) → created_at o.call o.phase act ≡ Some config → o.phase ≡ ToCreate config
-created-act o (Read width at got) config h = absurd (none-some config h)
-created-act o (Write width at value ok) config h = absurd (none-some config h)
-created-act o (Fetch at got) config h = absurd (none-some config h)
-created-act o (Await width at value ok) config h = absurd (none-some config h)
-created-act o (Irq device vector) config h = absurd (none-some config h)
-created-act o (Hvc code a b answer) config h = absurd (none-some config h)
-created-act o (Begin code a b) config h = absurd (none-some config h)
-created-act o Stop config h = absurd (none-some config h)
-created-act o (Decide refused) config h = absurd (none-some config h)
-created-act o (Settle how) config h = absurd (none-some config h)
-created-act o Commit config h = created-phase o.call o.phase config h
-created-act o (Note id) config h = absurd (none-some config h)
-created-act o (Noted id how) config h = absurd (none-some config h)
-created-act o (Finish answer) config h = absurd (none-some config h)
+created_act : (o : OpenCall) (act : Act) (config : CellConfig) → created_at o.call o.phase act ≡ Some config → o.phase ≡ ToCreate config
+created_act o (Read width at got) config h = absurd (none-some config h)
+created_act o (Write width at value ok) config h = absurd (none-some config h)
+created_act o (Fetch at got) config h = absurd (none-some config h)
+created_act o (Await width at value ok) config h = absurd (none-some config h)
+created_act o (Irq device vector) config h = absurd (none-some config h)
+created_act o (Hvc code a b answer) config h = absurd (none-some config h)
+created_act o (Begin code a b) config h = absurd (none-some config h)
+created_act o Stop config h = absurd (none-some config h)
+created_act o (Decide refused) config h = absurd (none-some config h)
+created_act o (Settle how) config h = absurd (none-some config h)
+created_act o Commit config h = created_phase o.call o.phase config h
+created_act o (Note id) config h = absurd (none-some config h)
+created_act o (Noted id how) config h = absurd (none-some config h)
+created_act o (Finish answer) config h = absurd (none-some config h)
 
 -- the call that waits for its cell
 pub record IsComing (call : Option OpenCall) (config : CellConfig) : Type 0 where
@@ -124,28 +124,28 @@ pub record IsComing (call : Option OpenCall) (config : CellConfig) : Type 0 wher
   pub is : call ≡ Some begun
   pub phase : begun.phase ≡ ToCreate config
 
-pub created-is : (call : Option OpenCall) (act : Act) (config : CellConfig) → created_by call act ≡ Some config → IsComing call config
-created-is None act config h = absurd (none-some config h)
-created-is (Some o) act config h = record { begun = o; is = refl; phase = created-act o act config h }
+pub created_is : (call : Option OpenCall) (act : Act) (config : CellConfig) → created_by call act ≡ Some config → IsComing call config
+created_is None act config h = absurd (none-some config h)
+created_is (Some o) act config h = record { begun = o; is = refl; phase = created_act o act config h }
 
-pub ready-coming : (held : Held) (call : Option OpenCall) (o : OpenCall) (config : CellConfig) → IsReady held call → call ≡ Some o → o.phase ≡ ToCreate config → IsReadyFor held config
-ready-coming held call o config ready is phase =
+pub ready_coming : (held : Held) (call : Option OpenCall) (o : OpenCall) (config : CellConfig) → IsReady held call → call ≡ Some o → o.phase ≡ ToCreate config → IsReadyFor held config
+ready_coming held call o config ready is phase =
     let P : Option OpenCall → Type 0 = IsReady held in
     let Q : Phase → Type 0 = IsReadyIn held in
     subst Q phase (subst P is ready)
 
 -- the page that the hypervisor writes is held
-pub page-held : (image : Image) (held : Held) (f : Facts) (act : Act) (id : ℕ) → Means image held f → HasPage f act id → HoldsComm held.memory.comms id
-page-held image held f act id means (inl h) = live-page held.memory f.cells id means.pages h
-page-held image held f act id means (inr h) =
+pub page_held : (image : Image) (held : Held) (f : Facts) (act : Act) (id : ℕ) → Means image held f → HasPage f act id → HoldsComm held.memory.comms id
+page_held image held f act id means (inl h) = live_page held.memory f.cells id means.pages h
+page_held image held f act id means (inr h) =
     let P : ℕ → Type 0 = HoldsComm held.memory.comms in
-    subst P h.named (ready-coming held f.call h.call h.config means.ready h.is h.phase).page
+    subst P h.named (ready_coming held f.call h.call h.config means.ready h.is h.phase).page
 
 -- the cell that comes may join those that live
-pub may-join : (image : Image) (held : Held) (f : Facts) (o : OpenCall) (config : CellConfig) → Means image held f → f.call ≡ Some o → o.phase ≡ ToCreate config → MayLive image f.cells config
+pub may_join : (image : Image) (held : Held) (f : Facts) (o : OpenCall) (config : CellConfig) → Means image held f → f.call ≡ Some o → o.phase ≡ ToCreate config → MayLive image f.cells config
     → (NamesCpu config → length f.cells < 15) → MayJoin held.cells held.index config
-may-join image held f o config means is phase may few =
-    let ready = ready-coming held f.call o config means.ready is phase in
+may_join image held f o config means is phase may few =
+    let ready = ready_coming held f.call o config means.ready is phase in
     record {
       cpus = may.cpus;
       few = λ named. rw means.cells (few named);
@@ -157,70 +157,70 @@ may-join image held f o config means is phase may few =
     }
 
 -- so it may where devices have changed
-pub join-kept : (old new : Held) (act : Act) → new.call ≡ old.call → new.cells ≡ old.cells → new.index ≡ old.index → IfSome (created_by old.call act) (MayJoin old.cells old.index) → IfSome (created_by new.call act) (MayJoin new.cells new.index)
-join-kept old new act call cells index h = rw (call, cells, index) h
+pub join_kept : (old new : Held) (act : Act) → new.call ≡ old.call → new.cells ≡ old.cells → new.index ≡ old.index → IfSome (created_by old.call act) (MayJoin old.cells old.index) → IfSome (created_by new.call act) (MayJoin new.cells new.index)
+join_kept old new act call cells index h = rw (call, cells, index) h
 
 -- ---- what is true of each cell after the entry
 
-cond-holds : (Q : Live → Type 0) (b : Bool) (x y : Live) → Q x → Q y → Q (cond b x y)
-cond-holds Q true x y h k = h
-cond-holds Q false x y h k = k
+cond_holds : (Q : Live → Type 0) (b : Bool) (x y : Live) → Q x → Q y → Q (cond b x y)
+cond_holds Q true x y h k = h
+cond_holds Q false x y h k = k
 
-all-marked : (P : CellConfig → Type 0) (id : ℕ) (on : Bool) (cells : List Live) → All (λ (live : Live). P live.config) cells → All (λ (live : Live). P live.config) (map (marked id on) cells)
-all-marked P id on cells h =
+all_marked : (P : CellConfig → Type 0) (id : ℕ) (on : Bool) (cells : List Live) → All (λ (live : Live). P live.config) cells → All (λ (live : Live). P live.config) (map (marked id on) cells)
+all_marked P id on cells h =
     let Q : Live → Type 0 = λ live. P live.config in
-    All-map Q (marked id on) cells (All-weaker Q (λ (live : Live). Q (marked id on live)) (λ live holds. cond-holds Q (has_id id live) (record live { loadable = on }) live holds holds) cells h)
+    All-map Q (marked id on) cells (All-weaker Q (λ (live : Live). Q (marked id on live)) (λ live holds. cond_holds Q (has_id id live) (record live { loadable = on }) live holds holds) cells h)
 
-kept-if : (Q : Live → Type 0) (b : Bool) (x : Live) (xs : List Live) → Q x → AllByRecursion Q xs → AllByRecursion Q (cond b (x ∷ xs) xs)
-kept-if Q true x xs h hs = (h, hs)
-kept-if Q false x xs h hs = hs
+kept_if : (Q : Live → Type 0) (b : Bool) (x : Live) (xs : List Live) → Q x → AllByRecursion Q xs → AllByRecursion Q (cond b (x ∷ xs) xs)
+kept_if Q true x xs h hs = (h, hs)
+kept_if Q false x xs h hs = hs
 
-kept-each : (Q : Live → Type 0) (test : Live → Bool) (xs : List Live) → AllByRecursion Q xs → AllByRecursion Q (filter test xs)
-kept-each Q test [] h = tt
-kept-each Q test (x ∷ xs) h = kept-if Q (test x) x (filter test xs) h.0 (kept-each Q test xs h.1)
+kept_each : (Q : Live → Type 0) (test : Live → Bool) (xs : List Live) → AllByRecursion Q xs → AllByRecursion Q (filter test xs)
+kept_each Q test [] h = tt
+kept_each Q test (x ∷ xs) h = kept_if Q (test x) x (filter test xs) h.0 (kept_each Q test xs h.1)
 
-all-kept : (Q : Live → Type 0) (test : Live → Bool) (xs : List Live) → All Q xs → All Q (filter test xs)
-all-kept Q test xs h = All-from_recursion Q (filter test xs) (kept-each Q test xs (recursion_from_All Q xs h))
+all_kept : (Q : Live → Type 0) (test : Live → Bool) (xs : List Live) → All Q xs → All Q (filter test xs)
+all_kept Q test xs h = All-from_recursion Q (filter test xs) (kept_each Q test xs (recursion_from_All Q xs h))
 
-all-created : (P : CellConfig → Type 0) (at : ℕ) (phase : Phase) (cells : List Live) → All (λ (live : Live). P live.config) cells → IfSome (created (Create at) phase) P → All (λ (live : Live). P live.config) (committed_cells (Create at) phase cells)
-all-created P at ToDecide cells h made = h
-all-created P at (ToSettle waited) cells h made = h
-all-created P at (ToCreate config) cells h made = All-push (λ (live : Live). P live.config) cells (record { config = config; loadable = false }) h made
-all-created P at ToCommit cells h made = h
-all-created P at (ToNote id about answer) cells h made = h
-all-created P at (ToNoted id about answer waited) cells h made = h
-all-created P at (ToFinish answer) cells h made = h
+all_created : (P : CellConfig → Type 0) (at : ℕ) (phase : Phase) (cells : List Live) → All (λ (live : Live). P live.config) cells → IfSome (created (Create at) phase) P → All (λ (live : Live). P live.config) (committed_cells (Create at) phase cells)
+all_created P at ToDecide cells h made = h
+all_created P at (ToSettle waited) cells h made = h
+all_created P at (ToCreate config) cells h made = All-push (λ (live : Live). P live.config) cells (record { config = config; loadable = false }) h made
+all_created P at ToCommit cells h made = h
+all_created P at (ToNote id about answer) cells h made = h
+all_created P at (ToNoted id about answer waited) cells h made = h
+all_created P at (ToFinish answer) cells h made = h
 
-all-committed : (P : CellConfig → Type 0) (call : Call) (phase : Phase) (cells : List Live) → All (λ (live : Live). P live.config) cells → IfSome (created call phase) P → All (λ (live : Live). P live.config) (committed_cells call phase cells)
-all-committed P (Create at) phase cells h made = all-created P at phase cells h made
-all-committed P (Start id) phase cells h made = all-marked P id false cells h
-all-committed P (Loadable id) phase cells h made = all-marked P id true cells h
-all-committed P (Destroy id) phase cells h made = all-kept (λ (live : Live). P live.config) (is_other id) cells h
-all-committed P (Info kind) phase cells h made = h
-all-committed P (State id) phase cells h made = h
-all-committed P (CpuInfo cpu kind) phase cells h made = h
-all-committed P Unknown phase cells h made = h
+all_committed : (P : CellConfig → Type 0) (call : Call) (phase : Phase) (cells : List Live) → All (λ (live : Live). P live.config) cells → IfSome (created call phase) P → All (λ (live : Live). P live.config) (committed_cells call phase cells)
+all_committed P (Create at) phase cells h made = all_created P at phase cells h made
+all_committed P (Start id) phase cells h made = all_marked P id false cells h
+all_committed P (Loadable id) phase cells h made = all_marked P id true cells h
+all_committed P (Destroy id) phase cells h made = all_kept (λ (live : Live). P live.config) (is_other id) cells h
+all_committed P (Info kind) phase cells h made = h
+all_committed P (State id) phase cells h made = h
+all_committed P (CpuInfo cpu kind) phase cells h made = h
+all_committed P Unknown phase cells h made = h
 
-all-commit : (P : CellConfig → Type 0) (call : Option OpenCall) (cells : List Live) → All (λ (live : Live). P live.config) cells → IfSome (created_by call Commit) P → All (λ (live : Live). P live.config) (cells_by call cells Commit)
-all-commit P None cells h made = h
-all-commit P (Some o) cells h made = all-committed P o.call o.phase cells h made
+all_commit : (P : CellConfig → Type 0) (call : Option OpenCall) (cells : List Live) → All (λ (live : Live). P live.config) cells → IfSome (created_by call Commit) P → All (λ (live : Live). P live.config) (cells_by call cells Commit)
+all_commit P None cells h made = h
+all_commit P (Some o) cells h made = all_committed P o.call o.phase cells h made
 
 -- what holds of the cells that live and of the one that comes holds of each cell after the act
-pub all-made : (P : CellConfig → Type 0) (call : Option OpenCall) (cells : List Live) (act : Act) → All (λ (live : Live). P live.config) cells → IfSome (created_by call act) P → All (λ (live : Live). P live.config) (cells_by call cells act)
-all-made P call cells (Read width at got) h made = h
-all-made P call cells (Write width at value ok) h made = h
-all-made P call cells (Fetch at got) h made = h
-all-made P call cells (Await width at value ok) h made = h
-all-made P call cells (Irq device vector) h made = h
-all-made P call cells (Hvc code a b answer) h made = h
-all-made P call cells (Begin code a b) h made = h
-all-made P call cells Stop h made = h
-all-made P call cells (Decide refused) h made = h
-all-made P call cells (Settle how) h made = h
-all-made P call cells Commit h made = all-commit P call cells h made
-all-made P call cells (Note id) h made = h
-all-made P call cells (Noted id how) h made = h
-all-made P call cells (Finish answer) h made = h
+pub all_made : (P : CellConfig → Type 0) (call : Option OpenCall) (cells : List Live) (act : Act) → All (λ (live : Live). P live.config) cells → IfSome (created_by call act) P → All (λ (live : Live). P live.config) (cells_by call cells act)
+all_made P call cells (Read width at got) h made = h
+all_made P call cells (Write width at value ok) h made = h
+all_made P call cells (Fetch at got) h made = h
+all_made P call cells (Await width at value ok) h made = h
+all_made P call cells (Irq device vector) h made = h
+all_made P call cells (Hvc code a b answer) h made = h
+all_made P call cells (Begin code a b) h made = h
+all_made P call cells Stop h made = h
+all_made P call cells (Decide refused) h made = h
+all_made P call cells (Settle how) h made = h
+all_made P call cells Commit h made = all_commit P call cells h made
+all_made P call cells (Note id) h made = h
+all_made P call cells (Noted id how) h made = h
+all_made P call cells (Finish answer) h made = h
 
 -- ---- all of it
 
@@ -246,10 +246,10 @@ pub record IsWritten (image : Image) (old mid : Held) (f : Facts) (entry : Entry
   pub call : mid.call ≡ old.call
   pub index : mid.index ≡ old.index
 
-pub Means-made : (image : Image) (old mid new : Held) (f : Facts) (entry : Entry) (coming : Option CellConfig) → IsPrepared image old f entry coming → IsWritten image old mid f entry → IsCalled mid new entry coming
+pub Means_made : (image : Image) (old mid new : Held) (f : Facts) (entry : Entry) (coming : Option CellConfig) → IsPrepared image old f entry coming → IsWritten image old mid f entry → IsCalled mid new entry coming
     → Means image new (after image f entry)
 unfolding after
-Means-made image old mid new f entry coming prepared written called =
+Means_made image old mid new f entry coming prepared written called =
     let act = entry.act in
     let means = prepared.means in
     let call : mid.call ≡ f.call = written.call ∙ means.call in
@@ -265,16 +265,16 @@ Means-made image old mid new f entry coming prepared written called =
       cells = called.lives ∙ ap (λ (c : Option OpenCall). cells_by c mid.cells.lives act) call ∙ ap (λ (cs : List Live). cells_by f.call cs act) lives;
       endpoints = ap (λ (es : Seen). es.list) called.endpoints ∙ written.endpoints;
       call = after-call;
-      pages = all-made (λ (config : CellConfig). HoldsComm new.memory.comms config.id) f.call f.cells act
-          (All-weaker (HoldsPageOf old) (HoldsPageOf new) (λ live. comms-kept old.memory new.memory live.config.id pages) f.cells means.pages)
-          (if-some (created_by f.call act) (λ (config : CellConfig). HoldsComm new.memory.comms config.id) (λ config made.
-          let coming = created-is f.call act config made in
-          comms-kept old.memory new.memory config.id pages (ready-coming old f.call coming.begun config means.ready coming.is coming.phase).page));
-      words = all-made (λ (config : CellConfig). HoldsWords new config) f.call f.cells act (all-words-kept old new f.cells pages means.words)
-          (if-some (created_by f.call act) (λ (config : CellConfig). HoldsWords new config) (λ config made.
-          let coming = created-is f.call act config made in
-          words-kept old.memory new.memory (specs_of config) pages (ready-coming old f.call coming.begun config means.ready coming.is coming.phase).words));
-      root_words = words-kept old.memory new.memory (specs_of image.system.root) pages means.root_words;
-      named = all-made NamesCpu f.call f.cells act means.named (rw call at called.named);
-      ready = subst S after-call (called.ready (subst R (sym after-call) (ready-written old mid f.cells (coming_of image f) f.call entry act written.index written.cells written.spare written.pages prepared.ready)));
+      pages = all_made (λ (config : CellConfig). HoldsComm new.memory.comms config.id) f.call f.cells act
+          (All-weaker (HoldsPageOf old) (HoldsPageOf new) (λ live. comms_kept old.memory new.memory live.config.id pages) f.cells means.pages)
+          (if_some (created_by f.call act) (λ (config : CellConfig). HoldsComm new.memory.comms config.id) (λ config made.
+          let coming = created_is f.call act config made in
+          comms_kept old.memory new.memory config.id pages (ready_coming old f.call coming.begun config means.ready coming.is coming.phase).page));
+      words = all_made (λ (config : CellConfig). HoldsWords new config) f.call f.cells act (all_words_kept old new f.cells pages means.words)
+          (if_some (created_by f.call act) (λ (config : CellConfig). HoldsWords new config) (λ config made.
+          let coming = created_is f.call act config made in
+          words_kept old.memory new.memory (specs_of config) pages (ready_coming old f.call coming.begun config means.ready coming.is coming.phase).words));
+      root_words = words_kept old.memory new.memory (specs_of image.system.root) pages means.root_words;
+      named = all_made NamesCpu f.call f.cells act means.named (rw call at called.named);
+      ready = subst S after-call (called.ready (subst R (sym after-call) (ready_written old mid f.cells (coming_of image f) f.call entry act written.index written.cells written.spare written.pages prepared.ready)));
     }

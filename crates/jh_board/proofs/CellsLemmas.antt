@@ -1,5 +1,5 @@
 -- The cells that live, by their ids and their indexes.
-use Rattle.std.proofs.Common.{◌≡◌, ℕ, zero, suc, ◌+◌, ◌*◌, ◌/◌, ◌^◌, ◌<◌, ◌≤◌, Bool, true, false, cond, not, List, [], ◌∷◌, ◌++◌, length, get_or, map, remove, position, sum_by, Option, Some, None, refl, sym, ap, subst, ◌∙◌, arith}
+use Rattle.std.proofs.Common.{◌≡◌, ℕ, zero, suc, ◌+◌, ◌*◌, ◌^◌, ◌<◌, ◌≤◌, Bool, true, false, cond, not, List, [], ◌∷◌, ◌++◌, length, get_or, map, remove, position, sum_by, Option, Some, None, refl, sym, ap, subst, ◌∙◌, arith}
 use Rattle.std.specs.Prelude.{All, IfSome, filter, slice_get, option_map, nat_lt}
 use Rattle.std.specs.Option.{option_map_or}
 use Rattle.std.specs.List.{find, position_or_len, Contains, AllByRecursion}
@@ -9,59 +9,46 @@ use Rattle.std.proofs.lemmas.List.{length-map, map-append}
 use Rattle.std.proofs.lemmas.List.Folds.{find_at}
 use Rattle.std.proofs.lemmas.List.Sums.{sum_by-append, sum_by-remove}
 use Rattle.std.proofs.lemmas.List.Elements.{All-contains, All-map, All-from_recursion, recursion_from_All}
-use Rattle.jh_num.specs.declared.address.TheConstants.{ADDRESS_END}
-use Rattle.jh_num.proofs.Lists.{IsFound-from_find, find-None, Contains-head, Contains-tail}
+use Rattle.jh_num.proofs.Lists.{IsFound_from_find, find_None, Contains_head, Contains_tail}
 use Rattle.jh_cellcfg.specs.declared.config.CellConfig.{CellConfig}
 use Rattle.jh_cellcfg.specs.declared.region.Region.{Region}
 use Rattle.jh_cellcfg.specs.declared.live.Live.{Live}
 use Rattle.jh_cellcfg.specs.Lives.{has_id}
 use Rattle.jh_cellcfg.specs.Regions.{IsInRange}
-use Rattle.jh_shape.specs.Claims.{Claims}
-use Rattle.jh_shape.specs.Pages.{count_below, tables_at, tables_of, pages_of, root_claims, cell_claims}
-use Rattle.jh_shape.specs.Shapes.{slot_size, is_table}
+use Rattle.jh_shape.specs.Pages.{tables_of, pages_of, root_claims, cell_claims}
+use Rattle.jh_shape.proofs.PageLemmas.{tables_le}
 use Rattle.jh_life.specs.Lives.{configs_of, has_config_id, new_live}
 use Rattle.jh_life.specs.Changes.{marked as marked_of}
 use Rattle.jh_history.specs.Commits.{is_other, marked}
 use Rattle.jh_history.specs.Lives.{live_in}
 use Rattle.jh_board.specs.Closed.{IsIndexOf, live_regions, count_regions, AreInRange}
 
-config_of : Live → CellConfig
-config_of live = live.config
-
 -- ---- the index of a cell
 
-position-map : (id : ℕ) (lives : List Live) → position_or_len (has_config_id id) (configs_of lives) ≡ position_or_len (has_id id) lives
-position-map id [] = refl
-position-map id (x ∷ xs) = ap (λ n. cond (not (has_id id x)) (1 + n) 0) (position-map id xs)
+position_map : (id : ℕ) (lives : List Live) → position_or_len (has_config_id id) (configs_of lives) ≡ position_or_len (has_id id) lives
+position_map id [] = refl
+position_map id (x ∷ xs) = ap (λ n. cond (not (has_id id x)) (1 + n) 0) (position_map id xs)
 
 index_by : (id n : ℕ) (lives : List Live) (b : Bool) → nat_lt n (length lives) ≡ b → find (has_id id) lives ≡ slice_get lives n → IsIndexOf lives id (cond b (Some n) None)
 index_by id n lives true lt is = record { within = grind arith; found = is }
 index_by id n lives false past is = is ∙ slice_get_past lives n (grind arith)
 
 -- what the first place among the configurations tells
-pub index-found : (lives : List Live) (id : ℕ) (r : Option ℕ) → r ≡ position (has_config_id id) (configs_of lives) → IsIndexOf lives id r
-index-found lives id r is =
+pub index_found : (lives : List Live) (id : ℕ) (r : Option ℕ) → r ≡ position (has_config_id id) (configs_of lives) → IsIndexOf lives id r
+index_found lives id r is =
     let n = position_or_len (has_id id) lives in
-    let e = position-map id lives in
+    let e = position_map id lives in
     let len : length (configs_of lives) ≡ length lives = length-map lives (λ (l : Live). l.config) in
     let same : position (has_config_id id) (configs_of lives) ≡ cond (nat_lt n (length lives)) (Some n) None
     = ap (λ m. cond (nat_lt m (length (configs_of lives))) (Some m) None) e ∙ ap (λ l. cond (nat_lt n l) (Some n) None) len in
     subst (IsIndexOf lives id) (sym (is ∙ same)) (index_by id n lives (nat_lt n (length lives)) refl (find_at (has_id id) lives))
 
-pub index-few : (lives : List Live) (id : ℕ) (r : Option ℕ) → IsIndexOf lives id r → length lives ≤ 15 → IfSome r (λ k. k < 15)
-index-few lives id None is few = tt
-index-few lives id (Some k) is few = let within = is.within in omega arith
+pub index_few : (lives : List Live) (id : ℕ) (r : Option ℕ) → IsIndexOf lives id r → length lives ≤ 15 → IfSome r (λ k. k < 15)
+index_few lives id None is few = tt
+index_few lives id (Some k) is few = let within = is.within in omega arith
 
--- its configuration
-pub live-none : (lives : List Live) (id : ℕ) → IsIndexOf lives id None → live_in lives id ≡ None
-live-none lives id is = ap (option_map (λ (l : Live). l.config)) is
-
-pub live-some : (lives : List Live) (id k : ℕ) → IsIndexOf lives id (Some k) → live_in lives id ≡ slice_get (configs_of lives) k
-live-some lives id k is = ap (option_map (λ (l : Live). l.config)) is.found ∙ sym (slice_get-map (λ (l : Live). l.config) lives k)
-
--- its regions
-pub regions-none : (lives : List Live) (id : ℕ) → IsIndexOf lives id None → live_regions lives id ≡ []
-regions-none lives id is = ap (λ (o : Option CellConfig). option_map_or (λ (c : CellConfig). c.memory_regions) o []) (live-none lives id is)
+pub live_some : (lives : List Live) (id k : ℕ) → IsIndexOf lives id (Some k) → live_in lives id ≡ slice_get (configs_of lives) k
+live_some lives id k is = ap (option_map (λ (l : Live). l.config)) is.found ∙ sym (slice_get-map (λ (l : Live). l.config) lives k)
 
 given : (o : Option CellConfig) (regions : List Region) → option_map (λ (c : CellConfig). c.memory_regions) o ≡ Some regions → option_map_or (λ (c : CellConfig). c.memory_regions) o [] ≡ regions
 given None regions is = absurd (none-some regions is)
@@ -70,21 +57,21 @@ given (Some c) regions is = same_Some c.memory_regions regions is
 abbrev pub all_regions : List Live → List (List Region)
 all_regions lives = map (λ (c : CellConfig). c.memory_regions) (configs_of lives)
 
-pub regions-some : (lives : List Live) (id k : ℕ) (regions : List Region) → IsIndexOf lives id (Some k) → regions ≡ get_or (all_regions lives) k regions → live_regions lives id ≡ regions
-regions-some lives id k regions is at =
+pub regions_some : (lives : List Live) (id k : ℕ) (regions : List Region) → IsIndexOf lives id (Some k) → regions ≡ get_or (all_regions lives) k regions → live_regions lives id ≡ regions
+regions_some lives id k regions is at =
     let len : length (configs_of lives) ≡ length lives = length-map lives (λ (l : Live). l.config) in
     let all : length (all_regions lives) ≡ length (configs_of lives) = length-map (configs_of lives) (λ (c : CellConfig). c.memory_regions) in
     let within = is.within in
     given (live_in lives id) regions
-    (ap (option_map (λ (c : CellConfig). c.memory_regions)) (live-some lives id k is)
+    (ap (option_map (λ (c : CellConfig). c.memory_regions)) (live_some lives id k is)
     ∙ sym (slice_get-map (λ (c : CellConfig). c.memory_regions) (configs_of lives) k)
     ∙ slice_get-get_or (all_regions lives) k regions (omega arith)
     ∙ ap Some (sym at))
 
-pub regions-within : (lives : List Live) (id k : ℕ) (regions : List Region) (found : Option Region) → IsIndexOf lives id (Some k) → regions ≡ get_or (all_regions lives) k regions
+pub regions_within : (lives : List Live) (id k : ℕ) (regions : List Region) (found : Option Region) → IsIndexOf lives id (Some k) → regions ≡ get_or (all_regions lives) k regions
     → All (λ (c : CellConfig). AreInRange c.memory_regions) (configs_of lives) → IfSome found (Contains regions) → IfSome found (λ r. 0 < r.size → IsInRange r)
-regions-within lives id k regions None is at all own = tt
-regions-within lives id k regions (Some r) is at all own =
+regions_within lives id k regions None is at all own = tt
+regions_within lives id k regions (Some r) is at all own =
     let len : length (configs_of lives) ≡ length lives = length-map lives (λ (l : Live). l.config) in
     let all_len : length (all_regions lives) ≡ length (configs_of lives) = length-map (configs_of lives) (λ (c : CellConfig). c.memory_regions) in
     let within = is.within in
@@ -100,26 +87,26 @@ pub record IsCell (lives : List Live) (id k : ℕ) (cell : Live) : Type 0 where
 cell_by : (lives : List Live) (id k : ℕ) (o : Option Live) → slice_get lives k ≡ o → find (has_id id) lives ≡ o → k < length lives → (cell : Live) × IsCell lives id k cell
 cell_by [] id k None at found within = absurd (omega arith)
 cell_by (x ∷ xs) id k None at found within = absurd (none-some _ (sym at ∙ slice_get-get_or (x ∷ xs) k x within))
-cell_by lives id k (Some cell) at found within = (cell, record { at = at; is = eqb-true cell.config.id id (IsFound-from_find (has_id id) lives cell found).passes })
+cell_by lives id k (Some cell) at found within = (cell, record { at = at; is = eqb-true cell.config.id id (IsFound_from_find (has_id id) lives cell found).passes })
 
-pub cell-at : (lives : List Live) (id k : ℕ) → IsIndexOf lives id (Some k) → (cell : Live) × IsCell lives id k cell
-cell-at lives id k is = cell_by lives id k (slice_get lives k) refl is.found is.within
+pub cell_at : (lives : List Live) (id k : ℕ) → IsIndexOf lives id (Some k) → (cell : Live) × IsCell lives id k cell
+cell_at lives id k is = cell_by lives id k (slice_get lives k) refl is.found is.within
 
 -- ---- a cell that doesn't live
 
-filter-all : {X : Type 0} (p : X → Bool) (xs : List X) → ((x : X) → Contains xs x → p x ≡ true) → xs ≡ filter p xs
-filter-all p [] h = refl
-filter-all p (x ∷ xs) h = rw (h x (Contains-head x xs)) (ap (λ l. x ∷ l) (filter-all p xs (λ y k. h y (Contains-tail x xs y k))))
+filter_all : {X : Type 0} (p : X → Bool) (xs : List X) → ((x : X) → Contains xs x → p x ≡ true) → xs ≡ filter p xs
+filter_all p [] h = refl
+filter_all p (x ∷ xs) h = rw (h x (Contains_head x xs)) (ap (λ l. x ∷ l) (filter_all p xs (λ y k. h y (Contains_tail x xs y k))))
 
-map-all : {X : Type 0} (f : X → X) (xs : List X) → ((x : X) → Contains xs x → f x ≡ x) → xs ≡ map f xs
-map-all f [] h = refl
-map-all f (x ∷ xs) h = ap (λ y. y ∷ xs) (sym (h x (Contains-head x xs))) ∙ ap (λ l. f x ∷ l) (map-all f xs (λ y k. h y (Contains-tail x xs y k)))
+map_all : {X : Type 0} (f : X → X) (xs : List X) → ((x : X) → Contains xs x → f x ≡ x) → xs ≡ map f xs
+map_all f [] h = refl
+map_all f (x ∷ xs) h = ap (λ y. y ∷ xs) (sym (h x (Contains_head x xs))) ∙ ap (λ l. f x ∷ l) (map_all f xs (λ y k. h y (Contains_tail x xs y k)))
 
-pub removed-none : (lives : List Live) (id : ℕ) → IsIndexOf lives id None → lives ≡ filter (is_other id) lives
-removed-none lives id is = filter-all (is_other id) lives (λ x k. ap not (find-None (has_id id) lives x is k))
+pub removed_none : (lives : List Live) (id : ℕ) → IsIndexOf lives id None → lives ≡ filter (is_other id) lives
+removed_none lives id is = filter_all (is_other id) lives (λ x k. ap not (find_None (has_id id) lives x is k))
 
-pub marked-none : (lives : List Live) (id : ℕ) (on : Bool) → IsIndexOf lives id None → lives ≡ map (marked id on) lives
-marked-none lives id on is = map-all (marked id on) lives (λ x k. rw (find-None (has_id id) lives x is k) refl)
+pub marked_none : (lives : List Live) (id : ℕ) (on : Bool) → IsIndexOf lives id None → lives ≡ map (marked id on) lives
+marked_none lives id on is = map_all (marked id on) lives (λ x k. rw (find_None (has_id id) lives x is k) refl)
 
 -- ---- a cell that does
 
@@ -127,17 +114,17 @@ marked_by : (b on : Bool) (x : Live) → record { config = x.config; loadable = 
 marked_by true on x = refl
 marked_by false on x = refl
 
-pub marked-same : (lives : List Live) (id : ℕ) (on : Bool) → map (marked_of id on) lives ≡ map (marked id on) lives
-marked-same [] id on = refl
-marked-same (x ∷ xs) id on = ap (λ (y : Live). y ∷ map (marked_of id on) xs) (marked_by (has_id id x) on x) ∙ ap (λ (l : List Live). marked id on x ∷ l) (marked-same xs id on)
+pub marked_same : (lives : List Live) (id : ℕ) (on : Bool) → map (marked_of id on) lives ≡ map (marked id on) lives
+marked_same [] id on = refl
+marked_same (x ∷ xs) id on = ap (λ (y : Live). y ∷ map (marked_of id on) xs) (marked_by (has_id id x) on x) ∙ ap (λ (l : List Live). marked id on x ∷ l) (marked_same xs id on)
 
 -- ---- one cell less, and one more
 
-pub map-remove : {X Y : Type 0} (f : X → Y) (xs : List X) (k : ℕ) → map f (remove xs k) ≡ remove (map f xs) k
-map-remove f [] zero = refl
-map-remove f [] (suc k) = refl
-map-remove f (x ∷ xs) zero = refl
-map-remove f (x ∷ xs) (suc k) = ap (λ l. f x ∷ l) (map-remove f xs k)
+pub map_remove : {X Y : Type 0} (f : X → Y) (xs : List X) (k : ℕ) → map f (remove xs k) ≡ remove (map f xs) k
+map_remove f [] zero = refl
+map_remove f [] (suc k) = refl
+map_remove f (x ∷ xs) zero = refl
+map_remove f (x ∷ xs) (suc k) = ap (λ l. f x ∷ l) (map_remove f xs k)
 
 removed : {X : Type 0} (Q : X → Type 0) (xs : List X) (k : ℕ) → AllByRecursion Q xs → AllByRecursion Q (remove xs k)
 removed Q [] zero all = tt
@@ -145,67 +132,46 @@ removed Q [] (suc k) all = tt
 removed Q (x ∷ xs) zero all = all.1
 removed Q (x ∷ xs) (suc k) all = (all.0, removed Q xs k all.1)
 
-pub All-removed : {X : Type 0} (Q : X → Type 0) (xs : List X) (k : ℕ) → All Q xs → All Q (remove xs k)
-All-removed Q xs k all = All-from_recursion Q (remove xs k) (removed Q xs k (recursion_from_All Q xs all))
+pub All_removed : {X : Type 0} (Q : X → Type 0) (xs : List X) (k : ℕ) → All Q xs → All Q (remove xs k)
+All_removed Q xs k all = All-from_recursion Q (remove xs k) (removed Q xs k (recursion_from_All Q xs all))
 
-pub regions-removed : (cells : List CellConfig) (k : ℕ) (d : CellConfig) → k < length cells → count_regions (remove cells k) + length (get_or cells k d).memory_regions ≡ count_regions cells
-regions-removed cells k d lt = sum_by-remove (λ (c : CellConfig). length c.memory_regions) cells k d lt
+pub regions_removed : (cells : List CellConfig) (k : ℕ) (d : CellConfig) → k < length cells → count_regions (remove cells k) + length (get_or cells k d).memory_regions ≡ count_regions cells
+regions_removed cells k d lt = sum_by-remove (λ (c : CellConfig). length c.memory_regions) cells k d lt
 
-pub configs-removed : (lives new : List Live) (k n : ℕ) → new ≡ remove lives n → n ≡ k → configs_of new ≡ remove (configs_of lives) k
-configs-removed lives new k n is same =
+pub configs_removed : (lives new : List Live) (k n : ℕ) → new ≡ remove lives n → n ≡ k → configs_of new ≡ remove (configs_of lives) k
+configs_removed lives new k n is same =
     ap (λ (l : List Live). configs_of l) is
-    ∙ map-remove (λ (x : Live). x.config) lives n
+    ∙ map_remove (λ (x : Live). x.config) lives n
     ∙ ap (λ i. remove (configs_of lives) i) same
 
-pub regions-left : (cells new list : List CellConfig) (k n : ℕ) (cell : CellConfig) → new ≡ remove cells k → list ≡ cells → k < length cells → n ≡ length (get_or list k cell).memory_regions
+pub regions_left : (cells new list : List CellConfig) (k n : ℕ) (cell : CellConfig) → new ≡ remove cells k → list ≡ cells → k < length cells → n ≡ length (get_or list k cell).memory_regions
     → count_regions new + n ≡ count_regions cells
-regions-left cells new list k n cell left same lt len =
-    let all = regions-removed cells k cell lt in
+regions_left cells new list k n cell left same lt len =
+    let all = regions_removed cells k cell lt in
     let a : count_regions new ≡ count_regions (remove cells k) = ap (λ (cs : List CellConfig). count_regions cs) left in
     let b : length (get_or list k cell).memory_regions ≡ length (get_or cells k cell).memory_regions = ap (λ (l : List CellConfig). length (get_or l k cell).memory_regions) same in
     omega arith
 
-pub regions-added : (cells : List CellConfig) (new : CellConfig) → count_regions (cells ++ new ∷ []) ≡ count_regions cells + length new.memory_regions
-regions-added cells new =
+pub regions_added : (cells : List CellConfig) (new : CellConfig) → count_regions (cells ++ new ∷ []) ≡ count_regions cells + length new.memory_regions
+regions_added cells new =
     let all = sum_by-append (λ (c : CellConfig). length c.memory_regions) cells (new ∷ []) in omega (arith, all)
 
-pub configs-added : (lives : List Live) (new : CellConfig) → configs_of (lives ++ new_live new ∷ []) ≡ configs_of lives ++ new ∷ []
-configs-added lives new = map-append (λ (l : Live). l.config) lives (new_live new ∷ [])
+pub configs_added : (lives : List Live) (new : CellConfig) → configs_of (lives ++ new_live new ∷ []) ≡ configs_of lives ++ new ∷ []
+configs_added lives new = map-append (λ (l : Live). l.config) lives (new_live new ∷ [])
 
 -- ---- pages
 
-count_one : (b : Bool) (m n : ℕ) → m ≤ n → m + cond b 1 0 ≤ suc n
-count_one true m n h = omega arith
-count_one false m n h = omega arith
-
-count-le : (test : ℕ → Bool) (n : ℕ) → count_below test n ≤ n
-unfolding count_below
-count-le test zero = omega arith
-count-le test (suc n) = count_one (test n) (count_below test n) n (count-le test n)
-
-tables_at-le : (claims : Claims) (level : ℕ) → tables_at claims level ≤ ADDRESS_END / slot_size level
-unfolding tables_at
-tables_at-le claims level = count-le (λ slot. is_table claims level (slot * slot_size level)) (ADDRESS_END / slot_size level)
-
-tables-le : (claims : Claims) → tables_of claims ≤ 2 ^ 20
-unfolding tables_of
-tables-le claims =
-    let one : tables_at claims 1 ≤ 512 = tables_at-le claims 1 in
-    let two : tables_at claims 2 ≤ 262144 = tables_at-le claims 2 in
-    let all : 1 + (tables_at claims 1 + (tables_at claims 2 + 0)) ≤ 2 ^ 20 = omega arith in
-    all
-
-cells-le : (cells : List CellConfig) → sum_by (λ (c : CellConfig). tables_of (cell_claims c) + 1) cells ≤ 1048577 * length cells
-cells-le [] = omega arith
-cells-le (c ∷ cs) =
-    let one : tables_of (cell_claims c) ≤ 1048576 = tables-le (cell_claims c) in
-    let rest = cells-le cs in
+cells_le : (cells : List CellConfig) → sum_by (λ (c : CellConfig). tables_of (cell_claims c) + 1) cells ≤ 1048577 * length cells
+cells_le [] = omega arith
+cells_le (c ∷ cs) =
+    let one : tables_of (cell_claims c) ≤ 1048576 = tables_le (cell_claims c) in
+    let rest = cells_le cs in
     let sum = sum_by-append (λ (x : CellConfig). tables_of (cell_claims x) + 1) (c ∷ []) cs in
     omega arith
 
 -- the pages of root and 15 cells fit half a word
-pub pages-fit : (regions : List Region) (cells : List CellConfig) → length cells ≤ 15 → pages_of regions cells < 2 ^ 32
-pages-fit regions cells few =
-    let root : tables_of (root_claims regions cells) ≤ 1048576 = tables-le (root_claims regions cells) in
-    let rest = cells-le cells in
+pub pages_fit : (regions : List Region) (cells : List CellConfig) → length cells ≤ 15 → pages_of regions cells < 2 ^ 32
+pages_fit regions cells few =
+    let root : tables_of (root_claims regions cells) ≤ 1048576 = tables_le (root_claims regions cells) in
+    let rest = cells_le cells in
     omega arith

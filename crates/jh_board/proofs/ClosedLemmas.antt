@@ -14,7 +14,7 @@ use Rattle.std.proofs.lemmas.List.Sums.{sum_by_more, sum_by-take-le}
 use Rattle.std.proofs.lemmas.Map.Made.{length-le_from_is_member}
 use Rattle.jh_num.specs.declared.range.Range.{Range}
 use Rattle.jh_num.specs.Bytes.{in_range, has_byte, AreApart, AreApartFrom}
-use Rattle.jh_num.proofs.Lists.{list_any-map}
+use Rattle.jh_num.proofs.Lists.{list_any_map}
 use Rattle.jh_cellcfg.specs.declared.config.CellConfig.{CellConfig}
 use Rattle.jh_cellcfg.specs.declared.region.Region.{Region}
 use Rattle.jh_cellcfg.specs.declared.live.Live.{Live}
@@ -30,34 +30,34 @@ end_of range = range.end
 -- ---- how many
 
 -- the byte before the end of the first range is in the list, and the one at it isn't
-last-in : (low : ℕ) (x : Range) (xs : List Range) (b : ℕ) → x.end ≡ suc b → AreApartFrom low (x ∷ xs) → has_byte (x ∷ xs) b ≡ true
-last-in low x xs b e apart = let t = apart.1 in rw (within_range x b (omega arith) (omega arith)) refl
+last_in : (low : ℕ) (x : Range) (xs : List Range) (b : ℕ) → x.end ≡ suc b → AreApartFrom low (x ∷ xs) → has_byte (x ∷ xs) b ≡ true
+last_in low x xs b e apart = let t = apart.1 in rw (within_range x b (omega arith) (omega arith)) refl
 
-next-out : (low : ℕ) (x : Range) (xs : List Range) → AreApartFrom low (x ∷ xs) → has_byte (x ∷ xs) x.end ≡ false
-next-out low x xs apart = rw (above_range x x.end (omega arith)) (absent_below (x.end + 1) xs x.end apart.2 (omega arith))
+next_out : (low : ℕ) (x : Range) (xs : List Range) → AreApartFrom low (x ∷ xs) → has_byte (x ∷ xs) x.end ≡ false
+next_out low x xs apart = rw (above_range x x.end (omega arith)) (absent_below (x.end + 1) xs x.end apart.2 (omega arith))
 
 -- where the byte after one of a range isn't in it, it is its end
-ends-at : (y : Range) (b : ℕ) → in_range y b ≡ true → in_range y (suc b) ≡ false → suc b ≡ y.end
-ends-at y b here next = grind (arith, nat_tests)
+ends_at : (y : Range) (b : ℕ) → in_range y b ≡ true → in_range y (suc b) ≡ false → suc b ≡ y.end
+ends_at y b here next = grind (arith, nat_tests)
 
 -- where the byte after one of a list isn't in it, a range of the list ends there
-ended-in : (ys : List Range) (b : ℕ) → has_byte ys b ≡ true → has_byte ys (suc b) ≡ false → list_any (eqb (suc b)) (map end_of ys) ≡ true
-ended-in [] b here next = here
-ended-in (y ∷ ys) b here next =
+ended_in : (ys : List Range) (b : ℕ) → has_byte ys b ≡ true → has_byte ys (suc b) ≡ false → list_any (eqb (suc b)) (map end_of ys) ≡ true
+ended_in [] b here next = here
+ended_in (y ∷ ys) b here next =
     let parts = or_parts (in_range y (suc b)) (has_byte ys (suc b)) next in
     ⊎_elim
-    (λ own. or_left (eqb (suc b) y.end) (list_any (eqb (suc b)) (map end_of ys)) (eq-eqb (suc b) y.end (ends-at y b own parts.0)))
-    (λ later. or_right (eqb (suc b) y.end) (list_any (eqb (suc b)) (map end_of ys)) (ended-in ys b later parts.1))
+    (λ own. or_left (eqb (suc b) y.end) (list_any (eqb (suc b)) (map end_of ys)) (eq-eqb (suc b) y.end (ends_at y b own parts.0)))
+    (λ later. or_right (eqb (suc b) y.end) (list_any (eqb (suc b)) (map end_of ys)) (ended_in ys b later parts.1))
     (or_cases (in_range y b) (has_byte ys b) here)
 
 -- each end is that of a range which was there, or of the new one
-ends-in : (low : ℕ) (xs ys : List Range) (r : Range) → AreApartFrom low xs → ((b : ℕ) → low ≤ b → has_byte xs b ≡ (has_byte ys b || in_range r b)) → (q : ℕ)
+ends_in : (low : ℕ) (xs ys : List Range) (r : Range) → AreApartFrom low xs → ((b : ℕ) → low ≤ b → has_byte xs b ≡ (has_byte ys b || in_range r b)) → (q : ℕ)
     → list_any (eqb q) (map end_of xs) ≡ true → list_any (eqb q) (map end_of (r ∷ ys)) ≡ true
-ends-in low [] ys r apart same q h = absurd (both_ways false refl h)
-ends-in low (x ∷ xs) ys r apart same q h =
+ends_in low [] ys r apart same q h = absurd (both_ways false refl h)
+ends_in low (x ∷ xs) ys r apart same q h =
     ⊎_elim
     (λ first. first_end x.end refl (eqb-true q x.end first))
-    (λ later. ends-in (x.end + 1) xs ys r apart.2 (λ b le. rest b (omega arith) ∙ same b (omega (arith, apart.0, apart.1))) q later)
+    (λ later. ends_in (x.end + 1) xs ys r apart.2 (λ b le. rest b (omega arith) ∙ same b (omega (arith, apart.0, apart.1))) q later)
     (or_cases (eqb q x.end) (list_any (eqb q) (map end_of xs)) h)
   where
     rest : (b : ℕ) → x.end ≤ b → has_byte xs b ≡ has_byte (x ∷ xs) b
@@ -66,56 +66,56 @@ ends-in low (x ∷ xs) ys r apart same q h =
     first_end : (e : ℕ) → x.end ≡ e → q ≡ x.end → list_any (eqb q) (map end_of (r ∷ ys)) ≡ true
     first_end zero e is = absurd (omega (arith, apart.1))
     first_end (suc b) e is =
-        let here = sym (same b (omega (arith, apart.0, apart.1))) ∙ last-in low x xs b e apart in
-        let out : has_byte (x ∷ xs) (suc b) ≡ false = subst (λ k. has_byte (x ∷ xs) k ≡ false) e (next-out low x xs apart) in
+        let here = sym (same b (omega (arith, apart.0, apart.1))) ∙ last_in low x xs b e apart in
+        let out : has_byte (x ∷ xs) (suc b) ≡ false = subst (λ k. has_byte (x ∷ xs) k ≡ false) e (next_out low x xs apart) in
         let parts = or_parts (has_byte ys (suc b)) (in_range r (suc b)) (sym (same (suc b) (omega (arith, apart.0, apart.1))) ∙ out) in
         let at : q ≡ suc b = is ∙ e in
         subst (λ k. list_any (eqb k) (map end_of (r ∷ ys)) ≡ true) (sym at)
         (⊎_elim
-        (λ was. or_right (eqb (suc b) r.end) (list_any (eqb (suc b)) (map end_of ys)) (ended-in ys b was parts.0))
-        (λ new. or_left (eqb (suc b) r.end) (list_any (eqb (suc b)) (map end_of ys)) (eq-eqb (suc b) r.end (ends-at r b new parts.1)))
+        (λ was. or_right (eqb (suc b) r.end) (list_any (eqb (suc b)) (map end_of ys)) (ended_in ys b was parts.0))
+        (λ new. or_left (eqb (suc b) r.end) (list_any (eqb (suc b)) (map end_of ys)) (eq-eqb (suc b) r.end (ends_at r b new parts.1)))
         (or_cases (has_byte ys b) (in_range r b) here))
 
 -- ranges that are apart have different ends
-later-ends : (low k : ℕ) (xs : List Range) → k < low → AreApartFrom low xs → AllByRecursion (λ y. eqb k y ≡ false) (map end_of xs)
-later-ends low k [] lt apart = tt
-later-ends low k (x ∷ xs) lt apart = (ne_eqb k x.end (λ e. omega (arith, apart.0, apart.1)), later-ends (x.end + 1) k xs (omega (arith, apart.0, apart.1)) apart.2)
+later_ends : (low k : ℕ) (xs : List Range) → k < low → AreApartFrom low xs → AllByRecursion (λ y. eqb k y ≡ false) (map end_of xs)
+later_ends low k [] lt apart = tt
+later_ends low k (x ∷ xs) lt apart = (ne_eqb k x.end (λ e. omega (arith, apart.0, apart.1)), later_ends (x.end + 1) k xs (omega (arith, apart.0, apart.1)) apart.2)
 
-ends-differ : (low : ℕ) (xs : List Range) → AreApartFrom low xs → IsDistinct eqb (map end_of xs)
+ends_differ : (low : ℕ) (xs : List Range) → AreApartFrom low xs → IsDistinct eqb (map end_of xs)
 unfolding IsDistinct
-ends-differ low [] apart = tt
-ends-differ low (x ∷ xs) apart = (later-ends (x.end + 1) x.end xs (omega arith) apart.2, ends-differ (x.end + 1) xs apart.2)
+ends_differ low [] apart = tt
+ends_differ low (x ∷ xs) apart = (later_ends (x.end + 1) x.end xs (omega arith) apart.2, ends_differ (x.end + 1) xs apart.2)
 
 -- a range that is put in makes one more at most
-pub few-inserted : (xs ys : List Range) (r : Range) → AreApart xs → ((b : ℕ) → has_byte xs b ≡ (has_byte ys b || in_range r b)) → length xs ≤ length ys + 1
-few-inserted xs ys r apart same =
-    let le = length-le_from_is_member nat_eq_equiv (map end_of xs) (map end_of (r ∷ ys)) (ends-differ 0 xs apart) (λ q h. ends-in 0 xs ys r apart (λ b _. same b) q h) in
+pub few_inserted : (xs ys : List Range) (r : Range) → AreApart xs → ((b : ℕ) → has_byte xs b ≡ (has_byte ys b || in_range r b)) → length xs ≤ length ys + 1
+few_inserted xs ys r apart same =
+    let le = length-le_from_is_member nat_eq_equiv (map end_of xs) (map end_of (r ∷ ys)) (ends_differ 0 xs apart) (λ q h. ends_in 0 xs ys r apart (λ b _. same b) q h) in
     let a : length (map end_of xs) ≡ length xs = length-map xs end_of in
     let b : length (map end_of (r ∷ ys)) ≡ length (r ∷ ys) = length-map (r ∷ ys) end_of in
     omega arith
 
 -- ---- what they close
 -- a cell closes the places that it takes
-abbrev takes-live : ℕ → Live → Bool
-takes-live place live = is_taken live.loadable live.config.memory_regions place
+abbrev takes_live : ℕ → Live → Bool
+takes_live place live = is_taken live.loadable live.config.memory_regions place
 
-closed-lives : (lives : List Live) (place : ℕ) → is_closed_by lives place ≡ list_any (takes-live place) lives
-closed-lives lives place = list_any-map holder_of_live (λ (h : Holder). list_any (λ (r : Region). takes h.loadable r place) h.regions) lives
+closed_lives : (lives : List Live) (place : ℕ) → is_closed_by lives place ≡ list_any (takes_live place) lives
+closed_lives lives place = list_any_map holder_of_live (λ (h : Holder). list_any (λ (r : Region). takes h.loadable r place) h.regions) lives
 
 -- one cell more, as at a step of a loop
-pub closed-more : (lives : List Live) (i : ℕ) (d : Live) (place : ℕ) → i < length lives
+pub closed_more : (lives : List Live) (i : ℕ) (d : Live) (place : ℕ) → i < length lives
     → is_closed_by (take (i + 1) lives) place ≡ (is_closed_by (take i lives) place || is_taken (get_or lives i d).loadable (get_or lives i d).config.memory_regions place)
-closed-more lives i d place lt =
-    closed-lives (take (i + 1) lives) place
-    ∙ list_any_more (takes-live place) lives i d lt
-    ∙ ap (λ b. b || takes-live place (get_or lives i d)) (sym (closed-lives (take i lives) place))
+closed_more lives i d place lt =
+    closed_lives (take (i + 1) lives) place
+    ∙ list_any_more (takes_live place) lives i d lt
+    ∙ ap (λ b. b || takes_live place (get_or lives i d)) (sym (closed_lives (take i lives) place))
 
-pub closed-added : (lives : List Live) (new : Live) (place : ℕ) → is_closed_by (lives ++ new ∷ []) place ≡ (is_closed_by lives place || is_taken new.loadable new.config.memory_regions place)
-closed-added lives new place =
-    closed-lives (lives ++ new ∷ []) place
-    ∙ list_any-append (takes-live place) lives (new ∷ [])
-    ∙ ap (λ b. list_any (takes-live place) lives || b) (or-false (takes-live place new))
-    ∙ ap (λ b. b || takes-live place new) (sym (closed-lives lives place))
+pub closed_added : (lives : List Live) (new : Live) (place : ℕ) → is_closed_by (lives ++ new ∷ []) place ≡ (is_closed_by lives place || is_taken new.loadable new.config.memory_regions place)
+closed_added lives new place =
+    closed_lives (lives ++ new ∷ []) place
+    ∙ list_any-append (takes_live place) lives (new ∷ [])
+    ∙ ap (λ b. list_any (takes_live place) lives || b) (or-false (takes_live place new))
+    ∙ ap (λ b. b || takes_live place new) (sym (closed_lives lives place))
 
 -- the cell at an index, by its configuration and its mark
 pub record IsLiveAt (lives : List Live) (i : ℕ) (config : CellConfig) (mark : Bool) (d : Live) : Type 0 where
@@ -123,9 +123,9 @@ pub record IsLiveAt (lives : List Live) (i : ℕ) (config : CellConfig) (mark : 
   pub config_is : (get_or lives i d).config ≡ config
   pub mark_is : (get_or lives i d).loadable ≡ mark
 
-pub live-at : (lives : List Live) (cells : List CellConfig) (i : ℕ) (mark : Bool) (config : CellConfig) → configs_of lives ≡ cells → i < length cells → config ≡ get_or cells i config → mark ≡ is_loadable_at lives i
+pub live_at : (lives : List Live) (cells : List CellConfig) (i : ℕ) (mark : Bool) (config : CellConfig) → configs_of lives ≡ cells → i < length cells → config ≡ get_or cells i config → mark ≡ is_loadable_at lives i
     → IsLiveAt lives i config mark (record { config = config; loadable = mark })
-live-at lives cells i mark config same lt is marked =
+live_at lives cells i mark config same lt is marked =
     let d : Live = record { config = config; loadable = mark } in
     let len : length (map (λ (l : Live). l.config) lives) ≡ length lives = length-map lives (λ (l : Live). l.config) in
     let all : length (configs_of lives) ≡ length cells = ap (λ (cs : List CellConfig). length cs) same in
@@ -137,33 +137,33 @@ live-at lives cells i mark config same lt is marked =
     }
 
 -- what was closed by the cells before, and what the next one takes
-pub closed-step : (lives : List Live) (cells : List CellConfig) (i : ℕ) (mark : Bool) (config : CellConfig) (before after : Bool) (place : ℕ)
+pub closed_step : (lives : List Live) (cells : List CellConfig) (i : ℕ) (mark : Bool) (config : CellConfig) (before after : Bool) (place : ℕ)
     → configs_of lives ≡ cells → i < length cells → config ≡ get_or cells i config → mark ≡ is_loadable_at lives i
     → before ≡ is_closed_by (take i lives) place → after ≡ (before || is_taken mark config.memory_regions place) → after ≡ is_closed_by (take (i + 1) lives) place
-closed-step lives cells i mark config before after place same lt is marked was then =
+closed_step lives cells i mark config before after place same lt is marked was then =
     let d : Live = record { config = config; loadable = mark } in
-    let at = live-at lives cells i mark config same lt is marked in
+    let at = live_at lives cells i mark config same lt is marked in
     then
     ∙ ap (λ b. b || is_taken mark config.memory_regions place) was
     ∙ ap (λ m. is_closed_by (take i lives) place || is_taken m config.memory_regions place) (sym at.mark_is)
     ∙ ap (λ (c : CellConfig). is_closed_by (take i lives) place || is_taken (get_or lives i d).loadable c.memory_regions place) (sym at.config_is)
-    ∙ sym (closed-more lives i d place at.within)
+    ∙ sym (closed_more lives i d place at.within)
 
 -- once all cells are looked at
-pub closed-all : (lives : List Live) (cells : List CellConfig) (i : ℕ) (place : ℕ) → configs_of lives ≡ cells → length cells ≤ i → is_closed_by (take i lives) place ≡ is_closed_by lives place
-closed-all lives cells i place same le =
+pub closed_all : (lives : List Live) (cells : List CellConfig) (i : ℕ) (place : ℕ) → configs_of lives ≡ cells → length cells ≤ i → is_closed_by (take i lives) place ≡ is_closed_by lives place
+closed_all lives cells i place same le =
     let len : length (map (λ (l : Live). l.config) lives) ≡ length lives = length-map lives (λ (l : Live). l.config) in
     let all : length (configs_of lives) ≡ length cells = ap (λ (cs : List CellConfig). length cs) same in
     ap (λ (ls : List Live). is_closed_by ls place) (take_all i lives (omega arith))
 
 -- the regions of the cells up to one are no more than all
-pub few-regions : (cells : List CellConfig) (i : ℕ) (d : CellConfig) → i < length cells → (count_regions (take (i + 1) cells) ≡ count_regions (take i cells) + length (get_or cells i d).memory_regions) × (count_regions (take (i + 1) cells) ≤ count_regions cells)
-few-regions cells i d lt = (sum_by_more (λ (c : CellConfig). length c.memory_regions) cells i d lt, sum_by-take-le (λ (c : CellConfig). length c.memory_regions) cells (i + 1))
+pub few_regions : (cells : List CellConfig) (i : ℕ) (d : CellConfig) → i < length cells → (count_regions (take (i + 1) cells) ≡ count_regions (take i cells) + length (get_or cells i d).memory_regions) × (count_regions (take (i + 1) cells) ≤ count_regions cells)
+few_regions cells i d lt = (sum_by_more (λ (c : CellConfig). length c.memory_regions) cells i d lt, sum_by-take-le (λ (c : CellConfig). length c.memory_regions) cells (i + 1))
 
 -- nothing is in what all bytes were taken from
-pub none-left : (xs old : List Range) (end : ℕ) (x : Range) → AreApart xs → slice_get xs 0 ≡ Some x → ((b : ℕ) → has_byte xs b ≡ (has_byte old b && not (nat_le 0 b && nat_lt b end))) → x.end ≤ end → ⊥
-none-left [] old end x apart is same within = none-some x is
-none-left (y ∷ ys) old end x apart is same within =
+pub none_left : (xs old : List Range) (end : ℕ) (x : Range) → AreApart xs → slice_get xs 0 ≡ Some x → ((b : ℕ) → has_byte xs b ≡ (has_byte old b && not (nat_le 0 b && nat_lt b end))) → x.end ≤ end → ⊥
+none_left [] old end x apart is same within = none-some x is
+none_left (y ∷ ys) old end x apart is same within =
     let first : y ≡ x = same_Some y x is in
     let end_of_first : y.end ≡ x.end = ap (λ (r : Range). r.end) first in
     let some : y.start < y.end = apart.1 in
@@ -173,5 +173,5 @@ none-left (y ∷ ys) old end x apart is same within =
     both_ways (has_byte (y ∷ ys) y.start) (same y.start ∙ rw taken (and_right (has_byte old y.start) false refl)) here
 
 -- the places of a region fit a word
-pub places-fit : (region : Region) → IsInRange region → is_comm region ≡ false → phys_end region < 2 ^ 64
-places-fit region within own = let le = within.phys own in omega arith
+pub places_fit : (region : Region) → IsInRange region → is_comm region ≡ false → phys_end region < 2 ^ 64
+places_fit region within own = let le = within.phys own in omega arith

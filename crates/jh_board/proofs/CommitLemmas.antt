@@ -3,7 +3,7 @@ use Rattle.std.proofs.Common.{◌≡◌, ◌⊎◌, ℕ, ◌+◌, ◌*◌, ◌^�
 use Rattle.std.specs.Prelude.{All, Contains, IfSome, option_map, find}
 use Rattle.std.proofs.lemmas.Option.{none-some, same_Some}
 use Rattle.std.proofs.lemmas.List.Elements.{All-contains, All-map, All-weaker}
-use Rattle.jh_num.proofs.Lists.{Contains-cases, All-from_find}
+use Rattle.jh_num.proofs.Lists.{Contains_cases, All_from_find}
 use Rattle.jh_cellcfg.specs.declared.config.CellConfig.{CellConfig}
 use Rattle.jh_cellcfg.specs.declared.live.Live.{Live}
 use Rattle.jh_cellcfg.specs.Lives.{has_id}
@@ -34,9 +34,9 @@ use Rattle.jh_board.specs.declared.held.Held.{Held}
 use Rattle.jh_board.specs.Means.{Means, HoldsWords}
 use Rattle.jh_board.specs.Pages.{MemoryView, HoldsPlace, HoldsSlot, HoldsWord}
 use Rattle.jh_board.specs.Steps.{devices_held, slot_after, MayPut, MayWriteSlot, MayCommitDevices, MayCommit}
-use Rattle.jh_board.proofs.ActedLemmas.{word-acted}
-use Rattle.jh_board.proofs.AfterLemmas.{if-some, IsComing, created-phase, ready-coming}
-use Rattle.jh_board.proofs.KeptLemmas.{KeepsPages, words-kept}
+use Rattle.jh_board.proofs.ActedLemmas.{word_acted}
+use Rattle.jh_board.proofs.AfterLemmas.{if_some, IsComing, created_phase, ready_coming}
+use Rattle.jh_board.proofs.KeptLemmas.{KeepsPages, words_kept}
 
 -- ---- words that are held
 
@@ -47,7 +47,7 @@ words_of_cell image held f config means h =
     ⊎_elim
     (λ (own : image.system.root ≡ config). subst P own means.root_words)
     (λ (other : Contains (configs_of f.cells) config). All-contains P (configs_of f.cells) config (All-map P (λ (live : Live). live.config) f.cells means.words) other)
-    (Contains-cases image.system.root (configs_of f.cells) config h)
+    (Contains_cases image.system.root (configs_of f.cells) config h)
 
 -- that of each endpoint
 word_held : (image : Image) (held : Held) (f : Facts) (e : Endpoint) → Means image held f → IsSound image f → Contains f.endpoints e → HoldsWord held.memory e.spec
@@ -72,17 +72,17 @@ may_put image held memory f (Some slot) means sound pages h =
     (All-weaker (HoldsPlace held.memory) (HoldsPlace memory) pages (places_in_row (Physical (slot_of h.endpoint.spec 0).place) 4) word)
 
 -- the devices of a cell by what is held are those by the facts
-pub same-devices : (image : Image) (held : Held) (f : Facts) (id : ℕ) → held.cells.lives ≡ f.cells → held.endpoints.list ≡ f.endpoints → devices_held image held id ≡ devices_of image f id
-same-devices image held f id cells endpoints =
+pub same_devices : (image : Image) (held : Held) (f : Facts) (id : ℕ) → held.cells.lives ≡ f.cells → held.endpoints.list ≡ f.endpoints → devices_held image held id ≡ devices_of image f id
+same_devices image held f id cells endpoints =
     ap (λ (cs : List Live). devices_in image cs held.endpoints.list id) cells ∙ ap (λ (es : List Endpoint). devices_in image f.cells es id) endpoints
 
 -- the word that the act writes may be written
-pub may-write-slot : (image : Image) (held mid : Held) (f : Facts) (id : ℕ) (act : Act) (found : Reach) → Means image held f → IsSound image f → mid.cells ≡ held.cells → mid.endpoints ≡ held.endpoints → KeepsPages held.memory mid.memory
+pub may_write_slot : (image : Image) (held mid : Held) (f : Facts) (id : ℕ) (act : Act) (found : Reach) → Means image held f → IsSound image f → mid.cells ≡ held.cells → mid.endpoints ≡ held.endpoints → KeepsPages held.memory mid.memory
     → ((value : ℕ) → IfSome (slot_of_reach (devices_of image f id) found value) (IsWordOf f.endpoints)) → MayWriteSlot image mid id act found
-may-write-slot image held mid f id act found means sound cells endpoints pages word =
+may_write_slot image held mid f id act found means sound cells endpoints pages word =
     let P : Devices → Type 0 = λ devices. MayPut mid.memory (slot_after devices act found) in
-    let same : devices_held image mid id ≡ devices_of image f id = same-devices image mid f id (rw cells means.cells) (rw endpoints means.endpoints) in
-    subst P (sym same) (may_put image held mid.memory f (slot_after (devices_of image f id) act found) means sound pages (word-acted (IsWordOf f.endpoints) (devices_of image f id) act found word))
+    let same : devices_held image mid id ≡ devices_of image f id = same_devices image mid f id (rw cells means.cells) (rw endpoints means.endpoints) in
+    subst P (sym same) (may_put image held mid.memory f (slot_after (devices_of image f id) act found) means sound pages (word_acted (IsWordOf f.endpoints) (devices_of image f id) act found word))
 
 -- ---- the devices that a Commit changes
 
@@ -121,7 +121,7 @@ leave_joins h = cc
 
 -- what is known of the cell whose devices the call changes
 changed_cell : (cells : List Live) (o : OpenCall) (call : Call) (config : CellConfig) → o.call ≡ call → changing cells call o.phase ≡ Some config → IsComing (Some o) config ⊎ IsOfLive cells (Some o) config
-changed_cell cells o (Create at) config is h = inl (record { begun = o; is = refl; phase = created-phase (Create at) o.phase config h })
+changed_cell cells o (Create at) config is h = inl (record { begun = o; is = refl; phase = created_phase (Create at) o.phase config h })
 changed_cell cells o (Start id) config is h = inr (record { id = id; lives = h; stays = λ joins. reset_joins (ap device_change (sym is) ∙ joins) })
 changed_cell cells o (Loadable id) config is h = absurd (none-some config h)
 changed_cell cells o (Destroy id) config is h = inr (record { id = id; lives = h; stays = λ joins. leave_joins (ap device_change (sym is) ∙ joins) })
@@ -141,7 +141,7 @@ config_has Q (Some live) config is h = subst Q (same_Some live.config config is)
 live_words : (held : Held) (cells : List Live) (id : ℕ) (config : CellConfig) → All (λ (live : Live). HoldsWords held live.config) cells → live_in cells id ≡ Some config → HoldsWords held config
 live_words held cells id config all lives =
     let Q : CellConfig → Type 0 = HoldsWords held in
-    config_has Q (find (has_id id) cells) config lives (λ live found. All-from_find (has_id id) (λ (l : Live). Q l.config) cells live found all)
+    config_has Q (find (has_id id) cells) config lives (λ live found. All_from_find (has_id id) (λ (l : Live). Q l.config) cells live found all)
 
 -- what is held before devices change, and after memory has and other devices may have
 pub record IsReadyToCommit (old mid : Held) (act : Act) : Type 0 where
@@ -153,25 +153,25 @@ pub record IsReadyToCommit (old mid : Held) (act : Act) : Type 0 where
 
 coming_devices : (image : Image) (old mid : Held) (f : Facts) (act : Act) (config : CellConfig) → Means image old f → IsReadyToCommit old mid act → MayChange (change_by mid.call) mid.endpoints.list config → IsComing f.call config → MayCommitDevices mid config
 coming_devices image old mid f act config means kept may coming =
-    let ready = ready-coming old f.call coming.begun config means.ready coming.is coming.phase in
+    let ready = ready_coming old f.call coming.begun config means.ready coming.is coming.phase in
     let room = ready.endpoints in
     let spare = kept.spare in record {
       may = may;
       room = λ joins. omega arith;
-      words = words-kept old.memory mid.memory (specs_of config) kept.pages ready.words;
+      words = words_kept old.memory mid.memory (specs_of config) kept.pages ready.words;
     }
 
 living_devices : (image : Image) (old mid : Held) (f : Facts) (act : Act) (config : CellConfig) → Means image old f → IsReadyToCommit old mid act → MayChange (change_by mid.call) mid.endpoints.list config → IsOfLive f.cells f.call config → MayCommitDevices mid config
 living_devices image old mid f act config means kept may live = record {
   may = may;
   room = λ joins. absurd (live.stays (ap change_by (sym (kept.call ∙ means.call)) ∙ joins));
-  words = words-kept old.memory mid.memory (specs_of config) kept.pages (live_words old f.cells live.id config means.words live.lives);
+  words = words_kept old.memory mid.memory (specs_of config) kept.pages (live_words old f.cells live.id config means.words live.lives);
 }
 
 -- what is held has all that the Commit needs
-pub may-commit : (image : Image) (old mid : Held) (f : Facts) (act : Act) → Means image old f → IsReadyToCommit old mid act → IfSome (changing_by f.cells f.call act) (MayChange (change_by f.call) f.endpoints) → MayCommit mid act
-may-commit image old mid f act means kept law =
-    if-some (changing_by mid.cells.lives mid.call act) (MayCommitDevices mid) (λ config is.
+pub may_commit : (image : Image) (old mid : Held) (f : Facts) (act : Act) → Means image old f → IsReadyToCommit old mid act → IfSome (changing_by f.cells f.call act) (MayChange (change_by f.call) f.endpoints) → MayCommit mid act
+may_commit image old mid f act means kept law =
+    if_some (changing_by mid.cells.lives mid.call act) (MayCommitDevices mid) (λ config is.
     let cells : mid.cells.lives ≡ f.cells = rw kept.cells means.cells in
     let call : mid.call ≡ f.call = kept.call ∙ means.call in
     let known : changing_by f.cells f.call act ≡ Some config =

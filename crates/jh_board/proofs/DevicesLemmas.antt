@@ -1,18 +1,16 @@
 -- The endpoints of a cell's devices, one device after another.
-use Rattle.std.proofs.Common.{◌≡◌, ℕ, zero, suc, ◌+◌, ◌<◌, ◌≤◌, ◌^◌, Bool, true, false, cond, nat_lt, List, [], ◌∷◌, ◌++◌, length, take, drop, get_or, Option, Some, refl, sym, ◌∙◌, ap, subst, arith}
+use Rattle.std.proofs.Common.{◌≡◌, ℕ, zero, suc, ◌+◌, ◌<◌, ◌≤◌, ◌^◌, Bool, true, false, cond, List, [], ◌∷◌, ◌++◌, length, take, drop, get_or, Option, Some, refl, sym, ◌∙◌, ap, subst, arith}
 use Rattle.std.specs.Prelude.{All, AllPairs, Contains, slice_get}
 use Rattle.std.specs.List.{AllByRecursion}
-use Rattle.std.proofs.lemmas.Bool.{and_parts, eqb-true}
-use Rattle.std.proofs.lemmas.Option.{slice_get-get_or, get_or_from_slice_get}
+use Rattle.std.proofs.lemmas.Option.{slice_get-get_or}
 use Rattle.std.proofs.lemmas.List.{take_all, length-append, get_or_append_left, get_or-append-add, get_or_default}
-use Rattle.std.proofs.lemmas.List.Elements.{All-contains, All-contains_itself, All-from_recursion, recursion_from_All}
+use Rattle.std.proofs.lemmas.List.Elements.{All-contains, All-from_recursion, recursion_from_All}
 use Rattle.std.proofs.lemmas.List.Sums.{fold-append}
 use Rattle.jh_num.specs.declared.address.TheConstants.{ADDRESS_END}
 use Rattle.jh_cellcfg.specs.declared.config.CellConfig.{CellConfig}
 use Rattle.jh_cellcfg.specs.declared.config.PciDevice.{PciDevice}
 use Rattle.jh_cellcfg.specs.declared.region.Region.{Region}
 use Rattle.jh_check.specs.Clean.{IsShmem, IsGoodDevice}
-use Rattle.jh_check.specs.Devices.{is_shmem}
 use Rattle.jh_ivshmem.specs.declared.endpoint.Endpoint.{Endpoint}
 use Rattle.jh_ivshmem.specs.declared.spec.EndpointSpec.{EndpointSpec}
 use Rattle.jh_ivshmem.specs.Endpoint.{fresh}
@@ -24,6 +22,7 @@ use Rattle.jh_history.specs.declared.place.Place.{Place}
 use Rattle.jh_history.specs.Devices.{is_endpoint, section_at, place_of_section, spec_of, specs_from, specs_of, specs_by, specs_at}
 use Rattle.jh_history.specs.Endpoints.{HasGoodDevices, MayJoinThem, MayChange, endpoint_changed, endpoints_changed, with_words}
 use Rattle.jh_history.proofs.FactsLemmas.{same_function}
+use Rattle.jh_history.proofs.SpecsLemmas.{kind_from, All_from_held}
 use Rattle.jh_board.specs.Closed.{AreInRange}
 
 -- ---- one device after another
@@ -45,16 +44,16 @@ next_from config m (suc n) (device ∷ devices) lt =
     (next_from config (m + 1) n devices (omega arith) ∙ ap (λ (k : ℕ). specs_from config (m + 1) (take n devices) ++ specs_by config k (slice_get devices n)) e)
 
 -- one device more
-pub specs-more : (config : CellConfig) (n : ℕ) → n < length config.pci_devices → specs_before config (n + 1) ≡ specs_before config n ++ specs_at config n
-specs-more config n lt =
+pub specs_more : (config : CellConfig) (n : ℕ) → n < length config.pci_devices → specs_before config (n + 1) ≡ specs_before config n ++ specs_at config n
+specs_more config n lt =
     let next : n + 1 ≡ suc n = omega arith in
     let own : 0 + n ≡ n = omega arith in
     ap (specs_before config) next ∙ next_from config 0 n config.pci_devices lt ∙ ap (λ (k : ℕ). specs_before config n ++ specs_by config k (slice_get config.pci_devices n)) own
 
 -- all devices
-pub specs-all : (config : CellConfig) (n : ℕ) → length config.pci_devices ≤ n → specs_before config n ≡ specs_of config
+pub specs_all : (config : CellConfig) (n : ℕ) → length config.pci_devices ≤ n → specs_before config n ≡ specs_of config
 unfolding specs_of
-specs-all config n le = ap (specs_from config 0) (take_all n config.pci_devices le)
+specs_all config n le = ap (specs_from config 0) (take_all n config.pci_devices le)
 
 cond_few : (b : Bool) (spec : EndpointSpec) (xs : List EndpointSpec) (n : ℕ) → length xs ≤ n → length (cond b (spec ∷ xs) xs) ≤ suc n
 cond_few true spec xs n le = omega arith
@@ -65,9 +64,9 @@ few_from config m [] = omega arith
 few_from config m (device ∷ devices) = cond_few (is_endpoint m device) (spec_of config m device) (specs_from config (m + 1) devices) (length devices) (few_from config (m + 1) devices)
 
 -- no more endpoints than devices
-pub specs-few : (config : CellConfig) → length (specs_of config) ≤ length config.pci_devices
+pub specs_few : (config : CellConfig) → length (specs_of config) ≤ length config.pci_devices
 unfolding specs_of
-specs-few config = few_from config 0 config.pci_devices
+specs_few config = few_from config 0 config.pci_devices
 
 around_from : (config : CellConfig) (m n : ℕ) (devices : List PciDevice) → n < length devices
     → specs_from config m devices ≡ specs_from config m (take n devices) ++ (specs_by config (m + n) (slice_get devices n) ++ specs_from config (m + suc n) (drop (suc n) devices))
@@ -113,20 +112,15 @@ all_right P xs ys all k d below =
     let within : length xs + k < length (xs ++ ys) = omega arith in
     subst P (get_or-append-add xs ys k d) (all (length xs + k) d within)
 
-pub all-before : (P : EndpointSpec → Type 0) (config : CellConfig) (n : ℕ) → n < length config.pci_devices → All P (specs_of config) → All P (specs_before config n)
-all-before P config n lt all =
-    let Q : List EndpointSpec → Type 0 = All P in
-    all_left P (specs_before config n) (specs_rest config n) (subst Q (specs_around config n lt) all)
-
-pub all-at : (P : EndpointSpec → Type 0) (config : CellConfig) (n : ℕ) → n < length config.pci_devices → All P (specs_of config) → All P (specs_at config n)
-all-at P config n lt all =
+pub all_at : (P : EndpointSpec → Type 0) (config : CellConfig) (n : ℕ) → n < length config.pci_devices → All P (specs_of config) → All P (specs_at config n)
+all_at P config n lt all =
     let Q : List EndpointSpec → Type 0 = All P in
     all_left P (specs_at config n) (specs_from config (suc n) (drop (suc n) config.pci_devices))
     (all_right P (specs_before config n) (specs_rest config n) (subst Q (specs_around config n lt) all))
 
 -- how many there are up to a device
-pub specs-count : (config : CellConfig) (n : ℕ) → n < length config.pci_devices → length (specs_before config n) + length (specs_at config n) ≤ length (specs_of config)
-specs-count config n lt =
+pub specs_count : (config : CellConfig) (n : ℕ) → n < length config.pci_devices → length (specs_before config n) + length (specs_at config n) ≤ length (specs_of config)
+specs_count config n lt =
     let last = specs_from config (suc n) (drop (suc n) config.pci_devices) in
     let around : length (specs_of config) ≡ length (specs_before config n ++ specs_rest config n) = ap (λ (xs : List EndpointSpec). length xs) (specs_around config n lt) in
     let whole : length (specs_before config n ++ specs_rest config n) ≡ length (specs_before config n) + length (specs_rest config n) = length-append (specs_before config n) (specs_rest config n) in
@@ -162,10 +156,6 @@ spec_within config n device good range = record {
   table = first_table config device good range;
 }
 
--- an endpoint is that of an ivshmem device
-pub is-shmem : (n : ℕ) (device : PciDevice) → is_endpoint n device ≡ true → IsShmem device
-is-shmem n device passes = eqb-true device.kind 3 (and_parts (nat_lt n (2 ^ 32)) (is_shmem device) passes).1
-
 cond_all : (P : EndpointSpec → Type 0) (b : Bool) (spec : EndpointSpec) (xs : List EndpointSpec) → (b ≡ true → P spec) → AllByRecursion P xs → AllByRecursion P (cond b (spec ∷ xs) xs)
 cond_all P true spec xs h hs = (h refl, hs)
 cond_all P false spec xs h hs = hs
@@ -174,21 +164,14 @@ within_from : (config : CellConfig) (n : ℕ) (devices : List PciDevice) → Are
 within_from config n [] range good = tt
 within_from config n (device ∷ devices) range good =
     cond_all IsWithin (is_endpoint n device) (spec_of config n device) (specs_from config (n + 1) devices)
-    (λ passes. spec_within config n device (good.0 (is-shmem n device passes)) range) (within_from config (n + 1) devices range good.1)
+    (λ passes. spec_within config n device (good.0 (kind_from n device passes)) range) (within_from config (n + 1) devices range good.1)
 
 -- the endpoints of good devices are within their limits, where the cell's regions end within the places
-pub specs-within : (config : CellConfig) → HasGoodDevices config → AreInRange config.memory_regions → All IsWithin (specs_of config)
+pub specs_within : (config : CellConfig) → HasGoodDevices config → AreInRange config.memory_regions → All IsWithin (specs_of config)
 unfolding specs_of
-specs-within config good range =
+specs_within config good range =
     All-from_recursion IsWithin (specs_from config 0 config.pci_devices)
     (within_from config 0 config.pci_devices range (recursion_from_All (λ (d : PciDevice). IsShmem d → IsGoodDevice config d) config.pci_devices good))
-
--- the device of a number is good where it has an endpoint
-pub good-at : (config : CellConfig) (n : ℕ) (device : PciDevice) → HasGoodDevices config → slice_get config.pci_devices n ≡ Some device → n < length config.pci_devices → is_endpoint n device ≡ true → IsGoodDevice config device
-good-at config n device good item below passes =
-    let own : get_or config.pci_devices n device ≡ device = get_or_from_slice_get config.pci_devices n device device item in
-    let P : PciDevice → Type 0 = λ d. IsShmem d → IsGoodDevice config d in
-    subst P own (good n device below) (is-shmem n device passes)
 
 -- ---- endpoints that join
 
@@ -221,21 +204,18 @@ pair_apart {X} R xs ys a b apart first later =
     let Q : X → Type 0 = λ y. R a y in
     subst Q other (subst P own (apart i j a before within))
 
-pub all-held : {X : Type 0} (P : X → Type 0) (xs : List X) → ((x : X) → Contains xs x → P x) → All P xs
-all-held P xs h k d below = h (get_or xs k d) (All-contains_itself xs k d below)
-
 -- the endpoints of a device may join where all may, and those of the devices before have
-pub may-join-next : (config : CellConfig) (list : List Endpoint) (n : ℕ) → MayChange Join list config → n < length config.pci_devices → All (MayJoinThem (endpoints_changed Join (specs_before config n) list)) (specs_at config n)
-may-join-next config list n may lt =
+pub may_join_next : (config : CellConfig) (list : List Endpoint) (n : ℕ) → MayChange Join list config → n < length config.pci_devices → All (MayJoinThem (endpoints_changed Join (specs_before config n) list)) (specs_at config n)
+may_join_next config list n may lt =
     let before = specs_before config n in
     let P : List EndpointSpec → Type 0 = AllPairs AreApart in
     let apart : AllPairs AreApart (before ++ specs_rest config n) = subst P (specs_around config n lt) (may.apart refl) in
-    all-held (MayJoinThem (endpoints_changed Join before list)) (specs_at config n) (λ spec held.
+    All_from_held (MayJoinThem (endpoints_changed Join before list)) (specs_at config n) (λ spec held.
     let Q : EndpointSpec → Type 0 = λ other. AreApart other spec in
-    let new : All (λ (e : Endpoint). Q e.spec) list = All-contains (MayJoinThem list) (specs_at config n) spec (all-at (MayJoinThem list) config n lt (may.new refl)) held in
+    let new : All (λ (e : Endpoint). Q e.spec) list = All-contains (MayJoinThem list) (specs_at config n) spec (all_at (MayJoinThem list) config n lt (may.new refl)) held in
     All-from_recursion (λ (e : Endpoint). Q e.spec) (endpoints_changed Join before list)
     (joining_have Q before list
-    (recursion_from_All Q before (all-held Q before (λ other earlier. pair_apart AreApart before (specs_rest config n) other spec apart earlier (left_held (specs_at config n) (specs_from config (suc n) (drop (suc n) config.pci_devices)) spec held))))
+    (recursion_from_All Q before (All_from_held Q before (λ other earlier. pair_apart AreApart before (specs_rest config n) other spec apart earlier (left_held (specs_at config n) (specs_from config (suc n) (drop (suc n) config.pci_devices)) spec held))))
     (recursion_from_All (λ (e : Endpoint). Q e.spec) list new)))
   where
     left_held : (xs ys : List EndpointSpec) (x : EndpointSpec) → Contains xs x → Contains (xs ++ ys) x
@@ -248,16 +228,16 @@ may-join-next config list n may lt =
 -- ---- what a change leaves
 
 -- the changes at some endpoints and then at others
-pub changed-more : (change : DeviceChange) (specs more : List EndpointSpec) (old mid new : List Endpoint) → mid ≡ endpoints_changed change specs old → new ≡ endpoints_changed change more mid → new ≡ endpoints_changed change (specs ++ more) old
-changed-more change specs more old mid new first then =
+pub changed_more : (change : DeviceChange) (specs more : List EndpointSpec) (old mid new : List Endpoint) → mid ≡ endpoints_changed change specs old → new ≡ endpoints_changed change more mid → new ≡ endpoints_changed change (specs ++ more) old
+changed_more change specs more old mid new first then =
     then ∙ ap (endpoints_changed change more) first ∙ sym (fold-append (endpoint_changed change) old specs more)
 
 with_both : (specs more : List EndpointSpec) (byte : Place → ℕ) → with_words (specs ++ more) byte ≡ with_words more (with_words specs byte)
 with_both [] more byte = refl
 with_both (spec ∷ specs) more byte = with_both specs more (with_words (spec ∷ []) byte)
 
-pub words-more : (specs more : List EndpointSpec) (old mid new : Place → ℕ) → ((q : Place) → mid q ≡ with_words specs old q) → ((q : Place) → new q ≡ with_words more mid q) → (q : Place) → new q ≡ with_words (specs ++ more) old q
-words-more specs more old mid new first then q =
+pub words_more : (specs more : List EndpointSpec) (old mid new : Place → ℕ) → ((q : Place) → mid q ≡ with_words specs old q) → ((q : Place) → new q ≡ with_words more mid q) → (q : Place) → new q ≡ with_words (specs ++ more) old q
+words_more specs more old mid new first then q =
     then q
     ∙ ap (λ (byte : Place → ℕ). with_words more byte q) (same_function mid (with_words specs old) first)
     ∙ ap (λ (byte : Place → ℕ). byte q) (sym (with_both specs more old))

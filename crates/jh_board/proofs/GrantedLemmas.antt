@@ -17,205 +17,187 @@ use Rattle.jh_history.specs.declared.access.Reach.{Reach}
 use Rattle.jh_history.specs.declared.access.Reach.TheVariants.{Memory, Nothing}
 use Rattle.jh_history.specs.Places.{places_in_row}
 use Rattle.jh_history.specs.Access.{places_from, place_of, memory_or_nothing, reach_by}
-use Rattle.jh_history.specs.Devices.{list_in}
 use Rattle.jh_history.specs.Grants.{is_kept, unless, granted_in}
 use Rattle.jh_history.specs.Lives.{live_in, regions_in}
+use Rattle.jh_history.proofs.GrantedLemmas.{unless_kept}
 use Rattle.jh_board.specs.Closed.{is_closed_by, live_regions}
 
 -- ---- which places root is kept from
 
-abbrev kept-from : Image → List Live → Place → Bool
-kept-from image lives = is_kept image lives image.system.root.id
+abbrev kept_from : Image → List Live → Place → Bool
+kept_from image lives = is_kept image lives image.system.root.id
 
-kept-closed : (image : Image) (lives : List Live) (p : ℕ) → kept-from image lives (Physical p) ≡ is_closed_by lives p
-kept-closed image lives p = let own : eqb image.system.root.id image.system.root.id ≡ true = eq-eqb image.system.root.id image.system.root.id refl in rw own refl
+kept_closed : (image : Image) (lives : List Live) (p : ℕ) → kept_from image lives (Physical p) ≡ is_closed_by lives p
+kept_closed image lives p = let own : eqb image.system.root.id image.system.root.id ≡ true = eq-eqb image.system.root.id image.system.root.id refl in rw own refl
 
-row-open : (image : Image) (lives : List Live) (start n : ℕ) → ((p : ℕ) → start ≤ p → p < start + n → is_closed_by lives p ≡ false) → list_any (kept-from image lives) (places_in_row (Physical start) n) ≡ false
-row-open image lives start zero none = refl
-row-open image lives start (suc n) none =
-    let here : kept-from image lives (Physical start) ≡ false = kept-closed image lives start ∙ none start (omega arith) (omega arith) in
-    rw here (row-open image lives (start + 1) n (λ p low high. none p (omega arith) (omega arith)))
+row_open : (image : Image) (lives : List Live) (start n : ℕ) → ((p : ℕ) → start ≤ p → p < start + n → is_closed_by lives p ≡ false) → list_any (kept_from image lives) (places_in_row (Physical start) n) ≡ false
+row_open image lives start zero none = refl
+row_open image lives start (suc n) none =
+    let here : kept_from image lives (Physical start) ≡ false = kept_closed image lives start ∙ none start (omega arith) (omega arith) in
+    rw here (row_open image lives (start + 1) n (λ p low high. none p (omega arith) (omega arith)))
 
-row-met : (image : Image) (lives : List Live) (start n p : ℕ) → start ≤ p → p < start + n → is_closed_by lives p ≡ true → list_any (kept-from image lives) (places_in_row (Physical start) n) ≡ true
-row-met image lives start zero p low high is = absurd (omega arith)
-row-met image lives start (suc n) p low high is = elim (cases_eq p start) [
-  | inl e ↦ or_left (kept-from image lives (Physical start)) (list_any (kept-from image lives) (places_in_row (Physical (start + 1)) n)) (kept-closed image lives start ∙ ap (is_closed_by lives) (sym e) ∙ is)
-  | inr m ↦ or_right (kept-from image lives (Physical start)) (list_any (kept-from image lives) (places_in_row (Physical (start + 1)) n)) (row-met image lives (start + 1) n p (omega arith) (omega arith) is)
+row_met : (image : Image) (lives : List Live) (start n p : ℕ) → start ≤ p → p < start + n → is_closed_by lives p ≡ true → list_any (kept_from image lives) (places_in_row (Physical start) n) ≡ true
+row_met image lives start zero p low high is = absurd (omega arith)
+row_met image lives start (suc n) p low high is = elim (cases_eq p start) [
+  | inl e ↦ or_left (kept_from image lives (Physical start)) (list_any (kept_from image lives) (places_in_row (Physical (start + 1)) n)) (kept_closed image lives start ∙ ap (is_closed_by lives) (sym e) ∙ is)
+  | inr m ↦ or_right (kept_from image lives (Physical start)) (list_any (kept_from image lives) (places_in_row (Physical (start + 1)) n)) (row_met image lives (start + 1) n p (omega arith) (omega arith) is)
 ]
 
-within-low : (start end p : ℕ) → (nat_le start p && nat_lt p end) ≡ true → start ≤ p
-within-low start end p h = grind (arith, nat_tests)
+within_low : (start end p : ℕ) → (nat_le start p && nat_lt p end) ≡ true → start ≤ p
+within_low start end p h = grind (arith, nat_tests)
 
-within-high : (start end p : ℕ) → (nat_le start p && nat_lt p end) ≡ true → p < end
-within-high start end p h = grind (arith, nat_tests)
+within_high : (start end p : ℕ) → (nat_le start p && nat_lt p end) ≡ true → p < end
+within_high start end p h = grind (arith, nat_tests)
 
-within-both : (start end p : ℕ) → start ≤ p → p < end → (nat_le start p && nat_lt p end) ≡ true
-within-both start end p low high = grind (arith, nat_tests)
+within_both : (start end p : ℕ) → start ≤ p → p < end → (nat_le start p && nat_lt p end) ≡ true
+within_both start end p low high = grind (arith, nat_tests)
 
 -- a test whether a place of the range is closed
-kept-row : (image : Image) (lives : List Live) (start n : ℕ) (b : Bool) → (IsTrue b ↔ ((p : ℕ) × IsTrue ((nat_le start p && nat_lt p (start + n)) && is_closed_by lives p)))
-    → b ≡ list_any (kept-from image lives) (places_in_row (Physical start) n)
-kept-row image lives start n true told =
+kept_row : (image : Image) (lives : List Live) (start n : ℕ) (b : Bool) → (IsTrue b ↔ ((p : ℕ) × IsTrue ((nat_le start p && nat_lt p (start + n)) && is_closed_by lives p)))
+    → b ≡ list_any (kept_from image lives) (places_in_row (Physical start) n)
+kept_row image lives start n true told =
     let met = told.0 refl in
     let parts = and_parts (nat_le start met.0 && nat_lt met.0 (start + n)) (is_closed_by lives met.0) met.1 in
-    sym (row-met image lives start n met.0 (within-low start (start + n) met.0 parts.0) (within-high start (start + n) met.0 parts.0) parts.1)
-kept-row image lives start n false told =
-    sym (row-open image lives start n (λ p low high. elim (cases_Bool (is_closed_by lives p)) [
-      | inl met ↦ absurd (both_ways false refl (told.1 (p, and_from (nat_le start p && nat_lt p (start + n)) (is_closed_by lives p) (within-both start (start + n) p low high) met)))
+    sym (row_met image lives start n met.0 (within_low start (start + n) met.0 parts.0) (within_high start (start + n) met.0 parts.0) parts.1)
+kept_row image lives start n false told =
+    sym (row_open image lives start n (λ p low high. elim (cases_Bool (is_closed_by lives p)) [
+      | inl met ↦ absurd (both_ways false refl (told.1 (p, and_from (nat_le start p && nat_lt p (start + n)) (is_closed_by lives p) (within_both start (start + n) p low high) met)))
       | inr free ↦ free
     ]))
 
-pub kept-run : (image : Image) (lives : List Live) (start n m : ℕ) (b : Bool) → m ≡ n → (IsTrue b ↔ ((p : ℕ) × IsTrue ((nat_le start p && nat_lt p (start + m)) && is_closed_by lives p)))
-    → b ≡ list_any (kept-from image lives) (places_in_row (Physical start) n)
-kept-run image lives start n m b same told = kept-row image lives start m b told ∙ ap (λ k. list_any (kept-from image lives) (places_in_row (Physical start) k)) same
+pub kept_run : (image : Image) (lives : List Live) (start n m : ℕ) (b : Bool) → m ≡ n → (IsTrue b ↔ ((p : ℕ) × IsTrue ((nat_le start p && nat_lt p (start + m)) && is_closed_by lives p)))
+    → b ≡ list_any (kept_from image lives) (places_in_row (Physical start) n)
+kept_run image lives start n m b same told = kept_row image lives start m b told ∙ ap (λ k. list_any (kept_from image lives) (places_in_row (Physical start) k)) same
 
 -- no place of a communication page is kept, and from a cell besides root none is
-pub kept-pages : (image : Image) (lives : List Live) (cell offset n : ℕ) → false ≡ list_any (kept-from image lives) (places_in_row (Page cell offset) n)
-kept-pages image lives cell offset zero = refl
-kept-pages image lives cell offset (suc n) = kept-pages image lives cell (offset + 1) n
+pub kept_pages : (image : Image) (lives : List Live) (cell offset n : ℕ) → false ≡ list_any (kept_from image lives) (places_in_row (Page cell offset) n)
+kept_pages image lives cell offset zero = refl
+kept_pages image lives cell offset (suc n) = kept_pages image lives cell (offset + 1) n
 
-kept-other : (image : Image) (lives : List Live) (id : ℕ) (p : Place) → eqb id image.system.root.id ≡ false → is_kept image lives id p ≡ false
-kept-other image lives id (Physical p) other = rw other refl
-kept-other image lives id (Page cell offset) other = refl
+kept_other : (image : Image) (lives : List Live) (id : ℕ) (p : Place) → eqb id image.system.root.id ≡ false → is_kept image lives id p ≡ false
+kept_other image lives id (Physical p) other = rw other refl
+kept_other image lives id (Page cell offset) other = refl
 
-kept-none : (image : Image) (lives : List Live) (id : ℕ) (places : List Place) → eqb id image.system.root.id ≡ false → false ≡ list_any (is_kept image lives id) places
-kept-none image lives id [] other = refl
-kept-none image lives id (p ∷ ps) other = rw (kept-other image lives id p other) (kept-none image lives id ps other)
+kept_none : (image : Image) (lives : List Live) (id : ℕ) (places : List Place) → eqb id image.system.root.id ≡ false → false ≡ list_any (is_kept image lives id) places
+kept_none image lives id [] other = refl
+kept_none image lives id (p ∷ ps) other = rw (kept_other image lives id p other) (kept_none image lives id ps other)
 
-pub kept-others : (image : Image) (lives : List Live) (id : ℕ) (places : List Place) → (id ≡ image.system.root.id → ⊥) → false ≡ list_any (is_kept image lives id) places
-kept-others image lives id places other = kept-none image lives id places (ne_eqb id image.system.root.id other)
+pub kept_others : (image : Image) (lives : List Live) (id : ℕ) (places : List Place) → (id ≡ image.system.root.id → ⊥) → false ≡ list_any (is_kept image lives id) places
+kept_others image lives id places other = kept_none image lives id places (ne_eqb id image.system.root.id other)
 
 -- the places of two runs
-pub kept-runs : (image : Image) (lives : List Live) (id : ℕ) (low high places : List Place) (a b : Bool) → id ≡ image.system.root.id → places ≡ low ++ high
-    → a ≡ list_any (kept-from image lives) low → b ≡ list_any (kept-from image lives) high → (a || b) ≡ list_any (is_kept image lives id) places
-kept-runs image lives id low high places a b own is first second =
-    ap (λ x. x || b) first ∙ ap (λ x. list_any (kept-from image lives) low || x) second
-    ∙ sym (list_any-append (kept-from image lives) low high)
-    ∙ ap (λ (ps : List Place). list_any (kept-from image lives) ps) (sym is)
+pub kept_runs : (image : Image) (lives : List Live) (id : ℕ) (low high places : List Place) (a b : Bool) → id ≡ image.system.root.id → places ≡ low ++ high
+    → a ≡ list_any (kept_from image lives) low → b ≡ list_any (kept_from image lives) high → (a || b) ≡ list_any (is_kept image lives id) places
+kept_runs image lives id low high places a b own is first second =
+    ap (λ x. x || b) first ∙ ap (λ x. list_any (kept_from image lives) low || x) second
+    ∙ sym (list_any-append (kept_from image lives) low high)
+    ∙ ap (λ (ps : List Place). list_any (kept_from image lives) ps) (sym is)
     ∙ ap (λ (k : ℕ). list_any (is_kept image lives k) places) (sym own)
 
 -- ---- what is reached
 
-abbrev open-all : (Place → Bool) → List Place → Option (List Place)
-open-all kept places = cond (list_any kept places) None (Some places)
+abbrev open_all : (Place → Bool) → List Place → Option (List Place)
+open_all kept places = cond (list_any kept places) None (Some places)
 
-abbrev open-place : (Place → Bool) → (ℕ → Option Place) → ℕ → Option Place
-open-place kept place at = option_and_then (unless kept) (place at)
+abbrev open_place : (Place → Bool) → (ℕ → Option Place) → ℕ → Option Place
+open_place kept place at = option_and_then (unless kept) (place at)
 
-kept-first : (kept : Place → Bool) (p : Place) (rest : Option (List Place)) → None ≡ option_and_then (λ (ps : List Place). cond (true || list_any kept ps) None (Some ps)) rest
-kept-first kept p None = refl
-kept-first kept p (Some ps) = refl
+open_more : (kept : Place → Bool) (p : Place) (b : Bool) (rest : Option (List Place)) → kept p ≡ b
+    → cond b None (option_map (λ (ps : List Place). p ∷ ps) (option_and_then (open_all kept) rest)) ≡ option_and_then (open_all kept) (option_map (λ (ps : List Place). p ∷ ps) rest)
+open_more kept p true None is = refl
+open_more kept p true (Some ps) is = rw is refl
+open_more kept p false None is = refl
+open_more kept p false (Some ps) is = rw is (elim (list_any kept ps) as (λ b. option_map (λ (qs : List Place). p ∷ qs) (cond b None (Some ps)) ≡ cond b None (Some (p ∷ ps))) [ true ↦ refl | false ↦ refl ])
 
-open-more : (kept : Place → Bool) (p : Place) (b : Bool) (rest : Option (List Place)) → kept p ≡ b
-    → cond b None (option_map (λ (ps : List Place). p ∷ ps) (option_and_then (open-all kept) rest)) ≡ option_and_then (open-all kept) (option_map (λ (ps : List Place). p ∷ ps) rest)
-open-more kept p true None is = refl
-open-more kept p true (Some ps) is = rw is refl
-open-more kept p false None is = refl
-open-more kept p false (Some ps) is = rw is (elim (list_any kept ps) as (λ b. option_map (λ (qs : List Place). p ∷ qs) (cond b None (Some ps)) ≡ cond b None (Some (p ∷ ps))) [ true ↦ refl | false ↦ refl ])
-
-open-by : (kept : Place → Bool) (p : Place) (b : Bool) (rest : Option (List Place)) → kept p ≡ b
+open_by : (kept : Place → Bool) (p : Place) (b : Bool) (rest : Option (List Place)) → kept p ≡ b
     → option_and_then (λ (q : Place). option_map (λ (ps : List Place). q ∷ ps) rest) (cond b None (Some p)) ≡ cond b None (option_map (λ (ps : List Place). p ∷ ps) rest)
-open-by kept p true rest is = refl
-open-by kept p false rest is = refl
+open_by kept p true rest is = refl
+open_by kept p false rest is = refl
 
-open-step : (kept : Place → Bool) (o : Option Place) (rest other : Option (List Place)) → other ≡ option_and_then (open-all kept) rest
-    → option_and_then (λ (q : Place). option_map (λ (ps : List Place). q ∷ ps) other) (option_and_then (unless kept) o) ≡ option_and_then (open-all kept) (option_and_then (λ (q : Place). option_map (λ (ps : List Place). q ∷ ps) rest) o)
-open-step kept None rest other same = refl
-open-step kept (Some p) rest other same =
-    open-by kept p (kept p) other refl
+open_step : (kept : Place → Bool) (o : Option Place) (rest other : Option (List Place)) → other ≡ option_and_then (open_all kept) rest
+    → option_and_then (λ (q : Place). option_map (λ (ps : List Place). q ∷ ps) other) (option_and_then (unless kept) o) ≡ option_and_then (open_all kept) (option_and_then (λ (q : Place). option_map (λ (ps : List Place). q ∷ ps) rest) o)
+open_step kept None rest other same = refl
+open_step kept (Some p) rest other same =
+    open_by kept p (kept p) other refl
     ∙ ap (λ (o : Option (List Place)). cond (kept p) None (option_map (λ (ps : List Place). p ∷ ps) o)) same
-    ∙ open-more kept p (kept p) rest refl
+    ∙ open_more kept p (kept p) rest refl
 
-places-open : (kept : Place → Bool) (place : ℕ → Option Place) (at n : ℕ) → places_from (open-place kept place) at n ≡ option_and_then (open-all kept) (places_from place at n)
-places-open kept place at zero = refl
-places-open kept place at (suc n) = open-step kept (place at) (places_from place (at + 1) n) (places_from (open-place kept place) (at + 1) n) (places-open kept place (at + 1) n)
+places_open : (kept : Place → Bool) (place : ℕ → Option Place) (at n : ℕ) → places_from (open_place kept place) at n ≡ option_and_then (open_all kept) (places_from place at n)
+places_open kept place at zero = refl
+places_open kept place at (suc n) = open_step kept (place at) (places_from place (at + 1) n) (places_from (open_place kept place) (at + 1) n) (places_open kept place (at + 1) n)
 
 -- the places of a row that root is granted: none where one of them is kept
-row-open-all : (image : Image) (lives : List Live) (id : ℕ) (access : Access) (at n : ℕ) (found : Option (List Place)) → found ≡ places_from (place_of id (regions_in image lives id) access) at n
-    → option_and_then (open-all (is_kept image lives id)) found ≡ places_from (granted_in image lives id access) at n
-row-open-all image lives id access at n found is =
-    ap (option_and_then (open-all (is_kept image lives id))) is ∙ sym (places-open (is_kept image lives id) (place_of id (regions_in image lives id) access) at n)
+row_open_all : (image : Image) (lives : List Live) (id : ℕ) (access : Access) (at n : ℕ) (found : Option (List Place)) → found ≡ places_from (place_of id (regions_in image lives id) access) at n
+    → option_and_then (open_all (is_kept image lives id)) found ≡ places_from (granted_in image lives id access) at n
+row_open_all image lives id access at n found is =
+    ap (option_and_then (open_all (is_kept image lives id))) is ∙ sym (places_open (is_kept image lives id) (place_of id (regions_in image lives id) access) at n)
 
-pub row-kept : (image : Image) (lives : List Live) (id : ℕ) (access : Access) (at n : ℕ) (row : List Place) (b : Bool) → Some row ≡ places_from (place_of id (regions_in image lives id) access) at n
+pub row_kept : (image : Image) (lives : List Live) (id : ℕ) (access : Access) (at n : ℕ) (row : List Place) (b : Bool) → Some row ≡ places_from (place_of id (regions_in image lives id) access) at n
     → b ≡ list_any (is_kept image lives id) row → b ≡ true → None ≡ places_from (granted_in image lives id access) at n
-row-kept image lives id access at n row b is kept shut =
+row_kept image lives id access at n row b is kept shut =
     let e : list_any (is_kept image lives id) row ≡ true = sym kept ∙ shut in
-    let none : open-all (is_kept image lives id) row ≡ None = rw e refl in
-    sym none ∙ row-open-all image lives id access at n (Some row) is
+    let none : open_all (is_kept image lives id) row ≡ None = rw e refl in
+    sym none ∙ row_open_all image lives id access at n (Some row) is
 
-pub row-granted : (image : Image) (lives : List Live) (id : ℕ) (access : Access) (at n : ℕ) (row : List Place) (b : Bool) → Some row ≡ places_from (place_of id (regions_in image lives id) access) at n
+pub row_granted : (image : Image) (lives : List Live) (id : ℕ) (access : Access) (at n : ℕ) (row : List Place) (b : Bool) → Some row ≡ places_from (place_of id (regions_in image lives id) access) at n
     → b ≡ list_any (is_kept image lives id) row → b ≡ false → Some row ≡ places_from (granted_in image lives id access) at n
-row-granted image lives id access at n row b is kept free =
+row_granted image lives id access at n row b is kept free =
     let e : list_any (is_kept image lives id) row ≡ false = sym kept ∙ free in
-    let whole : open-all (is_kept image lives id) row ≡ Some row = rw e refl in
-    sym whole ∙ row-open-all image lives id access at n (Some row) is
+    let whole : open_all (is_kept image lives id) row ≡ Some row = rw e refl in
+    sym whole ∙ row_open_all image lives id access at n (Some row) is
 
-pub row-lacking : (image : Image) (lives : List Live) (id : ℕ) (access : Access) (at n : ℕ) → None ≡ places_from (place_of id (regions_in image lives id) access) at n → None ≡ places_from (granted_in image lives id access) at n
-row-lacking image lives id access at n is = row-open-all image lives id access at n None is
+pub row_lacking : (image : Image) (lives : List Live) (id : ℕ) (access : Access) (at n : ℕ) → None ≡ places_from (place_of id (regions_in image lives id) access) at n → None ≡ places_from (granted_in image lives id access) at n
+row_lacking image lives id access at n is = row_open_all image lives id access at n None is
 
--- what is reached, where no place of it is kept
-abbrev pub reach_open : (Place → Bool) → Reach → Reach
-reach_open kept (Memory places) = cond (list_any kept places) Nothing (Memory places)
-reach_open kept found = found
-
-reached : (kept : Place → Bool) (found : Option (List Place)) → memory_or_nothing (option_and_then (open-all kept) found) ≡ reach_open kept (memory_or_nothing found)
+reached : (kept : Place → Bool) (found : Option (List Place)) → memory_or_nothing (option_and_then (open_all kept) found) ≡ unless_kept kept (memory_or_nothing found)
 reached kept None = refl
 reached kept (Some ps) = elim (list_any kept ps) as (λ b. memory_or_nothing (cond b None (Some ps)) ≡ cond b Nothing (Memory ps)) [ true ↦ refl | false ↦ refl ]
 
-reach-by-open : (kept : Place → Bool) (place : ℕ → Option Place) (at width : ℕ) → reach_by (open-place kept place) at width ≡ reach_open kept (reach_by place at width)
+reach_by_open : (kept : Place → Bool) (place : ℕ → Option Place) (at width : ℕ) → reach_by (open_place kept place) at width ≡ unless_kept kept (reach_by place at width)
 unfolding reach_by
-reach-by-open kept place at width = elim (nat_le (at + width) ADDRESS_END) as (λ b. cond b (memory_or_nothing (places_from (open-place kept place) at width)) Nothing ≡ reach_open kept (cond b (memory_or_nothing (places_from place at width)) Nothing)) [
-  | true ↦ ap memory_or_nothing (places-open kept place at width) ∙ reached kept (places_from place at width)
+reach_by_open kept place at width = elim (nat_le (at + width) ADDRESS_END) as (λ b. cond b (memory_or_nothing (places_from (open_place kept place) at width)) Nothing ≡ unless_kept kept (cond b (memory_or_nothing (places_from place at width)) Nothing)) [
+  | true ↦ ap memory_or_nothing (places_open kept place at width) ∙ reached kept (places_from place at width)
   | false ↦ refl
 ]
 
-pub reach-granted : (image : Image) (lives : List Live) (id : ℕ) (access : Access) (at width : ℕ)
-    → reach_by (granted_in image lives id access) at width ≡ reach_open (is_kept image lives id) (reach_by (place_of id (regions_in image lives id) access) at width)
-reach-granted image lives id access at width = reach-by-open (is_kept image lives id) (place_of id (regions_in image lives id) access) at width
+pub reach_granted : (image : Image) (lives : List Live) (id : ℕ) (access : Access) (at width : ℕ)
+    → reach_by (granted_in image lives id access) at width ≡ unless_kept (is_kept image lives id) (reach_by (place_of id (regions_in image lives id) access) at width)
+reach_granted image lives id access at width = reach_by_open (is_kept image lives id) (place_of id (regions_in image lives id) access) at width
 
 abbrev pub reach_of : Image → List Live → ℕ → Access → ℕ → ℕ → Reach
 reach_of image lives id access at width = reach_by (place_of id (regions_in image lives id) access) at width
 
-pub reach-shut : (image : Image) (lives : List Live) (id : ℕ) (access : Access) (at width : ℕ) (found : Reach) (places : List Place) (b : Bool) → found ≡ reach_of image lives id access at width → found ≡ Memory places
+pub reach_shut : (image : Image) (lives : List Live) (id : ℕ) (access : Access) (at width : ℕ) (found : Reach) (places : List Place) (b : Bool) → found ≡ reach_of image lives id access at width → found ≡ Memory places
     → b ≡ list_any (is_kept image lives id) places → b ≡ true → Nothing ≡ reach_by (granted_in image lives id access) at width
-reach-shut image lives id access at width found places b same is kept shut =
+reach_shut image lives id access at width found places b same is kept shut =
     let e : list_any (is_kept image lives id) places ≡ true = sym kept ∙ shut in
-    let all : reach_open (is_kept image lives id) (Memory places) ≡ Nothing = rw e refl in
-    sym (reach-granted image lives id access at width ∙ ap (reach_open (is_kept image lives id)) (sym same ∙ is) ∙ all)
+    let all : unless_kept (is_kept image lives id) (Memory places) ≡ Nothing = rw e refl in
+    sym (reach_granted image lives id access at width ∙ ap (unless_kept (is_kept image lives id)) (sym same ∙ is) ∙ all)
 
-pub reach-free : (image : Image) (lives : List Live) (id : ℕ) (access : Access) (at width : ℕ) (found : Reach) (places : List Place) (b : Bool) → found ≡ reach_of image lives id access at width → found ≡ Memory places
+pub reach_free : (image : Image) (lives : List Live) (id : ℕ) (access : Access) (at width : ℕ) (found : Reach) (places : List Place) (b : Bool) → found ≡ reach_of image lives id access at width → found ≡ Memory places
     → b ≡ list_any (is_kept image lives id) places → b ≡ false → Memory places ≡ reach_by (granted_in image lives id access) at width
-reach-free image lives id access at width found places b same is kept free =
+reach_free image lives id access at width found places b same is kept free =
     let e : list_any (is_kept image lives id) places ≡ false = sym kept ∙ free in
-    let all : reach_open (is_kept image lives id) (Memory places) ≡ Memory places = rw e refl in
-    sym (reach-granted image lives id access at width ∙ ap (reach_open (is_kept image lives id)) (sym same ∙ is) ∙ all)
+    let all : unless_kept (is_kept image lives id) (Memory places) ≡ Memory places = rw e refl in
+    sym (reach_granted image lives id access at width ∙ ap (unless_kept (is_kept image lives id)) (sym same ∙ is) ∙ all)
 
-pub reach-nothing : (image : Image) (lives : List Live) (id : ℕ) (access : Access) (at width : ℕ) (found : Reach) → found ≡ reach_of image lives id access at width → found ≡ Nothing → Nothing ≡ reach_by (granted_in image lives id access) at width
-reach-nothing image lives id access at width found same is = sym (reach-granted image lives id access at width ∙ ap (reach_open (is_kept image lives id)) (sym same ∙ is))
+pub reach_nothing : (image : Image) (lives : List Live) (id : ℕ) (access : Access) (at width : ℕ) (found : Reach) → found ≡ reach_of image lives id access at width → found ≡ Nothing → Nothing ≡ reach_by (granted_in image lives id access) at width
+reach_nothing image lives id access at width found same is = sym (reach_granted image lives id access at width ∙ ap (unless_kept (is_kept image lives id)) (sym same ∙ is))
 
 -- the regions of root, and of a cell that lives besides it
-pub regions-root : (image : Image) (lives : List Live) (id : ℕ) → id ≡ image.system.root.id → regions_in image lives id ≡ image.system.root.memory_regions
-regions-root image lives id own = ap (λ (b : Bool). option_map_or (λ (c : CellConfig). c.memory_regions) (cond b (Some image.system.root) (live_in lives id)) []) (eq-eqb id image.system.root.id own)
+pub regions_root : (image : Image) (lives : List Live) (id : ℕ) → id ≡ image.system.root.id → regions_in image lives id ≡ image.system.root.memory_regions
+regions_root image lives id own = ap (λ (b : Bool). option_map_or (λ (c : CellConfig). c.memory_regions) (cond b (Some image.system.root) (live_in lives id)) []) (eq-eqb id image.system.root.id own)
 
-pub regions-live : (image : Image) (lives : List Live) (id : ℕ) → (id ≡ image.system.root.id → ⊥) → regions_in image lives id ≡ live_regions lives id
-regions-live image lives id other = ap (λ (b : Bool). option_map_or (λ (c : CellConfig). c.memory_regions) (cond b (Some image.system.root) (live_in lives id)) []) (ne_eqb id image.system.root.id other)
-
--- the devices of root, and those of another cell
-pub devices-root : (image : Image) (lives : List Live) (id : ℕ) → id ≡ image.system.root.id → list_in image lives id ≡ image.system.root.pci_devices
-devices-root image lives id own = ap (λ (b : Bool). option_map_or (λ (c : CellConfig). c.pci_devices) (cond b (Some image.system.root) (live_in lives id)) []) (eq-eqb id image.system.root.id own)
-
-pub devices-live : (image : Image) (lives : List Live) (id : ℕ) (found : Option CellConfig) → (id ≡ image.system.root.id → ⊥) → found ≡ live_in lives id → list_in image lives id ≡ option_map_or (λ (c : CellConfig). c.pci_devices) found []
-devices-live image lives id found other is =
-    ap (λ (b : Bool). option_map_or (λ (c : CellConfig). c.pci_devices) (cond b (Some image.system.root) (live_in lives id)) []) (ne_eqb id image.system.root.id other)
-    ∙ ap (λ (o : Option CellConfig). option_map_or (λ (c : CellConfig). c.pci_devices) o []) (sym is)
+pub regions_live : (image : Image) (lives : List Live) (id : ℕ) → (id ≡ image.system.root.id → ⊥) → regions_in image lives id ≡ live_regions lives id
+regions_live image lives id other = ap (λ (b : Bool). option_map_or (λ (c : CellConfig). c.memory_regions) (cond b (Some image.system.root) (live_in lives id)) []) (ne_eqb id image.system.root.id other)
 
 -- the first run decides, or the second
-pub kept-low : (image : Image) (lives : List Live) (id : ℕ) (low high places : List Place) (a : Bool) → id ≡ image.system.root.id → places ≡ low ++ high
-    → a ≡ list_any (kept-from image lives) low → a ≡ true → a ≡ list_any (is_kept image lives id) places
-kept-low image lives id low high places a own is first yes_low =
-    let b = list_any (kept-from image lives) high in
-    yes_low ∙ sym (or_left a b yes_low) ∙ kept-runs image lives id low high places a b own is first refl
+pub kept_low : (image : Image) (lives : List Live) (id : ℕ) (low high places : List Place) (a : Bool) → id ≡ image.system.root.id → places ≡ low ++ high
+    → a ≡ list_any (kept_from image lives) low → a ≡ true → a ≡ list_any (is_kept image lives id) places
+kept_low image lives id low high places a own is first yes_low =
+    let b = list_any (kept_from image lives) high in
+    yes_low ∙ sym (or_left a b yes_low) ∙ kept_runs image lives id low high places a b own is first refl
 
-pub kept-high : (image : Image) (lives : List Live) (id : ℕ) (low high places : List Place) (a b : Bool) → id ≡ image.system.root.id → places ≡ low ++ high
-    → a ≡ list_any (kept-from image lives) low → a ≡ false → b ≡ list_any (kept-from image lives) high → b ≡ list_any (is_kept image lives id) places
-kept-high image lives id low high places a b own is first no_low second = sym (ap (λ x. x || b) no_low) ∙ kept-runs image lives id low high places a b own is first second
+pub kept_high : (image : Image) (lives : List Live) (id : ℕ) (low high places : List Place) (a b : Bool) → id ≡ image.system.root.id → places ≡ low ++ high
+    → a ≡ list_any (kept_from image lives) low → a ≡ false → b ≡ list_any (kept_from image lives) high → b ≡ list_any (is_kept image lives id) places
+kept_high image lives id low high places a b own is first no_low second = sym (ap (λ x. x || b) no_low) ∙ kept_runs image lives id low high places a b own is first second

@@ -26,56 +26,56 @@ abbrev pub KeepsPages : MemoryView → MemoryView → Type 0
 KeepsPages old new = (q : Place) → HoldsPlace old q → HoldsPlace new q
 
 -- those of communication
-pub comms-kept : (old new : MemoryView) (cell : ℕ) → KeepsPages old new → HoldsComm old.comms cell → HoldsComm new.comms cell
-comms-kept old new cell pages h = let first : 0 < 4096 = omega arith in (pages (Page cell 0) (h, first)).0
+pub comms_kept : (old new : MemoryView) (cell : ℕ) → KeepsPages old new → HoldsComm old.comms cell → HoldsComm new.comms cell
+comms_kept old new cell pages h = let first : 0 < 4096 = omega arith in (pages (Page cell 0) (h, first)).0
 
 -- and those of the words of devices
-pub words-kept : (old new : MemoryView) (specs : List EndpointSpec) → KeepsPages old new → All (HoldsWord old) specs → All (HoldsWord new) specs
-words-kept old new specs pages h =
+pub words_kept : (old new : MemoryView) (specs : List EndpointSpec) → KeepsPages old new → All (HoldsWord old) specs → All (HoldsWord new) specs
+words_kept old new specs pages h =
     All-weaker (HoldsWord old) (HoldsWord new) (λ spec word. All-weaker (HoldsPlace old) (HoldsPlace new) pages (places_in_row (Physical (slot_of spec 0).place) 4) word) specs h
 
-pub ready-for-kept : (old new : Held) (config : CellConfig) → new.index ≡ old.index → new.cells ≡ old.cells → old.endpoints.spare ≤ new.endpoints.spare → KeepsPages old.memory new.memory → IsReadyFor old config → IsReadyFor new config
-ready-for-kept old new config index cells spare pages h = record {
+pub ready_for_kept : (old new : Held) (config : CellConfig) → new.index ≡ old.index → new.cells ≡ old.cells → old.endpoints.spare ≤ new.endpoints.spare → KeepsPages old.memory new.memory → IsReadyFor old config → IsReadyFor new config
+ready_for_kept old new config index cells spare pages h = record {
   index = index ∙ h.index;
   cells = rw cells h.cells;
   regions = rw cells h.regions;
-  page = comms-kept old.memory new.memory config.id pages h.page;
+  page = comms_kept old.memory new.memory config.id pages h.page;
   endpoints = let room = h.endpoints in omega arith;
-  words = words-kept old.memory new.memory (specs_of config) pages h.words;
+  words = words_kept old.memory new.memory (specs_of config) pages h.words;
 }
 
-ready-in-kept : (old new : Held) (phase : Phase) → new.index ≡ old.index → new.cells ≡ old.cells → old.endpoints.spare ≤ new.endpoints.spare → KeepsPages old.memory new.memory → IsReadyIn old phase → IsReadyIn new phase
-ready-in-kept old new ToDecide index cells spare pages h = tt
-ready-in-kept old new (ToSettle waited) index cells spare pages h = tt
-ready-in-kept old new (ToCreate config) index cells spare pages h = ready-for-kept old new config index cells spare pages h
-ready-in-kept old new ToCommit index cells spare pages h = tt
-ready-in-kept old new (ToNote id about answer) index cells spare pages h = tt
-ready-in-kept old new (ToNoted id about answer waited) index cells spare pages h = tt
-ready-in-kept old new (ToFinish answer) index cells spare pages h = tt
+ready_in_kept : (old new : Held) (phase : Phase) → new.index ≡ old.index → new.cells ≡ old.cells → old.endpoints.spare ≤ new.endpoints.spare → KeepsPages old.memory new.memory → IsReadyIn old phase → IsReadyIn new phase
+ready_in_kept old new ToDecide index cells spare pages h = tt
+ready_in_kept old new (ToSettle waited) index cells spare pages h = tt
+ready_in_kept old new (ToCreate config) index cells spare pages h = ready_for_kept old new config index cells spare pages h
+ready_in_kept old new ToCommit index cells spare pages h = tt
+ready_in_kept old new (ToNote id about answer) index cells spare pages h = tt
+ready_in_kept old new (ToNoted id about answer waited) index cells spare pages h = tt
+ready_in_kept old new (ToFinish answer) index cells spare pages h = tt
 
-pub ready-kept : (old new : Held) (call : Option OpenCall) → new.index ≡ old.index → new.cells ≡ old.cells → old.endpoints.spare ≤ new.endpoints.spare → KeepsPages old.memory new.memory → IsReady old call → IsReady new call
-ready-kept old new None index cells spare pages h = tt
-ready-kept old new (Some o) index cells spare pages h = ready-in-kept old new o.phase index cells spare pages h
+pub ready_kept : (old new : Held) (call : Option OpenCall) → new.index ≡ old.index → new.cells ≡ old.cells → old.endpoints.spare ≤ new.endpoints.spare → KeepsPages old.memory new.memory → IsReady old call → IsReady new call
+ready_kept old new None index cells spare pages h = tt
+ready_kept old new (Some o) index cells spare pages h = ready_in_kept old new o.phase index cells spare pages h
 
-pub pages-kept : (old new : Held) (cells : List Live) → KeepsPages old.memory new.memory → All (HoldsPageOf old) cells → All (HoldsPageOf new) cells
-pages-kept old new cells pages h = All-weaker (HoldsPageOf old) (HoldsPageOf new) (λ live. comms-kept old.memory new.memory live.config.id pages) cells h
+pub pages_kept : (old new : Held) (cells : List Live) → KeepsPages old.memory new.memory → All (HoldsPageOf old) cells → All (HoldsPageOf new) cells
+pages_kept old new cells pages h = All-weaker (HoldsPageOf old) (HoldsPageOf new) (λ live. comms_kept old.memory new.memory live.config.id pages) cells h
 
-pub all-words-kept : (old new : Held) (cells : List Live) → KeepsPages old.memory new.memory → All (λ (live : Live). HoldsWords old live.config) cells → All (λ (live : Live). HoldsWords new live.config) cells
-all-words-kept old new cells pages h =
-    All-weaker (λ (live : Live). HoldsWords old live.config) (λ (live : Live). HoldsWords new live.config) (λ live. words-kept old.memory new.memory (specs_of live.config) pages) cells h
+pub all_words_kept : (old new : Held) (cells : List Live) → KeepsPages old.memory new.memory → All (λ (live : Live). HoldsWords old live.config) cells → All (λ (live : Live). HoldsWords new live.config) cells
+all_words_kept old new cells pages h =
+    All-weaker (λ (live : Live). HoldsWords old live.config) (λ (live : Live). HoldsWords new live.config) (λ live. words_kept old.memory new.memory (specs_of live.config) pages) cells h
 
-pub Means-kept : (image : Image) (old new : Held) (f : Facts) → ((q : Place) → byte_of new.memory q ≡ byte_of old.memory q) → KeepsPages old.memory new.memory → new.cpus ≡ old.cpus
+pub Means_kept : (image : Image) (old new : Held) (f : Facts) → ((q : Place) → byte_of new.memory q ≡ byte_of old.memory q) → KeepsPages old.memory new.memory → new.cpus ≡ old.cpus
     → new.cells.system ≡ old.cells.system → new.cells.lives ≡ old.cells.lives → new.endpoints.list ≡ old.endpoints.list → new.call ≡ old.call → IsReady new f.call → Means image old f → Means image new f
-Means-kept image old new f bytes pages cpus system lives endpoints call ready h = record {
+Means_kept image old new f bytes pages cpus system lives endpoints call ready h = record {
   bytes = λ q. bytes q ∙ h.bytes q;
   cpus = λ i lt. ap (λ (states : List Cpu). slice_get states i) cpus ∙ h.cpus i lt;
   system = system ∙ h.system;
   cells = lives ∙ h.cells;
   endpoints = endpoints ∙ h.endpoints;
   call = call ∙ h.call;
-  pages = pages-kept old new f.cells pages h.pages;
-  words = all-words-kept old new f.cells pages h.words;
-  root_words = words-kept old.memory new.memory (specs_of image.system.root) pages h.root_words;
+  pages = pages_kept old new f.cells pages h.pages;
+  words = all_words_kept old new f.cells pages h.words;
+  root_words = words_kept old.memory new.memory (specs_of image.system.root) pages h.root_words;
   named = h.named;
   ready = ready;
 }

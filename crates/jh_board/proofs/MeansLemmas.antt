@@ -1,34 +1,32 @@
 -- What a board holds, by the facts.
-use Rattle.std.proofs.Common.{◌≡◌, ℕ, ◌<◌, List, [], Some, None, true, false, refl, ◌∙◌, ap}
+use Rattle.std.proofs.Common.{◌≡◌, ℕ, ◌<◌, List, [], Some, None, ◌∙◌, ap}
 use Rattle.std.specs.Prelude.{slice_get, replicate, fold}
-use Rattle.std.proofs.lemmas.Bool.{both_ways}
 use Rattle.std.proofs.lemmas.Option.{slice_get-get_or}
 use Rattle.std.proofs.lemmas.List.{length-replicate, get_or-replicate}
 use Rattle.std.proofs.lemmas.List.Elements.{All-from_recursion}
 use Rattle.jh_cellcfg.specs.declared.live.Live.{Live}
 use Rattle.jh_script.specs.declared.image.Image.{Image}
 use Rattle.jh_cpu.specs.declared.cpu.Cpu.{Cpu}
-use Rattle.jh_history.specs.Places.{is_physical}
 use Rattle.jh_history.specs.DueFacts.{NamesCpu}
 use Rattle.jh_history.specs.History.{facts, start}
 use Rattle.jh_history.specs.Bytes.{preloaded, loaded_byte}
-use Rattle.jh_history.proofs.FactsLemmas.{facts-nil}
+use Rattle.jh_history.proofs.FactsLemmas.{facts_nil}
 use Rattle.jh_history.specs.declared.place.Place.{Place}
 use Rattle.jh_history.specs.declared.place.Place.TheVariants.{Physical, Page}
 use Rattle.jh_board.specs.declared.held.Held.{Held}
-use Rattle.jh_board.specs.Pages.{byte_at, byte_of, comm_byte, MayHold, MemoryView}
+use Rattle.jh_board.specs.Pages.{byte_at, byte_of, comm_byte, MemoryView}
 use Rattle.jh_board.specs.Means.{Means, HoldsPageOf, HoldsWords}
 
 -- an element of equal elements
-pub slice_get-replicate : {X : Type 0} (n i : ℕ) (x : X) → i < n → slice_get (replicate n x) i ≡ Some x
-slice_get-replicate n i x lt = slice_get-get_or (replicate n x) i x (rw (length-replicate n x) lt) ∙ ap Some (get_or-replicate n i x x lt)
+pub slice_get_replicate : {X : Type 0} (n i : ℕ) (x : X) → i < n → slice_get (replicate n x) i ≡ Some x
+slice_get_replicate n i x lt = slice_get-get_or (replicate n x) i x (rw (length-replicate n x) lt) ∙ ap Some (get_or-replicate n i x x lt)
 
 -- what is held at opening
-pub Means-opened : (image : Image) (held : Held) (cpu : Cpu) → ((q : Place) → byte_of held.memory q ≡ (start image).byte q) → held.cpus ≡ replicate 16 cpu → ((i : ℕ) → cpu ≡ (start image).cpu i)
+pub Means_opened : (image : Image) (held : Held) (cpu : Cpu) → ((q : Place) → byte_of held.memory q ≡ (start image).byte q) → held.cpus ≡ replicate 16 cpu → ((i : ℕ) → cpu ≡ (start image).cpu i)
     → held.cells.system ≡ image.system → held.cells.lives ≡ [] → held.endpoints.list ≡ (start image).endpoints → HoldsWords held image.system.root → held.call ≡ None → Means image held (facts image [])
-Means-opened image held cpu bytes cpus same system alone joined words closed = rw (facts-nil image) (record {
+Means_opened image held cpu bytes cpus same system alone joined words closed = rw (facts_nil image) (record {
   bytes = bytes;
-  cpus = λ i lt. ap (λ (states : List Cpu). slice_get states i) cpus ∙ slice_get-replicate 16 i cpu lt ∙ ap Some (same i);
+  cpus = λ i lt. ap (λ (states : List Cpu). slice_get states i) cpus ∙ slice_get_replicate 16 i cpu lt ∙ ap Some (same i);
   system = system;
   cells = alone;
   endpoints = joined;
@@ -41,12 +39,7 @@ Means-opened image held cpu bytes cpus same system alone joined words closed = r
 })
 
 -- memory as the preloads put it
-pub loaded-bytes : (image : Image) (memory : MemoryView) → ((a : ℕ) → byte_at memory.physical a ≡ fold preloaded (λ _. 0) image.preloads a) → ((cell k : ℕ) → comm_byte memory.comms cell k ≡ 0)
+pub loaded_bytes : (image : Image) (memory : MemoryView) → ((a : ℕ) → byte_at memory.physical a ≡ fold preloaded (λ _. 0) image.preloads a) → ((cell k : ℕ) → comm_byte memory.comms cell k ≡ 0)
     → (q : Place) → byte_of memory q ≡ loaded_byte image q
-loaded-bytes image memory same none (Physical a) = same a
-loaded-bytes image memory same none (Page cell offset) = none cell offset
-
--- places of physical memory can be written
-pub MayHold-physical : (memory : MemoryView) (q : Place) → is_physical q ≡ true → MayHold memory q
-MayHold-physical memory (Physical a) h = tt
-MayHold-physical memory (Page cell offset) h = absurd (both_ways false refl h)
+loaded_bytes image memory same none (Physical a) = same a
+loaded_bytes image memory same none (Page cell offset) = none cell offset

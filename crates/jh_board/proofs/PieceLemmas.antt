@@ -10,94 +10,95 @@ use Rattle.std.proofs.Math.Nat.{div-div-eq-div-mul, div-one, pow-suc, pow-le-pow
 use Rattle.jh_num.specs.Memory.{spelled, stored}
 use Rattle.jh_history.specs.declared.place.Place.{Place}
 use Rattle.jh_history.specs.declared.place.Place.TheVariants.{Physical, Page}
-use Rattle.jh_history.specs.Places.{places_in_row, further, with_byte, written}
+use Rattle.jh_history.specs.Places.{places_in_row, with_byte, written}
+use Rattle.jh_history.proofs.ValueLemmas.{row_length}
 use Rattle.jh_board.specs.Pages.{page_at, byte_in, bytes_from, byte_at, byte_of, comm_byte, MemoryView}
 
 abbrev Pages : Type 0
 Pages = List (ℕ × List ℕ)
 
 -- the bytes in a row of one page
-pub row-of_page : (pages : Pages) (number offset n a : ℕ) → a ≡ number * 4096 + offset → offset + n ≤ 4096 → bytes_from (byte_at pages) a n ≡ bytes_from (byte_in (page_at pages number)) offset n
-row-of_page pages number offset zero a is within = refl
-row-of_page pages number offset (suc n) a is within =
+pub row_of_page : (pages : Pages) (number offset n a : ℕ) → a ≡ number * 4096 + offset → offset + n ≤ 4096 → bytes_from (byte_at pages) a n ≡ bytes_from (byte_in (page_at pages number)) offset n
+row_of_page pages number offset zero a is within = refl
+row_of_page pages number offset (suc n) a is within =
     let quotient : a / 4096 ≡ number = omega arith in
     let rest_is : a % 4096 ≡ offset = omega arith in
     let first : byte_at pages a ≡ byte_in (page_at pages number) offset = rw (quotient, rest_is) refl in
-    let rest : bytes_from (byte_at pages) (a + 1) n ≡ bytes_from (byte_in (page_at pages number)) (offset + 1) n = row-of_page pages number (offset + 1) n (a + 1) (omega arith) (omega arith) in
+    let rest : bytes_from (byte_at pages) (a + 1) n ≡ bytes_from (byte_in (page_at pages number)) (offset + 1) n = row_of_page pages number (offset + 1) n (a + 1) (omega arith) (omega arith) in
     ap (λ (b : ℕ). b ∷ bytes_from (byte_at pages) (a + 1) n) first
     ∙ ap (λ (bs : List ℕ). byte_in (page_at pages number) offset ∷ bs) rest
 
 -- so they spell what the page's bytes do
-pub spelled-of_page : (pages : Pages) (at n v : ℕ) → at % 4096 + n ≤ 4096 → v ≡ spelled (bytes_from (byte_in (page_at pages (at / 4096))) (at % 4096) n) → v ≡ spelled (bytes_from (byte_at pages) at n)
-spelled-of_page pages at n v within is = is ∙ ap spelled (sym (row-of_page pages (at / 4096) (at % 4096) n at (omega arith) within))
+pub spelled_of_page : (pages : Pages) (at n v : ℕ) → at % 4096 + n ≤ 4096 → v ≡ spelled (bytes_from (byte_in (page_at pages (at / 4096))) (at % 4096) n) → v ≡ spelled (bytes_from (byte_at pages) at n)
+spelled_of_page pages at n v within is = is ∙ ap spelled (sym (row_of_page pages (at / 4096) (at % 4096) n at (omega arith) within))
 
 -- the bytes at places of physical memory in a row
-pub row-of_memory : (memory : MemoryView) (a n : ℕ) → map (byte_of memory) (places_in_row (Physical a) n) ≡ bytes_from (byte_at memory.physical) a n
-row-of_memory memory a zero = refl
-row-of_memory memory a (suc n) = ap (λ (bs : List ℕ). byte_at memory.physical a ∷ bs) (row-of_memory memory (a + 1) n)
+pub row_of_memory : (memory : MemoryView) (a n : ℕ) → map (byte_of memory) (places_in_row (Physical a) n) ≡ bytes_from (byte_at memory.physical) a n
+row_of_memory memory a zero = refl
+row_of_memory memory a (suc n) = ap (λ (bs : List ℕ). byte_at memory.physical a ∷ bs) (row_of_memory memory (a + 1) n)
 
 -- zeros spell nothing
-pub zeros-spell_nothing : (offset n : ℕ) → spelled (bytes_from (λ k. 0) offset n) ≡ 0
-zeros-spell_nothing offset zero = refl
-zeros-spell_nothing offset (suc n) =
-    let rest : spelled (bytes_from (λ k. 0) (offset + 1) n) ≡ 0 = zeros-spell_nothing (offset + 1) n in omega arith
+pub zeros_spell_nothing : (offset n : ℕ) → spelled (bytes_from (λ k. 0) offset n) ≡ 0
+zeros_spell_nothing offset zero = refl
+zeros_spell_nothing offset (suc n) =
+    let rest : spelled (bytes_from (λ k. 0) (offset + 1) n) ≡ 0 = zeros_spell_nothing (offset + 1) n in omega arith
 
 -- one byte more of a number that is read from its highest byte on
-pub spelled-next : (byte : ℕ → ℕ) (offset n k v : ℕ) → 0 < k → k ≤ n → v ≡ spelled (bytes_from byte (offset + k) (n - k)) → v * 256 + byte (offset + (k - 1)) ≡ spelled (bytes_from byte (offset + (k - 1)) (n - (k - 1)))
-spelled-next byte offset n k v some le is =
+pub spelled_next : (byte : ℕ → ℕ) (offset n k v : ℕ) → 0 < k → k ≤ n → v ≡ spelled (bytes_from byte (offset + k) (n - k)) → v * 256 + byte (offset + (k - 1)) ≡ spelled (bytes_from byte (offset + (k - 1)) (n - (k - 1)))
+spelled_next byte offset n k v some le is =
     let count : n - (k - 1) ≡ suc (n - k) = omega arith in
     let next : (offset + (k - 1)) + 1 ≡ offset + k = omega arith in
     let sum : v * 256 + byte (offset + (k - 1)) ≡ byte (offset + (k - 1)) + 256 * v = omega arith in
     rw (count, next) (sum ∙ ap (λ (m : ℕ). byte (offset + (k - 1)) + 256 * m) is)
 
 -- and it fits as many bytes as it has, so a word
-pub fits-next : (v b n k : ℕ) → 0 < k → k ≤ n → v < 256 ^ (n - k) → b < 256 → v * 256 + b < 256 ^ (n - (k - 1))
-fits-next v b n k some le small byte =
+pub fits_next : (v b n k : ℕ) → 0 < k → k ≤ n → v < 256 ^ (n - k) → b < 256 → v * 256 + b < 256 ^ (n - (k - 1))
+fits_next v b n k some le small byte =
     let count : n - (k - 1) ≡ (n - k) + 1 = omega arith in rw (count, pow_more 256 (n - k)) (grind arith)
 
-pub word-next : (v b n k : ℕ) → 0 < k → k ≤ n → n ≤ 8 → v < 256 ^ (n - k) → b < 256 → v * 256 + b < 2 ^ 64
-word-next v b n k some le few small byte =
-    let fits : v * 256 + b < 256 ^ (n - (k - 1)) = fits-next v b n k some le small byte in
+pub word_next : (v b n k : ℕ) → 0 < k → k ≤ n → n ≤ 8 → v < 256 ^ (n - k) → b < 256 → v * 256 + b < 2 ^ 64
+word_next v b n k some le few small byte =
+    let fits : v * 256 + b < 256 ^ (n - (k - 1)) = fits_next v b n k some le small byte in
     let few_left : n - (k - 1) ≤ 8 = omega arith in
     let most : 256 ^ (n - (k - 1)) ≤ 256 ^ 8 = pow-le-pow_right (omega arith) few_left in
     omega arith
 
 -- the bytes of a list where it is stored, below it and above it
-stored-there : (byte : ℕ → ℕ) (at : ℕ) (bytes : List ℕ) (q : ℕ) → at ≤ q → q < at + length bytes → stored byte at bytes q ≡ slice_index bytes (q - at)
-stored-there byte at bytes q above below = rw (le-leb at q above, lt-ltb q (at + length bytes) below) refl
+stored_there : (byte : ℕ → ℕ) (at : ℕ) (bytes : List ℕ) (q : ℕ) → at ≤ q → q < at + length bytes → stored byte at bytes q ≡ slice_index bytes (q - at)
+stored_there byte at bytes q above below = rw (le-leb at q above, lt-ltb q (at + length bytes) below) refl
 
-stored-before : (byte : ℕ → ℕ) (at : ℕ) (bytes : List ℕ) (q : ℕ) → q < at → stored byte at bytes q ≡ byte q
-stored-before byte at bytes q below = rw (lt-leb at q below) refl
+stored_before : (byte : ℕ → ℕ) (at : ℕ) (bytes : List ℕ) (q : ℕ) → q < at → stored byte at bytes q ≡ byte q
+stored_before byte at bytes q below = rw (lt-leb at q below) refl
 
-stored-behind : (byte : ℕ → ℕ) (at : ℕ) (bytes : List ℕ) (q : ℕ) → at + length bytes ≤ q → stored byte at bytes q ≡ byte q
-stored-behind byte at bytes q above = rw (and_right (leb at q) (ltb q (at + length bytes)) (le-ltb q (at + length bytes) above)) refl
+stored_behind : (byte : ℕ → ℕ) (at : ℕ) (bytes : List ℕ) (q : ℕ) → at + length bytes ≤ q → stored byte at bytes q ≡ byte q
+stored_behind byte at bytes q above = rw (and_right (leb at q) (ltb q (at + length bytes)) (le-ltb q (at + length bytes) above)) refl
 
 -- one list behind another
-stored-append : (byte : ℕ → ℕ) (at : ℕ) (xs ys : List ℕ) (q : ℕ) → stored (stored byte at xs) (at + length xs) ys q ≡ stored byte at (xs ++ ys) q
-stored-append byte at xs ys q =
+stored_append : (byte : ℕ → ℕ) (at : ℕ) (xs ys : List ℕ) (q : ℕ) → stored (stored byte at xs) (at + length xs) ys q ≡ stored byte at (xs ++ ys) q
+stored_append byte at xs ys q =
     let sum : length (xs ++ ys) ≡ length xs + length ys = length-append xs ys in
     elim (cases_lt q at) [
-      | inl before ↦ stored-before (stored byte at xs) (at + length xs) ys q (omega arith) ∙ stored-before byte at xs q before ∙ sym (stored-before byte at (xs ++ ys) q before)
+      | inl before ↦ stored_before (stored byte at xs) (at + length xs) ys q (omega arith) ∙ stored_before byte at xs q before ∙ sym (stored_before byte at (xs ++ ys) q before)
       | inr above ↦ elim (cases_lt q (at + length xs)) [
         | inl low ↦
             let within : q - at < length xs = omega arith in
-            stored-before (stored byte at xs) (at + length xs) ys q low ∙ stored-there byte at xs q above low
-            ∙ sym (get_or_append_left xs ys 0 (q - at) within) ∙ sym (stored-there byte at (xs ++ ys) q above (omega arith))
+            stored_before (stored byte at xs) (at + length xs) ys q low ∙ stored_there byte at xs q above low
+            ∙ sym (get_or_append_left xs ys 0 (q - at) within) ∙ sym (stored_there byte at (xs ++ ys) q above (omega arith))
         | inr high ↦ elim (cases_lt q (at + length (xs ++ ys))) [
           | inl below ↦
               let e : q - (at + length xs) ≡ (q - at) - length xs = omega arith in
-              stored-there (stored byte at xs) (at + length xs) ys q high (omega arith) ∙ ap (slice_index ys) e
-              ∙ sym (get_or-append_right xs ys (length xs) (q - at) 0 refl (omega arith)) ∙ sym (stored-there byte at (xs ++ ys) q above below)
+              stored_there (stored byte at xs) (at + length xs) ys q high (omega arith) ∙ ap (slice_index ys) e
+              ∙ sym (get_or-append_right xs ys (length xs) (q - at) 0 refl (omega arith)) ∙ sym (stored_there byte at (xs ++ ys) q above below)
           | inr behind ↦
-              stored-behind (stored byte at xs) (at + length xs) ys q (omega arith) ∙ stored-behind byte at xs q high ∙ sym (stored-behind byte at (xs ++ ys) q behind)
+              stored_behind (stored byte at xs) (at + length xs) ys q (omega arith) ∙ stored_behind byte at xs q high ∙ sym (stored_behind byte at (xs ++ ys) q behind)
         ]
       ]
     ]
 
 -- a list that is stored in two steps
-pub stored-more : (byte middle : ℕ → ℕ) (at from upto : ℕ) (bytes : List ℕ) (q : ℕ) → from ≤ upto → upto ≤ length bytes → middle q ≡ stored byte at (take from bytes) q
+pub stored_more : (byte middle : ℕ → ℕ) (at from upto : ℕ) (bytes : List ℕ) (q : ℕ) → from ≤ upto → upto ≤ length bytes → middle q ≡ stored byte at (take from bytes) q
     → stored middle (at + from) (slice_range bytes from upto) q ≡ stored byte at (take upto bytes) q
-stored-more byte middle at from upto bytes q le within is =
+stored_more byte middle at from upto bytes q le within is =
     let xs = take from bytes in
     let ys = slice_range bytes from upto in
     let shorter : length (take from bytes) ≡ min from (length bytes) = length-take from bytes in
@@ -105,73 +106,69 @@ stored-more byte middle at from upto bytes q le within is =
     let sum : from + (upto - from) ≡ upto = omega arith in
     ap (λ (b : ℕ). cond (leb (at + from) q && ltb q (at + from + length ys)) (slice_index ys (q - (at + from))) b) is
     ∙ ap (λ (n : ℕ). stored (stored byte at xs) (at + n) ys q) (sym len)
-    ∙ stored-append byte at xs ys q
+    ∙ stored_append byte at xs ys q
     ∙ ap (λ (bs : List ℕ). stored byte at bs q) (sym (take-add from (upto - from) bytes))
     ∙ ap (λ (n : ℕ). stored byte at (take n bytes) q) sum
 
 -- one byte before a list
-stored-first : (byte : ℕ → ℕ) (at b : ℕ) (bytes : List ℕ) (q : ℕ) → stored (λ y. cond (eqb y at) b (byte y)) (at + 1) bytes q ≡ stored byte at (b ∷ bytes) q
-stored-first byte at b bytes q =
+stored_first : (byte : ℕ → ℕ) (at b : ℕ) (bytes : List ℕ) (q : ℕ) → stored (λ y. cond (eqb y at) b (byte y)) (at + 1) bytes q ≡ stored byte at (b ∷ bytes) q
+stored_first byte at b bytes q =
     let put : ℕ → ℕ = λ y. cond (eqb y at) b (byte y) in
     elim (cases_lt q at) [
-      | inl before ↦ stored-before put (at + 1) bytes q (omega arith) ∙ rw (ne_eqb q at (omega arith)) refl ∙ sym (stored-before byte at (b ∷ bytes) q before)
+      | inl before ↦ stored_before put (at + 1) bytes q (omega arith) ∙ rw (ne_eqb q at (omega arith)) refl ∙ sym (stored_before byte at (b ∷ bytes) q before)
       | inr above ↦ elim (cases_eq q at) [
         | inl e ↦
             let none : q - at ≡ 0 = omega arith in
-            stored-before put (at + 1) bytes q (omega arith) ∙ rw (eq-eqb q at e) refl ∙ ap (slice_index (b ∷ bytes)) (sym none) ∙ sym (stored-there byte at (b ∷ bytes) q above (omega arith))
+            stored_before put (at + 1) bytes q (omega arith) ∙ rw (eq-eqb q at e) refl ∙ ap (slice_index (b ∷ bytes)) (sym none) ∙ sym (stored_there byte at (b ∷ bytes) q above (omega arith))
         | inr other ↦ elim (cases_lt q ((at + 1) + length bytes)) [
           | inl below ↦
               let e : q - at ≡ suc (q - (at + 1)) = omega arith in
-              stored-there put (at + 1) bytes q (omega arith) below ∙ ap (slice_index (b ∷ bytes)) (sym e) ∙ sym (stored-there byte at (b ∷ bytes) q above (omega arith))
-          | inr behind ↦ stored-behind put (at + 1) bytes q behind ∙ rw (ne_eqb q at other) refl ∙ sym (stored-behind byte at (b ∷ bytes) q (omega arith))
+              stored_there put (at + 1) bytes q (omega arith) below ∙ ap (slice_index (b ∷ bytes)) (sym e) ∙ sym (stored_there byte at (b ∷ bytes) q above (omega arith))
+          | inr behind ↦ stored_behind put (at + 1) bytes q behind ∙ rw (ne_eqb q at other) refl ∙ sym (stored_behind byte at (b ∷ bytes) q (omega arith))
         ]
       ]
     ]
 
-byte_of_number-div : (i v : ℕ) → byte_of_number i v ≡ (v / 256 ^ i) % 256
-byte_of_number-div zero v = ap (λ (x : ℕ). x % 256) (sym (div-one v))
-byte_of_number-div (suc i) v = refl
+byte_of_number_div : (i v : ℕ) → byte_of_number i v ≡ (v / 256 ^ i) % 256
+byte_of_number_div zero v = ap (λ (x : ℕ). x % 256) (sym (div-one v))
+byte_of_number_div (suc i) v = refl
 
 -- a value that is written over places in a row is the list of its bytes, stored
-written-low_first : (byte : Place → ℕ) (a n i k v q : ℕ) → n ≤ k → written byte (places_in_row (Physical a) n) (v / 256 ^ i) (Physical q) ≡ stored (λ y. byte (Physical y)) a (take n (bytes_low_first i k v)) q
-written-low_first byte a zero i k v q le = elim (cases_lt q a) [
-  | inl before ↦ sym (stored-before (λ y. byte (Physical y)) a [] q before)
-  | inr above ↦ sym (stored-behind (λ y. byte (Physical y)) a [] q (omega arith))
+written_low_first : (byte : Place → ℕ) (a n i k v q : ℕ) → n ≤ k → written byte (places_in_row (Physical a) n) (v / 256 ^ i) (Physical q) ≡ stored (λ y. byte (Physical y)) a (take n (bytes_low_first i k v)) q
+written_low_first byte a zero i k v q le = elim (cases_lt q a) [
+  | inl before ↦ sym (stored_before (λ y. byte (Physical y)) a [] q before)
+  | inr above ↦ sym (stored_behind (λ y. byte (Physical y)) a [] q (omega arith))
 ]
-written-low_first byte a (suc n) i zero v q le = absurd (omega arith)
-written-low_first byte a (suc n) i (suc k) v q le =
+written_low_first byte a (suc n) i zero v q le = absurd (omega arith)
+written_low_first byte a (suc n) i (suc k) v q le =
     let b = (v / 256 ^ i) % 256 in
     let next : (v / 256 ^ i) / 256 ≡ v / 256 ^ suc i = div-div-eq-div-mul v (256 ^ i) 256 ∙ ap (λ (x : ℕ). v / x) (sym (pow-suc 256 i)) in
     ap (λ (x : ℕ). written (with_byte byte (Physical a) b) (places_in_row (Physical (a + 1)) n) x (Physical q)) next
-    ∙ written-low_first (with_byte byte (Physical a) b) (a + 1) n (suc i) k v q (omega arith)
-    ∙ stored-first (λ y. byte (Physical y)) a b (take n (bytes_low_first (suc i) k v)) q
-    ∙ ap (λ (x : ℕ). stored (λ y. byte (Physical y)) a (x ∷ take n (bytes_low_first (suc i) k v)) q) (sym (byte_of_number-div i v))
+    ∙ written_low_first (with_byte byte (Physical a) b) (a + 1) n (suc i) k v q (omega arith)
+    ∙ stored_first (λ y. byte (Physical y)) a b (take n (bytes_low_first (suc i) k v)) q
+    ∙ ap (λ (x : ℕ). stored (λ y. byte (Physical y)) a (x ∷ take n (bytes_low_first (suc i) k v)) q) (sym (byte_of_number_div i v))
 
-written-elsewhere : (byte : Place → ℕ) (a n v cell offset : ℕ) → written byte (places_in_row (Physical a) n) v (Page cell offset) ≡ byte (Page cell offset)
-written-elsewhere byte a zero v cell offset = refl
-written-elsewhere byte a (suc n) v cell offset = written-elsewhere (with_byte byte (Physical a) (v % 256)) (a + 1) n (v / 256) cell offset
+written_elsewhere : (byte : Place → ℕ) (a n v cell offset : ℕ) → written byte (places_in_row (Physical a) n) v (Page cell offset) ≡ byte (Page cell offset)
+written_elsewhere byte a zero v cell offset = refl
+written_elsewhere byte a (suc n) v cell offset = written_elsewhere (with_byte byte (Physical a) (v % 256)) (a + 1) n (v / 256) cell offset
 
 -- so it is where that list was put
-pub written-piece : (old new : MemoryView) (a n v : ℕ) (bytes : List ℕ) → n ≤ 8 → bytes ≡ take n (bytes_low_first 0 8 v) → ((q : ℕ) → byte_at new.physical q ≡ stored (byte_at old.physical) a bytes q) → new.comms ≡ old.comms
+pub written_piece : (old new : MemoryView) (a n v : ℕ) (bytes : List ℕ) → n ≤ 8 → bytes ≡ take n (bytes_low_first 0 8 v) → ((q : ℕ) → byte_at new.physical q ≡ stored (byte_at old.physical) a bytes q) → new.comms ≡ old.comms
     → (q : Place) → byte_of new q ≡ written (byte_of old) (places_in_row (Physical a) n) v q
-written-piece old new a n v bytes few is put same (Physical q) =
-    put q ∙ ap (λ (bs : List ℕ). stored (byte_at old.physical) a bs q) is ∙ sym (written-low_first (byte_of old) a n 0 8 v q few)
+written_piece old new a n v bytes few is put same (Physical q) =
+    put q ∙ ap (λ (bs : List ℕ). stored (byte_at old.physical) a bs q) is ∙ sym (written_low_first (byte_of old) a n 0 8 v q few)
     ∙ ap (λ (x : ℕ). written (byte_of old) (places_in_row (Physical a) n) x (Physical q)) (div-one v)
-written-piece old new a n v bytes few is put same (Page cell offset) = ap (λ (pages : Pages). comm_byte pages cell offset) same ∙ sym (written-elsewhere (byte_of old) a n v cell offset)
+written_piece old new a n v bytes few is put same (Page cell offset) = ap (λ (pages : Pages). comm_byte pages cell offset) same ∙ sym (written_elsewhere (byte_of old) a n v cell offset)
 
 -- a number of no bytes is one of any
-pub fits-zero : (n : ℕ) → 0 < 256 ^ n
-fits-zero n =
+pub fits_zero : (n : ℕ) → 0 < 256 ^ n
+fits_zero n =
     let least : 0 ≤ n = omega arith in
     let h : 256 ^ 0 ≤ 256 ^ n = pow-le-pow_right (omega arith) least in
     omega (arith, h)
 
-row-length : (p : Place) (n : ℕ) → length (places_in_row p n) ≡ n
-row-length p zero = refl
-row-length p (suc n) = ap suc (row-length (further p 1) n)
-
 -- a number of so many bytes as a row has places
-pub fits-in_row : (v n : ℕ) (p : Place) (places : List Place) → places ≡ places_in_row p n → v < 256 ^ n → v < 256 ^ length places
-fits-in_row v n p places is h =
-    let e : length places ≡ n = ap (λ (ps : List Place). length ps) is ∙ row-length p n in
+pub fits_in_row : (v n : ℕ) (p : Place) (places : List Place) → places ≡ places_in_row p n → v < 256 ^ n → v < 256 ^ length places
+fits_in_row v n p places is h =
+    let e : length places ≡ n = ap (λ (ps : List Place). length ps) is ∙ row_length p n in
     rw e h

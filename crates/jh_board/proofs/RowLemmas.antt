@@ -7,39 +7,39 @@ use Rattle.jh_history.specs.Places.{places_in_row}
 use Rattle.jh_board.specs.Pages.{bytes_from, byte_of, comm_byte, MemoryView}
 
 -- a piece of a list
-pub list-piece : (xs : List ℕ) (offset n : ℕ) → offset + n ≤ length xs → take n (drop offset xs) ≡ bytes_from (slice_index xs) offset n
-list-piece xs offset zero within = refl
-list-piece xs offset (suc n) within =
+pub list_piece : (xs : List ℕ) (offset n : ℕ) → offset + n ≤ length xs → take n (drop offset xs) ≡ bytes_from (slice_index xs) offset n
+list_piece xs offset zero within = refl
+list_piece xs offset (suc n) within =
     ap (take (suc n)) (drop_more xs offset 0 (omega arith))
-    ∙ ap (λ (ys : List ℕ). slice_index xs offset ∷ ys) (list-piece xs (offset + 1) n (omega arith))
+    ∙ ap (λ (ys : List ℕ). slice_index xs offset ∷ ys) (list_piece xs (offset + 1) n (omega arith))
 
-pub slice-piece : (xs : List ℕ) (offset n : ℕ) → offset + n ≤ length xs → slice_range xs offset (offset + n) ≡ bytes_from (slice_index xs) offset n
-slice-piece xs offset n within =
+pub slice_piece : (xs : List ℕ) (offset n : ℕ) → offset + n ≤ length xs → slice_range xs offset (offset + n) ≡ bytes_from (slice_index xs) offset n
+slice_piece xs offset n within =
     (let e : (offset + n) - offset ≡ n = omega arith in ap (λ (m : ℕ). take m (drop offset xs)) e)
-    ∙ list-piece xs offset n within
+    ∙ list_piece xs offset n within
 
 -- a row behind another
-pub row-behind : (byte : ℕ → ℕ) (at m n : ℕ) → bytes_from byte at m ++ bytes_from byte (at + m) n ≡ bytes_from byte at (m + n)
-row-behind byte at zero n =
+pub row_behind : (byte : ℕ → ℕ) (at m n : ℕ) → bytes_from byte at m ++ bytes_from byte (at + m) n ≡ bytes_from byte at (m + n)
+row_behind byte at zero n =
     (let e : at + 0 ≡ at = omega arith in ap (λ (a : ℕ). bytes_from byte a n) e) ∙ (let e : n ≡ 0 + n = omega arith in ap (bytes_from byte at) e)
-row-behind byte at (suc m) n =
-    ap (λ (bs : List ℕ). byte at ∷ bs) ((let e : at + suc m ≡ (at + 1) + m = omega arith in ap (λ (a : ℕ). bytes_from byte (at + 1) m ++ bytes_from byte a n) e) ∙ row-behind byte (at + 1) m n)
+row_behind byte at (suc m) n =
+    ap (λ (bs : List ℕ). byte at ∷ bs) ((let e : at + suc m ≡ (at + 1) + m = omega arith in ap (λ (a : ℕ). bytes_from byte (at + 1) m ++ bytes_from byte a n) e) ∙ row_behind byte (at + 1) m n)
     ∙ (let e : suc (m + n) ≡ suc m + n = omega arith in ap (bytes_from byte at) e)
 
 -- what is put behind a row that stands behind others
-pub row-more : (old items : List ℕ) (byte : ℕ → ℕ) (at m n : ℕ) → items ≡ old ++ bytes_from byte at m → items ++ bytes_from byte (at + m) n ≡ old ++ bytes_from byte at (m + n)
-row-more old items byte at m n is =
+pub row_more : (old items : List ℕ) (byte : ℕ → ℕ) (at m n : ℕ) → items ≡ old ++ bytes_from byte at m → items ++ bytes_from byte (at + m) n ≡ old ++ bytes_from byte at (m + n)
+row_more old items byte at m n is =
     ap (λ (bs : List ℕ). bs ++ bytes_from byte (at + m) n) is
     ∙ append_assoc old (bytes_from byte at m) (bytes_from byte (at + m) n)
-    ∙ ap (λ (bs : List ℕ). old ++ bs) (row-behind byte at m n)
+    ∙ ap (λ (bs : List ℕ). old ++ bs) (row_behind byte at m n)
 
-pub row-last : (old items : List ℕ) (byte : ℕ → ℕ) (at m : ℕ) → items ≡ old ++ bytes_from byte at m → items ++ byte (at + m) ∷ [] ≡ old ++ bytes_from byte at (m + 1)
-row-last old items byte at m is = row-more old items byte at m 1 is
+pub row_last : (old items : List ℕ) (byte : ℕ → ℕ) (at m : ℕ) → items ≡ old ++ bytes_from byte at m → items ++ byte (at + m) ∷ [] ≡ old ++ bytes_from byte at (m + 1)
+row_last old items byte at m is = row_more old items byte at m 1 is
 
-pub row-none : (old : List ℕ) (byte : ℕ → ℕ) (at : ℕ) → old ≡ old ++ bytes_from byte at 0
-row-none old byte at = sym (append-nil old)
+pub row_none : (old : List ℕ) (byte : ℕ → ℕ) (at : ℕ) → old ≡ old ++ bytes_from byte at 0
+row_none old byte at = sym (append-nil old)
 
 -- the bytes at places of a communication page in a row
-pub row-of_comm : (memory : MemoryView) (cell offset n : ℕ) → map (byte_of memory) (places_in_row (Page cell offset) n) ≡ bytes_from (comm_byte memory.comms cell) offset n
-row-of_comm memory cell offset zero = refl
-row-of_comm memory cell offset (suc n) = ap (λ (bs : List ℕ). comm_byte memory.comms cell offset ∷ bs) (row-of_comm memory cell (offset + 1) n)
+pub row_of_comm : (memory : MemoryView) (cell offset n : ℕ) → map (byte_of memory) (places_in_row (Page cell offset) n) ≡ bytes_from (comm_byte memory.comms cell) offset n
+row_of_comm memory cell offset zero = refl
+row_of_comm memory cell offset (suc n) = ap (λ (bs : List ℕ). comm_byte memory.comms cell offset ∷ bs) (row_of_comm memory cell (offset + 1) n)

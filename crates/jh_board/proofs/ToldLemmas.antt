@@ -1,12 +1,12 @@
 -- The regions of live cells, and what a map tells of grants.
-use Rattle.std.proofs.Common.{◌≡◌, ℕ, suc, ◌+◌, ◌-◌, ◌<◌, leb, ltb, Bool, true, false, cond, ◌&&◌, ◌||◌, not, eqb, List, [], length, get_or, map, Option, Some, None, Result, refl, sym, ap, subst, ◌∙◌, ⊎_elim, arith}
+use Rattle.std.proofs.Common.{◌≡◌, ℕ, ◌+◌, ◌-◌, ◌<◌, leb, ltb, Bool, true, false, cond, ◌&&◌, ◌||◌, not, eqb, List, [], length, get_or, map, Option, Some, None, Result, refl, sym, ap, subst, ◌∙◌, ⊎_elim, arith}
 use Rattle.std.specs.Prelude.{AllPairs, Contains, IfOk, find, option_map, option_and_then}
 use Rattle.std.specs.Option.{option_map_or}
 use Rattle.std.proofs.lemmas.Bool.{and_parts, and_from, and_left, eq-eqb, ne_eqb, cases_Bool, cases_order, both_ways, false_from_ne_true, leb-true, ltb-true, le-leb, lt-ltb}
 use Rattle.std.proofs.lemmas.Option.{slice_get-get_or}
 use Rattle.std.proofs.lemmas.List.{get_or_default}
 use Rattle.std.proofs.lemmas.List.Elements.{All-contains}
-use Rattle.jh_num.proofs.Lists.{IsFound, IsFound-from_find, find-None, find-nothing, find-unique}
+use Rattle.jh_num.proofs.Lists.{IsFound, IsFound_from_find, find_None, find_nothing, find_unique}
 use Rattle.jh_num.specs.declared.no_memory.NoMemory.{NoMemory}
 use Rattle.jh_num.specs.declared.range.Range.{Range}
 use Rattle.jh_num.specs.Bytes.{has_byte}
@@ -18,6 +18,7 @@ use Rattle.jh_check.specs.Clean.{IsClean, SharesNoAddress}
 use Rattle.jh_check.specs.Laws.{IsNumbered}
 use Rattle.jh_map.specs.declared.run.Run.{Run}
 use Rattle.jh_map.specs.Maps.{is_granted, leads_to, IsIn, IsRunOf, IsRunIn, IsMap}
+use Rattle.jh_map.proofs.MapLemmas.{granted_has}
 use Rattle.jh_script.specs.declared.image.Image.{Image}
 use Rattle.jh_history.specs.declared.access.Access.{Access}
 use Rattle.jh_history.specs.declared.access.Access.TheVariants.{Read, Write, Fetch}
@@ -25,48 +26,36 @@ use Rattle.jh_history.specs.declared.place.Place.{Place}
 use Rattle.jh_history.specs.declared.place.Place.TheVariants.{Physical, Page}
 use Rattle.jh_history.specs.Access.{right_of, gives, place_in_cell, region_of, place_of}
 use Rattle.jh_history.specs.Grants.{unless, granted_by}
-use Rattle.jh_history.specs.Lives.{live_in, cell_in, regions_in}
+use Rattle.jh_history.specs.Lives.{cell_in, regions_in}
 use Rattle.jh_history.specs.Phases.{configs_of}
-use Rattle.jh_history.proofs.LiveLemmas.{has_number, live_in-is}
+use Rattle.jh_history.proofs.GrantedLemmas.{numbered_cell}
 use Rattle.jh_board.specs.Closed.{AreInRange, is_closed_by}
 use Rattle.jh_board.specs.Maps.{is_kept_at, is_right, is_told, place_told, told_grant}
 
 -- ---- regions of live cells
 
-numbered_live : (image : Image) (lives : List Live) (id : ℕ) (c : CellConfig) → live_in lives id ≡ Some c → (a : ℕ) × IsNumbered image.system (configs_of lives) a c
-numbered_live image lives id c e =
-    let held = (IsFound-from_find (has_number id) (configs_of lives) c (live_in-is lives (configs_of lives) id refl ∙ e)).held in
-    (suc held.0, slice_get-get_or (configs_of lives) held.0 c held.1 ∙ ap Some held.2)
-
-numbered_by : (image : Image) (lives : List Live) (id : ℕ) (c : CellConfig) (b : Bool) → cond b (Some image.system.root) (live_in lives id) ≡ Some c → (a : ℕ) × IsNumbered image.system (configs_of lives) a c
-numbered_by image lives id c true e = (0, e)
-numbered_by image lives id c false e = numbered_live image lives id c e
-
 -- a live cell has a number
 numbered : (image : Image) (lives : List Live) (id : ℕ) (c : CellConfig) → cell_in image lives id ≡ Some c → (a : ℕ) × IsNumbered image.system (configs_of lives) a c
-numbered image lives id c e = numbered_by image lives id c (eqb id image.system.root.id) e
+numbered image lives id c e = numbered_cell image lives id c (eqb id image.system.root.id) e
 
 -- so its regions lie within addresses and places, and no two of them share an address
-pub cell-within : (image : Image) (lives : List Live) (id : ℕ) (c : CellConfig) → IsClean image.system (configs_of lives) → cell_in image lives id ≡ Some c → AreInRange c.memory_regions
-cell-within image lives id c clean e k d lt some =
+pub cell_within : (image : Image) (lives : List Live) (id : ℕ) (c : CellConfig) → IsClean image.system (configs_of lives) → cell_in image lives id ≡ Some c → AreInRange c.memory_regions
+cell_within image lives id c clean e k d lt some =
     let a = numbered image lives id c e in
     clean.within a.0 c a.1 k (get_or c.memory_regions k d) (slice_get-get_or c.memory_regions k d lt) some
 
-pub cell-apart : (image : Image) (lives : List Live) (id : ℕ) (c : CellConfig) → IsClean image.system (configs_of lives) → cell_in image lives id ≡ Some c → AllPairs SharesNoAddress c.memory_regions
-cell-apart image lives id c clean e i j d lt jl at i_has j_has =
+pub cell_apart : (image : Image) (lives : List Live) (id : ℕ) (c : CellConfig) → IsClean image.system (configs_of lives) → cell_in image lives id ≡ Some c → AllPairs SharesNoAddress c.memory_regions
+cell_apart image lives id c clean e i j d lt jl at i_has j_has =
     let a = numbered image lives id c e in
     let same : i ≡ j = clean.addresses a.0 c a.1 i j (get_or c.memory_regions i d) (get_or c.memory_regions j d) (slice_get-get_or c.memory_regions i d (omega arith)) (slice_get-get_or c.memory_regions j d jl) at i_has j_has in
     absurd (omega arith)
-
-pub cell-regions : (image : Image) (lives : List Live) (id : ℕ) (c : CellConfig) → cell_in image lives id ≡ Some c → c.memory_regions ≡ regions_in image lives id
-cell-regions image lives id c e = ap (λ (o : Option CellConfig). option_map_or (λ (x : CellConfig). x.memory_regions) o []) (sym e)
 
 apart_of : (o : Option CellConfig) → ((c : CellConfig) → o ≡ Some c → AllPairs SharesNoAddress c.memory_regions) → AllPairs SharesNoAddress (option_map_or (λ (x : CellConfig). x.memory_regions) o [])
 apart_of None each = λ i j d lt jl. absurd (omega arith)
 apart_of (Some c) each = each c refl
 
-pub regions-apart : (image : Image) (lives : List Live) (id : ℕ) → IsClean image.system (configs_of lives) → AllPairs SharesNoAddress (regions_in image lives id)
-regions-apart image lives id clean = apart_of (cell_in image lives id) (λ c e. cell-apart image lives id c clean e)
+pub regions_apart : (image : Image) (lives : List Live) (id : ℕ) → IsClean image.system (configs_of lives) → AllPairs SharesNoAddress (regions_in image lives id)
+regions_apart image lives id clean = apart_of (cell_in image lives id) (λ c e. cell_apart image lives id c clean e)
 
 -- regions of one list that share an address are one
 same_region : (regions : List Region) (r s : Region) (at : ℕ) → AllPairs SharesNoAddress regions → Contains regions r → Contains regions s → has_address r at ≡ true → has_address s at ≡ true → r ≡ s
@@ -91,9 +80,6 @@ RunsLead = (closed : ℕ → Bool) (r : Region) (run : Run) (at : ℕ) → IsRun
 
 abbrev pub RunsAreSingle : Type 0
 RunsAreSingle = (closed : ℕ → Bool) (regions : List Region) (runs : List Run) (one other : Run) (at : ℕ) → IsMap closed regions runs → Contains runs one → Contains runs other → IsIn one at → IsIn other at → one ≡ other
-
-granted_has : (closed : ℕ → Bool) (r : Region) (at : ℕ) → is_granted closed r at ≡ true → has_address r at ≡ true
-granted_has closed r at h = (and_parts (has_address r at) (is_comm r || not (closed (place_in r at))) h).0
 
 right_is : (access : Access) (r : Region) → is_right access (rights_of r) ≡ has_flags (right_of access) r
 right_is Read r = refl
@@ -167,16 +153,16 @@ second_of false b e = absurd (both_ways false refl e)
 pub told_by : RunsLead → RunsAreSingle → (kept : Place → Bool) (id : ℕ) (regions : List Region) (runs : List Run) (access : Access) (at : ℕ) → ((k : ℕ) → kept (Page id k) ≡ false) → AllPairs SharesNoAddress regions → IsMap (λ p. kept (Physical p)) regions runs
     → (o : Option Region) → find (gives access at) regions ≡ o → told_grant id runs access at ≡ option_and_then (unless kept) (option_map (λ (r : Region). place_in_cell id r at) o)
 told_by leads single kept id regions runs access at page apart is None e =
-    ap (option_map (place_told id at)) (find-nothing (is_told access at) runs (λ run held. false_from_ne_true (is_told access at run) (λ h.
+    ap (option_map (place_told id at)) (find_nothing (is_told access at) runs (λ run held. false_from_ne_true (is_told access at run) (λ h.
     let own = All-contains (IsRunIn (λ p. kept (Physical p)) regions) runs run is.own held in
-    both_ways (gives access at own.region) (find-None (gives access at) regions own.region e own.held) (told_gives (λ p. kept (Physical p)) access at own.region run own.of h))))
+    both_ways (gives access at own.region) (find_None (gives access at) regions own.region e own.held) (told_gives (λ p. kept (Physical p)) access at own.region run own.of h))))
 told_by leads single kept id regions runs access at page apart is (Some r) e = ⊎_elim granted not_granted (cases_Bool (is_granted closed r at))
   where
     closed : ℕ → Bool
     closed p = kept (Physical p)
 
     found : IsFound (gives access at) regions r
-    found = IsFound-from_find (gives access at) regions r e
+    found = IsFound_from_find (gives access at) regions r e
 
     has : has_address r at ≡ true
     has = (gives_parts access at r found.passes).0
@@ -188,14 +174,14 @@ told_by leads single kept id regions runs access at page apart is (Some r) e = �
     granted h =
         let told = is.whole r at found.held h in
         let here = gives_told closed access at r told.run told.of told.has found.passes in
-        let only = find-unique (is_told access at) runs told.run told.held here
+        let only = find_unique (is_told access at) runs told.run told.held here
         (λ other held passes. single closed regions runs other told.run at is held told.held (told_in access at other passes) told.has) in
         ap (option_map (place_told id at)) only ∙ ap Some (place_is leads closed id at r told.run told.of told.has)
         ∙ sym (open_as kept id (byte_in r at) (place_in r at) (is_comm r) page (sym as_left ∙ h))
 
     not_granted : is_granted closed r at ≡ false → told_grant id runs access at ≡ unless kept (place_in_cell id r at)
     not_granted h =
-        ap (option_map (place_told id at)) (find-nothing (is_told access at) runs (λ run held. false_from_ne_true (is_told access at run) (λ told.
+        ap (option_map (place_told id at)) (find_nothing (is_told access at) runs (λ run held. false_from_ne_true (is_told access at run) (λ told.
         let own = All-contains (IsRunIn closed regions) runs run is.own held in
         let own_granted = own.of.each at (told_in access at run told) in
         let same = same_region regions own.region r at apart own.held found.held (granted_has closed own.region at own_granted) has in

@@ -7,8 +7,8 @@ pub mod Means
 pub mod Steps
 pub mod BoardView
 pub mod Turns
-pub mod Stands
+pub mod SoundBoard
 pub mod Indexed
 pub mod IsIndexed
 pub mod Maps
-pub mod Found
+pub mod Judged

@@ -47,11 +47,11 @@ impl Model for Board {
 
     ghost Value = { BoardView };
 
-    ghost use Rattle.jh_board.specs.Stands.{Stands};
+    ghost use Rattle.jh_board.specs.SoundBoard.{IsSoundBoard};
 
     ghost view = { λ b. record { image = b.image; limit = b.limit; entries = b.journal.entries } };
 
-    ghost invariant = { Stands };
+    ghost invariant = { IsSoundBoard };
 }
 
 /// Makes the entry that is due to the CPU, if any.

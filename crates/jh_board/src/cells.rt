@@ -15,9 +15,7 @@ ghost use Rattle.jh_board.specs.Closed.{is_closed_by, live_regions, AreInRange, 
 
 use crate::closed::{close_again, close_regions};
 use jh_cellcfg::{CellConfig, Region, SystemConfig};
-use jh_life::{
-    Cells, a_place_is_dropped_by_its_id, a_place_is_marked_by_its_id, live_cells_differ,
-};
+use jh_life::{Cells, a_cell_is_dropped_by_its_id, a_cell_is_marked_by_its_id, live_cells_differ};
 use jh_mmio::RegionIndex;
 use jh_num::{ByteSet, NoMemory, Range};
 use std::alloc::Global;
@@ -226,9 +224,10 @@ impl LiveCells {
         let Some(index) = index_of(&self.cells, id) else {
             return;
         };
-        a_place_is_dropped_by_its_id(&self.cells);
+        a_cell_is_dropped_by_its_id(&self.cells);
         self.regions -= self.cells.list()[index].memory_regions.len();
         self.cells.drop_cell(index as u32 + 1);
+        // its index goes with it
         let _ = self.indexes.remove(index);
         close_again(&mut self.closed, self.cells.list(), self.cells.loadable());
         self.used = count_pages(&self.cells);
@@ -243,7 +242,7 @@ impl LiveCells {
         let Some(index) = index_of(&self.cells, id) else {
             return;
         };
-        a_place_is_marked_by_its_id(&self.cells);
+        a_cell_is_marked_by_its_id(&self.cells);
         self.cells.set_loadable(index as u32 + 1, on);
         close_again(&mut self.closed, self.cells.list(), self.cells.loadable());
     }

@@ -4,7 +4,7 @@ ghost use Rattle.jh_num.specs.Bytes.{has_byte};
 ghost use Rattle.jh_cellcfg.specs.declared.config.CellConfig.{CellConfig as TheCell};
 ghost use Rattle.jh_cellcfg.specs.declared.live.Live.{Live};
 ghost use Rattle.jh_cellcfg.specs.Regions.{has_place, is_comm, IsInRange};
-ghost use Rattle.jh_shape.specs.Claims.{has_bit as has_bit_lem};
+ghost use Rattle.jh_shape.specs.Claims.{has_bit};
 ghost use Rattle.jh_shape.specs.Shapes.{takes};
 ghost use Rattle.jh_life.specs.Lives.{configs_of, is_loadable_at};
 ghost use Rattle.jh_board.specs.Closed.{is_taken, is_closed_by, count_regions, AreInRange};
@@ -15,7 +15,7 @@ use jh_num::{ByteSet, Range};
 /// Whether the bit of that number is set.
 fn has_bit(mask: u16, index: usize) -> bool
     requires { index < 16 }
-    ensures { result ≡ has_bit_lem mask index }
+    ensures { result ≡ has_bit mask index }
 {
     mask >> index & 1 == 1
 }
@@ -90,7 +90,8 @@ pub fn close_again(closed: &mut ByteSet, cells: &[CellConfig], loadable: u16)
     requires within { All (λ (c : TheCell). AreInRange c.memory_regions) cells.now }
     requires some { length closed.old.ranges < closed.old.room }
     requires room { count_regions cells.now ≤ closed.old.room }
-    ensures bytes { (lives : List Live) → configs_of lives ≡ cells.now → ((i : ℕ) → has_bit_lem loadable i ≡ is_loadable_at lives i) → (place : ℕ) → has_byte closed.new.ranges place ≡ is_closed_by lives place }
+    ensures bytes { (lives : List Live) → configs_of lives ≡ cells.now → ((i : ℕ) → has_bit loadable i ≡ is_loadable_at lives i)
+        → (place : ℕ) → has_byte closed.new.ranges place ≡ is_closed_by lives place }
     ensures few { length closed.new.ranges ≤ count_regions cells.now }
     ensures room { closed.old.room ≤ closed.new.room }
 {

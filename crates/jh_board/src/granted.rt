@@ -10,7 +10,7 @@ ghost use Rattle.jh_history.specs.declared.place.Place.{Place as ThePlace};
 ghost use Rattle.jh_history.specs.declared.place.Place.TheVariants.{Physical};
 ghost use Rattle.jh_history.specs.declared.access.Access.TheVariants.{Read};
 ghost use Rattle.jh_history.specs.Access.{memory_or_nothing, places_from, reach_by};
-ghost use Rattle.jh_history.specs.Grants.{granted_in, is_kept as is_kept_lem, behind_in, reach_in};
+ghost use Rattle.jh_history.specs.Grants.{granted_in, is_kept, behind_in, reach_in};
 ghost use Rattle.jh_history.specs.Devices.{list_in};
 ghost use Rattle.jh_history.specs.Lives.{regions_in};
 ghost use Rattle.jh_history.specs.Places.{number_of, places_in_row, places_of_run, IsRun};
@@ -58,7 +58,7 @@ impl<'a> Grants for Granted<'a> {
 /// Whether root is kept from one of so many places in a row.
 fn keeps_row(cells: &LiveCells, first: Place, count: u16) -> bool
     requires { number_of first + count < 2 ^ 64 }
-    ensures { (i : TheImage) → result ≡ list_any (is_kept_lem i cells.now.lives i.system.root.id) (places_in_row first count) }
+    ensures { (i : TheImage) → result ≡ list_any (is_kept i cells.now.lives i.system.root.id) (places_in_row first count) }
 {
     match first {
         Place::Physical(start) => cells.closes(Range {
@@ -72,14 +72,14 @@ fn keeps_row(cells: &LiveCells, first: Place, count: u16) -> bool
 /// Whether root is kept from a place of the run.
 fn keeps_run(cells: &LiveCells, run: Run) -> bool
     requires { IsRun run }
-    ensures { (i : TheImage) → result ≡ list_any (is_kept_lem i cells.now.lives i.system.root.id) (places_of_run run) }
+    ensures { (i : TheImage) → result ≡ list_any (is_kept i cells.now.lives i.system.root.id) (places_of_run run) }
 {
     keeps_row(cells, run.first, u16::from(run.count))
 }
 
 /// Whether the cell is kept from one of the places: it is root, and another cell takes the place.
 fn keeps(image: &IndexedImage, cells: &LiveCells, cell: u32, places: &Places) -> bool
-    ensures { result ≡ list_any (is_kept_lem image.now cells.now.lives cell) places.now }
+    ensures { result ≡ list_any (is_kept image.now cells.now.lives cell) places.now }
 {
     if cell != image.root() {
         return false;
@@ -130,7 +130,8 @@ pub fn row_of_root(image: &IndexedImage, cells: &LiveCells, at: u64, count: u16)
 /// The subpage region of the cell that has the whole access.
 fn whole(image: &IndexedImage, cells: &LiveCells, cell: u32, wanted: &Wanted) -> Option<Region>
     requires { 0 < wanted.now.width }
-    ensures found { (closed : ℕ → Bool) → find (takes_all closed wanted.now.at wanted.now.width) (regions_in image.now cells.now.lives cell) ≡ unless_closed closed wanted.now.at wanted.now.width result }
+    ensures found { (closed : ℕ → Bool)
+        → find (takes_all closed wanted.now.at wanted.now.width) (regions_in image.now cells.now.lives cell) ≡ unless_closed closed wanted.now.at wanted.now.width result }
     ensures within { IfSome result IsInRange }
     ensures first { IfSome result (λ (r : TheRegion). IsTrue (has_address r wanted.now.at)) }
 {
@@ -145,7 +146,7 @@ fn whole(image: &IndexedImage, cells: &LiveCells, cell: u32, wanted: &Wanted) ->
 fn open_whole(image: &IndexedImage, cells: &LiveCells, cell: u32, wanted: &Wanted) -> Option<Region>
     requires some { 0 < wanted.now.width }
     requires few { wanted.now.width ≤ 8 }
-    ensures found { result ≡ find (takes_all (λ p. is_kept_lem image.now cells.now.lives cell (Physical p)) wanted.now.at wanted.now.width) (regions_in image.now cells.now.lives cell) }
+    ensures found { result ≡ find (takes_all (λ p. is_kept image.now cells.now.lives cell (Physical p)) wanted.now.at wanted.now.width) (regions_in image.now cells.now.lives cell) }
     ensures within { IfSome result IsInRange }
     ensures first { IfSome result (λ (r : TheRegion). IsTrue (has_address r wanted.now.at)) }
 {

@@ -1,15 +1,15 @@
 //! An image with what turns look up in it, found once.
 ghost use Rattle.std.specs.Prelude.{◌≡◌, ℕ, ◌<◌, ◌≤◌, Bool, List, [], All, IsTrue, find, slice_get, IfSome, IfOk, IfErr};
-ghost use Rattle.jh_cellcfg.specs.Cells.{name_of as name_of_lem};
+ghost use Rattle.jh_cellcfg.specs.Cells.{name_of};
 ghost use Rattle.jh_cellcfg.specs.declared.region.Region.{Region as TheRegion};
 ghost use Rattle.jh_cellcfg.specs.Regions.{has_address, IsInRange};
 ghost use Rattle.jh_mmio.specs.Dispatch.{takes_all, unless_closed};
 ghost use Rattle.jh_mmio.specs.Index.{IsRegionAt};
-ghost use Rattle.jh_script.specs.Operations.{IsPlain};
+ghost use Rattle.jh_script.specs.Operations.{IsWellFormed};
 ghost use Rattle.jh_history.specs.Access.{region_of};
-ghost use Rattle.jh_history.specs.Admitted.{IsAdmitted, pool_pages as pool_pages_lem};
+ghost use Rattle.jh_history.specs.Admitted.{IsAdmitted, pool_pages};
 ghost use Rattle.jh_history.specs.Facts.{Facts};
-ghost use Rattle.jh_history.specs.Lives.{is_on_board as is_on_board_lem, program_of as program_of_lem, is_program_of as is_program_of_lem, ops_in, op_at};
+ghost use Rattle.jh_history.specs.Lives.{is_on_board, program_of, is_program_of, ops_in, op_at};
 ghost use Rattle.jh_board.specs.Indexed.{AreRootPrograms};
 
 use crate::cells::LiveCells;
@@ -28,7 +28,7 @@ use std::marker::Model;
 #[derive(Drop)]
 pub struct IndexedImage {
     image: Image,
-    /// Of each CPU the place of root's program among the programs, or their number where it has none.
+    /// Of each CPU the index of root's program among the programs, or their number where it has none.
     programs: [usize; 16],
     /// Root's regions.
     regions: RegionIndex,
@@ -46,9 +46,9 @@ impl Model for IndexedImage {
     ghost invariant = { IsIndexed };
 }
 
-/// The place of the first program of the CPU in the cell of that name, or the number of programs.
-fn place_of_program(programs: &[Program], name: &[u8], cpu: u8) -> usize
-    ensures { find (is_program_of_lem name.now cpu) programs.now ≡ slice_get programs.now result }
+/// The index of the first program of the CPU in the cell of that name, or the number of programs.
+fn index_of_program(programs: &[Program], name: &[u8], cpu: u8) -> usize
+    ensures { find (is_program_of name.now cpu) programs.now ≡ slice_get programs.now result }
 {
     for (k, program) in programs.iter().enumerate() {
         if is_program_of(program, name, cpu) {
@@ -58,16 +58,16 @@ fn place_of_program(programs: &[Program], name: &[u8], cpu: u8) -> usize
     programs.len()
 }
 
-/// The place of root's program of each CPU.
+/// The index of root's program of each CPU.
 fn root_programs(image: &Image) -> [usize; 16]
     ensures { AreRootPrograms image.now result }
 {
     let name = image.system.root.name();
-    let mut places = [0; 16];
+    let mut indices = [0; 16];
     for cpu in 0..16u8 {
-        places[cpu as usize] = place_of_program(image.programs.as_slice(), name, cpu);
+        indices[cpu as usize] = index_of_program(image.programs.as_slice(), name, cpu);
     }
-    places
+    indices
 }
 
 /// The region, where it gives the address with the right.
@@ -108,7 +108,7 @@ impl IndexedImage {
 
     /// The board has no CPU above 15. It does nothing; its contract is what holds of each image.
     pub fn has_few_cpus(&self)
-        ensures cpus { (cpu : ℕ) → IsTrue (is_on_board_lem self.now cpu) → cpu < 16 }
+        ensures cpus { (cpu : ℕ) → IsTrue (is_on_board self.now cpu) → cpu < 16 }
         ensures admitted { IsAdmitted self.now }
     {
         admitted_roots_are_sound(&self.image);
@@ -138,7 +138,7 @@ impl IndexedImage {
 
     /// How many pages the pool has.
     pub fn pool_pages(&self) -> u32
-        ensures { result ≡ pool_pages_lem self.now.system }
+        ensures { result ≡ pool_pages self.now.system }
     {
         admitted_roots_are_sound(&self.image);
         pool_pages(&self.image.system) as u32
@@ -157,7 +157,7 @@ impl IndexedImage {
 
     /// Whether the board has the CPU.
     pub fn has_cpu(&self, cpu: u8) -> bool
-        ensures { result ≡ is_on_board_lem self.now cpu }
+        ensures { result ≡ is_on_board self.now cpu }
     {
         is_on_board(&self.image, cpu)
     }
@@ -165,8 +165,8 @@ impl IndexedImage {
     /// The operations of root's program on the CPU.
     fn root_ops(&self, cpu: u8) -> &[Op]
         requires { cpu < 16 }
-        ensures ops { result.now ≡ program_of_lem self.now (name_of_lem self.now.system.root) cpu }
-        ensures plain { All IsPlain result.now }
+        ensures ops { result.now ≡ program_of self.now (name_of self.now.system.root) cpu }
+        ensures plain { All IsWellFormed result.now }
     {
         match self.image.programs.get(self.programs[cpu as usize]) {
             Some(program) => program.ops.as_slice(),
@@ -178,7 +178,7 @@ impl IndexedImage {
     fn ops<'a>(&'a self, cells: &LiveCells, id: u32, cpu: u8) -> &'a [Op]
         requires { cpu < 16 }
         ensures ops { result.now ≡ ops_in self.now cells.now.lives id cpu }
-        ensures plain { All IsPlain result.now }
+        ensures plain { All IsWellFormed result.now }
     {
         if id == self.image.system.root.id {
             return self.root_ops(cpu);
@@ -193,7 +193,7 @@ impl IndexedImage {
     pub fn operation(&self, cells: &LiveCells, cpu: u8, state: Cpu) -> Option<Op>
         requires { cpu < 16 }
         ensures told { (f : Facts) → f.cells ≡ cells.now.lives → result ≡ op_at self.now f state cpu }
-        ensures plain { IfSome result IsPlain }
+        ensures plain { IfSome result IsWellFormed }
     {
         self.ops(cells, state.owner, cpu)
             .get(state.position as usize)

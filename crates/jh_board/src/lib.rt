@@ -22,6 +22,3 @@ mod turn;
 pub use board::Board;
 pub use laws::maps_tell_what_is_granted;
 pub use turn::{Turn, TurnFault};
-
-#[cfg(test)]
-mod tests;

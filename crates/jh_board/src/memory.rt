@@ -163,6 +163,7 @@ impl Memory {
     {
         let (low, high) = places.runs();
         let rest = self.write_run(low, value);
+        // what is left of the value has no place
         let _rest = self.write_run(high, rest);
     }
 
@@ -236,9 +237,9 @@ impl Memory {
 }
 
 impl Bytes for Memory {
-    ghost use Rattle.jh_board.specs.Pages.{byte_of as byte_of_lem};
+    ghost use Rattle.jh_board.specs.Pages.{byte_of};
 
-    ghost byte_of = { byte_of_lem };
+    ghost byte_of = { byte_of };
 
     fn byte(&self, place: Place) -> u8 {
         match place {

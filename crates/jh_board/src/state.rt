@@ -6,7 +6,7 @@ ghost use Rattle.jh_history.specs.Phases.{creation_of};
 ghost use Rattle.jh_history.specs.Facts.{Facts};
 ghost use Rattle.jh_history.specs.Wants.{IsReachOfEntry};
 ghost use Rattle.jh_board.specs.Means.{Means};
-ghost use Rattle.jh_board.specs.Found.{IsFound};
+ghost use Rattle.jh_board.specs.Judged.{IsJudged};
 ghost use Rattle.jh_board.specs.declared.state.NextStep.{NextStep as TheStep};
 
 use crate::granted::{reach, row_of_root};
@@ -28,7 +28,7 @@ use std::marker::Model;
 
 /// What comes of the create by the caller, of the configuration at the address, found once for its Decide.
 #[derive(Drop)]
-pub struct FoundCreate {
+pub struct JudgedCreate {
     pub caller: u8,
     pub at: u64,
     pub creation: Creation,
@@ -39,7 +39,7 @@ pub struct FoundCreate {
 pub struct State<'a> {
     image: &'a IndexedImage,
     held: &'a Held,
-    found: &'a Option<FoundCreate>,
+    found: &'a Option<JudgedCreate>,
 }
 
 impl<'a> Model for State<'a> {
@@ -50,15 +50,15 @@ impl<'a> Model for State<'a> {
     ghost view = { λ s. record { image = s.image.now; held = s.held.now } };
 
     ghost use Rattle.std.specs.Prelude.{IfSome};
-    ghost use Rattle.jh_board.specs.Found.{IsFound};
+    ghost use Rattle.jh_board.specs.Judged.{IsJudged};
 
-    ghost invariant = { λ s. IfSome s.found.now (IsFound s.image.now s.held.now) };
+    ghost invariant = { λ s. IfSome s.found.now (IsJudged s.image.now s.held.now) };
 }
 
 impl<'a> State<'a> {
     /// What is held, where this was found of a create.
-    pub fn new(image: &'a IndexedImage, held: &'a Held, found: &'a Option<FoundCreate>) -> Self
-        requires { IfSome found.now (IsFound image.now held.now) }
+    pub fn new(image: &'a IndexedImage, held: &'a Held, found: &'a Option<JudgedCreate>) -> Self
+        requires { IfSome found.now (IsJudged image.now held.now) }
         ensures { result ≡ record { image = image.now; held = held.now } }
     {
         State { image, held, found }
@@ -203,7 +203,7 @@ impl<'a> Known for State<'a> {
 pub struct NextStep {
     pub entry: Entry,
     pub reach: Reach,
-    pub found: Option<FoundCreate>,
+    pub found: Option<JudgedCreate>,
 }
 
 /// Who is about to decide a create, and where it reads its configuration.
@@ -216,9 +216,9 @@ fn create_to_decide(held: &Held) -> Option<(u8, u64)> {
 }
 
 /// What comes of the create that the CPU decides next.
-fn find_create(image: &IndexedImage, held: &Held, cpu: u8) -> Result<Option<FoundCreate>, NoMemory>
+fn find_create(image: &IndexedImage, held: &Held, cpu: u8) -> Result<Option<JudgedCreate>, NoMemory>
     requires { cpu < 16 }
-    ensures { IfOk result (λ found. IfSome found (IsFound image.now held.now)) }
+    ensures { IfOk result (λ found. IfSome found (IsJudged image.now held.now)) }
 {
     let Some((caller, at)) = create_to_decide(held) else {
         return Ok(None);
@@ -229,7 +229,7 @@ fn find_create(image: &IndexedImage, held: &Held, cpu: u8) -> Result<Option<Foun
         return Ok(None);
     }
     let creation = state.creation(caller, at)?;
-    Ok(Some(FoundCreate {
+    Ok(Some(JudgedCreate {
         caller,
         at,
         creation,
@@ -242,7 +242,7 @@ pub fn next_step(image: &IndexedImage, held: &Held, cpu: u8) -> Result<Option<Ne
     ensures due { (f : Facts) → Means image.now held.now f → IfOk result (λ step. option_map (λ (s : TheStep). s.entry) step ≡ due_at image.now f cpu) }
     ensures reached { (f : Facts) → Means image.now held.now f → IfOk result (λ step. IfSome step (λ s. IsReachOfEntry image.now f s.entry s.reach)) }
     ensures cpu { IfOk result (λ step. IfSome step (λ s. s.entry.cpu ≡ cpu)) }
-    ensures found { IfOk result (λ step. IfSome step (λ s. IfSome s.found (IsFound image.now held.now))) }
+    ensures found { IfOk result (λ step. IfSome step (λ s. IfSome s.found (IsJudged image.now held.now))) }
 {
     let found = find_create(image, held, cpu)?;
     let state = State::new(image, held, &found);
@@ -262,11 +262,11 @@ pub fn next_step(image: &IndexedImage, held: &Held, cpu: u8) -> Result<Option<Ne
 pub fn creation_by(
     image: &IndexedImage,
     held: &Held,
-    found: Option<FoundCreate>,
+    found: Option<JudgedCreate>,
     caller: u8,
     at: u64,
 ) -> Result<Creation, NoMemory>
-    requires { IfSome found (IsFound image.now held.now) }
+    requires { IfSome found (IsJudged image.now held.now) }
     ensures { (f : Facts) → Means image.now held.now f → IfOk result (λ creation. creation ≡ creation_of image.now f caller at) }
 {
     if let Some(found) = found {

@@ -18,9 +18,9 @@ ghost use Rattle.jh_history.specs.Pages.{with_page_write};
 ghost use Rattle.jh_history.specs.Due.{due_at};
 ghost use Rattle.jh_history.specs.Wants.{IsReachOfEntry};
 ghost use Rattle.jh_board.specs.Pages.{byte_of, HoldsComm, HoldsPlace};
-ghost use Rattle.jh_board.specs.Found.{IsFound};
+ghost use Rattle.jh_board.specs.Judged.{IsJudged};
 ghost use Rattle.jh_board.specs.Means.{Means, IsReady, IsReadyFor};
-ghost use Rattle.jh_board.specs.Steps.{begins, goes_on as goes_on_lem, create_of as create_of_lem, change_of_call as change_of_call_lem, change_of_cells as change_of_cells_lem, changed_cells, IsNext, IsRead, IsFree, WillBeReady, IsPrepared, MayWrite, MayWriteOf, MayWriteSlot, MayCommit, MayJoin, IsSameButDevices, joined_cells, devices_held, memory_written, memory_after, slot_after, endpoints_acted_by};
+ghost use Rattle.jh_board.specs.Steps.{begins, goes_on, create_of, change_of_call, change_of_cells, changed_cells, IsNext, IsRead, IsFree, WillBeReady, IsPrepared, MayWrite, MayWriteOf, MayWriteSlot, MayCommit, MayJoin, IsSameButDevices, joined_cells, devices_held, memory_written, memory_after, slot_after, endpoints_acted_by};
 
 use crate::cells::LiveCells;
 use crate::devices::{change_devices, prepare_devices, write_slot_if};
@@ -28,7 +28,7 @@ use crate::granted::devices_of;
 use crate::held::Held;
 use crate::indexed::IndexedImage;
 use crate::memory::Memory;
-use crate::state::{FoundCreate, creation_by};
+use crate::state::{JudgedCreate, creation_by};
 use jh_call::Call;
 use jh_cellcfg::CellConfig;
 use jh_history::{
@@ -52,7 +52,7 @@ pub enum CellsChange {
 
 /// What the Commit of the call does to the cells that live already.
 fn change_of_call(call: &Call) -> CellsChange
-    ensures { result ≡ change_of_call_lem call.now }
+    ensures { result ≡ change_of_call call.now }
 {
     match *call {
         Call::Start { id } => CellsChange::Mark {
@@ -67,7 +67,7 @@ fn change_of_call(call: &Call) -> CellsChange
 
 /// What the act does to the cells that live already, where the call is open.
 fn change_of_cells(call: Option<&OpenCall>, act: &Act) -> CellsChange
-    ensures { result ≡ change_of_cells_lem (option_copied call.entry) act.now }
+    ensures { result ≡ change_of_cells (option_copied call.entry) act.now }
 {
     match (act, call) {
         (Act::Commit, Some(begun)) => change_of_call(&begun.call),
@@ -90,14 +90,14 @@ fn change_cells(cells: &mut LiveCells, change: CellsChange)
 
 /// Whether the act is a Decide that goes on.
 fn goes_on(act: &Act) -> bool
-    ensures { result ≡ goes_on_lem act.now }
+    ensures { result ≡ goes_on act.now }
 {
     matches!(act, Act::Decide { refused: None })
 }
 
 /// Where a create reads its configuration.
 fn create_of(call: &Call) -> Option<u64>
-    ensures { result ≡ create_of_lem call.now }
+    ensures { result ≡ create_of call.now }
 {
     match *call {
         Call::Create { at } => Some(at),
@@ -110,10 +110,10 @@ fn coming_of(
     image: &IndexedImage,
     held: &Held,
     entry: &Entry,
-    found: Option<FoundCreate>,
+    found: Option<JudgedCreate>,
 ) -> Result<Option<BoxedCell>, NoMemory>
     requires next { IsNext image.now held.now entry.now }
-    requires found { IfSome found (IsFound image.now held.now) }
+    requires found { IfSome found (IsJudged image.now held.now) }
     ensures read { (f : Facts) → Means image.now held.now f → due_at image.now f entry.now.cpu ≡ Some entry.now → IfOk result (IsRead image.now f entry.now) }
     ensures ready { (f : Facts) → Means image.now held.now f → due_at image.now f entry.now.cpu ≡ Some entry.now → IfOk result (WillBeReady image.now f entry.now) }
     ensures free { (f : Facts) → Means image.now held.now f → due_at image.now f entry.now.cpu ≡ Some entry.now → IfOk result (IsFree f) }
@@ -159,10 +159,10 @@ fn prepare(
     image: &IndexedImage,
     held: &mut Held,
     entry: &Entry,
-    found: Option<FoundCreate>,
+    found: Option<JudgedCreate>,
 ) -> Result<Option<BoxedCell>, NoMemory>
     requires next { IsNext image.now held.old entry.now }
-    requires found { IfSome found (IsFound image.now held.old) }
+    requires found { IfSome found (IsJudged image.now held.old) }
     ensures means { (f : Facts) → Means image.now held.old f → Means image.now held.new f }
     ensures ok { (f : Facts) → Means image.now held.old f → due_at image.now f entry.now.cpu ≡ Some entry.now → IfOk result (IsPrepared image.now held.new f entry.now) }
 {
@@ -225,6 +225,7 @@ fn make_devices(image: &IndexedImage, held: &mut Held, entry: &Entry, reach: &Re
             write_slot_if(&mut held.memory, slot);
         }
         Act::Irq { .. } => {
+            // the entry names the vector already
             let _ = held.endpoints.take(entry.cell);
         }
         _ => {}
@@ -234,8 +235,10 @@ fn make_devices(image: &IndexedImage, held: &mut Held, entry: &Entry, reach: &Re
 /// Changes the devices of the cell that a Commit is about, with their words of the state tables. It takes no memory.
 fn make_commit(held: &mut Held, act: &Act)
     requires { MayCommit held.old act.now }
-    ensures bytes { (f : Facts) → f.cells ≡ held.old.cells.lives → f.call ≡ held.old.call → (q : ThePlace) → byte_of held.new.memory q ≡ with_words (specs_changing f act.now) (byte_of held.old.memory) q }
-    ensures list { (f : Facts) → f.cells ≡ held.old.cells.lives → f.call ≡ held.old.call → held.new.endpoints.list ≡ endpoints_changed (change_by f.call) (specs_changing f act.now) held.old.endpoints.list }
+    ensures bytes { (f : Facts) → f.cells ≡ held.old.cells.lives → f.call ≡ held.old.call → (q : ThePlace)
+        → byte_of held.new.memory q ≡ with_words (specs_changing f act.now) (byte_of held.old.memory) q }
+    ensures list { (f : Facts) → f.cells ≡ held.old.cells.lives → f.call ≡ held.old.call
+        → held.new.endpoints.list ≡ endpoints_changed (change_by f.call) (specs_changing f act.now) held.old.endpoints.list }
     ensures spare { changing_by held.old.cells.lives held.old.call act.now ≡ None → held.new.endpoints.spare ≡ held.old.endpoints.spare }
     ensures others { IsSameButDevices held.old held.new }
 {
@@ -317,10 +320,10 @@ pub fn make(
     held: &mut Held,
     entry: &Entry,
     reach: &Reach,
-    found: Option<FoundCreate>,
+    found: Option<JudgedCreate>,
 ) -> Result<(), NoMemory>
     requires next { IsNext image.now held.old entry.now }
-    requires found { IfSome found (IsFound image.now held.old) }
+    requires found { IfSome found (IsJudged image.now held.old) }
     requires reached { (f : Facts) → Means image.now held.old f → IsReachOfEntry image.now f entry.now reach.now }
     ensures ok { OnOk result ((f : Facts) → Means image.now held.old f → due_at image.now f entry.now.cpu ≡ Some entry.now → Means image.now held.new (after image.now f entry.now)) }
     ensures err { OnErr result ((f : Facts) → Means image.now held.old f → Means image.now held.new f) }

@@ -24,14 +24,14 @@ stays t x tag page other is =
     let pages : t.page ≡ page = sym (eqb-true x.page t.page b.1) ∙ eqb-true x.page page a.1 in
     both_ways (is_for tag page t) other (and_from (eqb t.tag tag) (eqb t.page page) (eq-eqb t.tag tag tags) (eq-eqb t.page page pages))))
 
-pub filled-found : (t : Translation) (list : List Translation) → looked (filled t list) t.tag t.page ≡ Some t.hit
-filled-found t list =
+pub filled_found : (t : Translation) (list : List Translation) → looked (filled t list) t.tag t.page ≡ Some t.hit
+filled_found t list =
     let none : find (is_for t.tag t.page) (without (is_for t.tag t.page) list) ≡ None = find_none (is_for t.tag t.page) (λ x. not (is_for t.tag t.page x)) list (λ x kept. not-true (is_for t.tag t.page x) kept) in
     ap hit_in (find_last (is_for t.tag t.page) (newest 63 (without (is_for t.tag t.page) list)) t
     (find_drop (is_for t.tag t.page) (length (without (is_for t.tag t.page) list) - 63) (without (is_for t.tag t.page) list) none) (for_itself t))
 
-pub filled-others : (t : Translation) (list : List Translation) (tag page : ℕ) → length list < 64 → is_for tag page t ≡ false → looked (filled t list) tag page ≡ looked list tag page
-filled-others t list tag page room other =
+pub filled_others : (t : Translation) (list : List Translation) (tag page : ℕ) → length list < 64 → is_for tag page t ≡ false → looked (filled t list) tag page ≡ looked list tag page
+filled_others t list tag page room other =
     let fewer : length (without (is_for t.tag t.page) list) ≤ length list = filter_few (λ x. not (is_for t.tag t.page x)) list in
     ap hit_in (find_more (is_for tag page) (newest 63 (without (is_for t.tag t.page) list)) t other
     ∙ ap (find (is_for tag page)) (newest_few (without (is_for t.tag t.page) list) (omega arith))
@@ -41,35 +41,35 @@ none_from : (o : Option Translation) → hit_in o ≡ None → o ≡ None
 none_from None e = refl
 none_from (Some t) e = cc
 
-pub filled-full : (t oldest : Translation) (list : List Translation) → length list ≡ 63 → looked (oldest ∷ list) t.tag t.page ≡ None → filled t (oldest ∷ list) ≡ list ++ t ∷ []
-filled-full t oldest list full absent =
+pub filled_full : (t oldest : Translation) (list : List Translation) → length list ≡ 63 → looked (oldest ∷ list) t.tag t.page ≡ None → filled t (oldest ∷ list) ≡ list ++ t ∷ []
+filled_full t oldest list full absent =
     let kept : without (is_for t.tag t.page) (oldest ∷ list) ≡ oldest ∷ list = kept_all (is_for t.tag t.page) (oldest ∷ list) (none_from (find (is_for t.tag t.page) (oldest ∷ list)) absent) in
     let one : length (oldest ∷ list) - 63 ≡ 1 = omega arith in
     ap (λ l. newest 63 l ++ t ∷ []) kept ∙ ap (λ n. drop n (oldest ∷ list) ++ t ∷ []) one
 
-pub filled-room : (t : Translation) (list : List Translation) → length list < 64 → looked list t.tag t.page ≡ None → filled t list ≡ list ++ t ∷ []
-filled-room t list room absent =
+pub filled_room : (t : Translation) (list : List Translation) → length list < 64 → looked list t.tag t.page ≡ None → filled t list ≡ list ++ t ∷ []
+filled_room t list room absent =
     let kept : without (is_for t.tag t.page) list ≡ list = kept_all (is_for t.tag t.page) list (none_from (find (is_for t.tag t.page) list) absent) in
     ap (λ l. newest 63 l ++ t ∷ []) kept ∙ ap (λ l. l ++ t ∷ []) (newest_few list (omega arith))
 
-pub filled-again : (t : Translation) (list : List Translation) → length list ≤ 64 → (looked list t.tag t.page ≡ None → ⊥) → filled t list ≡ without (is_for t.tag t.page) list ++ t ∷ []
-filled-again t list few there =
+pub filled_again : (t : Translation) (list : List Translation) → length list ≤ 64 → (looked list t.tag t.page ≡ None → ⊥) → filled t list ≡ without (is_for t.tag t.page) list ++ t ∷ []
+filled_again t list few there =
     let fewer : length (without (is_for t.tag t.page) list) + 1 ≤ length list = filter_fewer (is_for t.tag t.page) list (λ none. there (ap hit_in none)) in
     ap (λ l. l ++ t ∷ []) (newest_few (without (is_for t.tag t.page) list) (omega arith))
 
-pub flushed-gone : (list : List Translation) (tag page : ℕ) → looked (flushed tag list) tag page ≡ None
-flushed-gone list tag page =
+pub flushed_gone : (list : List Translation) (tag page : ℕ) → looked (flushed tag list) tag page ≡ None
+flushed_gone list tag page =
     ap hit_in (find_none (is_for tag page) (λ x. not (eqb x.tag tag)) list (λ x kept. and_left (eqb x.tag tag) (eqb x.page page) (not-true (eqb x.tag tag) kept)))
 
-pub flushed-others : (list : List Translation) (tag other page : ℕ) → (other ≡ tag → ⊥) → looked (flushed tag list) other page ≡ looked list other page
-flushed-others list tag other page ne =
+pub flushed_others : (list : List Translation) (tag other page : ℕ) → (other ≡ tag → ⊥) → looked (flushed tag list) other page ≡ looked list other page
+flushed_others list tag other page ne =
     ap hit_in (find_kept (is_for other page) (λ x. not (eqb x.tag tag)) list (λ x is.
     let same : x.tag ≡ other = eqb-true x.tag other (and_parts (eqb x.tag other) (eqb x.page page) is).0 in
     not_from_false (eqb x.tag tag) (ne_eqb x.tag tag (λ too. ne (sym same ∙ too)))))
 
 -- flushed lists are no longer than they were
-pub flushed-few : (rows : List (List Translation)) (tag : ℕ) → ((cpu : ℕ) → length (get_or rows cpu []) ≤ 64) → (cpu : ℕ) → length (get_or (map (flushed tag) rows) cpu []) ≤ 64
-flushed-few rows tag few cpu =
+pub flushed_few : (rows : List (List Translation)) (tag : ℕ) → ((cpu : ℕ) → length (get_or rows cpu []) ≤ 64) → (cpu : ℕ) → length (get_or (map (flushed tag) rows) cpu []) ≤ 64
+flushed_few rows tag few cpu =
     let same : get_or (map (flushed tag) rows) cpu [] ≡ flushed tag (get_or rows cpu []) = mapped_at (flushed tag) rows cpu refl in
     let fewer : length (flushed tag (get_or rows cpu [])) ≤ length (get_or rows cpu []) = filter_few (λ x. not (eqb x.tag tag)) (get_or rows cpu []) in
     let most : length (get_or rows cpu []) ≤ 64 = few cpu in

@@ -82,5 +82,6 @@ impl Cache {
 pub fn at_most_64_are_held(cache: &Cache)
     ensures { (cpu : ℕ) → length (row_of cache.now cpu) ≤ 64 }
 {
+    // for the proof: the invariant of the cache
     let _ = &cache.rows;
 }

@@ -58,6 +58,7 @@ fn drop_oldest(list: &mut VecDeque<Translation>)
     ensures room { deque_capacity list.new ≡ deque_capacity list.old }
 {
     if list.len() == HELD {
+        // the oldest is dropped
         let _ = list.pop_front();
     }
 }
@@ -69,6 +70,7 @@ fn append(list: &mut VecDeque<Translation>, translation: Translation)
     ensures items { list.new.items ≡ list.old.items ++ translation ∷ [] }
     ensures room { deque_capacity list.new ≡ deque_capacity list.old }
 {
+    // the list has room, so this takes no memory and succeeds
     let _ = list.push_back(translation);
 }
 

@@ -10,8 +10,8 @@ use Rattle.jh_cellcfg.specs.declared.config.Irqchip.{Irqchip}
 use Rattle.jh_cellcfg.specs.declared.config.PciDevice.{PciDevice}
 use Rattle.jh_cellcfg.specs.declared.fault.ConfigFault.{ConfigFault}
 use Rattle.jh_cellcfg.specs.declared.fault.ConfigFault.TheVariants.{Short, Name, Count, Trailing}
-use Rattle.jh_cellcfg.specs.declared.fault.Which.{Which}
-use Rattle.jh_cellcfg.specs.declared.fault.Which.TheVariants.{CpuSet, MemoryRegions, CacheRegions, Irqchips, PioRegions, PciDevices, PciCaps, StreamIds, Total}
+use Rattle.jh_cellcfg.specs.declared.fault.Part.{Part}
+use Rattle.jh_cellcfg.specs.declared.fault.Part.TheVariants.{CpuSet, MemoryRegions, CacheRegions, Irqchips, PioRegions, PciDevices, PciCaps, StreamIds, Total}
 use Rattle.jh_cellcfg.specs.declared.header.Counts.{Counts}
 use Rattle.jh_cellcfg.specs.declared.header.Header.{Header}
 use Rattle.jh_cellcfg.specs.Faults.{fault_if, first_of, over, count_fault, limits_fault, length_fault, counts_at, start_fault, body_fault, header_fault, header_size, first_fault, refusal, Gives}
@@ -20,6 +20,7 @@ use Rattle.jh_cellcfg.specs.Spelling.{u16_bytes, u32_bytes, region_bytes, irqchi
 use Rattle.jh_cellcfg.specs.Limits.{is_name, parts_size, whole_size, AreWithinLimits, IsWithinLimits}
 use Rattle.jh_cellcfg.specs.Widths.{IsRegion, IsIrqchip, IsDevice, IsWordArray, IsHeader, IsCell}
 use Rattle.jh_cellcfg.proofs.Splits.{array_splits, list_splits, u32_splits, region_splits, irqchip_splits, device_splits, header_splits}
+use Rattle.jh_cellcfg.proofs.Found.{Free}
 
 -- the header of a configuration within the limits
 pub header_fits : (c : CellConfig) → IsCell c → IsWithinLimits c → IsHeader (header_of c)
@@ -66,9 +67,6 @@ one_spelling a b fa fb la lb e = one_body a b fa fb la lb (ap (drop 8) e)
 
 -- ---- a spelling has no fault
 
-record Free (faults : List (Option ConfigFault)) : Type 0 where
-  none : first_of faults ≡ None
-
 none_left : Free []
 none_left = record { none = refl }
 
@@ -78,8 +76,8 @@ first_none {os = os} here rest = record { none = subst (λ (o : Option ConfigFau
 passes : (test : Bool) (fault : ConfigFault) → test ≡ false → fault_if test fault ≡ None
 passes test fault is = ap (λ (b : Bool). fault_if b fault) is
 
-fits_in : (which : Which) (most found : ℕ) → found ≤ most → over which most found ≡ None
-fits_in which most found le = passes (nat_lt most found) (Count which found) (le-ltb _ _ le)
+fits_in : (part : Part) (most found : ℕ) → found ≤ most → over part most found ≡ None
+fits_in part most found le = passes (nat_lt most found) (Count part found) (le-ltb _ _ le)
 
 some_is_not_zero : (n : ℕ) → 1 ≤ n → (n == 0) ≡ false
 some_is_not_zero n le = ne_eqb n 0 (λ e. omega arith)
@@ -108,40 +106,40 @@ limits_unfaulted c limits =
 
 -- ---- how long it is
 
-pub length-flat_map_each : {R : Type 0} (f : R → List ℕ) (Fits : R → Type 0) (k : ℕ) → ((x : R) → Fits x → length (f x) ≡ k) → (xs : List R) → AllByRecursion Fits xs → length (flat_map f xs) ≡ k * length xs
-length-flat_map_each f Fits k each [] all = omega arith
-length-flat_map_each f Fits k each (x ∷ xs) all =
+pub length_flat_map_each : {R : Type 0} (f : R → List ℕ) (Fits : R → Type 0) (k : ℕ) → ((x : R) → Fits x → length (f x) ≡ k) → (xs : List R) → AllByRecursion Fits xs → length (flat_map f xs) ≡ k * length xs
+length_flat_map_each f Fits k each [] all = omega arith
+length_flat_map_each f Fits k each (x ∷ xs) all =
     let first = each x all.0 in
-    let others = length-flat_map_each f Fits k each xs all.1 in
+    let others = length_flat_map_each f Fits k each xs all.1 in
     let more : k * suc (length xs) ≡ k * length xs + k = mul-suc k (length xs) in
     omega (arith, length-append (f x) (flat_map f xs))
 
-pub length-words : (n : ℕ) (words : List ℕ) → IsWordArray n words → length (flat_map u32_bytes words) ≡ 4 * n
-length-words n words fits = length-flat_map_each u32_bytes (λ n. n < 2 ^ 32) 4 (λ x h. refl) words fits.each ∙ ap (λ (m : ℕ). 4 * m) fits.count
+pub length_words : (n : ℕ) (words : List ℕ) → IsWordArray n words → length (flat_map u32_bytes words) ≡ 4 * n
+length_words n words fits = length_flat_map_each u32_bytes (λ n. n < 2 ^ 32) 4 (λ x h. refl) words fits.each ∙ ap (λ (m : ℕ). 4 * m) fits.count
 
-pub length-irqchip_bytes : (i : Irqchip) → IsIrqchip i → length (irqchip_bytes i) ≡ 32
-length-irqchip_bytes i fits = let words = length-words 4 i.pin_bitmap fits.pin_bitmap in omega arith
+pub length_irqchip_bytes : (i : Irqchip) → IsIrqchip i → length (irqchip_bytes i) ≡ 32
+length_irqchip_bytes i fits = let words = length_words 4 i.pin_bitmap fits.pin_bitmap in omega arith
 
-pub length-device_bytes : (d : PciDevice) → IsDevice d → length (device_bytes d) ≡ 56
-length-device_bytes d fits = let words = length-words 6 d.bar_mask fits.bar_mask in omega (arith, length-append {A = ℕ})
+pub length_device_bytes : (d : PciDevice) → IsDevice d → length (device_bytes d) ≡ 56
+length_device_bytes d fits = let words = length_words 6 d.bar_mask fits.bar_mask in omega (arith, length-append {A = ℕ})
 
-pub length-header_bytes : (h : Header) → IsHeader h → length (header_bytes h) ≡ 124
-length-header_bytes h fits = omega (arith, length-append {A = ℕ}, fits.name, fits.console)
+pub length_header_bytes : (h : Header) → IsHeader h → length (header_bytes h) ≡ 124
+length_header_bytes h fits = omega (arith, length-append {A = ℕ}, fits.name, fits.console)
 
-pub length-parts_bytes : (c : CellConfig) → IsCell c → length (parts_bytes c) ≡ parts_size (counts_of c)
-length-parts_bytes c cell =
-    let memory_regions = length-flat_map_each region_bytes IsRegion 32 (λ x h. refl) c.memory_regions cell.memory_regions in
-    let cache_regions = length-flat_map_each (λ (bytes : List ℕ). bytes) (λ bytes. length bytes ≡ 12) 12 (λ x h. h) c.cache_regions cell.cache_regions in
-    let irqchips = length-flat_map_each irqchip_bytes IsIrqchip 32 length-irqchip_bytes c.irqchips cell.irqchips in
-    let pio_regions = length-flat_map_each (λ (bytes : List ℕ). bytes) (λ bytes. length bytes ≡ 4) 4 (λ x h. h) c.pio_regions cell.pio_regions in
-    let pci_devices = length-flat_map_each device_bytes IsDevice 56 length-device_bytes c.pci_devices cell.pci_devices in
-    let pci_caps = length-flat_map_each (λ (bytes : List ℕ). bytes) (λ bytes. length bytes ≡ 8) 8 (λ x h. h) c.pci_caps cell.pci_caps in
-    let stream_ids = length-flat_map_each u32_bytes (λ n. n < 2 ^ 32) 4 (λ x h. refl) c.stream_ids cell.stream_ids in
+pub length_parts_bytes : (c : CellConfig) → IsCell c → length (parts_bytes c) ≡ parts_size (counts_of c)
+length_parts_bytes c cell =
+    let memory_regions = length_flat_map_each region_bytes IsRegion 32 (λ x h. refl) c.memory_regions cell.memory_regions in
+    let cache_regions = length_flat_map_each (λ (bytes : List ℕ). bytes) (λ bytes. length bytes ≡ 12) 12 (λ x h. h) c.cache_regions cell.cache_regions in
+    let irqchips = length_flat_map_each irqchip_bytes IsIrqchip 32 length_irqchip_bytes c.irqchips cell.irqchips in
+    let pio_regions = length_flat_map_each (λ (bytes : List ℕ). bytes) (λ bytes. length bytes ≡ 4) 4 (λ x h. h) c.pio_regions cell.pio_regions in
+    let pci_devices = length_flat_map_each device_bytes IsDevice 56 length_device_bytes c.pci_devices cell.pci_devices in
+    let pci_caps = length_flat_map_each (λ (bytes : List ℕ). bytes) (λ bytes. length bytes ≡ 8) 8 (λ x h. h) c.pci_caps cell.pci_caps in
+    let stream_ids = length_flat_map_each u32_bytes (λ n. n < 2 ^ 32) 4 (λ x h. refl) c.stream_ids cell.stream_ids in
     simp length-append (omega arith)
 
-pub length-body_bytes : (c : CellConfig) → IsCell c → IsWithinLimits c → length (body_bytes c) ≡ 124 + parts_size (counts_of c)
-length-body_bytes c cell limits =
-    omega (arith, length-append (header_bytes (header_of c)) (parts_bytes c), length-header_bytes (header_of c) (header_fits c cell limits), length-parts_bytes c cell)
+pub length_body_bytes : (c : CellConfig) → IsCell c → IsWithinLimits c → length (body_bytes c) ≡ 124 + parts_size (counts_of c)
+length_body_bytes c cell limits =
+    omega (arith, length-append (header_bytes (header_of c)) (parts_bytes c), length_header_bytes (header_of c) (header_fits c cell limits), length_parts_bytes c cell)
 
 exact : (need len : ℕ) → need ≡ len → length_fault need len ≡ None
 unfolding length_fault
@@ -159,7 +157,7 @@ body_unfaulted front c cell limits =
     let sizes = ap parts_size counts in
     let free =
     first_none ((λ i. limits_fault (name i) (counts i)) ∙ limits_unfaulted c limits)
-    (first_none (exact (front + 124 + parts_size (counts_at (body_bytes c))) (front + length (body_bytes c)) (omega (arith, length-body_bytes c cell limits))) none_left) in
+    (first_none (exact (front + 124 + parts_size (counts_at (body_bytes c))) (front + length (body_bytes c)) (omega (arith, length_body_bytes c cell limits))) none_left) in
     free.none
 
 started : (body : List ℕ) → start_fault (codes "JHCELL" ++ (u16_bytes 13 ++ body)) ≡ None
@@ -169,7 +167,7 @@ started body = refl
 pub spelling_unfaulted : (c : CellConfig) → IsCell c → IsWithinLimits c → first_fault (spelling c) ≡ None
 spelling_unfaulted c cell limits =
     let free =
-    first_none (passes (nat_lt (length (spelling c)) 132) (Short 132) (le-ltb (length (spelling c)) 132 (omega (arith, length-body_bytes c cell limits))))
+    first_none (passes (nat_lt (length (spelling c)) 132) (Short 132) (le-ltb (length (spelling c)) 132 (omega (arith, length_body_bytes c cell limits))))
     (first_none (started (body_bytes c))
     (first_none (body_unfaulted 8 c cell limits) none_left)) in
     free.none
@@ -184,7 +182,7 @@ gives bytes (Err e) cells limits spelled fault c cell within is = record { unref
 
 header_in_front : (c : CellConfig) → IsCell c → IsWithinLimits c → take 132 (spelling c) ≡ codes "JHCELL" ++ (u16_bytes 13 ++ header_bytes (header_of c))
 header_in_front c cell limits =
-    ap (λ (l : List ℕ). codes "JHCELL" ++ (u16_bytes 13 ++ l)) (take_at (header_bytes (header_of c)) (parts_bytes c) 124 (length-header_bytes (header_of c) (header_fits c cell limits)))
+    ap (λ (l : List ℕ). codes "JHCELL" ++ (u16_bytes 13 ++ l)) (take_at (header_bytes (header_of c)) (parts_bytes c) 124 (length_header_bytes (header_of c) (header_fits c cell limits)))
 
 counts_alone : (h : Header) → IsHeader h → counts_at (header_bytes h) ≡ h.counts
 counts_alone h fits = ap counts_at (sym (append-nil (header_bytes h))) ∙ header_counts h [] fits
@@ -196,7 +194,7 @@ pub header_sized : (c : CellConfig) → IsCell c → IsWithinLimits c → header
 header_sized c cell limits =
     let counts = counts_alone (header_of c) (header_fits c cell limits) in
     let sizes = ap parts_size counts in
-    ap header_size (header_in_front c cell limits) ∙ omega (arith, length-body_bytes c cell limits)
+    ap header_size (header_in_front c cell limits) ∙ omega (arith, length_body_bytes c cell limits)
 
 pub header_unfaulted : (c : CellConfig) → IsCell c → IsWithinLimits c → header_fault (take 132 (spelling c)) ≡ None
 header_unfaulted c cell limits =

@@ -12,11 +12,11 @@ use Rattle.jh_cellcfg.specs.Widths.{IsRegion, IsIrqchip, IsDevice, AreCounts, Is
 abbrev pub IsBytes : List ℕ → Type 0
 IsBytes bytes = (i : ℕ) → get_or bytes i 0 < 256
 
-pub IsBytes-drop : (n : ℕ) (bytes : List ℕ) → IsBytes bytes → IsBytes (drop n bytes)
-IsBytes-drop n bytes h i = rw get_or-drop (h (n + i))
+pub IsBytes_drop : (n : ℕ) (bytes : List ℕ) → IsBytes bytes → IsBytes (drop n bytes)
+IsBytes_drop n bytes h i = rw get_or-drop (h (n + i))
 
-pub IsBytes-take : (n : ℕ) (bytes : List ℕ) → IsBytes bytes → IsBytes (take n bytes)
-IsBytes-take n bytes h i =
+pub IsBytes_take : (n : ℕ) (bytes : List ℕ) → IsBytes bytes → IsBytes (take n bytes)
+IsBytes_take n bytes h i =
     elim (cases_lt i n) [
       | inl lt ↦ rw (get_or-take n bytes i 0 lt) (h i)
       | inr le ↦ rw (get_or_past (take n bytes) i 0 (omega (arith, length-take n bytes))) (omega arith)
@@ -35,24 +35,24 @@ pub record Field {R : Type 0} (f : R → List ℕ) (Fits : R → Type 0) (size :
   pub len : (x : R) → Fits x → length (f x) ≡ size
   pub takes : (bytes : List ℕ) → IsBytes bytes → size ≤ length bytes → Taken f Fits bytes
 
-u8_takes : (bytes : List ℕ) → IsBytes bytes → 1 ≤ length bytes → Taken u8_bytes (λ n. n < 2 ^ 8) bytes
+pub u8_takes : (bytes : List ℕ) → IsBytes bytes → 1 ≤ length bytes → Taken u8_bytes (λ n. n < 2 ^ 8) bytes
 u8_takes [] all long = absurd (omega arith)
 u8_takes (b ∷ rest) all long = record { value = b; rest = rest; is = refl; fits = all 0; more = λ i. all (suc i) }
 
-u8_field : Field u8_bytes (λ n. n < 2 ^ 8) 1
+pub u8_field : Field u8_bytes (λ n. n < 2 ^ 8) 1
 u8_field = record { len = λ x h. refl; takes = u8_takes }
 
-u16_field : Field u16_bytes (λ n. n < 2 ^ 16) 2
+pub u16_field : Field u16_bytes (λ n. n < 2 ^ 16) 2
 u16_field = record {
   len = λ x h. refl;
   takes = λ bytes all long.
-      let small : IsBytes (take 2 bytes) = IsBytes-take 2 bytes all in
+      let small : IsBytes (take 2 bytes) = IsBytes_take 2 bytes all in
       record {
         value = from_le_bytes w16 (take 2 bytes);
         rest = drop 2 bytes;
         is = sym (ap (λ (l : List ℕ). l ++ drop 2 bytes) (le_bytes_2 (take 2 bytes) _ (omega (arith, length-take 2 bytes)) small refl) ∙ take-append-drop 2 bytes);
         fits = omega (arith, small 0, small 1);
-        more = IsBytes-drop 2 bytes all;
+        more = IsBytes_drop 2 bytes all;
       };
 }
 
@@ -60,27 +60,27 @@ pub u32_field : Field u32_bytes (λ n. n < 2 ^ 32) 4
 u32_field = record {
   len = λ x h. refl;
   takes = λ bytes all long.
-      let small : IsBytes (take 4 bytes) = IsBytes-take 4 bytes all in
+      let small : IsBytes (take 4 bytes) = IsBytes_take 4 bytes all in
       record {
         value = from_le_bytes w32 (take 4 bytes);
         rest = drop 4 bytes;
         is = sym (ap (λ (l : List ℕ). l ++ drop 4 bytes) (le_bytes_4 (take 4 bytes) _ (omega (arith, length-take 4 bytes)) small refl) ∙ take-append-drop 4 bytes);
         fits = omega (arith, small 0, small 1, small 2, small 3);
-        more = IsBytes-drop 4 bytes all;
+        more = IsBytes_drop 4 bytes all;
       };
 }
 
-u64_field : Field u64_bytes (λ n. n < 2 ^ 64) 8
+pub u64_field : Field u64_bytes (λ n. n < 2 ^ 64) 8
 u64_field = record {
   len = λ x h. refl;
   takes = λ bytes all long.
-      let small : IsBytes (take 8 bytes) = IsBytes-take 8 bytes all in
+      let small : IsBytes (take 8 bytes) = IsBytes_take 8 bytes all in
       record {
         value = from_le_bytes w64 (take 8 bytes);
         rest = drop 8 bytes;
         is = sym (ap (λ (l : List ℕ). l ++ drop 8 bytes) (le_bytes_8 (take 8 bytes) _ (omega (arith, length-take 8 bytes)) small refl) ∙ take-append-drop 8 bytes);
         fits = omega (arith, small 0, small 1, small 2, small 3, small 4, small 5, small 6, small 7);
-        more = IsBytes-drop 8 bytes all;
+        more = IsBytes_drop 8 bytes all;
       };
 }
 
@@ -92,7 +92,7 @@ array_field n = record {
     rest = drop n bytes;
     is = sym (take-append-drop n bytes);
     fits = omega (arith, length-take n bytes);
-    more = IsBytes-drop n bytes all;
+    more = IsBytes_drop n bytes all;
   };
 }
 
@@ -130,18 +130,18 @@ list_takes {f = f} {k = k} one (suc n) bytes all long =
       more = b.more;
     }
 
-length-list : {R : Type 0} {f : R → List ℕ} {F : R → Type 0} {k : ℕ} → Field f F k → (xs : List R) → AllByRecursion F xs → length (flat_map f xs) ≡ k * length xs
-length-list one [] all = omega arith
-length-list {f = f} {k = k} one (x ∷ xs) all =
+length_list : {R : Type 0} {f : R → List ℕ} {F : R → Type 0} {k : ℕ} → Field f F k → (xs : List R) → AllByRecursion F xs → length (flat_map f xs) ≡ k * length xs
+length_list one [] all = omega arith
+length_list {f = f} {k = k} one (x ∷ xs) all =
     let first = one.len x all.0 in
-    let others = length-list one xs all.1 in
+    let others = length_list one xs all.1 in
     let more : k * suc (length xs) ≡ k * length xs + k = mul-suc k (length xs) in
     omega (arith, length-append (f x) (flat_map f xs))
 
 -- so many records, one behind the other
 pub list_field : {R : Type 0} {f : R → List ℕ} {F : R → Type 0} {k : ℕ} (n : ℕ) → Field f F k → Field (flat_map f) (λ xs. AllByRecursion F xs × (length xs ≡ n)) (k * n)
 list_field {k = k} n one = record {
-  len = λ xs h. length-list one xs h.0 ∙ ap (λ (m : ℕ). k * m) h.1;
+  len = λ xs h. length_list one xs h.0 ∙ ap (λ (m : ℕ). k * m) h.1;
   takes = list_takes one n;
 }
 

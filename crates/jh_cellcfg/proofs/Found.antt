@@ -10,7 +10,7 @@ use Rattle.std.proofs.lemmas.Nat.{le_bytes_2}
 use Rattle.jh_cellcfg.specs.declared.config.CellConfig.{CellConfig}
 use Rattle.jh_cellcfg.specs.declared.fault.ConfigFault.{ConfigFault}
 use Rattle.jh_cellcfg.specs.declared.fault.ConfigFault.TheVariants.{Short, Signature, Revision, Name, Count, Trailing}
-use Rattle.jh_cellcfg.specs.declared.fault.Which.TheVariants.{CpuSet, MemoryRegions, CacheRegions, Irqchips, PioRegions, PciDevices, PciCaps, StreamIds, Total}
+use Rattle.jh_cellcfg.specs.declared.fault.Part.TheVariants.{CpuSet, MemoryRegions, CacheRegions, Irqchips, PioRegions, PciDevices, PciCaps, StreamIds, Total}
 use Rattle.jh_cellcfg.specs.declared.header.Counts.{Counts}
 use Rattle.jh_cellcfg.specs.declared.header.Header.{Header}
 use Rattle.jh_cellcfg.specs.Spelling.{u16_bytes, counts_of, header_of, header_bytes, parts_bytes, body_bytes, spelling}
@@ -18,20 +18,20 @@ use Rattle.jh_cellcfg.specs.Limits.{is_name, parts_size, whole_size, AreWithinLi
 use Rattle.jh_cellcfg.specs.Widths.{IsHeader, IsCell}
 use Rattle.jh_cellcfg.specs.Faults.{fault_if, first_of, over, u16_at, count_fault, limits_fault, length_fault, counts_at, start_fault, body_fault, first_fault}
 use Rattle.jh_cellcfg.proofs.Headers.{header_name, header_counts}
-use Rattle.jh_cellcfg.proofs.Fields.{IsBytes, IsBytes-drop, IsBytes-take, array_field, list_field, both, u32_field, region_field, irqchip_field, device_field, header_field}
+use Rattle.jh_cellcfg.proofs.Fields.{IsBytes, IsBytes_drop, IsBytes_take, array_field, list_field, both, u32_field, region_field, irqchip_field, device_field, header_field}
 
 -- none of these is a fault
-record Free (faults : List (Option ConfigFault)) : Type 0 where
-  none : first_of faults ≡ None
+pub record Free (faults : List (Option ConfigFault)) : Type 0 where
+  pub none : first_of faults ≡ None
 
 free : (faults : List (Option ConfigFault)) → first_of faults ≡ None → Free faults
 free faults e = record { none = e }
 
-head_of : (o : Option ConfigFault) (os : List (Option ConfigFault)) → first_of (o ∷ os) ≡ None → o ≡ None
+pub head_of : (o : Option ConfigFault) (os : List (Option ConfigFault)) → first_of (o ∷ os) ≡ None → o ≡ None
 head_of None os e = refl
 head_of (Some fault) os e = absurd cc
 
-rest_of : (o : Option ConfigFault) (os : List (Option ConfigFault)) → first_of (o ∷ os) ≡ None → first_of os ≡ None
+pub rest_of : (o : Option ConfigFault) (os : List (Option ConfigFault)) → first_of (o ∷ os) ≡ None → first_of os ≡ None
 rest_of None os e = e
 rest_of (Some fault) os e = absurd cc
 
@@ -41,7 +41,7 @@ head_none {o = o} {os = os} faults = head_of o os faults.none
 rest_none : {o : Option ConfigFault} {os : List (Option ConfigFault)} → Free (o ∷ os) → Free os
 rest_none {o = o} {os = os} faults = record { none = rest_of o os faults.none }
 
-passed : (test : Bool) (fault : ConfigFault) → fault_if test fault ≡ None → test ≡ false
+pub passed : (test : Bool) (fault : ConfigFault) → fault_if test fault ≡ None → test ≡ false
 passed true fault e = absurd cc
 passed false fault e = refl
 
@@ -183,11 +183,11 @@ body_found front body all long none =
       t.is ∙ (λ i. header_bytes (sym found.2 i) ++ found.3 i),
     )
 
-and_splits : (a b : Bool) → (a && b) ≡ true → (a ≡ true) × (b ≡ true)
+pub and_splits : (a b : Bool) → (a && b) ≡ true → (a ≡ true) × (b ≡ true)
 and_splits true b e = (refl, e)
 and_splits false b e = absurd cc
 
-pointwise_same : (xs ys : List ℕ) → pointwise nat_eq xs ys ≡ true → xs ≡ ys
+pub pointwise_same : (xs ys : List ℕ) → pointwise nat_eq xs ys ≡ true → xs ≡ ys
 pointwise_same [] [] e = refl
 pointwise_same [] (y ∷ ys) e = absurd cc
 pointwise_same (x ∷ xs) [] e = absurd cc
@@ -205,7 +205,7 @@ start_found bytes all long none =
     let last = rest_none e in
     let number : u16_at bytes 6 ≡ 13 = eqb-true (u16_at bytes 6) 13 (both_true (u16_at bytes 6 == 13) (passed (not (u16_at bytes 6 == 13)) (Revision (u16_at bytes 6)) (head_none last))) in
     let two = take 2 (drop 6 bytes) in
-    let small : IsBytes two = IsBytes-take 2 (drop 6 bytes) (IsBytes-drop 6 bytes all) in
+    let small : IsBytes two = IsBytes_take 2 (drop 6 bytes) (IsBytes_drop 6 bytes all) in
     let len : length two ≡ 2 = omega (arith, length-take 2 (drop 6 bytes), length-drop 6 bytes) in
     let revision : u16_bytes 13 ≡ two = le_bytes_2 two 13 len small (sym number) in
     let behind : drop 6 bytes ≡ u16_bytes 13 ++ drop 8 bytes
@@ -228,5 +228,5 @@ bytes_found bytes each none =
     let long = ltb-false (length bytes) 132 (passed (nat_lt (length bytes) 132) (Short 132) (head_none e)) in
     let later = rest_none e in
     let start = start_found bytes all (omega arith) (head_none later) in
-    let found = body_found 8 (drop 8 bytes) (IsBytes-drop 8 bytes all) (omega (arith, length-drop 8 bytes)) (head_none (rest_none later)) in
+    let found = body_found 8 (drop 8 bytes) (IsBytes_drop 8 bytes all) (omega (arith, length-drop 8 bytes)) (head_none (rest_none later)) in
     (found.0, found.1, found.2, start ∙ ap (λ (l : List ℕ). codes "JHCELL" ++ (u16_bytes 13 ++ l)) found.3)

@@ -12,9 +12,9 @@ pub record ReadSoFar {R : Type 0} (bytes_of : R → List ℕ) (Fits : R → Type
   pub count : length list ≡ n
   pub left : length whole ≡ n * size + length rest
 
-pub AllByRecursion-push : {R : Type 0} (P : R → Type 0) (xs : List R) (x : R) → AllByRecursion P xs → P x → AllByRecursion P (xs ++ x ∷ [])
-AllByRecursion-push P [] x all here = (here, tt)
-AllByRecursion-push P (y ∷ ys) x all here = (all.0, AllByRecursion-push P ys x all.1 here)
+pub AllByRecursion_push : {R : Type 0} (P : R → Type 0) (xs : List R) (x : R) → AllByRecursion P xs → P x → AllByRecursion P (xs ++ x ∷ [])
+AllByRecursion_push P [] x all here = (here, tt)
+AllByRecursion_push P (y ∷ ys) x all here = (all.0, AllByRecursion_push P ys x all.1 here)
 
 -- while records are missing, there is room for one
 pub room : (count i size len rest : ℕ) → i < count → count * size ≤ len → len ≡ i * size + rest → size ≤ rest
@@ -29,7 +29,7 @@ pub one_more : {R : Type 0} (bytes_of : R → List ℕ) (Fits : R → Type 0) (s
 one_more {R = R} bytes_of Fits size whole rest after list n x so_far taken fits left = record {
   taken = so_far.taken ∙ ap (λ (r : List ℕ). flat_map bytes_of list ++ r) taken ∙ sym (append_assoc (flat_map bytes_of list) (bytes_of x) after)
       ∙ ap (λ (r : List ℕ). r ++ after) (ap (λ (r : List ℕ). flat_map bytes_of list ++ r) (sym (append-nil (bytes_of x))) ∙ sym (flat_map-append bytes_of list (x ∷ [])));
-  fits = AllByRecursion-push Fits list x so_far.fits fits;
+  fits = AllByRecursion_push Fits list x so_far.fits fits;
   count = omega (arith, so_far.count, length-append list (x ∷ []));
   left = let split : (n + 1) * size ≡ n * size + 1 * size = add-mul n 1 size in omega (arith, so_far.left, left);
 }

@@ -73,7 +73,7 @@ irqchip_splits a b x y fa fb e =
     record { record_is = λ i. record { address = p.record_is i; id = q.record_is i; pin_base = r.record_is i; pin_bitmap = s.record_is i }; rest_is = s.rest_is }
 
 -- a device's bytes behind its mask
-abbrev behind_mask : PciDevice → List ℕ
+abbrev pub behind_mask : PciDevice → List ℕ
 behind_mask d =
     u16_bytes d.caps_start ++ (u16_bytes d.num_caps ++ (u8_bytes d.num_msi_vectors ++ (u8_bytes d.msi_bits ++ (u16_bytes d.num_msix_vectors
     ++ (u16_bytes d.msix_region_size ++ (u64_bytes d.msix_address ++ (u32_bytes d.shmem_regions_start ++ (u8_bytes d.shmem_dev_id ++ (u8_bytes d.shmem_peers ++ u16_bytes d.shmem_protocol)))))))))

@@ -9,12 +9,13 @@ use Rattle.jh_cellcfg.specs.declared.config.CellConfig.{CellConfig}
 use Rattle.jh_cellcfg.specs.declared.config.Irqchip.{Irqchip}
 use Rattle.jh_cellcfg.specs.declared.config.PciDevice.{PciDevice}
 use Rattle.jh_cellcfg.specs.declared.fault.ConfigFault.{ConfigFault}
-use Rattle.jh_cellcfg.specs.Spelling.{u8_bytes, u16_bytes, u32_bytes, u64_bytes, region_bytes, irqchip_bytes, device_bytes, counts_of, header_of, header_bytes, parts_bytes, body_bytes, spelling}
+use Rattle.jh_cellcfg.specs.Spelling.{u16_bytes, u32_bytes, u64_bytes, region_bytes, irqchip_bytes, device_bytes, counts_of, header_of, header_bytes, parts_bytes, body_bytes, spelling}
 use Rattle.jh_cellcfg.specs.Widths.{IsRegion, IsIrqchip, IsDevice, IsCell}
 use Rattle.jh_cellcfg.specs.Limits.{IsWithinLimits}
 use Rattle.jh_cellcfg.specs.Reading.{records, word_of, same_bytes, region_of, irqchip_of, device_of, config_with, config_of_body, config_of}
 use Rattle.jh_cellcfg.proofs.Headers.{behind_name, regrouped, header_name, header_counts}
-use Rattle.jh_cellcfg.proofs.Faultless.{header_fits, length-flat_map_each, length-words, length-irqchip_bytes, length-device_bytes, length-header_bytes}
+use Rattle.jh_cellcfg.proofs.Faultless.{header_fits, length_flat_map_each, length_words, length_irqchip_bytes, length_device_bytes, length_header_bytes}
+use Rattle.jh_cellcfg.proofs.Splits.{behind_mask}
 
 -- a record that is read as it is spelled, from so many bytes
 record Reads {X : Type 0} (read : List ℕ → X) (f : X → List ℕ) (Fits : X → Type 0) (size : ℕ) : Type 0 where
@@ -82,19 +83,13 @@ irqchip_back c fits =
     }
 
 irqchip_reads : Reads irqchip_of irqchip_bytes IsIrqchip 32
-irqchip_reads = record { len = length-irqchip_bytes; back = irqchip_back }
-
--- a device's bytes behind its mask
-abbrev behind_mask : PciDevice → List ℕ
-behind_mask d =
-    u16_bytes d.caps_start ++ (u16_bytes d.num_caps ++ (u8_bytes d.num_msi_vectors ++ (u8_bytes d.msi_bits ++ (u16_bytes d.num_msix_vectors
-    ++ (u16_bytes d.msix_region_size ++ (u64_bytes d.msix_address ++ (u32_bytes d.shmem_regions_start ++ (u8_bytes d.shmem_dev_id ++ (u8_bytes d.shmem_peers ++ u16_bytes d.shmem_protocol)))))))))
+irqchip_reads = record { len = length_irqchip_bytes; back = irqchip_back }
 
 device_back : (d : PciDevice) → IsDevice d → device_of (device_bytes d) ≡ d
 device_back d fits =
     let mask = flat_map u32_bytes d.bar_mask in
     let more = behind_mask d in
-    let len : length mask ≡ 24 = length-words 6 d.bar_mask fits.bar_mask in
+    let len : length mask ≡ 24 = length_words 6 d.bar_mask fits.bar_mask in
     let words : records word_of 4 6 (mask ++ more) ≡ d.bar_mask
     = records_back word_of u32_bytes (λ n. n < 2 ^ 32) 4 word_reads 6 d.bar_mask more fits.bar_mask.each fits.bar_mask.count in
     λ i. record {
@@ -117,7 +112,7 @@ device_back d fits =
     }
 
 device_reads : Reads device_of device_bytes IsDevice 56
-device_reads = record { len = length-device_bytes; back = device_back }
+device_reads = record { len = length_device_bytes; back = device_back }
 
 -- what stands behind a part
 next : (body : List ℕ) (place size : ℕ) (part rest : List ℕ) → drop place body ≡ part ++ rest → length part ≡ size → drop (place + size) body ≡ rest
@@ -152,20 +147,20 @@ config_with_back c cell limits =
     let devices_at = ports_at + 4 * n.pio_regions in
     let caps_at = devices_at + 56 * n.pci_devices in
     let streams_at = caps_at + 8 * n.pci_caps in
-    let at_cpus : drop 124 body ≡ parts = drop_at (header_bytes h) parts 124 (length-header_bytes h fits) in
+    let at_cpus : drop 124 body ≡ parts = drop_at (header_bytes h) parts 124 (length_header_bytes h fits) in
     let at_regions : drop regions_at body ≡ behind_cpus = next body 124 n.cpu_set c.cpu_set behind_cpus at_cpus refl in
     let at_caches : drop caches_at body ≡ behind_regions
-    = next body regions_at (32 * n.memory_regions) regions behind_regions at_regions (length-flat_map_each region_bytes IsRegion 32 region_reads.len c.memory_regions cell.memory_regions) in
+    = next body regions_at (32 * n.memory_regions) regions behind_regions at_regions (length_flat_map_each region_bytes IsRegion 32 region_reads.len c.memory_regions cell.memory_regions) in
     let at_chips : drop chips_at body ≡ behind_caches
-    = next body caches_at (12 * n.cache_regions) caches behind_caches at_caches (length-flat_map_each (λ (bytes : List ℕ). bytes) (λ bytes. length bytes ≡ 12) 12 (λ x h. h) c.cache_regions cell.cache_regions) in
+    = next body caches_at (12 * n.cache_regions) caches behind_caches at_caches (length_flat_map_each (λ (bytes : List ℕ). bytes) (λ bytes. length bytes ≡ 12) 12 (λ x h. h) c.cache_regions cell.cache_regions) in
     let at_ports : drop ports_at body ≡ behind_chips
-    = next body chips_at (32 * n.irqchips) chips behind_chips at_chips (length-flat_map_each irqchip_bytes IsIrqchip 32 irqchip_reads.len c.irqchips cell.irqchips) in
+    = next body chips_at (32 * n.irqchips) chips behind_chips at_chips (length_flat_map_each irqchip_bytes IsIrqchip 32 irqchip_reads.len c.irqchips cell.irqchips) in
     let at_devices : drop devices_at body ≡ behind_ports
-    = next body ports_at (4 * n.pio_regions) ports behind_ports at_ports (length-flat_map_each (λ (bytes : List ℕ). bytes) (λ bytes. length bytes ≡ 4) 4 (λ x h. h) c.pio_regions cell.pio_regions) in
+    = next body ports_at (4 * n.pio_regions) ports behind_ports at_ports (length_flat_map_each (λ (bytes : List ℕ). bytes) (λ bytes. length bytes ≡ 4) 4 (λ x h. h) c.pio_regions cell.pio_regions) in
     let at_caps : drop caps_at body ≡ behind_devices
-    = next body devices_at (56 * n.pci_devices) devices behind_devices at_devices (length-flat_map_each device_bytes IsDevice 56 device_reads.len c.pci_devices cell.pci_devices) in
+    = next body devices_at (56 * n.pci_devices) devices behind_devices at_devices (length_flat_map_each device_bytes IsDevice 56 device_reads.len c.pci_devices cell.pci_devices) in
     let at_streams : drop streams_at body ≡ ids ++ []
-    = next body caps_at (8 * n.pci_caps) caps ids at_caps (length-flat_map_each (λ (bytes : List ℕ). bytes) (λ bytes. length bytes ≡ 8) 8 (λ x h. h) c.pci_caps cell.pci_caps) ∙ sym (append-nil ids) in
+    = next body caps_at (8 * n.pci_caps) caps ids at_caps (length_flat_map_each (λ (bytes : List ℕ). bytes) (λ bytes. length bytes ≡ 8) 8 (λ x h. h) c.pci_caps cell.pci_caps) ∙ sym (append-nil ids) in
     let s_id = ap (λ (l : List ℕ). from_le_bytes w32 (take 4 (drop 32 l))) named ∙ u32_past h.name more 32 0 c.id fits.name refl fits.id in
     let s_flags = ap (λ (l : List ℕ). from_le_bytes w32 (take 4 (drop 36 l))) named ∙ u32_past h.name more 32 4 c.flags fits.name refl fits.flags in
     let s_vpci_irq_base = ap (λ (l : List ℕ). from_le_bytes w32 (take 4 (drop 72 l))) named ∙ u32_past h.name more 32 40 c.vpci_irq_base fits.name refl fits.vpci_irq_base in

@@ -1,6 +1,9 @@
--- The cell that has nothing.
+-- The cell that has nothing, and the system that has no more than its memory and root.
 use Rattle.std.specs.Prelude.{ℕ, [], replicate}
 use Rattle.jh_cellcfg.specs.declared.config.CellConfig.{CellConfig}
+use Rattle.jh_cellcfg.specs.declared.config.Console.{Console}
+use Rattle.jh_cellcfg.specs.declared.config.SystemConfig.{SystemConfig}
+use Rattle.jh_cellcfg.specs.declared.region.Region.{Region}
 
 -- with this id; all else is 0, or an empty list
 abbrev pub empty_cell : ℕ → CellConfig
@@ -20,4 +23,21 @@ empty_cell id = record {
   pci_devices = [];
   pci_caps = [];
   stream_ids = [];
+}
+
+abbrev pub no_console : Console
+no_console = record { address = 0; size = 0; kind = 0; flags = 0; divider = 0; gate_nr = 0; clock_reg = 0 }
+
+-- with this memory of the hypervisor and this root; all else is 0
+abbrev pub bare_system : Region → CellConfig → SystemConfig
+bare_system memory root = record {
+  flags = 0;
+  hypervisor_memory = memory;
+  debug_console = no_console;
+  pci_mmconfig_base = 0;
+  pci_mmconfig_end_bus = 0;
+  pci_is_virtual = 0;
+  pci_domain = 0;
+  root_head = replicate 8 0;
+  root = root;
 }

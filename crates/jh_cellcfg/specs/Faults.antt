@@ -5,8 +5,8 @@ use Rattle.std.specs.Int.{w16, w32, from_le_bytes}
 use Rattle.jh_cellcfg.specs.declared.config.CellConfig.{CellConfig}
 use Rattle.jh_cellcfg.specs.declared.fault.ConfigFault.{ConfigFault}
 use Rattle.jh_cellcfg.specs.declared.fault.ConfigFault.TheVariants.{Short, Signature, Revision, Name, Count, Trailing, NoMemory}
-use Rattle.jh_cellcfg.specs.declared.fault.Which.{Which}
-use Rattle.jh_cellcfg.specs.declared.fault.Which.TheVariants.{CpuSet, MemoryRegions, CacheRegions, Irqchips, PioRegions, PciDevices, PciCaps, StreamIds, Total}
+use Rattle.jh_cellcfg.specs.declared.fault.Part.{Part}
+use Rattle.jh_cellcfg.specs.declared.fault.Part.TheVariants.{CpuSet, MemoryRegions, CacheRegions, Irqchips, PioRegions, PciDevices, PciCaps, StreamIds, Total}
 use Rattle.jh_cellcfg.specs.declared.header.Counts.{Counts}
 use Rattle.jh_cellcfg.specs.Limits.{is_name, parts_size, whole_size}
 
@@ -31,8 +31,8 @@ first_of [] = None
 first_of (None ∷ rest) = first_of rest
 first_of (Some fault ∷ rest) = Some fault
 
-abbrev pub over : Which → ℕ → ℕ → Option ConfigFault
-over which most found = fault_if (nat_lt most found) (Count which found)
+abbrev pub over : Part → ℕ → ℕ → Option ConfigFault
+over part most found = fault_if (nat_lt most found) (Count part found)
 
 -- the first count that is past its limit
 unfoldable pub count_fault : Counts → Option ConfigFault

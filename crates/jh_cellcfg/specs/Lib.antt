@@ -1,5 +1,6 @@
 pub mod Regions
 pub mod Cells
+pub mod Devices
 pub mod Empty
 pub mod Lives
 pub mod Spelling

@@ -2,11 +2,11 @@
 use Rattle.std.specs.Prelude.{ℕ, List, ◌++◌, codes, decimal}
 use Rattle.jh_cellcfg.specs.declared.fault.ConfigFault.{ConfigFault}
 use Rattle.jh_cellcfg.specs.declared.fault.ConfigFault.TheVariants.{Short, Signature, Revision, Name, Count, Trailing, NoMemory}
-use Rattle.jh_cellcfg.specs.declared.fault.Which.{Which}
-use Rattle.jh_cellcfg.specs.declared.fault.Which.TheVariants.{CpuSet, MemoryRegions, CacheRegions, Irqchips, PioRegions, PciDevices, PciCaps, StreamIds, Total}
+use Rattle.jh_cellcfg.specs.declared.fault.Part.{Part}
+use Rattle.jh_cellcfg.specs.declared.fault.Part.TheVariants.{CpuSet, MemoryRegions, CacheRegions, Irqchips, PioRegions, PciDevices, PciCaps, StreamIds, Total}
 
 -- the header's name of a count, or `total`
-abbrev pub count_text : Which → List ℕ
+abbrev pub count_text : Part → List ℕ
 count_text CpuSet = codes "cpu_set_size"
 count_text MemoryRegions = codes "num_memory_regions"
 count_text CacheRegions = codes "num_cache_regions"
@@ -22,6 +22,6 @@ fault_text (Short need) = codes "short " ++ decimal need
 fault_text Signature = codes "signature"
 fault_text (Revision found) = codes "revision " ++ decimal found
 fault_text Name = codes "name"
-fault_text (Count which found) = codes "count " ++ (count_text which ++ (codes " " ++ decimal found))
+fault_text (Count part found) = codes "count " ++ (count_text part ++ (codes " " ++ decimal found))
 fault_text (Trailing extra) = codes "trailing " ++ decimal extra
-fault_text NoMemory = codes "out of memory"
+fault_text NoMemory = codes "want of memory"

@@ -159,12 +159,26 @@ pub struct PciDevice {
     pub num_msix_vectors: u16,
     pub msix_region_size: u16,
     pub msix_address: u64,
-    /// The first region of the shared memory, by its place among the cell's regions.
+    /// The first region of the shared memory, by its number among the cell's regions.
     pub shmem_regions_start: u32,
     /// Which of the peers this device is, from 0.
     pub shmem_dev_id: u8,
     pub shmem_peers: u8,
     pub shmem_protocol: u16,
+}
+
+/// The kind of an ivshmem device, by `JAILHOUSE_PCI_TYPE_IVSHMEM`.
+const SHMEM: u8 = 3;
+
+impl PciDevice {
+    ghost use Rattle.jh_cellcfg.specs.Devices.{is_shmem};
+
+    /// Whether it is an ivshmem device.
+    pub fn is_shmem(&self) -> bool
+        ensures { result ≡ is_shmem self.now }
+    {
+        self.kind == SHMEM
+    }
 }
 
 /// The system's configuration: the hypervisor's own memory, the virtual PCI host, and root.
@@ -183,4 +197,33 @@ pub struct SystemConfig {
     /// The first eight bytes of root's own header, kept unchecked.
     pub root_head: [u8; 8],
     pub root: CellConfig,
+}
+
+impl SystemConfig {
+    ghost use Rattle.jh_cellcfg.specs.Empty.{bare_system};
+
+    /// The system with this memory of the hypervisor and this root, where each other number is 0.
+    pub fn bare(hypervisor_memory: Region, root: CellConfig) -> Self
+        ensures { result ≡ bare_system hypervisor_memory root }
+    {
+        SystemConfig {
+            flags: 0,
+            hypervisor_memory,
+            debug_console: Console {
+                address: 0,
+                size: 0,
+                kind: 0,
+                flags: 0,
+                divider: 0,
+                gate_nr: 0,
+                clock_reg: 0,
+            },
+            pci_mmconfig_base: 0,
+            pci_mmconfig_end_bus: 0,
+            pci_is_virtual: 0,
+            pci_domain: 0,
+            root_head: [0; 8],
+            root,
+        }
+    }
 }

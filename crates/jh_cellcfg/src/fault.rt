@@ -15,7 +15,7 @@ pub enum ConfigFault {
     /// The name isn't 1 to 31 printable characters and then zero bytes.
     Name,
     /// A count or the total is past its limit, or the CPU bitmap has no byte.
-    Count { which: Which, found: u32 },
+    Count { part: Part, found: u32 },
     /// So many bytes stand behind the whole.
     Trailing { extra: u64 },
     NoMemory,
@@ -23,7 +23,7 @@ pub enum ConfigFault {
 
 /// What is counted: the parts by the header's order, and last the bytes of the whole.
 #[derive(Clone, Copy, PartialEq, Eq, Debug)]
-pub enum Which {
+pub enum Part {
     CpuSet,
     MemoryRegions,
     CacheRegions,
@@ -43,24 +43,24 @@ impl From<NoMemory> for ConfigFault {
     }
 }
 
-impl fmt::Display for Which {
+impl fmt::Display for Part {
     ghost use Rattle.std.specs.Prelude.{Some};
     ghost use Rattle.jh_cellcfg.specs.Texts.{count_text};
 
-    ghost output = { λ which. Some (count_text which) };
+    ghost output = { λ part. Some (count_text part) };
 
     /// The header's name of the count, or `total`.
     fn fmt<W: fmt::Write>(&self, f: &mut fmt::Formatter<W>) -> fmt::Result {
         let field = match self {
-            Which::CpuSet => "cpu_set_size",
-            Which::MemoryRegions => "num_memory_regions",
-            Which::CacheRegions => "num_cache_regions",
-            Which::Irqchips => "num_irqchips",
-            Which::PioRegions => "num_pio_regions",
-            Which::PciDevices => "num_pci_devices",
-            Which::PciCaps => "num_pci_caps",
-            Which::StreamIds => "num_stream_ids",
-            Which::Total => "total",
+            Part::CpuSet => "cpu_set_size",
+            Part::MemoryRegions => "num_memory_regions",
+            Part::CacheRegions => "num_cache_regions",
+            Part::Irqchips => "num_irqchips",
+            Part::PioRegions => "num_pio_regions",
+            Part::PciDevices => "num_pci_devices",
+            Part::PciCaps => "num_pci_caps",
+            Part::StreamIds => "num_stream_ids",
+            Part::Total => "total",
         };
         f.write_str(field)
     }
@@ -78,9 +78,9 @@ impl fmt::Display for ConfigFault {
             ConfigFault::Signature => f.write_str("signature"),
             ConfigFault::Revision { found } => write!(f, "revision {found}"),
             ConfigFault::Name => f.write_str("name"),
-            ConfigFault::Count { which, found } => write!(f, "count {which} {found}"),
+            ConfigFault::Count { part, found } => write!(f, "count {part} {found}"),
             ConfigFault::Trailing { extra } => write!(f, "trailing {extra}"),
-            ConfigFault::NoMemory => f.write_str("out of memory"),
+            ConfigFault::NoMemory => f.write_str("want of memory"),
         }
     }
 }

@@ -17,7 +17,7 @@ mod write;
 mod writer;
 
 pub use config::{CellConfig, Console, Irqchip, PciDevice, SystemConfig};
-pub use fault::{ConfigFault, Which};
+pub use fault::{ConfigFault, Part};
 pub use flags::{CellFlags, RegionFlags};
 pub use header::{Counts, Header};
 pub use laws::{
@@ -33,6 +33,3 @@ pub use record::Record;
 pub use region::Region;
 pub use write::{write_body, write_cell};
 pub use writer::Writer;
-
-#[cfg(test)]
-mod tests;

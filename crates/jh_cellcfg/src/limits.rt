@@ -5,7 +5,7 @@ ghost use Rattle.jh_cellcfg.specs.Limits.{is_name, is_printable, is_zero, whole_
 ghost use Rattle.jh_cellcfg.specs.Faults.{count_fault, limits_fault, fault_of, refusal};
 
 use crate::config::CellConfig;
-use crate::fault::{ConfigFault, Which};
+use crate::fault::{ConfigFault, Part};
 use crate::header::{Counts, Header};
 
 /// Whether the bytes are a name: 1 to 31 printable characters, and then zero bytes.
@@ -38,13 +38,13 @@ fn are_zero(bytes: &[u8]) -> bool
     bytes.iter().all(|byte| *byte == 0)
 }
 
-fn within(which: Which, most: u32, found: u32) -> Result<(), ConfigFault>
+fn within(part: Part, most: u32, found: u32) -> Result<(), ConfigFault>
     ensures ok { OnOk result (found ≤ most) }
     ensures past { OnErr result (most < found) }
-    ensures fault { IfErr result (λ fault. fault ≡ ConfigFault.Count which found) }
+    ensures fault { IfErr result (λ fault. fault ≡ ConfigFault.Count part found) }
 {
     if found > most {
-        return Err(ConfigFault::Count { which, found });
+        return Err(ConfigFault::Count { part, found });
     }
     Ok(())
 }
@@ -60,18 +60,18 @@ impl Counts {
     {
         if self.cpu_set == 0 {
             return Err(ConfigFault::Count {
-                which: Which::CpuSet,
+                part: Part::CpuSet,
                 found: 0,
             });
         }
-        within(Which::CpuSet, 64, self.cpu_set)?;
-        within(Which::MemoryRegions, 1024, self.memory_regions)?;
-        within(Which::CacheRegions, 1024, self.cache_regions)?;
-        within(Which::Irqchips, 64, self.irqchips)?;
-        within(Which::PioRegions, 1024, self.pio_regions)?;
-        within(Which::PciDevices, 256, self.pci_devices)?;
-        within(Which::PciCaps, 1024, self.pci_caps)?;
-        within(Which::StreamIds, 1024, self.stream_ids)?;
+        within(Part::CpuSet, 64, self.cpu_set)?;
+        within(Part::MemoryRegions, 1024, self.memory_regions)?;
+        within(Part::CacheRegions, 1024, self.cache_regions)?;
+        within(Part::Irqchips, 64, self.irqchips)?;
+        within(Part::PioRegions, 1024, self.pio_regions)?;
+        within(Part::PciDevices, 256, self.pci_devices)?;
+        within(Part::PciCaps, 1024, self.pci_caps)?;
+        within(Part::StreamIds, 1024, self.stream_ids)?;
         let size = 132
             + self.cpu_set
             + 32 * self.memory_regions
@@ -81,7 +81,7 @@ impl Counts {
             + 56 * self.pci_devices
             + 8 * self.pci_caps
             + 4 * self.stream_ids;
-        within(Which::Total, 65536, size)?;
+        within(Part::Total, 65536, size)?;
         Ok(size)
     }
 }

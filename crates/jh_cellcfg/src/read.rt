@@ -139,7 +139,7 @@ pub fn read_cell(alloc: Global, bytes: &[u8]) -> Result<CellConfig, ConfigFault>
     ensures typed { IfOk result IsCell }
     ensures limits { IfOk result IsWithinLimits }
     ensures spelled { IfOk result (λ config. bytes.now ≡ spelling config) }
-    // What is spelled so is read, unless memory runs out.
+    // What is spelled so is read, but for want of memory.
     ensures only { (config : CellConfig) → IsCell config → IsWithinLimits config → bytes.now ≡ spelling config → Gives result config }
     // Each field is the number that stands at its place.
     ensures told { IfOk result (λ config. config ≡ config_of bytes.now) }

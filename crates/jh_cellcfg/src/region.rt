@@ -17,7 +17,7 @@ pub struct Region {
 }
 
 impl Region {
-    ghost use Rattle.jh_cellcfg.specs.Regions.{has_flags, has_address, has_place, virt_end as virt_end_lem, phys_end as phys_end_lem, virt_meet, phys_meet, allows_unaligned, allows_width, is_page_mapped, is_comm, is_unshared, is_loadable, is_device, may_have_blocks, rights_of};
+    ghost use Rattle.jh_cellcfg.specs.Regions.{has_flags, has_address, has_place, virt_end, phys_end, virt_meet, phys_meet, allows_unaligned, allows_width, is_page_mapped, is_comm, is_unshared, is_loadable, is_device, may_have_blocks, rights_of};
 
     /// Whether all these flags are set.
     pub fn has(&self, flags: RegionFlags) -> bool
@@ -42,23 +42,23 @@ impl Region {
 
     /// One past its last address.
     pub fn virt_end(&self) -> u128
-        ensures { result ≡ virt_end_lem self.now }
+        ensures { result ≡ virt_end self.now }
     {
         u128::from(self.virt_start) + u128::from(self.size)
     }
 
     /// One past its last physical place, COMM_REGION aside.
     pub fn phys_end(&self) -> u128
-        ensures { result ≡ phys_end_lem self.now }
+        ensures { result ≡ phys_end self.now }
     {
         u128::from(self.phys_start) + u128::from(self.size)
     }
 
     /// Its addresses.
     pub fn addresses(&self) -> Range
-        requires { virt_end_lem self.now < 2 ^ 64 }
+        requires { virt_end self.now < 2 ^ 64 }
         ensures start { result.start ≡ self.now.virt_start }
-        ensures end { result.end ≡ virt_end_lem self.now }
+        ensures end { result.end ≡ virt_end self.now }
     {
         Range {
             start: self.virt_start,
@@ -68,9 +68,9 @@ impl Region {
 
     /// Its physical places, COMM_REGION aside.
     pub fn places(&self) -> Range
-        requires { phys_end_lem self.now < 2 ^ 64 }
+        requires { phys_end self.now < 2 ^ 64 }
         ensures start { result.start ≡ self.now.phys_start }
-        ensures end { result.end ≡ phys_end_lem self.now }
+        ensures end { result.end ≡ phys_end self.now }
     {
         Range {
             start: self.phys_start,

@@ -6,7 +6,7 @@ ghost use Rattle.jh_cellcfg.specs.Spelling.{u8_bytes, u16_bytes, u32_bytes, u64_
 use jh_num::NoMemory;
 use std::alloc::Global;
 
-/// Bytes behind which each call puts some. A call takes the writer and gives it back; where memory runs out
+/// Bytes behind which each call puts some. A call takes the writer and gives it back; for want of memory
 /// it is gone, and half of a record with it.
 #[derive(Drop)]
 pub struct Writer {

@@ -14,178 +14,178 @@ use Rattle.jh_check.specs.Devices.{are_same_section}
 use Rattle.jh_check.specs.Spans.{takes_part, span_of, spans_meet, joins, is_within, IsIndex, AreApart}
 use Rattle.jh_check.specs.Lists.{only_if, is_any}
 use Rattle.jh_check.specs.Findings.{spot, beside, beside_at, between, between_at, finding_of}
-use Rattle.jh_check.proofs.BoolLemmas.{false-from_not, not-both, and-left, and-right, and-both}
-use Rattle.jh_check.proofs.ListLemmas.{found-none0, any-at, any-only}
+use Rattle.jh_check.proofs.BoolLemmas.{false_from_not, not_both, and_left, and_right, and_both}
+use Rattle.jh_check.proofs.ListLemmas.{found_none0, any_at, any_only}
 
-virt-parts : (one other : Region) → virt_meet one other ≡ true → ((has_size one && has_size other) ≡ true) × ((nat_lt one.virt_start (virt_end other) && nat_lt other.virt_start (virt_end one)) ≡ true)
-virt-parts one other h =
+virt_parts : (one other : Region) → virt_meet one other ≡ true → ((has_size one && has_size other) ≡ true) × ((nat_lt one.virt_start (virt_end other) && nat_lt other.virt_start (virt_end one)) ≡ true)
+virt_parts one other h =
     let sizes = has_size one && has_size other in
     let ranges = nat_lt one.virt_start (virt_end other) && nat_lt other.virt_start (virt_end one) in
-    (and-left sizes ranges h, and-right sizes ranges h)
+    (and_left sizes ranges h, and_right sizes ranges h)
 
-phys-parts : (one other : Region) → phys_meet one other ≡ true → ((has_size one && has_size other) ≡ true) × ((nat_lt one.phys_start (phys_end other) && nat_lt other.phys_start (phys_end one)) ≡ true)
-phys-parts one other h =
+phys_parts : (one other : Region) → phys_meet one other ≡ true → ((has_size one && has_size other) ≡ true) × ((nat_lt one.phys_start (phys_end other) && nat_lt other.phys_start (phys_end one)) ≡ true)
+phys_parts one other h =
     let sizes = has_size one && has_size other in
     let ranges = nat_lt one.phys_start (phys_end other) && nat_lt other.phys_start (phys_end one) in
-    (and-left sizes ranges h, and-right sizes ranges h)
+    (and_left sizes ranges h, and_right sizes ranges h)
 
-pub share-parts : (one other : Region) → share_places one other ≡ true → (not (is_comm one) ≡ true) × (not (is_comm other) ≡ true) × (phys_meet one other ≡ true)
-share-parts one other h =
+pub share_parts : (one other : Region) → share_places one other ≡ true → (not (is_comm one) ≡ true) × (not (is_comm other) ≡ true) × (phys_meet one other ≡ true)
+share_parts one other h =
     let rest = not (is_comm other) && phys_meet one other in
-    let k = and-right (not (is_comm one)) rest h in
-    (and-left (not (is_comm one)) rest h, and-left (not (is_comm other)) (phys_meet one other) k, and-right (not (is_comm other)) (phys_meet one other) k)
+    let k = and_right (not (is_comm one)) rest h in
+    (and_left (not (is_comm one)) rest h, and_left (not (is_comm other)) (phys_meet one other) k, and_right (not (is_comm other)) (phys_meet one other) k)
 
-pub pages-parts : (one other : Region) → takes_pages one other ≡ true → ((is_unshared one && not (is_page_mapped one)) ≡ true) × (phys_meet one other ≡ true) × (is_page_mapped other ≡ true) × (has_size other ≡ true)
-pages-parts one other h =
+pub pages_parts : (one other : Region) → takes_pages one other ≡ true → ((is_unshared one && not (is_page_mapped one)) ≡ true) × (phys_meet one other ≡ true) × (is_page_mapped other ≡ true) × (has_size other ≡ true)
+pages_parts one other h =
     let last = is_page_mapped other && phys_meet one other in
     let rest = not (is_page_mapped one) && last in
-    let k = and-right (is_unshared one) rest h in
-    let m = and-right (not (is_page_mapped one)) last k in
-    let meet = and-right (is_page_mapped other) (phys_meet one other) m in (
-      and-both (is_unshared one) (not (is_page_mapped one)) (and-left (is_unshared one) rest h) (and-left (not (is_page_mapped one)) last k),
+    let k = and_right (is_unshared one) rest h in
+    let m = and_right (not (is_page_mapped one)) last k in
+    let meet = and_right (is_page_mapped other) (phys_meet one other) m in (
+      and_both (is_unshared one) (not (is_page_mapped one)) (and_left (is_unshared one) rest h) (and_left (not (is_page_mapped one)) last k),
       meet,
-      and-left (is_page_mapped other) (phys_meet one other) m,
-      and-right (has_size one) (has_size other) (phys-parts one other meet).0,
+      and_left (is_page_mapped other) (phys_meet one other) m,
+      and_right (has_size one) (has_size other) (phys_parts one other meet).0,
     )
 
 -- what a broken rule about two regions says of their cells, and of the regions
-pub within-parts : (one other : Spot) (rest : Bool) → ((one.cell == other.cell) && (nat_lt one.item other.item && rest)) ≡ true → ((one.cell == other.cell) ≡ true) × (nat_lt one.item other.item ≡ true) × (rest ≡ true)
-within-parts one other rest h =
+pub within_parts : (one other : Spot) (rest : Bool) → ((one.cell == other.cell) && (nat_lt one.item other.item && rest)) ≡ true → ((one.cell == other.cell) ≡ true) × (nat_lt one.item other.item ≡ true) × (rest ≡ true)
+within_parts one other rest h =
     let same = one.cell == other.cell in
     let before = nat_lt one.item other.item in
-    let k = and-right same (before && rest) h in
-    (and-left same (before && rest) h, and-left before rest k, and-right before rest k)
+    let k = and_right same (before && rest) h in
+    (and_left same (before && rest) h, and_left before rest k, and_right before rest k)
 
-pub two-parts : (first second rest : Bool) → (first && (second && rest)) ≡ true → ((first && second) ≡ true) × (rest ≡ true)
-two-parts first second rest h =
-    let k = and-right first (second && rest) h in
-    (and-both first second (and-left first (second && rest) h) (and-left second rest k), and-right second rest k)
+pub two_parts : (first second rest : Bool) → (first && (second && rest)) ≡ true → ((first && second) ≡ true) × (rest ≡ true)
+two_parts first second rest h =
+    let k = and_right first (second && rest) h in
+    (and_both first second (and_left first (second && rest) h) (and_left second rest k), and_right second rest k)
 
 -- the two regions of one cell stand in this order
-pub pair-order : (rule : Rule) (one other : Spot) → is_within rule ≡ true → pair_breaks rule one other ≡ true → nat_lt one.item other.item ≡ true
+pub pair_order : (rule : Rule) (one other : Spot) → is_within rule ≡ true → pair_breaks rule one other ≡ true → nat_lt one.item other.item ≡ true
 unfolding pair_breaks
-pair-order VirtOverlap one other w h = (within-parts one other (virt_meet one.region other.region) h).1
-pair-order PhysOverlap one other w h = (within-parts one other (share_places one.region other.region) h).1
-pair-order _ one other w h = absurd (false≢true w)
+pair_order VirtOverlap one other w h = (within_parts one other (virt_meet one.region other.region) h).1
+pair_order PhysOverlap one other w h = (within_parts one other (share_places one.region other.region) h).1
+pair_order _ one other w h = absurd (false≢true w)
 
 -- the rule speaks of such cells
-pub pair-joins : (rule : Rule) (one other : Spot) → pair_breaks rule one other ≡ true → joins rule one.cell other.cell ≡ true
+pub pair_joins : (rule : Rule) (one other : Spot) → pair_breaks rule one other ≡ true → joins rule one.cell other.cell ≡ true
 unfolding pair_breaks
-pair-joins VirtOverlap one other h = (within-parts one other (virt_meet one.region other.region) h).0
-pair-joins PhysOverlap one other h = (within-parts one other (share_places one.region other.region) h).0
-pair-joins SubpageTaken one other h = (two-parts (not (one.cell == 0)) (other.cell == 0) (takes_pages one.region other.region) h).0
-pair-joins CellsOverlap one other h =
-    (two-parts (nat_lt 0 one.cell) (nat_lt one.cell other.cell) (share_places one.region other.region && (not (both_shared one.region other.region) && not (are_same_section one.config one.item other.config other.item))) h).0
-pair-joins _ one other h = absurd (false≢true h)
+pair_joins VirtOverlap one other h = (within_parts one other (virt_meet one.region other.region) h).0
+pair_joins PhysOverlap one other h = (within_parts one other (share_places one.region other.region) h).0
+pair_joins SubpageTaken one other h = (two_parts (not (one.cell == 0)) (other.cell == 0) (takes_pages one.region other.region) h).0
+pair_joins CellsOverlap one other h =
+    (two_parts (nat_lt 0 one.cell) (nat_lt one.cell other.cell) (share_places one.region other.region && (not (both_shared one.region other.region) && not (are_same_section one.config one.item other.config other.item))) h).0
+pair_joins _ one other h = absurd (false≢true h)
 
-pub overlap-share : (one other : Spot) → pair_breaks CellsOverlap one other ≡ true → share_places one.region other.region ≡ true
+pub overlap_share : (one other : Spot) → pair_breaks CellsOverlap one other ≡ true → share_places one.region other.region ≡ true
 unfolding pair_breaks
-overlap-share one other h =
+overlap_share one other h =
     let rest = not (both_shared one.region other.region) && not (are_same_section one.config one.item other.config other.item) in
-    let k = (two-parts (nat_lt 0 one.cell) (nat_lt one.cell other.cell) (share_places one.region other.region && rest) h).1 in
-    and-left (share_places one.region other.region) rest k
+    let k = (two_parts (nat_lt 0 one.cell) (nat_lt one.cell other.cell) (share_places one.region other.region && rest) h).1 in
+    and_left (share_places one.region other.region) rest k
 
-shared-takes_part : (one other : Region) → share_places one other ≡ true → (has_size one && not (is_comm one)) ≡ true
-shared-takes_part one other h =
-    let p = share-parts one other h in
-    and-both (has_size one) (not (is_comm one)) (and-left (has_size one) (has_size other) (phys-parts one other p.2).0) p.0
+shared_takes_part : (one other : Region) → share_places one other ≡ true → (has_size one && not (is_comm one)) ≡ true
+shared_takes_part one other h =
+    let p = share_parts one other h in
+    and_both (has_size one) (not (is_comm one)) (and_left (has_size one) (has_size other) (phys_parts one other p.2).0) p.0
 
 -- the first region takes part
-pub pair-takes_part : (rule : Rule) (one other : Spot) → pair_breaks rule one other ≡ true → takes_part rule one.region ≡ true
+pub pair_takes_part : (rule : Rule) (one other : Spot) → pair_breaks rule one other ≡ true → takes_part rule one.region ≡ true
 unfolding pair_breaks
-pair-takes_part VirtOverlap one other h = and-left (has_size one.region) (has_size other.region) (virt-parts one.region other.region (within-parts one other (virt_meet one.region other.region) h).2).0
-pair-takes_part PhysOverlap one other h = shared-takes_part one.region other.region (within-parts one other (share_places one.region other.region) h).2
-pair-takes_part SubpageTaken one other h =
-    let p = pages-parts one.region other.region (two-parts (not (one.cell == 0)) (other.cell == 0) (takes_pages one.region other.region) h).1 in
-    and-both (has_size one.region) (is_unshared one.region && not (is_page_mapped one.region)) (and-left (has_size one.region) (has_size other.region) (phys-parts one.region other.region p.1).0) p.0
-pair-takes_part CellsOverlap one other h = shared-takes_part one.region other.region (overlap-share one other h)
-pair-takes_part _ one other h = absurd (false≢true h)
+pair_takes_part VirtOverlap one other h = and_left (has_size one.region) (has_size other.region) (virt_parts one.region other.region (within_parts one other (virt_meet one.region other.region) h).2).0
+pair_takes_part PhysOverlap one other h = shared_takes_part one.region other.region (within_parts one other (share_places one.region other.region) h).2
+pair_takes_part SubpageTaken one other h =
+    let p = pages_parts one.region other.region (two_parts (not (one.cell == 0)) (other.cell == 0) (takes_pages one.region other.region) h).1 in
+    and_both (has_size one.region) (is_unshared one.region && not (is_page_mapped one.region)) (and_left (has_size one.region) (has_size other.region) (phys_parts one.region other.region p.1).0) p.0
+pair_takes_part CellsOverlap one other h = shared_takes_part one.region other.region (overlap_share one other h)
+pair_takes_part _ one other h = absurd (false≢true h)
 
 -- so does the second, where both are of one cell
-pub pair-second : (rule : Rule) (one other : Spot) → is_within rule ≡ true → pair_breaks rule one other ≡ true → takes_part rule other.region ≡ true
+pub pair_second : (rule : Rule) (one other : Spot) → is_within rule ≡ true → pair_breaks rule one other ≡ true → takes_part rule other.region ≡ true
 unfolding pair_breaks
-pair-second VirtOverlap one other w h = and-right (has_size one.region) (has_size other.region) (virt-parts one.region other.region (within-parts one other (virt_meet one.region other.region) h).2).0
-pair-second PhysOverlap one other w h =
-    let p = share-parts one.region other.region (within-parts one other (share_places one.region other.region) h).2 in
-    and-both (has_size other.region) (not (is_comm other.region)) (and-right (has_size one.region) (has_size other.region) (phys-parts one.region other.region p.2).0) p.1
-pair-second _ one other w h = absurd (false≢true w)
+pair_second VirtOverlap one other w h = and_right (has_size one.region) (has_size other.region) (virt_parts one.region other.region (within_parts one other (virt_meet one.region other.region) h).2).0
+pair_second PhysOverlap one other w h =
+    let p = share_parts one.region other.region (within_parts one other (share_places one.region other.region) h).2 in
+    and_both (has_size other.region) (not (is_comm other.region)) (and_right (has_size one.region) (has_size other.region) (phys_parts one.region other.region p.2).0) p.1
+pair_second _ one other w h = absurd (false≢true w)
 
 -- and the two meet
-pub pair-meets : (rule : Rule) (one other : Spot) → pair_breaks rule one other ≡ true → spans_meet (span_of rule one.item one.region) (span_of rule other.item other.region) ≡ true
+pub pair_meets : (rule : Rule) (one other : Spot) → pair_breaks rule one other ≡ true → spans_meet (span_of rule one.item one.region) (span_of rule other.item other.region) ≡ true
 unfolding pair_breaks
-pair-meets VirtOverlap one other h = (virt-parts one.region other.region (within-parts one other (virt_meet one.region other.region) h).2).1
-pair-meets PhysOverlap one other h = (phys-parts one.region other.region (share-parts one.region other.region (within-parts one other (share_places one.region other.region) h).2).2).1
-pair-meets SubpageTaken one other h =
-    (phys-parts one.region other.region (pages-parts one.region other.region (two-parts (not (one.cell == 0)) (other.cell == 0) (takes_pages one.region other.region) h).1).1).1
-pair-meets CellsOverlap one other h = (phys-parts one.region other.region (share-parts one.region other.region (overlap-share one other h)).2).1
-pair-meets _ one other h = absurd (false≢true h)
+pair_meets VirtOverlap one other h = (virt_parts one.region other.region (within_parts one other (virt_meet one.region other.region) h).2).1
+pair_meets PhysOverlap one other h = (phys_parts one.region other.region (share_parts one.region other.region (within_parts one other (share_places one.region other.region) h).2).2).1
+pair_meets SubpageTaken one other h =
+    (phys_parts one.region other.region (pages_parts one.region other.region (two_parts (not (one.cell == 0)) (other.cell == 0) (takes_pages one.region other.region) h).1).1).1
+pair_meets CellsOverlap one other h = (phys_parts one.region other.region (share_parts one.region other.region (overlap_share one other h)).2).1
+pair_meets _ one other h = absurd (false≢true h)
 
 -- and so does the second, where the two are of two cells that overlap
-pub overlap-second : (one other : Spot) → pair_breaks CellsOverlap one other ≡ true → takes_part CellsOverlap other.region ≡ true
-overlap-second one other h =
-    let p = share-parts one.region other.region (overlap-share one other h) in
-    and-both (has_size other.region) (not (is_comm other.region)) (and-right (has_size one.region) (has_size other.region) (phys-parts one.region other.region p.2).0) p.1
+pub overlap_second : (one other : Spot) → pair_breaks CellsOverlap one other ≡ true → takes_part CellsOverlap other.region ≡ true
+overlap_second one other h =
+    let p = share_parts one.region other.region (overlap_share one other h) in
+    and_both (has_size other.region) (not (is_comm other.region)) (and_right (has_size one.region) (has_size other.region) (phys_parts one.region other.region p.2).0) p.1
 
 -- where a region breaks it with none of a cell, nothing is found of the two
-pub beside-none : (rule : Rule) (one : Spot) (b : ℕ) (other : CellConfig) → ((s : ℕ) (d : Region) → s < length other.memory_regions → pair_breaks rule one (spot b other s (get_or other.memory_regions s d)) ≡ true → ⊥) → beside rule one b other ≡ []
+pub beside_none : (rule : Rule) (one : Spot) (b : ℕ) (other : CellConfig) → ((s : ℕ) (d : Region) → s < length other.memory_regions → pair_breaks rule one (spot b other s (get_or other.memory_regions s d)) ≡ true → ⊥) → beside rule one b other ≡ []
 unfolding beside only_if
-beside-none rule one b other h =
+beside_none rule one b other h =
     let none : Region = record { phys_start = 0; virt_start = 0; size = 0; flags = 0 } in
-    found-none0 (beside_at rule one b other) other.memory_regions none (λ s j.
-    ap (λ t. only_if t (finding_of rule one.cell one.item b s)) (false-from_not (pair_breaks rule one (spot b other s (get_or other.memory_regions s none))) (h s none j)))
+    found_none0 (beside_at rule one b other) other.memory_regions none (λ s j.
+    ap (λ t. only_if t (finding_of rule one.cell one.item b s)) (false_from_not (pair_breaks rule one (spot b other s (get_or other.memory_regions s none))) (h s none j)))
 
 -- a region that takes no part
-pub beside-idle : (rule : Rule) (one : Spot) (b : ℕ) (other : CellConfig) → takes_part rule one.region ≡ false → beside rule one b other ≡ []
-beside-idle rule one b other e =
-    beside-none rule one b other (λ s d j t. not-both (takes_part rule one.region) (pair-takes_part rule one (spot b other s (get_or other.memory_regions s d)) t) e)
+pub beside_idle : (rule : Rule) (one : Spot) (b : ℕ) (other : CellConfig) → takes_part rule one.region ≡ false → beside rule one b other ≡ []
+beside_idle rule one b other e =
+    beside_none rule one b other (λ s d j t. not_both (takes_part rule one.region) (pair_takes_part rule one (spot b other s (get_or other.memory_regions s d)) t) e)
 
 -- a region that breaks it with one of the cell
-pub beside-hit : (rule : Rule) (one : Spot) (b : ℕ) (other : CellConfig) (s : ℕ) (d : Region) → s < length other.memory_regions → pair_breaks rule one (spot b other s (get_or other.memory_regions s d)) ≡ true → is_any (beside rule one b other) ≡ true
+pub beside_hit : (rule : Rule) (one : Spot) (b : ℕ) (other : CellConfig) (s : ℕ) (d : Region) → s < length other.memory_regions → pair_breaks rule one (spot b other s (get_or other.memory_regions s d)) ≡ true → is_any (beside rule one b other) ≡ true
 unfolding beside
-beside-hit rule one b other s d h e =
-    any-at (beside_at rule one b other) 0 other.memory_regions s d h
+beside_hit rule one b other s d h e =
+    any_at (beside_at rule one b other) 0 other.memory_regions s d h
     (subst (λ m. is_any (beside_at rule one b other m (get_or other.memory_regions s d)) ≡ true) (let f : s ≡ 0 + s = omega arith in f)
-    (any-only (pair_breaks rule one (spot b other s (get_or other.memory_regions s d))) (finding_of rule one.cell one.item b s) ∙ e))
+    (any_only (pair_breaks rule one (spot b other s (get_or other.memory_regions s d))) (finding_of rule one.cell one.item b s) ∙ e))
 
-pub meet-swap : (one other : Span) → spans_meet one other ≡ true → spans_meet other one ≡ true
-meet-swap one other h =
+pub meet_swap : (one other : Span) → spans_meet one other ≡ true → spans_meet other one ≡ true
+meet_swap one other h =
     let first = nat_lt one.start other.end in
     let second = nat_lt other.start one.end in
-    and-both second first (and-right first second h) (and-left first second h)
+    and_both second first (and_right first second h) (and_left first second h)
 
 -- a region that overlaps with none of those that meet it in the cell's index
-pub beside-unmet : (one : Spot) (b : ℕ) (other : CellConfig) (spans met : List Span) → IsIndex CellsOverlap other.memory_regions spans → ((x : Span) → Contains spans x → spans_meet x (span_of CellsOverlap one.item one.region) ≡ true → Contains met x) → ((x : Span) (d : Region) → Contains met x → pair_breaks CellsOverlap one (spot b other x.item (get_or other.memory_regions x.item d)) ≡ false) → beside CellsOverlap one b other ≡ []
-beside-unmet one b other spans met index each none =
-    beside-none CellsOverlap one b other (λ s d j t.
+pub beside_unmet : (one : Spot) (b : ℕ) (other : CellConfig) (spans met : List Span) → IsIndex CellsOverlap other.memory_regions spans → ((x : Span) → Contains spans x → spans_meet x (span_of CellsOverlap one.item one.region) ≡ true → Contains met x) → ((x : Span) (d : Region) → Contains met x → pair_breaks CellsOverlap one (spot b other x.item (get_or other.memory_regions x.item d)) ≡ false) → beside CellsOverlap one b other ≡ []
+beside_unmet one b other spans met index each none =
+    beside_none CellsOverlap one b other (λ s d j t.
     let y = get_or other.memory_regions s d in
     let second = spot b other s y in
     let x = span_of CellsOverlap s y in
-    let cx = index.each s d j (overlap-second one second t) in
-    let m = meet-swap (span_of CellsOverlap one.item one.region) x (pair-meets CellsOverlap one second t) in
-    not-both (pair_breaks CellsOverlap one second) t (none x d (each x cx m)))
+    let cx = index.each s d j (overlap_second one second t) in
+    let m = meet_swap (span_of CellsOverlap one.item one.region) x (pair_meets CellsOverlap one second t) in
+    not_both (pair_breaks CellsOverlap one second) t (none x d (each x cx m)))
 
 -- where no two of their regions break it, nothing is found between two cells
-pub between-none : (rule : Rule) (a : ℕ) (one : CellConfig) (b : ℕ) (other : CellConfig) → ((r s : ℕ) (d : Region) → r < length one.memory_regions → s < length other.memory_regions → pair_breaks rule (spot a one r (get_or one.memory_regions r d)) (spot b other s (get_or other.memory_regions s d)) ≡ true → ⊥) → between rule a one b other ≡ []
+pub between_none : (rule : Rule) (a : ℕ) (one : CellConfig) (b : ℕ) (other : CellConfig) → ((r s : ℕ) (d : Region) → r < length one.memory_regions → s < length other.memory_regions → pair_breaks rule (spot a one r (get_or one.memory_regions r d)) (spot b other s (get_or other.memory_regions s d)) ≡ true → ⊥) → between rule a one b other ≡ []
 unfolding between beside only_if
-between-none rule a one b other h =
+between_none rule a one b other h =
     let none : Region = record { phys_start = 0; virt_start = 0; size = 0; flags = 0 } in
-    found-none0 (between_at rule a one b other) one.memory_regions none (λ r i.
-    found-none0 (beside_at rule (spot a one r (get_or one.memory_regions r none)) b other) other.memory_regions none (λ s j.
-    ap (λ t. only_if t (finding_of rule a r b s)) (false-from_not (pair_breaks rule (spot a one r (get_or one.memory_regions r none)) (spot b other s (get_or other.memory_regions s none))) (h r s none i j))))
+    found_none0 (between_at rule a one b other) one.memory_regions none (λ r i.
+    found_none0 (beside_at rule (spot a one r (get_or one.memory_regions r none)) b other) other.memory_regions none (λ s j.
+    ap (λ t. only_if t (finding_of rule a r b s)) (false_from_not (pair_breaks rule (spot a one r (get_or one.memory_regions r none)) (spot b other s (get_or other.memory_regions s none))) (h r s none i j))))
 
 -- cells of which the rule doesn't speak
-pub between-apart : (rule : Rule) (a : ℕ) (one : CellConfig) (b : ℕ) (other : CellConfig) → joins rule a b ≡ false → between rule a one b other ≡ []
-between-apart rule a one b other e =
-    between-none rule a one b other (λ r s d i j t. not-both (joins rule a b) (pair-joins rule (spot a one r (get_or one.memory_regions r d)) (spot b other s (get_or other.memory_regions s d)) t) e)
+pub between_apart : (rule : Rule) (a : ℕ) (one : CellConfig) (b : ℕ) (other : CellConfig) → joins rule a b ≡ false → between rule a one b other ≡ []
+between_apart rule a one b other e =
+    between_none rule a one b other (λ r s d i j t. not_both (joins rule a b) (pair_joins rule (spot a one r (get_or one.memory_regions r d)) (spot b other s (get_or other.memory_regions s d)) t) e)
 
 -- spans that are apart and meet are one
-pub span-same : (spans : List Span) (x y : Span) → AreApart spans → Contains spans x → Contains spans y → spans_meet x y ≡ true → x.item ≡ y.item
-span-same spans x y apart cx cy m =
+pub span_same : (spans : List Span) (x y : Span) → AreApart spans → Contains spans x → Contains spans y → spans_meet x y ≡ true → x.item ≡ y.item
+span_same spans x y apart cx cy m =
     let p = cx.0 in
     let q = cy.0 in
     let ey : get_or spans q x ≡ y = get_or_default spans q x y cy.1 ∙ cy.2 in
-    let first : x.start < y.end = ltb-true x.start y.end (and-left (nat_lt x.start y.end) (nat_lt y.start x.end) m) in
-    let second : y.start < x.end = ltb-true y.start x.end (and-right (nat_lt x.start y.end) (nat_lt y.start x.end) m) in
+    let first : x.start < y.end = ltb-true x.start y.end (and_left (nat_lt x.start y.end) (nat_lt y.start x.end) m) in
+    let second : y.start < x.end = ltb-true y.start x.end (and_right (nat_lt x.start y.end) (nat_lt y.start x.end) m) in
     elim (cases_order p q) [
       | inl e ↦ ap (λ (s : Span). s.item) (sym cx.2 ∙ ap (λ k. get_or spans k x) e ∙ ey)
       | inr (inl h) ↦
@@ -198,27 +198,27 @@ span-same spans x y apart cx cy m =
           absurd (omega arith)
     ]
 
-meeting-same : (rule : Rule) (r s : ℕ) (x y : Region) (spans : List Span) → AreApart spans → Contains spans (span_of rule r x) → Contains spans (span_of rule s y) → spans_meet (span_of rule r x) (span_of rule s y) ≡ true → r ≡ s
-meeting-same VirtOverlap r s x y spans apart p q m = span-same spans (span_of VirtOverlap r x) (span_of VirtOverlap s y) apart p q m
-meeting-same PhysOverlap r s x y spans apart p q m = span-same spans (span_of PhysOverlap r x) (span_of PhysOverlap s y) apart p q m
-meeting-same rule r s x y spans apart p q m = span-same spans (span_of rule r x) (span_of rule s y) apart p q m
+meeting_same : (rule : Rule) (r s : ℕ) (x y : Region) (spans : List Span) → AreApart spans → Contains spans (span_of rule r x) → Contains spans (span_of rule s y) → spans_meet (span_of rule r x) (span_of rule s y) ≡ true → r ≡ s
+meeting_same VirtOverlap r s x y spans apart p q m = span_same spans (span_of VirtOverlap r x) (span_of VirtOverlap s y) apart p q m
+meeting_same PhysOverlap r s x y spans apart p q m = span_same spans (span_of PhysOverlap r x) (span_of PhysOverlap s y) apart p q m
+meeting_same rule r s x y spans apart p q m = span_same spans (span_of rule r x) (span_of rule s y) apart p q m
 
 -- one cell, whose regions are in an index
-pub between-indexed : (rule : Rule) (a : ℕ) (one : CellConfig) (spans : List Span) → is_within rule ≡ true → IsIndex rule one.memory_regions spans → between rule a one a one ≡ []
-between-indexed rule a one spans w index =
-    between-none rule a one a one (λ r s d i j t.
+pub between_indexed : (rule : Rule) (a : ℕ) (one : CellConfig) (spans : List Span) → is_within rule ≡ true → IsIndex rule one.memory_regions spans → between rule a one a one ≡ []
+between_indexed rule a one spans w index =
+    between_none rule a one a one (λ r s d i j t.
     let x = get_or one.memory_regions r d in
     let y = get_or one.memory_regions s d in
-    let o : nat_lt r s ≡ true = pair-order rule (spot a one r x) (spot a one s y) w t in
-    let m = pair-meets rule (spot a one r x) (spot a one s y) t in
-    let p = index.each r d i (pair-takes_part rule (spot a one r x) (spot a one s y) t) in
-    let q = index.each s d j (pair-second rule (spot a one r x) (spot a one s y) w t) in
-    let same : r ≡ s = meeting-same rule r s x y spans index.apart p q m in
+    let o : nat_lt r s ≡ true = pair_order rule (spot a one r x) (spot a one s y) w t in
+    let m = pair_meets rule (spot a one r x) (spot a one s y) t in
+    let p = index.each r d i (pair_takes_part rule (spot a one r x) (spot a one s y) t) in
+    let q = index.each s d j (pair_second rule (spot a one r x) (spot a one s y) w t) in
+    let same : r ≡ s = meeting_same rule r s x y spans index.apart p q m in
     let less : r < s = ltb-true r s o in
     omega arith)
 
 -- cells that a rule about two regions of one cell joins are one
-pub joins-same : (rule : Rule) (a b : ℕ) → is_within rule ≡ true → joins rule a b ≡ true → a ≡ b
-joins-same VirtOverlap a b w h = eqb-true a b h
-joins-same PhysOverlap a b w h = eqb-true a b h
-joins-same _ a b w h = absurd (false≢true w)
+pub joins_same : (rule : Rule) (a b : ℕ) → is_within rule ≡ true → joins rule a b ≡ true → a ≡ b
+joins_same VirtOverlap a b w h = eqb-true a b h
+joins_same PhysOverlap a b w h = eqb-true a b h
+joins_same _ a b w h = absurd (false≢true w)

@@ -15,62 +15,62 @@ use Rattle.jh_check.specs.Devices.{are_same_section, are_sections_of, are_linked
 use Rattle.jh_check.specs.Findings.{spot}
 use Rattle.jh_check.specs.Laws.{IsNumbered, IsItem, AddressesAreSingle, HypervisorIsAlone}
 use Rattle.jh_check.specs.Clean.{PlacesAreSingle, EachRegion, IsReadable, IsAligned, IsSoundMemory, RootIsIdentity, RootHasNoComm, CommsArePages, RootKeepsItsPages, IsSameSection, CellsShareAsTheySay}
-use Rattle.jh_check.proofs.BoolLemmas.{false-from_not, true-from_not, not-both, same-number}
-use Rattle.jh_check.proofs.BreakLemmas.{share-parts, within-parts}
+use Rattle.jh_check.proofs.BoolLemmas.{false_from_not, true_from_not, not_both, same_number}
+use Rattle.jh_check.proofs.BreakLemmas.{share_parts, within_parts}
 
 -- ---- tests
 
 -- where both don't hold and the first does, the second doesn't
-pub and-rest : (a b : Bool) → ((a && b) ≡ true → ⊥) → a ≡ true → b ≡ false
-and-rest a b h t = false-from_not b (λ u. h (and_from a b t u))
+pub and_rest : (a b : Bool) → ((a && b) ≡ true → ⊥) → a ≡ true → b ≡ false
+and_rest a b h t = false_from_not b (λ u. h (and_from a b t u))
 
 pub positive : (a : ℕ) → not (a == 0) ≡ true → 0 < a
 positive zero h = absurd (false≢true h)
 positive (suc n) h = omega arith
 
-pub not-zero : (a : ℕ) → 0 < a → not (a == 0) ≡ true
-not-zero a h = not_from_false (a == 0) (ne_eqb a 0 (λ e. omega arith))
+pub not_zero : (a : ℕ) → 0 < a → not (a == 0) ≡ true
+not_zero a h = not_from_false (a == 0) (ne_eqb a 0 (λ e. omega arith))
 
 -- ---- lists by number
 
-pub same-item : {X : Type 0} (xs : List X) (i j : ℕ) (x y : X) → i ≡ j → slice_get xs i ≡ Some x → slice_get xs j ≡ Some y → x ≡ y
-same-item xs i j x y e h k =
+pub same_item : {X : Type 0} (xs : List X) (i j : ℕ) (x y : X) → i ≡ j → slice_get xs i ≡ Some x → slice_get xs j ≡ Some y → x ≡ y
+same_item xs i j x y e h k =
     let k' : slice_get xs i ≡ Some y = subst (λ m. slice_get xs m ≡ Some y) (sym e) k in
     cc
 
-pub get-take : {X : Type 0} (n : ℕ) (xs : List X) (i : ℕ) (x : X) → slice_get (take n xs) i ≡ Some x → (i < n) × (slice_get xs i ≡ Some x)
-get-take zero xs i x h = cc
-get-take (suc n) [] i x h = cc
-get-take (suc n) (y ∷ xs) zero x h = (omega arith, h)
-get-take (suc n) (y ∷ xs) (suc i) x h = let r = get-take n xs i x h in (omega (arith, r.0), r.1)
+pub get_take : {X : Type 0} (n : ℕ) (xs : List X) (i : ℕ) (x : X) → slice_get (take n xs) i ≡ Some x → (i < n) × (slice_get xs i ≡ Some x)
+get_take zero xs i x h = cc
+get_take (suc n) [] i x h = cc
+get_take (suc n) (y ∷ xs) zero x h = (omega arith, h)
+get_take (suc n) (y ∷ xs) (suc i) x h = let r = get_take n xs i x h in (omega (arith, r.0), r.1)
 
-pub take-get : {X : Type 0} (n : ℕ) (xs : List X) (i : ℕ) (x : X) → i < n → slice_get xs i ≡ Some x → slice_get (take n xs) i ≡ Some x
-take-get zero xs i x l h = absurd (omega arith)
-take-get (suc n) [] i x l h = h
-take-get (suc n) (y ∷ xs) zero x l h = h
-take-get (suc n) (y ∷ xs) (suc i) x l h = take-get n xs i x (omega arith) h
+pub take_get : {X : Type 0} (n : ℕ) (xs : List X) (i : ℕ) (x : X) → i < n → slice_get xs i ≡ Some x → slice_get (take n xs) i ≡ Some x
+take_get zero xs i x l h = absurd (omega arith)
+take_get (suc n) [] i x l h = h
+take_get (suc n) (y ∷ xs) zero x l h = h
+take_get (suc n) (y ∷ xs) (suc i) x l h = take_get n xs i x (omega arith) h
 
 -- an element that passes
-pub any-at : {X : Type 0} (p : X → Bool) (xs : List X) (i : ℕ) (x : X) → slice_get xs i ≡ Some x → p x ≡ true → list_any p xs ≡ true
-any-at p [] i x h t = cc
-any-at p (y ∷ xs) zero x h t =
+pub any_at : {X : Type 0} (p : X → Bool) (xs : List X) (i : ℕ) (x : X) → slice_get xs i ≡ Some x → p x ≡ true → list_any p xs ≡ true
+any_at p [] i x h t = cc
+any_at p (y ∷ xs) zero x h t =
     let e : x ≡ y = cc in
     or_left (p y) (list_any p xs) (subst (λ z. p z ≡ true) e t)
-any-at p (y ∷ xs) (suc i) x h t = or_right (p y) (list_any p xs) (any-at p xs i x h t)
+any_at p (y ∷ xs) (suc i) x h t = or_right (p y) (list_any p xs) (any_at p xs i x h t)
 
-pub any-of : {X : Type 0} (p : X → Bool) (xs : List X) → list_any p xs ≡ true → (i : ℕ) × (x : X) × (slice_get xs i ≡ Some x) × (p x ≡ true)
-any-of p [] h = absurd (false≢true h)
-any-of p (y ∷ xs) h =
+pub any_of : {X : Type 0} (p : X → Bool) (xs : List X) → list_any p xs ≡ true → (i : ℕ) × (x : X) × (slice_get xs i ≡ Some x) × (p x ≡ true)
+any_of p [] h = absurd (false≢true h)
+any_of p (y ∷ xs) h =
     elim (or_cases (p y) (list_any p xs) h) [
       | inl t ↦ (0, y, refl, t)
-      | inr k ↦ let r = any-of p xs k in (suc (r.0), r.1, r.2, r.3)
+      | inr k ↦ let r = any_of p xs k in (suc (r.0), r.1, r.2, r.3)
     ]
 
 -- ---- ranges
 
 -- two ranges with a number in common
-ranges-meet : (a n b m at : ℕ) → (nat_le a at && nat_lt at (a + n)) ≡ true → (nat_le b at && nat_lt at (b + m)) ≡ true → ((nat_lt 0 n && nat_lt 0 m) && (nat_lt a (b + m) && nat_lt b (a + n))) ≡ true
-ranges-meet a n b m at h k =
+ranges_meet : (a n b m at : ℕ) → (nat_le a at && nat_lt at (a + n)) ≡ true → (nat_le b at && nat_lt at (b + m)) ≡ true → ((nat_lt 0 n && nat_lt 0 m) && (nat_lt a (b + m) && nat_lt b (a + n))) ≡ true
+ranges_meet a n b m at h k =
     let p = and_parts (nat_le a at) (nat_lt at (a + n)) h in
     let q = and_parts (nat_le b at) (nat_lt at (b + m)) k in
     let p0 = leb-true a at p.0 in
@@ -79,11 +79,11 @@ ranges-meet a n b m at h k =
     let q1 = ltb-true at (b + m) q.1 in
     and_from (nat_lt 0 n && nat_lt 0 m) (nat_lt a (b + m) && nat_lt b (a + n)) (and_from (nat_lt 0 n) (nat_lt 0 m) (lt-ltb 0 n (omega arith)) (lt-ltb 0 m (omega arith))) (and_from (nat_lt a (b + m)) (nat_lt b (a + n)) (lt-ltb a (b + m) (omega arith)) (lt-ltb b (a + n) (omega arith)))
 
-in-range : (a n at : ℕ) → a ≤ at → at < a + n → (nat_le a at && nat_lt at (a + n)) ≡ true
-in-range a n at h k = and_from (nat_le a at) (nat_lt at (a + n)) (le-leb a at h) (lt-ltb at (a + n) k)
+in_range : (a n at : ℕ) → a ≤ at → at < a + n → (nat_le a at && nat_lt at (a + n)) ≡ true
+in_range a n at h k = and_from (nat_le a at) (nat_lt at (a + n)) (le-leb a at h) (lt-ltb at (a + n) k)
 
-meeting-ranges : (a n b m : ℕ) → ((nat_lt 0 n && nat_lt 0 m) && (nat_lt a (b + m) && nat_lt b (a + n))) ≡ true → (at : ℕ) × ((nat_le a at && nat_lt at (a + n)) ≡ true) × ((nat_le b at && nat_lt at (b + m)) ≡ true)
-meeting-ranges a n b m h =
+meeting_ranges : (a n b m : ℕ) → ((nat_lt 0 n && nat_lt 0 m) && (nat_lt a (b + m) && nat_lt b (a + n))) ≡ true → (at : ℕ) × ((nat_le a at && nat_lt at (a + n)) ≡ true) × ((nat_le b at && nat_lt at (b + m)) ≡ true)
+meeting_ranges a n b m h =
     let p = and_parts (nat_lt 0 n && nat_lt 0 m) (nat_lt a (b + m) && nat_lt b (a + n)) h in
     let q = and_parts (nat_lt 0 n) (nat_lt 0 m) p.0 in
     let r = and_parts (nat_lt a (b + m)) (nat_lt b (a + n)) p.1 in
@@ -92,24 +92,24 @@ meeting-ranges a n b m h =
     let r0 = ltb-true a (b + m) r.0 in
     let r1 = ltb-true b (a + n) r.1 in
     elim (cases_lt a b) [
-      | inl l ↦ (b, in-range a n b (omega arith) r1, in-range b m b (omega arith) (omega arith))
-      | inr l ↦ (a, in-range a n a (omega arith) (omega arith), in-range b m a l r0)
+      | inl l ↦ (b, in_range a n b (omega arith) r1, in_range b m b (omega arith) (omega arith))
+      | inr l ↦ (a, in_range a n a (omega arith) (omega arith), in_range b m a l r0)
     ]
 
-pub virt-common : (x y : Region) (at : ℕ) → has_address x at ≡ true → has_address y at ≡ true → virt_meet x y ≡ true
-virt-common x y at h k = ranges-meet x.virt_start x.size y.virt_start y.size at h k
+pub virt_common : (x y : Region) (at : ℕ) → has_address x at ≡ true → has_address y at ≡ true → virt_meet x y ≡ true
+virt_common x y at h k = ranges_meet x.virt_start x.size y.virt_start y.size at h k
 
-pub phys-common : (x y : Region) (at : ℕ) → has_place x at ≡ true → has_place y at ≡ true → phys_meet x y ≡ true
-phys-common x y at h k = ranges-meet x.phys_start x.size y.phys_start y.size at h k
+pub phys_common : (x y : Region) (at : ℕ) → has_place x at ≡ true → has_place y at ≡ true → phys_meet x y ≡ true
+phys_common x y at h k = ranges_meet x.phys_start x.size y.phys_start y.size at h k
 
-pub common-virt : (x y : Region) → virt_meet x y ≡ true → (at : ℕ) × (has_address x at ≡ true) × (has_address y at ≡ true)
-common-virt x y h = meeting-ranges x.virt_start x.size y.virt_start y.size h
+pub common_virt : (x y : Region) → virt_meet x y ≡ true → (at : ℕ) × (has_address x at ≡ true) × (has_address y at ≡ true)
+common_virt x y h = meeting_ranges x.virt_start x.size y.virt_start y.size h
 
-pub common-phys : (x y : Region) → phys_meet x y ≡ true → (at : ℕ) × (has_place x at ≡ true) × (has_place y at ≡ true)
-common-phys x y h = meeting-ranges x.phys_start x.size y.phys_start y.size h
+pub common_phys : (x y : Region) → phys_meet x y ≡ true → (at : ℕ) × (has_place x at ≡ true) × (has_place y at ≡ true)
+common_phys x y h = meeting_ranges x.phys_start x.size y.phys_start y.size h
 
-pub place-size : (x : Region) (place : ℕ) → has_place x place ≡ true → has_size x ≡ true
-place-size x place h =
+pub place_size : (x : Region) (place : ℕ) → has_place x place ≡ true → has_size x ≡ true
+place_size x place h =
     let p = and_parts (nat_le x.phys_start place) (nat_lt place (phys_end x)) h in
     let p0 = leb-true x.phys_start place p.0 in
     let p1 = ltb-true place (phys_end x) p.1 in
@@ -129,7 +129,7 @@ RegionsHold rule h all =
 alone : (rule : Rule) (h : Region) (all : List CellConfig) → RegionsHold rule h all → (a : ℕ) (one : CellConfig) (r : ℕ) (x : Region) → slice_get all a ≡ Some one → slice_get one.memory_regions r ≡ Some x → 0 < x.size → breaks_alone rule h a (take r one.memory_regions) x ≡ false
 unfolding region_breaks
 alone rule h all k a one r x na ir some =
-    and-rest (has_size x) (breaks_alone rule h a (take r one.memory_regions) x) (k a one r x na ir) (lt-ltb 0 x.size some)
+    and_rest (has_size x) (breaks_alone rule h a (take r one.memory_regions) x) (k a one r x na ir) (lt-ltb 0 x.size some)
 
 -- a region that breaks a rule isn't empty
 parts : (rule : Rule) (h : Region) (a : ℕ) (earlier : List Region) (x : Region) → region_breaks rule h a earlier x ≡ true → (0 < x.size) × (breaks_alone rule h a earlier x ≡ true)
@@ -139,24 +139,24 @@ parts rule h a earlier x t = let p = and_parts (has_size x) (breaks_alone rule h
 -- ---- two regions of one cell
 
 within : (a r s : ℕ) (rest : Bool) → r < s → rest ≡ true → ((a == a) && (nat_lt r s && rest)) ≡ true
-within a r s rest l t = and_from (a == a) (nat_lt r s && rest) (same-number a) (and_from (nat_lt r s) rest (lt-ltb r s l) t)
+within a r s rest l t = and_from (a == a) (nat_lt r s && rest) (same_number a) (and_from (nat_lt r s) rest (lt-ltb r s l) t)
 
-pub addresses-from : (system : SystemConfig) (cells : List CellConfig) → PairsHold VirtOverlap (system.root ∷ cells) → AddressesAreSingle system cells
+pub addresses_from : (system : SystemConfig) (cells : List CellConfig) → PairsHold VirtOverlap (system.root ∷ cells) → AddressesAreSingle system cells
 unfolding pair_breaks
-addresses-from system cells h a cell n r s x y ir is at hx hy =
+addresses_from system cells h a cell n r s x y ir is at hx hy =
     elim (cases_order r s) [
       | inl same ↦ same
-      | inr (inl l) ↦ absurd (h a a cell cell r s x y n n ir is (within a r s (virt_meet x y) l (virt-common x y at hx hy)))
-      | inr (inr l) ↦ absurd (h a a cell cell s r y x n n is ir (within a s r (virt_meet y x) l (virt-common y x at hy hx)))
+      | inr (inl l) ↦ absurd (h a a cell cell r s x y n n ir is (within a r s (virt_meet x y) l (virt_common x y at hx hy)))
+      | inr (inr l) ↦ absurd (h a a cell cell s r y x n n is ir (within a s r (virt_meet y x) l (virt_common y x at hy hx)))
     ]
 
-pub addresses-to : (system : SystemConfig) (cells : List CellConfig) → AddressesAreSingle system cells → PairsHold VirtOverlap (system.root ∷ cells)
+pub addresses_to : (system : SystemConfig) (cells : List CellConfig) → AddressesAreSingle system cells → PairsHold VirtOverlap (system.root ∷ cells)
 unfolding pair_breaks
-addresses-to system cells h a b one other r s x y na nb ir is t =
-    let p = within-parts (spot a one r x) (spot b other s y) (virt_meet x y) t in
-    let same : one ≡ other = same-item (system.root ∷ cells) a b one other (eqb-true a b p.0) na nb in
+addresses_to system cells h a b one other r s x y na nb ir is t =
+    let p = within_parts (spot a one r x) (spot b other s y) (virt_meet x y) t in
+    let same : one ≡ other = same_item (system.root ∷ cells) a b one other (eqb-true a b p.0) na nb in
     let iy : slice_get one.memory_regions s ≡ Some y = subst (λ (c : CellConfig). slice_get c.memory_regions s ≡ Some y) (sym same) is in
-    let m = common-virt x y p.2 in
+    let m = common_virt x y p.2 in
     let k : r ≡ s = h a one na r s x y ir iy m.0 m.1 m.2 in
     let l : r < s = ltb-true r s p.1 in
     omega arith
@@ -164,55 +164,55 @@ addresses-to system cells h a b one other r s x y na nb ir is t =
 pub shared : (x y : Region) → is_comm x ≡ false → is_comm y ≡ false → phys_meet x y ≡ true → share_places x y ≡ true
 shared x y cx cy t = and_from (not (is_comm x)) (not (is_comm y) && phys_meet x y) (not_from_false (is_comm x) cx) (and_from (not (is_comm y)) (phys_meet x y) (not_from_false (is_comm y) cy) t)
 
-pub places-from : (system : SystemConfig) (cells : List CellConfig) → PairsHold PhysOverlap (system.root ∷ cells) → PlacesAreSingle system cells
+pub places_from : (system : SystemConfig) (cells : List CellConfig) → PairsHold PhysOverlap (system.root ∷ cells) → PlacesAreSingle system cells
 unfolding pair_breaks
-places-from system cells h a cell n r s x y ir is cx cy at hx hy =
+places_from system cells h a cell n r s x y ir is cx cy at hx hy =
     elim (cases_order r s) [
       | inl same ↦ same
-      | inr (inl l) ↦ absurd (h a a cell cell r s x y n n ir is (within a r s (share_places x y) l (shared x y cx cy (phys-common x y at hx hy))))
-      | inr (inr l) ↦ absurd (h a a cell cell s r y x n n is ir (within a s r (share_places y x) l (shared y x cy cx (phys-common y x at hy hx))))
+      | inr (inl l) ↦ absurd (h a a cell cell r s x y n n ir is (within a r s (share_places x y) l (shared x y cx cy (phys_common x y at hx hy))))
+      | inr (inr l) ↦ absurd (h a a cell cell s r y x n n is ir (within a s r (share_places y x) l (shared y x cy cx (phys_common y x at hy hx))))
     ]
 
-pub places-to : (system : SystemConfig) (cells : List CellConfig) → PlacesAreSingle system cells → PairsHold PhysOverlap (system.root ∷ cells)
+pub places_to : (system : SystemConfig) (cells : List CellConfig) → PlacesAreSingle system cells → PairsHold PhysOverlap (system.root ∷ cells)
 unfolding pair_breaks
-places-to system cells h a b one other r s x y na nb ir is t =
-    let p = within-parts (spot a one r x) (spot b other s y) (share_places x y) t in
-    let same : one ≡ other = same-item (system.root ∷ cells) a b one other (eqb-true a b p.0) na nb in
+places_to system cells h a b one other r s x y na nb ir is t =
+    let p = within_parts (spot a one r x) (spot b other s y) (share_places x y) t in
+    let same : one ≡ other = same_item (system.root ∷ cells) a b one other (eqb-true a b p.0) na nb in
     let iy : slice_get one.memory_regions s ≡ Some y = subst (λ (c : CellConfig). slice_get c.memory_regions s ≡ Some y) (sym same) is in
-    let q = share-parts x y p.2 in
-    let m = common-phys x y q.2 in
+    let q = share_parts x y p.2 in
+    let m = common_phys x y q.2 in
     let k : r ≡ s = h a one na r s x y ir iy (not-true (is_comm x) q.0) (not-true (is_comm y) q.1) m.0 m.1 m.2 in
     let l : r < s = ltb-true r s p.1 in
     omega arith
 
 -- ---- the hypervisor's memory
 
-pub hypervisor-from : (system : SystemConfig) (cells : List CellConfig) → RegionsHold Hypervisor system.hypervisor_memory (system.root ∷ cells) → HypervisorIsAlone system cells
+pub hypervisor_from : (system : SystemConfig) (cells : List CellConfig) → RegionsHold Hypervisor system.hypervisor_memory (system.root ∷ cells) → HypervisorIsAlone system cells
 unfolding region_breaks
-hypervisor-from system cells k a cell n r x i comm place hx hh =
+hypervisor_from system cells k a cell n r x i comm place hx hh =
     let h = system.hypervisor_memory in
-    k a cell r x n i (and_from (has_size x) (not (is_comm x) && phys_meet x h) (place-size x place hx) (and_from (not (is_comm x)) (phys_meet x h) (not_from_false (is_comm x) comm) (phys-common x h place hx hh)))
+    k a cell r x n i (and_from (has_size x) (not (is_comm x) && phys_meet x h) (place_size x place hx) (and_from (not (is_comm x)) (phys_meet x h) (not_from_false (is_comm x) comm) (phys_common x h place hx hh)))
 
-pub hypervisor-to : (system : SystemConfig) (cells : List CellConfig) → HypervisorIsAlone system cells → RegionsHold Hypervisor system.hypervisor_memory (system.root ∷ cells)
-hypervisor-to system cells k a cell r x n i t =
+pub hypervisor_to : (system : SystemConfig) (cells : List CellConfig) → HypervisorIsAlone system cells → RegionsHold Hypervisor system.hypervisor_memory (system.root ∷ cells)
+hypervisor_to system cells k a cell r x n i t =
     let h = system.hypervisor_memory in
     let p = parts Hypervisor h a (take r cell.memory_regions) x t in
     let q = and_parts (not (is_comm x)) (phys_meet x h) p.1 in
-    let m = common-phys x h q.1 in
+    let m = common_phys x h q.1 in
     k a cell n r x i (not-true (is_comm x) q.0) m.0 m.1 m.2
 
-pub memory-from : (h : Region) → (hypervisor_breaks OutOfRange h ≡ true → ⊥) → (hypervisor_breaks PhysAlign h ≡ true → ⊥) → IsSoundMemory h
+pub memory_from : (h : Region) → (hypervisor_breaks OutOfRange h ≡ true → ⊥) → (hypervisor_breaks PhysAlign h ≡ true → ⊥) → IsSoundMemory h
 unfolding hypervisor_breaks
-memory-from h range align =
+memory_from h range align =
     let far = nat_lt ADDRESS_END (phys_end h) in
     let big = nat_lt 0x4000000 h.size in
-    let p = or_parts (h.size == 0) (big || far) (false-from_not ((h.size == 0) || (big || far)) range) in
+    let p = or_parts (h.size == 0) (big || far) (false_from_not ((h.size == 0) || (big || far)) range) in
     let q = or_parts big far p.1 in
     let some : 0 < h.size = positive h.size (not_from_false (h.size == 0) p.0) in
     let few : h.size ≤ 0x4000000 = ltb-false 0x4000000 h.size q.0 in
     let one = not (h.phys_start % PAGE_SIZE == 0) in
     let two = not (h.size % PAGE_SIZE == 0) in
-    let u = or_parts one two (and-rest (has_size h) (one || two) align (lt-ltb 0 h.size some)) in
+    let u = or_parts one two (and_rest (has_size h) (one || two) align (lt-ltb 0 h.size some)) in
     record {
       some = some;
       few = few;
@@ -221,9 +221,9 @@ memory-from h range align =
       whole = eqb-true (h.size % PAGE_SIZE) 0 (not-false (h.size % PAGE_SIZE == 0) u.1);
     }
 
-pub memory-range : (h : Region) → IsSoundMemory h → hypervisor_breaks OutOfRange h ≡ true → ⊥
+pub memory_range : (h : Region) → IsSoundMemory h → hypervisor_breaks OutOfRange h ≡ true → ⊥
 unfolding hypervisor_breaks
-memory-range h m t =
+memory_range h m t =
     let far = nat_lt ADDRESS_END (phys_end h) in
     let big = nat_lt 0x4000000 h.size in
     let some : 0 < h.size = m.some in
@@ -233,103 +233,103 @@ memory-range h m t =
       | inl e ↦ let z = eqb-true h.size 0 e in omega arith
       | inr k ↦ elim (or_cases big far k) [
         | inl e ↦ let z = ltb-true 0x4000000 h.size e in omega arith
-        | inr e ↦ not-both far e (le-ltb ADDRESS_END (phys_end h) near)
+        | inr e ↦ not_both far e (le-ltb ADDRESS_END (phys_end h) near)
       ]
     ]
 
-pub memory-align : (h : Region) → IsSoundMemory h → hypervisor_breaks PhysAlign h ≡ true → ⊥
+pub memory_align : (h : Region) → IsSoundMemory h → hypervisor_breaks PhysAlign h ≡ true → ⊥
 unfolding hypervisor_breaks
-memory-align h m t =
+memory_align h m t =
     let one = h.phys_start % PAGE_SIZE == 0 in
     let two = h.size % PAGE_SIZE == 0 in
     let p = and_parts (has_size h) (not one || not two) t in
     elim (or_cases (not one) (not two) p.1) [
-      | inl e ↦ not-both one (eq-eqb (h.phys_start % PAGE_SIZE) 0 m.aligned) (not-true one e)
-      | inr e ↦ not-both two (eq-eqb (h.size % PAGE_SIZE) 0 m.whole) (not-true two e)
+      | inl e ↦ not_both one (eq-eqb (h.phys_start % PAGE_SIZE) 0 m.aligned) (not-true one e)
+      | inr e ↦ not_both two (eq-eqb (h.size % PAGE_SIZE) 0 m.whole) (not-true two e)
     ]
 
 -- ---- one region
 
-pub within-from : (system : SystemConfig) (cells : List CellConfig) → RegionsHold OutOfRange system.hypervisor_memory (system.root ∷ cells) → EachRegion system cells IsInRange
-within-from system cells k a cell n r x i some =
+pub within_from : (system : SystemConfig) (cells : List CellConfig) → RegionsHold OutOfRange system.hypervisor_memory (system.root ∷ cells) → EachRegion system cells IsInRange
+within_from system cells k a cell n r x i some =
     let f = alone OutOfRange system.hypervisor_memory (system.root ∷ cells) k a cell r x n i some in
     let far = nat_lt ADDRESS_END (phys_end x) in
     let p = or_parts (nat_lt ADDRESS_END (virt_end x)) (not (is_comm x) && far) f in
     record {
       virt = ltb-false ADDRESS_END (virt_end x) p.0;
-      phys = λ c. ltb-false ADDRESS_END (phys_end x) (and-rest (not (is_comm x)) far (λ t. not-both (not (is_comm x) && far) t p.1) (not_from_false (is_comm x) c));
+      phys = λ c. ltb-false ADDRESS_END (phys_end x) (and_rest (not (is_comm x)) far (λ t. not_both (not (is_comm x) && far) t p.1) (not_from_false (is_comm x) c));
     }
 
-pub within-to : (system : SystemConfig) (cells : List CellConfig) → EachRegion system cells IsInRange → RegionsHold OutOfRange system.hypervisor_memory (system.root ∷ cells)
-within-to system cells k a cell r x n i t =
+pub within_to : (system : SystemConfig) (cells : List CellConfig) → EachRegion system cells IsInRange → RegionsHold OutOfRange system.hypervisor_memory (system.root ∷ cells)
+within_to system cells k a cell r x n i t =
     let p = parts OutOfRange system.hypervisor_memory a (take r cell.memory_regions) x t in
     let w = k a cell n r x i p.0 in
     let near = nat_lt ADDRESS_END (virt_end x) in
     let far = nat_lt ADDRESS_END (phys_end x) in
     elim (or_cases near (not (is_comm x) && far) p.1) [
-      | inl e ↦ not-both near e (le-ltb ADDRESS_END (virt_end x) w.virt)
+      | inl e ↦ not_both near e (le-ltb ADDRESS_END (virt_end x) w.virt)
       | inr e ↦
           let q = and_parts (not (is_comm x)) far e in
-          not-both far q.1 (le-ltb ADDRESS_END (phys_end x) (w.phys (not-true (is_comm x) q.0)))
+          not_both far q.1 (le-ltb ADDRESS_END (phys_end x) (w.phys (not-true (is_comm x) q.0)))
     ]
 
-pub readable-from : (system : SystemConfig) (cells : List CellConfig) → RegionsHold ExecuteWithoutRead system.hypervisor_memory (system.root ∷ cells) → EachRegion system cells IsReadable
-readable-from system cells k a cell n r x i some e =
+pub readable_from : (system : SystemConfig) (cells : List CellConfig) → RegionsHold ExecuteWithoutRead system.hypervisor_memory (system.root ∷ cells) → EachRegion system cells IsReadable
+readable_from system cells k a cell n r x i some e =
     let f = alone ExecuteWithoutRead system.hypervisor_memory (system.root ∷ cells) k a cell r x n i some in
-    not-false (has_flags 0x1 x) (and-rest (has_flags 0x4 x) (not (has_flags 0x1 x)) (λ t. not-both (has_flags 0x4 x && not (has_flags 0x1 x)) t f) e)
+    not-false (has_flags 0x1 x) (and_rest (has_flags 0x4 x) (not (has_flags 0x1 x)) (λ t. not_both (has_flags 0x4 x && not (has_flags 0x1 x)) t f) e)
 
-pub readable-to : (system : SystemConfig) (cells : List CellConfig) → EachRegion system cells IsReadable → RegionsHold ExecuteWithoutRead system.hypervisor_memory (system.root ∷ cells)
-readable-to system cells k a cell r x n i t =
+pub readable_to : (system : SystemConfig) (cells : List CellConfig) → EachRegion system cells IsReadable → RegionsHold ExecuteWithoutRead system.hypervisor_memory (system.root ∷ cells)
+readable_to system cells k a cell r x n i t =
     let p = parts ExecuteWithoutRead system.hypervisor_memory a (take r cell.memory_regions) x t in
     let q = and_parts (has_flags 0x4 x) (not (has_flags 0x1 x)) p.1 in
-    not-both (has_flags 0x1 x) (k a cell n r x i p.0 q.0) (not-true (has_flags 0x1 x) q.1)
+    not_both (has_flags 0x1 x) (k a cell n r x i p.0 q.0) (not-true (has_flags 0x1 x) q.1)
 
-pub aligned-from : (system : SystemConfig) (cells : List CellConfig) → RegionsHold PhysAlign system.hypervisor_memory (system.root ∷ cells) → EachRegion system cells IsAligned
-aligned-from system cells k a cell n r x i some mapped comm =
+pub aligned_from : (system : SystemConfig) (cells : List CellConfig) → RegionsHold PhysAlign system.hypervisor_memory (system.root ∷ cells) → EachRegion system cells IsAligned
+aligned_from system cells k a cell n r x i some mapped comm =
     let f = alone PhysAlign system.hypervisor_memory (system.root ∷ cells) k a cell r x n i some in
     let even = x.phys_start % PAGE_SIZE == 0 in
     let rest = not (is_comm x) && not even in
-    let g = and-rest (is_page_mapped x) rest (λ t. not-both (is_page_mapped x && rest) t f) mapped in
-    let l = and-rest (not (is_comm x)) (not even) (λ t. not-both rest t g) (not_from_false (is_comm x) comm) in
+    let g = and_rest (is_page_mapped x) rest (λ t. not_both (is_page_mapped x && rest) t f) mapped in
+    let l = and_rest (not (is_comm x)) (not even) (λ t. not_both rest t g) (not_from_false (is_comm x) comm) in
     eqb-true (x.phys_start % PAGE_SIZE) 0 (not-false even l)
 
-pub aligned-to : (system : SystemConfig) (cells : List CellConfig) → EachRegion system cells IsAligned → RegionsHold PhysAlign system.hypervisor_memory (system.root ∷ cells)
-aligned-to system cells k a cell r x n i t =
+pub aligned_to : (system : SystemConfig) (cells : List CellConfig) → EachRegion system cells IsAligned → RegionsHold PhysAlign system.hypervisor_memory (system.root ∷ cells)
+aligned_to system cells k a cell r x n i t =
     let p = parts PhysAlign system.hypervisor_memory a (take r cell.memory_regions) x t in
     let even = x.phys_start % PAGE_SIZE == 0 in
     let q = and_parts (is_page_mapped x) (not (is_comm x) && not even) p.1 in
     let u = and_parts (not (is_comm x)) (not even) q.1 in
-    not-both even (eq-eqb (x.phys_start % PAGE_SIZE) 0 (k a cell n r x i p.0 q.0 (not-true (is_comm x) u.0))) (not-true even u.1)
+    not_both even (eq-eqb (x.phys_start % PAGE_SIZE) 0 (k a cell n r x i p.0 q.0 (not-true (is_comm x) u.0))) (not-true even u.1)
 
 -- ---- root
 
 -- the cell of the number 0 is root
-root-of : (system : SystemConfig) (cells : List CellConfig) (a : ℕ) (cell : CellConfig) → a ≡ 0 → slice_get (system.root ∷ cells) a ≡ Some cell → system.root ≡ cell
-root-of system cells a cell e n = same-item (system.root ∷ cells) 0 a system.root cell (sym e) refl n
+root_of : (system : SystemConfig) (cells : List CellConfig) (a : ℕ) (cell : CellConfig) → a ≡ 0 → slice_get (system.root ∷ cells) a ≡ Some cell → system.root ≡ cell
+root_of system cells a cell e n = same_item (system.root ∷ cells) 0 a system.root cell (sym e) refl n
 
-pub identity-from : (system : SystemConfig) (cells : List CellConfig) → RegionsHold RootNotIdentity system.hypervisor_memory (system.root ∷ cells) → RootIsIdentity system
-identity-from system cells k r x i some =
+pub identity_from : (system : SystemConfig) (cells : List CellConfig) → RegionsHold RootNotIdentity system.hypervisor_memory (system.root ∷ cells) → RootIsIdentity system
+identity_from system cells k r x i some =
     let f = alone RootNotIdentity system.hypervisor_memory (system.root ∷ cells) k 0 system.root r x refl i some in
     eqb-true x.phys_start x.virt_start (not-false (x.phys_start == x.virt_start) f)
 
-pub identity-to : (system : SystemConfig) (cells : List CellConfig) → RootIsIdentity system → RegionsHold RootNotIdentity system.hypervisor_memory (system.root ∷ cells)
-identity-to system cells k a cell r x n i t =
+pub identity_to : (system : SystemConfig) (cells : List CellConfig) → RootIsIdentity system → RegionsHold RootNotIdentity system.hypervisor_memory (system.root ∷ cells)
+identity_to system cells k a cell r x n i t =
     let p = parts RootNotIdentity system.hypervisor_memory a (take r cell.memory_regions) x t in
     let q = and_parts (a == 0) (not (x.phys_start == x.virt_start)) p.1 in
-    let e = root-of system cells a cell (eqb-true a 0 q.0) n in
+    let e = root_of system cells a cell (eqb-true a 0 q.0) n in
     let i' : IsItem system.root r x = subst (λ (c : CellConfig). IsItem c r x) (sym e) i in
-    not-both (x.phys_start == x.virt_start) (eq-eqb x.phys_start x.virt_start (k r x i' p.0)) (not-true (x.phys_start == x.virt_start) q.1)
+    not_both (x.phys_start == x.virt_start) (eq-eqb x.phys_start x.virt_start (k r x i' p.0)) (not-true (x.phys_start == x.virt_start) q.1)
 
-pub no_comm-from : (system : SystemConfig) (cells : List CellConfig) → RegionsHold CommInRoot system.hypervisor_memory (system.root ∷ cells) → RootHasNoComm system
-no_comm-from system cells k r x i some = alone CommInRoot system.hypervisor_memory (system.root ∷ cells) k 0 system.root r x refl i some
+pub no_comm_from : (system : SystemConfig) (cells : List CellConfig) → RegionsHold CommInRoot system.hypervisor_memory (system.root ∷ cells) → RootHasNoComm system
+no_comm_from system cells k r x i some = alone CommInRoot system.hypervisor_memory (system.root ∷ cells) k 0 system.root r x refl i some
 
-pub no_comm-to : (system : SystemConfig) (cells : List CellConfig) → RootHasNoComm system → RegionsHold CommInRoot system.hypervisor_memory (system.root ∷ cells)
-no_comm-to system cells k a cell r x n i t =
+pub no_comm_to : (system : SystemConfig) (cells : List CellConfig) → RootHasNoComm system → RegionsHold CommInRoot system.hypervisor_memory (system.root ∷ cells)
+no_comm_to system cells k a cell r x n i t =
     let p = parts CommInRoot system.hypervisor_memory a (take r cell.memory_regions) x t in
     let q = and_parts (a == 0) (is_comm x) p.1 in
-    let e = root-of system cells a cell (eqb-true a 0 q.0) n in
+    let e = root_of system cells a cell (eqb-true a 0 q.0) n in
     let i' : IsItem system.root r x = subst (λ (c : CellConfig). IsItem c r x) (sym e) i in
-    not-both (is_comm x) q.1 (k r x i' p.0)
+    not_both (is_comm x) q.1 (k r x i' p.0)
 
 -- ---- communication regions
 
@@ -338,11 +338,11 @@ shaped : (system : SystemConfig) (cells : List CellConfig) → RegionsHold CommS
 shaped system cells k a cell above n r x i some comm =
     let f = alone CommShape system.hypervisor_memory (system.root ∷ cells) k a cell r x n i some in
     let bad = is_misshapen (take r cell.memory_regions) x in
-    let g = and-rest (not (a == 0)) (is_comm x && bad) (λ t. not-both (not (a == 0) && (is_comm x && bad)) t f) (not-zero a above) in
-    and-rest (is_comm x) bad (λ t. not-both (is_comm x && bad) t g) comm
+    let g = and_rest (not (a == 0)) (is_comm x && bad) (λ t. not_both (not (a == 0) && (is_comm x && bad)) t f) (not_zero a above) in
+    and_rest (is_comm x) bad (λ t. not_both (is_comm x && bad) t g) comm
 
-misshapen-parts : (earlier : List Region) (x : Region) → is_misshapen earlier x ≡ false → (x.size ≡ PAGE_SIZE) × (x.virt_start % PAGE_SIZE ≡ 0) × (list_any is_counted_comm earlier ≡ false)
-misshapen-parts earlier x f =
+misshapen_parts : (earlier : List Region) (x : Region) → is_misshapen earlier x ≡ false → (x.size ≡ PAGE_SIZE) × (x.virt_start % PAGE_SIZE ≡ 0) × (list_any is_counted_comm earlier ≡ false)
+misshapen_parts earlier x f =
     let whole = x.size == PAGE_SIZE in
     let even = x.virt_start % PAGE_SIZE == 0 in
     let p = or_parts (not whole) (not even || list_any is_counted_comm earlier) f in
@@ -350,27 +350,27 @@ misshapen-parts earlier x f =
     (eqb-true x.size PAGE_SIZE (not-false whole p.0), eqb-true (x.virt_start % PAGE_SIZE) 0 (not-false even q.0), q.1)
 
 -- an earlier communication region
-earlier-comm : (cell : CellConfig) (r s : ℕ) (y : Region) → s < r → IsItem cell s y → 0 < y.size → is_comm y ≡ true → list_any is_counted_comm (take r cell.memory_regions) ≡ true
-earlier-comm cell r s y l i some comm =
-    any-at is_counted_comm (take r cell.memory_regions) s y (take-get r cell.memory_regions s y l i) (and_from (has_size y) (is_comm y) (lt-ltb 0 y.size some) comm)
+earlier_comm : (cell : CellConfig) (r s : ℕ) (y : Region) → s < r → IsItem cell s y → 0 < y.size → is_comm y ≡ true → list_any is_counted_comm (take r cell.memory_regions) ≡ true
+earlier_comm cell r s y l i some comm =
+    any_at is_counted_comm (take r cell.memory_regions) s y (take_get r cell.memory_regions s y l i) (and_from (has_size y) (is_comm y) (lt-ltb 0 y.size some) comm)
 
-pub comms-from : (system : SystemConfig) (cells : List CellConfig) → RegionsHold CommShape system.hypervisor_memory (system.root ∷ cells) → CommsArePages system cells
-comms-from system cells k a cell above n r x i some comm =
-    let p = misshapen-parts (take r cell.memory_regions) x (shaped system cells k a cell above n r x i some comm) in
+pub comms_from : (system : SystemConfig) (cells : List CellConfig) → RegionsHold CommShape system.hypervisor_memory (system.root ∷ cells) → CommsArePages system cells
+comms_from system cells k a cell above n r x i some comm =
+    let p = misshapen_parts (take r cell.memory_regions) x (shaped system cells k a cell above n r x i some comm) in
     record {
       size = p.0;
       aligned = p.1;
       only = λ s y j some' comm'. elim (cases_order s r) [
         | inl same ↦ same
-        | inr (inl l) ↦ absurd (not-both (list_any is_counted_comm (take r cell.memory_regions)) (earlier-comm cell r s y l j some' comm') p.2)
+        | inr (inl l) ↦ absurd (not_both (list_any is_counted_comm (take r cell.memory_regions)) (earlier_comm cell r s y l j some' comm') p.2)
         | inr (inr l) ↦
-            let q = misshapen-parts (take s cell.memory_regions) y (shaped system cells k a cell above n s y j some' comm') in
-            absurd (not-both (list_any is_counted_comm (take s cell.memory_regions)) (earlier-comm cell s r x l i some comm) q.2)
+            let q = misshapen_parts (take s cell.memory_regions) y (shaped system cells k a cell above n s y j some' comm') in
+            absurd (not_both (list_any is_counted_comm (take s cell.memory_regions)) (earlier_comm cell s r x l i some comm) q.2)
       ];
     }
 
-pub comms-to : (system : SystemConfig) (cells : List CellConfig) → CommsArePages system cells → RegionsHold CommShape system.hypervisor_memory (system.root ∷ cells)
-comms-to system cells k a cell r x n i t =
+pub comms_to : (system : SystemConfig) (cells : List CellConfig) → CommsArePages system cells → RegionsHold CommShape system.hypervisor_memory (system.root ∷ cells)
+comms_to system cells k a cell r x n i t =
     let earlier = take r cell.memory_regions in
     let p = parts CommShape system.hypervisor_memory a earlier x t in
     let q = and_parts (not (a == 0)) (is_comm x && is_misshapen earlier x) p.1 in
@@ -379,12 +379,12 @@ comms-to system cells k a cell r x n i t =
     let whole = x.size == PAGE_SIZE in
     let even = x.virt_start % PAGE_SIZE == 0 in
     elim (or_cases (not whole) (not even || list_any is_counted_comm earlier) u.1) [
-      | inl e ↦ not-both whole (eq-eqb x.size PAGE_SIZE page.size) (not-true whole e)
+      | inl e ↦ not_both whole (eq-eqb x.size PAGE_SIZE page.size) (not-true whole e)
       | inr e ↦ elim (or_cases (not even) (list_any is_counted_comm earlier) e) [
-        | inl f ↦ not-both even (eq-eqb (x.virt_start % PAGE_SIZE) 0 page.aligned) (not-true even f)
+        | inl f ↦ not_both even (eq-eqb (x.virt_start % PAGE_SIZE) 0 page.aligned) (not-true even f)
         | inr f ↦
-            let w = any-of is_counted_comm earlier f in
-            let g = get-take r cell.memory_regions w.0 w.1 w.2 in
+            let w = any_of is_counted_comm earlier f in
+            let g = get_take r cell.memory_regions w.0 w.1 w.2 in
             let c = and_parts (has_size w.1) (is_comm w.1) w.3 in
             let same : w.0 ≡ r = page.only w.0 w.1 g.1 (ltb-true 0 w.1.size c.0) c.1 in
             let less : w.0 < r = g.0 in
@@ -394,47 +394,47 @@ comms-to system cells k a cell r x n i t =
 
 -- ---- root's pages
 
-pub pages-from : (system : SystemConfig) (cells : List CellConfig) → PairsHold SubpageTaken (system.root ∷ cells) → RootKeepsItsPages system cells
+pub pages_from : (system : SystemConfig) (cells : List CellConfig) → PairsHold SubpageTaken (system.root ∷ cells) → RootKeepsItsPages system cells
 unfolding pair_breaks
-pages-from system cells h a cell above n r s x y ir is own sub mapped place hx hy =
+pages_from system cells h a cell above n r s x y ir is own sub mapped place hx hy =
     let last = is_page_mapped y && phys_meet x y in
     let takes : takes_pages x y ≡ true =
     and_from (is_unshared x) (not (is_page_mapped x) && last) own (
     and_from (not (is_page_mapped x)) last (not_from_false (is_page_mapped x) sub) (
-    and_from (is_page_mapped y) (phys_meet x y) mapped (phys-common x y place hx hy))) in
-    h a 0 cell system.root r s x y n refl ir is (and_from (not (a == 0)) ((0 == 0) && takes_pages x y) (not-zero a above) takes)
+    and_from (is_page_mapped y) (phys_meet x y) mapped (phys_common x y place hx hy))) in
+    h a 0 cell system.root r s x y n refl ir is (and_from (not (a == 0)) ((0 == 0) && takes_pages x y) (not_zero a above) takes)
 
-pub pages-to : (system : SystemConfig) (cells : List CellConfig) → RootKeepsItsPages system cells → PairsHold SubpageTaken (system.root ∷ cells)
+pub pages_to : (system : SystemConfig) (cells : List CellConfig) → RootKeepsItsPages system cells → PairsHold SubpageTaken (system.root ∷ cells)
 unfolding pair_breaks
-pages-to system cells h a b one other r s x y na nb ir is t =
+pages_to system cells h a b one other r s x y na nb ir is t =
     let p = and_parts (not (a == 0)) ((b == 0) && takes_pages x y) t in
     let q = and_parts (b == 0) (takes_pages x y) p.1 in
     let last = is_page_mapped y && phys_meet x y in
     let u = and_parts (is_unshared x) (not (is_page_mapped x) && last) q.1 in
     let v = and_parts (not (is_page_mapped x)) last u.1 in
     let w = and_parts (is_page_mapped y) (phys_meet x y) v.1 in
-    let e = root-of system cells b other (eqb-true b 0 q.0) nb in
+    let e = root_of system cells b other (eqb-true b 0 q.0) nb in
     let iy : IsItem system.root s y = subst (λ (c : CellConfig). IsItem c s y) (sym e) is in
-    let m = common-phys x y w.1 in
+    let m = common_phys x y w.1 in
     h a one (positive a p.0) na r s x y ir iy u.0 (not-true (is_page_mapped x) v.0) w.0 m.0 m.1 m.2
 
 -- ---- cells together
 
 -- a section, by its offset
-section-at : (item start count : ℕ) → (nat_le start item && nat_lt (item - start) count) ≡ true → (item ≡ start + (item - start)) × ((item - start) < count)
-section-at item start count t =
+section_at : (item start count : ℕ) → (nat_le start item && nat_lt (item - start) count) ≡ true → (item ≡ start + (item - start)) × ((item - start) < count)
+section_at item start count t =
     let p = and_parts (nat_le start item) (nat_lt (item - start) count) t in
     let le = leb-true start item p.0 in
     (omega arith, ltb-true (item - start) count p.1)
 
-pub at-section : (item start count k : ℕ) → item ≡ start + k → k < count → (nat_le start item && nat_lt (item - start) count) ≡ true
-at-section item start count k e l = and_from (nat_le start item) (nat_lt (item - start) count) (le-leb start item (omega arith)) (lt-ltb (item - start) count (omega arith))
+pub at_section : (item start count k : ℕ) → item ≡ start + k → k < count → (nat_le start item && nat_lt (item - start) count) ≡ true
+at_section item start count k e l = and_from (nat_le start item) (nat_lt (item - start) count) (le-leb start item (omega arith)) (lt-ltb (item - start) count (omega arith))
 
-pub same-section-from : (one : CellConfig) (r : ℕ) (other : CellConfig) (s : ℕ) → are_same_section one r other s ≡ true → IsSameSection one r other s
+pub same_section_from : (one : CellConfig) (r : ℕ) (other : CellConfig) (s : ℕ) → are_same_section one r other s ≡ true → IsSameSection one r other s
 unfolding are_same_section
-same-section-from one r other s t =
-    let d = any-of (λ (d : PciDevice). list_any (λ (e : PciDevice). are_sections_of r s d e) other.pci_devices) one.pci_devices t in
-    let e = any-of (λ (e : PciDevice). are_sections_of r s d.1 e) other.pci_devices d.3 in
+same_section_from one r other s t =
+    let d = any_of (λ (d : PciDevice). list_any (λ (e : PciDevice). are_sections_of r s d e) other.pci_devices) one.pci_devices t in
+    let e = any_of (λ (e : PciDevice). are_sections_of r s d.1 e) other.pci_devices d.3 in
     let one_start = d.1.shmem_regions_start in
     let other_start = e.1.shmem_regions_start in
     let same = (r - one_start) == (s - other_start) in
@@ -443,8 +443,8 @@ same-section-from one r other s t =
     let u = and_parts (is_section e.1 s) same q.1 in
     let l = and_parts (d.1.kind == 3) ((e.1.kind == 3) && (d.1.bdf == e.1.bdf)) p.0 in
     let m = and_parts (e.1.kind == 3) (d.1.bdf == e.1.bdf) l.1 in
-    let x = section-at r one_start (section_count d.1) q.0 in
-    let y = section-at s other_start (section_count e.1) u.0 in
+    let x = section_at r one_start (section_count d.1) q.0 in
+    let y = section_at s other_start (section_count e.1) u.0 in
     let offset : r - one_start ≡ s - other_start = eqb-true (r - one_start) (s - other_start) u.1 in
     record {
       device_number = d.0;
@@ -461,9 +461,9 @@ same-section-from one r other s t =
       other_item = subst (λ k. s ≡ other_start + k) (sym offset) y.0;
     }
 
-pub same-section-to : (one : CellConfig) (r : ℕ) (other : CellConfig) (s : ℕ) → IsSameSection one r other s → are_same_section one r other s ≡ true
+pub same_section_to : (one : CellConfig) (r : ℕ) (other : CellConfig) (s : ℕ) → IsSameSection one r other s → are_same_section one r other s ≡ true
 unfolding are_same_section
-same-section-to one r other s h =
+same_section_to one r other s h =
     let d = h.device in
     let e = h.other_device in
     let same = (r - d.shmem_regions_start) == (s - e.shmem_regions_start) in
@@ -475,27 +475,27 @@ same-section-to one r other s h =
     and_from (e.kind == 3) (d.bdf == e.bdf) (eq-eqb e.kind 3 h.linked.other_kind) (eq-eqb d.bdf e.bdf h.linked.place)) in
     let both : are_sections_of r s d e ≡ true =
     and_from (are_linked d e) (is_section d r && (is_section e s && same)) linked (
-    and_from (is_section d r) (is_section e s && same) (at-section r d.shmem_regions_start (section_count d) h.section h.item h.within) (
-    and_from (is_section e s) same (at-section s e.shmem_regions_start (section_count e) h.section h.other_item h.other_within) (eq-eqb (r - d.shmem_regions_start) (s - e.shmem_regions_start) offset))) in
-    any-at (λ (d : PciDevice). list_any (λ (e : PciDevice). are_sections_of r s d e) other.pci_devices) one.pci_devices h.device_number d h.is_device (
-    any-at (λ (e : PciDevice). are_sections_of r s d e) other.pci_devices h.other_number e h.is_other both)
+    and_from (is_section d r) (is_section e s && same) (at_section r d.shmem_regions_start (section_count d) h.section h.item h.within) (
+    and_from (is_section e s) same (at_section s e.shmem_regions_start (section_count e) h.section h.other_item h.other_within) (eq-eqb (r - d.shmem_regions_start) (s - e.shmem_regions_start) offset))) in
+    any_at (λ (d : PciDevice). list_any (λ (e : PciDevice). are_sections_of r s d e) other.pci_devices) one.pci_devices h.device_number d h.is_device (
+    any_at (λ (e : PciDevice). are_sections_of r s d e) other.pci_devices h.other_number e h.is_other both)
 
-pub together-from : (system : SystemConfig) (cells : List CellConfig) → PairsHold CellsOverlap (system.root ∷ cells) → CellsShareAsTheySay system cells
+pub together_from : (system : SystemConfig) (cells : List CellConfig) → PairsHold CellsOverlap (system.root ∷ cells) → CellsShareAsTheySay system cells
 unfolding pair_breaks
-together-from system cells h a b one other above below na nb r s x y ir is cx cy place hx hy own =
+together_from system cells h a b one other above below na nb r s x y ir is cx cy place hx hy own =
     let section = are_same_section one r other s in
-    same-section-from one r other s (true-from_not section (λ f.
+    same_section_from one r other s (true_from_not section (λ f.
     let last = not (both_shared x y) && not section in
     let rest = share_places x y && last in
     h a b one other r s x y na nb ir is (
     and_from (nat_lt 0 a) (nat_lt a b && rest) (lt-ltb 0 a above) (
     and_from (nat_lt a b) rest (lt-ltb a b below) (
-    and_from (share_places x y) last (shared x y cx cy (phys-common x y place hx hy)) (
+    and_from (share_places x y) last (shared x y cx cy (phys_common x y place hx hy)) (
     and_from (not (both_shared x y)) (not section) (not_from_false (both_shared x y) own) (not_from_false section f)))))))
 
-pub together-to : (system : SystemConfig) (cells : List CellConfig) → CellsShareAsTheySay system cells → PairsHold CellsOverlap (system.root ∷ cells)
+pub together_to : (system : SystemConfig) (cells : List CellConfig) → CellsShareAsTheySay system cells → PairsHold CellsOverlap (system.root ∷ cells)
 unfolding pair_breaks
-together-to system cells h a b one other r s x y na nb ir is t =
+together_to system cells h a b one other r s x y na nb ir is t =
     let section = are_same_section one r other s in
     let last = not (both_shared x y) && not section in
     let rest = share_places x y && last in
@@ -503,7 +503,7 @@ together-to system cells h a b one other r s x y na nb ir is t =
     let q = and_parts (nat_lt a b) rest p.1 in
     let u = and_parts (share_places x y) last q.1 in
     let v = and_parts (not (both_shared x y)) (not section) u.1 in
-    let w = share-parts x y u.0 in
-    let m = common-phys x y w.2 in
+    let w = share_parts x y u.0 in
+    let m = common_phys x y w.2 in
     let same = h a b one other (ltb-true 0 a p.0) (ltb-true a b q.0) na nb r s x y ir is (not-true (is_comm x) w.0) (not-true (is_comm y) w.1) m.0 m.1 m.2 (not-true (both_shared x y) v.0) in
-    not-both section (same-section-to one r other s same) (not-true section v.1)
+    not_both section (same_section_to one r other s same) (not-true section v.1)

@@ -1,5 +1,5 @@
 -- How far spans reach, one span after the other, and what is told by it.
-use Rattle.std.proofs.Common.{◌≡◌, ◌≢◌, ℕ, zero, suc, ◌+◌, ◌^◌, leb, take, drop, length-drop, ◌-◌, ◌<◌, ◌≤◌, Bool, true, false, ◌&&◌, not, ◌==◌, nat_lt, List, [], ◌∷◌, ◌++◌, length, get_or, refl, sym, ap, subst, ◌∙◌, inl, inr, arith}
+use Rattle.std.proofs.Common.{◌≡◌, ◌≢◌, ℕ, zero, suc, ◌+◌, ◌^◌, leb, take, drop, length-drop, ◌-◌, ◌<◌, ◌≤◌, Bool, true, false, ◌&&◌, not, ◌==◌, nat_lt, if◌then◌else◌, List, [], ◌∷◌, ◌++◌, length, get_or, refl, sym, ap, subst, ◌∙◌, inl, inr, arith}
 use Rattle.std.specs.List.{Contains, AllWithin}
 use Rattle.std.specs.List.Sorted.{IsNonDecreasingBy}
 use Rattle.std.proofs.lemmas.Bool.{false≢true, cases_Bool, ltb-true, ltb-false, leb-true, cases_eq, cases_lt, cases_order}
@@ -18,11 +18,11 @@ use Rattle.jh_check.specs.Regions.{Spot, pair_breaks, share_places, takes_pages,
 use Rattle.jh_check.specs.Devices.{are_same_section}
 use Rattle.jh_check.specs.Spans.{takes_part, span_of, is_within}
 use Rattle.jh_check.specs.Lists.{capped, found_from, only_if}
-use Rattle.jh_check.specs.Findings.{spot, beside, beside_at, finding_of}
-use Rattle.jh_check.specs.Reaches.{passes_shared, may_follow, reaches_for, HasOthers, InOrder, IsRising, IsReached, TellsEach, TellsPairs, IsOwn, TellsOthers, AreOf, IsIn, HasHits}
-use Rattle.jh_check.proofs.BoolLemmas.{false-from_not, not-both, and-left, and-right, and-both}
-use Rattle.jh_check.proofs.ListLemmas.{append_nil, found-drop, found-end, found-none}
-use Rattle.jh_check.proofs.BreakLemmas.{pair-order, pair-joins, pair-takes_part, pair-second, pair-meets, beside-none, joins-same, two-parts, pages-parts, overlap-second, meet-swap}
+use Rattle.jh_check.specs.Findings.{spot, beside, beside_at, between, between_at, finding_of}
+use Rattle.jh_check.specs.Private.Reaches.{passes_shared, may_follow, reaches_for, HasOthers, InOrder, IsRising, IsReached, TellsEach, TellsPairs, IsOwn, TellsOthers, AreOf, IsIn, HasHits, IsInside, IsExtent}
+use Rattle.jh_check.proofs.BoolLemmas.{false_from_not, not_both, and_left, and_right, and_both}
+use Rattle.jh_check.proofs.ListLemmas.{append_nil, found_drop, found_end, found_none, found_none0}
+use Rattle.jh_check.proofs.BreakLemmas.{pair_order, pair_joins, pair_takes_part, pair_second, pair_meets, beside_none, joins_same, two_parts, pages_parts, overlap_second, meet_swap}
 
 -- ---- one span after the other
 
@@ -36,16 +36,16 @@ pub record IsReachTo (spans : List Span) (reaches : List Reach) (n end : ℕ) : 
   pub rising : IsNonDecreasingBy (λ (reach : Reach). reach.end) reaches
 
 -- one more of a list, by those before it and itself
-one-more : (reaches : List Reach) (y : Reach) (n : ℕ) (P : ℕ → Reach → Type 0) → length reaches ≡ n → ((k : ℕ) (d : Reach) → k < n → P k (get_or reaches k d)) → P n y → (k : ℕ) (d : Reach) → k < n + 1 → P k (get_or (reaches ++ y ∷ []) k d)
-one-more reaches y n P count before here k d h =
+one_more : (reaches : List Reach) (y : Reach) (n : ℕ) (P : ℕ → Reach → Type 0) → length reaches ≡ n → ((k : ℕ) (d : Reach) → k < n → P k (get_or reaches k d)) → P n y → (k : ℕ) (d : Reach) → k < n + 1 → P k (get_or (reaches ++ y ∷ []) k d)
+one_more reaches y n P count before here k d h =
     elim (cases_eq k n) [
       | inl e ↦ subst (λ j. P j (get_or (reaches ++ y ∷ []) j d)) (sym e) (subst (λ z. P n z) (sym (get_or_push reaches y d n count)) here)
       | inr m ↦ subst (λ z. P k z) (sym (get_or_append_left reaches (y ∷ []) d k (omega arith))) (before k d (omega arith))
     ]
 
 -- a list that rises still does with one more that isn't below
-rises-more : (reaches : List Reach) (y : Reach) (n : ℕ) → length reaches ≡ n → IsNonDecreasingBy (λ (reach : Reach). reach.end) reaches → ((k : ℕ) (d : Reach) → k < n → (get_or reaches k d).end ≤ y.end) → IsNonDecreasingBy (λ (reach : Reach). reach.end) (reaches ++ y ∷ [])
-rises-more reaches y n count rising below = λ i j d h k.
+rises_more : (reaches : List Reach) (y : Reach) (n : ℕ) → length reaches ≡ n → IsNonDecreasingBy (λ (reach : Reach). reach.end) reaches → ((k : ℕ) (d : Reach) → k < n → (get_or reaches k d).end ≤ y.end) → IsNonDecreasingBy (λ (reach : Reach). reach.end) (reaches ++ y ∷ [])
+rises_more reaches y n count rising below = λ i j d h k.
     let size : length (reaches ++ y ∷ []) ≡ length reaches + 1 = length_push reaches y in
     let last = get_or_push reaches y d n count in
     elim (cases_eq j n) [
@@ -64,8 +64,8 @@ rises-more reaches y n count rising below = λ i j d h k.
           subst (λ s. P s (get_or (reaches ++ y ∷ []) j d)) (sym first) (subst (λ t. P (get_or reaches i d) t) (sym second) (rising i j d h (omega arith)))
     ]
 
-pub reach-none : (spans : List Span) → IsReachTo spans [] 0 0
-reach-none spans = record {
+pub reach_none : (spans : List Span) → IsReachTo spans [] 0 0
+reach_none spans = record {
   count = refl;
   starts = λ k d e h. absurd (omega arith);
   items = λ k d e h. absurd (omega arith);
@@ -74,22 +74,22 @@ reach-none spans = record {
   rising = λ i j d h k. absurd (omega arith);
 }
 
-pub reach-more : (spans : List Span) (reaches : List Reach) (n end more : ℕ) (x : Span) → n < length spans → x ≡ get_or spans n x → end ≤ more → x.end ≤ more → IsReachTo spans reaches n end → IsReachTo spans (reaches ++ (record { start = x.start; end = more; item = x.item }) ∷ []) (n + 1) more
-reach-more spans reaches n end more x within is farther far before =
+pub reach_more : (spans : List Span) (reaches : List Reach) (n end more : ℕ) (x : Span) → n < length spans → x ≡ get_or spans n x → end ≤ more → x.end ≤ more → IsReachTo spans reaches n end → IsReachTo spans (reaches ++ (record { start = x.start; end = more; item = x.item }) ∷ []) (n + 1) more
+reach_more spans reaches n end more x within is farther far before =
     let y : Reach = record { start = x.start; end = more; item = x.item } in
     let same : (e : Span) → x ≡ get_or spans n e = λ e. is ∙ get_or_default spans n x e within in
     let size : length (reaches ++ y ∷ []) ≡ length reaches + 1 = length_push reaches y in
     record {
       count = size ∙ ap (λ m. m + 1) before.count;
       starts = λ k d e h.
-          one-more reaches y n (λ j r. r.start ≡ (get_or spans j e).start) before.count (λ j d i. before.starts j d e i) (ap (λ (s : Span). s.start) (same e)) k d h;
+          one_more reaches y n (λ j r. r.start ≡ (get_or spans j e).start) before.count (λ j d i. before.starts j d e i) (ap (λ (s : Span). s.start) (same e)) k d h;
       items = λ k d e h.
-          one-more reaches y n (λ j r. r.item ≡ (get_or spans j e).item) before.count (λ j d i. before.items j d e i) (ap (λ (s : Span). s.item) (same e)) k d h;
+          one_more reaches y n (λ j r. r.item ≡ (get_or spans j e).item) before.count (λ j d i. before.items j d e i) (ap (λ (s : Span). s.item) (same e)) k d h;
       ends = λ k d e h.
-          one-more reaches y n (λ j r. (get_or spans j e).end ≤ r.end) before.count (λ j d i. before.ends j d e i) (subst (λ (s : Span). s.end ≤ more) (same e) far) k d h;
+          one_more reaches y n (λ j r. (get_or spans j e).end ≤ r.end) before.count (λ j d i. before.ends j d e i) (subst (λ (s : Span). s.end ≤ more) (same e) far) k d h;
       below = λ k d h.
-          one-more reaches y n (λ j r. r.end ≤ more) before.count (λ j d i. let b = before.below j d i in omega arith) (omega arith) k d h;
-      rising = rises-more reaches y n before.count before.rising (λ k d h. let b = before.below k d h in omega arith);
+          one_more reaches y n (λ j r. r.end ≤ more) before.count (λ j d i. let b = before.below j d i in omega arith) (omega arith) k d h;
+      rising = rises_more reaches y n before.count before.rising (λ k d h. let b = before.below k d h in omega arith);
     }
 
 -- the same where two reach: `far` is how far one does, and `end` how far two do
@@ -101,8 +101,8 @@ pub record ArePairsTo (spans : List Span) (reaches : List Reach) (n far end : �
   pub below : (k : ℕ) (d : Reach) → k < n → (get_or reaches k d).end ≤ end
   pub rising : IsNonDecreasingBy (λ (reach : Reach). reach.end) reaches
 
-pub pairs-none : (spans : List Span) → ArePairsTo spans [] 0 0 0
-pairs-none spans = record {
+pub pairs_none : (spans : List Span) → ArePairsTo spans [] 0 0 0
+pairs_none spans = record {
   count = refl;
   starts = λ k d e h. absurd (omega arith);
   single = λ k e h. absurd (omega arith);
@@ -111,70 +111,70 @@ pairs-none spans = record {
   rising = λ i j d h k. absurd (omega arith);
 }
 
-pub pairs-more : (spans : List Span) (reaches : List Reach) (n far end farther more : ℕ) (x : Span) → n < length spans → x ≡ get_or spans n x → far ≤ farther → x.end ≤ farther → end ≤ more → ((low : ℕ) → low < far → low < x.end → low < more) → ArePairsTo spans reaches n far end → ArePairsTo spans (reaches ++ (record { start = x.start; end = more; item = x.item }) ∷ []) (n + 1) farther more
-pairs-more spans reaches n far end farther more x within is grows reaches_x rises both before =
+pub pairs_more : (spans : List Span) (reaches : List Reach) (n far end farther more : ℕ) (x : Span) → n < length spans → x ≡ get_or spans n x → far ≤ farther → x.end ≤ farther → end ≤ more → ((low : ℕ) → low < far → low < x.end → low < more) → ArePairsTo spans reaches n far end → ArePairsTo spans (reaches ++ (record { start = x.start; end = more; item = x.item }) ∷ []) (n + 1) farther more
+pairs_more spans reaches n far end farther more x within is grows reaches_x rises both before =
     let y : Reach = record { start = x.start; end = more; item = x.item } in
     let same : (e : Span) → x ≡ get_or spans n e = λ e. is ∙ get_or_default spans n x e within in
     let size : length (reaches ++ y ∷ []) ≡ length reaches + 1 = length_push reaches y in
     record {
       count = size ∙ ap (λ m. m + 1) before.count;
       starts = λ k d e h.
-          one-more reaches y n (λ j r. r.start ≡ (get_or spans j e).start) before.count (λ j d i. before.starts j d e i) (ap (λ (s : Span). s.start) (same e)) k d h;
+          one_more reaches y n (λ j r. r.start ≡ (get_or spans j e).start) before.count (λ j d i. before.starts j d e i) (ap (λ (s : Span). s.start) (same e)) k d h;
       single = λ k e h. elim (cases_eq k n) [
         | inl f ↦ subst (λ j. (get_or spans j e).end ≤ farther) (sym f) (subst (λ (s : Span). s.end ≤ farther) (same e) reaches_x)
         | inr m ↦ let b = before.single k e (omega arith) in omega arith
       ];
       pairs = λ i j d e low h k p q.
-          one-more reaches y n (λ j r. i < j → low < (get_or spans j e).end → low < r.end) before.count (λ j d m h q. before.pairs i j d e low h m p q) (λ h q.
+          one_more reaches y n (λ j r. i < j → low < (get_or spans j e).end → low < r.end) before.count (λ j d m h q. before.pairs i j d e low h m p q) (λ h q.
           let b = before.single i e h in
           both low (omega arith) (subst (λ (s : Span). low < s.end) (sym (same e)) q)) j d k h q;
       below = λ k d h.
-          one-more reaches y n (λ j r. r.end ≤ more) before.count (λ j d i. let b = before.below j d i in omega arith) (omega arith) k d h;
-      rising = rises-more reaches y n before.count before.rising (λ k d h. let b = before.below k d h in omega arith);
+          one_more reaches y n (λ j r. r.end ≤ more) before.count (λ j d i. let b = before.below j d i in omega arith) (omega arith) k d h;
+      rising = rises_more reaches y n before.count before.rising (λ k d h. let b = before.below k d h in omega arith);
     }
 
 -- ---- at the end of all
 
-starts-rise : (spans : List Span) (reaches : List Reach) (n : ℕ) → length reaches ≡ n → length spans ≤ n → n ≤ length spans → ((k : ℕ) (d : Reach) (e : Span) → k < n → (get_or reaches k d).start ≡ (get_or spans k e).start) → InOrder spans → IsNonDecreasingBy (λ (reach : Reach). reach.start) reaches
-starts-rise spans reaches n count low high starts order = λ i j d h k.
+starts_rise : (spans : List Span) (reaches : List Reach) (n : ℕ) → length reaches ≡ n → length spans ≤ n → n ≤ length spans → ((k : ℕ) (d : Reach) (e : Span) → k < n → (get_or reaches k d).start ≡ (get_or spans k e).start) → InOrder spans → IsNonDecreasingBy (λ (reach : Reach). reach.start) reaches
+starts_rise spans reaches n count low high starts order = λ i j d h k.
     let none : Span = record { start = 0; end = 0; item = 0 } in
     let a = starts i d none (omega arith) in
     let b = starts j d none (omega arith) in
     let o = order i j none h (omega arith) in
     omega arith
 
-pub reach-rises : (spans : List Span) (reaches : List Reach) (n end : ℕ) → length spans ≤ n → n ≤ length spans → InOrder spans → IsReachTo spans reaches n end → IsRising reaches
-reach-rises spans reaches n end low high order all = record {
-  starts = starts-rise spans reaches n all.count low high all.starts order;
+pub reach_rises : (spans : List Span) (reaches : List Reach) (n end : ℕ) → length spans ≤ n → n ≤ length spans → InOrder spans → IsReachTo spans reaches n end → IsRising reaches
+reach_rises spans reaches n end low high order all = record {
+  starts = starts_rise spans reaches n all.count low high all.starts order;
   ends = all.rising;
 }
 
-pub pairs-rise : (spans : List Span) (reaches : List Reach) (n far end : ℕ) → length spans ≤ n → n ≤ length spans → InOrder spans → ArePairsTo spans reaches n far end → IsRising reaches
-pairs-rise spans reaches n far end low high order all = record {
-  starts = starts-rise spans reaches n all.count low high all.starts order;
+pub pairs_rise : (spans : List Span) (reaches : List Reach) (n far end : ℕ) → length spans ≤ n → n ≤ length spans → InOrder spans → ArePairsTo spans reaches n far end → IsRising reaches
+pairs_rise spans reaches n far end low high order all = record {
+  starts = starts_rise spans reaches n all.count low high all.starts order;
   ends = all.rising;
 }
 
-pub reach-tells : (spans : List Span) (reaches : List Reach) (n end : ℕ) → length spans ≤ n → IsReachTo spans reaches n end → TellsEach spans reaches
-reach-tells spans reaches n end low all = λ x z cx meets.
+pub reach_tells : (spans : List Span) (reaches : List Reach) (n end : ℕ) → length spans ≤ n → IsReachTo spans reaches n end → TellsEach spans reaches
+reach_tells spans reaches n end low all = λ x z cx meets.
     let none : Reach = record { start = 0; end = 0; item = 0 } in
     let k = cx.0 in
     let by = get_or reaches k none in
-    let begins : x.start < z.end = ltb-true x.start z.end (and-left (nat_lt x.start z.end) (nat_lt z.start x.end) meets) in
-    let ends : z.start < x.end = ltb-true z.start x.end (and-right (nat_lt x.start z.end) (nat_lt z.start x.end) meets) in
+    let begins : x.start < z.end = ltb-true x.start z.end (and_left (nat_lt x.start z.end) (nat_lt z.start x.end) meets) in
+    let ends : z.start < x.end = ltb-true z.start x.end (and_right (nat_lt x.start z.end) (nat_lt z.start x.end) meets) in
     let here : k < length reaches = let c = all.count in let w = cx.1 in omega arith in
     let a : by.start ≡ x.start = subst (λ (s : Span). by.start ≡ s.start) cx.2 (all.starts k none x (let w = cx.1 in omega arith)) in
     let b : x.end ≤ by.end = subst (λ (s : Span). s.end ≤ by.end) cx.2 (all.ends k none x (let w = cx.1 in omega arith)) in
     let c : by.item ≡ x.item = subst (λ (s : Span). by.item ≡ s.item) cx.2 (all.items k none x (let w = cx.1 in omega arith)) in
     (record { by = by; is = (k, here, get_or_default reaches k by none here); begins = omega arith; ends = omega arith }, c)
 
-pub pairs-tell : (spans : List Span) (reaches : List Reach) (n far end : ℕ) → length spans ≤ n → ArePairsTo spans reaches n far end → TellsPairs spans reaches
-pairs-tell spans reaches n far end low all = λ x y cx cy differ some meets.
+pub pairs_tell : (spans : List Span) (reaches : List Reach) (n far end : ℕ) → length spans ≤ n → ArePairsTo spans reaches n far end → TellsPairs spans reaches
+pairs_tell spans reaches n far end low all = λ x y cx cy differ some meets.
     let none : Reach = record { start = 0; end = 0; item = 0 } in
     let p = cx.0 in
     let q = cy.0 in
-    let first : x.start < y.end = ltb-true x.start y.end (and-left (nat_lt x.start y.end) (nat_lt y.start x.end) meets) in
-    let second : y.start < x.end = ltb-true y.start x.end (and-right (nat_lt x.start y.end) (nat_lt y.start x.end) meets) in
+    let first : x.start < y.end = ltb-true x.start y.end (and_left (nat_lt x.start y.end) (nat_lt y.start x.end) meets) in
+    let second : y.start < x.end = ltb-true y.start x.end (and_right (nat_lt x.start y.end) (nat_lt y.start x.end) meets) in
     let count = all.count in
     let wx = cx.1 in
     let wy = cy.1 in
@@ -208,78 +208,73 @@ pairs-tell spans reaches n far end low all = λ x y cx cy differ some meets.
 -- ---- regions
 
 -- the second region of a pair that breaks the rule may follow
-pub pair-follows : (rule : Rule) (pass : Bool) (one other : Spot) → passes_shared rule one.region ≡ pass → pair_breaks rule one other ≡ true → may_follow rule pass other.cell other.region ≡ true
+pub pair_follows : (rule : Rule) (pass : Bool) (one other : Spot) → passes_shared rule one.region ≡ pass → pair_breaks rule one other ≡ true → may_follow rule pass other.cell other.region ≡ true
 unfolding pair_breaks
-pair-follows VirtOverlap pass one other p h = pair-second VirtOverlap one other refl h
-pair-follows PhysOverlap pass one other p h = pair-second PhysOverlap one other refl h
-pair-follows SubpageTaken pass one other p h =
-    let t = two-parts (not (one.cell == 0)) (other.cell == 0) (takes_pages one.region other.region) h in
-    let q = pages-parts one.region other.region t.1 in
-    and-both (other.cell == 0) (has_size other.region && is_page_mapped other.region) (and-right (not (one.cell == 0)) (other.cell == 0) t.0) (and-both (has_size other.region) (is_page_mapped other.region) q.3 q.2)
-pair-follows CellsOverlap pass one other p h =
+pair_follows VirtOverlap pass one other p h = pair_second VirtOverlap one other refl h
+pair_follows PhysOverlap pass one other p h = pair_second PhysOverlap one other refl h
+pair_follows SubpageTaken pass one other p h =
+    let t = two_parts (not (one.cell == 0)) (other.cell == 0) (takes_pages one.region other.region) h in
+    let q = pages_parts one.region other.region t.1 in
+    and_both (other.cell == 0) (has_size other.region && is_page_mapped other.region) (and_right (not (one.cell == 0)) (other.cell == 0) t.0) (and_both (has_size other.region) (is_page_mapped other.region) q.3 q.2)
+pair_follows CellsOverlap pass one other p h =
     let x = one.region in
     let y = other.region in
     let apart = not (are_same_section one.config one.item other.config other.item) in
     let rest = not (both_shared x y) && apart in
-    let k = (two-parts (nat_lt 0 one.cell) (nat_lt one.cell other.cell) (share_places x y && rest) h).1 in
-    let n : not (has_flags 0x80 x && has_flags 0x80 y) ≡ true = and-left (not (both_shared x y)) apart (and-right (share_places x y) rest k) in
+    let k = (two_parts (nat_lt 0 one.cell) (nat_lt one.cell other.cell) (share_places x y && rest) h).1 in
+    let n : not (has_flags 0x80 x && has_flags 0x80 y) ≡ true = and_left (not (both_shared x y)) apart (and_right (share_places x y) rest k) in
     let m : not (pass && has_flags 0x80 y) ≡ true = subst (λ b. not (b && has_flags 0x80 y) ≡ true) p n in
-    let w = overlap-second one other h in
-    and-both (has_size y) (not (is_comm y) && not (pass && has_flags 0x80 y)) (and-left (has_size y) (not (is_comm y)) w) (and-both (not (is_comm y)) (not (pass && has_flags 0x80 y)) (and-right (has_size y) (not (is_comm y)) w) m)
-pair-follows _ pass one other p h = absurd (false≢true h)
+    let w = overlap_second one other h in
+    and_both (has_size y) (not (is_comm y) && not (pass && has_flags 0x80 y)) (and_left (has_size y) (not (is_comm y)) w) (and_both (not (is_comm y)) (not (pass && has_flags 0x80 y)) (and_right (has_size y) (not (is_comm y)) w) m)
+pair_follows _ pass one other p h = absurd (false≢true h)
 
 -- so may the first, where both are of one cell
-part-follows : (rule : Rule) (pass : Bool) (b : ℕ) (x : Region) → is_within rule ≡ true → takes_part rule x ≡ true → may_follow rule pass b x ≡ true
-part-follows VirtOverlap pass b x w h = h
-part-follows PhysOverlap pass b x w h = h
-part-follows _ pass b x w h = absurd (false≢true w)
+part_follows : (rule : Rule) (pass : Bool) (b : ℕ) (x : Region) → is_within rule ≡ true → takes_part rule x ≡ true → may_follow rule pass b x ≡ true
+part_follows VirtOverlap pass b x w h = h
+part_follows PhysOverlap pass b x w h = h
+part_follows _ pass b x w h = absurd (false≢true w)
 
-span-item : (rule : Rule) (r : ℕ) (x : Region) → (span_of rule r x).item ≡ r
-span-item VirtOverlap r x = refl
-span-item _ r x = refl
+span_item : (rule : Rule) (r : ℕ) (x : Region) → (span_of rule r x).item ≡ r
+span_item VirtOverlap r x = refl
+span_item _ r x = refl
 
 longer : (start size : ℕ) → nat_lt 0 size ≡ true → start < start + size
 longer start size h = let s = ltb-true 0 size h in omega arith
 
-span-some : (rule : Rule) (r : ℕ) (x : Region) → is_within rule ≡ true → takes_part rule x ≡ true → (span_of rule r x).start < (span_of rule r x).end
-span-some VirtOverlap r x w h = longer x.virt_start x.size h
-span-some PhysOverlap r x w h = longer x.phys_start x.size (and-left (has_size x) (not (is_comm x)) h)
-span-some _ r x w h = absurd (false≢true w)
+span_some : (rule : Rule) (r : ℕ) (x : Region) → is_within rule ≡ true → takes_part rule x ≡ true → (span_of rule r x).start < (span_of rule r x).end
+span_some VirtOverlap r x w h = longer x.virt_start x.size h
+span_some PhysOverlap r x w h = longer x.phys_start x.size (and_left (has_size x) (not (is_comm x)) h)
+span_some _ r x w h = absurd (false≢true w)
 
 -- what is told of spans is told of the regions that have them
-pub others-each : (rule : Rule) (pass : Bool) (b : ℕ) (cell : CellConfig) (spans : List Span) (reaches : List Reach) → HasOthers rule pass b cell.memory_regions spans → TellsEach spans reaches → TellsOthers rule pass b cell reaches
-others-each rule pass b cell spans reaches has tells = λ one s d own passes within breaks.
+pub others_each : (rule : Rule) (pass : Bool) (b : ℕ) (cell : CellConfig) (spans : List Span) (reaches : List Reach) → HasOthers rule pass b cell.memory_regions spans → TellsEach spans reaches → TellsOthers rule pass b cell reaches
+others_each rule pass b cell spans reaches has tells = λ one s d own passes within breaks.
     let y = get_or cell.memory_regions s d in
     let other = spot b cell s y in
-    let f = pair-follows rule pass one other passes breaks in
-    let t = tells (span_of rule s y) (span_of rule one.item one.region) (has s d within f) (meet-swap (span_of rule one.item one.region) (span_of rule s y) (pair-meets rule one other breaks)) in
-    (t.0, λ w. t.1 ∙ span-item rule s y)
+    let f = pair_follows rule pass one other passes breaks in
+    let t = tells (span_of rule s y) (span_of rule one.item one.region) (has s d within f) (meet_swap (span_of rule one.item one.region) (span_of rule s y) (pair_meets rule one other breaks)) in
+    (t.0, λ w. t.1 ∙ span_item rule s y)
 
-pub others-pairs : (rule : Rule) (pass : Bool) (b : ℕ) (cell : CellConfig) (spans : List Span) (reaches : List Reach) → is_within rule ≡ true → HasOthers rule pass b cell.memory_regions spans → TellsPairs spans reaches → TellsOthers rule pass b cell reaches
-others-pairs rule pass b cell spans reaches w has tells = λ one s d own passes within breaks.
+pub others_pairs : (rule : Rule) (pass : Bool) (b : ℕ) (cell : CellConfig) (spans : List Span) (reaches : List Reach) → is_within rule ≡ true → HasOthers rule pass b cell.memory_regions spans → TellsPairs spans reaches → TellsOthers rule pass b cell reaches
+others_pairs rule pass b cell spans reaches w has tells = λ one s d own passes within breaks.
     let regions = cell.memory_regions in
     let y = get_or regions s d in
     let other = spot b cell s y in
-    let mine = own (joins-same rule one.cell b w (pair-joins rule one other breaks)) in
-    let before : one.item < s = ltb-true one.item s (pair-order rule one other w breaks) in
-    let t = pair-takes_part rule one other breaks in
-    let f = part-follows rule pass b one.region w t in
+    let mine = own (joins_same rule one.cell b w (pair_joins rule one other breaks)) in
+    let before : one.item < s = ltb-true one.item s (pair_order rule one other w breaks) in
+    let t = pair_takes_part rule one other breaks in
+    let f = part_follows rule pass b one.region w t in
     let P : Region → Type 0 = λ x. may_follow rule pass b x ≡ true → Contains spans (span_of rule one.item x) in
     let cx = subst P (sym mine.1) (has one.item one.region mine.0) f in
-    let cy = has s d within (pair-follows rule pass one other passes breaks) in
+    let cy = has s d within (pair_follows rule pass one other passes breaks) in
     let differ : (span_of rule one.item one.region).item ≢ (span_of rule s y).item = λ e.
-    let g : one.item ≡ s = sym (span-item rule one.item one.region) ∙ e ∙ span-item rule s y in
+    let g : one.item ≡ s = sym (span_item rule one.item one.region) ∙ e ∙ span_item rule s y in
     omega arith
     in
-    (tells (span_of rule one.item one.region) (span_of rule s y) cx cy differ (span-some rule one.item one.region w t) (pair-meets rule one other breaks), λ f. absurd (not-both (is_within rule) w f))
+    (tells (span_of rule one.item one.region) (span_of rule s y) cx cy differ (span_some rule one.item one.region w t) (pair_meets rule one other breaks), λ f. absurd (not_both (is_within rule) w f))
 
--- no region passes over shared ones by another rule
-pub others-none : (rule : Rule) (b : ℕ) (cell : CellConfig) (reaches : List Reach) → rule ≢ CellsOverlap → TellsOthers rule true b cell reaches
-others-none CellsOverlap b cell reaches n = absurd (n refl)
-others-none _ b cell reaches n = λ one s d own passes within breaks. absurd (false≢true passes)
-
-pub rising-none : IsRising []
-rising-none = record { starts = λ i j d h k. absurd (omega arith); ends = λ i j d h k. absurd (omega arith) }
+pub rising_none : IsRising []
+rising_none = record { starts = λ i j d h k. absurd (omega arith); ends = λ i j d h k. absurd (omega arith) }
 
 -- ---- the search
 
@@ -304,63 +299,63 @@ unreached reaches span n rising bound after last reached =
     ]
 
 -- a region that breaks the rule with one of the cell is reached by those by which it is looked for
-reached-for : (rule : Rule) (b : ℕ) (other : CellConfig) (reaches : Reaches) (one : Spot) (s : ℕ) (d : Region) → AreOf rule b other reaches → IsOwn one b other → s < length other.memory_regions → pair_breaks rule one (spot b other s (get_or other.memory_regions s d)) ≡ true → (reached : IsReached (reaches_for rule one.region reaches) (span_of rule one.item one.region)) × (is_within rule ≡ false → reached.by.item ≡ s)
-reached-for rule b other reaches one s d of own within breaks =
+reached_for : (rule : Rule) (b : ℕ) (other : CellConfig) (reaches : Reaches) (one : Spot) (s : ℕ) (d : Region) → AreOf rule b other reaches → IsOwn one b other → s < length other.memory_regions → pair_breaks rule one (spot b other s (get_or other.memory_regions s d)) ≡ true → (reached : IsReached (reaches_for rule one.region reaches) (span_of rule one.item one.region)) × (is_within rule ≡ false → reached.by.item ≡ s)
+reached_for rule b other reaches one s d of own within breaks =
     elim (cases_Bool (passes_shared rule one.region)) [
       | inl p ↦ rw p (of.unshared one s d own p within breaks)
       | inr p ↦ rw p (of.any one s d own p within breaks)
     ]
 
 -- nothing is found of a region that takes no part, or isn't reached
-pub beside-apart : (rule : Rule) (one : Spot) (b : ℕ) (other : CellConfig) → takes_part rule one.region ≡ false → beside rule one b other ≡ []
-beside-apart rule one b other h =
-    beside-none rule one b other (λ s d within breaks.
-    not-both (takes_part rule one.region) (pair-takes_part rule one (spot b other s (get_or other.memory_regions s d)) breaks) h)
+pub beside_apart : (rule : Rule) (one : Spot) (b : ℕ) (other : CellConfig) → takes_part rule one.region ≡ false → beside rule one b other ≡ []
+beside_apart rule one b other h =
+    beside_none rule one b other (λ s d within breaks.
+    not_both (takes_part rule one.region) (pair_takes_part rule one (spot b other s (get_or other.memory_regions s d)) breaks) h)
 
-pub beside-unreached : (rule : Rule) (one : Spot) (b : ℕ) (other : CellConfig) (reaches : Reaches) → AreOf rule b other reaches → IsOwn one b other → (IsReached (reaches_for rule one.region reaches) (span_of rule one.item one.region) → ⊥) → beside rule one b other ≡ []
-beside-unreached rule one b other reaches of own unreached =
-    beside-none rule one b other (λ s d within breaks. unreached (reached-for rule b other reaches one s d of own within breaks).0)
+pub beside_unreached : (rule : Rule) (one : Spot) (b : ℕ) (other : CellConfig) (reaches : Reaches) → AreOf rule b other reaches → IsOwn one b other → (IsReached (reaches_for rule one.region reaches) (span_of rule one.item one.region) → ⊥) → beside rule one b other ≡ []
+beside_unreached rule one b other reaches of own unreached =
+    beside_none rule one b other (λ s d within breaks. unreached (reached_for rule b other reaches one s d of own within breaks).0)
 
 -- a window in which those are that reach it has the numbers of those that break the rule with it
-pub window-hits : (rule : Rule) (one : Spot) (b : ℕ) (other : CellConfig) (reaches : Reaches) (window : Window) → AreOf rule b other reaches → IsOwn one b other → (is_within rule ≡ true → (s : ℕ) → s < 2 ^ 64 → IsIn window s) → (is_within rule ≡ false → (x : Reach) → Contains (reaches_for rule one.region reaches) x → x.start < (span_of rule one.item one.region).end → (span_of rule one.item one.region).start < x.end → IsIn window x.item) → HasHits rule one b other window
-window-hits rule one b other reaches window of own all told = λ s d within small breaks.
+pub window_hits : (rule : Rule) (one : Spot) (b : ℕ) (other : CellConfig) (reaches : Reaches) (window : Window) → AreOf rule b other reaches → IsOwn one b other → (is_within rule ≡ true → (s : ℕ) → s < 2 ^ 64 → IsIn window s) → (is_within rule ≡ false → (x : Reach) → Contains (reaches_for rule one.region reaches) x → x.start < (span_of rule one.item one.region).end → (span_of rule one.item one.region).start < x.end → IsIn window x.item) → HasHits rule one b other window
+window_hits rule one b other reaches window of own all told = λ s d within small breaks.
     elim (cases_Bool (is_within rule)) [
       | inl w ↦ all w s small
       | inr w ↦
-          let r = reached-for rule b other reaches one s d of own within breaks in
+          let r = reached_for rule b other reaches one s d of own within breaks in
           subst (λ n. IsIn window n) (r.1 w) (told w r.0.by r.0.is r.0.begins r.0.ends)
     ]
 
 -- the items that are passed over give nothing
-pub found-skip : {X : Type 0} (found : ℕ → X → List Finding) (xs : List X) (n : ℕ) (d : X) → ((i : ℕ) → i < length xs → i < n → found i (get_or xs i d) ≡ []) → found_from found 0 xs ≡ found_from found n (drop n xs)
-found-skip found xs zero d h = refl
-found-skip found xs (suc n) d h =
-    let before : found_from found 0 xs ≡ found_from found n (drop n xs) = found-skip found xs n d (λ i within below. h i within (omega arith)) in
+pub found_skip : {X : Type 0} (found : ℕ → X → List Finding) (xs : List X) (n : ℕ) (d : X) → ((i : ℕ) → i < length xs → i < n → found i (get_or xs i d) ≡ []) → found_from found 0 xs ≡ found_from found n (drop n xs)
+found_skip found xs zero d h = refl
+found_skip found xs (suc n) d h =
+    let before : found_from found 0 xs ≡ found_from found n (drop n xs) = found_skip found xs n d (λ i within below. h i within (omega arith)) in
     elim (cases_lt n (length xs)) [
       | inl k ↦
           let e : n + 1 ≡ suc n = omega arith in
           let rest = found_from found (n + 1) (drop (n + 1) xs) in
-          before ∙ found-drop found xs n d k ∙ ap (λ ys. ys ++ rest) (h n k (omega arith)) ∙ ap (λ m. found_from found m (drop m xs)) e
-      | inr k ↦ before ∙ found-end found xs n k ∙ sym (found-end found xs (suc n) (omega arith))
+          before ∙ found_drop found xs n d k ∙ ap (λ ys. ys ++ rest) (h n k (omega arith)) ∙ ap (λ m. found_from found m (drop m xs)) e
+      | inr k ↦ before ∙ found_end found xs n k ∙ sym (found_end found xs (suc n) (omega arith))
     ]
 
 -- and so do those from one on
-pub found-rest : {X : Type 0} (found : ℕ → X → List Finding) (xs : List X) (n : ℕ) (d : X) → ((i : ℕ) → i < length xs → n ≤ i → found i (get_or xs i d) ≡ []) → found_from found n (drop n xs) ≡ []
-found-rest found xs n d h =
-    found-none found n (drop n xs) d (λ i k.
+pub found_rest : {X : Type 0} (found : ℕ → X → List Finding) (xs : List X) (n : ℕ) (d : X) → ((i : ℕ) → i < length xs → n ≤ i → found i (get_or xs i d) ≡ []) → found_from found n (drop n xs) ≡ []
+found_rest found xs n d h =
+    found_none found n (drop n xs) d (λ i k.
     let size = length-drop n xs in
     let e : get_or (drop n xs) i d ≡ get_or xs (n + i) d = get_or-drop n xs i d in
     subst (λ x. found (n + i) x ≡ []) (sym e) (h (n + i) (omega arith) (omega arith)))
 
 -- a region outside the window gives nothing
-pub beside-outside : (rule : Rule) (one : Spot) (b : ℕ) (other : CellConfig) (window : Window) → HasHits rule one b other window → (s : ℕ) (d : Region) → s < length other.memory_regions → s < 2 ^ 64 → (IsIn window s → ⊥) → beside_at rule one b other s (get_or other.memory_regions s d) ≡ []
+pub beside_outside : (rule : Rule) (one : Spot) (b : ℕ) (other : CellConfig) (window : Window) → HasHits rule one b other window → (s : ℕ) (d : Region) → s < length other.memory_regions → s < 2 ^ 64 → (IsIn window s → ⊥) → beside_at rule one b other s (get_or other.memory_regions s d) ≡ []
 unfolding only_if
-beside-outside rule one b other window hits s d within small out =
-    ap (λ t. only_if t (finding_of rule one.cell one.item b s)) (false-from_not (pair_breaks rule one (spot b other s (get_or other.memory_regions s d))) (λ breaks. out (hits s d within small breaks)))
+beside_outside rule one b other window hits s d within small out =
+    ap (λ t. only_if t (finding_of rule one.cell one.item b s)) (false_from_not (pair_breaks rule one (spot b other s (get_or other.memory_regions s d))) (λ breaks. out (hits s d within small breaks)))
 
 -- what is among those between the borders
-pub among-parted : (reaches : List Reach) (span : Span) (begin m n : ℕ) → begin ≤ m → begin ≤ n → n ≤ length reaches → AllWithin (λ (reach : Reach). nat_lt reach.start span.end ≡ false) reaches n (length reaches) → AllWithin (λ (reach : Reach). leb reach.end span.start ≡ true) reaches 0 m → (x : Reach) → Contains reaches x → x.start < span.end → span.start < x.end → Contains (take (n - begin) (drop begin reaches)) x
-among-parted reaches span begin m n low high bound after before x cx begins ends =
+pub among_parted : (reaches : List Reach) (span : Span) (begin m n : ℕ) → begin ≤ m → begin ≤ n → n ≤ length reaches → AllWithin (λ (reach : Reach). nat_lt reach.start span.end ≡ false) reaches n (length reaches) → AllWithin (λ (reach : Reach). leb reach.end span.start ≡ true) reaches 0 m → (x : Reach) → Contains reaches x → x.start < span.end → span.start < x.end → Contains (take (n - begin) (drop begin reaches)) x
+among_parted reaches span begin m n low high bound after before x cx begins ends =
     let k = cx.0 in
     let within = cx.1 in
     let a : k < n = elim (cases_lt k n) [
@@ -380,12 +375,12 @@ among-parted reaches span begin m n low high bound after before x cx begins ends
     let rest = length-drop begin reaches in
     (k - begin, omega arith, get_or-take (n - begin) (drop begin reaches) (k - begin) x (omega arith) ∙ get_or-drop begin reaches (k - begin) x ∙ ap (λ i. get_or reaches i x) sum ∙ cx.2)
 
-pub capped-none_more : (found more : List Finding) → more ≡ [] → capped found ≡ capped (found ++ more)
-capped-none_more found more e = ap capped (sym (append_nil found) ∙ ap (λ xs. found ++ xs) (sym e))
+pub capped_none_more : (found more : List Finding) → more ≡ [] → capped found ≡ capped (found ++ more)
+capped_none_more found more e = ap capped (sym (append_nil found) ∙ ap (λ xs. found ++ xs) (sym e))
 
 -- where the first begins behind a span, or the last ends before it, it isn't reached
-pub behind-unreached : (reaches : List Reach) (span : Span) → IsRising reaches → ((d : Reach) → span.end ≤ (get_or reaches 0 d).start) → IsReached reaches span → ⊥
-behind-unreached reaches span rising behind reached =
+pub behind_unreached : (reaches : List Reach) (span : Span) → IsRising reaches → ((d : Reach) → span.end ≤ (get_or reaches 0 d).start) → IsReached reaches span → ⊥
+behind_unreached reaches span rising behind reached =
     let x = reached.by in
     let k = reached.is.0 in
     let within = reached.is.1 in
@@ -395,8 +390,8 @@ behind-unreached reaches span rising behind reached =
     let d = reached.begins in
     omega arith
 
-pub before-unreached : (reaches : List Reach) (span : Span) → IsRising reaches → ((d : Reach) → (get_or reaches (length reaches - 1) d).end ≤ span.start) → IsReached reaches span → ⊥
-before-unreached reaches span rising before reached =
+pub before_unreached : (reaches : List Reach) (span : Span) → IsRising reaches → ((d : Reach) → (get_or reaches (length reaches - 1) d).end ≤ span.start) → IsReached reaches span → ⊥
+before_unreached reaches span rising before reached =
     let x = reached.by in
     let k = reached.is.0 in
     let within = reached.is.1 in
@@ -405,3 +400,36 @@ before-unreached reaches span rising before reached =
     let c : x.end ≤ (get_or reaches (length reaches - 1) x).end = subst (λ (r : Reach). r.end ≤ (get_or reaches (length reaches - 1) x).end) reached.is.2 a in
     let d = reached.ends in
     omega arith
+
+-- ---- regions that lie all beyond what others reach
+
+-- a region of the one cell is of the other where these are one
+pub own_spot : (a : ℕ) (one : CellConfig) (r : ℕ) (d : Region) (b : ℕ) (other : CellConfig) → r < length one.memory_regions → (a ≡ b → one ≡ other) → IsOwn (spot a one r (get_or one.memory_regions r d)) b other
+own_spot a one r d b other h same = λ e.
+    let x = get_or one.memory_regions r d in
+    let P : CellConfig → Type 0 = λ c. (r < length c.memory_regions) × (x ≡ get_or c.memory_regions r x) in
+    subst P (same e) (h, get_or_default one.memory_regions r d x h)
+
+-- what a span is reached by reaches into what has the span
+wider : (reaches : List Reach) (span extent : Span) → IsInside span extent → IsReached reaches span → IsReached reaches extent
+wider reaches span extent inside reached =
+    let low = inside.starts in
+    let high = inside.ends in
+    let a = reached.begins in
+    let b = reached.ends in
+    record { by = reached.by; is = reached.is; begins = omega arith; ends = omega arith }
+
+beyond_by : (b : Bool) (reaches : Reaches) (span extent : Span) → IsInside span extent → (IsReached reaches.any.items extent → ⊥) → (IsReached reaches.unshared.items extent → ⊥) → IsReached (if b then reaches.unshared.items else reaches.any.items) span → ⊥
+beyond_by true reaches span extent inside any unshared reached = unshared (wider reaches.unshared.items span extent inside reached)
+beyond_by false reaches span extent inside any unshared reached = any (wider reaches.any.items span extent inside reached)
+
+pub between_beyond : (rule : Rule) (a : ℕ) (one : CellConfig) (b : ℕ) (other : CellConfig) (reaches : Reaches) (extent : Span) → AreOf rule b other reaches → (a ≡ b → one ≡ other) → IsExtent rule one.memory_regions extent → (IsReached reaches.any.items extent → ⊥) → (IsReached reaches.unshared.items extent → ⊥) → between rule a one b other ≡ []
+unfolding between
+between_beyond rule a one b other reaches extent of same wide any unshared =
+    let none : Region = record { phys_start = 0; virt_start = 0; size = 0; flags = 0 } in
+    found_none0 (between_at rule a one b other) one.memory_regions none (λ r h.
+    let x = get_or one.memory_regions r none in
+    elim (cases_Bool (takes_part rule x)) [
+      | inl takes ↦ beside_unreached rule (spot a one r x) b other reaches of (own_spot a one r none b other h same) (λ reached. beyond_by (passes_shared rule x) reaches (span_of rule r x) extent (wide r none h h takes) any unshared reached)
+      | inr aside ↦ beside_apart rule (spot a one r x) b other aside
+    ])

@@ -14,119 +14,119 @@ use Rattle.jh_check.specs.declared.verdict.NewCell.TheVariants.{Clean, Invalid, 
 use Rattle.jh_check.specs.Devices.{is_zero}
 use Rattle.jh_check.specs.Verdicts.{verdict_of}
 use Rattle.jh_check.specs.Refusals.{is_known, any_below, is_beyond, names_beyond, by_check, refusal_of, IsAccepted}
-use Rattle.jh_check.proofs.BoolLemmas.{true-from_not}
-use Rattle.jh_check.proofs.DeviceLemmas.{some-byte, each-zero}
-use Rattle.jh_check.proofs.GivenLemmas.{byte-names, zero-names}
+use Rattle.jh_check.proofs.BoolLemmas.{true_from_not}
+use Rattle.jh_check.proofs.DeviceLemmas.{some_byte, each_zero}
+use Rattle.jh_check.proofs.GivenLemmas.{byte_names, zero_names}
 
 -- ---- numbers below a number
 
-pub below-at : (p : ℕ → Bool) (n k : ℕ) → k < n → p k ≡ true → any_below p n ≡ true
+pub below_at : (p : ℕ → Bool) (n k : ℕ) → k < n → p k ≡ true → any_below p n ≡ true
 unfolding any_below
-below-at p zero k l t = absurd (omega arith)
-below-at p (suc n) k l t =
+below_at p zero k l t = absurd (omega arith)
+below_at p (suc n) k l t =
     elim (cases_lt k n) [
-      | inl m ↦ or_left (any_below p n) (p n) (below-at p n k m t)
+      | inl m ↦ or_left (any_below p n) (p n) (below_at p n k m t)
       | inr m ↦ let e : k ≡ n = omega arith in or_right (any_below p n) (p n) (subst (λ i. p i ≡ true) e t)
     ]
 
-pub below-of : (p : ℕ → Bool) (n : ℕ) → any_below p n ≡ true → (k : ℕ) × (k < n) × (p k ≡ true)
+pub below_of : (p : ℕ → Bool) (n : ℕ) → any_below p n ≡ true → (k : ℕ) × (k < n) × (p k ≡ true)
 unfolding any_below
-below-of p zero t = absurd (false≢true t)
-below-of p (suc n) t =
+below_of p zero t = absurd (false≢true t)
+below_of p (suc n) t =
     elim (or_cases (any_below p n) (p n) t) [
-      | inl u ↦ let r = below-of p n u in (r.0, omega (arith, r.1), r.2)
+      | inl u ↦ let r = below_of p n u in (r.0, omega (arith, r.1), r.2)
       | inr u ↦ (n, omega arith, u)
     ]
 
-pub below-none : (p : ℕ → Bool) (k : ℕ) → k ≡ 0 → any_below p k ≡ false
+pub below_none : (p : ℕ → Bool) (k : ℕ) → k ≡ 0 → any_below p k ≡ false
 unfolding any_below
-below-none p zero e = refl
-below-none p (suc k) e = absurd (omega arith)
+below_none p zero e = refl
+below_none p (suc k) e = absurd (omega arith)
 
-pub below-more : (p : ℕ → Bool) (k m : ℕ) → m ≡ suc k → any_below p k ≡ false → p k ≡ false → any_below p m ≡ false
+pub below_more : (p : ℕ → Bool) (k m : ℕ) → m ≡ suc k → any_below p k ≡ false → p k ≡ false → any_below p m ≡ false
 unfolding any_below
-below-more p k zero e f g = absurd (omega arith)
-below-more p k (suc m) e f g =
+below_more p k zero e f g = absurd (omega arith)
+below_more p k (suc m) e f g =
     let same : k ≡ m = omega arith in
     subst (λ i. (any_below p i || p i) ≡ false) same (or_from (any_below p k) (p k) f g)
 
 -- ---- CPUs
 
-past-default : (may : List Bool) (i : ℕ) → length may ≤ i → get_or may i false ≡ false
-past-default [] i l = refl
-past-default (b ∷ may) zero l = absurd (omega arith)
-past-default (b ∷ may) (suc i) l = past-default may i (omega arith)
+past_default : (may : List Bool) (i : ℕ) → length may ≤ i → get_or may i false ≡ false
+past_default [] i l = refl
+past_default (b ∷ may) zero l = absurd (omega arith)
+past_default (b ∷ may) (suc i) l = past_default may i (omega arith)
 
-past-zero : (set : List ℕ) (i : ℕ) → length set ≤ i → get_or set i 0 ≡ 0
-past-zero [] i l = refl
-past-zero (b ∷ set) zero l = absurd (omega arith)
-past-zero (b ∷ set) (suc i) l = past-zero set i (omega arith)
+past_zero : (set : List ℕ) (i : ℕ) → length set ≤ i → get_or set i 0 ≡ 0
+past_zero [] i l = refl
+past_zero (b ∷ set) zero l = absurd (omega arith)
+past_zero (b ∷ set) (suc i) l = past_zero set i (omega arith)
 
 -- a CPU that is named has its byte in the set
-named-within : (set : List ℕ) (cpu : ℕ) → is_cpu_set set cpu ≡ true → cpu < 8 * length set
-named-within set cpu t =
+named_within : (set : List ℕ) (cpu : ℕ) → is_cpu_set set cpu ≡ true → cpu < 8 * length set
+named_within set cpu t =
     elim (cases_lt (cpu / 8) (length set)) [
       | inl l ↦ omega arith
-      | inr l ↦ absurd (false≢true (sym (zero-names set cpu (past-zero set (cpu / 8) l)) ∙ t))
+      | inr l ↦ absurd (false≢true (sym (zero_names set cpu (past_zero set (cpu / 8) l)) ∙ t))
     ]
 
-pub beyond-named : (may : ℕ → Bool) (set : List ℕ) → names_beyond may set ≡ true → (cpu : ℕ) × (is_cpu_set set cpu ≡ true) × (may cpu ≡ false)
+pub beyond_named : (may : ℕ → Bool) (set : List ℕ) → names_beyond may set ≡ true → (cpu : ℕ) × (is_cpu_set set cpu ≡ true) × (may cpu ≡ false)
 unfolding names_beyond
-beyond-named may set t =
-    let r = below-of (is_beyond may set) (8 * length set) t in
+beyond_named may set t =
+    let r = below_of (is_beyond may set) (8 * length set) t in
     let p = and_parts (is_cpu_set set r.0) (not (may r.0)) r.2 in
     (r.0, p.0, not-true (may r.0) p.1)
 
-pub named-beyond : (may : ℕ → Bool) (set : List ℕ) (cpu : ℕ) → is_cpu_set set cpu ≡ true → may cpu ≡ false → names_beyond may set ≡ true
+pub named_beyond : (may : ℕ → Bool) (set : List ℕ) (cpu : ℕ) → is_cpu_set set cpu ≡ true → may cpu ≡ false → names_beyond may set ≡ true
 unfolding names_beyond
-named-beyond may set cpu t f =
-    below-at (is_beyond may set) (8 * length set) cpu (named-within set cpu t) (and_from (is_cpu_set set cpu) (not (may cpu)) t (not_from_false (may cpu) f))
+named_beyond may set cpu t f =
+    below_at (is_beyond may set) (8 * length set) cpu (named_within set cpu t) (and_from (is_cpu_set set cpu) (not (may cpu)) t (not_from_false (may cpu) f))
 
 -- a CPU from 16 on stands behind the second byte
-high-named : (set : List ℕ) (cpu : ℕ) → 16 ≤ cpu → is_cpu_set set cpu ≡ true → not (list_all is_zero (drop 2 set)) ≡ true
-high-named set cpu l t =
+high_named : (set : List ℕ) (cpu : ℕ) → 16 ≤ cpu → is_cpu_set set cpu ≡ true → not (list_all is_zero (drop 2 set)) ≡ true
+high_named set cpu l t =
     not_from_false (list_all is_zero (drop 2 set)) (false-by (list_all is_zero (drop 2 set)) (λ e.
     let place : 2 + (cpu / 8 - 2) ≡ cpu / 8 = omega arith in
-    let none : get_or set (cpu / 8) 0 ≡ 0 = subst (λ i. get_or set i 0 ≡ 0) place (sym (get_or-drop 2 set (cpu / 8 - 2) 0) ∙ each-zero (drop 2 set) e (cpu / 8 - 2)) in
-    false≢true (sym (zero-names set cpu none) ∙ t)))
+    let none : get_or set (cpu / 8) 0 ≡ 0 = subst (λ i. get_or set i 0 ≡ 0) place (sym (get_or-drop 2 set (cpu / 8 - 2) 0) ∙ each_zero (drop 2 set) e (cpu / 8 - 2)) in
+    false≢true (sym (zero_names set cpu none) ∙ t)))
   where
     false-by : (b : Bool) → (b ≡ true → ⊥) → b ≡ false
     false-by true h = absurd (h refl)
     false-by false h = refl
 
-pub beyond-by : (may : List Bool) (set : List ℕ) → length may ≡ 16 → ((i : ℕ) → get_or set i 0 < 256) → (any_below (is_beyond (λ i. get_or may i false) set) 16 || not (list_all is_zero (drop 2 set))) ≡ names_beyond (λ i. get_or may i false) set
-beyond-by may set size bytes =
+pub beyond_by : (may : List Bool) (set : List ℕ) → length may ≡ 16 → ((i : ℕ) → get_or set i 0 < 256) → (any_below (is_beyond (λ i. get_or may i false) set) 16 || not (list_all is_zero (drop 2 set))) ≡ names_beyond (λ i. get_or may i false) set
+beyond_by may set size bytes =
     let m : ℕ → Bool = λ i. get_or may i false in
     let low = any_below (is_beyond m set) 16 in
     let high = not (list_all is_zero (drop 2 set)) in
     same_test (low || high) (names_beyond m set) (λ t.
     elim (or_cases low high t) [
       | inl u ↦
-          let r = below-of (is_beyond m set) 16 u in
+          let r = below_of (is_beyond m set) 16 u in
           let p = and_parts (is_cpu_set set r.0) (not (m r.0)) r.2 in
-          named-beyond m set r.0 p.0 (not-true (m r.0) p.1)
+          named_beyond m set r.0 p.0 (not-true (m r.0) p.1)
       | inr u ↦
-          let s = some-byte (drop 2 set) (not-true (list_all is_zero (drop 2 set)) u) in
+          let s = some_byte (drop 2 set) (not-true (list_all is_zero (drop 2 set)) u) in
           let e : get_or (drop 2 set) s.0 0 ≡ get_or set (2 + s.0) 0 = get_or-drop 2 set s.0 0 in
-          let k = byte-names set (2 + s.0) (bytes (2 + s.0)) (λ z. s.1 (e ∙ z)) in
-          named-beyond m set (8 * (2 + s.0) + k.0) k.1 (past-default may (8 * (2 + s.0) + k.0) (omega arith))
+          let k = byte_names set (2 + s.0) (bytes (2 + s.0)) (λ z. s.1 (e ∙ z)) in
+          named_beyond m set (8 * (2 + s.0) + k.0) k.1 (past_default may (8 * (2 + s.0) + k.0) (omega arith))
     ]) (λ t.
-    let r = beyond-named m set t in
+    let r = beyond_named m set t in
     elim (cases_lt r.0 16) [
-      | inl l ↦ or_left low high (below-at (is_beyond m set) 16 r.0 l (and_from (is_cpu_set set r.0) (not (m r.0)) r.1 (not_from_false (m r.0) r.2)))
-      | inr l ↦ or_right low high (high-named set r.0 l r.1)
+      | inl l ↦ or_left low high (below_at (is_beyond m set) 16 r.0 l (and_from (is_cpu_set set r.0) (not (m r.0)) r.1 (not_from_false (m r.0) r.2)))
+      | inr l ↦ or_right low high (high_named set r.0 l r.1)
     ])
 
-pub beyond-low : (may : List Bool) (set : List ℕ) → any_below (is_beyond (λ i. get_or may i false) set) 16 ≡ true → true ≡ names_beyond (λ i. get_or may i false) set
-beyond-low may set t =
+pub beyond_low : (may : List Bool) (set : List ℕ) → any_below (is_beyond (λ i. get_or may i false) set) 16 ≡ true → true ≡ names_beyond (λ i. get_or may i false) set
+beyond_low may set t =
     let m : ℕ → Bool = λ i. get_or may i false in
-    let r = below-of (is_beyond m set) 16 t in
+    let r = below_of (is_beyond m set) 16 t in
     let p = and_parts (is_cpu_set set r.0) (not (m r.0)) r.2 in
-    sym (named-beyond m set r.0 p.0 (not-true (m r.0) p.1))
+    sym (named_beyond m set r.0 p.0 (not-true (m r.0) p.1))
 
-pub beyond-high : (may : List Bool) (set : List ℕ) → length may ≡ 16 → ((i : ℕ) → get_or set i 0 < 256) → any_below (is_beyond (λ i. get_or may i false) set) 16 ≡ false → not (list_all is_zero (drop 2 set)) ≡ names_beyond (λ i. get_or may i false) set
-beyond-high may set size bytes f =
-    sym (ap (λ b. b || not (list_all is_zero (drop 2 set))) f) ∙ beyond-by may set size bytes
+pub beyond_high : (may : List Bool) (set : List ℕ) → length may ≡ 16 → ((i : ℕ) → get_or set i 0 < 256) → any_below (is_beyond (λ i. get_or may i false) set) 16 ≡ false → not (list_all is_zero (drop 2 set)) ≡ names_beyond (λ i. get_or may i false) set
+beyond_high may set size bytes f =
+    sym (ap (λ b. b || not (list_all is_zero (drop 2 set))) f) ∙ beyond_by may set size bytes
 
 -- ---- refusals
 
@@ -134,40 +134,40 @@ refused : Bool → Bool → NewCell → Bool → Option ℤ
 refused known beyond verdict full =
     if known then Some EEXIST else (if beyond then Some EBUSY else by_check verdict (if full then Some ENOMEM else None))
 
-not-refused : (known beyond : Bool) (verdict : NewCell) (full : Bool) → refused known beyond verdict full ≡ None → (known ≡ false) × (beyond ≡ false) × (verdict ≡ Clean) × (full ≡ false)
+not_refused : (known beyond : Bool) (verdict : NewCell) (full : Bool) → refused known beyond verdict full ≡ None → (known ≡ false) × (beyond ≡ false) × (verdict ≡ Clean) × (full ≡ false)
 unfolding refused
-not-refused true beyond verdict full h = cc
-not-refused false true verdict full h = cc
-not-refused false false Invalid full h = cc
-not-refused false false Busy full h = cc
-not-refused false false Clean true h = cc
-not-refused false false Clean false h = (refl, refl, refl, refl)
+not_refused true beyond verdict full h = cc
+not_refused false true verdict full h = cc
+not_refused false false Invalid full h = cc
+not_refused false false Busy full h = cc
+not_refused false false Clean true h = cc
+not_refused false false Clean false h = (refl, refl, refl, refl)
 
-none-refused : (known beyond : Bool) (verdict : NewCell) (full : Bool) → known ≡ false → beyond ≡ false → verdict ≡ Clean → full ≡ false → refused known beyond verdict full ≡ None
+none_refused : (known beyond : Bool) (verdict : NewCell) (full : Bool) → known ≡ false → beyond ≡ false → verdict ≡ Clean → full ≡ false → refused known beyond verdict full ≡ None
 unfolding refused
-none-refused true beyond verdict full a b c d = absurd (false≢true (sym a))
-none-refused false true verdict full a b c d = absurd (false≢true (sym b))
-none-refused false false Invalid full a b c d = cc
-none-refused false false Busy full a b c d = cc
-none-refused false false Clean true a b c d = absurd (false≢true (sym d))
-none-refused false false Clean false a b c d = refl
+none_refused true beyond verdict full a b c d = absurd (false≢true (sym a))
+none_refused false true verdict full a b c d = absurd (false≢true (sym b))
+none_refused false false Invalid full a b c d = cc
+none_refused false false Busy full a b c d = cc
+none_refused false false Clean true a b c d = absurd (false≢true (sym d))
+none_refused false false Clean false a b c d = refl
 
-pub accepted-from : (system : SystemConfig) (live : List CellConfig) (new : CellConfig) (may : ℕ → Bool) (pages pool : ℕ) → refusal_of system live new may pages pool ≡ None → IsAccepted system live new may pages pool
+pub accepted_from : (system : SystemConfig) (live : List CellConfig) (new : CellConfig) (may : ℕ → Bool) (pages pool : ℕ) → refusal_of system live new may pages pool ≡ None → IsAccepted system live new may pages pool
 unfolding refusal_of refused
-accepted-from system live new may pages pool h =
-    let p = not-refused (is_known (system.root ∷ live) new) (names_beyond may new.cpu_set) (verdict_of system live new) (nat_lt pool pages) h in
+accepted_from system live new may pages pool h =
+    let p = not_refused (is_known (system.root ∷ live) new) (names_beyond may new.cpu_set) (verdict_of system live new) (nat_lt pool pages) h in
     record {
       unknown = p.0;
-      cpus = λ cpu t. true-from_not (may cpu) (λ f. false≢true (sym p.1 ∙ named-beyond may new.cpu_set cpu t f));
+      cpus = λ cpu t. true_from_not (may cpu) (λ f. false≢true (sym p.1 ∙ named_beyond may new.cpu_set cpu t f));
       clean = p.2;
       room = ltb-false pool pages p.3;
     }
 
-pub accepted-to : (system : SystemConfig) (live : List CellConfig) (new : CellConfig) (may : ℕ → Bool) (pages pool : ℕ) → IsAccepted system live new may pages pool → refusal_of system live new may pages pool ≡ None
+pub accepted_to : (system : SystemConfig) (live : List CellConfig) (new : CellConfig) (may : ℕ → Bool) (pages pool : ℕ) → IsAccepted system live new may pages pool → refusal_of system live new may pages pool ≡ None
 unfolding refusal_of refused
-accepted-to system live new may pages pool a =
+accepted_to system live new may pages pool a =
     let within : names_beyond may new.cpu_set ≡ false = elim (cases_Bool (names_beyond may new.cpu_set)) [
-      | inl t ↦ let r = beyond-named may new.cpu_set t in absurd (false≢true (sym r.2 ∙ a.cpus r.0 r.1))
+      | inl t ↦ let r = beyond_named may new.cpu_set t in absurd (false≢true (sym r.2 ∙ a.cpus r.0 r.1))
       | inr f ↦ f
     ] in
-    none-refused (is_known (system.root ∷ live) new) (names_beyond may new.cpu_set) (verdict_of system live new) (nat_lt pool pages) a.unknown within a.clean (le-ltb pool pages a.room)
+    none_refused (is_known (system.root ∷ live) new) (names_beyond may new.cpu_set) (verdict_of system live new) (nat_lt pool pages) a.unknown within a.clean (le-ltb pool pages a.room)

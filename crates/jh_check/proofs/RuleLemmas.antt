@@ -15,42 +15,42 @@ use Rattle.jh_check.specs.Regions.{Spot, pair_breaks, region_breaks, breaks_alon
 use Rattle.jh_check.specs.Devices.{is_shmem, are_same_section, is_good_shmem, device_breaks, cpus_break}
 use Rattle.jh_check.specs.Findings.{spot, findings}
 use Rattle.jh_check.specs.Clean.{IsSameSection}
-use Rattle.jh_check.specs.Broken.{Located, BreakTogether, HasEarlierComm, BreaksAlone, BreaksMemory, TellsOfTwo, TellsOfOne, TellsOfMemory, TellsOfDevice, TellsOfCpus, Tells, IsBroken}
-use Rattle.jh_check.proofs.BoolLemmas.{not-both}
-use Rattle.jh_check.proofs.BreakLemmas.{share-parts, within-parts}
-use Rattle.jh_check.proofs.CleanLemmas.{positive, not-zero, get-take, take-get, any-at, any-of, virt-common, phys-common, common-virt, common-phys, shared, same-section-from, same-section-to}
-use Rattle.jh_check.proofs.DeviceLemmas.{good-words, words-good, bitmap-from, bitmap-to}
+use Rattle.jh_check.specs.Broken.{Located, BreakTogether, HasEarlierComm, BreaksAlone, BreaksMemory, TellsOfTwo, TellsOfOne, TellsOfMemory, TellsOfDevice, TellsOfCpus, IsFoundBy, IsBroken}
+use Rattle.jh_check.proofs.BoolLemmas.{not_both}
+use Rattle.jh_check.proofs.BreakLemmas.{share_parts, within_parts}
+use Rattle.jh_check.proofs.CleanLemmas.{positive, not_zero, get_take, take_get, any_at, any_of, virt_common, phys_common, common_virt, common_phys, shared, same_section_from, same_section_to}
+use Rattle.jh_check.proofs.DeviceLemmas.{good_words, words_good, bitmap_from, bitmap_to}
 use Rattle.jh_check.proofs.Tested.{OfPair, OfRegion, OfMemory, OfDevice, OfCpus, OfRule}
-use Rattle.jh_check.proofs.FoundLemmas.{tested-from_listed, listed-from_tested}
+use Rattle.jh_check.proofs.FoundLemmas.{tested_from_listed, listed_from_tested}
 
 -- ---- two regions
 
 abbrev located : ℕ → CellConfig → ℕ → Region → Located
 located a cell r x = record { a = a; cell = cell; r = r; region = x }
 
-abbrev at-spot : Located → Spot
-at-spot l = spot l.a l.cell l.r l.region
+abbrev at_spot : Located → Spot
+at_spot l = spot l.a l.cell l.r l.region
 
-no-section : (one : Located) (other : Located) → are_same_section one.cell one.r other.cell other.r ≡ false → IsSameSection one.cell one.r other.cell other.r → ⊥
-no-section one other f h = not-both (are_same_section one.cell one.r other.cell other.r) (same-section-to one.cell one.r other.cell other.r h) f
+no_section : (one : Located) (other : Located) → are_same_section one.cell one.r other.cell other.r ≡ false → IsSameSection one.cell one.r other.cell other.r → ⊥
+no_section one other f h = not_both (are_same_section one.cell one.r other.cell other.r) (same_section_to one.cell one.r other.cell other.r h) f
 
-no-test : (one : Located) (other : Located) → (IsSameSection one.cell one.r other.cell other.r → ⊥) → not (are_same_section one.cell one.r other.cell other.r) ≡ true
-no-test one other n =
+no_test : (one : Located) (other : Located) → (IsSameSection one.cell one.r other.cell other.r → ⊥) → not (are_same_section one.cell one.r other.cell other.r) ≡ true
+no_test one other n =
     elim (cases_Bool (are_same_section one.cell one.r other.cell other.r)) [
-      | inl t ↦ absurd (n (same-section-from one.cell one.r other.cell other.r t))
+      | inl t ↦ absurd (n (same_section_from one.cell one.r other.cell other.r t))
       | inr f ↦ not_from_false (are_same_section one.cell one.r other.cell other.r) f
     ]
 
-pair-words : (rule : Rule) (one other : Located) → pair_breaks rule (at-spot one) (at-spot other) ≡ true → BreakTogether rule one other
+pair_words : (rule : Rule) (one other : Located) → pair_breaks rule (at_spot one) (at_spot other) ≡ true → BreakTogether rule one other
 unfolding pair_breaks
-pair-words VirtOverlap one other t =
-    let p = within-parts (at-spot one) (at-spot other) (virt_meet one.region other.region) t in
-    ((eqb-true one.a other.a p.0, ltb-true one.r other.r p.1), common-virt one.region other.region p.2)
-pair-words PhysOverlap one other t =
-    let p = within-parts (at-spot one) (at-spot other) (share_places one.region other.region) t in
-    let q = share-parts one.region other.region p.2 in
-    ((eqb-true one.a other.a p.0, ltb-true one.r other.r p.1), (not-true (is_comm one.region) q.0, not-true (is_comm other.region) q.1), common-phys one.region other.region q.2)
-pair-words SubpageTaken one other t =
+pair_words VirtOverlap one other t =
+    let p = within_parts (at_spot one) (at_spot other) (virt_meet one.region other.region) t in
+    ((eqb-true one.a other.a p.0, ltb-true one.r other.r p.1), common_virt one.region other.region p.2)
+pair_words PhysOverlap one other t =
+    let p = within_parts (at_spot one) (at_spot other) (share_places one.region other.region) t in
+    let q = share_parts one.region other.region p.2 in
+    ((eqb-true one.a other.a p.0, ltb-true one.r other.r p.1), (not-true (is_comm one.region) q.0, not-true (is_comm other.region) q.1), common_phys one.region other.region q.2)
+pair_words SubpageTaken one other t =
     let x = one.region in
     let y = other.region in
     let last = is_page_mapped y && phys_meet x y in
@@ -59,8 +59,8 @@ pair-words SubpageTaken one other t =
     let u = and_parts (is_unshared x) (not (is_page_mapped x) && last) q.1 in
     let v = and_parts (not (is_page_mapped x)) last u.1 in
     let w = and_parts (is_page_mapped y) (phys_meet x y) v.1 in
-    ((positive one.a p.0, eqb-true other.a 0 q.0), (u.0, not-true (is_page_mapped x) v.0, w.0), common-phys x y w.1)
-pair-words CellsOverlap one other t =
+    ((positive one.a p.0, eqb-true other.a 0 q.0), (u.0, not-true (is_page_mapped x) v.0, w.0), common_phys x y w.1)
+pair_words CellsOverlap one other t =
     let x = one.region in
     let y = other.region in
     let section = are_same_section one.cell one.r other.cell other.r in
@@ -70,32 +70,32 @@ pair-words CellsOverlap one other t =
     let q = and_parts (nat_lt one.a other.a) rest p.1 in
     let u = and_parts (share_places x y) last q.1 in
     let v = and_parts (not (both_shared x y)) (not section) u.1 in
-    let w = share-parts x y u.0 in
-    ((ltb-true 0 one.a p.0, ltb-true one.a other.a q.0), (not-true (is_comm x) w.0, not-true (is_comm y) w.1), common-phys x y w.2, not-true (both_shared x y) v.0, no-section one other (not-true section v.1))
-pair-words _ one other t = absurd (false≢true t)
+    let w = share_parts x y u.0 in
+    ((ltb-true 0 one.a p.0, ltb-true one.a other.a q.0), (not-true (is_comm x) w.0, not-true (is_comm y) w.1), common_phys x y w.2, not-true (both_shared x y) v.0, no_section one other (not-true section v.1))
+pair_words _ one other t = absurd (false≢true t)
 
-words-pair : (rule : Rule) (one other : Located) → BreakTogether rule one other → pair_breaks rule (at-spot one) (at-spot other) ≡ true
+words_pair : (rule : Rule) (one other : Located) → BreakTogether rule one other → pair_breaks rule (at_spot one) (at_spot other) ≡ true
 unfolding pair_breaks
-words-pair VirtOverlap one other w =
+words_pair VirtOverlap one other w =
     let x = one.region in
     let y = other.region in
     and_from (one.a == other.a) (nat_lt one.r other.r && virt_meet x y) (eq-eqb one.a other.a w.0.0) (
-    and_from (nat_lt one.r other.r) (virt_meet x y) (lt-ltb one.r other.r w.0.1) (virt-common x y w.1.0 w.1.1 w.1.2))
-words-pair PhysOverlap one other w =
+    and_from (nat_lt one.r other.r) (virt_meet x y) (lt-ltb one.r other.r w.0.1) (virt_common x y w.1.0 w.1.1 w.1.2))
+words_pair PhysOverlap one other w =
     let x = one.region in
     let y = other.region in
     and_from (one.a == other.a) (nat_lt one.r other.r && share_places x y) (eq-eqb one.a other.a w.0.0) (
-    and_from (nat_lt one.r other.r) (share_places x y) (lt-ltb one.r other.r w.0.1) (shared x y w.1.0 w.1.1 (phys-common x y w.2.0 w.2.1 w.2.2)))
-words-pair SubpageTaken one other w =
+    and_from (nat_lt one.r other.r) (share_places x y) (lt-ltb one.r other.r w.0.1) (shared x y w.1.0 w.1.1 (phys_common x y w.2.0 w.2.1 w.2.2)))
+words_pair SubpageTaken one other w =
     let x = one.region in
     let y = other.region in
     let last = is_page_mapped y && phys_meet x y in
-    and_from (not (one.a == 0)) ((other.a == 0) && takes_pages x y) (not-zero one.a w.0.0) (
+    and_from (not (one.a == 0)) ((other.a == 0) && takes_pages x y) (not_zero one.a w.0.0) (
     and_from (other.a == 0) (takes_pages x y) (eq-eqb other.a 0 w.0.1) (
     and_from (is_unshared x) (not (is_page_mapped x) && last) w.1.0 (
     and_from (not (is_page_mapped x)) last (not_from_false (is_page_mapped x) w.1.1) (
-    and_from (is_page_mapped y) (phys_meet x y) w.1.2 (phys-common x y w.2.0 w.2.1 w.2.2)))))
-words-pair CellsOverlap one other w =
+    and_from (is_page_mapped y) (phys_meet x y) w.1.2 (phys_common x y w.2.0 w.2.1 w.2.2)))))
+words_pair CellsOverlap one other w =
     let x = one.region in
     let y = other.region in
     let section = are_same_section one.cell one.r other.cell other.r in
@@ -103,32 +103,32 @@ words-pair CellsOverlap one other w =
     let rest = share_places x y && last in
     and_from (nat_lt 0 one.a) (nat_lt one.a other.a && rest) (lt-ltb 0 one.a w.0.0) (
     and_from (nat_lt one.a other.a) rest (lt-ltb one.a other.a w.0.1) (
-    and_from (share_places x y) last (shared x y w.1.0 w.1.1 (phys-common x y w.2.0 w.2.1 w.2.2)) (
-    and_from (not (both_shared x y)) (not section) (not_from_false (both_shared x y) w.3) (no-test one other w.4))))
-words-pair _ one other w = absurd w
+    and_from (share_places x y) last (shared x y w.1.0 w.1.1 (phys_common x y w.2.0 w.2.1 w.2.2)) (
+    and_from (not (both_shared x y)) (not section) (not_from_false (both_shared x y) w.3) (no_test one other w.4))))
+words_pair _ one other w = absurd w
 
 -- ---- one region
 
-earlier-words : (l : Located) → list_any is_counted_comm (take l.r l.cell.memory_regions) ≡ true → HasEarlierComm l
-earlier-words l t =
-    let w = any-of is_counted_comm (take l.r l.cell.memory_regions) t in
-    let g = get-take l.r l.cell.memory_regions w.0 w.1 w.2 in
+earlier_words : (l : Located) → list_any is_counted_comm (take l.r l.cell.memory_regions) ≡ true → HasEarlierComm l
+earlier_words l t =
+    let w = any_of is_counted_comm (take l.r l.cell.memory_regions) t in
+    let g = get_take l.r l.cell.memory_regions w.0 w.1 w.2 in
     let c = and_parts (has_size w.1) (is_comm w.1) w.3 in
     (w.0, w.1, g.0, g.1, ltb-true 0 w.1.size c.0, c.1)
 
-words-earlier : (l : Located) → HasEarlierComm l → list_any is_counted_comm (take l.r l.cell.memory_regions) ≡ true
-words-earlier l h =
-    any-at is_counted_comm (take l.r l.cell.memory_regions) h.0 h.1 (take-get l.r l.cell.memory_regions h.0 h.1 h.2 h.3) (and_from (has_size h.1) (is_comm h.1) (lt-ltb 0 h.1.size h.4) h.5)
+words_earlier : (l : Located) → HasEarlierComm l → list_any is_counted_comm (take l.r l.cell.memory_regions) ≡ true
+words_earlier l h =
+    any_at is_counted_comm (take l.r l.cell.memory_regions) h.0 h.1 (take_get l.r l.cell.memory_regions h.0 h.1 h.2 h.3) (and_from (has_size h.1) (is_comm h.1) (lt-ltb 0 h.1.size h.4) h.5)
 
 -- two numbers that aren't equal
 unequal : (m n : ℕ) → not (m == n) ≡ true → m ≢ n
 unequal m n t = eqb-false m n (not-true (m == n) t)
 
-unequal-test : (m n : ℕ) → m ≢ n → not (m == n) ≡ true
-unequal-test m n h = not_from_false (m == n) (ne_eqb m n h)
+unequal_test : (m n : ℕ) → m ≢ n → not (m == n) ≡ true
+unequal_test m n h = not_from_false (m == n) (ne_eqb m n h)
 
-shape-words : (l : Located) → is_misshapen (take l.r l.cell.memory_regions) l.region ≡ true → (l.region.size ≢ PAGE_SIZE) ⊎ ((l.region.virt_start % PAGE_SIZE ≢ 0) ⊎ HasEarlierComm l)
-shape-words l t =
+shape_words : (l : Located) → is_misshapen (take l.r l.cell.memory_regions) l.region ≡ true → (l.region.size ≢ PAGE_SIZE) ⊎ ((l.region.virt_start % PAGE_SIZE ≢ 0) ⊎ HasEarlierComm l)
+shape_words l t =
     let x = l.region in
     let seen = list_any is_counted_comm (take l.r l.cell.memory_regions) in
     let odd = not (x.virt_start % PAGE_SIZE == 0) in
@@ -136,88 +136,88 @@ shape-words l t =
       | inl e ↦ inl (unequal x.size PAGE_SIZE e)
       | inr e ↦ elim (or_cases odd seen e) [
         | inl f ↦ inr (inl (unequal (x.virt_start % PAGE_SIZE) 0 f))
-        | inr f ↦ inr (inr (earlier-words l f))
+        | inr f ↦ inr (inr (earlier_words l f))
       ]
     ]
 
-words-shape : (l : Located) → (l.region.size ≢ PAGE_SIZE) ⊎ ((l.region.virt_start % PAGE_SIZE ≢ 0) ⊎ HasEarlierComm l) → is_misshapen (take l.r l.cell.memory_regions) l.region ≡ true
-words-shape l w =
+words_shape : (l : Located) → (l.region.size ≢ PAGE_SIZE) ⊎ ((l.region.virt_start % PAGE_SIZE ≢ 0) ⊎ HasEarlierComm l) → is_misshapen (take l.r l.cell.memory_regions) l.region ≡ true
+words_shape l w =
     let x = l.region in
     let seen = list_any is_counted_comm (take l.r l.cell.memory_regions) in
     let odd = not (x.virt_start % PAGE_SIZE == 0) in
     elim w [
-      | inl e ↦ or_left (not (x.size == PAGE_SIZE)) (odd || seen) (unequal-test x.size PAGE_SIZE e)
+      | inl e ↦ or_left (not (x.size == PAGE_SIZE)) (odd || seen) (unequal_test x.size PAGE_SIZE e)
       | inr v ↦ or_right (not (x.size == PAGE_SIZE)) (odd || seen) (elim v [
-        | inl f ↦ or_left odd seen (unequal-test (x.virt_start % PAGE_SIZE) 0 f)
-        | inr f ↦ or_right odd seen (words-earlier l f)
+        | inl f ↦ or_left odd seen (unequal_test (x.virt_start % PAGE_SIZE) 0 f)
+        | inr f ↦ or_right odd seen (words_earlier l f)
       ])
     ]
 
-alone-words : (rule : Rule) (h : Region) (l : Located) → breaks_alone rule h l.a (take l.r l.cell.memory_regions) l.region ≡ true → BreaksAlone rule h l
-alone-words Hypervisor h l t =
+alone_words : (rule : Rule) (h : Region) (l : Located) → breaks_alone rule h l.a (take l.r l.cell.memory_regions) l.region ≡ true → BreaksAlone rule h l
+alone_words Hypervisor h l t =
     let p = and_parts (not (is_comm l.region)) (phys_meet l.region h) t in
-    (not-true (is_comm l.region) p.0, common-phys l.region h p.1)
-alone-words OutOfRange h l t =
+    (not-true (is_comm l.region) p.0, common_phys l.region h p.1)
+alone_words OutOfRange h l t =
     let x = l.region in
     let far = nat_lt ADDRESS_END (phys_end x) in
     elim (or_cases (nat_lt ADDRESS_END (virt_end x)) (not (is_comm x) && far) t) [
       | inl e ↦ inl (ltb-true ADDRESS_END (virt_end x) e)
       | inr e ↦ let p = and_parts (not (is_comm x)) far e in inr (not-true (is_comm x) p.0, ltb-true ADDRESS_END (phys_end x) p.1)
     ]
-alone-words RootNotIdentity h l t =
+alone_words RootNotIdentity h l t =
     let x = l.region in
     let p = and_parts (l.a == 0) (not (x.phys_start == x.virt_start)) t in
     (eqb-true l.a 0 p.0, unequal x.phys_start x.virt_start p.1)
-alone-words CommInRoot h l t =
+alone_words CommInRoot h l t =
     let p = and_parts (l.a == 0) (is_comm l.region) t in
     (eqb-true l.a 0 p.0, p.1)
-alone-words CommShape h l t =
+alone_words CommShape h l t =
     let x = l.region in
     let bad = is_misshapen (take l.r l.cell.memory_regions) x in
     let p = and_parts (not (l.a == 0)) (is_comm x && bad) t in
     let q = and_parts (is_comm x) bad p.1 in
-    (positive l.a p.0, q.0, shape-words l q.1)
-alone-words ExecuteWithoutRead h l t =
+    (positive l.a p.0, q.0, shape_words l q.1)
+alone_words ExecuteWithoutRead h l t =
     let p = and_parts (has_flags 0x4 l.region) (not (has_flags 0x1 l.region)) t in
     (p.0, not-true (has_flags 0x1 l.region) p.1)
-alone-words PhysAlign h l t =
+alone_words PhysAlign h l t =
     let x = l.region in
     let odd = not (x.phys_start % PAGE_SIZE == 0) in
     let p = and_parts (is_page_mapped x) (not (is_comm x) && odd) t in
     let q = and_parts (not (is_comm x)) odd p.1 in
     (p.0, not-true (is_comm x) q.0, unequal (x.phys_start % PAGE_SIZE) 0 q.1)
-alone-words _ h l t = absurd (false≢true t)
+alone_words _ h l t = absurd (false≢true t)
 
-words-alone : (rule : Rule) (h : Region) (l : Located) → BreaksAlone rule h l → breaks_alone rule h l.a (take l.r l.cell.memory_regions) l.region ≡ true
-words-alone Hypervisor h l w =
-    and_from (not (is_comm l.region)) (phys_meet l.region h) (not_from_false (is_comm l.region) w.0) (phys-common l.region h w.1.0 w.1.1 w.1.2)
-words-alone OutOfRange h l (inl e) =
+words_alone : (rule : Rule) (h : Region) (l : Located) → BreaksAlone rule h l → breaks_alone rule h l.a (take l.r l.cell.memory_regions) l.region ≡ true
+words_alone Hypervisor h l w =
+    and_from (not (is_comm l.region)) (phys_meet l.region h) (not_from_false (is_comm l.region) w.0) (phys_common l.region h w.1.0 w.1.1 w.1.2)
+words_alone OutOfRange h l (inl e) =
     or_left (nat_lt ADDRESS_END (virt_end l.region)) (not (is_comm l.region) && nat_lt ADDRESS_END (phys_end l.region)) (lt-ltb ADDRESS_END (virt_end l.region) e)
-words-alone OutOfRange h l (inr p) =
+words_alone OutOfRange h l (inr p) =
     let x = l.region in
     let far = nat_lt ADDRESS_END (phys_end x) in
     or_right (nat_lt ADDRESS_END (virt_end x)) (not (is_comm x) && far) (and_from (not (is_comm x)) far (not_from_false (is_comm x) p.0) (lt-ltb ADDRESS_END (phys_end x) p.1))
-words-alone RootNotIdentity h l w =
+words_alone RootNotIdentity h l w =
     let x = l.region in
-    and_from (l.a == 0) (not (x.phys_start == x.virt_start)) (eq-eqb l.a 0 w.0) (unequal-test x.phys_start x.virt_start w.1)
-words-alone CommInRoot h l w = and_from (l.a == 0) (is_comm l.region) (eq-eqb l.a 0 w.0) w.1
-words-alone CommShape h l w =
+    and_from (l.a == 0) (not (x.phys_start == x.virt_start)) (eq-eqb l.a 0 w.0) (unequal_test x.phys_start x.virt_start w.1)
+words_alone CommInRoot h l w = and_from (l.a == 0) (is_comm l.region) (eq-eqb l.a 0 w.0) w.1
+words_alone CommShape h l w =
     let x = l.region in
     let bad = is_misshapen (take l.r l.cell.memory_regions) x in
-    and_from (not (l.a == 0)) (is_comm x && bad) (not-zero l.a w.0) (and_from (is_comm x) bad w.1 (words-shape l w.2))
-words-alone ExecuteWithoutRead h l w =
+    and_from (not (l.a == 0)) (is_comm x && bad) (not_zero l.a w.0) (and_from (is_comm x) bad w.1 (words_shape l w.2))
+words_alone ExecuteWithoutRead h l w =
     and_from (has_flags 0x4 l.region) (not (has_flags 0x1 l.region)) w.0 (not_from_false (has_flags 0x1 l.region) w.1)
-words-alone PhysAlign h l w =
+words_alone PhysAlign h l w =
     let x = l.region in
     let odd = not (x.phys_start % PAGE_SIZE == 0) in
-    and_from (is_page_mapped x) (not (is_comm x) && odd) w.0 (and_from (not (is_comm x)) odd (not_from_false (is_comm x) w.1) (unequal-test (x.phys_start % PAGE_SIZE) 0 w.2))
-words-alone _ h l w = absurd w
+    and_from (is_page_mapped x) (not (is_comm x) && odd) w.0 (and_from (not (is_comm x)) odd (not_from_false (is_comm x) w.1) (unequal_test (x.phys_start % PAGE_SIZE) 0 w.2))
+words_alone _ h l w = absurd w
 
 -- ---- the hypervisor's memory
 
-memory-words : (rule : Rule) (h : Region) → hypervisor_breaks rule h ≡ true → BreaksMemory rule h
+memory_words : (rule : Rule) (h : Region) → hypervisor_breaks rule h ≡ true → BreaksMemory rule h
 unfolding hypervisor_breaks
-memory-words OutOfRange h t =
+memory_words OutOfRange h t =
     let far = nat_lt ADDRESS_END (phys_end h) in
     let big = nat_lt 0x4000000 h.size in
     elim (or_cases (h.size == 0) (big || far) t) [
@@ -227,7 +227,7 @@ memory-words OutOfRange h t =
         | inr e ↦ inr (inr (ltb-true ADDRESS_END (phys_end h) e))
       ]
     ]
-memory-words PhysAlign h t =
+memory_words PhysAlign h t =
     let one = not (h.phys_start % PAGE_SIZE == 0) in
     let two = not (h.size % PAGE_SIZE == 0) in
     let p = and_parts (has_size h) (one || two) t in (
@@ -237,45 +237,45 @@ memory-words PhysAlign h t =
         | inr e ↦ inr (unequal (h.size % PAGE_SIZE) 0 e)
       ],
     )
-memory-words _ h t = absurd (false≢true t)
+memory_words _ h t = absurd (false≢true t)
 
-words-memory : (rule : Rule) (h : Region) → BreaksMemory rule h → hypervisor_breaks rule h ≡ true
+words_memory : (rule : Rule) (h : Region) → BreaksMemory rule h → hypervisor_breaks rule h ≡ true
 unfolding hypervisor_breaks
-words-memory OutOfRange h (inl e) =
+words_memory OutOfRange h (inl e) =
     or_left (h.size == 0) (nat_lt 0x4000000 h.size || nat_lt ADDRESS_END (phys_end h)) (eq-eqb h.size 0 e)
-words-memory OutOfRange h (inr (inl e)) =
+words_memory OutOfRange h (inr (inl e)) =
     let far = nat_lt ADDRESS_END (phys_end h) in
     let big = nat_lt 0x4000000 h.size in
     let l : 0x4000000 < h.size = e in
     or_right (h.size == 0) (big || far) (or_left big far (lt-ltb 0x4000000 h.size l))
-words-memory OutOfRange h (inr (inr e)) =
+words_memory OutOfRange h (inr (inr e)) =
     let far = nat_lt ADDRESS_END (phys_end h) in
     let big = nat_lt 0x4000000 h.size in
     or_right (h.size == 0) (big || far) (or_right big far (lt-ltb ADDRESS_END (phys_end h) e))
-words-memory PhysAlign h w =
+words_memory PhysAlign h w =
     let one = not (h.phys_start % PAGE_SIZE == 0) in
     let two = not (h.size % PAGE_SIZE == 0) in
     and_from (has_size h) (one || two) (lt-ltb 0 h.size w.0) (either one two w.1)
   where
     either : (one two : Bool) → (h.phys_start % PAGE_SIZE ≢ 0) ⊎ (h.size % PAGE_SIZE ≢ 0) → (not (h.phys_start % PAGE_SIZE == 0) || not (h.size % PAGE_SIZE == 0)) ≡ true
-    either one two (inl e) = or_left (not (h.phys_start % PAGE_SIZE == 0)) (not (h.size % PAGE_SIZE == 0)) (unequal-test (h.phys_start % PAGE_SIZE) 0 e)
-    either one two (inr e) = or_right (not (h.phys_start % PAGE_SIZE == 0)) (not (h.size % PAGE_SIZE == 0)) (unequal-test (h.size % PAGE_SIZE) 0 e)
-words-memory _ h w = absurd w
+    either one two (inl e) = or_left (not (h.phys_start % PAGE_SIZE == 0)) (not (h.size % PAGE_SIZE == 0)) (unequal_test (h.phys_start % PAGE_SIZE) 0 e)
+    either one two (inr e) = or_right (not (h.phys_start % PAGE_SIZE == 0)) (not (h.size % PAGE_SIZE == 0)) (unequal_test (h.size % PAGE_SIZE) 0 e)
+words_memory _ h w = absurd w
 
 -- ---- findings
 
-two-tell : (rule : Rule) (all : List CellConfig) (f : Finding) → OfPair rule all f → TellsOfTwo rule all f
-two-tell rule all f p = record {
+two_tell : (rule : Rule) (all : List CellConfig) (f : Finding) → OfPair rule all f → TellsOfTwo rule all f
+two_tell rule all f p = record {
   one = located p.a p.one p.r p.x;
   other = located p.b p.other p.s p.y;
   is_one = record { cell = p.is_one; region = p.is_x };
   is_other = record { cell = p.is_other; region = p.is_y };
-  breaks = pair-words rule (located p.a p.one p.r p.x) (located p.b p.other p.s p.y) p.breaks;
+  breaks = pair_words rule (located p.a p.one p.r p.x) (located p.b p.other p.s p.y) p.breaks;
   told = p.told;
 }
 
-tell-two : (rule : Rule) (all : List CellConfig) (f : Finding) → TellsOfTwo rule all f → OfPair rule all f
-tell-two rule all f t = record {
+tell_two : (rule : Rule) (all : List CellConfig) (f : Finding) → TellsOfTwo rule all f → OfPair rule all f
+tell_two rule all f t = record {
   a = t.one.a;
   b = t.other.a;
   one = t.one.cell;
@@ -288,44 +288,44 @@ tell-two rule all f t = record {
   is_other = t.is_other.cell;
   is_x = t.is_one.region;
   is_y = t.is_other.region;
-  breaks = words-pair rule t.one t.other t.breaks;
+  breaks = words_pair rule t.one t.other t.breaks;
   told = t.told;
 }
 
-one-tells : (rule : Rule) (h : Region) (all : List CellConfig) (f : Finding) → OfRegion rule h all f → TellsOfOne rule h all f
+one_tells : (rule : Rule) (h : Region) (all : List CellConfig) (f : Finding) → OfRegion rule h all f → TellsOfOne rule h all f
 unfolding region_breaks
-one-tells rule h all f p =
+one_tells rule h all f p =
     let q = and_parts (has_size p.x) (breaks_alone rule h p.a (take p.r p.one.memory_regions) p.x) p.breaks in
     record {
       at = located p.a p.one p.r p.x;
       is_at = record { cell = p.is_one; region = p.is_x };
       some = ltb-true 0 p.x.size q.0;
-      breaks = alone-words rule h (located p.a p.one p.r p.x) q.1;
+      breaks = alone_words rule h (located p.a p.one p.r p.x) q.1;
       told = p.told;
     }
 
-tell-one : (rule : Rule) (h : Region) (all : List CellConfig) (f : Finding) → TellsOfOne rule h all f → OfRegion rule h all f
+tell_one : (rule : Rule) (h : Region) (all : List CellConfig) (f : Finding) → TellsOfOne rule h all f → OfRegion rule h all f
 unfolding region_breaks
-tell-one rule h all f t = record {
+tell_one rule h all f t = record {
   a = t.at.a;
   one = t.at.cell;
   r = t.at.r;
   x = t.at.region;
   is_one = t.is_at.cell;
   is_x = t.is_at.region;
-  breaks = and_from (has_size t.at.region) (breaks_alone rule h t.at.a (take t.at.r t.at.cell.memory_regions) t.at.region) (lt-ltb 0 t.at.region.size t.some) (words-alone rule h t.at t.breaks);
+  breaks = and_from (has_size t.at.region) (breaks_alone rule h t.at.a (take t.at.r t.at.cell.memory_regions) t.at.region) (lt-ltb 0 t.at.region.size t.some) (words_alone rule h t.at t.breaks);
   told = t.told;
 }
 
-memory-tells : (rule : Rule) (h : Region) (f : Finding) → OfMemory rule h f → TellsOfMemory rule h f
-memory-tells rule h f p = record { breaks = memory-words rule h p.breaks; told = p.told }
+memory_tells : (rule : Rule) (h : Region) (f : Finding) → OfMemory rule h f → TellsOfMemory rule h f
+memory_tells rule h f p = record { breaks = memory_words rule h p.breaks; told = p.told }
 
-tell-memory : (rule : Rule) (h : Region) (f : Finding) → TellsOfMemory rule h f → OfMemory rule h f
-tell-memory rule h f t = record { breaks = words-memory rule h t.breaks; told = t.told }
+tell_memory : (rule : Rule) (h : Region) (f : Finding) → TellsOfMemory rule h f → OfMemory rule h f
+tell_memory rule h f t = record { breaks = words_memory rule h t.breaks; told = t.told }
 
-device-tells : (all : List CellConfig) (f : Finding) → OfDevice all f → TellsOfDevice all f
+device_tells : (all : List CellConfig) (f : Finding) → OfDevice all f → TellsOfDevice all f
 unfolding device_breaks
-device-tells all f p =
+device_tells all f p =
     let good = is_good_shmem (take p.a all) p.one (take p.n p.one.pci_devices) p.device in
     let q = and_parts (is_shmem p.device) (not good) p.breaks in
     let kind = eqb-true p.device.kind 3 q.0 in
@@ -337,16 +337,16 @@ device-tells all f p =
       is_cell = p.is_one;
       is_device = p.is_device;
       kind = kind;
-      breaks = λ sound among. not-both good (words-good all p.a p.one p.n p.device kind sound among) (not-true good q.1);
+      breaks = λ sound among. not_both good (words_good all p.a p.one p.n p.device kind sound among) (not-true good q.1);
       told = p.told;
     }
 
-tell-device : (all : List CellConfig) (f : Finding) → TellsOfDevice all f → OfDevice all f
+tell_device : (all : List CellConfig) (f : Finding) → TellsOfDevice all f → OfDevice all f
 unfolding device_breaks
-tell-device all f t =
+tell_device all f t =
     let good = is_good_shmem (take t.a all) t.cell (take t.n t.cell.pci_devices) t.device in
     let bad : not good ≡ true = elim (cases_Bool good) [
-      | inl g ↦ let w = good-words all t.a t.cell t.n t.device t.kind g in absurd (t.breaks w.0 w.1)
+      | inl g ↦ let w = good_words all t.a t.cell t.n t.device t.kind g in absurd (t.breaks w.0 w.1)
       | inr g ↦ not_from_false good g
     ] in
     record {
@@ -360,60 +360,60 @@ tell-device all f t =
       told = t.told;
     }
 
-cpus-tell : (all : List CellConfig) (f : Finding) → OfCpus all f → TellsOfCpus all f
-cpus-tell all f p = record { a = p.a; cell = p.one; is_cell = p.is_one; breaks = λ sound. bitmap-to p.one.cpu_set sound p.breaks; told = p.told }
+cpus_tell : (all : List CellConfig) (f : Finding) → OfCpus all f → TellsOfCpus all f
+cpus_tell all f p = record { a = p.a; cell = p.one; is_cell = p.is_one; breaks = λ sound. bitmap_to p.one.cpu_set sound p.breaks; told = p.told }
 
-tell-cpus : (all : List CellConfig) (f : Finding) → TellsOfCpus all f → OfCpus all f
-tell-cpus all f t =
+tell_cpus : (all : List CellConfig) (f : Finding) → TellsOfCpus all f → OfCpus all f
+tell_cpus all f t =
     let bad : cpus_break t.cell.cpu_set ≡ true = elim (cases_Bool (cpus_break t.cell.cpu_set)) [
       | inl b ↦ b
-      | inr b ↦ absurd (t.breaks (bitmap-from t.cell.cpu_set (λ u. not-both (cpus_break t.cell.cpu_set) u b)))
+      | inr b ↦ absurd (t.breaks (bitmap_from t.cell.cpu_set (λ u. not_both (cpus_break t.cell.cpu_set) u b)))
     ] in
     record { a = t.a; one = t.cell; is_one = t.is_cell; breaks = bad; told = t.told }
 
-both-tell : (rule : Rule) (h : Region) (all : List CellConfig) (f : Finding) → OfRegion rule h all f ⊎ OfMemory rule h f → TellsOfOne rule h all f ⊎ TellsOfMemory rule h f
-both-tell rule h all f (inl p) = inl (one-tells rule h all f p)
-both-tell rule h all f (inr p) = inr (memory-tells rule h f p)
+both_tell : (rule : Rule) (h : Region) (all : List CellConfig) (f : Finding) → OfRegion rule h all f ⊎ OfMemory rule h f → TellsOfOne rule h all f ⊎ TellsOfMemory rule h f
+both_tell rule h all f (inl p) = inl (one_tells rule h all f p)
+both_tell rule h all f (inr p) = inr (memory_tells rule h f p)
 
-tell-both : (rule : Rule) (h : Region) (all : List CellConfig) (f : Finding) → TellsOfOne rule h all f ⊎ TellsOfMemory rule h f → OfRegion rule h all f ⊎ OfMemory rule h f
-tell-both rule h all f (inl t) = inl (tell-one rule h all f t)
-tell-both rule h all f (inr t) = inr (tell-memory rule h f t)
+tell_both : (rule : Rule) (h : Region) (all : List CellConfig) (f : Finding) → TellsOfOne rule h all f ⊎ TellsOfMemory rule h f → OfRegion rule h all f ⊎ OfMemory rule h f
+tell_both rule h all f (inl t) = inl (tell_one rule h all f t)
+tell_both rule h all f (inr t) = inr (tell_memory rule h f t)
 
-tells : (rule : Rule) (h : Region) (all : List CellConfig) (f : Finding) → OfRule rule h all f → Tells rule h all f
-tells VirtOverlap h all f p = two-tell VirtOverlap all f p
-tells PhysOverlap h all f p = two-tell PhysOverlap all f p
-tells Hypervisor h all f p = one-tells Hypervisor h all f p
-tells OutOfRange h all f p = both-tell OutOfRange h all f p
-tells RootNotIdentity h all f p = one-tells RootNotIdentity h all f p
-tells CommInRoot h all f p = one-tells CommInRoot h all f p
-tells CommShape h all f p = one-tells CommShape h all f p
-tells ExecuteWithoutRead h all f p = one-tells ExecuteWithoutRead h all f p
-tells SubpageTaken h all f p = two-tell SubpageTaken all f p
-tells CellsOverlap h all f p = two-tell CellsOverlap all f p
-tells Shmem h all f p = device-tells all f p
-tells NoCpu h all f p = cpus-tell all f p
-tells PhysAlign h all f p = both-tell PhysAlign h all f p
+tells : (rule : Rule) (h : Region) (all : List CellConfig) (f : Finding) → OfRule rule h all f → IsFoundBy rule h all f
+tells VirtOverlap h all f p = two_tell VirtOverlap all f p
+tells PhysOverlap h all f p = two_tell PhysOverlap all f p
+tells Hypervisor h all f p = one_tells Hypervisor h all f p
+tells OutOfRange h all f p = both_tell OutOfRange h all f p
+tells RootNotIdentity h all f p = one_tells RootNotIdentity h all f p
+tells CommInRoot h all f p = one_tells CommInRoot h all f p
+tells CommShape h all f p = one_tells CommShape h all f p
+tells ExecuteWithoutRead h all f p = one_tells ExecuteWithoutRead h all f p
+tells SubpageTaken h all f p = two_tell SubpageTaken all f p
+tells CellsOverlap h all f p = two_tell CellsOverlap all f p
+tells Shmem h all f p = device_tells all f p
+tells NoCpu h all f p = cpus_tell all f p
+tells PhysAlign h all f p = both_tell PhysAlign h all f p
 
-told : (rule : Rule) (h : Region) (all : List CellConfig) (f : Finding) → Tells rule h all f → OfRule rule h all f
-told VirtOverlap h all f t = tell-two VirtOverlap all f t
-told PhysOverlap h all f t = tell-two PhysOverlap all f t
-told Hypervisor h all f t = tell-one Hypervisor h all f t
-told OutOfRange h all f t = tell-both OutOfRange h all f t
-told RootNotIdentity h all f t = tell-one RootNotIdentity h all f t
-told CommInRoot h all f t = tell-one CommInRoot h all f t
-told CommShape h all f t = tell-one CommShape h all f t
-told ExecuteWithoutRead h all f t = tell-one ExecuteWithoutRead h all f t
-told SubpageTaken h all f t = tell-two SubpageTaken all f t
-told CellsOverlap h all f t = tell-two CellsOverlap all f t
-told Shmem h all f t = tell-device all f t
-told NoCpu h all f t = tell-cpus all f t
-told PhysAlign h all f t = tell-both PhysAlign h all f t
+told : (rule : Rule) (h : Region) (all : List CellConfig) (f : Finding) → IsFoundBy rule h all f → OfRule rule h all f
+told VirtOverlap h all f t = tell_two VirtOverlap all f t
+told PhysOverlap h all f t = tell_two PhysOverlap all f t
+told Hypervisor h all f t = tell_one Hypervisor h all f t
+told OutOfRange h all f t = tell_both OutOfRange h all f t
+told RootNotIdentity h all f t = tell_one RootNotIdentity h all f t
+told CommInRoot h all f t = tell_one CommInRoot h all f t
+told CommShape h all f t = tell_one CommShape h all f t
+told ExecuteWithoutRead h all f t = tell_one ExecuteWithoutRead h all f t
+told SubpageTaken h all f t = tell_two SubpageTaken all f t
+told CellsOverlap h all f t = tell_two CellsOverlap all f t
+told Shmem h all f t = tell_device all f t
+told NoCpu h all f t = tell_cpus all f t
+told PhysAlign h all f t = tell_both PhysAlign h all f t
 
-pub broken-from_listed : (system : SystemConfig) (cells : List CellConfig) (f : Finding) → Contains (findings system cells) f → IsBroken system cells f
-broken-from_listed system cells f c =
-    let b = tested-from_listed system cells f c in
+pub broken_from_listed : (system : SystemConfig) (cells : List CellConfig) (f : Finding) → Contains (findings system cells) f → IsBroken system cells f
+broken_from_listed system cells f c =
+    let b = tested_from_listed system cells f c in
     record { rule = b.rule; by = tells b.rule system.hypervisor_memory (system.root ∷ cells) f b.by }
 
-pub listed-from_broken : (system : SystemConfig) (cells : List CellConfig) (f : Finding) → IsBroken system cells f → Contains (findings system cells) f
-listed-from_broken system cells f b =
-    listed-from_tested system cells f (record { rule = b.rule; by = told b.rule system.hypervisor_memory (system.root ∷ cells) f b.by })
+pub listed_from_broken : (system : SystemConfig) (cells : List CellConfig) (f : Finding) → IsBroken system cells f → Contains (findings system cells) f
+listed_from_broken system cells f b =
+    listed_from_tested system cells f (record { rule = b.rule; by = told b.rule system.hypervisor_memory (system.root ∷ cells) f b.by })

@@ -1,4 +1,4 @@
--- The seats of devices: those at one place stand side by side, and tell of all that are linked.
+-- The seats of devices: those of one bdf stand side by side, and tell of all that are linked.
 use Rattle.std.proofs.Common.{◌≡◌, ℕ, ◌+◌, ◌-◌, ◌<◌, ◌≤◌, Bool, true, false, ◌&&◌, not, ◌==◌, nat_lt, leb, List, length, get_or, take, drop, length-drop, sym, ap, subst, ◌∙◌, inl, inr, arith}
 use Rattle.std.specs.List.{Contains, AllWithin, list_all}
 use Rattle.std.proofs.lemmas.Bool.{cases_Bool, cases_lt, ltb-true, leb-false, eqb-true, not_from_false, or_left}
@@ -8,26 +8,26 @@ use Rattle.jh_cellcfg.specs.declared.config.PciDevice.{PciDevice}
 use Rattle.jh_cellcfg.specs.declared.config.CellConfig.{CellConfig}
 use Rattle.jh_check.specs.declared.seats.Seat.{Seat}
 use Rattle.jh_check.specs.Devices.{is_shmem, are_linked, are_same_memory, sections_of, agrees_with, agrees_with_all}
-use Rattle.jh_check.specs.Seats.{seat_of, HasSeats, AgreesAt}
-use Rattle.jh_check.proofs.BoolLemmas.{and-right}
-use Rattle.jh_check.proofs.BusLemmas.{all-each}
+use Rattle.jh_check.specs.Private.Seats.{seat_of, HasSeats, AgreesAt}
+use Rattle.jh_check.proofs.BoolLemmas.{and_right}
+use Rattle.jh_check.proofs.BusLemmas.{all_each}
 
 -- ---- side by side
 
 -- what stands between the two borders
-pub seat-within : (seats : List Seat) (place begin m n : ℕ) → begin ≤ m → begin ≤ n → n ≤ length seats → AllWithin (λ (seat : Seat). leb seat.place place ≡ false) seats n (length seats) → AllWithin (λ (seat : Seat). nat_lt seat.place place ≡ true) seats 0 m → (x : Seat) → Contains seats x → x.place ≡ place → Contains (take (n - begin) (drop begin seats)) x
-seat-within seats place begin m n low high bound after before x cx is =
+pub seat_within : (seats : List Seat) (bdf begin m n : ℕ) → begin ≤ m → begin ≤ n → n ≤ length seats → AllWithin (λ (seat : Seat). leb seat.bdf bdf ≡ false) seats n (length seats) → AllWithin (λ (seat : Seat). nat_lt seat.bdf bdf ≡ true) seats 0 m → (x : Seat) → Contains seats x → x.bdf ≡ bdf → Contains (take (n - begin) (drop begin seats)) x
+seat_within seats bdf begin m n low high bound after before x cx is =
     let k = cx.0 in
     let within = cx.1 in
     let a : k < n = elim (cases_lt k n) [
       | inl h ↦ h
       | inr h ↦
-          let e = leb-false x.place place (subst (λ (s : Seat). leb s.place place ≡ false) cx.2 (after k x h within)) in
+          let e = leb-false x.bdf bdf (subst (λ (s : Seat). leb s.bdf bdf ≡ false) cx.2 (after k x h within)) in
           absurd (omega arith)
     ] in
     let b : m ≤ k = elim (cases_lt k m) [
       | inl h ↦
-          let e = ltb-true x.place place (subst (λ (s : Seat). nat_lt s.place place ≡ true) cx.2 (before k x (omega arith) h)) in
+          let e = ltb-true x.bdf bdf (subst (λ (s : Seat). nat_lt s.bdf bdf ≡ true) cx.2 (before k x (omega arith) h)) in
           absurd (omega arith)
       | inr h ↦ h
     ] in
@@ -39,30 +39,30 @@ seat-within seats place begin m n low high bound after before x cx is =
 -- ---- linked devices
 
 -- a device of one of the cells is linked with none, or its seat tells that it fits
-agrees-seated : (cells : List CellConfig) (number : ℕ) (regions : List Region) (device : PciDevice) (seats run : List Seat) → HasSeats cells seats → ((x : Seat) → Contains seats x → x.place ≡ device.bdf → Contains run x) → ((x : Seat) → Contains run x → AgreesAt cells number regions device x) → (k : ℕ) (cell : CellConfig) (other : PciDevice) → k < number → k < length cells → Contains (get_or cells k cell).pci_devices other → agrees_with regions device (get_or cells k cell).memory_regions other ≡ true
-agrees-seated cells number regions device seats run has found agree k cell other low within co =
+agrees_seated : (cells : List CellConfig) (number : ℕ) (regions : List Region) (device : PciDevice) (seats run : List Seat) → HasSeats cells seats → ((x : Seat) → Contains seats x → x.bdf ≡ device.bdf → Contains run x) → ((x : Seat) → Contains run x → AgreesAt cells number regions device x) → (k : ℕ) (cell : CellConfig) (other : PciDevice) → k < number → k < length cells → Contains (get_or cells k cell).pci_devices other → agrees_with regions device (get_or cells k cell).memory_regions other ≡ true
+agrees_seated cells number regions device seats run has found agree k cell other low within co =
     let there = get_or cells k cell in
     let n = co.0 in
     let rest = (device.shmem_peers == other.shmem_peers) && (not (device.shmem_dev_id == other.shmem_dev_id) && are_same_memory (sections_of regions device) (sections_of there.memory_regions other)) in
     elim (cases_Bool (are_linked device other)) [
       | inl t ↦
-          let both = and-right (is_shmem device) (is_shmem other && (device.bdf == other.bdf)) t in
-          let e = eqb-true device.bdf other.bdf (and-right (is_shmem other) (device.bdf == other.bdf) both) in
+          let both = and_right (is_shmem device) (is_shmem other && (device.bdf == other.bdf)) t in
+          let e = eqb-true device.bdf other.bdf (and_right (is_shmem other) (device.bdf == other.bdf) both) in
           let seated : Contains seats (seat_of k n other) = subst (λ (d : PciDevice). Contains seats (seat_of k n d)) co.2 (has k cell within n other co.1) in
           let fits = agree (seat_of k n other) (found (seat_of k n other) seated (sym e)) cell other low co.1 in
           subst (λ (d : PciDevice). agrees_with regions device there.memory_regions d ≡ true) co.2 fits
       | inr f ↦ or_left (not (are_linked device other)) rest (not_from_false (are_linked device other) f)
     ]
 
-pub agrees-linked : (cells : List CellConfig) (number : ℕ) (regions : List Region) (device : PciDevice) (seats run : List Seat) → number ≤ length cells → HasSeats cells seats → ((x : Seat) → Contains seats x → x.place ≡ device.bdf → Contains run x) → ((x : Seat) → Contains run x → AgreesAt cells number regions device x) → agrees_with_all (take number cells) regions device ≡ true
-agrees-linked cells number regions device seats run bound has found agree =
-    all-each (λ (cell : CellConfig). list_all (λ (other : PciDevice). agrees_with regions device cell.memory_regions other) cell.pci_devices) (take number cells) (λ cell cc.
-    all-each (λ (other : PciDevice). agrees_with regions device cell.memory_regions other) cell.pci_devices (λ other co.
+pub agrees_linked : (cells : List CellConfig) (number : ℕ) (regions : List Region) (device : PciDevice) (seats run : List Seat) → number ≤ length cells → HasSeats cells seats → ((x : Seat) → Contains seats x → x.bdf ≡ device.bdf → Contains run x) → ((x : Seat) → Contains run x → AgreesAt cells number regions device x) → agrees_with_all (take number cells) regions device ≡ true
+agrees_linked cells number regions device seats run bound has found agree =
+    all_each (λ (cell : CellConfig). list_all (λ (other : PciDevice). agrees_with regions device cell.memory_regions other) cell.pci_devices) (take number cells) (λ cell cc.
+    all_each (λ (other : PciDevice). agrees_with regions device cell.memory_regions other) cell.pci_devices (λ other co.
     let k = cc.0 in
     let size = length-take number cells in
     let inside = cc.1 in
     let low : k < number = omega arith in
     let here : get_or cells k cell ≡ cell = sym (get_or-take number cells k cell low) ∙ cc.2 in
     let P : CellConfig → Type 0 = λ (c : CellConfig). Contains c.pci_devices other → agrees_with regions device c.memory_regions other ≡ true in
-    let there : P (get_or cells k cell) = λ c. agrees-seated cells number regions device seats run has found agree k cell other low (omega arith) c in
+    let there : P (get_or cells k cell) = λ c. agrees_seated cells number regions device seats run has found agree k cell other low (omega arith) c in
     subst P here there co))

@@ -6,14 +6,14 @@ use Rattle.std.proofs.lemmas.Bool.{ltb-true, ltb-false, lt-ltb, leb-true, le-leb
 use Rattle.std.proofs.lemmas.List.{get_or-take, get_or-drop, length-take}
 use Rattle.jh_check.specs.declared.spans.Span.{Span}
 use Rattle.jh_check.specs.Spans.{spans_meet, AreApartTo, AreApart}
-use Rattle.jh_check.proofs.BoolLemmas.{and-left, and-right}
+use Rattle.jh_check.proofs.BoolLemmas.{and_left, and_right}
 
 -- none is apart from nothing, and one more
-pub apart-none : (spans : List Span) → AreApartTo spans 0
-apart-none spans = record { ordered = λ i d h. absurd (omega arith); apart = λ i j d h k. absurd (omega arith) }
+pub apart_none : (spans : List Span) → AreApartTo spans 0
+apart_none spans = record { ordered = λ i d h. absurd (omega arith); apart = λ i j d h k. absurd (omega arith) }
 
-pub apart-more : (spans : List Span) (k : ℕ) → AreApartTo spans k → ((d : Span) → (get_or spans k d).start ≤ (get_or spans k d).end) → ((d : Span) → 0 < k → (get_or spans (k - 1) d).end ≤ (get_or spans k d).start) → AreApartTo spans (k + 1)
-apart-more spans k before ordered apart =
+pub apart_more : (spans : List Span) (k : ℕ) → AreApartTo spans k → ((d : Span) → (get_or spans k d).start ≤ (get_or spans k d).end) → ((d : Span) → 0 < k → (get_or spans (k - 1) d).end ≤ (get_or spans k d).start) → AreApartTo spans (k + 1)
+apart_more spans k before ordered apart =
     record {
       ordered = λ i d h. elim (cases_eq i k) [
         | inl e ↦ subst (λ i. (get_or spans i d).start ≤ (get_or spans i d).end) (sym e) (ordered d)
@@ -35,8 +35,8 @@ apart-more spans k before ordered apart =
     }
 
 -- starts rise, and so do ends
-starts-rise : (spans : List Span) → AreApart spans → (i j : ℕ) (d : Span) → i ≤ j → j < length spans → (get_or spans i d).start ≤ (get_or spans j d).start
-starts-rise spans apart i j d h k =
+starts_rise : (spans : List Span) → AreApart spans → (i j : ℕ) (d : Span) → i ≤ j → j < length spans → (get_or spans i d).start ≤ (get_or spans j d).start
+starts_rise spans apart i j d h k =
     elim (cases_eq i j) [
       | inl e ↦ subst (λ j. (get_or spans i d).start ≤ (get_or spans j d).start) e (omega arith)
       | inr n ↦
@@ -45,8 +45,8 @@ starts-rise spans apart i j d h k =
           omega arith
     ]
 
-ends-rise : (spans : List Span) → AreApart spans → (i j : ℕ) (d : Span) → i ≤ j → j < length spans → (get_or spans i d).end ≤ (get_or spans j d).end
-ends-rise spans apart i j d h k =
+ends_rise : (spans : List Span) → AreApart spans → (i j : ℕ) (d : Span) → i ≤ j → j < length spans → (get_or spans i d).end ≤ (get_or spans j d).end
+ends_rise spans apart i j d h k =
     elim (cases_eq i j) [
       | inl e ↦ subst (λ j. (get_or spans i d).end ≤ (get_or spans j d).end) e (omega arith)
       | inr n ↦
@@ -55,48 +55,68 @@ ends-rise spans apart i j d h k =
           omega arith
     ]
 
-pub apart-parted : (spans : List Span) (limit : ℕ) → AreApart spans → IsPartitionedBy (λ (span : Span). nat_lt span.start limit) spans
-apart-parted spans limit apart = λ i j d h k p.
-    let rise = starts-rise spans apart i j d h k in
+pub apart_parted : (spans : List Span) (limit : ℕ) → AreApart spans → IsPartitionedBy (λ (span : Span). nat_lt span.start limit) spans
+apart_parted spans limit apart = λ i j d h k p.
+    let rise = starts_rise spans apart i j d h k in
     let less = ltb-true (get_or spans j d).start limit p in
     lt-ltb (get_or spans i d).start limit (omega arith)
 
-pub apart-ended : (spans : List Span) (limit : ℕ) → AreApart spans → IsPartitionedBy (λ (span : Span). leb span.end limit) spans
-apart-ended spans limit apart = λ i j d h k p.
-    let rise = ends-rise spans apart i j d h k in
+pub apart_ended : (spans : List Span) (limit : ℕ) → AreApart spans → IsPartitionedBy (λ (span : Span). leb span.end limit) spans
+apart_ended spans limit apart = λ i j d h k p.
+    let rise = ends_rise spans apart i j d h k in
     let less = leb-true (get_or spans j d).end limit p in
     le-leb (get_or spans i d).end limit (omega arith)
 
 -- what meets it begins before its end, and ends behind its start
-met-begins : (spans : List Span) (other : Span) (n : ℕ) → AllWithin (λ (span : Span). nat_lt span.start other.end ≡ false) spans n (length spans) → (x : Span) (k : ℕ) → k < length spans → get_or spans k x ≡ x → spans_meet x other ≡ true → k < n
-met-begins spans other n after x k within is meets =
+met_begins : (spans : List Span) (other : Span) (n : ℕ) → AllWithin (λ (span : Span). nat_lt span.start other.end ≡ false) spans n (length spans) → (x : Span) (k : ℕ) → k < length spans → get_or spans k x ≡ x → spans_meet x other ≡ true → k < n
+met_begins spans other n after x k within is meets =
     elim (cases_lt k n) [
       | inl h ↦ h
       | inr h ↦
           let P : Span → Type 0 = λ s. nat_lt s.start other.end ≡ false in
           let a = ltb-false x.start other.end (subst P is (after k x h within)) in
-          let b = ltb-true x.start other.end (and-left (nat_lt x.start other.end) (nat_lt other.start x.end) meets) in
+          let b = ltb-true x.start other.end (and_left (nat_lt x.start other.end) (nat_lt other.start x.end) meets) in
           absurd (omega arith)
     ]
 
-met-ends : (spans : List Span) (other : Span) (m : ℕ) → AllWithin (λ (span : Span). leb span.end other.start ≡ true) spans 0 m → (x : Span) (k : ℕ) → get_or spans k x ≡ x → spans_meet x other ≡ true → m ≤ k
-met-ends spans other m before x k is meets =
+met_ends : (spans : List Span) (other : Span) (m : ℕ) → AllWithin (λ (span : Span). leb span.end other.start ≡ true) spans 0 m → (x : Span) (k : ℕ) → get_or spans k x ≡ x → spans_meet x other ≡ true → m ≤ k
+met_ends spans other m before x k is meets =
     elim (cases_lt k m) [
       | inl h ↦
           let P : Span → Type 0 = λ s. leb s.end other.start ≡ true in
           let a = leb-true x.end other.start (subst P is (before k x (omega arith) h)) in
-          let b = ltb-true other.start x.end (and-right (nat_lt x.start other.end) (nat_lt other.start x.end) meets) in
+          let b = ltb-true other.start x.end (and_right (nat_lt x.start other.end) (nat_lt other.start x.end) meets) in
           absurd (omega arith)
       | inr h ↦ h
     ]
 
 -- so it stands between the two borders
-pub met-within : (spans : List Span) (other : Span) (first m n : ℕ) → first ≤ m → first ≤ n → n ≤ length spans → AllWithin (λ (span : Span). nat_lt span.start other.end ≡ false) spans n (length spans) → AllWithin (λ (span : Span). leb span.end other.start ≡ true) spans 0 m → (x : Span) → Contains spans x → spans_meet x other ≡ true → Contains (take (n - first) (drop first spans)) x
-met-within spans other first m n low high bound after before x cx meets =
+pub met_within : (spans : List Span) (other : Span) (first m n : ℕ) → first ≤ m → first ≤ n → n ≤ length spans → AllWithin (λ (span : Span). nat_lt span.start other.end ≡ false) spans n (length spans) → AllWithin (λ (span : Span). leb span.end other.start ≡ true) spans 0 m → (x : Span) → Contains spans x → spans_meet x other ≡ true → Contains (take (n - first) (drop first spans)) x
+met_within spans other first m n low high bound after before x cx meets =
     let k = cx.0 in
-    let a = met-begins spans other n after x k cx.1 cx.2 meets in
-    let b = met-ends spans other m before x k cx.2 meets in
+    let a = met_begins spans other n after x k cx.1 cx.2 meets in
+    let b = met_ends spans other m before x k cx.2 meets in
     let sum : first + (k - first) ≡ k = omega arith in
     let size = length-take (n - first) (drop first spans) in
     let rest = length-drop first spans in
     (k - first, omega arith, get_or-take (n - first) (drop first spans) (k - first) x (omega arith) ∙ get_or-drop first spans (k - first) x ∙ ap (λ i. get_or spans i x) sum ∙ cx.2)
+
+-- what begins where the first does or later meets none that ends before, and the other way round
+pub first_behind : (spans : List Span) (other : Span) → AreApart spans → ((d : Span) → other.end ≤ (get_or spans 0 d).start) → (x : Span) → Contains spans x → spans_meet x other ≡ true → ⊥
+first_behind spans other apart behind x cx meets =
+    let k = cx.0 in
+    let rise = starts_rise spans apart 0 k x (omega arith) cx.1 in
+    let low : (get_or spans 0 x).start ≤ x.start = subst (λ (s : Span). (get_or spans 0 x).start ≤ s.start) cx.2 rise in
+    let far = behind x in
+    let near = ltb-true x.start other.end (and_left (nat_lt x.start other.end) (nat_lt other.start x.end) meets) in
+    omega arith
+
+pub last_before : (spans : List Span) (other : Span) → AreApart spans → ((d : Span) → (get_or spans (length spans - 1) d).end ≤ other.start) → (x : Span) → Contains spans x → spans_meet x other ≡ true → ⊥
+last_before spans other apart before x cx meets =
+    let k = cx.0 in
+    let within = cx.1 in
+    let rise = ends_rise spans apart k (length spans - 1) x (omega arith) (omega arith) in
+    let high : x.end ≤ (get_or spans (length spans - 1) x).end = subst (λ (s : Span). s.end ≤ (get_or spans (length spans - 1) x).end) cx.2 rise in
+    let far = before x in
+    let near = ltb-true other.start x.end (and_right (nat_lt x.start other.end) (nat_lt other.start x.end) meets) in
+    omega arith

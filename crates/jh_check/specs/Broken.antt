@@ -1,5 +1,5 @@
 -- What breaks a rule, in the rule's own words, and the finding that tells it: by the numbers of what breaks it.
-use Rattle.std.specs.Prelude.{◌≡◌, ◌≢◌, ℕ, ◌*◌, ◌%◌, ◌^◌, ◌<◌, true, false, List, ◌∷◌, Some, slice_get, ◌⊎◌}
+use Rattle.std.specs.Prelude.{◌≡◌, ◌≢◌, ℕ, ◌%◌, ◌<◌, true, false, List, ◌∷◌, Some, slice_get, ◌⊎◌}
 use Rattle.jh_num.specs.declared.address.TheConstants.{ADDRESS_END, PAGE_SIZE}
 use Rattle.jh_cellcfg.specs.declared.region.Region.{Region}
 use Rattle.jh_cellcfg.specs.declared.config.PciDevice.{PciDevice}
@@ -9,7 +9,7 @@ use Rattle.jh_cellcfg.specs.Regions.{has_flags, has_address, has_place, virt_end
 use Rattle.jh_check.specs.declared.finding.Finding.{Finding}
 use Rattle.jh_check.specs.declared.rule.Rule.{Rule}
 use Rattle.jh_check.specs.declared.rule.Rule.TheVariants.{VirtOverlap, PhysOverlap, Hypervisor, OutOfRange, RootNotIdentity, CommInRoot, CommShape, ExecuteWithoutRead, SubpageTaken, CellsOverlap, Shmem, NoCpu, PhysAlign}
-use Rattle.jh_check.specs.Regions.{both_shared}
+use Rattle.jh_check.specs.Regions.{both_shared, most_memory}
 use Rattle.jh_check.specs.Findings.{finding_of}
 use Rattle.jh_check.specs.Laws.{IsItem}
 use Rattle.jh_check.specs.Clean.{IsDevice, IsShmem, AreLinked, IsGoodDevice, AgreesWith, IsSameSection, IsSoundBitmap}
@@ -71,15 +71,16 @@ BreaksAlone _ h at = ⊥
 
 -- the hypervisor's memory breaks a rule
 abbrev pub BreaksMemory : Rule → Region → Type 0
-BreaksMemory OutOfRange h = (h.size ≡ 0) ⊎ ((64 * 2 ^ 20 < h.size) ⊎ (ADDRESS_END < phys_end h))
+BreaksMemory OutOfRange h = (h.size ≡ 0) ⊎ ((most_memory < h.size) ⊎ (ADDRESS_END < phys_end h))
 BreaksMemory PhysAlign h = (0 < h.size) × ((h.phys_start % PAGE_SIZE ≢ 0) ⊎ (h.size % PAGE_SIZE ≢ 0))
 BreaksMemory _ h = ⊥
 
--- what is asked of an ivshmem device beside others: no earlier one of its cell has its place on the bus, and it
+-- what is asked of an ivshmem device beside others: no earlier one of its cell has its bdf, and it
 -- agrees with each that it is linked with in a cell before its own
 pub record StandsAmong (all : List CellConfig) (a : ℕ) (cell : CellConfig) (n : ℕ) (device : PciDevice) : Type 0 where
   pub single : (m : ℕ) (other : PciDevice) → m < n → IsDevice cell m other → AreLinked other device → ⊥
-  pub links : (b : ℕ) (other_cell : CellConfig) → b < a → slice_get all b ≡ Some other_cell → (m : ℕ) (other : PciDevice) → IsDevice other_cell m other → AreLinked device other → AgreesWith cell device other_cell other
+  pub links : (b : ℕ) (other_cell : CellConfig) → b < a → slice_get all b ≡ Some other_cell → (m : ℕ) (other : PciDevice)
+      → IsDevice other_cell m other → AreLinked device other → AgreesWith cell device other_cell other
 
 -- ---- findings
 
@@ -126,22 +127,22 @@ pub record TellsOfCpus (all : List CellConfig) (finding : Finding) : Type 0 wher
   pub told : finding ≡ finding_of NoCpu a 0 0 0
 
 -- by its rule
-abbrev pub Tells : Rule → Region → List CellConfig → Finding → Type 0
-Tells VirtOverlap h all f = TellsOfTwo VirtOverlap all f
-Tells PhysOverlap h all f = TellsOfTwo PhysOverlap all f
-Tells Hypervisor h all f = TellsOfOne Hypervisor h all f
-Tells OutOfRange h all f = TellsOfOne OutOfRange h all f ⊎ TellsOfMemory OutOfRange h f
-Tells RootNotIdentity h all f = TellsOfOne RootNotIdentity h all f
-Tells CommInRoot h all f = TellsOfOne CommInRoot h all f
-Tells CommShape h all f = TellsOfOne CommShape h all f
-Tells ExecuteWithoutRead h all f = TellsOfOne ExecuteWithoutRead h all f
-Tells SubpageTaken h all f = TellsOfTwo SubpageTaken all f
-Tells CellsOverlap h all f = TellsOfTwo CellsOverlap all f
-Tells Shmem h all f = TellsOfDevice all f
-Tells NoCpu h all f = TellsOfCpus all f
-Tells PhysAlign h all f = TellsOfOne PhysAlign h all f ⊎ TellsOfMemory PhysAlign h f
+abbrev pub IsFoundBy : Rule → Region → List CellConfig → Finding → Type 0
+IsFoundBy VirtOverlap h all f = TellsOfTwo VirtOverlap all f
+IsFoundBy PhysOverlap h all f = TellsOfTwo PhysOverlap all f
+IsFoundBy Hypervisor h all f = TellsOfOne Hypervisor h all f
+IsFoundBy OutOfRange h all f = TellsOfOne OutOfRange h all f ⊎ TellsOfMemory OutOfRange h f
+IsFoundBy RootNotIdentity h all f = TellsOfOne RootNotIdentity h all f
+IsFoundBy CommInRoot h all f = TellsOfOne CommInRoot h all f
+IsFoundBy CommShape h all f = TellsOfOne CommShape h all f
+IsFoundBy ExecuteWithoutRead h all f = TellsOfOne ExecuteWithoutRead h all f
+IsFoundBy SubpageTaken h all f = TellsOfTwo SubpageTaken all f
+IsFoundBy CellsOverlap h all f = TellsOfTwo CellsOverlap all f
+IsFoundBy Shmem h all f = TellsOfDevice all f
+IsFoundBy NoCpu h all f = TellsOfCpus all f
+IsFoundBy PhysAlign h all f = TellsOfOne PhysAlign h all f ⊎ TellsOfMemory PhysAlign h f
 
 -- a rule is broken, and the finding tells it
 pub record IsBroken (system : SystemConfig) (cells : List CellConfig) (finding : Finding) : Type 0 where
   pub rule : Rule
-  pub by : Tells rule system.hypervisor_memory (system.root ∷ cells) finding
+  pub by : IsFoundBy rule system.hypervisor_memory (system.root ∷ cells) finding

@@ -11,19 +11,18 @@ use Rattle.jh_cellcfg.specs.Cells.{is_cpu_set}
 use Rattle.jh_cellcfg.specs.Regions.{IsWithin, IsInRange, has_flags, has_address, has_place, virt_end, phys_end, place_in, is_page_mapped, is_comm, is_unshared, is_loadable}
 use Rattle.jh_check.specs.Regions.{both_shared}
 use Rattle.jh_check.specs.Devices.{bars_of}
-use Rattle.jh_check.specs.Laws.{IsNumbered, IsItem, AddressesAreSingle, HypervisorIsAlone}
+use Rattle.jh_check.specs.Laws.{IsItem, EachCell, EachTwoCells, EachOtherCell, EachTwoOthers, EachItem, EachTwoItems, GiveTogetherOnlyIf, MeetOnlyIf, SharesNoPlace, AddressesAreSingle, HypervisorIsAlone}
 
 -- ---- regions
 
 -- at most one region of a cell has a place, communication regions aside, which have none
 abbrev pub PlacesAreSingle : SystemConfig → List CellConfig → Type 0
 PlacesAreSingle system cells =
-    (a : ℕ) (cell : CellConfig) → IsNumbered system cells a cell → (r s : ℕ) (x y : Region) → IsItem cell r x → IsItem cell s y → is_comm x ≡ false → is_comm y ≡ false → (place : ℕ) → has_place x place ≡ true → has_place y place ≡ true → r ≡ s
+    EachCell system cells (λ cell. EachTwoItems cell cell (λ r s x y. is_comm x ≡ false → is_comm y ≡ false → MeetOnlyIf x y (r ≡ s)))
 
--- so is each region of each cell, root too, that isn't empty
+-- P holds of each region of each cell, root too, that isn't empty
 abbrev pub EachRegion : SystemConfig → List CellConfig → (Region → Type 0) → Type 0
-EachRegion system cells P =
-    (a : ℕ) (cell : CellConfig) → IsNumbered system cells a cell → (r : ℕ) (x : Region) → IsItem cell r x → 0 < x.size → P x
+EachRegion system cells P = EachCell system cells (λ cell. EachItem cell (λ r x. 0 < x.size → P x))
 
 -- what may be executed may be read
 abbrev pub IsReadable : Region → Type 0
@@ -43,33 +42,42 @@ pub record IsSoundMemory (memory : Region) : Type 0 where
 
 -- each region of root that isn't empty is mapped to itself
 abbrev pub RootIsIdentity : SystemConfig → Type 0
-RootIsIdentity system = (r : ℕ) (x : Region) → IsItem system.root r x → 0 < x.size → x.phys_start ≡ x.virt_start
+RootIsIdentity system = EachItem system.root (λ r x. 0 < x.size → x.phys_start ≡ x.virt_start)
 
 -- none of them is a communication region
 abbrev pub RootHasNoComm : SystemConfig → Type 0
-RootHasNoComm system = (r : ℕ) (x : Region) → IsItem system.root r x → 0 < x.size → is_comm x ≡ false
+RootHasNoComm system = EachItem system.root (λ r x. 0 < x.size → is_comm x ≡ false)
 
 -- the cell's communication region is one aligned page, and no other region of the cell is one
 pub record IsCommPage (cell : CellConfig) (r : ℕ) (region : Region) : Type 0 where
   pub size : region.size ≡ PAGE_SIZE
   pub aligned : region.virt_start % PAGE_SIZE ≡ 0
-  pub only : (s : ℕ) (y : Region) → IsItem cell s y → 0 < y.size → is_comm y ≡ true → s ≡ r
+  pub only : EachItem cell (λ s y. 0 < y.size → is_comm y ≡ true → s ≡ r)
 
 -- so is that of each cell besides root
 abbrev pub CommsArePages : SystemConfig → List CellConfig → Type 0
 CommsArePages system cells =
-    (a : ℕ) (cell : CellConfig) → 0 < a → IsNumbered system cells a cell → (r : ℕ) (x : Region) → IsItem cell r x → 0 < x.size → is_comm x ≡ true → IsCommPage cell r x
+    EachOtherCell system cells (λ cell. EachItem cell (λ r x. 0 < x.size → is_comm x ≡ true → IsCommPage cell r x))
 
 -- a subpage region that a cell besides root holds unshared has no place of a page-mapped region of root
 abbrev pub RootKeepsItsPages : SystemConfig → List CellConfig → Type 0
 RootKeepsItsPages system cells =
-    (a : ℕ) (cell : CellConfig) → 0 < a → IsNumbered system cells a cell → (r s : ℕ) (x y : Region) → IsItem cell r x → IsItem system.root s y → is_unshared x ≡ true → is_page_mapped x ≡ false → is_page_mapped y ≡ true → (place : ℕ) → has_place x place ≡ true → has_place y place ≡ true → ⊥
+    EachOtherCell system cells (λ cell. EachTwoItems cell system.root (λ r s x y.
+    is_unshared x ≡ true → is_page_mapped x ≡ false → is_page_mapped y ≡ true → SharesNoPlace x y))
 
 -- ---- devices
 
 -- the device has that number in its cell
 abbrev pub IsDevice : CellConfig → ℕ → PciDevice → Type 0
 IsDevice cell n device = slice_get cell.pci_devices n ≡ Some device
+
+-- P holds of each device of the cell
+abbrev pub EachDevice : CellConfig → (PciDevice → Type 0) → Type 0
+EachDevice cell P = (n : ℕ) (device : PciDevice) → IsDevice cell n device → P device
+
+-- P holds of each device of the one cell with each of the other, and of their numbers
+abbrev pub EachTwoDevices : CellConfig → CellConfig → (ℕ → ℕ → PciDevice → PciDevice → Type 0) → Type 0
+EachTwoDevices one other P = (m n : ℕ) (d e : PciDevice) → IsDevice one m d → IsDevice other n e → P m n d e
 
 -- it is an ivshmem device
 abbrev pub IsShmem : PciDevice → Type 0
@@ -95,7 +103,7 @@ pub record IsStateTable (region : Region) : Type 0 where
   pub no_write : has_flags 0x2 region ≡ false
 
 -- no communication region, never root's while the cell is loaded, and whole pages
-pub record IsPlain (region : Region) : Type 0 where
+pub record IsSectionRegion (region : Region) : Type 0 where
   pub no_comm : is_comm region ≡ false
   pub no_loadable : is_loadable region ≡ false
   pub pages : is_page_mapped region ≡ true
@@ -112,21 +120,21 @@ pub record IsGoodDevice (cell : CellConfig) (device : PciDevice) : Type 0 where
   -- its sections exist
   pub exist : device.shmem_regions_start + (2 + device.shmem_peers) ≤ length cell.memory_regions
   pub table : (x : Region) → IsSection cell device 0 x → IsStateTable x
-  pub plain : (k : ℕ) (x : Region) → IsSection cell device k x → IsPlain x
+  pub plain : (k : ℕ) (x : Region) → IsSection cell device k x → IsSectionRegion x
   -- the outputs of others can't be written, and all outputs have one size
   pub read_only : (p : ℕ) (x : Region) → p ≢ device.shmem_dev_id → IsSection cell device (2 + p) x → has_flags 0x2 x ≡ false
   pub alike : (p q : ℕ) (x y : Region) → IsSection cell device (2 + p) x → IsSection cell device (2 + q) y → x.size ≡ y.size
   -- each section that isn't empty begins where the one that isn't before it ended
-  pub row : (j k : ℕ) (x y : Region) → j < k → IsSection cell device j x → IsSection cell device k y → 0 < x.size → 0 < y.size → ((i : ℕ) (z : Region) → j < i → i < k → IsSection cell device i z → z.size ≡ 0) → y.virt_start ≡ virt_end x
+  pub row : (j k : ℕ) (x y : Region) → j < k → IsSection cell device j x → IsSection cell device k y → 0 < x.size → 0 < y.size
+      → ((i : ℕ) (z : Region) → j < i → i < k → IsSection cell device i z → z.size ≡ 0) → y.virt_start ≡ virt_end x
 
 abbrev pub DevicesAreGood : SystemConfig → List CellConfig → Type 0
-DevicesAreGood system cells =
-    (a : ℕ) (cell : CellConfig) → IsNumbered system cells a cell → (n : ℕ) (device : PciDevice) → IsDevice cell n device → IsShmem device → IsGoodDevice cell device
+DevicesAreGood system cells = EachCell system cells (λ cell. EachDevice cell (λ device. IsShmem device → IsGoodDevice cell device))
 
 -- no two ivshmem devices of one cell have the same place on the bus
 abbrev pub DevicesAreSingle : SystemConfig → List CellConfig → Type 0
 DevicesAreSingle system cells =
-    (a : ℕ) (cell : CellConfig) → IsNumbered system cells a cell → (m n : ℕ) (one other : PciDevice) → IsDevice cell m one → IsDevice cell n other → AreLinked one other → m ≡ n
+    EachCell system cells (λ cell. EachTwoDevices cell cell (λ m n d e. AreLinked d e → m ≡ n))
 
 -- two linked devices have as many peers, each another number among them, and the same memory: each section of
 -- the one is a section of the other, of the same size, and at the same place unless it is empty
@@ -137,7 +145,7 @@ pub record AgreesWith (cell : CellConfig) (device : PciDevice) (other_cell : Cel
 
 abbrev pub LinksAgree : SystemConfig → List CellConfig → Type 0
 LinksAgree system cells =
-    (a b : ℕ) (one other : CellConfig) → b < a → IsNumbered system cells a one → IsNumbered system cells b other → (m n : ℕ) (d e : PciDevice) → IsDevice one m d → IsDevice other n e → AreLinked d e → AgreesWith one d other e
+    EachTwoCells system cells (λ a b. b < a) (λ one other. EachTwoDevices one other (λ m n d e. AreLinked d e → AgreesWith one d other e))
 
 -- ---- cells together
 
@@ -160,7 +168,8 @@ pub record IsSameSection (one : CellConfig) (r : ℕ) (other : CellConfig) (s : 
 -- section of linked devices of theirs
 abbrev pub CellsShareAsTheySay : SystemConfig → List CellConfig → Type 0
 CellsShareAsTheySay system cells =
-    (a b : ℕ) (one other : CellConfig) → 0 < a → a < b → IsNumbered system cells a one → IsNumbered system cells b other → (r s : ℕ) (x y : Region) → IsItem one r x → IsItem other s y → is_comm x ≡ false → is_comm y ≡ false → (place : ℕ) → has_place x place ≡ true → has_place y place ≡ true → both_shared x y ≡ false → IsSameSection one r other s
+    EachTwoOthers system cells (λ one other. EachTwoItems one other (λ r s x y.
+    is_comm x ≡ false → is_comm y ≡ false → MeetOnlyIf x y (both_shared x y ≡ false → IsSameSection one r other s)))
 
 -- ---- CPUs
 
@@ -170,7 +179,7 @@ pub record IsSoundBitmap (set : List ℕ) : Type 0 where
   pub few : (i : ℕ) → 2 ≤ i → slice_index set i ≡ 0
 
 abbrev pub CpusAreFew : SystemConfig → List CellConfig → Type 0
-CpusAreFew system cells = (a : ℕ) (cell : CellConfig) → IsNumbered system cells a cell → IsSoundBitmap cell.cpu_set
+CpusAreFew system cells = EachCell system cells (λ cell. IsSoundBitmap cell.cpu_set)
 
 -- ---- all rules
 
@@ -195,12 +204,9 @@ pub record IsClean (system : SystemConfig) (cells : List CellConfig) : Type 0 wh
 
 -- ---- what it gives
 
--- no address is one of both, and no place is
+-- no address is one of both
 abbrev pub SharesNoAddress : Region → Region → Type 0
-SharesNoAddress r s = (at : ℕ) → has_address r at ≡ true → has_address s at ≡ true → ⊥
-
-abbrev pub SharesNoPlace : Region → Region → Type 0
-SharesNoPlace r s = (place : ℕ) → has_place r place ≡ true → has_place s place ≡ true → ⊥
+SharesNoAddress x y = GiveTogetherOnlyIf x y ⊥
 
 -- a region of root that isn't empty ends within the addresses and the places, lies outside the hypervisor's
 -- memory, is mapped to the same place as its address, is no communication region, isn't executable without being
@@ -220,10 +226,17 @@ pub record IsSoundRoot (system : SystemConfig) : Type 0 where
   pub addresses : AllPairs SharesNoAddress system.root.memory_regions
   pub places : AllPairs SharesNoPlace system.root.memory_regions
 
+-- of each page of the region the holder has all places or none
+abbrev pub HasWholePages : Region → Region → Type 0
+HasWholePages holder region =
+    (at : ℕ) → at % PAGE_SIZE ≡ 0 → has_address region at ≡ true → (j k : ℕ) → j < PAGE_SIZE → k < PAGE_SIZE
+    → has_place holder (place_in region at + j) ≡ has_place holder (place_in region at + k)
+
 -- of each page of root's page-mapped regions a region that another cell holds unshared has all places or none
 abbrev pub PagesAreWhole : SystemConfig → List CellConfig → Type 0
 PagesAreWhole system cells =
-    (a : ℕ) (cell : CellConfig) → 0 < a → IsNumbered system cells a cell → (r s : ℕ) (x y : Region) → IsItem cell r x → IsItem system.root s y → is_unshared x ≡ true → is_page_mapped y ≡ true → (at : ℕ) → at % PAGE_SIZE ≡ 0 → has_address y at ≡ true → (j k : ℕ) → j < PAGE_SIZE → k < PAGE_SIZE → has_place x (place_in y at + j) ≡ has_place x (place_in y at + k)
+    EachOtherCell system cells (λ cell. EachTwoItems cell system.root (λ r s x y.
+    is_unshared x ≡ true → is_page_mapped y ≡ true → HasWholePages x y))
 
 -- the CPU set names a CPU, and none above 15
 pub record IsSoundCpuSet (set : List ℕ) : Type 0 where
@@ -238,10 +251,9 @@ pub record MayJoin (cell : CellConfig) (device : PciDevice) : Type 0 where
   pub table : (x : Region) × IsItem cell device.shmem_regions_start x × (x.phys_start + 4 * device.shmem_dev_id + 4 ≤ phys_end x) × (phys_end x ≤ ADDRESS_END)
 
 abbrev pub EndpointsMayJoin : SystemConfig → List CellConfig → Type 0
-EndpointsMayJoin system cells =
-    (a : ℕ) (cell : CellConfig) → IsNumbered system cells a cell → (n : ℕ) (device : PciDevice) → IsDevice cell n device → IsShmem device → MayJoin cell device
+EndpointsMayJoin system cells = EachCell system cells (λ cell. EachDevice cell (λ device. IsShmem device → MayJoin cell device))
 
 -- two linked devices of different cells have different numbers
 abbrev pub LinksHaveNumbers : SystemConfig → List CellConfig → Type 0
 LinksHaveNumbers system cells =
-    (a b : ℕ) (one other : CellConfig) → a ≢ b → IsNumbered system cells a one → IsNumbered system cells b other → (m n : ℕ) (d e : PciDevice) → IsDevice one m d → IsDevice other n e → AreLinked d e → d.shmem_dev_id ≢ e.shmem_dev_id
+    EachTwoCells system cells (λ a b. a ≢ b) (λ one other. EachTwoDevices one other (λ m n d e. AreLinked d e → d.shmem_dev_id ≢ e.shmem_dev_id))

@@ -6,9 +6,7 @@ use Rattle.jh_cellcfg.specs.declared.region.Region.{Region}
 use Rattle.jh_cellcfg.specs.declared.config.PciDevice.{PciDevice}
 use Rattle.jh_cellcfg.specs.declared.config.CellConfig.{CellConfig}
 use Rattle.jh_cellcfg.specs.Regions.{has_flags, virt_end, is_page_mapped, is_comm, is_loadable}
-
-abbrev pub is_shmem : PciDevice → Bool
-is_shmem device = device.kind == 3
+pub use Rattle.jh_cellcfg.specs.Devices.{is_shmem}
 
 -- two devices of different cells are linked
 abbrev pub are_linked : PciDevice → PciDevice → Bool
@@ -64,8 +62,8 @@ has_good_table [] = false
 has_good_table (table ∷ others) = is_good_table table
 
 -- no communication region, never root's while the cell is loaded, and whole pages
-abbrev pub is_plain : Region → Bool
-is_plain region = not (is_comm region) && (not (is_loadable region) && is_page_mapped region)
+abbrev pub is_section_region : Region → Bool
+is_section_region region = not (is_comm region) && (not (is_loadable region) && is_page_mapped region)
 
 -- output sections, of the peers from the given number on: those of others can't be written
 abbrev pub are_read_only : ℕ → ℕ → List Region → Bool
@@ -116,7 +114,7 @@ agrees_with_all lower regions device =
 abbrev pub has_good_sections : PciDevice → List Region → Bool
 has_good_sections device sections =
     has_good_table sections
-    && (list_all is_plain sections
+    && (list_all is_section_region sections
     && (are_read_only device.shmem_dev_id 0 (drop 2 sections)
     && (are_alike (drop 2 sections) && are_in_a_row sections)))
 

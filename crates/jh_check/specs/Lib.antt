@@ -5,10 +5,6 @@ pub mod Sites
 pub mod Lists
 pub mod Spans
 pub mod Findings
-pub mod Reaches
-pub mod Links
-pub mod Seats
-pub mod Bus
 pub mod Texts
 pub mod Verdicts
 pub mod Laws
@@ -16,3 +12,4 @@ pub mod Clean
 pub mod Refusals
 pub mod Broken
 pub mod Order
+pub mod Private

@@ -1,6 +1,6 @@
 -- The rules of the check about one region or two. Only regions of non-zero size count, and ends are sums
 -- without overflow.
-use Rattle.std.specs.Prelude.{ℕ, ◌%◌, Bool, false, ◌&&◌, ◌||◌, not, ◌==◌, nat_lt, List}
+use Rattle.std.specs.Prelude.{ℕ, ◌*◌, ◌^◌, ◌%◌, Bool, false, ◌&&◌, ◌||◌, not, ◌==◌, nat_lt, List}
 use Rattle.std.specs.List.{list_any}
 use Rattle.jh_num.specs.declared.address.TheConstants.{ADDRESS_END, PAGE_SIZE}
 use Rattle.jh_cellcfg.specs.declared.region.Region.{Region}
@@ -11,7 +11,7 @@ use Rattle.jh_check.specs.declared.rule.Rule.{Rule}
 use Rattle.jh_check.specs.declared.rule.Rule.TheVariants.{VirtOverlap, PhysOverlap, Hypervisor, OutOfRange, RootNotIdentity, CommInRoot, CommShape, ExecuteWithoutRead, SubpageTaken, CellsOverlap, PhysAlign}
 use Rattle.jh_check.specs.Devices.{are_same_section}
 
--- a region in its place: of which cell it is, and the how manieth of that cell's regions
+-- a region of a cell: which cell that is, and the region's number there
 pub record Spot : Type 0 where
   pub cell : ℕ
   pub config : CellConfig
@@ -39,7 +39,8 @@ pair_breaks VirtOverlap one other = (one.cell == other.cell) && (nat_lt one.item
 pair_breaks PhysOverlap one other = (one.cell == other.cell) && (nat_lt one.item other.item && share_places one.region other.region)
 pair_breaks SubpageTaken one other = not (one.cell == 0) && ((other.cell == 0) && takes_pages one.region other.region)
 pair_breaks CellsOverlap one other =
-    nat_lt 0 one.cell && (nat_lt one.cell other.cell && (share_places one.region other.region && (not (both_shared one.region other.region) && not (are_same_section one.config one.item other.config other.item))))
+    nat_lt 0 one.cell
+    && (nat_lt one.cell other.cell && (share_places one.region other.region && (not (both_shared one.region other.region) && not (are_same_section one.config one.item other.config other.item))))
 pair_breaks _ one other = false
 
 -- a communication region that counts
@@ -72,8 +73,12 @@ breaks_alone _ h cell earlier region = false
 unfoldable pub region_breaks : Rule → Region → ℕ → List Region → Region → Bool
 region_breaks rule h cell earlier region = has_size region && breaks_alone rule h cell earlier region
 
--- the hypervisor's memory is empty, above 64 MiB, or ends past the places; or isn't whole pages
+-- the most that the hypervisor's memory may have: 64 MiB
+abbrev pub most_memory : ℕ
+most_memory = 64 * 2 ^ 20
+
+-- the hypervisor's memory is empty, above that, or ends past the places; or isn't whole pages
 unfoldable pub hypervisor_breaks : Rule → Region → Bool
-hypervisor_breaks OutOfRange h = (h.size == 0) || (nat_lt 0x4000000 h.size || nat_lt ADDRESS_END (phys_end h))
+hypervisor_breaks OutOfRange h = (h.size == 0) || (nat_lt most_memory h.size || nat_lt ADDRESS_END (phys_end h))
 hypervisor_breaks PhysAlign h = has_size h && (not (h.phys_start % PAGE_SIZE == 0) || not (h.size % PAGE_SIZE == 0))
 hypervisor_breaks _ h = false

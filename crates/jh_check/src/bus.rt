@@ -1,4 +1,4 @@
-//! The places on the bus at which devices of cells stand, by which most devices are told at once to be linked with none.
+//! The bdfs at which devices of cells stand, by which most devices are told at once to be linked with none.
 ghost use Rattle.std.specs.Prelude.{◌≡◌, ◌<◌, ℕ, true, false, length, slice_index_or, IfOk, Contains};
 ghost use Rattle.jh_cellcfg.specs.declared.config.PciDevice.{PciDevice};
 
@@ -6,41 +6,41 @@ use jh_cellcfg::PciDevice;
 use jh_num::NoMemory;
 use std::alloc::Global;
 
-/// How many places a bus has.
-pub(crate) const MAX_PLACES: usize = 65_536;
+/// How many bdfs there are.
+pub(crate) const MAX_BDFS: usize = 65_536;
 
-/// The device's place on the bus.
-pub(crate) fn place_of(device: &PciDevice) -> usize
+/// The device's bdf: its bus, device and function.
+pub(crate) fn bdf_of(device: &PciDevice) -> usize
     ensures value { result ≡ device.now.bdf }
     ensures bound { result < 65536 }
 {
     usize::from(device.bdf)
 }
 
-/// A mark for each place on the bus.
+/// A mark for each bdf.
 pub(crate) fn marks(alloc: Global) -> Result<Vec<bool>, NoMemory>
     ensures { IfOk result (λ marks. length marks.items ≡ 65536) }
 {
-    let marks = vec![in alloc; false; MAX_PLACES]?;
+    let marks = vec![in alloc; false; MAX_BDFS]?;
     Ok(marks)
 }
 
-/// Marks the places of these devices.
+/// Marks the bdfs of these devices.
 pub(crate) fn mark(marks: &mut Vec<bool>, devices: &[PciDevice])
     requires { length marks.old.items ≡ 65536 }
     ensures length { length marks.new.items ≡ 65536 }
-    ensures kept { (place : ℕ) → slice_index_or marks.old.items place false ≡ true → slice_index_or marks.new.items place false ≡ true }
+    ensures kept { (bdf : ℕ) → slice_index_or marks.old.items bdf false ≡ true → slice_index_or marks.new.items bdf false ≡ true }
     ensures each { (device : PciDevice) → Contains devices.now device → slice_index_or marks.new.items device.bdf false ≡ true }
 {
     for device in devices {
-        marks[place_of(device)] = true;
+        marks[bdf_of(device)] = true;
     }
 }
 
-/// Whether the place of the device is marked.
+/// Whether the bdf of the device is marked.
 pub(crate) fn is_marked(marks: &[bool], device: &PciDevice) -> bool
     requires { length marks.now ≡ 65536 }
     ensures { result ≡ slice_index_or marks.now device.now.bdf false }
 {
-    marks[place_of(device)]
+    marks[bdf_of(device)]
 }

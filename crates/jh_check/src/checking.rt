@@ -5,9 +5,9 @@ ghost use Rattle.jh_check.specs.Lists.{capped, found_from};
 ghost use Rattle.jh_check.specs.Findings.{in_regions, in_hypervisor, found_by, found_at, rules_in_order, findings};
 
 use crate::finding::Finding;
-use crate::found::{in_cpus, in_devices, in_hypervisor, in_regions};
 use crate::pairing::in_pairs;
 use crate::rule::{RULES, Rule, rule_at};
+use crate::search::{in_cpus, in_devices, in_hypervisor, in_regions};
 use crate::setup::Setup;
 use jh_cellcfg::{CellConfig, SystemConfig};
 use jh_num::{NoMemory, Seq};

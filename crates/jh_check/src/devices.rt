@@ -4,31 +4,22 @@ ghost use Rattle.std.specs.List.{list_any, list_all};
 ghost use Rattle.jh_cellcfg.specs.Regions.{has_flags};
 ghost use Rattle.jh_check.specs.declared.seats.Seat.{Seat};
 ghost use Rattle.jh_check.specs.Cells.{cells_of};
-ghost use Rattle.jh_check.specs.Seats.{HasSeats, AreByPlace, AgreesAt};
-ghost use Rattle.jh_check.specs.Devices.{is_shmem, are_linked, section_count, is_section, are_sections_of, are_same_section, sections_of, has_good_peers, has_good_bars, has_all_sections, is_good_table, has_good_table, is_plain, are_read_only, are_alike, follows, are_in_a_row, is_twice, is_same_memory, are_same_memory, agrees_with, agrees_with_all, has_good_sections, is_good_shmem, device_breaks, is_zero, cpus_break};
+ghost use Rattle.jh_check.specs.Private.Seats.{HasSeats, AreByBdf, AgreesAt};
+ghost use Rattle.jh_check.specs.Devices.{is_shmem, are_linked, section_count, is_section, are_sections_of, are_same_section, sections_of, has_good_peers, has_good_bars, has_all_sections, is_good_table, has_good_table, is_section_region, are_read_only, are_alike, follows, are_in_a_row, is_twice, is_same_memory, are_same_memory, agrees_with, agrees_with_all, has_good_sections, is_good_shmem, device_breaks, is_zero, cpus_break};
 
-use crate::seats::{Seat, at_place};
+use crate::seats::{Seat, at_bdf};
 use crate::setup::Setup;
 use jh_cellcfg::{CellConfig, PciDevice, Region, RegionFlags};
-
-/// The kind of ivshmem devices.
-const SHMEM: u8 = 3;
 
 const PAGE_BAR: u32 = 0xffff_f000;
 
 const VECTORS_BAR: u32 = 0xffff_fe00;
 
-pub(crate) fn is_shmem(device: &PciDevice) -> bool
-    ensures { result ≡ is_shmem device.now }
-{
-    device.kind == SHMEM
-}
-
 /// Whether the devices, which are of different cells, are linked.
 pub(crate) fn are_linked(one: &PciDevice, other: &PciDevice) -> bool
     ensures { result ≡ are_linked one.now other.now }
 {
-    is_shmem(one) && is_shmem(other) && one.bdf == other.bdf
+    one.is_shmem() && other.is_shmem() && one.bdf == other.bdf
 }
 
 /// How many sections the device has.
@@ -144,16 +135,16 @@ fn has_good_table(sections: &[Region]) -> bool
     }
 }
 
-fn is_plain(region: &Region) -> bool
-    ensures { result ≡ is_plain region.now }
+fn is_section_region(region: &Region) -> bool
+    ensures { result ≡ is_section_region region.now }
 {
     !region.is_comm() && !region.is_loadable() && region.is_page_mapped()
 }
 
 fn are_plain(sections: &[Region]) -> bool
-    ensures { result ≡ list_all is_plain sections.now }
+    ensures { result ≡ list_all is_section_region sections.now }
 {
-    sections.iter().all(is_plain)
+    sections.iter().all(is_section_region)
 }
 
 /// Whether the output section of that peer is the device's own, or can't be written.
@@ -226,7 +217,7 @@ fn is_twice(earlier: &[PciDevice], device: &PciDevice) -> bool
 {
     earlier
         .iter()
-        .any(|other| is_shmem(other) && other.bdf == device.bdf)
+        .any(|other| other.is_shmem() && other.bdf == device.bdf)
 }
 
 fn is_same_memory(one: &Region, other: &Region) -> bool
@@ -334,10 +325,10 @@ pub(crate) fn agrees_with_linked(
 ) -> bool
     requires number { number ≤ length (cells_of setup.now) }
     requires seats { HasSeats (cells_of setup.now) seats.now }
-    requires order { AreByPlace seats.now }
+    requires order { AreByBdf seats.now }
     ensures { result ≡ true → agrees_with_all (take number (cells_of setup.now)) regions.now device.now ≡ true }
 {
-    agrees_with_seats(setup, number, regions, device, at_place(seats, device.bdf))
+    agrees_with_seats(setup, number, regions, device, at_bdf(seats, device.bdf))
 }
 
 /// Whether each device of each cell with a lower number than that does. `doubted` says that one of them
@@ -392,7 +383,7 @@ pub(crate) fn device_breaks(
     ensures { result ≡ device_breaks (take number (cells_of setup.now)) cell.now earlier.now device.now }
 {
     let regions = cell.memory_regions.as_slice();
-    is_shmem(device)
+    device.is_shmem()
         && !(has_good_peers(device)
             && has_good_bars(device)
             && has_all_sections(regions, device)

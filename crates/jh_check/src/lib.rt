@@ -5,7 +5,6 @@ mod bus;
 mod checking;
 mod devices;
 mod finding;
-mod found;
 mod laws;
 mod links;
 mod pairing;
@@ -14,6 +13,7 @@ mod reach;
 mod refusal;
 mod regions;
 mod rule;
+mod search;
 mod seats;
 mod setup;
 mod spans;
@@ -32,6 +32,3 @@ pub use laws::{
 pub use refusal::{refusal_of, refusal_without_cpus};
 pub use rule::Rule;
 pub use verdict::{NewCell, clean_with};
-
-#[cfg(test)]
-mod tests;

@@ -1,27 +1,27 @@
 //! The regions of two cells that are sections of linked devices at the same offset, looked up once for two cells.
 ghost use Rattle.std.specs.Prelude.{◌≡◌, ◌≢◌, ◌<◌, ℕ, true, None, Some, length, slice_index_or, IfOk};
-ghost use Rattle.jh_check.specs.Links.{ArePartners};
+ghost use Rattle.jh_check.specs.Private.Links.{ArePartners};
 
-use crate::bus::{MAX_PLACES, place_of};
-use crate::devices::{are_linked, is_shmem, section_count};
+use crate::bus::{MAX_BDFS, bdf_of};
+use crate::devices::{are_linked, section_count};
 use crate::rule::Rule;
 use jh_cellcfg::{CellConfig, PciDevice};
 use jh_num::NoMemory;
 use std::alloc::Global;
 
-/// To each place on the bus, the number of an ivshmem device that may stand there.
+/// To each bdf, the number of an ivshmem device that may have it.
 fn holders_among(alloc: Global, devices: &[PciDevice]) -> Result<Vec<u16>, NoMemory> {
-    let mut holders = vec![in alloc; 0; MAX_PLACES]?;
-    for n in 0..devices.len().min(MAX_PLACES) {
-        let place = place_of(&devices[n]);
-        if is_shmem(&devices[n]) && place < holders.len() {
-            holders[place] = n as u16;
+    let mut holders = vec![in alloc; 0; MAX_BDFS]?;
+    for n in 0..devices.len().min(MAX_BDFS) {
+        let bdf = bdf_of(&devices[n]);
+        if devices[n].is_shmem() && bdf < holders.len() {
+            holders[bdf] = n as u16;
         }
     }
     Ok(holders)
 }
 
-/// To each place, the number of a device of the cell that may be linked with one of another; none, where the rule
+/// To each bdf, the number of a device of the cell that may be linked with one of another; none, where the rule
 /// doesn't ask or the cell has no device.
 pub(crate) fn holders_of(
     alloc: Global,
@@ -66,7 +66,7 @@ fn note(partners: &mut Vec<Option<usize>>, one: &CellConfig, n: usize, other: &C
     }
 }
 
-/// Notes those of the other cell's device of that number and of the one's at its place.
+/// Notes those of the other cell's device of that number and of the one's with its bdf.
 fn note_at(
     partners: &mut Vec<Option<usize>>,
     holders: &[u16],
@@ -78,11 +78,11 @@ fn note_at(
     requires known { ArePartners one.now other.now partners.old.items }
     ensures { ArePartners one.now other.now partners.new.items }
 {
-    let place = place_of(&other.pci_devices.as_slice()[m]);
-    if place >= holders.len() {
+    let bdf = bdf_of(&other.pci_devices.as_slice()[m]);
+    if bdf >= holders.len() {
         return;
     }
-    let n = usize::from(holders[place]);
+    let n = usize::from(holders[bdf]);
     if n < one.pci_devices.len() {
         note(partners, one, n, other, m);
     }

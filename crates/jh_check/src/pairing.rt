@@ -4,19 +4,19 @@ ghost use Rattle.jh_check.specs.Cells.{cells_of};
 ghost use Rattle.jh_check.specs.Sites.{spot_of};
 ghost use Rattle.jh_check.specs.Lists.{capped};
 ghost use Rattle.jh_check.specs.Spans.{joins};
-ghost use Rattle.jh_check.specs.Reaches.{IsOwn, AreOf, AreOfEach};
-ghost use Rattle.jh_check.specs.Links.{ArePartners, IsPartner};
+ghost use Rattle.jh_check.specs.Private.Reaches.{IsOwn, AreOf, AreOfEach, IsExtent};
+ghost use Rattle.jh_check.specs.Private.Links.{ArePartners, IsPartner};
 ghost use Rattle.jh_check.specs.Findings.{beside, between, from_cell, in_pairs};
 
 use crate::checking::MAX_FINDINGS;
 use crate::finding::Finding;
-use crate::found::beside;
 use crate::links::{find_partners, holders_of, partner_of};
 use crate::pairs::Site;
-use crate::reach::{Reaches, find_window, may_meet, measure};
+use crate::reach::{Reaches, extent_of, find_window, may_meet, may_reach_into, measure};
 use crate::rule::Rule;
+use crate::search::beside;
 use crate::setup::Setup;
-use crate::spans::takes_part;
+use crate::spans::{Span, takes_part};
 use jh_cellcfg::CellConfig;
 use jh_num::{NoMemory, Seq};
 use std::alloc::Global;
@@ -98,6 +98,28 @@ fn between(
     Ok(())
 }
 
+/// The same, unless the one cell's regions lie all beyond what the other's reach. `extent` has them all.
+fn compare(
+    alloc: Global,
+    found: &mut Seq<Finding>,
+    rule: Rule,
+    pair: &Pair,
+    holders: &[u16],
+    reaches: &Reaches,
+    extent: Span,
+) -> Result<(), NoMemory>
+    requires reaches { AreOf rule pair.now.b pair.now.other.now reaches.now }
+    requires same { pair.now.a ≡ pair.now.b → pair.now.one.now ≡ pair.now.other.now }
+    requires extent { IsExtent rule pair.now.one.now.memory_regions extent }
+    ensures { OnOk result (capped found.new ≡ capped (found.old ++ between rule pair.now.a pair.now.one.now pair.now.b pair.now.other.now)) }
+{
+    if !may_reach_into(reaches, extent) {
+        return Ok(());
+    }
+    let partners = find_partners(alloc, holders, pair.one, pair.other)?;
+    between(found, rule, pair, partners.as_slice(), reaches)
+}
+
 /// The same, if the rule speaks of the two cells and there is room for a finding.
 #[tactic(auto, using(crate::proofs::ListLemmas::append_nil, crate::proofs::ListLemmas::capped_full))]
 fn join(
@@ -107,17 +129,18 @@ fn join(
     pair: &Pair,
     holders: &[u16],
     reaches: &Reaches,
+    extent: Span,
 ) -> Result<(), NoMemory>
     requires reaches { AreOf rule pair.now.b pair.now.other.now reaches.now }
     requires same { pair.now.a ≡ pair.now.b → pair.now.one.now ≡ pair.now.other.now }
+    requires extent { IsExtent rule pair.now.one.now.memory_regions extent }
     ensures { OnOk result (capped found.new ≡ capped (found.old ++ between rule pair.now.a pair.now.one.now pair.now.b pair.now.other.now)) }
 {
     if found.len() >= MAX_FINDINGS {
         return Ok(());
     }
     if joins(rule, pair.a, pair.b) {
-        let partners = find_partners(alloc, holders, pair.one, pair.other)?;
-        between(found, rule, pair, partners.as_slice(), reaches)
+        compare(alloc, found, rule, pair, holders, reaches, extent)
     } else {
         Ok(())
     }
@@ -140,6 +163,7 @@ fn from_cell(
     ensures { OnOk result (capped found.new ≡ capped (found.old ++ from_cell rule (cells_of setup.now) a one.now)) }
 {
     let holders = holders_of(alloc, rule, one)?;
+    let extent = extent_of(rule, one.memory_regions.as_slice());
     for b in 0..setup.count() {
         let pair = Pair {
             a,
@@ -154,6 +178,7 @@ fn from_cell(
             &pair,
             holders.as_slice(),
             &each[b as usize],
+            extent,
         )?;
     }
     Ok(())

@@ -8,7 +8,7 @@ use crate::devices::are_same_section;
 use crate::rule::Rule;
 use jh_cellcfg::{CellConfig, Region, RegionFlags};
 
-/// A region in its place: the cell, and the region's number there.
+/// A region of a cell: the cell, and the region's number there.
 #[derive(Clone, Copy)]
 pub(crate) struct Site<'a> {
     pub(crate) cell: u32,

@@ -2,11 +2,11 @@
 ghost use Rattle.std.specs.Prelude.{◌≡◌, ◌≢◌, ◌<◌, ◌≤◌, ◌^◌, ℕ, true, false, length, OnOk, IfOk, Contains};
 ghost use Rattle.jh_check.specs.declared.spans.Span.{Span};
 ghost use Rattle.jh_check.specs.declared.reach.Reach.{Reach};
-ghost use Rattle.jh_check.specs.Spans.{is_within, span_of};
-ghost use Rattle.jh_check.specs.Reaches.{passes_shared, may_follow, reaches_for, HasOthers, InOrder, IsRising, IsReached, TellsEach, TellsPairs, TellsOthers, AreOf, IsIn};
+ghost use Rattle.jh_check.specs.Spans.{is_within, span_of, takes_part};
+ghost use Rattle.jh_check.specs.Private.Reaches.{passes_shared, may_follow, reaches_for, HasOthers, InOrder, IsRising, IsReached, TellsEach, TellsPairs, TellsOthers, AreOf, IsIn, IsInside, IsExtent};
 
 use crate::rule::Rule;
-use crate::spans::{Span, are_apart, span_of};
+use crate::spans::{Span, are_apart, span_of, takes_part};
 use jh_cellcfg::{CellConfig, Region, RegionFlags};
 use jh_num::NoMemory;
 use std::alloc::Global;
@@ -200,6 +200,49 @@ pub(crate) fn measure(
     Ok(Reaches { any, unshared })
 }
 
+/// The extent, made so wide that it has the region, where that takes part.
+fn widened(extent: Span, rule: Rule, item: usize, region: &Region) -> Span
+    ensures start { result.start ≤ extent.start }
+    ensures end { extent.end ≤ result.end }
+    ensures own { takes_part rule region.now ≡ true → IsInside (span_of rule item region.now) result }
+{
+    if !takes_part(rule, region) {
+        return extent;
+    }
+    let span = span_of(rule, item, region);
+    Span {
+        start: span.start.min(extent.start),
+        end: span.end.max(extent.end),
+        item,
+    }
+}
+
+/// What has all regions that take part: from the least of their starts to the farthest of their ends.
+pub(crate) fn extent_of(rule: Rule, regions: &[Region]) -> Span
+    ensures { IsExtent rule regions.now result }
+{
+    let mut extent = Span {
+        start: u64::MAX,
+        end: 0,
+        item: 0,
+    };
+    for (item, region) in regions.iter().enumerate() {
+        extent = widened(extent, rule, item, region);
+    }
+    extent
+}
+
+/// Whether one of those may reach into the extent; only then may a region within it break the rule with one of them.
+pub(crate) fn may_reach_into(reaches: &Reaches, extent: Span) -> bool
+    requires any { IsRising reaches.now.any.items }
+    requires unshared { IsRising reaches.now.unshared.items }
+    ensures any { result ≡ false → IsReached reaches.now.any.items extent → ⊥ }
+    ensures unshared { result ≡ false → IsReached reaches.now.unshared.items extent → ⊥ }
+{
+    let any = may_reach(reaches.any.as_slice(), extent);
+    any || may_reach(reaches.unshared.as_slice(), extent)
+}
+
 /// Whether all begin behind the span, or end before it.
 fn lies_outside(reaches: &[Reach], span: Span) -> bool
     requires { IsRising reaches.now }
@@ -271,7 +314,8 @@ pub(crate) fn find_window(reaches: &Reaches, rule: Rule, item: usize, region: &R
     requires any { IsRising reaches.now.any.items }
     requires unshared { IsRising reaches.now.unshared.items }
     ensures all { is_within rule ≡ true → (s : ℕ) → s < 2 ^ 64 → IsIn result s }
-    ensures told { is_within rule ≡ false → (x : Reach) → Contains (reaches_for rule region.now reaches.now) x → x.start < (span_of rule item region.now).end → (span_of rule item region.now).start < x.end → IsIn result x.item }
+    ensures told { is_within rule ≡ false → (x : Reach) → Contains (reaches_for rule region.now reaches.now) x
+        → x.start < (span_of rule item region.now).end → (span_of rule item region.now).start < x.end → IsIn result x.item }
 {
     if is_within(rule) {
         return Window {

@@ -3,17 +3,17 @@ ghost use Rattle.std.specs.Prelude.{◌≡◌, ◌≤◌, length, OnOk, IfOk, Co
 ghost use Rattle.jh_cellcfg.specs.declared.config.PciDevice.{PciDevice};
 ghost use Rattle.jh_check.specs.Cells.{cells_of};
 ghost use Rattle.jh_check.specs.declared.seats.Seat.{Seat};
-ghost use Rattle.jh_check.specs.Seats.{HasSeatsOf, HasSeats, AreByPlace};
+ghost use Rattle.jh_check.specs.Private.Seats.{HasSeatsOf, HasSeats, AreByBdf};
 
 use crate::setup::Setup;
 use jh_cellcfg::PciDevice;
 use jh_num::NoMemory;
 use std::alloc::Global;
 
-/// A device's place on the bus, the number of its cell, and its own number there.
+/// A device's bdf, the number of its cell, and its own number there.
 #[derive(Clone, Copy, PartialEq, Eq, Debug)]
 pub(crate) struct Seat {
-    pub(crate) place: u16,
+    pub(crate) bdf: u16,
     pub(crate) cell: u32,
     pub(crate) item: usize,
 }
@@ -25,7 +25,7 @@ fn push_seats(seats: &mut Vec<Seat>, cell: u32, devices: &[PciDevice]) -> Result
 {
     for (item, device) in devices.iter().enumerate() {
         seats.push(Seat {
-            place: device.bdf,
+            bdf: device.bdf,
             cell,
             item,
         })?;
@@ -33,26 +33,26 @@ fn push_seats(seats: &mut Vec<Seat>, cell: u32, devices: &[PciDevice]) -> Result
     Ok(())
 }
 
-/// The seats of all cells' devices, in the order of their places.
+/// The seats of all cells' devices, in the order of their bdfs.
 pub(crate) fn seats_of(alloc: Global, setup: &Setup) -> Result<Vec<Seat>, NoMemory>
     requires { length setup.now.cells.now ≤ 15 }
     ensures each { IfOk result (λ seats. HasSeats (cells_of setup.now) seats.items) }
-    ensures order { IfOk result (λ seats. AreByPlace seats.items) }
+    ensures order { IfOk result (λ seats. AreByBdf seats.items) }
 {
     let mut seats = Vec::new(alloc);
     for c in 0..setup.count() {
         push_seats(&mut seats, c, setup.cell(c).pci_devices.as_slice())?;
     }
-    seats.sort_unstable_by_key(|seat| seat.place);
+    seats.sort_unstable_by_key(|seat| seat.bdf);
     Ok(seats)
 }
 
-/// Those at that place, which stand side by side.
-pub(crate) fn at_place(seats: &[Seat], place: u16) -> &[Seat]
-    requires { AreByPlace seats.now }
-    ensures { (x : Seat) → Contains seats.now x → x.place ≡ place → Contains result.now x }
+/// Those of that bdf, which stand side by side.
+pub(crate) fn at_bdf(seats: &[Seat], bdf: u16) -> &[Seat]
+    requires { AreByBdf seats.now }
+    ensures { (x : Seat) → Contains seats.now x → x.bdf ≡ bdf → Contains result.now x }
 {
-    let end = seats.partition_point(|seat| seat.place <= place);
-    let begin = seats.partition_point(|seat| seat.place < place);
+    let end = seats.partition_point(|seat| seat.bdf <= bdf);
+    let begin = seats.partition_point(|seat| seat.bdf < bdf);
     &seats[begin.min(end)..end]
 }

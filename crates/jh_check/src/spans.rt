@@ -111,8 +111,23 @@ pub(crate) fn index(
     }
 }
 
-/// Those of the spans that meet that one. As they are apart, they stand side by side.
-pub(crate) fn met_by(spans: &[Span], other: Span) -> &[Span]
+/// Whether all of the spans begin behind that one, or end before it.
+fn lie_beyond(spans: &[Span], other: Span) -> bool
+    requires { AreApart spans.now }
+    ensures { result ≡ true → (x : Span) → Contains spans.now x → spans_meet x other ≡ true → ⊥ }
+{
+    let n = spans.len();
+    if n == 0 {
+        return true;
+    }
+    if other.end <= u128::from(spans[0].start) {
+        return true;
+    }
+    spans[n - 1].end <= u128::from(other.start)
+}
+
+/// Those of the spans that meet that one, by two searches.
+fn stretch_met(spans: &[Span], other: Span) -> &[Span]
     requires { AreApart spans.now }
     ensures each { (x : Span) → Contains spans.now x → spans_meet x other ≡ true → Contains result.now x }
     ensures only { (x : Span) → Contains result.now x → Contains spans.now x }
@@ -121,4 +136,17 @@ pub(crate) fn met_by(spans: &[Span], other: Span) -> &[Span]
     let end = spans.partition_point(|span| u128::from(span.start) < other.end);
     let first = spans.partition_point(|span| span.end <= start);
     &spans[first.min(end)..end]
+}
+
+/// Those of the spans that meet that one. As they are apart, they stand side by side.
+pub(crate) fn met_by(spans: &[Span], other: Span) -> &[Span]
+    requires { AreApart spans.now }
+    ensures each { (x : Span) → Contains spans.now x → spans_meet x other ≡ true → Contains result.now x }
+    ensures only { (x : Span) → Contains result.now x → Contains spans.now x }
+{
+    if lie_beyond(spans, other) {
+        &spans[0..0]
+    } else {
+        stretch_met(spans, other)
+    }
 }

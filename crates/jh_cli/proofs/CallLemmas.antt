@@ -1,5 +1,5 @@
 -- What a call is, by what was told and what was sent.
-use Rattle.std.proofs.Common.{◌≡◌, ◌≢◌, ℕ, List, Option, Result, Ok, Err, inl, inr, refl, sym, ◌∙◌, ap, subst, arith}
+use Rattle.std.proofs.Common.{◌≡◌, ◌≢◌, ℕ, List, Option, Result, Ok, Err, inl, inr, refl, sym, ◌∙◌, ap, arith}
 use Rattle.jh_outside.specs.Count.{Rose}
 use Rattle.jh_outside.specs.Trail.{Ask}
 use Rattle.jh_cli.specs.declared.status.Status.{Status}
@@ -9,8 +9,8 @@ use Rattle.jh_cli.specs.declared.ending.Stop.{Stop}
 use Rattle.jh_cli.specs.declared.ending.Stop.TheVariants as stop
 use Rattle.jh_cli.specs.Words.{Asked}
 use Rattle.jh_cli.specs.Lines.{number_of}
-use Rattle.jh_cli.specs.Reading.{Said, Contents}
-use Rattle.jh_cli.specs.Stopped.{said_of, OnTold, IsCounted}
+use Rattle.jh_cli.specs.Reading.{Reply, Contents}
+use Rattle.jh_cli.specs.Stopped.{said_of, OnEnding, IsCounted}
 use Rattle.jh_cli.specs.Order.{IsReadFor}
 use Rattle.jh_cli.specs.Outcome.{Outcome, Sent}
 use Rattle.jh_cli.specs.Complete.{AreGood, IsAnswer}
@@ -21,7 +21,7 @@ use Rattle.jh_cli.proofs.StatusLemmas.{outcome_other}
 
 -- good words and files are answered
 abbrev pub GoodAreAnswered : Type 0
-GoodAreAnswered = (contents : Contents) (asked : Option Asked) (said : Said) (good : AreGood contents asked) → Outcome contents asked said → IsAnswered (IsAnswer contents asked good) said
+GoodAreAnswered = (contents : Contents) (asked : Option Asked) (said : Reply) (good : AreGood contents asked) → Outcome contents asked said → IsAnswered (IsAnswer contents asked good) said
 
 -- two statuses with different numbers
 differ : (status one other : Status) → status ≡ one → status ≡ other → number_of one ≢ number_of other → ⊥
@@ -29,7 +29,7 @@ differ status one other is also apart = apart (ap number_of (sym is ∙ also))
 
 module _ {S K : Type 0} (contents : S → Contents) (failed : S → List ℕ) (faults : S → ℕ) (one : S → Ask → S → Type 0) (written : K → Option (List ℕ)) (sink_faults : K → ℕ) where
   -- what was told was sent, or a proper front of it
-  told_call : GoodAreAnswered → (asked : Option Asked) (s t : S) (k l : K) (said : Said) (status : Status) → Says contents failed faults one written sink_faults asked s t said
+  told_call : GoodAreAnswered → (asked : Option Asked) (s t : S) (k l : K) (said : Reply) (status : Status) → Says contents failed faults one written sink_faults asked s t said
       → Sent (written k) (written l) said status → (status ≡ WriteFault → said.status ≢ WriteFault → Rose (sink_faults k) (sink_faults l))
       → IsCall contents failed faults one written sink_faults asked s t k l status
   told_call answered asked s t k l said status says sent fault =
@@ -55,8 +55,8 @@ module _ {S K : Type 0} (contents : S → Contents) (failed : S → List ℕ) (f
 
   -- what a command told, or where it ended, was sent
   pub finished_call : GoodAreAnswered → (asked : Option Asked) (s t : S) (k l : K) (r : Result Ending Stop) (status : Status)
-      → OnTold r (Outcome (contents s) asked) → OnTold r (IsCounted (faults s) (faults t) (failed t)) → OnTold r (IsReadFor one failed (contents s) asked s t)
-      → OnTold r (λ said. Sent (written k) (written l) said status) → OnTold r (λ said. status ≡ WriteFault → said.status ≢ WriteFault → Rose (sink_faults k) (sink_faults l))
+      → OnEnding r (Outcome (contents s) asked) → OnEnding r (IsCounted (faults s) (faults t) (failed t)) → OnEnding r (IsReadFor one failed (contents s) asked s t)
+      → OnEnding r (λ said. Sent (written k) (written l) said status) → OnEnding r (λ said. status ≡ WriteFault → said.status ≢ WriteFault → Rose (sink_faults k) (sink_faults l))
       → (r ≡ Err stop.NoMemory → (status ≡ NoMemory) × (written l ≡ written k))
       → IsCall contents failed faults one written sink_faults asked s t k l status
   finished_call answered asked s t k l (Ok told) status outcome counted read sent fault memory =

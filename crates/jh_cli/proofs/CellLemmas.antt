@@ -1,12 +1,9 @@
 -- Cells that are read one after another.
-use Rattle.std.proofs.Common.{◌≡◌, ◌≢◌, ℕ, suc, ◌+◌, ◌<◌, List, [], ◌∷◌, ◌++◌, length, get_or, Result, Err, Some, refl, sym, ◌∙◌, ap, subst, arith}
+use Rattle.std.proofs.Common.{◌≡◌, ℕ, suc, ◌+◌, ◌<◌, List, [], ◌∷◌, ◌++◌, length, get_or, sym, ◌∙◌, ap, subst, arith}
 use Rattle.std.specs.Prelude.{map, take, drop}
 use Rattle.std.proofs.Math.Seq.{split_at, take-suc}
 use Rattle.std.proofs.lemmas.List.{map-append}
 use Rattle.jh_cellcfg.specs.declared.config.CellConfig.{CellConfig}
-use Rattle.jh_cellcfg.specs.declared.fault.ConfigFault.{ConfigFault}
-use Rattle.jh_cellcfg.specs.declared.fault.ConfigFault.TheVariants.{Short, Signature, Revision, Name, Count, Trailing, NoMemory}
-use Rattle.jh_cellcfg.specs.Faults.{refusal}
 use Rattle.jh_cli.specs.declared.ending.Stop.{Stop}
 use Rattle.jh_cli.specs.Reading.{Contents, Spells, StopsAtFile}
 use Rattle.jh_cli.specs.Check.{IsCellFile, CellRefusal, SpellCells, StopsAmong}
@@ -27,16 +24,6 @@ pub stops_among : (contents : Contents) (names before : List (List ℕ)) (name :
     → (stop : Stop) → OnEnded stop (StopsAtFile contents name CellRefusal) → OnEnded stop (StopsAmong contents names)
 stops_among contents names before name rest cells split spelled stop h =
     on_stop (StopsAtFile contents name CellRefusal) (StopsAmong contents names) stop (λ said stops. record { before = before; name = name; rest = rest; split = split; cells = cells; spelled = spelled; stops = stops }) h
-
--- a fault but want of memory is the refusal
-pub is_refusal : {X : Type 0} (r : Result X ConfigFault) (fault : ConfigFault) → r ≡ Err fault → fault ≢ NoMemory → refusal r ≡ Some fault
-is_refusal r (Short need) is other = ap refusal is
-is_refusal r Signature is other = ap refusal is
-is_refusal r (Revision found) is other = ap refusal is
-is_refusal r Name is other = ap refusal is
-is_refusal r (Count which found) is other = ap refusal is
-is_refusal r (Trailing extra) is other = ap refusal is
-is_refusal r NoMemory is other = absurd (other refl)
 
 -- after so many names, the cells that were read; `f` gives a name's bytes
 pub spell_next : {X : Type 0} (f : X → List ℕ) (contents : Contents) (names : List X) (i : ℕ) (d : X) (cells : List CellConfig) (cell : CellConfig)

@@ -4,7 +4,7 @@ use Rattle.std.specs.Prelude.{map, nat_lt}
 use Rattle.std.proofs.lemmas.List.{take_all}
 use Rattle.std.proofs.lemmas.Bool.{cases_Bool}
 use Rattle.jh_outside.specs.Count.{Rose}
-use Rattle.jh_outside.specs.Reads.{Told, HandsOut}
+use Rattle.jh_outside.specs.Reads.{KnownFile, HandsOut}
 use Rattle.jh_outside.specs.Writes.{Appended}
 use Rattle.jh_cellcfg.specs.declared.config.CellConfig.{CellConfig}
 use Rattle.jh_cellcfg.specs.declared.config.SystemConfig.{SystemConfig}
@@ -12,7 +12,6 @@ use Rattle.jh_cellcfg.specs.Faults.{first_fault}
 use Rattle.jh_cellcfg.specs.Limits.{IsWithinLimits}
 use Rattle.jh_cellcfg.specs.Spelling.{spelling}
 use Rattle.jh_cellcfg.specs.Widths.{IsCell}
-use Rattle.jh_syscfg.specs.Layout.{IsSystem, IsSystemWithinLimits, system_spelling}
 use Rattle.jh_syscfg.specs.SystemFaults.{system_fault}
 use Rattle.jh_check.specs.Lists.{is_any, capped}
 use Rattle.jh_check.specs.Findings.{findings}
@@ -36,6 +35,7 @@ use Rattle.jh_image.specs.declared.fault.ImageCause.TheVariants.{ReadFault as Ca
 use Rattle.jh_image.specs.Causes.{StopsReading}
 use Rattle.jh_image.specs.Images.{IsImage}
 use Rattle.jh_image.specs.Laws.{AreTold as AreAllTold}
+use Rattle.jh_image.proofs.UnrefusedLemmas.{SpellingsAreFaultless}
 use Rattle.jh_run.specs.Maps.{Maps}
 use Rattle.jh_run.specs.Soak.{soak_board}
 use Rattle.jh_cli.specs.declared.status.Status.{Status}
@@ -43,7 +43,7 @@ use Rattle.jh_cli.specs.declared.status.Status.TheVariants.{Good, Found, ReadFau
 use Rattle.jh_cli.specs.Limits.{most_of_a_file, most_of_a_journal, journal_limit}
 use Rattle.jh_cli.specs.Lines.{number_of, fault_line}
 use Rattle.jh_cli.specs.Words.{Asked, CheckOf, PackOf, PlayOf, RunOf, MapOf, AuditOf, SoakOf}
-use Rattle.jh_cli.specs.Reading.{Said, Contents, StopsAt, ReadsAt}
+use Rattle.jh_cli.specs.Reading.{Reply, Contents, StopsAt, ReadsAt}
 use Rattle.jh_cli.specs.Check.{IsCellFile, CellRefusal, IsSystemFile, SystemRefusal, StopsAmong, ChecksCells, Checks, checked_status}
 use Rattle.jh_cli.specs.Pack.{IsSpecFile, SpecRefusal, Packs, packed}
 use Rattle.jh_cli.specs.Boards.{stopped, EndsAt}
@@ -63,9 +63,6 @@ use Rattle.jh_cli.proofs.ToldLemmas.{all_told, each_is_told, is_image, stops}
 abbrev pub CellsAreFaultless : Type 0
 CellsAreFaultless = (config : CellConfig) → IsCell config → IsWithinLimits config → first_fault (spelling config) ≡ None
 
-abbrev pub SystemsAreFaultless : Type 0
-SystemsAreFaultless = (system : SystemConfig) → IsSystem system → IsSystemWithinLimits system → system_fault (system_spelling system) ≡ None
-
 abbrev pub NoBadLine : Type 0
 NoBadLine = (text : List ℕ) (entries : List Entry) (number : ℕ) → IsJournalText text entries → IsFirstBadLine text number → ⊥
 
@@ -81,9 +78,9 @@ BoardsAreUnrefused = (contents : Contents) (board file : List ℕ) (image : Imag
 -- ---- one file
 
 -- what a file with these bytes hands out, where more are asked, is all of them
-handed_held : (told : Told) (most : ℕ) (bytes handed : List ℕ) → told ≡ Some (Some bytes) → length bytes < most → HandsOut told most handed → handed ≡ bytes
+handed_held : (told : KnownFile) (most : ℕ) (bytes handed : List ℕ) → told ≡ Some (Some bytes) → length bytes < most → HandsOut told most handed → handed ≡ bytes
 handed_held told most bytes handed is within h =
-    let hands : handed ≡ take most bytes = subst (λ (t : Told). HandsOut t most handed) is h in
+    let hands : handed ≡ take most bytes = subst (λ (t : KnownFile). HandsOut t most handed) is h in
     hands ∙ take_all most bytes (omega arith)
 
 -- a file that holds a value ends no call but where it can't be read
@@ -91,25 +88,25 @@ abbrev pub IsSound : {A : Type 0} → (List ℕ → List ℕ → Type 0) → (Li
 IsSound Why Form most value = (bytes words : List ℕ) → length bytes < most → Form bytes value → Why bytes words → ⊥
 
 -- it is answered so, or could not be read
-abbrev pub IsAnswered : (Status → Type 0) → Said → Type 0
+abbrev pub IsAnswered : (Status → Type 0) → Reply → Type 0
 IsAnswered Answer said = Answer said.status ⊎ (said.status ≡ ReadFault)
 
 -- the answer is that something is found, or nothing
 abbrev IsVerdict : Status → Type 0
 IsVerdict status = (status ≡ Good) ⊎ (status ≡ Found)
 
-of_verdict : (said : Said) (status : Status) → said.status ≡ status → IsVerdict status → IsAnswered IsVerdict said
+of_verdict : (said : Reply) (status : Status) → said.status ≡ status → IsVerdict status → IsAnswered IsVerdict said
 of_verdict said status is one = inl (subst IsVerdict (sym is) one)
 
-stops_unrefused : {A : Type 0} (Answer : Status → Type 0) (most : ℕ) (contents : Contents) (name : List ℕ) (Why : List ℕ → List ℕ → Type 0) (Form : List ℕ → A → Type 0) (value : A) (said : Said)
+stops_unrefused : {A : Type 0} (Answer : Status → Type 0) (most : ℕ) (contents : Contents) (name : List ℕ) (Why : List ℕ → List ℕ → Type 0) (Form : List ℕ → A → Type 0) (value : A) (said : Reply)
     → IsSound Why Form most value → Holds most contents name Form value → StopsAt most contents name Why said → IsAnswered Answer said
-stops_unrefused Answer most contents name Why Form value said sound held (inl fault) = inr (ap (λ (s : Said). s.status) fault)
+stops_unrefused Answer most contents name Why Form value said sound held (inl fault) = inr (ap (λ (s : Reply). s.status) fault)
 stops_unrefused Answer most contents name Why Form value said sound held (inr is) =
     let same : is.bytes ≡ held.bytes = handed_held (contents name) most held.bytes is.bytes held.told held.within is.handed in
     absurd (sound held.bytes is.words held.within held.spelled (subst (λ bytes. Why bytes is.words) same is.why))
 
 -- what follows a file that holds a value is what was read of it
-reads_unrefused : {A : Type 0} (Answer : Status → Type 0) (most : ℕ) (contents : Contents) (name : List ℕ) (Why : List ℕ → List ℕ → Type 0) (Form : List ℕ → A → Type 0) (next : A → Said → Type 0) (value : A) (said : Said)
+reads_unrefused : {A : Type 0} (Answer : Status → Type 0) (most : ℕ) (contents : Contents) (name : List ℕ) (Why : List ℕ → List ℕ → Type 0) (Form : List ℕ → A → Type 0) (next : A → Reply → Type 0) (value : A) (said : Reply)
     → IsSound Why Form most value → Holds most contents name Form value → ((bytes : List ℕ) (other : A) → Form bytes value → Form bytes other → next other said → IsAnswered Answer said)
     → ReadsAt most contents name Why Form next said → IsAnswered Answer said
 reads_unrefused Answer most contents name Why Form next value said sound held rest (inl stops) = stops_unrefused Answer most contents name Why Form value said sound held stops
@@ -131,7 +128,7 @@ ok_one r one other h k = cc
 
 -- ---- check
 
-pub system_sound : SystemsAreFaultless → (system : SystemConfig) → IsSound SystemRefusal IsSystemFile most_of_a_file system
+pub system_sound : SpellingsAreFaultless → (system : SystemConfig) → IsSound SystemRefusal IsSystemFile most_of_a_file system
 system_sound faultless system bytes words within form (inl over) = no_more most_of_a_file bytes within over.0
 system_sound faultless system bytes words within form (inr bad) =
     some_none (system_fault bytes) bad.fault (ap system_fault form.spelled ∙ faultless system form.typed form.limits) bad.first
@@ -149,7 +146,7 @@ one_of_cells contents [] name rest (cell ∷ cells) held = (cell, held.0)
 one_of_cells contents (b ∷ before) name rest [] held = absurd held
 one_of_cells contents (b ∷ before) name rest (cell ∷ cells) held = one_of_cells contents before name rest cells held.1
 
-among_unrefused : CellsAreFaultless → (contents : Contents) (names : List (List ℕ)) (cells : List CellConfig) (said : Said) → HoldCells contents names cells → StopsAmong contents names said → IsAnswered IsVerdict said
+among_unrefused : CellsAreFaultless → (contents : Contents) (names : List (List ℕ)) (cells : List CellConfig) (said : Reply) → HoldCells contents names cells → StopsAmong contents names said → IsAnswered IsVerdict said
 among_unrefused faultless contents names cells said held among =
     let split : HoldCells contents (among.before ++ among.name ∷ among.rest) cells = subst (λ (ns : List (List ℕ)). HoldCells contents ns cells) among.split held in
     let one = one_of_cells contents among.before among.name among.rest cells split in
@@ -159,12 +156,12 @@ checked_unrefused : (any : Bool) → IsVerdict (cond any Found Good)
 checked_unrefused true = inr refl
 checked_unrefused false = inl refl
 
-cells_unrefused : CellsAreFaultless → (contents : Contents) (names : List (List ℕ)) (cells : List CellConfig) (system : SystemConfig) (said : Said) → HoldCells contents names cells → ChecksCells contents names system said → IsAnswered IsVerdict said
+cells_unrefused : CellsAreFaultless → (contents : Contents) (names : List (List ℕ)) (cells : List CellConfig) (system : SystemConfig) (said : Reply) → HoldCells contents names cells → ChecksCells contents names system said → IsAnswered IsVerdict said
 cells_unrefused faultless contents names cells system said held (inl among) = among_unrefused faultless contents names cells said held among
 cells_unrefused faultless contents names cells system said held (inr all) =
-    of_verdict said (checked_status (capped (findings system all.0))) (ap (λ (s : Said). s.status) all.2) (checked_unrefused (is_any (capped (findings system all.0))))
+    of_verdict said (checked_status (capped (findings system all.0))) (ap (λ (s : Reply). s.status) all.2) (checked_unrefused (is_any (capped (findings system all.0))))
 
-check_unrefused : CellsAreFaultless → SystemsAreFaultless → (contents : Contents) (system : List ℕ) (cells : List (List ℕ)) (said : Said) → AreGoodToCheck contents system cells → Checks contents system cells said → IsAnswered IsVerdict said
+check_unrefused : CellsAreFaultless → SpellingsAreFaultless → (contents : Contents) (system : List ℕ) (cells : List (List ℕ)) (said : Reply) → AreGoodToCheck contents system cells → Checks contents system cells said → IsAnswered IsVerdict said
 check_unrefused cells_faultless systems_faultless contents system cells said good h =
     reads_unrefused IsVerdict most_of_a_file contents system SystemRefusal IsSystemFile (ChecksCells contents cells) good.of_system said (system_sound systems_faultless good.of_system) good.system_held
     (λ bytes other form form_other went. cells_unrefused cells_faultless contents cells good.of_cells other said good.cells_held went) h
@@ -183,18 +180,18 @@ spec_sound spec bytes words within form (inr (inr bad)) =
     let same : faulty.0 ≡ told.0 = cc read in
     ok_err (spec_told told.0) spec (specs.Member bad.name) told.2 (ap spec_told (sym same) ∙ faulty.2)
 
-pack_unrefused : (contents : Contents) (name : List ℕ) (said : Said) → IsGoodToPack contents name → Packs contents name said → IsAnswered (λ status. status ≡ Good) said
+pack_unrefused : (contents : Contents) (name : List ℕ) (said : Reply) → IsGoodToPack contents name → Packs contents name said → IsAnswered (λ status. status ≡ Good) said
 pack_unrefused contents name said good h =
-    reads_unrefused (λ status. status ≡ Good) most_of_a_file contents name SpecRefusal IsSpecFile (λ (spec : Spec) (s : Said). s ≡ record { status = Good; text = packed spec }) good.spec said (spec_sound good.spec) good.held
-    (λ bytes other form form_other went. inl (ap (λ (s : Said). s.status) went)) h
+    reads_unrefused (λ status. status ≡ Good) most_of_a_file contents name SpecRefusal IsSpecFile (λ (spec : Spec) (s : Reply). s ≡ record { status = Good; text = packed spec }) good.spec said (spec_sound good.spec) good.held
+    (λ bytes other form form_other went. inl (ap (λ (s : Reply). s.status) went)) h
 
 -- ---- boards
 
-pub board_unrefused : BoardsAreUnrefused → (Answer : Status → Type 0) (contents : Contents) (board : List ℕ) (image : Image) (said : Said) → IsBoardTold contents board → IsImage contents board image → EndsAt contents board said → IsAnswered Answer said
+pub board_unrefused : BoardsAreUnrefused → (Answer : Status → Type 0) (contents : Contents) (board : List ℕ) (image : Image) (said : Reply) → IsBoardTold contents board → IsImage contents board image → EndsAt contents board said → IsAnswered Answer said
 board_unrefused unrefused Answer contents board image said told is ends =
     let cause : ends.cause ≡ CantBeRead =
     unrefused (all_told contents) board ends.file image ends.cause (each_is_told contents) (is_image contents board told image is) (stops contents board told ends.file ends.cause ends.stops) in
-    inr (ap (λ (s : Said). s.status) ends.told ∙ ap (λ (c : ImageCause). (stopped ends.file c).status) cause)
+    inr (ap (λ (s : Reply). s.status) ends.told ∙ ap (λ (c : ImageCause). (stopped ends.file c).status) cause)
 
 -- ---- play
 
@@ -233,17 +230,17 @@ one_schedule image bytes one other h k = ok_one (schedule_of h.cpus bytes) one o
 abbrev IsPlayOf : Image → List ℕ → Status → Type 0
 IsPlayOf image items status = status ≡ played_status (played image journal_limit items).full
 
-played_unrefused : (image : Image) (items other : List ℕ) (said : Said) → items ≡ other → IsPlayed image other said → IsAnswered (IsPlayOf image items) said
+played_unrefused : (image : Image) (items other : List ℕ) (said : Reply) → items ≡ other → IsPlayed image other said → IsAnswered (IsPlayOf image items) said
 played_unrefused image items other said same is =
-    inl (ap (λ (s : Said). s.status) is.told ∙ ap (λ (xs : List ℕ). played_status (played image journal_limit xs).full) (sym same))
+    inl (ap (λ (s : Reply). s.status) is.told ∙ ap (λ (xs : List ℕ). played_status (played image journal_limit xs).full) (sym same))
 
-plays_unrefused : (contents : Contents) (schedule : List ℕ) (image : Image) (items : List ℕ) (said : Said) → Holds most_of_a_file contents schedule (IsSchedule image) items
+plays_unrefused : (contents : Contents) (schedule : List ℕ) (image : Image) (items : List ℕ) (said : Reply) → Holds most_of_a_file contents schedule (IsSchedule image) items
     → PlaysBy contents schedule image said → IsAnswered (IsPlayOf image items) said
 plays_unrefused contents schedule image items said held h =
     reads_unrefused (IsPlayOf image items) most_of_a_file contents schedule (ScheduleRefusal image) (IsSchedule image) (IsPlayed image) items said (schedule_sound image items) held
     (λ bytes other form form_other is. played_unrefused image items other said (one_schedule image bytes items other form form_other) is) h
 
-play_unrefused : OneImage → BoardsAreUnrefused → (contents : Contents) (board schedule : List ℕ) (said : Said) (good : AreGoodToPlay contents board schedule) → Plays contents board schedule said
+play_unrefused : OneImage → BoardsAreUnrefused → (contents : Contents) (board schedule : List ℕ) (said : Reply) (good : AreGoodToPlay contents board schedule) → Plays contents board schedule said
     → IsAnswered (IsPlayOf good.image good.items) said
 play_unrefused one_image unrefused contents board schedule said good (inl ends) = board_unrefused unrefused (IsPlayOf good.image good.items) contents board good.image said good.told good.is ends
 play_unrefused one_image unrefused contents board schedule said good (inr (image, is, admitted, plays)) =
@@ -265,13 +262,13 @@ verdict_unrefused : (verdict : Verdict) → IsVerdict (verdict_status verdict)
 verdict_unrefused (Legal quiet) = inl refl
 verdict_unrefused (Illegal line expected) = inr refl
 
-audits_unrefused : NoBadLine → NotLong → (contents : Contents) (journal : List ℕ) (image : Image) (entries : List Entry) (said : Said) → Holds most_of_a_journal contents journal IsJournalFile entries
+audits_unrefused : NoBadLine → NotLong → (contents : Contents) (journal : List ℕ) (image : Image) (entries : List Entry) (said : Reply) → Holds most_of_a_journal contents journal IsJournalFile entries
     → AuditsBy contents journal image said → IsAnswered IsVerdict said
 audits_unrefused no_bad not_long contents journal image entries said held h =
     reads_unrefused IsVerdict most_of_a_journal contents journal JournalRefusal IsJournalFile (IsAudited image) entries said (journal_sound no_bad not_long entries) held
-    (λ bytes other form form_other is. of_verdict said (verdict_status is.verdict) (ap (λ (s : Said). s.status) is.told) (verdict_unrefused is.verdict)) h
+    (λ bytes other form form_other is. of_verdict said (verdict_status is.verdict) (ap (λ (s : Reply). s.status) is.told) (verdict_unrefused is.verdict)) h
 
-audit_unrefused : BoardsAreUnrefused → NoBadLine → NotLong → (contents : Contents) (board journal : List ℕ) (said : Said) → AreGoodToAudit contents board journal → Audits contents board journal said → IsAnswered IsVerdict said
+audit_unrefused : BoardsAreUnrefused → NoBadLine → NotLong → (contents : Contents) (board journal : List ℕ) (said : Reply) → AreGoodToAudit contents board journal → Audits contents board journal said → IsAnswered IsVerdict said
 audit_unrefused unrefused no_bad not_long contents board journal said good (inl ends) = board_unrefused unrefused IsVerdict contents board good.image said good.told good.is ends
 audit_unrefused unrefused no_bad not_long contents board journal said good (inr (image, is, admitted, audits)) =
     audits_unrefused no_bad not_long contents journal image good.entries said good.held audits
@@ -286,17 +283,17 @@ mapped_status : (image : Image) (cpus : List ℕ) (found : Option (List ℕ)) �
 mapped_status image cpus (Some text) is = ap played_status (sym is.0)
 mapped_status image cpus None is = ap played_status (sym is.0)
 
-mapped_unrefused : (image : Image) (cpus other : List ℕ) (said : Said) → cpus ≡ other → IsMapped image other said → IsAnswered (IsMapOf image cpus) said
+mapped_unrefused : (image : Image) (cpus other : List ℕ) (said : Reply) → cpus ≡ other → IsMapped image other said → IsAnswered (IsMapOf image cpus) said
 mapped_unrefused image cpus other said same (found, is, told) =
-    inl (ap (λ (s : Said). s.status) told ∙ mapped_status image other found is ∙ ap (λ (xs : List ℕ). played_status (items image journal_limit xs []).full) (sym same))
+    inl (ap (λ (s : Reply). s.status) told ∙ mapped_status image other found is ∙ ap (λ (xs : List ℕ). played_status (items image journal_limit xs []).full) (sym same))
 
-maps_unrefused : (contents : Contents) (schedule : List ℕ) (image : Image) (cpus : List ℕ) (said : Said) → Holds most_of_a_file contents schedule (IsSchedule image) cpus
+maps_unrefused : (contents : Contents) (schedule : List ℕ) (image : Image) (cpus : List ℕ) (said : Reply) → Holds most_of_a_file contents schedule (IsSchedule image) cpus
     → MapsBy contents schedule image said → IsAnswered (IsMapOf image cpus) said
 maps_unrefused contents schedule image cpus said held h =
     reads_unrefused (IsMapOf image cpus) most_of_a_file contents schedule (ScheduleRefusal image) (IsSchedule image) (IsMapped image) cpus said (schedule_sound image cpus) held
     (λ bytes other form form_other is. mapped_unrefused image cpus other said (one_schedule image bytes cpus other form form_other) is) h
 
-map_unrefused : OneImage → BoardsAreUnrefused → (contents : Contents) (board schedule : List ℕ) (said : Said) (good : AreGoodToPlay contents board schedule) → MapsOf contents board schedule said
+map_unrefused : OneImage → BoardsAreUnrefused → (contents : Contents) (board schedule : List ℕ) (said : Reply) (good : AreGoodToPlay contents board schedule) → MapsOf contents board schedule said
     → IsAnswered (IsMapOf good.image good.items) said
 map_unrefused one_image unrefused contents board schedule said good (inl ends) = board_unrefused unrefused (IsMapOf good.image good.items) contents board good.image said good.told good.is ends
 map_unrefused one_image unrefused contents board schedule said good (inr (image, is, admitted, maps)) =
@@ -310,18 +307,18 @@ map_unrefused one_image unrefused contents board schedule said good (inr (image,
 abbrev IsRunEnd : Status → Type 0
 IsRunEnd status = (status ≡ Good) ⊎ (status ≡ Full)
 
-run_unrefused : BoardsAreUnrefused → (contents : Contents) (board : List ℕ) (said : Said) → AreGoodToRun contents board → Runs contents board said → IsAnswered IsRunEnd said
+run_unrefused : BoardsAreUnrefused → (contents : Contents) (board : List ℕ) (said : Reply) → AreGoodToRun contents board → Runs contents board said → IsAnswered IsRunEnd said
 run_unrefused unrefused contents board said good (inl ends) = board_unrefused unrefused IsRunEnd contents board good.image said good.told good.is ends
 run_unrefused unrefused contents board said good (inr (image, is, admitted, ran)) = inl (run_ends image ran.entries said.status ran.run.ends)
 
-soak_unrefused : (word : List ℕ) (said : Said) (rounds : ℕ) → AreRounds word rounds → Soaks word said → IsAnswered IsRunEnd said
+soak_unrefused : (word : List ℕ) (said : Reply) (rounds : ℕ) → AreRounds word rounds → Soaks word said → IsAnswered IsRunEnd said
 soak_unrefused word said rounds are (inl none) = absurd (none.0 rounds are)
 soak_unrefused word said rounds are (inr (n, others, soaked)) = inl (run_ends (soak_board n) soaked.entries said.status soaked.run.ends)
 
 -- ---- all of them
 
-pub good_answered : CellsAreFaultless → SystemsAreFaultless → NoBadLine → NotLong → OneImage → BoardsAreUnrefused
-    → (contents : Contents) (asked : Option Asked) (said : Said) (good : AreGood contents asked) → Outcome contents asked said → IsAnswer contents asked good said.status ⊎ (said.status ≡ ReadFault)
+pub good_answered : CellsAreFaultless → SpellingsAreFaultless → NoBadLine → NotLong → OneImage → BoardsAreUnrefused
+    → (contents : Contents) (asked : Option Asked) (said : Reply) (good : AreGood contents asked) → Outcome contents asked said → IsAnswer contents asked good said.status ⊎ (said.status ≡ ReadFault)
 good_answered cells systems no_bad not_long one_image unrefused contents None said good h = absurd good
 good_answered cells systems no_bad not_long one_image unrefused contents (Some (CheckOf system names)) said good h = check_unrefused cells systems contents system names said good h
 good_answered cells systems no_bad not_long one_image unrefused contents (Some (PackOf spec)) said good h = pack_unrefused contents spec said good h
@@ -334,7 +331,7 @@ good_answered cells systems no_bad not_long one_image unrefused contents (Some (
 -- ---- the status
 
 -- the status that is answered is the said one's, unless a count rose
-pub answered_or_rose : (Answer : Status → Type 0) (old new old_sink new_sink : ℕ) (failed : List ℕ) (before after : Option (List ℕ)) (said : Said) (status : Status)
+pub answered_or_rose : (Answer : Status → Type 0) (old new old_sink new_sink : ℕ) (failed : List ℕ) (before after : Option (List ℕ)) (said : Reply) (status : Status)
     → IsAnswered Answer said → IsCounted old new failed said → Sent before after said status → (status ≡ WriteFault → Rose old_sink new_sink)
     → Answer status ⊎ (status ≡ NoMemory) ⊎ Rose old new ⊎ Rose old_sink new_sink
 answered_or_rose Answer old new old_sink new_sink failed before after said status (inl answer) counted (inl whole) fault = inl (subst Answer (sym whole.0) answer)
@@ -342,7 +339,7 @@ answered_or_rose Answer old new old_sink new_sink failed before after said statu
 answered_or_rose Answer old new old_sink new_sink failed before after said status one counted (inr part) fault = inr (inr (inr (fault part.0)))
 
 -- that a file couldn't be read is answered only where the count rose
-pub unread : (old new : ℕ) (failed : List ℕ) (before after : Option (List ℕ)) (said : Said) (status : Status)
+pub unread : (old new : ℕ) (failed : List ℕ) (before after : Option (List ℕ)) (said : Reply) (status : Status)
     → IsCounted old new failed said → Sent before after said status → status ≡ ReadFault → Rose old new × Appended before after (fault_line failed)
 unread old new failed before after said status counted (inl whole) is =
     let rose = counted (sym whole.0 ∙ is) in
@@ -352,6 +349,6 @@ unread old new failed before after said status counted (inr part) is =
     absurd (omega arith)
 
 -- another status than that and a sink's is the said one's
-pub said_read : (before after : Option (List ℕ)) (said : Said) (status : Status) → Sent before after said status → status ≢ ReadFault → status ≢ WriteFault → said.status ≢ ReadFault
+pub said_read : (before after : Option (List ℕ)) (said : Reply) (status : Status) → Sent before after said status → status ≢ ReadFault → status ≢ WriteFault → said.status ≢ ReadFault
 said_read before after said status (inl whole) read written is = read (whole.0 ∙ is)
 said_read before after said status (inr part) read written is = written part.0

@@ -10,7 +10,7 @@ use Rattle.jh_cli.specs.declared.status.Status.TheVariants.{Refused}
 use Rattle.jh_cli.specs.declared.ending.Stop.{Stop}
 use Rattle.jh_cli.specs.declared.ending.Stop.TheVariants as stop
 use Rattle.jh_cli.specs.Lines.{refusal_line}
-use Rattle.jh_cli.specs.Reading.{Contents, Said, StopsAt}
+use Rattle.jh_cli.specs.Reading.{Contents, Reply, StopsAt}
 use Rattle.jh_cli.specs.Audit.{JournalRefusal}
 use Rattle.jh_cli.specs.Stopped.{OnEnded, IsCounted}
 use Rattle.jh_cli.proofs.BoardLemmas.{nothing, refused_is_read}
@@ -22,7 +22,7 @@ tag TooLong = 1
 tag NoMemory = 0
 
 -- what is said of a journal with the fault
-abbrev pub Refuses : List ℕ → JournalFault → Said → Type 0
+abbrev pub Refuses : List ℕ → JournalFault → Reply → Type 0
 Refuses name fault said = said ≡ record { status = Refused; text = refusal_line name (fault_text fault) }
 
 -- what the reader says of its fault

@@ -13,4 +13,3 @@ pub mod RunLemmas
 pub mod StatusLemmas
 pub mod StopLemmas
 mod ToldLemmas
-pub mod WaitLemmas

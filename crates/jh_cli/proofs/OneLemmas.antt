@@ -1,7 +1,7 @@
 -- What files spell, and what they are refused for, is one.
 use Rattle.std.proofs.Common.{◌≡◌, ◌≢◌, ℕ, ◌+◌, Bool, true, false, List, [], ◌∷◌, ◌++◌, length, Option, None, Some, Result, Err, ◌↔◌, inl, inr, refl, sym, ◌∙◌, ap, subst}
 use Rattle.std.specs.Prelude.{fold, IsTrue, codes}
-use Rattle.jh_outside.specs.Reads.{Told, HandsOut}
+use Rattle.jh_outside.specs.Reads.{KnownFile, HandsOut}
 use Rattle.jh_cellcfg.specs.declared.config.CellConfig.{CellConfig}
 use Rattle.jh_cellcfg.specs.declared.config.SystemConfig.{SystemConfig}
 use Rattle.jh_cellcfg.specs.Faults.{first_fault}
@@ -9,7 +9,6 @@ use Rattle.jh_cellcfg.specs.Limits.{IsWithinLimits}
 use Rattle.jh_cellcfg.specs.Spelling.{spelling}
 use Rattle.jh_cellcfg.specs.Texts.{fault_text as config_text}
 use Rattle.jh_cellcfg.specs.Widths.{IsCell}
-use Rattle.jh_syscfg.specs.Layout.{IsSystem, IsSystemWithinLimits, system_spelling}
 use Rattle.jh_syscfg.specs.SystemFaults.{system_fault}
 use Rattle.jh_spec.specs.declared.spec.Spec.{Spec}
 use Rattle.jh_spec.specs.declared.spec.SpecFault.{SpecFault}
@@ -29,24 +28,22 @@ use Rattle.jh_text.specs.FaultText.{fault_text as journal_fault_text}
 use Rattle.jh_audit.specs.declared.verdict.Verdict.{Verdict}
 use Rattle.jh_audit.specs.declared.verdict.Verdict.TheVariants.{Legal, Illegal}
 use Rattle.jh_audit.specs.Judges.{Judges, IsFirstIllegal}
-use Rattle.jh_cli.specs.declared.status.Status.TheVariants.{Refused, ReadFault}
+use Rattle.jh_image.proofs.OneLemmas.{OneSpelling}
+use Rattle.jh_cli.specs.declared.status.Status.TheVariants.{ReadFault}
 use Rattle.jh_cli.specs.Limits.{most_of_a_file, most_of_a_journal}
-use Rattle.jh_cli.specs.Lines.{refusal_line}
-use Rattle.jh_cli.specs.Reading.{Said, Contents, StopsAt, SpellsAt, ReadsAt}
+use Rattle.jh_cli.specs.Reading.{Reply, Contents, StopsAt, SpellsAt, ReadsAt}
 use Rattle.jh_cli.specs.Check.{IsCellFile, CellRefusal, IsSystemFile, SystemRefusal, SpellCells, ChecksCells, checked}
 use Rattle.jh_cli.specs.Pack.{IsSpecFile, SpecRefusal}
 use Rattle.jh_cli.specs.Play.{ScheduleRefusal}
 use Rattle.jh_cli.specs.Audit.{JournalRefusal, IsAudited, verdict_status, verdict_text}
 use Rattle.jh_cli.specs.Complete.{AreTold}
 use Rattle.jh_cli.proofs.GoodLemmas.{CellsAreFaultless, no_more, ok_one, cell_sound, same_for_image}
+use Rattle.jh_cli.proofs.StopLemmas.{refused_said}
 
 -- ---- the laws of the layers below
 
 abbrev pub OneCell : Type 0
 OneCell = (a b : CellConfig) → IsCell a → IsCell b → IsWithinLimits a → IsWithinLimits b → spelling a ≡ spelling b → a ≡ b
-
-abbrev pub OneSystem : Type 0
-OneSystem = (a b : SystemConfig) → IsSystem a → IsSystem b → IsSystemWithinLimits a → IsSystemWithinLimits b → system_spelling a ≡ system_spelling b → a ≡ b
 
 abbrev pub OneJournal : Type 0
 OneJournal = (text : List ℕ) (a b : List Entry) → IsJournalText text a → IsJournalText text b → a ≡ b
@@ -59,18 +56,15 @@ OneLine = (text : List ℕ) (m n : ℕ) → IsFirstBadLine text m → IsFirstBad
 
 -- ---- one file
 
-pub one_handed : (told : Told) (most : ℕ) (a b : List ℕ) → told ≢ None → HandsOut told most a → HandsOut told most b → a ≡ b
+pub one_handed : (told : KnownFile) (most : ℕ) (a b : List ℕ) → told ≢ None → HandsOut told most a → HandsOut told most b → a ≡ b
 one_handed None most a b is h k = absurd (is refl)
 one_handed (Some None) most a b is h k = absurd h
 one_handed (Some (Some held)) most a b is h k = h ∙ sym k
 
-abbrev refused_said : List ℕ → List ℕ → Said
-refused_said name words = record { status = Refused; text = refusal_line name words }
-
-abbrev audited_said : ℕ → Verdict → Said
+abbrev audited_said : ℕ → Verdict → Reply
 audited_said count verdict = record { status = verdict_status verdict; text = verdict_text count verdict }
 
-abbrev pub IsRead : Said → Type 0
+abbrev pub IsRead : Reply → Type 0
 IsRead said = said.status ≢ ReadFault
 
 module _ {A : Type 0} (most : ℕ) (contents : Contents) (name : List ℕ) (is_told : contents name ≢ None) (Why : List ℕ → List ℕ → Type 0) (Form : List ℕ → A → Type 0) where
@@ -83,16 +77,16 @@ module _ {A : Type 0} (most : ℕ) (contents : Contents) (name : List ℕ) (is_t
   abbrev pub Apart : Type 0
   Apart = (bytes : List ℕ) (a : A) (words : List ℕ) → Form bytes a → Why bytes words → ⊥
 
-  one_stop : OneWord → (one other : Said) → StopsAt most contents name Why one → StopsAt most contents name Why other → IsRead one → IsRead other → one ≡ other
-  one_stop words one other (inl h) k read also = absurd (read (ap (λ (s : Said). s.status) h))
-  one_stop words one other (inr h) (inl k) read also = absurd (also (ap (λ (s : Said). s.status) k))
+  one_stop : OneWord → (one other : Reply) → StopsAt most contents name Why one → StopsAt most contents name Why other → IsRead one → IsRead other → one ≡ other
+  one_stop words one other (inl h) k read also = absurd (read (ap (λ (s : Reply). s.status) h))
+  one_stop words one other (inr h) (inl k) read also = absurd (also (ap (λ (s : Reply). s.status) k))
   one_stop words one other (inr h) (inr k) read also =
       let bytes : h.bytes ≡ k.bytes = one_handed (contents name) most h.bytes k.bytes is_told h.handed k.handed in
       let same : h.words ≡ k.words = words k.bytes h.words k.words (subst (λ b. Why b h.words) bytes h.why) k.why in
       h.told ∙ ap (refused_said name) same ∙ sym k.told
 
-  spelled_or_stopped : Apart → (value : A) (said : Said) → SpellsAt most contents name Form value → StopsAt most contents name Why said → IsRead said → ⊥
-  spelled_or_stopped apart value said spells (inl h) read = read (ap (λ (s : Said). s.status) h)
+  spelled_or_stopped : Apart → (value : A) (said : Reply) → SpellsAt most contents name Form value → StopsAt most contents name Why said → IsRead said → ⊥
+  spelled_or_stopped apart value said spells (inl h) read = read (ap (λ (s : Reply). s.status) h)
   spelled_or_stopped apart value said spells (inr h) read =
       let bytes : h.bytes ≡ spells.bytes = one_handed (contents name) most h.bytes spells.bytes is_told h.handed spells.handed in
       apart spells.bytes value h.words spells.spelled (subst (λ b. Why b h.words) bytes h.why)
@@ -102,7 +96,7 @@ module _ {A : Type 0} (most : ℕ) (contents : Contents) (name : List ℕ) (is_t
       let bytes : h.bytes ≡ k.bytes = one_handed (contents name) most h.bytes k.bytes is_told h.handed k.handed in
       values k.bytes a b (subst (λ x. Form x a) bytes h.spelled) k.spelled
 
-  pub one_reading : OneWord → OneValue → Apart → (next : A → Said → Type 0) (one other : Said)
+  pub one_reading : OneWord → OneValue → Apart → (next : A → Reply → Type 0) (one other : Reply)
       → ((value : A) → next value one → next value other → IsRead one → IsRead other → one ≡ other)
       → ReadsAt most contents name Why Form next one → ReadsAt most contents name Why Form next other → IsRead one → IsRead other → one ≡ other
   one_reading words values apart next one other rest (inl h) (inl k) read also = one_stop words one other h k read also
@@ -132,7 +126,7 @@ cell_words bytes v w (inl h) (inr k) = absurd (no_more most_of_a_file bytes k.wi
 cell_words bytes v w (inr h) (inl k) = absurd (no_more most_of_a_file bytes h.within k.0)
 cell_words bytes v w (inr h) (inr k) = h.told ∙ ap config_text (some_one (first_fault bytes) h.fault k.fault h.first k.first) ∙ sym k.told
 
-pub system_values : OneSystem → (bytes : List ℕ) (a b : SystemConfig) → IsSystemFile bytes a → IsSystemFile bytes b → a ≡ b
+pub system_values : OneSpelling → (bytes : List ℕ) (a b : SystemConfig) → IsSystemFile bytes a → IsSystemFile bytes b → a ≡ b
 system_values one bytes a b h k = one a b h.typed k.typed h.limits k.limits (sym h.spelled ∙ k.spelled)
 
 cell_values : OneCell → (bytes : List ℕ) (a b : CellConfig) → IsCellFile bytes a → IsCellFile bytes b → a ≡ b
@@ -142,7 +136,7 @@ module _ (faultless : CellsAreFaultless) (one_cell : OneCell) (contents : Conten
   cell_apart : (bytes : List ℕ) (cell : CellConfig) (words : List ℕ) → IsCellFile bytes cell → CellRefusal bytes words → ⊥
   cell_apart bytes cell words form why = cell_sound faultless cell bytes words form.within form why
 
-  not_both : (name : List ℕ) → contents name ≢ None → (cell : CellConfig) (said : Said) → SpellsAt most_of_a_file contents name IsCellFile cell → StopsAt most_of_a_file contents name CellRefusal said → IsRead said → ⊥
+  not_both : (name : List ℕ) → contents name ≢ None → (cell : CellConfig) (said : Reply) → SpellsAt most_of_a_file contents name IsCellFile cell → StopsAt most_of_a_file contents name CellRefusal said → IsRead said → ⊥
   not_both name told cell said = spelled_or_stopped most_of_a_file contents name told CellRefusal IsCellFile cell_apart cell said
 
   one_cells : (names : List (List ℕ)) → AreTold contents names → (a b : List CellConfig) → SpellCells contents names a → SpellCells contents names b → a ≡ b
@@ -157,7 +151,7 @@ module _ (faultless : CellsAreFaultless) (one_cell : OneCell) (contents : Conten
       ap (λ (x : CellConfig). x ∷ us) first ∙ ap (λ (xs : List CellConfig). b ∷ xs) rest
 
   -- a file that stops the call isn't among those that spell cells
-  stop_among : (before : List (List ℕ)) (name : List ℕ) (rest : List (List ℕ)) (cells : List CellConfig) (said : Said) → AreTold contents (before ++ name ∷ rest)
+  stop_among : (before : List (List ℕ)) (name : List ℕ) (rest : List (List ℕ)) (cells : List CellConfig) (said : Reply) → AreTold contents (before ++ name ∷ rest)
       → SpellCells contents (before ++ name ∷ rest) cells → StopsAt most_of_a_file contents name CellRefusal said → IsRead said → ⊥
   stop_among [] name rest [] said told h k read = h
   stop_among [] name rest (c ∷ cs) said told h k read = not_both name told.0 c said h.0 k read
@@ -165,7 +159,7 @@ module _ (faultless : CellsAreFaultless) (one_cell : OneCell) (contents : Conten
   stop_among (b ∷ bs) name rest (c ∷ cs) said told h k read = stop_among bs name rest cs said told.1 h.1 k read
 
   -- the first file that stops the call is one
-  one_among : (xs : List (List ℕ)) (x : List ℕ) (r ys : List (List ℕ)) (y : List ℕ) (s : List (List ℕ)) (us bs : List CellConfig) (one other : Said) → AreTold contents (xs ++ x ∷ r)
+  one_among : (xs : List (List ℕ)) (x : List ℕ) (r ys : List (List ℕ)) (y : List ℕ) (s : List (List ℕ)) (us bs : List CellConfig) (one other : Reply) → AreTold contents (xs ++ x ∷ r)
       → xs ++ x ∷ r ≡ ys ++ y ∷ s → SpellCells contents xs us → SpellCells contents ys bs
       → StopsAt most_of_a_file contents x CellRefusal one → StopsAt most_of_a_file contents y CellRefusal other → IsRead one → IsRead other → one ≡ other
   one_among [] x r [] y s us bs one other told same h k stops also read read_also =
@@ -185,7 +179,7 @@ module _ (faultless : CellsAreFaultless) (one_cell : OneCell) (contents : Conten
       let tail : xs ++ x ∷ r ≡ ys ++ y ∷ s = cc same in
       one_among xs x r ys y s us bs one other told.1 tail h.1 k.1 stops also read read_also
 
-  pub one_check : (names : List (List ℕ)) (system : SystemConfig) (one other : Said) → AreTold contents names → ChecksCells contents names system one → ChecksCells contents names system other → IsRead one → IsRead other → one ≡ other
+  pub one_check : (names : List (List ℕ)) (system : SystemConfig) (one other : Reply) → AreTold contents names → ChecksCells contents names system one → ChecksCells contents names system other → IsRead one → IsRead other → one ≡ other
   one_check names system one other told (inl h) (inl k) read also =
       one_among h.before h.name h.rest k.before k.name k.rest h.cells k.cells one other (subst (AreTold contents) h.split told) (sym h.split ∙ k.split) h.spelled k.spelled h.stops k.stops read also
   one_check names system one other told (inl h) (inr k) read also =
@@ -300,6 +294,6 @@ one_verdict image entries (Illegal m a) (Illegal n b) h k =
     let both = one_first_illegal image entries m n a b h k in
     ap (λ (l : ℕ). Illegal l a) both.0 ∙ ap (λ (e : Option Entry). Illegal n e) both.1
 
-pub one_audited : (image : Image) (entries : List Entry) (one other : Said) → IsAudited image entries one → IsAudited image entries other → one ≡ other
+pub one_audited : (image : Image) (entries : List Entry) (one other : Reply) → IsAudited image entries one → IsAudited image entries other → one ≡ other
 one_audited image entries one other h k =
     h.told ∙ ap (audited_said (length entries)) (one_verdict image entries h.verdict k.verdict h.judged k.judged) ∙ sym k.told

@@ -14,9 +14,9 @@ use Rattle.jh_cli.specs.declared.ending.Stop.{Stop}
 use Rattle.jh_cli.specs.declared.ending.Stop.TheVariants as stop
 use Rattle.jh_cli.specs.declared.status.Status.{Status}
 use Rattle.jh_cli.specs.declared.status.Status.TheVariants as status
-use Rattle.jh_cli.specs.Reading.{Contents, Said}
+use Rattle.jh_cli.specs.Reading.{Contents, Reply}
 use Rattle.jh_cli.specs.Boards.{stopped}
-use Rattle.jh_cli.specs.Stopped.{OnEnded, OnTold}
+use Rattle.jh_cli.specs.Stopped.{OnEnded, OnEnding}
 use Rattle.jh_cli.specs.Words.{Asked, CheckOf, PackOf, PlayOf, RunOf, MapOf, AuditOf, SoakOf}
 use Rattle.jh_cli.specs.Order.{IsStop, ask_for, StopsIn, ReadsIn, ReadsBoard, the_board_alone, what_it_lists, IsReadFor}
 use Rattle.jh_cli.proofs.StopLemmas.{on_stop, on_told}
@@ -78,16 +78,16 @@ module _ {S : Type 0} (one : S → Ask → S → Type 0) (failed : S → List �
 
   -- ---- files, and others behind them
 
-  reads_behind : (before names : List (List ℕ)) (s t u : S) → AsksAll one failed before s t → (said : Said) → ReadsIn one failed names t u said → ReadsIn one failed (before ++ names) s u said
+  reads_behind : (before names : List (List ℕ)) (s t u : S) → AsksAll one failed before s t → (said : Reply) → ReadsIn one failed names t u said → ReadsIn one failed (before ++ names) s u said
   reads_behind before names s t u asked said (inl all) = inl (all-both one failed s t u before names asked all)
   reads_behind before names s t u asked said (inr stops) = inr (stops.0, until-behind one failed s t u before names (ask_for said.status) asked stops.1)
 
   pub file_behind : (name : List ℕ) (names : List (List ℕ)) (s t u : S) → AsksAll one failed (name ∷ []) s t
-      → (r : Result Ending Stop) → OnTold r (ReadsIn one failed names t u) → OnTold r (ReadsIn one failed (name ∷ names) s u)
+      → (r : Result Ending Stop) → OnEnding r (ReadsIn one failed names t u) → OnEnding r (ReadsIn one failed (name ∷ names) s u)
   file_behind name names s t u asked r h = on_told (ReadsIn one failed names t u) (ReadsIn one failed (name ∷ names) s u) r (reads_behind (name ∷ []) names s t u asked) h
 
   pub board_behind : (contents : Contents) (board : List ℕ) (names : List (List ℕ)) (s t u : S) → AsksBoard one failed contents board s t
-      → (r : Result Ending Stop) → OnTold r (ReadsIn one failed names t u) → OnTold r (ReadsBoard one failed contents board names s u)
+      → (r : Result Ending Stop) → OnEnding r (ReadsIn one failed names t u) → OnEnding r (ReadsBoard one failed contents board names s u)
   board_behind contents board names s t u opened r h =
       on_told (ReadsIn one failed names t u) (ReadsBoard one failed contents board names s u) r
       (λ said reads. what_it_lists opened.listing opened.lists (reads_behind (board_files board opened.listing) names s t u opened.all said reads)) h
@@ -132,17 +132,17 @@ module _ {S : Type 0} (one : S → Ask → S → Type 0) (failed : S → List �
   keep s t asks (no_ask u) are = refl
   keep s t asks (one_more_ask u v w ask more is named rest) are = keep v w more rest are.1 ∙ named ∙ ap (kept_name (failed u) ask.name) are.0
 
-  all_keep : (names : List (List ℕ)) (s t : S) (said : Said) → said.status ≢ status.ReadFault → ReadsIn one failed names s t said → failed t ≡ failed s
+  all_keep : (names : List (List ℕ)) (s t : S) (said : Reply) → said.status ≢ status.ReadFault → ReadsIn one failed names s t said → failed t ≡ failed s
   all_keep names s t said read (inl all) = keep s t (map handed names) all (are_handed names)
   all_keep names s t said read (inr (stop, until)) =
       keep s t (map handed until.before ++ ask_for said.status until.name ∷ []) until.asked (are_handed_up_to until.before (ask_for said.status until.name) (is_handed said.status until.name read))
 
-  board_keeps : (contents : Contents) (board : List ℕ) (more : List (List ℕ)) (s t : S) (said : Said) → said.status ≢ status.ReadFault → ReadsBoard one failed contents board more s t said → failed t ≡ failed s
+  board_keeps : (contents : Contents) (board : List ℕ) (more : List (List ℕ)) (s t : S) (said : Reply) → said.status ≢ status.ReadFault → ReadsBoard one failed contents board more s t said → failed t ≡ failed s
   board_keeps contents board more s t said read (the_board_alone stops) = all_keep (board ∷ []) s t said read (inr stops)
   board_keeps contents board more s t said read (what_it_lists listing lists reads) = all_keep (board_files board listing ++ more) s t said read reads
 
   -- where it isn't told that a file can't be read, the name of the read that failed is what it was
-  pub call_keeps : (contents : Contents) (asked : Option Asked) (s t : S) (said : Said) → IsReadFor one failed contents asked s t said → said.status ≢ status.ReadFault → failed t ≡ failed s
+  pub call_keeps : (contents : Contents) (asked : Option Asked) (s t : S) (said : Reply) → IsReadFor one failed contents asked s t said → said.status ≢ status.ReadFault → failed t ≡ failed s
   call_keeps contents None s t said reads read = keep s t [] reads tt
   call_keeps contents (Some (CheckOf system cells)) s t said reads read = all_keep (system ∷ cells) s t said read reads
   call_keeps contents (Some (PackOf spec)) s t said reads read = all_keep (spec ∷ []) s t said read reads

@@ -9,11 +9,13 @@ use Rattle.jh_image.specs.declared.fault.ImageCause.{ImageCause}
 use Rattle.jh_image.specs.declared.fault.ImageCause.TheVariants.{ReadFault as CantBeRead}
 use Rattle.jh_image.specs.Causes.{StopsReading}
 use Rattle.jh_image.specs.Laws.{AreTold as AreAllTold}
+use Rattle.jh_image.proofs.OneLemmas.{OneSpelling}
+use Rattle.jh_image.proofs.UnrefusedLemmas.{SpellingsAreFaultless}
 use Rattle.jh_run.specs.Maps.{IsMapsText, Maps}
 use Rattle.jh_cli.specs.declared.status.Status.TheVariants.{Good, ReadFault}
 use Rattle.jh_cli.specs.Limits.{most_of_a_file, most_of_a_journal, journal_limit}
 use Rattle.jh_cli.specs.Words.{Asked, CheckOf, PackOf, PlayOf, RunOf, MapOf, AuditOf, SoakOf, IsSerial}
-use Rattle.jh_cli.specs.Reading.{Said, Contents}
+use Rattle.jh_cli.specs.Reading.{Reply, Contents}
 use Rattle.jh_cli.specs.Check.{IsSystemFile, SystemRefusal, ChecksCells}
 use Rattle.jh_cli.specs.Pack.{IsSpecFile, SpecRefusal, packed}
 use Rattle.jh_cli.specs.Boards.{stopped, EndsAt, Opens}
@@ -22,9 +24,9 @@ use Rattle.jh_cli.specs.Map.{mapped_said, IsMapped, MapsBy}
 use Rattle.jh_cli.specs.Audit.{IsJournalFile, JournalRefusal, IsAudited, AuditsBy}
 use Rattle.jh_cli.specs.Outcome.{Outcome}
 use Rattle.jh_cli.specs.Complete.{IsBoardTold, AreFilesTold}
-use Rattle.jh_cli.proofs.GoodLemmas.{CellsAreFaultless, SystemsAreFaultless, NoBadLine, NotLong, OneImage, BoardsAreUnrefused, IsAnswered, system_sound, spec_sound, schedule_sound, one_schedule, journal_sound, board_unrefused}
+use Rattle.jh_cli.proofs.GoodLemmas.{CellsAreFaultless, NoBadLine, NotLong, OneImage, BoardsAreUnrefused, IsAnswered, system_sound, spec_sound, schedule_sound, one_schedule, journal_sound, board_unrefused}
 use Rattle.jh_cli.proofs.ToldLemmas.{all_told, each_is_told, is_image, stops}
-use Rattle.jh_cli.proofs.OneLemmas.{OneCell, OneSystem, OneJournal, NotBoth, OneLine, IsRead, one_reading, system_words, system_values, one_check, spec_words, spec_values, schedule_words, journal_words, one_audited}
+use Rattle.jh_cli.proofs.OneLemmas.{OneCell, OneJournal, NotBoth, OneLine, IsRead, one_reading, system_words, system_values, one_check, spec_words, spec_values, schedule_words, journal_words, one_audited}
 
 -- ---- boards
 
@@ -32,21 +34,21 @@ abbrev pub OneCause : Type 0
 OneCause = (contents : Contents) (board file other : List ℕ) (cause more : ImageCause) → AreAllTold contents → StopsReading contents board file cause → cause ≢ CantBeRead
     → StopsReading contents board other more → more ≢ CantBeRead → (cause ≡ more) × (file ≡ other)
 
-is_unread : (file : List ℕ) (cause : ImageCause) (said : Said) → said ≡ stopped file cause → IsRead said → cause ≢ CantBeRead
-is_unread file cause said is read fault = read (ap (λ (s : Said). s.status) is ∙ ap (λ (c : ImageCause). (stopped file c).status) fault)
+is_unread : (file : List ℕ) (cause : ImageCause) (said : Reply) → said ≡ stopped file cause → IsRead said → cause ≢ CantBeRead
+is_unread file cause said is read fault = read (ap (λ (s : Reply). s.status) is ∙ ap (λ (c : ImageCause). (stopped file c).status) fault)
 
 -- a call ends at one file of a board for one cause
-one_end : OneCause → (contents : Contents) (board : List ℕ) → IsBoardTold contents board → (one other : Said) → EndsAt contents board one → EndsAt contents board other → IsRead one → IsRead other → one ≡ other
+one_end : OneCause → (contents : Contents) (board : List ℕ) → IsBoardTold contents board → (one other : Reply) → EndsAt contents board one → EndsAt contents board other → IsRead one → IsRead other → one ≡ other
 one_end one_cause contents board told one other h k read also =
     let same : (h.cause ≡ k.cause) × (h.file ≡ k.file) = one_cause (all_told contents) board h.file k.file h.cause k.cause (each_is_told contents)
     (stops contents board told h.file h.cause h.stops) (is_unread h.file h.cause one h.told read) (stops contents board told k.file k.cause k.stops) (is_unread k.file k.cause other k.told also) in
     h.told ∙ ap (λ (f : List ℕ). stopped f h.cause) same.1 ∙ ap (λ (c : ImageCause). stopped k.file c) same.0 ∙ sym k.told
 
-unread_end : (said : Said) → IsAnswered (λ status. ⊥) said → said.status ≡ ReadFault
+unread_end : (said : Reply) → IsAnswered (λ status. ⊥) said → said.status ≡ ReadFault
 unread_end said (inl never) = absurd never
 unread_end said (inr is) = is
 
-one_opening : OneCause → OneImage → BoardsAreUnrefused → (contents : Contents) (board : List ℕ) (next : Image → Said → Type 0) (one other : Said) → IsBoardTold contents board
+one_opening : OneCause → OneImage → BoardsAreUnrefused → (contents : Contents) (board : List ℕ) (next : Image → Reply → Type 0) (one other : Reply) → IsBoardTold contents board
     → ((image : Image) → next image one → next image other → one ≡ other)
     → Opens contents board next one → Opens contents board next other → IsRead one → IsRead other → one ≡ other
 one_opening one_cause one_image unrefused contents board next one other told rest (inl h) (inl k) read also = one_end one_cause contents board told one other h k read also
@@ -68,20 +70,20 @@ same_found one_maps image cpus None (Some text) h k = absurd (false≢true (sym 
 same_found one_maps image cpus (Some text) None h k = absurd (false≢true (sym h.0 ∙ k.0))
 same_found one_maps image cpus (Some text) (Some more) h k = ap Some (one_maps image (items image journal_limit cpus []).entries text more h.2 k.2)
 
-one_mapped : OneMaps → (image : Image) (cpus : List ℕ) (one other : Said) → IsMapped image cpus one → IsMapped image cpus other → one ≡ other
+one_mapped : OneMaps → (image : Image) (cpus : List ℕ) (one other : Reply) → IsMapped image cpus one → IsMapped image cpus other → one ≡ other
 one_mapped one_maps image cpus one other (found, is, told) (more, also, said) = told ∙ ap mapped_said (same_found one_maps image cpus found more is also) ∙ sym said
 
 -- ---- all of them
 
-pub one_outcome : CellsAreFaultless → SystemsAreFaultless → OneCell → OneSystem → NoBadLine → NotLong → OneJournal → NotBoth → OneLine → OneImage → BoardsAreUnrefused → OneCause → OneMaps
-    → (contents : Contents) (asked : Option Asked) (one other : Said) → IsSerial asked → AreFilesTold contents asked → Outcome contents asked one → Outcome contents asked other → IsRead one → IsRead other → one ≡ other
+pub one_outcome : CellsAreFaultless → SpellingsAreFaultless → OneCell → OneSpelling → NoBadLine → NotLong → OneJournal → NotBoth → OneLine → OneImage → BoardsAreUnrefused → OneCause → OneMaps
+    → (contents : Contents) (asked : Option Asked) (one other : Reply) → IsSerial asked → AreFilesTold contents asked → Outcome contents asked one → Outcome contents asked other → IsRead one → IsRead other → one ≡ other
 one_outcome cells systems one_cell one_system no_bad not_long one_journal not_both one_line one_image unrefused one_cause one_maps contents None one other serial told h k read also = h ∙ sym k
 one_outcome cells systems one_cell one_system no_bad not_long one_journal not_both one_line one_image unrefused one_cause one_maps contents (Some (CheckOf system names)) one other serial told h k read also =
     one_reading most_of_a_file contents system told.0 SystemRefusal IsSystemFile system_words (system_values one_system) (λ bytes s words form why. system_sound systems s bytes words form.within form why)
     (ChecksCells contents names) one other (λ s a b. one_check cells one_cell contents names s one other told.1 a b) h k read also
 one_outcome cells systems one_cell one_system no_bad not_long one_journal not_both one_line one_image unrefused one_cause one_maps contents (Some (PackOf name)) one other serial told h k read also =
     one_reading most_of_a_file contents name told.0 SpecRefusal IsSpecFile spec_words spec_values (λ bytes s words form why. spec_sound s bytes words form.0 form why)
-    (λ (spec : Spec) (s : Said). s ≡ record { status = Good; text = packed spec }) one other (λ s a b r q. a ∙ sym b) h k read also
+    (λ (spec : Spec) (s : Reply). s ≡ record { status = Good; text = packed spec }) one other (λ s a b r q. a ∙ sym b) h k read also
 one_outcome cells systems one_cell one_system no_bad not_long one_journal not_both one_line one_image unrefused one_cause one_maps contents (Some (PlayOf board schedule)) one other serial told h k read also =
     one_opening one_cause one_image unrefused contents board (PlaysBy contents schedule) one other told.0
     (λ image a b. one_reading most_of_a_file contents schedule told.1.0 (ScheduleRefusal image) (IsSchedule image) (schedule_words image) (one_schedule image) (λ bytes s words form why. schedule_sound image s bytes words form.within form why)

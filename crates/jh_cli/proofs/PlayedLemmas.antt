@@ -14,7 +14,7 @@ use Rattle.jh_run.specs.declared.ended.Ended.TheVariants.{Quiet, Full}
 use Rattle.jh_cli.specs.Limits.{journal_limit}
 use Rattle.jh_cli.specs.declared.status.Status.{Status}
 use Rattle.jh_cli.specs.declared.status.Status.TheVariants.{Good, Full as FullStatus}
-use Rattle.jh_cli.specs.Reading.{Said}
+use Rattle.jh_cli.specs.Reading.{Reply}
 use Rattle.jh_cli.specs.Play.{IsPlayed, played_status}
 
 good_is_quiet : (ended : Ended) → played_status (is_full ended) ≡ Good → ended ≡ Quiet
@@ -27,21 +27,21 @@ full_is_full Quiet h = absurd (cc)
 full_is_full Full h = refl
 
 -- what is told of where the items ended
-abbrev told_of : Reached → Said
+abbrev told_of : Reached → Reply
 told_of reached = record { status = played_status reached.full; text = journal_text reached.entries }
 
 -- the board at the played journal, and how it ended, tell the play
-pub IsPlayed-from : (image : Image) (cpus : List ℕ) (board : BoardView) (ended : Ended) (status : Status) (text : List ℕ)
+pub IsPlayed_from : (image : Image) (cpus : List ℕ) (board : BoardView) (ended : Ended) (status : Status) (text : List ℕ)
     → Plays image journal_limit cpus board ended → IsLegal image board.entries → ((ended ≡ Quiet) ↔ IsQuiet image board.entries) → ((ended ≡ Full) ↔ IsFullAtCpu image journal_limit board.entries)
     → status ≡ played_status (is_full ended) → text ≡ journal_text board.entries
     → IsPlayed image cpus (record { status = status; text = text })
-IsPlayed-from image cpus board ended status text plays legal quiet full is_status is_text =
+IsPlayed_from image cpus board ended status text plays legal quiet full is_status is_text =
     let entries : board.entries ≡ (played image journal_limit cpus).entries = ap (λ (r : Reached). r.entries) (sym plays.0) in
     let Legal : List Entry → Type 0 = λ es. IsLegal image es in
     let AtLimit : List Entry → Type 0 = λ es. IsFullAtCpu image journal_limit es in
     let Quieted : List Entry → Type 0 = λ es. IsQuiet image es in
-    let of_status : Status → Said = λ (s : Status). record { status = s; text = text } in
-    let of_text : List ℕ → Said = λ (t : List ℕ). record { status = played_status (is_full ended); text = t } in
+    let of_status : Status → Reply = λ (s : Status). record { status = s; text = text } in
+    let of_text : List ℕ → Reply = λ (t : List ℕ). record { status = played_status (is_full ended); text = t } in
     record {
       told = ap of_status is_status ∙ ap of_text is_text ∙ ap told_of (sym plays.0);
       legal = subst Legal entries legal;

@@ -1,6 +1,5 @@
 -- What a run that ended so tells.
-use Rattle.std.proofs.Common.{◌≡◌, ◌≤◌, ℕ, List, length, Option, Some, None, ◌↔◌, ◌⊎◌, refl, sym, ap, subst, ◌∙◌, inl, inr, arith}
-use Rattle.jh_outside.specs.Count.{Rose}
+use Rattle.std.proofs.Common.{◌≡◌, ℕ, List, length, ◌↔◌, ◌⊎◌, refl, sym, ap, subst, ◌∙◌, inl, inr, arith}
 use Rattle.jh_script.specs.declared.image.Image.{Image}
 use Rattle.jh_history.specs.declared.entry.Entry.{Entry}
 use Rattle.jh_history.specs.Due.{IsLegal, IsQuiet}
@@ -10,7 +9,7 @@ use Rattle.jh_run.specs.declared.ended.Ended.{Ended}
 use Rattle.jh_run.specs.declared.ended.Ended.TheVariants.{Quiet, Full}
 use Rattle.jh_cli.specs.Limits.{journal_limit}
 use Rattle.jh_cli.specs.Lines.{number_of}
-use Rattle.jh_cli.specs.Reading.{Said}
+use Rattle.jh_cli.specs.Reading.{Reply}
 use Rattle.jh_cli.specs.Stopped.{IsCounted}
 use Rattle.jh_cli.specs.declared.status.Status.{Status}
 use Rattle.jh_cli.specs.declared.status.Status.TheVariants as status
@@ -29,18 +28,18 @@ pub is_run : (image : Image) (entries : List Entry) (ended : Ended) (status : St
 is_run image entries ended status legal quiet full is = record { legal = legal; ends = subst (EndsRun image entries) (sym is) (ends_run image entries ended quiet full) }
 
 -- a soak reads no file
-other : (said : Said) (one : Status) → said.status ≡ one → ¬ (number_of one ≡ number_of status.ReadFault) → said.status ≡ status.ReadFault → ⊥
+other : (said : Reply) (one : Status) → said.status ≡ one → ¬ (number_of one ≡ number_of status.ReadFault) → said.status ≡ status.ReadFault → ⊥
 other said one is differs also = differs (ap number_of (sym is ∙ also))
 
-pub soak_counted : (old new : ℕ) (failed word : List ℕ) (said : Said) → Soaks word said → IsCounted old new failed said
-soak_counted old new failed word said (inl none) read = absurd (other said status.Refused (ap (λ (s : Said). s.status) none.1) (omega arith) read)
+pub soak_counted : (old new : ℕ) (failed word : List ℕ) (said : Reply) → Soaks word said → IsCounted old new failed said
+soak_counted old new failed word said (inl none) read = absurd (other said status.Refused (ap (λ (s : Reply). s.status) none.1) (omega arith) read)
 soak_counted old new failed word said (inr (rounds, are, soaked)) read = absurd (by (run_ends (soak_board rounds) soaked.entries said.status soaked.run.ends)) where
   by : (said.status ≡ status.Good) ⊎ (said.status ≡ status.Full) → ⊥
   by (inl is) = other said status.Good is (omega arith) read
   by (inr is) = other said status.Full is (omega arith) read
 
 -- nor does a run that has opened its board
-pub ran_counted : (old new : ℕ) (failed : List ℕ) (image : Image) (said : Said) → IsRan image said → IsCounted old new failed said
+pub ran_counted : (old new : ℕ) (failed : List ℕ) (image : Image) (said : Reply) → IsRan image said → IsCounted old new failed said
 ran_counted old new failed image said ran read = absurd (by (run_ends image ran.entries said.status ran.run.ends)) where
   by : (said.status ≡ status.Good) ⊎ (said.status ≡ status.Full) → ⊥
   by (inl is) = other said status.Good is (omega arith) read

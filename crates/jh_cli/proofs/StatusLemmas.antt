@@ -16,7 +16,7 @@ use Rattle.jh_cli.specs.declared.status.Status.{Status}
 use Rattle.jh_cli.specs.declared.status.Status.TheVariants.{Good, Found, Usage, Refused, ReadFault, WriteFault, NoMemory, Full}
 use Rattle.jh_cli.specs.Lines.{number_of}
 use Rattle.jh_cli.specs.Words.{Asked, CheckOf, PackOf, PlayOf, RunOf, MapOf, AuditOf, SoakOf}
-use Rattle.jh_cli.specs.Reading.{Said, Contents, StopsAt, ReadsAt}
+use Rattle.jh_cli.specs.Reading.{Reply, Contents, StopsAt, ReadsAt}
 use Rattle.jh_cli.specs.Check.{IsSystemFile, SystemRefusal, CellRefusal, ChecksCells, checked_status}
 use Rattle.jh_cli.specs.Pack.{IsSpecFile, SpecRefusal, packed}
 use Rattle.jh_cli.specs.Boards.{stopped, Opens}
@@ -28,18 +28,18 @@ use Rattle.jh_cli.specs.Soak.{Soaks}
 use Rattle.jh_cli.specs.Limits.{most_of_a_file, most_of_a_journal, journal_limit}
 use Rattle.jh_cli.specs.Outcome.{Outcome}
 
-abbrev IsOther : Said → Type 0
+abbrev IsOther : Reply → Type 0
 IsOther said = said.status ≢ WriteFault
 
 -- a status with another number than 5
-other : (said : Said) (status : Status) → said.status ≡ status → number_of status ≢ 5 → IsOther said
+other : (said : Reply) (status : Status) → said.status ≡ status → number_of status ≢ 5 → IsOther said
 other said status is differs h = differs (ap number_of (sym is ∙ h))
 
-stops_other : (most : ℕ) (contents : Contents) (name : List ℕ) (Why : List ℕ → List ℕ → Type 0) (said : Said) → StopsAt most contents name Why said → IsOther said
-stops_other most contents name Why said (inl fault) = other said ReadFault (ap (λ (s : Said). s.status) fault) (omega arith)
-stops_other most contents name Why said (inr is) = other said Refused (ap (λ (s : Said). s.status) is.told) (omega arith)
+stops_other : (most : ℕ) (contents : Contents) (name : List ℕ) (Why : List ℕ → List ℕ → Type 0) (said : Reply) → StopsAt most contents name Why said → IsOther said
+stops_other most contents name Why said (inl fault) = other said ReadFault (ap (λ (s : Reply). s.status) fault) (omega arith)
+stops_other most contents name Why said (inr is) = other said Refused (ap (λ (s : Reply). s.status) is.told) (omega arith)
 
-reads_other : {A : Type 0} (most : ℕ) (contents : Contents) (name : List ℕ) (Why : List ℕ → List ℕ → Type 0) (Form : List ℕ → A → Type 0) (next : A → Said → Type 0) (said : Said)
+reads_other : {A : Type 0} (most : ℕ) (contents : Contents) (name : List ℕ) (Why : List ℕ → List ℕ → Type 0) (Form : List ℕ → A → Type 0) (next : A → Reply → Type 0) (said : Reply)
     → ((value : A) → next value said → IsOther said) → ReadsAt most contents name Why Form next said → IsOther said
 reads_other most contents name Why Form next said rest (inl stops) = stops_other most contents name Why said stops
 reads_other most contents name Why Form next said rest (inr went) = rest went.0 went.2
@@ -52,21 +52,21 @@ checked_other : (any : Bool) → number_of (cond any Found Good) ≢ 5
 checked_other true = omega arith
 checked_other false = omega arith
 
-cells_other : (contents : Contents) (names : List (List ℕ)) (system : SystemConfig) (said : Said) → ChecksCells contents names system said → IsOther said
+cells_other : (contents : Contents) (names : List (List ℕ)) (system : SystemConfig) (said : Reply) → ChecksCells contents names system said → IsOther said
 cells_other contents names system said (inl among) = stops_other most_of_a_file contents among.name CellRefusal said among.stops
 cells_other contents names system said (inr all) =
-    other said (checked_status (capped (findings system all.0))) (ap (λ (s : Said). s.status) all.2) (checked_other (is_any (capped (findings system all.0))))
+    other said (checked_status (capped (findings system all.0))) (ap (λ (s : Reply). s.status) all.2) (checked_other (is_any (capped (findings system all.0))))
 
-played_ends_other : (image : Image) (cpus : List ℕ) (said : Said) → IsPlayed image cpus said → IsOther said
+played_ends_other : (image : Image) (cpus : List ℕ) (said : Reply) → IsPlayed image cpus said → IsOther said
 played_ends_other image cpus said is =
-    other said (played_status (played image journal_limit cpus).full) (ap (λ (s : Said). s.status) is.told) (played_other (played image journal_limit cpus).full)
+    other said (played_status (played image journal_limit cpus).full) (ap (λ (s : Reply). s.status) is.told) (played_other (played image journal_limit cpus).full)
 
 mapped_other : (found : Option (List ℕ)) → number_of (mapped_said found).status ≢ 5
 mapped_other (Some text) = omega arith
 mapped_other None = omega arith
 
-map_ends_other : (image : Image) (cpus : List ℕ) (said : Said) → IsMapped image cpus said → IsOther said
-map_ends_other image cpus said (found, is, told) = other said (mapped_said found).status (ap (λ (s : Said). s.status) told) (mapped_other found)
+map_ends_other : (image : Image) (cpus : List ℕ) (said : Reply) → IsMapped image cpus said → IsOther said
+map_ends_other image cpus said (found, is, told) = other said (mapped_said found).status (ap (λ (s : Reply). s.status) told) (mapped_other found)
 
 -- a run ends with one of two statuses
 pub run_ends : (image : Image) (entries : List Entry) (status : Status) → EndsRun image entries status → (status ≡ Good) ⊎ (status ≡ Full)
@@ -79,20 +79,20 @@ run_ends image entries ReadFault h = absurd h
 run_ends image entries WriteFault h = absurd h
 run_ends image entries NoMemory h = absurd h
 
-run_other : (said : Said) → (said.status ≡ Good) ⊎ (said.status ≡ Full) → IsOther said
+run_other : (said : Reply) → (said.status ≡ Good) ⊎ (said.status ≡ Full) → IsOther said
 run_other said (inl is) = other said Good is (omega arith)
 run_other said (inr is) = other said Full is (omega arith)
 
-soak_other : (word : List ℕ) (said : Said) → Soaks word said → IsOther said
-soak_other word said (inl none) = other said Refused (ap (λ (s : Said). s.status) none.1) (omega arith)
+soak_other : (word : List ℕ) (said : Reply) → Soaks word said → IsOther said
+soak_other word said (inl none) = other said Refused (ap (λ (s : Reply). s.status) none.1) (omega arith)
 soak_other word said (inr (rounds, are, soaked)) = run_other said (run_ends (soak_board rounds) soaked.entries said.status soaked.run.ends)
 
 audited_other : (verdict : Verdict) → number_of (verdict_status verdict) ≢ 5
 audited_other (Legal quiet) = omega arith
 audited_other (Illegal line expected) = omega arith
 
-audit_ends_other : (image : Image) (entries : List Entry) (said : Said) → IsAudited image entries said → IsOther said
-audit_ends_other image entries said is = other said (verdict_status is.verdict) (ap (λ (s : Said). s.status) is.told) (audited_other is.verdict)
+audit_ends_other : (image : Image) (entries : List Entry) (said : Reply) → IsAudited image entries said → IsOther said
+audit_ends_other image entries said is = other said (verdict_status is.verdict) (ap (λ (s : Reply). s.status) is.told) (audited_other is.verdict)
 
 cause_other : (file : List ℕ) (cause : ImageCause) → number_of (stopped file cause).status ≢ 5
 cause_other file CantBeRead = omega arith
@@ -105,17 +105,17 @@ cause_other file (PoolSmall need have) = omega arith
 cause_other file (BadPreload number) = omega arith
 cause_other file (BadProgram fault) = omega arith
 
-opens_other : (contents : Contents) (board : List ℕ) (next : Image → Said → Type 0) (said : Said)
+opens_other : (contents : Contents) (board : List ℕ) (next : Image → Reply → Type 0) (said : Reply)
     → ((image : Image) → next image said → IsOther said) → Opens contents board next said → IsOther said
-opens_other contents board next said rest (inl ends) = other said (stopped ends.file ends.cause).status (ap (λ (s : Said). s.status) ends.told) (cause_other ends.file ends.cause)
+opens_other contents board next said rest (inl ends) = other said (stopped ends.file ends.cause).status (ap (λ (s : Reply). s.status) ends.told) (cause_other ends.file ends.cause)
 opens_other contents board next said rest (inr went) = rest went.0 went.3
 
-pub outcome_other : (contents : Contents) (asked : Option Asked) (said : Said) → Outcome contents asked said → said.status ≢ WriteFault
-outcome_other contents None said h = other said Usage (ap (λ (s : Said). s.status) h) (omega arith)
+pub outcome_other : (contents : Contents) (asked : Option Asked) (said : Reply) → Outcome contents asked said → said.status ≢ WriteFault
+outcome_other contents None said h = other said Usage (ap (λ (s : Reply). s.status) h) (omega arith)
 outcome_other contents (Some (CheckOf system cells)) said h =
     reads_other most_of_a_file contents system SystemRefusal IsSystemFile (ChecksCells contents cells) said (λ s rest. cells_other contents cells s said rest) h
 outcome_other contents (Some (PackOf name)) said h =
-    reads_other most_of_a_file contents name SpecRefusal IsSpecFile (λ (spec : Spec) (s : Said). s ≡ record { status = Good; text = packed spec }) said (λ spec is. other said Good (ap (λ (s : Said). s.status) is) (omega arith)) h
+    reads_other most_of_a_file contents name SpecRefusal IsSpecFile (λ (spec : Spec) (s : Reply). s ≡ record { status = Good; text = packed spec }) said (λ spec is. other said Good (ap (λ (s : Reply). s.status) is) (omega arith)) h
 outcome_other contents (Some (PlayOf board schedule)) said h =
     opens_other contents board (PlaysBy contents schedule) said
     (λ image reads. reads_other most_of_a_file contents schedule (ScheduleRefusal image) (IsSchedule image) (IsPlayed image) said (λ cpus is. played_ends_other image cpus said is) reads) h

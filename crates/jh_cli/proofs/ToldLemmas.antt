@@ -2,7 +2,7 @@
 use Rattle.std.proofs.Common.{◌≡◌, ◌≢◌, ℕ, zero, suc, ◌+◌, List, [], ◌∷◌, ◌++◌, length, take, None, Some, refl, sym, subst}
 use Rattle.std.specs.Prelude.{map, slice_get}
 use Rattle.std.specs.List.{AllByRecursion}
-use Rattle.jh_outside.specs.Reads.{Told, HandsOut}
+use Rattle.jh_outside.specs.Reads.{KnownFile, HandsOut}
 use Rattle.jh_cellcfg.specs.declared.config.SystemConfig.{SystemConfig}
 use Rattle.jh_cellcfg.specs.declared.region.Region.{Region}
 use Rattle.jh_script.specs.declared.image.Image.{Image}
@@ -15,7 +15,7 @@ use Rattle.jh_image.specs.declared.board.BoardFault.{BoardFault}
 use Rattle.jh_image.specs.declared.fault.ImageCause.{ImageCause}
 use Rattle.jh_image.specs.declared.fault.ImageCause.TheVariants.{ReadFault, Oversize, Json, Member, System, Findings, PoolSmall, Preload as BadPreload, Program as BadProgram}
 use Rattle.jh_image.specs.Files.{Contents, max_file_size, HasBytes, IsOversize, Lists, SpellsSystem, IsPreloadOf, IsProgramOf, Preloads, no_preloads, one_more_preload, Programs, no_programs, one_more_program}
-use Rattle.jh_image.specs.Images.{HasSystem, IsReady, IsNextPreload, HasPreloads, IsNextProgram, MakesImage, Comes, the_board, the_system, a_preload, a_program, IsImage}
+use Rattle.jh_image.specs.Images.{HasSystem, IsReady, IsNextPreload, HasPreloads, IsNextProgram, MakesImage, IsNextFile, the_board, the_system, a_preload, a_program, IsImage}
 use Rattle.jh_image.specs.Causes.{IsBadBoard, StopsReading}
 use Rattle.jh_image.specs.Order.{preload_name, program_name}
 use Rattle.jh_image.specs.Laws.{AreTold as AreAllTold}
@@ -49,7 +49,7 @@ module _ (P : List ℕ → Type 0) where
 
 -- ---- one file
 
-abbrev or_missing : Told → Told
+abbrev or_missing : KnownFile → KnownFile
 or_missing None = Some None
 or_missing (Some held) = Some held
 
@@ -57,14 +57,14 @@ or_missing (Some held) = Some held
 abbrev pub all_told : Contents → Contents
 all_told contents name = or_missing (contents name)
 
-is_told : (told : Told) → or_missing told ≢ None
+is_told : (told : KnownFile) → or_missing told ≢ None
 is_told None h = absurd (cc)
 is_told (Some held) h = absurd (cc)
 
 pub each_is_told : (contents : Contents) → AreAllTold (all_told contents)
 each_is_told contents name = is_told (contents name)
 
-hands : (told : Told) (most : ℕ) (bytes : List ℕ) → told ≢ None → HandsOut told most bytes → HandsOut (or_missing told) most bytes
+hands : (told : KnownFile) (most : ℕ) (bytes : List ℕ) → told ≢ None → HandsOut told most bytes → HandsOut (or_missing told) most bytes
 hands None most bytes is h = absurd (is refl)
 hands (Some None) most bytes is h = h
 hands (Some (Some held)) most bytes is h = h
@@ -159,13 +159,13 @@ module _ (contents : Contents) where
     pub is_image : (image : Image) → IsImage contents board image → IsImage (all_told contents) board image
     is_image image h = record { listing = h.listing; makes = makes_image h.listing image h.makes }
 
-    comes : (file : List ℕ) → Comes contents board file → Comes (all_told contents) board file
+    comes : (file : List ℕ) → IsNextFile contents board file → IsNextFile (all_told contents) board file
     comes file the_board = the_board
     comes file (the_system listing h) = the_system listing (lists board listing at_board h)
     comes file (a_preload listing system preloads entry h) = a_preload listing system preloads entry (next_preload listing system preloads entry h)
     comes file (a_program listing system preloads programs entry h) = a_program listing system preloads programs entry (next_program listing system preloads programs entry h)
 
-    at_turn : (file : List ℕ) → Comes contents board file → IsTold file
+    at_turn : (file : List ℕ) → IsNextFile contents board file → IsTold file
     at_turn file the_board = at_board
     at_turn file (the_system listing h) = at_system listing h
     at_turn file (a_preload listing system preloads entry h) = at_preload listing system preloads entry h

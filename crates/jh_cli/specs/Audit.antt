@@ -10,7 +10,7 @@ use Rattle.jh_text.specs.Text.{entry_text}
 use Rattle.jh_audit.specs.declared.verdict.Verdict.{Verdict}
 use Rattle.jh_audit.specs.declared.verdict.Verdict.TheVariants.{Legal, Illegal}
 use Rattle.jh_audit.specs.Judges.{Judges}
-use Rattle.jh_cli.specs.Reading.{Said, Contents, ReadsAt, IsOversizeAt}
+use Rattle.jh_cli.specs.Reading.{Reply, Contents, ReadsAt, IsOversizeAt}
 use Rattle.jh_cli.specs.Boards.{Opens}
 use Rattle.jh_cli.specs.declared.status.Status.{Status}
 use Rattle.jh_cli.specs.declared.status.Status.TheVariants.{Good, Found}
@@ -32,7 +32,7 @@ pub record IsNoJournal (bytes words : List ℕ) : Type 0 where
 abbrev pub JournalRefusal : List ℕ → List ℕ → Type 0
 JournalRefusal bytes words = IsOversizeAt most_of_a_journal bytes words ⊎ IsNoJournal bytes words
 
--- the line that tells that the entry was due in the place of the one in this line
+-- the line that tells that the entry was due instead of the one in this line
 abbrev pub due_text : ℕ → Entry → List ℕ
 due_text number entry = codes "illegal line " ++ (decimal number ++ (codes ": due " ++ (entry_text entry ++ 10 ∷ [])))
 
@@ -48,16 +48,16 @@ verdict_status (Legal quiet) = Good
 verdict_status (Illegal number expected) = Found
 
 -- the verdict on the journal is told
-pub record IsAudited (image : Image) (entries : List Entry) (said : Said) : Type 0 where
+pub record IsAudited (image : Image) (entries : List Entry) (said : Reply) : Type 0 where
   pub verdict : Verdict
   pub judged : Judges image entries verdict
   pub told : said ≡ record { status = verdict_status verdict; text = verdict_text (length entries) verdict }
 
 -- what an audit of the journal by the image ends with
-abbrev pub AuditsBy : Contents → List ℕ → Image → Said → Type 0
+abbrev pub AuditsBy : Contents → List ℕ → Image → Reply → Type 0
 AuditsBy contents journal image = ReadsAt most_of_a_journal contents journal JournalRefusal IsJournalFile (IsAudited image)
 
 -- what an audit of the journal by the board ends with: the board's files are read, then the journal's, and the first
 -- that stops the call ends it
-abbrev pub Audits : Contents → List ℕ → List ℕ → Said → Type 0
+abbrev pub Audits : Contents → List ℕ → List ℕ → Reply → Type 0
 Audits contents board journal = Opens contents board (AuditsBy contents journal)

@@ -8,21 +8,21 @@ use Rattle.jh_image.specs.Images.{IsImage}
 use Rattle.jh_history.specs.Admitted.{IsAdmitted}
 use Rattle.jh_image.specs.Texts.{cause_text}
 use Rattle.jh_cli.specs.Lines.{fault_line, refusal_line}
-use Rattle.jh_cli.specs.Reading.{Said, Contents}
+use Rattle.jh_cli.specs.Reading.{Reply, Contents}
 use Rattle.jh_cli.specs.declared.status.Status.TheVariants as status
 
 -- what is said where the file is refused for the cause
-abbrev pub stopped : List ℕ → ImageCause → Said
+abbrev pub stopped : List ℕ → ImageCause → Reply
 stopped file ReadFault = record { status = status.ReadFault; text = fault_line file }
 stopped file cause = record { status = status.Refused; text = refusal_line file (cause_text cause) }
 
 -- the call ends at one of the board's files: it is the first in their order that can't be read or is refused
-pub record EndsAt (contents : Contents) (board : List ℕ) (said : Said) : Type 0 where
+pub record EndsAt (contents : Contents) (board : List ℕ) (said : Reply) : Type 0 where
   pub file : List ℕ
   pub cause : ImageCause
   pub stops : StopsReading contents board file cause
   pub told : said ≡ stopped file cause
 
 -- the board is read: the call ends at one of its files, or goes on with the image that they make, which is admitted
-abbrev pub Opens : Contents → List ℕ → (Image → Said → Type 0) → Said → Type 0
+abbrev pub Opens : Contents → List ℕ → (Image → Reply → Type 0) → Reply → Type 0
 Opens contents board next said = EndsAt contents board said ⊎ ((image : Image) × IsImage contents board image × IsAdmitted image × next image said)

@@ -15,7 +15,7 @@ use Rattle.jh_check.specs.declared.finding.Finding.{Finding}
 use Rattle.jh_check.specs.Findings.{findings}
 use Rattle.jh_check.specs.Lists.{capped, is_any}
 use Rattle.jh_check.specs.Texts.{finding_text}
-use Rattle.jh_cli.specs.Reading.{Said, Contents, Spells, StopsAtFile, Reads, IsOversize}
+use Rattle.jh_cli.specs.Reading.{Reply, Contents, Spells, StopsAtFile, Reads, IsOversize}
 use Rattle.jh_cli.specs.declared.status.Status.{Status}
 use Rattle.jh_cli.specs.declared.status.Status.TheVariants.{Good, Found}
 use Rattle.jh_cli.specs.Limits.{most_of_a_file}
@@ -60,7 +60,7 @@ SpellCells contents (name ∷ names) (cell ∷ cells) = Spells contents name IsC
 SpellCells contents _ _ = ⊥
 
 -- one of the files stops the call, and those before it spell cells
-pub record StopsAmong (contents : Contents) (names : List (List ℕ)) (said : Said) : Type 0 where
+pub record StopsAmong (contents : Contents) (names : List (List ℕ)) (said : Reply) : Type 0 where
   pub before : List (List ℕ)
   pub name : List ℕ
   pub rest : List (List ℕ)
@@ -77,15 +77,15 @@ abbrev pub checked_status : List Finding → Status
 checked_status found = if is_any found then Found else Good
 
 -- what a check of the system and the cells tells
-abbrev pub checked : SystemConfig → List CellConfig → Said
+abbrev pub checked : SystemConfig → List CellConfig → Reply
 checked system cells = record { status = checked_status (capped (findings system cells)); text = findings_text (capped (findings system cells)) }
 
 -- the files of the cells are read, and all is checked
-abbrev pub ChecksCells : Contents → List (List ℕ) → SystemConfig → Said → Type 0
+abbrev pub ChecksCells : Contents → List (List ℕ) → SystemConfig → Reply → Type 0
 ChecksCells contents names system said =
     StopsAmong contents names said ⊎ ((cells : List CellConfig) × SpellCells contents names cells × (said ≡ checked system cells))
 
 -- what a check of these files ends with: they are read in the order of the words, and the first that stops
 -- the call ends it
-abbrev pub Checks : Contents → List ℕ → List (List ℕ) → Said → Type 0
+abbrev pub Checks : Contents → List ℕ → List (List ℕ) → Reply → Type 0
 Checks contents system names = Reads contents system SystemRefusal IsSystemFile (ChecksCells contents names)

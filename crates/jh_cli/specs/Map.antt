@@ -2,26 +2,26 @@
 use Rattle.std.specs.Prelude.{◌≡◌, ℕ, List, [], Option, Some, None}
 use Rattle.jh_script.specs.declared.image.Image.{Image}
 use Rattle.jh_run.specs.Maps.{Maps}
-use Rattle.jh_cli.specs.Reading.{Said, Contents, Reads}
+use Rattle.jh_cli.specs.Reading.{Reply, Contents, Reads}
 use Rattle.jh_cli.specs.Boards.{Opens}
 use Rattle.jh_cli.specs.Play.{IsSchedule, ScheduleRefusal}
 use Rattle.jh_cli.specs.declared.status.Status.TheVariants.{Good, Full}
 use Rattle.jh_cli.specs.Limits.{journal_limit}
 
 -- the maps that were told, or, where the limit stopped an item, nothing
-abbrev pub mapped_said : Option (List ℕ) → Said
+abbrev pub mapped_said : Option (List ℕ) → Reply
 mapped_said (Some text) = record { status = Good; text = text }
 mapped_said None = record { status = Full; text = [] }
 
 -- what is told of the image after the items alone
-abbrev pub IsMapped : Image → List ℕ → Said → Type 0
+abbrev pub IsMapped : Image → List ℕ → Reply → Type 0
 IsMapped image cpus said = (found : Option (List ℕ)) × Maps image journal_limit cpus found × (said ≡ mapped_said found)
 
 -- what a map of the image after the schedule ends with
-abbrev pub MapsBy : Contents → List ℕ → Image → Said → Type 0
+abbrev pub MapsBy : Contents → List ℕ → Image → Reply → Type 0
 MapsBy contents schedule image = Reads contents schedule (ScheduleRefusal image) (IsSchedule image) (IsMapped image)
 
 -- what a map of the board after the schedule ends with: the board's files are read, then the schedule's, and the first
 -- that stops the call ends it
-abbrev pub MapsOf : Contents → List ℕ → List ℕ → Said → Type 0
+abbrev pub MapsOf : Contents → List ℕ → List ℕ → Reply → Type 0
 MapsOf contents board schedule = Opens contents board (MapsBy contents schedule)

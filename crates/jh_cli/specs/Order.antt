@@ -4,7 +4,7 @@ use Rattle.jh_outside.specs.Trail.{Ask, Asks, handed, faulted, AsksAll, AsksUnti
 use Rattle.jh_image.specs.declared.board.Listing.{Listing}
 use Rattle.jh_image.specs.Files.{Lists}
 use Rattle.jh_image.specs.Order.{board_files}
-use Rattle.jh_cli.specs.Reading.{Contents, Said}
+use Rattle.jh_cli.specs.Reading.{Contents, Reply}
 use Rattle.jh_cli.specs.Words.{Asked, CheckOf, PackOf, PlayOf, RunOf, MapOf, AuditOf, SoakOf}
 use Rattle.jh_cli.specs.declared.status.Status.{Status}
 use Rattle.jh_cli.specs.declared.status.Status.TheVariants.{Refused, ReadFault}
@@ -22,20 +22,20 @@ ask_for _ name = handed name
 
 module _ {S : Type 0} where
   -- of these files the first ones were read, one after another, each once, and no other; the call ends at the last of them
-  abbrev pub StopsIn : (S → Ask → S → Type 0) → (S → List ℕ) → List (List ℕ) → S → S → Said → Type 0
+  abbrev pub StopsIn : (S → Ask → S → Type 0) → (S → List ℕ) → List (List ℕ) → S → S → Reply → Type 0
   StopsIn one failed names s t said = IsStop said.status × AsksUntil one failed names (ask_for said.status) s t
 
   -- all of these files were read, one after another, each once, and no other, or those up to the one where the call ends
-  abbrev pub ReadsIn : (S → Ask → S → Type 0) → (S → List ℕ) → List (List ℕ) → S → S → Said → Type 0
+  abbrev pub ReadsIn : (S → Ask → S → Type 0) → (S → List ℕ) → List (List ℕ) → S → S → Reply → Type 0
   ReadsIn one failed names s t said = AsksAll one failed names s t ⊎ StopsIn one failed names s t said
 
   -- the same of a board's files and then these: the call ends at the board alone, or the board lists files
-  pub data ReadsBoard (one : S → Ask → S → Type 0) (failed : S → List ℕ) (contents : Contents) (board : List ℕ) (more : List (List ℕ)) (s t : S) (said : Said) : Type 0 where
+  pub data ReadsBoard (one : S → Ask → S → Type 0) (failed : S → List ℕ) (contents : Contents) (board : List ℕ) (more : List (List ℕ)) (s t : S) (said : Reply) : Type 0 where
     the_board_alone : StopsIn one failed (board ∷ []) s t said → ReadsBoard one failed contents board more s t said
     what_it_lists : (listing : Listing) → Lists contents board listing → ReadsIn one failed (board_files board listing ++ more) s t said → ReadsBoard one failed contents board more s t said
 
   -- the files that the command names are read in its order, all or up to the one where the call ends
-  abbrev pub ReadsFor : (S → Ask → S → Type 0) → (S → List ℕ) → Contents → Asked → S → S → Said → Type 0
+  abbrev pub ReadsFor : (S → Ask → S → Type 0) → (S → List ℕ) → Contents → Asked → S → S → Reply → Type 0
   ReadsFor one failed contents (CheckOf system cells) s t said = ReadsIn one failed (system ∷ cells) s t said
   ReadsFor one failed contents (PackOf spec) s t said = ReadsIn one failed (spec ∷ []) s t said
   ReadsFor one failed contents (PlayOf board schedule) s t said = ReadsBoard one failed contents board (schedule ∷ []) s t said
@@ -45,6 +45,6 @@ module _ {S : Type 0} where
   ReadsFor one failed contents (SoakOf rounds) s t said = Asks one failed s [] t
 
   -- what a call with these words reads; without a command nothing
-  abbrev pub IsReadFor : (S → Ask → S → Type 0) → (S → List ℕ) → Contents → Option Asked → S → S → Said → Type 0
+  abbrev pub IsReadFor : (S → Ask → S → Type 0) → (S → List ℕ) → Contents → Option Asked → S → S → Reply → Type 0
   IsReadFor one failed contents None s t said = Asks one failed s [] t
   IsReadFor one failed contents (Some asked) s t said = ReadsFor one failed contents asked s t said

@@ -2,26 +2,26 @@
 use Rattle.std.specs.Prelude.{◌≡◌, ◌<◌, ℕ, ◌⊎◌, List, ◌++◌, length, Ok, Err, codes}
 use Rattle.jh_cellcfg.specs.Spelling.{spelling}
 use Rattle.jh_syscfg.specs.Layout.{system_spelling}
-use Rattle.jh_spec.specs.Specs.{Tells}
+use Rattle.jh_spec.specs.Specs.{IsSpecAnswer}
 use Rattle.jh_spec.specs.declared.spec.Spec.{Spec}
 use Rattle.jh_spec.specs.declared.spec.Spec.TheVariants.{Cell, System}
 use Rattle.jh_spec.specs.declared.spec.SpecFault.TheVariants.{Json, Member}
-use Rattle.jh_cli.specs.Reading.{Said, Contents, Reads, IsOversize}
+use Rattle.jh_cli.specs.Reading.{Reply, Contents, Reads, IsOversize}
 use Rattle.jh_cli.specs.declared.status.Status.TheVariants.{Good}
 use Rattle.jh_cli.specs.Limits.{most_of_a_file}
 
 -- the bytes of a file tell this configuration
 abbrev pub IsSpecFile : List ℕ → Spec → Type 0
-IsSpecFile bytes spec = (length bytes < most_of_a_file) × Tells bytes (Ok spec)
+IsSpecFile bytes spec = (length bytes < most_of_a_file) × IsSpecAnswer bytes (Ok spec)
 
 -- they are no JSON object's, or the member of this name has a fault
 abbrev pub IsNoObject : List ℕ → List ℕ → Type 0
-IsNoObject bytes words = (length bytes < most_of_a_file) × Tells bytes (Err Json) × (words ≡ codes "json")
+IsNoObject bytes words = (length bytes < most_of_a_file) × IsSpecAnswer bytes (Err Json) × (words ≡ codes "json")
 
 pub record HasFaultyMember (bytes words : List ℕ) : Type 0 where
   pub within : length bytes < most_of_a_file
   pub name : List ℕ
-  pub faulty : Tells bytes (Err (Member name))
+  pub faulty : IsSpecAnswer bytes (Err (Member name))
   pub told : words ≡ codes "member " ++ name
 
 abbrev pub SpecRefusal : List ℕ → List ℕ → Type 0
@@ -33,5 +33,5 @@ packed (Cell cell) = spelling cell
 packed (System system) = system_spelling system
 
 -- what a pack of this file ends with
-abbrev pub Packs : Contents → List ℕ → Said → Type 0
+abbrev pub Packs : Contents → List ℕ → Reply → Type 0
 Packs contents name = Reads contents name SpecRefusal IsSpecFile (λ spec said. said ≡ record { status = Good; text = packed spec })

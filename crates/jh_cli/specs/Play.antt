@@ -9,7 +9,7 @@ use Rattle.jh_history.specs.Due.{IsLegal, IsQuiet}
 use Rattle.jh_history.specs.Items.{played}
 use Rattle.jh_text.specs.Text.{journal_text}
 use Rattle.jh_run.specs.Plays.{IsFullAtCpu}
-use Rattle.jh_cli.specs.Reading.{Said, Contents, Reads, IsOversize}
+use Rattle.jh_cli.specs.Reading.{Reply, Contents, Reads, IsOversize}
 use Rattle.jh_cli.specs.Boards.{Opens}
 use Rattle.jh_cli.specs.declared.status.Status.{Status}
 use Rattle.jh_cli.specs.declared.status.Status.TheVariants.{Good, Full}
@@ -44,17 +44,17 @@ played_status full = if full then Full else Good
 
 -- the played journal's text; the journal is legal, and with status `Good` nothing is due after it. The status is
 -- `Full` exactly where the journal is at its limit and some CPU has an entry due
-pub record IsPlayed (image : Image) (cpus : List ℕ) (said : Said) : Type 0 where
+pub record IsPlayed (image : Image) (cpus : List ℕ) (said : Reply) : Type 0 where
   pub told : said ≡ record { status = played_status (played image journal_limit cpus).full; text = journal_text (played image journal_limit cpus).entries }
   pub legal : IsLegal image (played image journal_limit cpus).entries
   pub quiet : said.status ≡ Good → IsQuiet image (played image journal_limit cpus).entries
   pub full : (said.status ≡ Full) ↔ IsFullAtCpu image journal_limit (played image journal_limit cpus).entries
 
 -- what a play of the image by the schedule ends with
-abbrev pub PlaysBy : Contents → List ℕ → Image → Said → Type 0
+abbrev pub PlaysBy : Contents → List ℕ → Image → Reply → Type 0
 PlaysBy contents schedule image = Reads contents schedule (ScheduleRefusal image) (IsSchedule image) (IsPlayed image)
 
 -- what a play of the board by the schedule ends with: the board's files are read, then the schedule's, and the
 -- first that stops the call ends it
-abbrev pub Plays : Contents → List ℕ → List ℕ → Said → Type 0
+abbrev pub Plays : Contents → List ℕ → List ℕ → Reply → Type 0
 Plays contents board schedule = Opens contents board (PlaysBy contents schedule)

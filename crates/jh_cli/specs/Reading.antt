@@ -1,22 +1,22 @@
 -- Where a call ends at a file, and where it goes on with what the file spells.
 use Rattle.std.specs.Prelude.{◌≡◌, ◌≤◌, ℕ, ◌⊎◌, List, length, codes}
-use Rattle.jh_outside.specs.Reads.{Told, HandsOut}
+use Rattle.jh_outside.specs.Reads.{KnownFile, HandsOut}
 use Rattle.jh_cli.specs.Lines.{fault_line, refusal_line}
 use Rattle.jh_cli.specs.declared.status.Status.{Status}
 use Rattle.jh_cli.specs.declared.status.Status.TheVariants.{Refused, ReadFault}
 use Rattle.jh_cli.specs.Limits.{most_of_a_file}
 
 -- a status, and what is written before it
-pub record Said : Type 0 where
+pub record Reply : Type 0 where
   pub status : Status
   pub text : List ℕ
 
 -- what files tell of each name
 abbrev pub Contents : Type 0
-Contents = List ℕ → Told
+Contents = List ℕ → KnownFile
 
 -- the file of this name, of which so many bytes are asked, is refused by these words
-pub record IsRefused (most : ℕ) (contents : Contents) (name : List ℕ) (Why : List ℕ → List ℕ → Type 0) (said : Said) : Type 0 where
+pub record IsRefused (most : ℕ) (contents : Contents) (name : List ℕ) (Why : List ℕ → List ℕ → Type 0) (said : Reply) : Type 0 where
   pub bytes : List ℕ
   pub handed : HandsOut (contents name) most bytes
   pub words : List ℕ
@@ -24,10 +24,10 @@ pub record IsRefused (most : ℕ) (contents : Contents) (name : List ℕ) (Why :
   pub told : said ≡ record { status = Refused; text = refusal_line name words }
 
 -- the call ends at this file: it could not be read, or is refused
-abbrev pub StopsAt : ℕ → Contents → List ℕ → (List ℕ → List ℕ → Type 0) → Said → Type 0
+abbrev pub StopsAt : ℕ → Contents → List ℕ → (List ℕ → List ℕ → Type 0) → Reply → Type 0
 StopsAt most contents name Why said = (said ≡ record { status = ReadFault; text = fault_line name }) ⊎ IsRefused most contents name Why said
 
-abbrev pub StopsAtFile : Contents → List ℕ → (List ℕ → List ℕ → Type 0) → Said → Type 0
+abbrev pub StopsAtFile : Contents → List ℕ → (List ℕ → List ℕ → Type 0) → Reply → Type 0
 StopsAtFile contents name Why said = StopsAt most_of_a_file contents name Why said
 
 module _ {A : Type 0} where
@@ -41,10 +41,10 @@ module _ {A : Type 0} where
   Spells contents name Form value = SpellsAt most_of_a_file contents name Form value
 
   -- the file is read: the call ends at it, or goes on with what it spells
-  abbrev pub ReadsAt : ℕ → Contents → List ℕ → (List ℕ → List ℕ → Type 0) → (List ℕ → A → Type 0) → (A → Said → Type 0) → Said → Type 0
+  abbrev pub ReadsAt : ℕ → Contents → List ℕ → (List ℕ → List ℕ → Type 0) → (List ℕ → A → Type 0) → (A → Reply → Type 0) → Reply → Type 0
   ReadsAt most contents name Why Form next said = StopsAt most contents name Why said ⊎ ((value : A) × SpellsAt most contents name Form value × next value said)
 
-  abbrev pub Reads : Contents → List ℕ → (List ℕ → List ℕ → Type 0) → (List ℕ → A → Type 0) → (A → Said → Type 0) → Said → Type 0
+  abbrev pub Reads : Contents → List ℕ → (List ℕ → List ℕ → Type 0) → (List ℕ → A → Type 0) → (A → Reply → Type 0) → Reply → Type 0
   Reads contents name Why Form next said = ReadsAt most_of_a_file contents name Why Form next said
 
 -- the file has more bytes than it may have: all those that were asked, of which one is too many

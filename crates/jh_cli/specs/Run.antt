@@ -4,7 +4,7 @@ use Rattle.jh_script.specs.declared.image.Image.{Image}
 use Rattle.jh_history.specs.declared.entry.Entry.{Entry}
 use Rattle.jh_history.specs.Due.{IsLegal, IsQuiet}
 use Rattle.jh_text.specs.Text.{journal_text}
-use Rattle.jh_cli.specs.Reading.{Said, Contents}
+use Rattle.jh_cli.specs.Reading.{Reply, Contents}
 use Rattle.jh_cli.specs.Boards.{Opens}
 use Rattle.jh_cli.specs.declared.status.Status.{Status}
 use Rattle.jh_cli.specs.declared.status.Status.TheVariants.{Good, Full}
@@ -23,11 +23,11 @@ pub record IsRun (image : Image) (entries : List Entry) (status : Status) : Type
   pub ends : EndsRun image entries status
 
 -- the text of a journal that a run of the image may make
-pub record IsRan (image : Image) (said : Said) : Type 0 where
+pub record IsRan (image : Image) (said : Reply) : Type 0 where
   pub entries : List Entry
   pub run : IsRun image entries said.status
   pub told : said.text ≡ journal_text entries
 
 -- what a run of the board ends with: the board's files are read, and the first that stops the call ends it
-abbrev pub Runs : Contents → List ℕ → Said → Type 0
+abbrev pub Runs : Contents → List ℕ → Reply → Type 0
 Runs contents board = Opens contents board IsRan

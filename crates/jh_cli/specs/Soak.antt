@@ -5,7 +5,7 @@ use Rattle.jh_run.specs.declared.summary.Summary.{Summary}
 use Rattle.jh_run.specs.Summaries.{summary_of}
 use Rattle.jh_run.specs.Soak.{soak_board}
 use Rattle.jh_cli.specs.Lines.{rounds_line}
-use Rattle.jh_cli.specs.Reading.{Said}
+use Rattle.jh_cli.specs.Reading.{Reply}
 use Rattle.jh_cli.specs.Run.{IsRun}
 use Rattle.jh_cli.specs.declared.status.Status.TheVariants.{Refused}
 
@@ -27,15 +27,15 @@ summary_line summary =
     ++ (codes " stops " ++ (decimal summary.stops ++ (codes " sum " ++ (decimal summary.sum ++ 10 ∷ [])))))))))
 
 -- the summary of a journal that a run of the board of so many rounds may make
-pub record IsSoaked (rounds : ℕ) (said : Said) : Type 0 where
+pub record IsSoaked (rounds : ℕ) (said : Reply) : Type 0 where
   pub entries : List Entry
   pub run : IsRun (soak_board rounds) entries said.status
   pub told : said.text ≡ summary_line (summary_of entries)
 
 -- the word that tells no number of rounds is refused
-abbrev pub AreNoRounds : List ℕ → Said → Type 0
+abbrev pub AreNoRounds : List ℕ → Reply → Type 0
 AreNoRounds word said = TellsRounds word None × (said ≡ record { status = Refused; text = rounds_line })
 
 -- what a soak of so many rounds as the word tells ends with; no file is read for it
-abbrev pub Soaks : List ℕ → Said → Type 0
+abbrev pub Soaks : List ℕ → Reply → Type 0
 Soaks word said = AreNoRounds word said ⊎ ((rounds : ℕ) × AreRounds word rounds × IsSoaked rounds said)

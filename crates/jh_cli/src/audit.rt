@@ -6,10 +6,10 @@ ghost use Rattle.jh_text.specs.declared.fault.JournalFault.TheVariants.{NoMemory
 ghost use Rattle.jh_outside.specs.Trail.{AsksAll};
 ghost use Rattle.jh_cli.specs.Order.{StopsIn, ReadsIn, ReadsBoard};
 ghost use Rattle.jh_cli.specs.Limits.{most_of_a_journal, journal_limit};
-ghost use Rattle.jh_cli.specs.Lines.{refusal_line as refusal_line_lem};
+ghost use Rattle.jh_cli.specs.Lines.{refusal_line};
 ghost use Rattle.jh_cli.specs.Reading.{SpellsAt, StopsAt};
-ghost use Rattle.jh_cli.specs.Audit.{IsJournalFile, JournalRefusal, IsAudited, AuditsBy, Audits, due_text as due_text_lem, verdict_text as verdict_text_lem, verdict_status};
-ghost use Rattle.jh_cli.specs.Stopped.{said_of, OnEnded, OnTold, IsCounted};
+ghost use Rattle.jh_cli.specs.Audit.{IsJournalFile, JournalRefusal, IsAudited, AuditsBy, Audits, due_text, verdict_text, verdict_status};
+ghost use Rattle.jh_cli.specs.Stopped.{said_of, OnEnded, OnEnding, IsCounted};
 
 use crate::boards::open;
 use crate::ending::{Ending, Stop, read_below, refused_for};
@@ -25,7 +25,7 @@ use std::alloc::Global;
 
 /// The call ends since no journal was read from the file of this name.
 fn unread(alloc: Global, name: &str, fault: &JournalFault) -> Stop
-    ensures told { OnEnded result (λ said. said ≡ record { status = Status.Refused; text = refusal_line_lem name.now (fault_text fault.now) }) }
+    ensures told { OnEnded result (λ said. said ≡ record { status = Status.Refused; text = refusal_line name.now (fault_text fault.now) }) }
     ensures memory { fault.now ≡ for_memory → result ≡ Stop.NoMemory }
 {
     match fault {
@@ -64,7 +64,7 @@ fn status_of(verdict: &Verdict) -> Status
 
 /// The line that tells the verdict on a journal of so many entries.
 fn verdict_text(alloc: Global, count: usize, verdict: &Verdict) -> Result<Vec<u8>, NoMemory>
-    ensures { IfOk result (λ text. text.items ≡ verdict_text_lem count verdict.now) }
+    ensures { IfOk result (λ text. text.items ≡ verdict_text count verdict.now) }
 {
     let text = match verdict {
         Verdict::Legal { quiet: true } => format!(in alloc; "legal {count} quiet\n")?,
@@ -81,9 +81,9 @@ fn verdict_text(alloc: Global, count: usize, verdict: &Verdict) -> Result<Vec<u8
     Ok(text.into_bytes())
 }
 
-/// The line that tells that this entry was due in the place of the journal's.
+/// The line that tells that this entry was due instead of the journal's.
 fn due_text(alloc: Global, line: u32, entry: &Entry) -> Result<Vec<u8>, NoMemory>
-    ensures { IfOk result (λ text. text.items ≡ due_text_lem line entry.now) }
+    ensures { IfOk result (λ text. text.items ≡ due_text line entry.now) }
 {
     let mut text = format!(in alloc; "illegal line {line}: due ")?.into_bytes();
     text.extend_from_slice(print_entry(alloc, entry)?.as_slice())?;
@@ -112,9 +112,9 @@ fn audit_by<F: Files>(
     name: &str,
 ) -> Result<Ending, Stop>
     requires admitted { IsAdmitted image }
-    ensures ends { OnTold result (AuditsBy (F.contents files.old) name.now image) }
-    ensures counted { OnTold result (IsCounted (F.faults files.old) (F.faults files.new) (F.failed files.new)) }
-    ensures asked { OnTold result (ReadsIn F.asks F.failed (name.now ∷ []) files.old files.new) }
+    ensures ends { OnEnding result (AuditsBy (F.contents files.old) name.now image) }
+    ensures counted { OnEnding result (IsCounted (F.faults files.old) (F.faults files.new) (F.failed files.new)) }
+    ensures asked { OnEnding result (ReadsIn F.asks F.failed (name.now ∷ []) files.old files.new) }
 {
     let journal = journal(alloc, files, name)?;
     Ok(tell_verdict(alloc, image, &journal)?)
@@ -127,9 +127,9 @@ pub fn audit<F: Files>(
     board: &str,
     name: &str,
 ) -> Result<Ending, Stop>
-    ensures ends { OnTold result (Audits (F.contents files.old) board.now name.now) }
-    ensures counted { OnTold result (IsCounted (F.faults files.old) (F.faults files.new) (F.failed files.new)) }
-    ensures asked { OnTold result (ReadsBoard F.asks F.failed (F.contents files.old) board.now (name.now ∷ []) files.old files.new) }
+    ensures ends { OnEnding result (Audits (F.contents files.old) board.now name.now) }
+    ensures counted { OnEnding result (IsCounted (F.faults files.old) (F.faults files.new) (F.failed files.new)) }
+    ensures asked { OnEnding result (ReadsBoard F.asks F.failed (F.contents files.old) board.now (name.now ∷ []) files.old files.new) }
 {
     let image = open(alloc, files, board)?;
     audit_by(alloc, files, image, name)

@@ -6,8 +6,8 @@ ghost use Rattle.jh_check.specs.Texts.{finding_text};
 ghost use Rattle.jh_outside.specs.Trail.{AsksAll};
 ghost use Rattle.jh_cli.specs.Order.{StopsIn, ReadsIn};
 ghost use Rattle.jh_cli.specs.Reading.{Spells, StopsAtFile};
-ghost use Rattle.jh_cli.specs.Check.{IsCellFile, CellRefusal, IsSystemFile, SystemRefusal, SpellCells, StopsAmong, ChecksCells, Checks, checked, checked_status, findings_text as findings_text_lem};
-ghost use Rattle.jh_cli.specs.Stopped.{said_of, OnEnded, OnTold, IsCounted};
+ghost use Rattle.jh_cli.specs.Check.{IsCellFile, CellRefusal, IsSystemFile, SystemRefusal, SpellCells, StopsAmong, ChecksCells, Checks, checked, checked_status, findings_text};
+ghost use Rattle.jh_cli.specs.Stopped.{said_of, OnEnded, OnEnding, IsCounted};
 
 use crate::ending::{Ending, Stop, read_below, refused_for};
 use crate::limits::MOST;
@@ -77,7 +77,7 @@ fn cells<F: Files>(alloc: Global, files: &mut F, names: &[String]) -> Result<Seq
 
 /// A line for each finding, and their number.
 fn findings_text(alloc: Global, found: &[Finding]) -> Result<Vec<u8>, NoMemory>
-    ensures { IfOk result (λ text. text.items ≡ findings_text_lem found.now) }
+    ensures { IfOk result (λ text. text.items ≡ findings_text found.now) }
 {
     let mut text = String::new(alloc);
     for finding in found {
@@ -114,9 +114,9 @@ fn check_cells<F: Files>(
     names: &[String],
 ) -> Result<Ending, Stop>
     requires { length names.now ≤ 15 }
-    ensures ends { OnTold result (ChecksCells (F.contents files.old) (map string_bytes names.now) system.now) }
-    ensures counted { OnTold result (IsCounted (F.faults files.old) (F.faults files.new) (F.failed files.new)) }
-    ensures asked { OnTold result (ReadsIn F.asks F.failed (map string_bytes names.now) files.old files.new) }
+    ensures ends { OnEnding result (ChecksCells (F.contents files.old) (map string_bytes names.now) system.now) }
+    ensures counted { OnEnding result (IsCounted (F.faults files.old) (F.faults files.new) (F.failed files.new)) }
+    ensures asked { OnEnding result (ReadsIn F.asks F.failed (map string_bytes names.now) files.old files.new) }
 {
     let cells = cells(alloc, files, names)?;
     Ok(tell_findings(alloc, system, cells.as_slice())?)
@@ -130,9 +130,9 @@ pub fn check<F: Files>(
     names: &[String],
 ) -> Result<Ending, Stop>
     requires { length names.now ≤ 15 }
-    ensures ends { OnTold result (Checks (F.contents files.old) system_name.now (map string_bytes names.now)) }
-    ensures counted { OnTold result (IsCounted (F.faults files.old) (F.faults files.new) (F.failed files.new)) }
-    ensures asked { OnTold result (ReadsIn F.asks F.failed (system_name.now ∷ map string_bytes names.now) files.old files.new) }
+    ensures ends { OnEnding result (Checks (F.contents files.old) system_name.now (map string_bytes names.now)) }
+    ensures counted { OnEnding result (IsCounted (F.faults files.old) (F.faults files.new) (F.failed files.new)) }
+    ensures asked { OnEnding result (ReadsIn F.asks F.failed (system_name.now ∷ map string_bytes names.now) files.old files.new) }
 {
     let system = system(alloc, files, system_name)?;
     check_cells(alloc, files, &system, names)

@@ -2,7 +2,7 @@
 ghost use Rattle.std.specs.Prelude.{◌≡◌, ◌==◌, IfSome, None, map, string_bytes, not, slice_get, Bool};
 ghost use Rattle.std.specs.List.{list_all};
 ghost use Rattle.std.specs.Option.{option_map};
-ghost use Rattle.jh_cli.specs.Words.{is_operand as is_operand_lem, check_of as check_of_lem, pack_of as pack_of_lem, play_of as play_of_lem, run_of as run_of_lem, map_of as map_of_lem, audit_of as audit_of_lem, soak_of as soak_of_lem, asked_for as asked_for_lem, command_of as command_of_lem, asked_by, HasFewCells};
+ghost use Rattle.jh_cli.specs.Words.{is_operand, check_of, pack_of, play_of, run_of, map_of, audit_of, soak_of, asked_for, command_of, asked_by, HasFewCells};
 
 /// How many cells are checked at most.
 const MOST_CELLS: usize = 15;
@@ -46,7 +46,7 @@ pub enum Command<'a> {
 
 /// Whether the word may be an operand: it doesn't begin with `-`. An empty word may.
 fn is_operand(word: &str) -> bool
-    ensures { result ≡ is_operand_lem word.now }
+    ensures { result ≡ is_operand word.now }
 {
     match word.as_bytes().first() {
         Some(byte) => *byte != b'-',
@@ -55,7 +55,7 @@ fn is_operand(word: &str) -> bool
 }
 
 fn are_operands(words: &[String]) -> bool
-    ensures { result ≡ list_all is_operand_lem (map string_bytes words.now) }
+    ensures { result ≡ list_all is_operand (map string_bytes words.now) }
 {
     match words {
         [word, rest @ ..] => is_operand(word.as_str()) && are_operands(rest),
@@ -64,7 +64,7 @@ fn are_operands(words: &[String]) -> bool
 }
 
 fn check_of(operands: &[String]) -> Option<Command<'_>>
-    ensures command { option_map asked_by result ≡ check_of_lem (map string_bytes operands.now) }
+    ensures command { option_map asked_by result ≡ check_of (map string_bytes operands.now) }
     ensures few { IfSome result HasFewCells }
 {
     match operands {
@@ -77,7 +77,7 @@ fn check_of(operands: &[String]) -> Option<Command<'_>>
 }
 
 fn pack_of(operands: &[String]) -> Option<Command<'_>>
-    ensures command { option_map asked_by result ≡ pack_of_lem (map string_bytes operands.now) }
+    ensures command { option_map asked_by result ≡ pack_of (map string_bytes operands.now) }
     ensures few { IfSome result HasFewCells }
 {
     match operands {
@@ -89,7 +89,7 @@ fn pack_of(operands: &[String]) -> Option<Command<'_>>
 }
 
 fn play_of(operands: &[String]) -> Option<Command<'_>>
-    ensures command { option_map asked_by result ≡ play_of_lem (map string_bytes operands.now) }
+    ensures command { option_map asked_by result ≡ play_of (map string_bytes operands.now) }
     ensures few { IfSome result HasFewCells }
 {
     match operands {
@@ -102,7 +102,7 @@ fn play_of(operands: &[String]) -> Option<Command<'_>>
 }
 
 fn run_of(operands: &[String]) -> Option<Command<'_>>
-    ensures command { option_map asked_by result ≡ run_of_lem (map string_bytes operands.now) }
+    ensures command { option_map asked_by result ≡ run_of (map string_bytes operands.now) }
     ensures few { IfSome result HasFewCells }
 {
     match operands {
@@ -114,7 +114,7 @@ fn run_of(operands: &[String]) -> Option<Command<'_>>
 }
 
 fn map_of(operands: &[String]) -> Option<Command<'_>>
-    ensures command { option_map asked_by result ≡ map_of_lem (map string_bytes operands.now) }
+    ensures command { option_map asked_by result ≡ map_of (map string_bytes operands.now) }
     ensures few { IfSome result HasFewCells }
 {
     match operands {
@@ -127,7 +127,7 @@ fn map_of(operands: &[String]) -> Option<Command<'_>>
 }
 
 fn audit_of(operands: &[String]) -> Option<Command<'_>>
-    ensures command { option_map asked_by result ≡ audit_of_lem (map string_bytes operands.now) }
+    ensures command { option_map asked_by result ≡ audit_of (map string_bytes operands.now) }
     ensures few { IfSome result HasFewCells }
 {
     match operands {
@@ -140,7 +140,7 @@ fn audit_of(operands: &[String]) -> Option<Command<'_>>
 }
 
 fn soak_of(operands: &[String]) -> Option<Command<'_>>
-    ensures command { option_map asked_by result ≡ soak_of_lem (map string_bytes operands.now) }
+    ensures command { option_map asked_by result ≡ soak_of (map string_bytes operands.now) }
     ensures few { IfSome result HasFewCells }
 {
     match operands {
@@ -153,7 +153,7 @@ fn soak_of(operands: &[String]) -> Option<Command<'_>>
 
 /// The command of this word with these operands.
 fn asked_for<'a>(word: &str, operands: &'a [String]) -> Option<Command<'a>>
-    ensures command { option_map asked_by result ≡ asked_for_lem word.now (map string_bytes operands.now) }
+    ensures command { option_map asked_by result ≡ asked_for word.now (map string_bytes operands.now) }
     ensures few { IfSome result HasFewCells }
 {
     if word == "check" {
@@ -177,7 +177,7 @@ fn asked_for<'a>(word: &str, operands: &'a [String]) -> Option<Command<'a>>
 
 /// The command of the words, of which the first is the program's name.
 pub fn command_of(words: &[String]) -> Option<Command<'_>>
-    ensures command { option_map asked_by result ≡ command_of_lem (map string_bytes words.now) }
+    ensures command { option_map asked_by result ≡ command_of (map string_bytes words.now) }
     ensures few { IfSome result HasFewCells }
 {
     match words {

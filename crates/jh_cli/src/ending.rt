@@ -3,7 +3,7 @@ ghost use Rattle.std.specs.Prelude.{◌≡◌, ◌≤◌, ◌<◌, ◌⊎◌, le
 ghost use Rattle.jh_outside.specs.Reads.{HandsOut};
 ghost use Rattle.jh_outside.specs.Trail.{AsksAll};
 ghost use Rattle.jh_cli.specs.Order.{StopsIn};
-ghost use Rattle.jh_cli.specs.Lines.{fault_line as fault_line_lem, refusal_line as refusal_line_lem};
+ghost use Rattle.jh_cli.specs.Lines.{fault_line, refusal_line};
 ghost use Rattle.jh_cli.specs.Reading.{StopsAt, IsOversizeAt};
 ghost use Rattle.jh_cli.specs.Stopped.{OnEnded, IsCounted};
 
@@ -41,7 +41,7 @@ impl From<NoMemory> for Stop {
 
 /// The call ends since the file of this name could not be read.
 pub fn faulted(alloc: Global, name: &[u8]) -> Stop
-    ensures { OnEnded result (λ said. said ≡ record { status = Status.ReadFault; text = fault_line_lem name.now }) }
+    ensures { OnEnded result (λ said. said ≡ record { status = Status.ReadFault; text = fault_line name.now }) }
 {
     match fault_line(alloc, name) {
         Ok(text) => Stop::Ended(Ending {
@@ -54,7 +54,7 @@ pub fn faulted(alloc: Global, name: &[u8]) -> Stop
 
 /// The call ends since the file of this name is refused for what the words say.
 pub fn refused(alloc: Global, name: &[u8], words: &[u8]) -> Stop
-    ensures { OnEnded result (λ said. said ≡ record { status = Status.Refused; text = refusal_line_lem name.now words.now }) }
+    ensures { OnEnded result (λ said. said ≡ record { status = Status.Refused; text = refusal_line name.now words.now }) }
 {
     match refusal_line(alloc, name, words) {
         Ok(text) => Stop::Ended(Ending {
@@ -67,7 +67,7 @@ pub fn refused(alloc: Global, name: &[u8], words: &[u8]) -> Stop
 
 /// The call ends since the file of this name is refused for what the fault displays.
 pub fn refused_for<E: Display>(alloc: Global, name: &str, fault: &E) -> Stop
-    ensures { IfSome (E.output fault.now) (λ words. OnEnded result (λ said. said ≡ record { status = Status.Refused; text = refusal_line_lem name.now words })) }
+    ensures { IfSome (E.output fault.now) (λ words. OnEnded result (λ said. said ≡ record { status = Status.Refused; text = refusal_line name.now words })) }
 {
     match fault.to_string(alloc) {
         Ok(words) => refused(alloc, name.as_bytes(), words.as_bytes()),

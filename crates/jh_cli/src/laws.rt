@@ -1,7 +1,7 @@
 //! What holds of all files, whoever reads them. Each function does nothing; its contract is the law.
 ghost use Rattle.std.specs.Prelude.{◌≡◌, ◌≢◌, ◌⊎◌, Option};
 ghost use Rattle.jh_cli.specs.Words.{Asked, IsSerial};
-ghost use Rattle.jh_cli.specs.Reading.{Said, Contents};
+ghost use Rattle.jh_cli.specs.Reading.{Reply, Contents};
 ghost use Rattle.jh_cli.specs.Outcome.{Outcome};
 ghost use Rattle.jh_cli.specs.Complete.{AreFilesTold, AreGood, IsAnswer};
 
@@ -17,7 +17,8 @@ use jh_text::{one_answer, texts_go_both_ways};
 /// Good words and files are answered: the status is that of the command's answer, or tells that a file could not be
 /// read.
 pub fn good_inputs_are_answered()
-    ensures { (contents : Contents) (asked : Option Asked) (said : Said) (good : AreGood contents asked) → Outcome contents asked said → IsAnswer contents asked good said.status ⊎ (said.status ≡ Status.ReadFault) }
+    ensures { (contents : Contents) (asked : Option Asked) (said : Reply) (good : AreGood contents asked)
+        → Outcome contents asked said → IsAnswer contents asked good said.status ⊎ (said.status ≡ Status.ReadFault) }
 {
     spelling_has_no_fault();
     system_has_no_fault();
@@ -29,7 +30,7 @@ pub fn good_inputs_are_answered()
 /// Where the files tell what they hold, words whose command isn't `run` or `soak` have one outcome besides that a file
 /// could not be read: one status and one text. Of those two the outcome is that of some order of the threads' turns.
 pub fn words_have_one_outcome()
-    ensures { (contents : Contents) (asked : Option Asked) (one other : Said) → IsSerial asked → AreFilesTold contents asked → Outcome contents asked one → Outcome contents asked other
+    ensures { (contents : Contents) (asked : Option Asked) (one other : Reply) → IsSerial asked → AreFilesTold contents asked → Outcome contents asked one → Outcome contents asked other
         → one.status ≢ Status.ReadFault → other.status ≢ Status.ReadFault → one ≡ other }
 {
     spelling_has_no_fault();

@@ -18,8 +18,6 @@ mod send;
 mod soak;
 mod status;
 mod tell;
-#[cfg(test)]
-mod tests;
 mod top;
 
 pub use command::{Command, command_of};

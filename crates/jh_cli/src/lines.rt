@@ -1,13 +1,13 @@
 //! The lines that tell how a call ended, each with its line feed.
 ghost use Rattle.std.specs.Prelude.{◌≡◌, IfOk};
-ghost use Rattle.jh_cli.specs.Lines.{usage_line as usage_line_lem, rounds_line as rounds_line_lem, fault_line as fault_line_lem, refusal_line as refusal_line_lem};
+ghost use Rattle.jh_cli.specs.Lines.{usage_line, rounds_line, fault_line, refusal_line};
 
 use jh_num::NoMemory;
 use std::alloc::Global;
 
 /// How the program is used.
 pub fn usage_line(alloc: Global) -> Result<Vec<u8>, NoMemory>
-    ensures { IfOk result (λ text. text.items ≡ usage_line_lem) }
+    ensures { IfOk result (λ text. text.items ≡ usage_line) }
 {
     let mut text = Vec::new(alloc);
     text.extend_from_slice(
@@ -19,7 +19,7 @@ pub fn usage_line(alloc: Global) -> Result<Vec<u8>, NoMemory>
 
 /// The word that is to tell a number of rounds tells none.
 pub fn rounds_line(alloc: Global) -> Result<Vec<u8>, NoMemory>
-    ensures { IfOk result (λ text. text.items ≡ rounds_line_lem) }
+    ensures { IfOk result (λ text. text.items ≡ rounds_line) }
 {
     let mut text = Vec::new(alloc);
     text.extend_from_slice(b"refused: N\n")?;
@@ -28,7 +28,7 @@ pub fn rounds_line(alloc: Global) -> Result<Vec<u8>, NoMemory>
 
 /// The file of this name could not be read.
 pub fn fault_line(alloc: Global, name: &[u8]) -> Result<Vec<u8>, NoMemory>
-    ensures { IfOk result (λ text. text.items ≡ fault_line_lem name.now) }
+    ensures { IfOk result (λ text. text.items ≡ fault_line name.now) }
 {
     let mut text = Vec::new(alloc);
     text.extend_from_slice(b"read fault: ")?;
@@ -39,7 +39,7 @@ pub fn fault_line(alloc: Global, name: &[u8]) -> Result<Vec<u8>, NoMemory>
 
 /// The file of this name is refused for what the words say.
 pub fn refusal_line(alloc: Global, name: &[u8], words: &[u8]) -> Result<Vec<u8>, NoMemory>
-    ensures { IfOk result (λ text. text.items ≡ refusal_line_lem name.now words.now) }
+    ensures { IfOk result (λ text. text.items ≡ refusal_line name.now words.now) }
 {
     let mut text = Vec::new(alloc);
     text.extend_from_slice(b"refused: ")?;

@@ -4,7 +4,7 @@ ghost use Rattle.jh_history.specs.Admitted.{IsAdmitted};
 ghost use Rattle.jh_history.specs.Lives.{is_on_board};
 ghost use Rattle.jh_cli.specs.Order.{ReadsIn, ReadsBoard};
 ghost use Rattle.jh_cli.specs.Map.{IsMapped, MapsBy, MapsOf};
-ghost use Rattle.jh_cli.specs.Stopped.{said_of, OnTold, IsCounted};
+ghost use Rattle.jh_cli.specs.Stopped.{said_of, OnEnding, IsCounted};
 
 use crate::boards::open;
 use crate::ending::{Ending, Stop};
@@ -38,9 +38,9 @@ fn render(alloc: Global, image: Image, cpus: &[u8]) -> Result<Ending, NoMemory>
 /// Reads the schedule, and tells the maps after it.
 fn map_by<F: Files>(alloc: Global, files: &mut F, image: Image, items: &str) -> Result<Ending, Stop>
     requires admitted { IsAdmitted image }
-    ensures ends { OnTold result (MapsBy (F.contents files.old) items.now image) }
-    ensures counted { OnTold result (IsCounted (F.faults files.old) (F.faults files.new) (F.failed files.new)) }
-    ensures asked { OnTold result (ReadsIn F.asks F.failed (items.now ∷ []) files.old files.new) }
+    ensures ends { OnEnding result (MapsBy (F.contents files.old) items.now image) }
+    ensures counted { OnEnding result (IsCounted (F.faults files.old) (F.faults files.new) (F.failed files.new)) }
+    ensures asked { OnEnding result (ReadsIn F.asks F.failed (items.now ∷ []) files.old files.new) }
 {
     let cpus = schedule(alloc, files, items, &image)?;
     Ok(render(alloc, image, cpus.as_slice())?)
@@ -48,9 +48,9 @@ fn map_by<F: Files>(alloc: Global, files: &mut F, image: Image, items: &str) -> 
 
 /// Reads the board, and tells the maps after the schedule.
 pub fn map<F: Files>(alloc: Global, files: &mut F, board: &str, items: &str) -> Result<Ending, Stop>
-    ensures ends { OnTold result (MapsOf (F.contents files.old) board.now items.now) }
-    ensures counted { OnTold result (IsCounted (F.faults files.old) (F.faults files.new) (F.failed files.new)) }
-    ensures asked { OnTold result (ReadsBoard F.asks F.failed (F.contents files.old) board.now (items.now ∷ []) files.old files.new) }
+    ensures ends { OnEnding result (MapsOf (F.contents files.old) board.now items.now) }
+    ensures counted { OnEnding result (IsCounted (F.faults files.old) (F.faults files.new) (F.failed files.new)) }
+    ensures asked { OnEnding result (ReadsBoard F.asks F.failed (F.contents files.old) board.now (items.now ∷ []) files.old files.new) }
 {
     let image = open(alloc, files, board)?;
     map_by(alloc, files, image, items)

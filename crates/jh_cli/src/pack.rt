@@ -5,7 +5,7 @@ ghost use Rattle.jh_outside.specs.Trail.{AsksAll};
 ghost use Rattle.jh_cli.specs.Order.{StopsIn, ReadsIn};
 ghost use Rattle.jh_cli.specs.Reading.{Spells, StopsAtFile};
 ghost use Rattle.jh_cli.specs.Pack.{IsSpecFile, SpecRefusal, Packs, packed};
-ghost use Rattle.jh_cli.specs.Stopped.{said_of, OnEnded, OnTold, IsCounted};
+ghost use Rattle.jh_cli.specs.Stopped.{said_of, OnEnded, OnEnding, IsCounted};
 
 use crate::ending::{Ending, Stop, read_below, refused};
 use crate::limits::MOST;
@@ -62,9 +62,9 @@ fn written(alloc: Global, spec: &Spec) -> Result<Vec<u8>, NoMemory>
 
 /// Reads the SPEC, and tells its configuration's bytes.
 pub fn pack<F: Files>(alloc: Global, files: &mut F, name: &str) -> Result<Ending, Stop>
-    ensures ends { OnTold result (Packs (F.contents files.old) name.now) }
-    ensures counted { OnTold result (IsCounted (F.faults files.old) (F.faults files.new) (F.failed files.new)) }
-    ensures asked { OnTold result (ReadsIn F.asks F.failed (name.now ∷ []) files.old files.new) }
+    ensures ends { OnEnding result (Packs (F.contents files.old) name.now) }
+    ensures counted { OnEnding result (IsCounted (F.faults files.old) (F.faults files.new) (F.failed files.new)) }
+    ensures asked { OnEnding result (ReadsIn F.asks F.failed (name.now ∷ []) files.old files.new) }
 {
     let spec = spec(alloc, files, name)?;
     Ok(Ending {

@@ -5,7 +5,7 @@ ghost use Rattle.jh_history.specs.Lives.{is_on_board};
 ghost use Rattle.jh_run.specs.Ends.{is_full};
 ghost use Rattle.jh_cli.specs.Order.{ReadsIn, ReadsBoard};
 ghost use Rattle.jh_cli.specs.Play.{IsPlayed, played_status, PlaysBy, Plays};
-ghost use Rattle.jh_cli.specs.Stopped.{said_of, OnTold, IsCounted};
+ghost use Rattle.jh_cli.specs.Stopped.{said_of, OnEnding, IsCounted};
 
 use crate::boards::open;
 use crate::ending::{Ending, Stop};
@@ -51,9 +51,9 @@ fn play_by<F: Files>(
     items: &str,
 ) -> Result<Ending, Stop>
     requires admitted { IsAdmitted image }
-    ensures ends { OnTold result (PlaysBy (F.contents files.old) items.now image) }
-    ensures counted { OnTold result (IsCounted (F.faults files.old) (F.faults files.new) (F.failed files.new)) }
-    ensures asked { OnTold result (ReadsIn F.asks F.failed (items.now ∷ []) files.old files.new) }
+    ensures ends { OnEnding result (PlaysBy (F.contents files.old) items.now image) }
+    ensures counted { OnEnding result (IsCounted (F.faults files.old) (F.faults files.new) (F.failed files.new)) }
+    ensures asked { OnEnding result (ReadsIn F.asks F.failed (items.now ∷ []) files.old files.new) }
 {
     let cpus = schedule(alloc, files, items, &image)?;
     Ok(render(alloc, image, cpus.as_slice())?)
@@ -66,9 +66,9 @@ pub fn play<F: Files>(
     board: &str,
     items: &str,
 ) -> Result<Ending, Stop>
-    ensures ends { OnTold result (Plays (F.contents files.old) board.now items.now) }
-    ensures counted { OnTold result (IsCounted (F.faults files.old) (F.faults files.new) (F.failed files.new)) }
-    ensures asked { OnTold result (ReadsBoard F.asks F.failed (F.contents files.old) board.now (items.now ∷ []) files.old files.new) }
+    ensures ends { OnEnding result (Plays (F.contents files.old) board.now items.now) }
+    ensures counted { OnEnding result (IsCounted (F.faults files.old) (F.faults files.new) (F.failed files.new)) }
+    ensures asked { OnEnding result (ReadsBoard F.asks F.failed (F.contents files.old) board.now (items.now ∷ []) files.old files.new) }
 {
     let image = open(alloc, files, board)?;
     play_by(alloc, files, image, items)

@@ -3,7 +3,7 @@ ghost use Rattle.std.specs.Prelude.{◌≡◌, IfOk, []};
 ghost use Rattle.jh_history.specs.Admitted.{IsAdmitted};
 ghost use Rattle.jh_cli.specs.Order.{ReadsBoard};
 ghost use Rattle.jh_cli.specs.Run.{IsRan, Runs};
-ghost use Rattle.jh_cli.specs.Stopped.{said_of, OnTold, IsCounted};
+ghost use Rattle.jh_cli.specs.Stopped.{said_of, OnEnding, IsCounted};
 
 use crate::boards::open;
 use crate::ending::{Ending, Stop};
@@ -44,9 +44,9 @@ pub fn run<R: Threads + Wait + Sync, F: Files, G: Gate + Sync>(
     board: &str,
     gate: &G,
 ) -> Result<Ending, Stop>
-    ensures ends { OnTold result (Runs (F.contents files.old) board.now) }
-    ensures counted { OnTold result (IsCounted (F.faults files.old) (F.faults files.new) (F.failed files.new)) }
-    ensures asked { OnTold result (ReadsBoard F.asks F.failed (F.contents files.old) board.now [] files.old files.new) }
+    ensures ends { OnEnding result (Runs (F.contents files.old) board.now) }
+    ensures counted { OnEnding result (IsCounted (F.faults files.old) (F.faults files.new) (F.failed files.new)) }
+    ensures asked { OnEnding result (ReadsBoard F.asks F.failed (F.contents files.old) board.now [] files.old files.new) }
 {
     let image = open(alloc, files, board)?;
     Ok(render(rt, alloc, image, gate)?)

@@ -1,6 +1,6 @@
 //! The schedule of a board's CPUs.
 ghost use Rattle.std.specs.Prelude.{◌≡◌, ◌≤◌, ◌<◌, ℕ, All, IsTrue, IfOk, IfErr, ◌∷◌, [], OnOk};
-ghost use Rattle.jh_history.specs.Lives.{is_on_board as is_on_board_lem};
+ghost use Rattle.jh_history.specs.Lives.{is_on_board};
 ghost use Rattle.jh_outside.specs.Trail.{AsksAll};
 ghost use Rattle.jh_cli.specs.Order.{StopsIn};
 ghost use Rattle.jh_cli.specs.Reading.{Spells, StopsAtFile};
@@ -36,7 +36,7 @@ pub fn schedule<F: Files>(
     image: &Image,
 ) -> Result<Seq<u8>, Stop>
     ensures ok { IfOk result (Spells (F.contents files.old) name.now (IsSchedule image.now)) }
-    ensures present { IfOk result (All (λ cpu. IsTrue (is_on_board_lem image.now cpu))) }
+    ensures present { IfOk result (All (λ cpu. IsTrue (is_on_board image.now cpu))) }
     ensures err { IfErr result (λ stop. OnEnded stop (StopsAtFile (F.contents files.old) name.now (ScheduleRefusal image.now))) }
     ensures counted { IfErr result (λ stop. OnEnded stop (IsCounted (F.faults files.old) (F.faults files.new) (F.failed files.new))) }
     ensures never_falls { F.faults files.old ≤ F.faults files.new }

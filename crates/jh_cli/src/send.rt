@@ -2,7 +2,7 @@
 ghost use Rattle.std.specs.Prelude.{◌≡◌, ◌≢◌, Err};
 ghost use Rattle.jh_outside.specs.Count.{Rose};
 ghost use Rattle.jh_cli.specs.Outcome.{Sent};
-ghost use Rattle.jh_cli.specs.Stopped.{said_of, OnTold};
+ghost use Rattle.jh_cli.specs.Stopped.{said_of, OnEnding};
 
 use crate::ending::{Ending, Stop};
 use crate::status::Status;
@@ -21,8 +21,8 @@ fn send<K: Sink>(out: &mut K, told: &Ending) -> Status
 
 /// Writes what a command told, or where it ended; for want of memory nothing.
 pub fn finish<K: Sink>(out: &mut K, told: Result<Ending, Stop>) -> Status
-    ensures sent { OnTold told (λ said. Sent (K.written out.old) (K.written out.new) said result) }
-    ensures fault { OnTold told (λ said. result ≡ Status.WriteFault → said.status ≢ Status.WriteFault → Rose (K.faults out.old) (K.faults out.new)) }
+    ensures sent { OnEnding told (λ said. Sent (K.written out.old) (K.written out.new) said result) }
+    ensures fault { OnEnding told (λ said. result ≡ Status.WriteFault → said.status ≢ Status.WriteFault → Rose (K.faults out.old) (K.faults out.new)) }
     ensures memory { told ≡ Err Stop.NoMemory → (result ≡ Status.NoMemory) × (K.written out.new ≡ K.written out.old) }
 {
     match told {

@@ -1,7 +1,7 @@
 //! Running the board of so many rounds.
 ghost use Rattle.std.specs.Prelude.{◌≡◌, ◌≤◌, ◌&&◌, nat_le, Some, None, if◌then◌else◌, IfOk};
-ghost use Rattle.jh_cli.specs.Soak.{TellsRounds, summary_line as summary_line_lem, IsSoaked, Soaks};
-ghost use Rattle.jh_cli.specs.Stopped.{said_of, OnTold};
+ghost use Rattle.jh_cli.specs.Soak.{TellsRounds, summary_line, IsSoaked, Soaks};
+ghost use Rattle.jh_cli.specs.Stopped.{said_of, OnEnding};
 
 use crate::ending::{Ending, Stop};
 use crate::limits::JOURNAL_LIMIT;
@@ -41,7 +41,7 @@ fn rounds_if(plain: bool, rounds: u32) -> Option<u32>
 
 /// The line that tells what a journal comes to.
 fn summary_line(alloc: Global, summary: &Summary) -> Result<Vec<u8>, NoMemory>
-    ensures { IfOk result (λ text. text.items ≡ summary_line_lem summary.now) }
+    ensures { IfOk result (λ text. text.items ≡ summary_line summary.now) }
 {
     let Summary {
         entries,
@@ -83,7 +83,7 @@ pub fn soak<R: Threads + Wait + Sync, G: Gate + Sync>(
     word: &str,
     gate: &G,
 ) -> Result<Ending, Stop>
-    ensures { OnTold result (Soaks word.now) }
+    ensures { OnEnding result (Soaks word.now) }
 {
     match read_rounds(alloc, word)? {
         Some(rounds) => Ok(render(rt, alloc, rounds, gate)?),

@@ -1,9 +1,9 @@
 //! What the words ask for, worked out before anything is written.
 ghost use Rattle.std.specs.Prelude.{map, string_bytes, Some};
 ghost use Rattle.jh_cli.specs.Order.{ReadsFor, IsReadFor};
-ghost use Rattle.jh_cli.specs.Words.{command_of as command_of_lem, asked_by, HasFewCells, IsSerial};
+ghost use Rattle.jh_cli.specs.Words.{command_of, asked_by, HasFewCells, IsSerial};
 ghost use Rattle.jh_cli.specs.Outcome.{Outcome};
-ghost use Rattle.jh_cli.specs.Stopped.{OnTold, IsCounted};
+ghost use Rattle.jh_cli.specs.Stopped.{OnEnding, IsCounted};
 
 use crate::audit::audit;
 use crate::check::check;
@@ -21,9 +21,9 @@ use std::alloc::Global;
 fn obey<F: Files>(alloc: Global, command: Command<'_>, files: &mut F) -> Result<Ending, Stop>
     requires few { HasFewCells command }
     requires serial { IsSerial (Some (asked_by command)) }
-    ensures ends { OnTold result (Outcome (F.contents files.old) (Some (asked_by command.entry))) }
-    ensures counted { OnTold result (IsCounted (F.faults files.old) (F.faults files.new) (F.failed files.new)) }
-    ensures asked { OnTold result (ReadsFor F.asks F.failed (F.contents files.old) (asked_by command.entry) files.old files.new) }
+    ensures ends { OnEnding result (Outcome (F.contents files.old) (Some (asked_by command.entry))) }
+    ensures counted { OnEnding result (IsCounted (F.faults files.old) (F.faults files.new) (F.failed files.new)) }
+    ensures asked { OnEnding result (ReadsFor F.asks F.failed (F.contents files.old) (asked_by command.entry) files.old files.new) }
 {
     match command {
         Command::Check { system, cells } => check(alloc, files, system, cells),
@@ -37,10 +37,10 @@ fn obey<F: Files>(alloc: Global, command: Command<'_>, files: &mut F) -> Result<
 
 /// What the words ask for, whose command isn't `run` or `soak`.
 pub fn tell<F: Files>(alloc: Global, words: &[String], files: &mut F) -> Result<Ending, Stop>
-    requires { IsSerial (command_of_lem (map string_bytes words.now)) }
-    ensures outcome { OnTold result (Outcome (F.contents files.old) (command_of_lem (map string_bytes words.now))) }
-    ensures counted { OnTold result (IsCounted (F.faults files.old) (F.faults files.new) (F.failed files.new)) }
-    ensures asked { OnTold result (IsReadFor F.asks F.failed (F.contents files.old) (command_of_lem (map string_bytes words.now)) files.old files.new) }
+    requires { IsSerial (command_of (map string_bytes words.now)) }
+    ensures outcome { OnEnding result (Outcome (F.contents files.old) (command_of (map string_bytes words.now))) }
+    ensures counted { OnEnding result (IsCounted (F.faults files.old) (F.faults files.new) (F.failed files.new)) }
+    ensures asked { OnEnding result (IsReadFor F.asks F.failed (F.contents files.old) (command_of (map string_bytes words.now)) files.old files.new) }
 {
     match command_of(words) {
         Some(command) => obey(alloc, command, files),

@@ -1,6 +1,6 @@
 //! The top calls.
 ghost use Rattle.std.specs.Prelude.{map, string_bytes};
-ghost use Rattle.jh_cli.specs.Words.{command_of as command_of_lem, IsSerial};
+ghost use Rattle.jh_cli.specs.Words.{command_of, IsSerial};
 ghost use Rattle.jh_cli.specs.Call.{IsCall};
 
 use crate::command::{Command, command_of};
@@ -24,9 +24,9 @@ pub fn serial<F: Files, K: Sink>(
     files: &mut F,
     out: &mut K,
 ) -> Status
-    requires { IsSerial (command_of_lem (map string_bytes words.now)) }
+    requires { IsSerial (command_of (map string_bytes words.now)) }
     // the status and the text are those that the words ask for, and each failure comes only where its count rose
-    ensures { IsCall F.contents F.failed F.faults F.asks K.written K.faults (command_of_lem (map string_bytes words.now)) files.old files.new out.old out.new result }
+    ensures { IsCall F.contents F.failed F.faults F.asks K.written K.faults (command_of (map string_bytes words.now)) files.old files.new out.old out.new result }
 {
     good_inputs_are_answered();
     let told = tell(alloc, words, files);
@@ -44,7 +44,7 @@ pub fn jailhouse<R: Threads + Wait + Sync, F: Files, K: Sink, G: Gate + Sync>(
     out: &mut K,
     gate: &G,
 ) -> Status
-    ensures { IsCall F.contents F.failed F.faults F.asks K.written K.faults (command_of_lem (map string_bytes words.now)) files.old files.new out.old out.new result }
+    ensures { IsCall F.contents F.failed F.faults F.asks K.written K.faults (command_of (map string_bytes words.now)) files.old files.new out.old out.new result }
 {
     good_inputs_are_answered();
     match command_of(words) {

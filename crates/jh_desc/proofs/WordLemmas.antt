@@ -21,10 +21,6 @@ where_num : (fact : Bool) (n : ℕ) → where_true fact n ≡ n * num fact
 where_num true n = omega arith
 where_num false n = omega arith
 
-not_num : (fact : Bool) → num (not fact) + num fact ≡ 1
-not_num true = refl
-not_num false = refl
-
 is_num : (fact : Bool) (n : ℕ) → n ≡ num fact → (n == 1) ≡ fact
 is_num true n e = grind (arith, nat_tests)
 is_num false n e = grind (arith, nat_tests)

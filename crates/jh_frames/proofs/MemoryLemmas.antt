@@ -1,8 +1,9 @@
 -- Memory place by place.
-use Rattle.std.proofs.Common.{◌≡◌, ℕ, ◌+◌, ◌-◌, ◌/◌, ◌%◌, ◌<◌, ◌≤◌, Bool, true, false, leb, ltb, List, get_or, take, length, map, slice_index, slice_range, Some, None, refl, sym, ap, ◌∙◌, arith}
+use Rattle.std.proofs.Common.{◌≡◌, ℕ, ◌+◌, ◌-◌, ◌/◌, ◌%◌, ◌<◌, ◌≤◌, true, false, leb, ltb, List, get_or, take, length, map, slice_index, slice_range, Some, None, refl, sym, ap, ◌∙◌, arith}
 use Rattle.std.specs.List.{range_with_len}
 use Rattle.std.proofs.lemmas.Bool.{and_parts, and_from, le-leb, lt-ltb, leb-true, ltb-true}
 use Rattle.jh_num.specs.Memory.{spelled}
+use Rattle.jh_num.proofs.Booleans.{same_test}
 use Rattle.jh_frames.specs.Memory.{OwnView, FramesView, IsOwn, is_own, own_byte, page_at, byte_in, guest_byte, byte_at}
 use Rattle.jh_frames.specs.Kept.{IsWhole}
 use Rattle.jh_frames.proofs.RangeLemmas.{alike_over, zero_over, read_over, range_read}
@@ -49,11 +50,6 @@ own_page_by own x y whole same is =
     let aligned : own.base % 4096 ≡ 0 = whole.aligned in
     let pages : length own.bytes % 4096 ≡ 0 = whole.whole in
     own_there own y (omega arith) (omega arith)
-
-same_test : (a b : Bool) → (a ≡ true → b ≡ true) → (b ≡ true → a ≡ true) → a ≡ b
-same_test true b h k = sym (h refl)
-same_test false true h k = k refl
-same_test false false h k = refl
 
 -- places of one page are both the hypervisor's, or neither
 pub own_page : (own : OwnView) (x y : ℕ) → IsWhole own → x / 4096 ≡ y / 4096 → is_own own x ≡ is_own own y

@@ -5,7 +5,7 @@ use Rattle.std.specs.Int.{w64, from_le_bytes}
 use Rattle.std.specs.List.{range_with_len}
 use Rattle.jh_num.specs.Memory.{spelled, stored}
 use Rattle.jh_frames.specs.Memory.{word_in}
-use Rattle.jh_frames.proofs.ByteLemmas.{stored-in, stored-before, stored-behind}
+use Rattle.jh_frames.proofs.ByteLemmas.{stored_in, stored_before, stored_behind}
 use Rattle.jh_frames.proofs.RangeLemmas.{alike_over, read_over}
 
 same_eight : (a b c d e f g h a' b' c' d' e' f' g' h' : ℕ) → a' ≡ a → b' ≡ b → c' ≡ c → d' ≡ d → e' ≡ e → f' ≡ f → g' ≡ g → h' ≡ h → a' ∷ b' ∷ c' ∷ d' ∷ e' ∷ f' ∷ g' ∷ h' ∷ [] ≡ a ∷ b ∷ c ∷ d ∷ e ∷ f ∷ g ∷ h ∷ []
@@ -34,16 +34,16 @@ pub word_spelled : (b : ℕ → ℕ) (q : ℕ) → word_in b q ≡ spelled (map 
 word_spelled b q = spelled_eight (b q) (b (q + 1)) (b (q + 2)) (b (q + 3)) (b (q + 4)) (b (q + 5)) (b (q + 6)) (b (q + 7)) ∙ sym (ap spelled (eight_of b q))
 
 -- a word below or above what is stored
-pub word-before : (before after : ℕ → ℕ) (at word : ℕ) (bytes : List ℕ) → ((q : ℕ) → after q ≡ stored before at bytes q) → word + 8 ≤ at → word_in after word ≡ word_in before word
-word-before before after at word bytes is below = word_alike before after word (λ k lt. is (word + k) ∙ stored-before before at bytes (word + k) (omega arith))
+pub word_before : (before after : ℕ → ℕ) (at word : ℕ) (bytes : List ℕ) → ((q : ℕ) → after q ≡ stored before at bytes q) → word + 8 ≤ at → word_in after word ≡ word_in before word
+word_before before after at word bytes is below = word_alike before after word (λ k lt. is (word + k) ∙ stored_before before at bytes (word + k) (omega arith))
 
-pub word-behind : (before after : ℕ → ℕ) (at word : ℕ) (bytes : List ℕ) → ((q : ℕ) → after q ≡ stored before at bytes q) → at + length bytes ≤ word → word_in after word ≡ word_in before word
-word-behind before after at word bytes is above = word_alike before after word (λ k lt. is (word + k) ∙ stored-behind before at bytes (word + k) (omega arith))
+pub word_behind : (before after : ℕ → ℕ) (at word : ℕ) (bytes : List ℕ) → ((q : ℕ) → after q ≡ stored before at bytes q) → at + length bytes ≤ word → word_in after word ≡ word_in before word
+word_behind before after at word bytes is above = word_alike before after word (λ k lt. is (word + k) ∙ stored_behind before at bytes (word + k) (omega arith))
 
 -- the number of what is stored
-pub stored-spelled : (before after : ℕ → ℕ) (at : ℕ) (bytes : List ℕ) → ((q : ℕ) → after q ≡ stored before at bytes q) → spelled (map after (range_with_len at (length bytes))) ≡ spelled bytes
-stored-spelled before after at bytes is =
+pub stored_spelled : (before after : ℕ → ℕ) (at : ℕ) (bytes : List ℕ) → ((q : ℕ) → after q ≡ stored before at bytes q) → spelled (map after (range_with_len at (length bytes))) ≡ spelled bytes
+stored_spelled before after at bytes is =
     ap spelled (alike_over after (slice_index bytes) at 0 (length bytes) (λ j x y lt p q.
     let same : x - at ≡ y = omega arith in
-    is x ∙ stored-in before at bytes x (omega arith) (omega arith) ∙ ap (λ n. get_or bytes n 0) same)
+    is x ∙ stored_in before at bytes x (omega arith) (omega arith) ∙ ap (λ n. get_or bytes n 0) same)
     ∙ sym (read_over bytes 0 (length bytes) (omega arith)) ∙ take_all (length bytes) bytes (omega arith))

@@ -315,6 +315,7 @@ impl Frames {
             let end = bytes
                 .len()
                 .min(done + (PAGE_SIZE - place % PAGE_SIZE) as usize);
+            // succeeds, since pages enough are spare
             let _ = self.write_page(place, &bytes[done..end]);
             done = end;
         }

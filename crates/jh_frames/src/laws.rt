@@ -12,6 +12,7 @@ pub fn bytes_are_those_of_pages(frames: &Frames)
     ensures byte { (place : ℕ) → byte_at frames.now place ≡ byte_in (page_of frames.now (place / 4096)) (place % 4096) }
     ensures held { (place : ℕ) → holds frames.now place ≡ is_some (page_of frames.now (place / 4096)) }
 {
+    // for the proof: the hypervisor's range is whole pages
     let _ = frames.holds(0);
 }
 
@@ -28,7 +29,8 @@ pub fn equal_bytes_make_equal_words()
 /// Once a page of the hypervisor's memory that was lent is given back, memory has its bytes there, and
 /// all else is as before.
 pub fn a_page_is_written_back()
-    ensures bytes { (memory : FramesView) (at : ℕ) (page : List ℕ) → IsOwn memory.own at 4096 → length page ≡ 4096 → (q : ℕ) → byte_at (with_page memory at page) q ≡ stored (byte_at memory) at page q }
+    ensures bytes { (memory : FramesView) (at : ℕ) (page : List ℕ) → IsOwn memory.own at 4096 → length page ≡ 4096 → (q : ℕ)
+        → byte_at (with_page memory at page) q ≡ stored (byte_at memory) at page q }
     ensures size { (memory : FramesView) (at : ℕ) (page : List ℕ) → IsOwn memory.own at 4096 → length page ≡ 4096 → length (with_page memory at page).own.bytes ≡ length memory.own.bytes }
     ensures held { (memory : FramesView) (at : ℕ) (page : List ℕ) → IsOwn memory.own at 4096 → length page ≡ 4096 → (q : ℕ) → holds (with_page memory at page) q ≡ holds memory q }
 {}

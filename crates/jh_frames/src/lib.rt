@@ -14,6 +14,3 @@ pub use laws::{
     a_page_is_written_back, a_word_is_spelled, bytes_are_those_of_pages,
     equal_bytes_make_equal_words, what_is_written_is_read, writing_elsewhere_changes_no_word,
 };
-
-#[cfg(test)]
-mod tests;

@@ -127,6 +127,7 @@ impl Own {
         ensures below { (q : ℕ) → q < at → own_byte self.new q ≡ own_byte self.old q }
         ensures above { (q : ℕ) → at + 8 ≤ q → own_byte self.new q ≡ own_byte self.old q }
     {
+        // for the proof: the invariant, by which the range ends within the addresses
         let _ = &self.base;
         self.set_bytes(at, word);
     }

@@ -9,16 +9,16 @@ use Rattle.jh_cellcfg.specs.Regions.{IsInRange}
 use Rattle.jh_script.specs.declared.image.Image.{Image}
 use Rattle.jh_script.specs.declared.image.Program.{Program}
 use Rattle.jh_script.specs.declared.op.Op.{Op}
-use Rattle.jh_script.specs.Operations.{IsPlain, is_width}
+use Rattle.jh_script.specs.Operations.{IsWellFormed, is_width}
 use Rattle.jh_history.specs.Lives.{program_of, is_program_of}
 use Rattle.jh_check.specs.Clean.{IsSoundRoot}
-use Rattle.jh_check.proofs.GivenLemmas.{sound-root}
-use Rattle.jh_check.proofs.JoinLemmas.{clean-from_nothing}
+use Rattle.jh_check.proofs.GivenLemmas.{sound_root_holds}
+use Rattle.jh_check.proofs.JoinLemmas.{clean_from_nothing}
 use Rattle.jh_history.specs.Admitted.{IsAdmitted, IsSoundProgram}
 
 -- root's regions are sound, and the hypervisor's memory
 pub sound_root : (image : Image) → IsAdmitted image → IsSoundRoot image.system
-sound_root image admitted = sound-root image.system [] (clean-from_nothing image.system [] admitted.system.clean)
+sound_root image admitted = sound_root_holds image.system [] (clean_from_nothing image.system [] admitted.system.clean)
 
 -- its regions lie within the addresses and the places
 pub within : (image : Image) → IsAdmitted image → All (λ (r : Region). 0 < r.size → IsInRange r) image.system.root.memory_regions
@@ -34,13 +34,13 @@ found P p [] all = tt
 found P p (x ∷ xs) all = found_at P (p x) x (find p xs) all.0 (found P p xs all.1)
 
 -- what holds of all operations of an image holds of each CPU's
-pub program_of-all : (P : Op → Type 0) (image : Image) (name : List ℕ) (cpu : ℕ) → All (λ (p : Program). All P p.ops) image.programs → All P (program_of image name cpu)
+pub program_of_all : (P : Op → Type 0) (image : Image) (name : List ℕ) (cpu : ℕ) → All (λ (p : Program). All P p.ops) image.programs → All P (program_of image name cpu)
 unfolding program_of
-program_of-all P image name cpu all = All-from_recursion P (program_of image name cpu) (found P (is_program_of name cpu) image.programs (recursion_from_All (λ (x : Program). All P x.ops) image.programs all))
+program_of_all P image name cpu all = All-from_recursion P (program_of image name cpu) (found P (is_program_of name cpu) image.programs (recursion_from_All (λ (x : Program). All P x.ops) image.programs all))
 
 -- the operations of each CPU are plain
-pub program_of-plain : (image : Image) (name : List ℕ) (cpu : ℕ) → IsAdmitted image → All IsPlain (program_of image name cpu)
-program_of-plain image name cpu admitted = program_of-all IsPlain image name cpu (λ i d lt. (admitted.programs i d lt).plain)
+pub program_of_plain : (image : Image) (name : List ℕ) (cpu : ℕ) → IsAdmitted image → All IsWellFormed (program_of image name cpu)
+program_of_plain image name cpu admitted = program_of_all IsWellFormed image name cpu (λ i d lt. (admitted.programs i d lt).plain)
 
 few_at : (b : Bool) (x : Program) (o : Option Program) → IsSoundProgram x → length (option_map_or (λ (p : Program). p.ops) o []) ≤ 4096 → length (option_map_or (λ (p : Program). p.ops) (cond b (Some x) o) []) ≤ 4096
 few_at true x o fine rest = fine.few

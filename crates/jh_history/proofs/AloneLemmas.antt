@@ -6,7 +6,7 @@ use Rattle.std.specs.List.{fold, AllByRecursion}
 use Rattle.std.specs.Option.{option_map_or}
 use Rattle.std.proofs.lemmas.List.Elements.{recursion_from_All}
 use Rattle.jh_cellcfg.specs.Cells.{name_of}
-use Rattle.std.proofs.lemmas.Bool.{and_right, both_ways}
+use Rattle.std.proofs.lemmas.Bool.{both_ways}
 use Rattle.jh_num.proofs.Booleans.{same_number}
 use Rattle.std.proofs.lemmas.Option.{none-some, same_Some}
 use Rattle.jh_cellcfg.specs.declared.config.CellConfig.{CellConfig}
@@ -16,20 +16,15 @@ use Rattle.jh_script.specs.declared.image.Image.{Image}
 use Rattle.jh_script.specs.declared.op.Op.{Op}
 use Rattle.jh_script.specs.declared.op.Op.TheVariants.{Read as ReadOp, Write as WriteOp, Fetch as FetchOp, Await as AwaitOp, Irq as IrqOp, Hvc as HvcOp}
 use Rattle.jh_history.specs.declared.place.Place.{Place}
-use Rattle.jh_history.specs.declared.place.Place.TheVariants.{Physical, Page}
-use Rattle.jh_history.specs.declared.access.Access.{Access}
 use Rattle.jh_history.specs.declared.access.Access.TheVariants.{Read as ToRead}
 use Rattle.jh_history.specs.declared.call.OpenCall.{OpenCall}
 use Rattle.jh_history.specs.declared.change.Change.{Change}
-use Rattle.jh_history.specs.declared.change.Change.TheVariants.{Stay, Step, Fail, Stop as Halt}
 use Rattle.jh_history.specs.declared.comm.PageWrite.{PageWrite}
 use Rattle.jh_history.specs.declared.entry.Entry.{Entry}
 use Rattle.jh_history.specs.declared.entry.Act.{Act}
 use Rattle.jh_history.specs.declared.entry.Act.TheVariants.{Read, Write, Fetch, Await, Irq, Hvc, Begin, Stop, Decide, Settle, Commit, Note, Noted, Finish}
-use Rattle.jh_history.specs.Access.{place_of, reach_by, or_behind}
 use Rattle.jh_history.specs.Facts.{Facts}
-use Rattle.jh_history.specs.Lives.{is_on_board, cell_in, regions_in, program_of, ops_in, op_at}
-use Rattle.jh_history.specs.Grants.{is_kept, unless, granted_in, granted, behind_in, reach}
+use Rattle.jh_history.specs.Lives.{is_on_board, cell_in, program_of, ops_in, op_at}
 use Rattle.jh_history.specs.Cpus.{change_of, changed, acted}
 use Rattle.jh_history.specs.Calls.{call_by}
 use Rattle.jh_history.specs.Commits.{cells_by}
@@ -44,33 +39,14 @@ use Rattle.jh_history.specs.Wants.{pending_op, goes_on}
 use Rattle.jh_history.specs.Admitted.{HasNoCall, IsNoCall}
 use Rattle.jh_history.specs.Due.{due_at, state_act, next_act, act_of, await_of, got_by, entry_by, IsLegal, IsLegalFrom}
 use Rattle.jh_history.specs.Alone.{IsAlone, IsByRoot, is_phase}
-use Rattle.jh_history.proofs.AdmittedLemmas.{program_of-all}
-use Rattle.jh_history.proofs.FactsLemmas.{same_function}
-use Rattle.jh_history.proofs.DueLemmas.{due_at-absent, due_at-present}
-use Rattle.jh_history.proofs.LegalLemmas.{due-split, IsLegal-begin}
-
--- root alone is kept from nothing
-not_kept : (image : Image) (id : ℕ) (p : Place) → is_kept image [] id p ≡ false
-not_kept image id (Physical p) = and_right (eqb id image.system.root.id) false refl
-not_kept image id (Page cell offset) = refl
-
-all_open : (image : Image) (id : ℕ) (o : Option Place) → option_and_then (unless (is_kept image [] id)) o ≡ o
-all_open image id None = refl
-all_open image id (Some p) = rw (not_kept image id p) refl
-
--- so what a cell is granted is what its regions give
-pub granted-alone : (image : Image) (f : Facts) (id : ℕ) (access : Access) (at : ℕ) → f.cells ≡ [] → granted image f id access at ≡ place_of id (regions_in image [] id) access at
-granted-alone image f id access at none = ap (λ (cells : List Live). granted_in image cells id access at) none ∙ all_open image id (place_of id (regions_in image [] id) access at)
-
-pub reach-alone : (image : Image) (f : Facts) (id : ℕ) (access : Access) (at width : ℕ) → f.cells ≡ []
-    → reach image f id access at width ≡ or_behind (reach_by (place_of id (regions_in image [] id) access) at width) (behind_in image [] f.endpoints id access at width)
-reach-alone image f id access at width none =
-    ap (λ (place : ℕ → Option Place). or_behind (reach_by place at width) (behind_in image f.cells f.endpoints id access at width)) (same_function (granted image f id access) (place_of id (regions_in image [] id) access) (λ a. granted-alone image f id access a none))
-    ∙ ap (λ (cells : List Live). or_behind (reach_by (place_of id (regions_in image [] id) access) at width) (behind_in image cells f.endpoints id access at width)) none
+use Rattle.jh_history.proofs.AdmittedLemmas.{program_of_all}
+use Rattle.jh_history.proofs.DueLemmas.{due_at_absent, due_at_present}
+use Rattle.jh_history.proofs.LegalLemmas.{due_split, IsLegal_begin}
+use Rattle.jh_history.proofs.SoundCpusLemmas.{changed_owner}
 
 -- at opening
-pub alone-start : (image : Image) → IsAlone image (start image)
-alone-start image = record { cells = refl; call = refl; owners = λ cpu. refl }
+pub alone_start : (image : Image) → IsAlone image (start image)
+alone_start image = record { cells = refl; call = refl; owners = λ cpu. refl }
 
 -- what is due is no phase
 abbrev IsOwn : Act → Type 0
@@ -108,7 +84,7 @@ no_call_at (op ∷ ops) (suc i) all = no_call_at ops i all.1
 
 no_calls_by : (image : Image) (cpu : ℕ) (cell : Option CellConfig) → HasNoCall image
     → AllByRecursion IsNoCall (option_map_or (λ (c : CellConfig). program_of image (name_of c) cpu) cell [])
-no_calls_by image cpu (Some c) silent = recursion_from_All IsNoCall (program_of image (name_of c) cpu) (program_of-all IsNoCall image (name_of c) cpu silent)
+no_calls_by image cpu (Some c) silent = recursion_from_All IsNoCall (program_of image (name_of c) cpu) (program_of_all IsNoCall image (name_of c) cpu silent)
 no_calls_by image cpu None silent = tt
 
 no_call_pending : (image : Image) (f : Facts) (state : Cpu) (cpu : ℕ) (b : Bool) → HasNoCall image → IfSome (cond b (op_at image f state cpu) None) IsNoCall
@@ -120,13 +96,13 @@ own_state image f state cpu true silent = refl
 own_state image f state cpu false silent = own_op image f state.owner (pending_op image f state cpu) (no_call_pending image f state cpu (goes_on state) silent)
 
 -- no CPU is the caller of a call where none is open
-pub next_act-alone : (image : Image) (f : Facts) (state : Cpu) (cpu : ℕ) → f.call ≡ None → next_act image f state cpu ≡ state_act image f state cpu
-next_act-alone image f state cpu none = rw none refl
+pub next_act_alone : (image : Image) (f : Facts) (state : Cpu) (cpu : ℕ) → f.call ≡ None → next_act image f state cpu ≡ state_act image f state cpu
+next_act_alone image f state cpu none = rw none refl
 
 own_next : (image : Image) (f : Facts) (state : Cpu) (cpu : ℕ) → HasNoCall image → f.call ≡ None → IfSome (next_act image f state cpu) IsOwn
 own_next image f state cpu silent none =
     let P : Option Act → Type 0 = λ o. IfSome o IsOwn in
-    subst P (sym (next_act-alone image f state cpu none)) (own_state image f state cpu state.asked silent)
+    subst P (sym (next_act_alone image f state cpu none)) (own_state image f state cpu state.asked silent)
 
 roots_entry : (image : Image) (cpu cell : ℕ) (entry : Entry) (o : Option Act) → IfSome o IsOwn → cell ≡ image.system.root.id → option_map (entry_by cpu cell) o ≡ Some entry → IsByRoot image entry
 roots_entry image cpu cell entry None own is h = absurd (none-some entry h)
@@ -136,12 +112,12 @@ roots_entry image cpu cell entry (Some act) own is h =
 
 roots_at : (image : Image) (f : Facts) (cpu : ℕ) (entry : Entry) (b : Bool) → HasNoCall image → IsAlone image f → is_on_board image cpu ≡ b → due_at image f cpu ≡ Some entry → IsByRoot image entry
 roots_at image f cpu entry true silent alone e h =
-    roots_entry image cpu (f.cpu cpu).owner entry (next_act image f (f.cpu cpu) cpu) (own_next image f (f.cpu cpu) cpu silent alone.call) (alone.owners cpu) (sym (due_at-present image f cpu e) ∙ h)
-roots_at image f cpu entry false silent alone e h = absurd (none-some entry (sym (due_at-absent image f cpu e) ∙ h))
+    roots_entry image cpu (f.cpu cpu).owner entry (next_act image f (f.cpu cpu) cpu) (own_next image f (f.cpu cpu) cpu silent alone.call) (alone.owners cpu) (sym (due_at_present image f cpu e) ∙ h)
+roots_at image f cpu entry false silent alone e h = absurd (none-some entry (sym (due_at_absent image f cpu e) ∙ h))
 
 -- where root is alone, an entry that is due is root's
-pub due_at-roots : (image : Image) (f : Facts) (cpu : ℕ) (entry : Entry) → HasNoCall image → IsAlone image f → due_at image f cpu ≡ Some entry → IsByRoot image entry
-due_at-roots image f cpu entry silent alone h = roots_at image f cpu entry (is_on_board image cpu) silent alone refl h
+pub due_at_roots : (image : Image) (f : Facts) (cpu : ℕ) (entry : Entry) → HasNoCall image → IsAlone image f → due_at image f cpu ≡ Some entry → IsByRoot image entry
+due_at_roots image f cpu entry silent alone h = roots_at image f cpu entry (is_on_board image cpu) silent alone refl h
 
 -- what such an entry does
 cells_kept : (call : Option OpenCall) (cells : List Live) (act : Act) → is_phase act ≡ false → cells_by call cells act ≡ cells
@@ -177,40 +153,34 @@ call_kept cells coming entry (Noted id how) own = absurd (both_ways true own ref
 call_kept cells coming entry (Finish answer) own = absurd (both_ways true own refl)
 
 -- it changes its own CPU alone
-pub acted-own : (image : Image) (call : Option OpenCall) (act : Act) (own i : ℕ) (cpu : Cpu) → is_phase act ≡ false → acted image call act own i cpu ≡ cond (eqb i own) (changed (change_of act) cpu) cpu
-acted-own image call (Read width at got) own i cpu h = refl
-acted-own image call (Write width at value ok) own i cpu h = refl
-acted-own image call (Fetch at got) own i cpu h = refl
-acted-own image call (Await width at value ok) own i cpu h = refl
-acted-own image call (Irq device vector) own i cpu h = refl
-acted-own image call (Hvc code a b answer) own i cpu h = refl
-acted-own image call Stop own i cpu h = refl
-acted-own image call (Begin code a b) own i cpu h = absurd (both_ways true h refl)
-acted-own image call (Decide refused) own i cpu h = absurd (both_ways true h refl)
-acted-own image call (Settle how) own i cpu h = absurd (both_ways true h refl)
-acted-own image call Commit own i cpu h = absurd (both_ways true h refl)
-acted-own image call (Note id) own i cpu h = absurd (both_ways true h refl)
-acted-own image call (Noted id how) own i cpu h = absurd (both_ways true h refl)
-acted-own image call (Finish answer) own i cpu h = absurd (both_ways true h refl)
-
-owner_kept : (change : Change) (cpu : Cpu) → (changed change cpu).owner ≡ cpu.owner
-owner_kept Stay cpu = refl
-owner_kept Step cpu = refl
-owner_kept Fail cpu = refl
-owner_kept Halt cpu = refl
+pub acted_own : (image : Image) (call : Option OpenCall) (act : Act) (own i : ℕ) (cpu : Cpu) → is_phase act ≡ false → acted image call act own i cpu ≡ cond (eqb i own) (changed (change_of act) cpu) cpu
+acted_own image call (Read width at got) own i cpu h = refl
+acted_own image call (Write width at value ok) own i cpu h = refl
+acted_own image call (Fetch at got) own i cpu h = refl
+acted_own image call (Await width at value ok) own i cpu h = refl
+acted_own image call (Irq device vector) own i cpu h = refl
+acted_own image call (Hvc code a b answer) own i cpu h = refl
+acted_own image call Stop own i cpu h = refl
+acted_own image call (Begin code a b) own i cpu h = absurd (both_ways true h refl)
+acted_own image call (Decide refused) own i cpu h = absurd (both_ways true h refl)
+acted_own image call (Settle how) own i cpu h = absurd (both_ways true h refl)
+acted_own image call Commit own i cpu h = absurd (both_ways true h refl)
+acted_own image call (Note id) own i cpu h = absurd (both_ways true h refl)
+acted_own image call (Noted id how) own i cpu h = absurd (both_ways true h refl)
+acted_own image call (Finish answer) own i cpu h = absurd (both_ways true h refl)
 
 owner_if : (b : Bool) (change : Change) (cpu : Cpu) → (cond b (changed change cpu) cpu).owner ≡ cpu.owner
-owner_if true change cpu = owner_kept change cpu
+owner_if true change cpu = changed_owner change cpu
 owner_if false change cpu = refl
 
 -- and root is alone behind it
-pub alone-after : (image : Image) (f : Facts) (entry : Entry) → IsAlone image f → IsByRoot image entry → IsAlone image (after image f entry)
+pub alone_after : (image : Image) (f : Facts) (entry : Entry) → IsAlone image f → IsByRoot image entry → IsAlone image (after image f entry)
 unfolding after
-alone-after image f entry alone own = record {
+alone_after image f entry alone own = record {
   cells = cells_kept f.call f.cells entry.act own.act ∙ alone.cells;
   call = rw alone.call (call_kept f.cells (coming_of image f) entry entry.act own.act);
   owners = λ i.
-      ap (λ (c : Cpu). c.owner) (acted-own image f.call entry.act entry.cpu i (f.cpu i) own.act)
+      ap (λ (c : Cpu). c.owner) (acted_own image f.call entry.act entry.cpu i (f.cpu i) own.act)
       ∙ owner_if (eqb i entry.cpu) (change_of entry.act) (f.cpu i) ∙ alone.owners i;
 }
 
@@ -259,26 +229,26 @@ unchanged_by : (cells : List Live) (call : Option OpenCall) (act : Act) → is_p
 unchanged_by cells None act own = refl
 unchanged_by cells (Some o) act own = unchanged cells o act own
 
-pub specs-unchanged : (f : Facts) (act : Act) → is_phase act ≡ false → specs_changing f act ≡ []
-specs-unchanged f act own = ap (λ (o : Option CellConfig). option_map_or specs_of o []) (unchanged_by f.cells f.call act own)
+pub specs_unchanged : (f : Facts) (act : Act) → is_phase act ≡ false → specs_changing f act ≡ []
+specs_unchanged f act own = ap (λ (o : Option CellConfig). option_map_or specs_of o []) (unchanged_by f.cells f.call act own)
 
 -- so the bytes are those that its write leaves
-pub byte_after-roots : (image : Image) (f : Facts) (entry : Entry) (q : Place) → IsByRoot image entry → byte_after image f entry q ≡ byte_written image f entry.cell entry.act q
-byte_after-roots image f entry q own =
+pub byte_after_roots : (image : Image) (f : Facts) (entry : Entry) (q : Place) → IsByRoot image entry → byte_after image f entry q ≡ byte_written image f entry.cell entry.act q
+byte_after_roots image f entry q own =
     ap (λ (write : Option PageWrite). with_page_write write (with_words (specs_changing f entry.act) (byte_written image f entry.cell entry.act)) q) (no_page image f entry entry.act own.cell own.act)
-    ∙ ap (λ (specs : List EndpointSpec). with_words specs (byte_written image f entry.cell entry.act) q) (specs-unchanged f entry.act own.act)
+    ∙ ap (λ (specs : List EndpointSpec). with_words specs (byte_written image f entry.cell entry.act) q) (specs_unchanged f entry.act own.act)
 
 alone_from : (image : Image) (f : Facts) (entries : List Entry) → HasNoCall image → IsAlone image f → IsLegalFrom image f entries → IsAlone image (fold (after image) f entries)
 alone_from image f [] silent alone legal = alone
 alone_from image f (entry ∷ entries) silent alone legal =
-    alone_from image (after image f entry) entries silent (alone-after image f entry alone (due_at-roots image f entry.cpu entry silent alone legal.0)) legal.1
+    alone_from image (after image f entry) entries silent (alone_after image f entry alone (due_at_roots image f entry.cpu entry silent alone legal.0)) legal.1
 
 -- root is alone after each legal journal
-pub legal-alone : (image : Image) (entries : List Entry) → HasNoCall image → IsLegal image entries → IsAlone image (facts image entries)
+pub legal_alone : (image : Image) (entries : List Entry) → HasNoCall image → IsLegal image entries → IsAlone image (facts image entries)
 unfolding IsLegal facts
-legal-alone image entries silent legal = alone_from image (start image) entries silent (alone-start image) legal
+legal_alone image entries silent legal = alone_from image (start image) entries silent (alone_start image) legal
 
 -- and each of its entries is root's
-pub legal-roots : (image : Image) (before rest : List Entry) (entry : Entry) → HasNoCall image → IsLegal image (before ++ entry ∷ rest) → IsByRoot image entry
-legal-roots image before rest entry silent legal =
-    due_at-roots image (facts image before) entry.cpu entry silent (legal-alone image before silent (IsLegal-begin image before (entry ∷ rest) legal)) (due-split image before rest entry legal)
+pub legal_roots : (image : Image) (before rest : List Entry) (entry : Entry) → HasNoCall image → IsLegal image (before ++ entry ∷ rest) → IsByRoot image entry
+legal_roots image before rest entry silent legal =
+    due_at_roots image (facts image before) entry.cpu entry silent (legal_alone image before silent (IsLegal_begin image before (entry ∷ rest) legal)) (due_split image before rest entry legal)

@@ -4,39 +4,39 @@ use Rattle.std.specs.Prelude.{IsTrue, All, AllPairs}
 use Rattle.std.proofs.lemmas.Bool.{cases_lt, le-leb}
 use Rattle.std.proofs.lemmas.List.{take_all, get_or-drop, get_or_read}
 use Rattle.std.proofs.lemmas.Bool.Decides.{nat_tests}
-use Rattle.jh_history.specs.Apart.{is_among, HasNoneOf}
+use Rattle.jh_history.specs.Private.Apart.{is_among, HasNoneOf}
 
-is_among-from : (start len k : ℕ) → start ≤ k → k < start + len → IsTrue (is_among start len k)
-is_among-from start len k low high = grind (arith, nat_tests)
+is_among_from : (start len k : ℕ) → start ≤ k → k < start + len → IsTrue (is_among start len k)
+is_among_from start len k low high = grind (arith, nat_tests)
 
-is_among-low : (start len k : ℕ) → IsTrue (is_among start len k) → start ≤ k
-is_among-low start len k h = grind (arith, nat_tests)
+is_among_low : (start len k : ℕ) → IsTrue (is_among start len k) → start ≤ k
+is_among_low start len k h = grind (arith, nat_tests)
 
-is_among-high : (start len k : ℕ) → IsTrue (is_among start len k) → k < start + len
-is_among-high start len k h = grind (arith, nat_tests)
+is_among_high : (start len k : ℕ) → IsTrue (is_among start len k) → k < start + len
+is_among_high start len k h = grind (arith, nat_tests)
 
 -- where both have a number and each begins before the other's end, they have one in common
-pub HasNoneOf-meets : (a n b m : ℕ) → 0 < n → 0 < m → b < a + n → a < b + m → HasNoneOf a n b m → ⊥
-HasNoneOf-meets a n b m some_n some_m before_a before_b none = elim (cases_lt a b) [
-  | inl lt ↦ none b (is_among-from a n b (omega arith) before_a) (is_among-from b m b (omega arith) (omega arith))
-  | inr le ↦ none a (is_among-from a n a (omega arith) (omega arith)) (is_among-from b m a le before_b)
+pub HasNoneOf_meets : (a n b m : ℕ) → 0 < n → 0 < m → b < a + n → a < b + m → HasNoneOf a n b m → ⊥
+HasNoneOf_meets a n b m some_n some_m before_a before_b none = elim (cases_lt a b) [
+  | inl lt ↦ none b (is_among_from a n b (omega arith) before_a) (is_among_from b m b (omega arith) (omega arith))
+  | inr le ↦ none a (is_among_from a n a (omega arith) (omega arith)) (is_among_from b m a le before_b)
 ]
 
 -- where one has no number, or ends before the other begins, they have none in common
-pub HasNoneOf-apart : (a n b m : ℕ) → ((k : ℕ) → a ≤ k → k < a + n → b ≤ k → k < b + m → ⊥) → HasNoneOf a n b m
-HasNoneOf-apart a n b m apart k in_a in_b =
-    apart k (is_among-low a n k in_a) (is_among-high a n k in_a) (is_among-low b m k in_b) (is_among-high b m k in_b)
+pub HasNoneOf_apart : (a n b m : ℕ) → ((k : ℕ) → a ≤ k → k < a + n → b ≤ k → k < b + m → ⊥) → HasNoneOf a n b m
+HasNoneOf_apart a n b m apart k in_a in_b =
+    apart k (is_among_low a n k in_a) (is_among_high a n k in_a) (is_among_low b m k in_b) (is_among_high b m k in_b)
 
-leb-le : (a b : ℕ) → leb a b ≡ true → a ≤ b
-leb-le a b h = grind (arith, nat_tests)
+leb_le : (a b : ℕ) → leb a b ≡ true → a ≤ b
+leb_le a b h = grind (arith, nat_tests)
 
 -- where the first range begins no later than the second, which has a number, they have none in common
 -- exactly where the first ends before the second begins
-pub HasNoneOf-decided : (a n b m : ℕ) → a ≤ b → 0 < m → Decides (leb n (b - a)) (HasNoneOf a n b m)
-HasNoneOf-decided a n b m first some = (
-  λ t. HasNoneOf-apart a n b m (λ k low high low' high'. let few : n ≤ b - a = leb-le n (b - a) t in absurd (omega arith)),
+pub HasNoneOf_decided : (a n b m : ℕ) → a ≤ b → 0 < m → Decides (leb n (b - a)) (HasNoneOf a n b m)
+HasNoneOf_decided a n b m first some = (
+  λ t. HasNoneOf_apart a n b m (λ k low high low' high'. let few : n ≤ b - a = leb_le n (b - a) t in absurd (omega arith)),
   λ none. elim (cases_lt (b - a) n) [
-    | inl lt ↦ absurd (HasNoneOf-meets a n b m (omega arith) some (omega arith) (omega arith) none)
+    | inl lt ↦ absurd (HasNoneOf_meets a n b m (omega arith) some (omega arith) (omega arith) none)
     | inr le ↦ le-leb n (b - a) le
   ],
 )
@@ -44,8 +44,8 @@ HasNoneOf-decided a n b m first some = (
 swapped : (a n b m : ℕ) → HasNoneOf a n b m → HasNoneOf b m a n
 swapped a n b m none k in_b in_a = none k in_a in_b
 
-pub HasNoneOf-swapped : (r : Bool) (a n b m : ℕ) → Decides r (HasNoneOf b m a n) → Decides r (HasNoneOf a n b m)
-HasNoneOf-swapped r a n b m told = (λ t. swapped b m a n (told.0 t), λ none. told.1 (swapped a n b m none))
+pub HasNoneOf_swapped : (r : Bool) (a n b m : ℕ) → Decides r (HasNoneOf b m a n) → Decides r (HasNoneOf a n b m)
+HasNoneOf_swapped r a n b m told = (λ t. swapped b m a n (told.0 t), λ none. told.1 (swapped a n b m none))
 
 rest_is : {X : Type 0} (xs : List X) (i : ℕ) → i < length xs → take (length xs - (i + 1)) (drop (i + 1) xs) ≡ drop (i + 1) xs
 rest_is xs i lt = take_all (length xs - (i + 1)) (drop (i + 1) xs) (omega (arith, length-drop (i + 1) xs))

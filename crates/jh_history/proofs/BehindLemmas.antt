@@ -25,13 +25,13 @@ use Rattle.jh_history.specs.Grants.{is_kept}
 
 -- ---- a region that has an access
 
-pub takes_all-size : (closed : ℕ → Bool) (at n : ℕ) (r : Region) → takes_all closed at n r ≡ true → 0 < r.size
-takes_all-size closed at n r h =
+pub takes_all_size : (closed : ℕ → Bool) (at n : ℕ) (r : Region) → takes_all closed at n r ≡ true → 0 < r.size
+takes_all_size closed at n r h =
     let whole = and_parts (has_size r && not (is_page_mapped r)) (lies_between r.virt_start (virt_end r) at n && not (is_at_closed closed at n r)) h in
     ltb-true 0 r.size (and_parts (has_size r) (not (is_page_mapped r)) whole.0).0
 
-pub takes_all-subpage : (closed : ℕ → Bool) (at n : ℕ) (r : Region) → takes_all closed at n r ≡ true → is_page_mapped r ≡ false
-takes_all-subpage closed at n r h =
+pub takes_all_subpage : (closed : ℕ → Bool) (at n : ℕ) (r : Region) → takes_all closed at n r ≡ true → is_page_mapped r ≡ false
+takes_all_subpage closed at n r h =
     let whole = and_parts (has_size r && not (is_page_mapped r)) (lies_between r.virt_start (virt_end r) at n && not (is_at_closed closed at n r)) h in
     not-true (is_page_mapped r) (and_parts (has_size r) (not (is_page_mapped r)) whole.0).1
 
@@ -73,14 +73,14 @@ kept_by kept id at n r false low pages =
     ap (λ q. kept (Physical q)) e)
 
 -- a cell is kept from one of the places of an access where one of its bytes is at a place that it is kept from
-pub kept-row : (image : Image) (cells : List Live) (id at n : ℕ) (r : Region) → r.virt_start ≤ at
+pub kept_row : (image : Image) (cells : List Live) (id at n : ℕ) (r : Region) → r.virt_start ≤ at
     → list_any (is_kept image cells id) (places_in_row (place_in_cell id r at) n) ≡ is_at_closed (λ p. is_kept image cells id (Physical p)) at n r
-kept-row image cells id at n r low = kept_by (is_kept image cells id) id at n r (is_comm r) low (λ k. refl)
+kept_row image cells id at n r low = kept_by (is_kept image cells id) id at n r (is_comm r) low (λ k. refl)
 
 -- so the region that has all of the access is that which takes it, unless the cell is kept from one
-pub unless-kept : (image : Image) (cells : List Live) (id at n : ℕ) (r : Region) (b : Bool) → r.virt_start ≤ at → b ≡ list_any (is_kept image cells id) (places_in_row (place_in_cell id r at) n)
+pub unless_kept : (image : Image) (cells : List Live) (id at n : ℕ) (r : Region) (b : Bool) → r.virt_start ≤ at → b ≡ list_any (is_kept image cells id) (places_in_row (place_in_cell id r at) n)
     → unless_closed (λ p. is_kept image cells id (Physical p)) at n (Some r) ≡ cond b None (Some r)
-unless-kept image cells id at n r b low is = ap (λ (c : Bool). cond c None (Some r)) (sym (kept-row image cells id at n r low) ∙ sym is)
+unless_kept image cells id at n r b low is = ap (λ (c : Bool). cond c None (Some r)) (sym (kept_row image cells id at n r low) ∙ sym is)
 
 -- ---- what answers
 
@@ -93,15 +93,15 @@ abbrev answering : List Region → Devices → (Place → Bool) → SystemConfig
 answering regions devices kept system access at width =
     answer_to devices.cell (region_having regions kept at width) (ecam_start system) (ecam_end system) (window_found devices at width) access at width
 
-pub answer-within : (regions : List Region) (devices : Devices) (kept : Place → Bool) (system : SystemConfig) (access : Access) (at width : ℕ) → at + width ≤ ADDRESS_END
+pub answer_within : (regions : List Region) (devices : Devices) (kept : Place → Bool) (system : SystemConfig) (access : Access) (at width : ℕ) → at + width ≤ ADDRESS_END
     → answer regions devices kept system access at width ≡ answer_to devices.cell (find (takes_all (λ p. kept (Physical p)) at width) regions) (ecam_start system) (ecam_end system) (window_found devices at width) access at width
 unfolding answer
-answer-within regions devices kept system access at width h =
+answer_within regions devices kept system access at width h =
     ap (λ (b : Bool). cond b (answering regions devices kept system access at width) Nothing) (le-leb (at + width) ADDRESS_END h)
 
-pub answer-beyond : (regions : List Region) (devices : Devices) (kept : Place → Bool) (system : SystemConfig) (access : Access) (at width : ℕ) → ADDRESS_END < at + width → answer regions devices kept system access at width ≡ Nothing
+pub answer_beyond : (regions : List Region) (devices : Devices) (kept : Place → Bool) (system : SystemConfig) (access : Access) (at width : ℕ) → ADDRESS_END < at + width → answer regions devices kept system access at width ≡ Nothing
 unfolding answer
-answer-beyond regions devices kept system access at width h =
+answer_beyond regions devices kept system access at width h =
     ap (λ (b : Bool). cond b (answering regions devices kept system access at width) Nothing) (lt-leb (at + width) ADDRESS_END h)
 
 no_bytes_through : (b : Bool) (found : Reach) → cond (b && false) found Nothing ≡ Nothing
@@ -125,8 +125,8 @@ no_bytes_within id o start end window access at true = no_bytes_to id o start en
 no_bytes_within id o start end window access at false = refl
 
 -- an access of no bytes is answered by nothing
-pub answer-no_bytes : (regions : List Region) (devices : Devices) (kept : Place → Bool) (system : SystemConfig) (access : Access) (at width : ℕ) → width ≡ 0 → answer regions devices kept system access at width ≡ Nothing
+pub answer_no_bytes : (regions : List Region) (devices : Devices) (kept : Place → Bool) (system : SystemConfig) (access : Access) (at width : ℕ) → width ≡ 0 → answer regions devices kept system access at width ≡ Nothing
 unfolding answer
-answer-no_bytes regions devices kept system access at width none =
+answer_no_bytes regions devices kept system access at width none =
     let P : ℕ → Type 0 = λ n. cond (leb (at + n) ADDRESS_END) (answering regions devices kept system access at n) Nothing ≡ Nothing in
     subst P (sym none) (no_bytes_within devices.cell (region_having regions kept at 0) (ecam_start system) (ecam_end system) (window_found devices at 0) access at (leb (at + 0) ADDRESS_END))

@@ -1,5 +1,5 @@
 -- The walk through the devices of a cell that seeks a window.
-use Rattle.std.proofs.Common.{◌≡◌, ℕ, ◌+◌, ◌<◌, ◌≤◌, ◌++◌, Bool, List, length, get_or, drop, Option, Some, None, refl, sym, ap, ◌∙◌}
+use Rattle.std.proofs.Common.{◌≡◌, ℕ, ◌+◌, ◌<◌, ◌≤◌, Bool, List, length, get_or, drop, Option, Some, None, refl, sym, ap, ◌∙◌}
 use Rattle.std.specs.Prelude.{find}
 use Rattle.std.specs.Option.{option_or}
 use Rattle.std.proofs.lemmas.List.{drop_more, drop_all}
@@ -25,6 +25,6 @@ window_here p cell endpoints ds n past w lt h =
 pub window_end : (p : Window → Bool) (cell : ℕ) (endpoints : List Endpoint) (ds : List PciDevice) (n : ℕ) → length ds ≤ n → find p (windows_from cell endpoints n (drop n ds)) ≡ None
 window_end p cell endpoints ds n le = ap (first_from p cell endpoints n) (drop_all n ds le)
 
-pub window_found-all : (devices : Devices) (at width : ℕ) → window_found devices at width ≡ find (window_has at width) (windows_from devices.cell devices.endpoints 0 devices.list)
+pub window_found_all : (devices : Devices) (at width : ℕ) → window_found devices at width ≡ find (window_has at width) (windows_from devices.cell devices.endpoints 0 devices.list)
 unfolding windows_of
-window_found-all devices at width = refl
+window_found_all devices at width = refl

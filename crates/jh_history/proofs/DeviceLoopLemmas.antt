@@ -1,6 +1,6 @@
 -- One device of a cell after another: what is left to change, and that it may be.
 use Rattle.std.proofs.Common.{◌≡◌, ℕ, suc, ◌+◌, ◌*◌, ◌^◌, ◌<◌, ◌≤◌, Bool, true, false, cond, List, [], ◌∷◌, ◌++◌, length, get_or, drop, Option, Some, None, refl, sym, ap, subst, ◌∙◌, arith}
-use Rattle.std.specs.Prelude.{slice_get, fold, All, AllPairs}
+use Rattle.std.specs.Prelude.{slice_get, All, AllPairs}
 use Rattle.std.specs.List.{AllByRecursion}
 use Rattle.std.proofs.lemmas.List.{drop_more, at_drop_all}
 use Rattle.std.proofs.lemmas.List.Elements.{recursion_from_All, All-from_recursion}
@@ -39,15 +39,15 @@ item : (config : CellConfig) (devices : List PciDevice) (n : ℕ) (d : PciDevice
 item config devices n d same lt = slice_get-get_or config.pci_devices n d lt ∙ ap (λ (xs : List PciDevice). Some (get_or xs n d)) (sym same)
 
 -- the device of that number is an ivshmem device, or none
-pub at-some : (config : CellConfig) (devices : List PciDevice) (n : ℕ) (d : PciDevice) (found : Option EndpointSpec) (spec : EndpointSpec) → devices ≡ config.pci_devices → n < length config.pci_devices
+pub at_some : (config : CellConfig) (devices : List PciDevice) (n : ℕ) (d : PciDevice) (found : Option EndpointSpec) (spec : EndpointSpec) → devices ≡ config.pci_devices → n < length config.pci_devices
     → found ≡ told_by config n (get_or devices n d) → found ≡ Some spec → specs_at config n ≡ spec ∷ []
-at-some config devices n d found spec same lt is some =
+at_some config devices n d found spec same lt is some =
     ap (specs_by config n) (item config devices n d same lt)
     ∙ some_by (spec_of config n (get_or devices n d)) spec (is_endpoint n (get_or devices n d)) (sym some ∙ is)
 
-pub at-none : (config : CellConfig) (devices : List PciDevice) (n : ℕ) (d : PciDevice) (found : Option EndpointSpec) → devices ≡ config.pci_devices → n < length config.pci_devices
+pub at_none : (config : CellConfig) (devices : List PciDevice) (n : ℕ) (d : PciDevice) (found : Option EndpointSpec) → devices ≡ config.pci_devices → n < length config.pci_devices
     → found ≡ told_by config n (get_or devices n d) → found ≡ None → specs_at config n ≡ []
-at-none config devices n d found same lt is none =
+at_none config devices n d found same lt is none =
     ap (specs_by config n) (item config devices n d same lt)
     ∙ none_by (spec_of config n (get_or devices n d)) (is_endpoint n (get_or devices n d)) (sym none ∙ is)
 
@@ -70,9 +70,9 @@ word_ends spec slot within is =
 abbrev pub specs_left : CellConfig → ℕ → List EndpointSpec
 specs_left config i = specs_from config i (drop i config.pci_devices)
 
-pub left-all : (config : CellConfig) → specs_left config 0 ≡ specs_of config
+pub left_all : (config : CellConfig) → specs_left config 0 ≡ specs_of config
 unfolding specs_of
-left-all config = refl
+left_all config = refl
 
 two_by : (s : EndpointSpec) (rest : List EndpointSpec) (b : Bool) → cond b (s ∷ rest) rest ≡ cond b (s ∷ []) [] ++ rest
 two_by s rest true = refl
@@ -83,8 +83,8 @@ any_of [] i lt = absurd (omega arith)
 any_of (device ∷ devices) i lt = device
 
 -- the next device is done first
-pub left-next : (config : CellConfig) (i : ℕ) → i < length config.pci_devices → specs_left config i ≡ specs_at config i ++ specs_left config (i + 1)
-left-next config i lt =
+pub left_next : (config : CellConfig) (i : ℕ) → i < length config.pci_devices → specs_left config i ≡ specs_at config i ++ specs_left config (i + 1)
+left_next config i lt =
     let d = any_of config.pci_devices i lt in
     let device = get_or config.pci_devices i d in
     ap (specs_from config i) (drop_more config.pci_devices i d lt)
@@ -92,25 +92,25 @@ left-next config i lt =
     ∙ ap (λ (o : Option PciDevice). specs_by config i o ++ specs_left config (i + 1)) (sym (slice_get-get_or config.pci_devices i d lt))
 
 -- in the end nothing is left
-pub left-end : (config : CellConfig) (i : ℕ) → length config.pci_devices ≤ i → specs_left config i ≡ []
-left-end config i le = at_drop_all (specs_from config i) config.pci_devices i le
+pub left_end : (config : CellConfig) (i : ℕ) → length config.pci_devices ≤ i → specs_left config i ≡ []
+left_end config i le = at_drop_all (specs_from config i) config.pci_devices i le
 
-pub endpoints-next : (change : DeviceChange) (config : CellConfig) (i : ℕ) (old new : List Endpoint) → i < length config.pci_devices → new ≡ endpoints_changed change (specs_at config i) old
+pub endpoints_next : (change : DeviceChange) (config : CellConfig) (i : ℕ) (old new : List Endpoint) → i < length config.pci_devices → new ≡ endpoints_changed change (specs_at config i) old
     → endpoints_changed change (specs_left config (i + 1)) new ≡ endpoints_changed change (specs_left config i) old
-endpoints-next change config i old new lt is =
+endpoints_next change config i old new lt is =
     ap (endpoints_changed change (specs_left config (i + 1))) is
     ∙ sym (fold-append (endpoint_changed change) old (specs_at config i) (specs_left config (i + 1)))
-    ∙ ap (λ (specs : List EndpointSpec). endpoints_changed change specs old) (sym (left-next config i lt))
+    ∙ ap (λ (specs : List EndpointSpec). endpoints_changed change specs old) (sym (left_next config i lt))
 
 abbrev word_put : (Place → ℕ) → EndpointSpec → Place → ℕ
 word_put byte spec = with_slot (slot_of spec 0) byte
 
-pub words-next : (config : CellConfig) (i : ℕ) (old new : Place → ℕ) (q : Place) → i < length config.pci_devices → ((p : Place) → new p ≡ with_words (specs_at config i) old p)
+pub words_next : (config : CellConfig) (i : ℕ) (old new : Place → ℕ) (q : Place) → i < length config.pci_devices → ((p : Place) → new p ≡ with_words (specs_at config i) old p)
     → with_words (specs_left config (i + 1)) new q ≡ with_words (specs_left config i) old q
-words-next config i old new q lt is =
+words_next config i old new q lt is =
     ap (λ (byte : Place → ℕ). with_words (specs_left config (i + 1)) byte q) (same_function new (with_words (specs_at config i) old) is)
     ∙ sym (ap (λ (byte : Place → ℕ). byte q) (fold-append word_put old (specs_at config i) (specs_left config (i + 1))))
-    ∙ ap (λ (specs : List EndpointSpec). with_words specs old q) (sym (left-next config i lt))
+    ∙ ap (λ (specs : List EndpointSpec). with_words specs old q) (sym (left_next config i lt))
 
 -- the change may be made at all of these, one after another
 pub record MayGoOn (change : DeviceChange) (endpoints : List Endpoint) (specs : List EndpointSpec) : Type 0 where
@@ -118,8 +118,8 @@ pub record MayGoOn (change : DeviceChange) (endpoints : List Endpoint) (specs : 
   pub new : change ≡ Join → All (MayJoinThem endpoints) specs
   pub apart : change ≡ Join → AllPairs AreApart specs
 
-pub may-begin : (change : DeviceChange) (endpoints : List Endpoint) (config : CellConfig) → MayChange change endpoints config → MayGoOn change endpoints (specs_left config 0)
-may-begin change endpoints config may = subst (MayGoOn change endpoints) (sym (left-all config)) (record { within = may.within; new = may.new; apart = may.apart })
+pub may_begin : (change : DeviceChange) (endpoints : List Endpoint) (config : CellConfig) → MayChange change endpoints config → MayGoOn change endpoints (specs_left config 0)
+may_begin change endpoints config may = subst (MayGoOn change endpoints) (sym (left_all config)) (record { within = may.within; new = may.new; apart = may.apart })
 
 joined_by : (P : Endpoint → Type 0) (s : EndpointSpec) (e : Endpoint) (es : List Endpoint) (b : Bool) → P (fresh s) → P e → AllByRecursion P es → AllByRecursion P (joined s es)
     → AllByRecursion P (cond b (e ∷ joined s es) (fresh s ∷ e ∷ es))
@@ -131,18 +131,18 @@ joined_all P s [] p all = (p, tt)
 joined_all P s (e ∷ es) p all = joined_by P s e es (is_before s.cell s.device e.spec) p all.0 all.1 (joined_all P s es p all.1)
 
 -- what holds of all endpoints, and of one that joins
-pub All-joined : (P : Endpoint → Type 0) (s : EndpointSpec) (es : List Endpoint) → P (fresh s) → All P es → All P (joined s es)
-All-joined P s es p all = All-from_recursion P (joined s es) (joined_all P s es p (recursion_from_All P es all))
+pub All_joined : (P : Endpoint → Type 0) (s : EndpointSpec) (es : List Endpoint) → P (fresh s) → All P es → All P (joined s es)
+All_joined P s es p all = All-from_recursion P (joined s es) (joined_all P s es p (recursion_from_All P es all))
 
 -- beside one that joins those may join that are apart from it
-join-keeps : (s : EndpointSpec) (rest : List EndpointSpec) (es : List Endpoint) → All (MayJoinThem es) (s ∷ rest) → AllPairs AreApart (s ∷ rest) → All (MayJoinThem (joined s es)) rest
-join-keeps s rest es new apart = λ i d lt.
-    All-joined (λ (e : Endpoint). AreApart e.spec (get_or rest i d)) s es (apart 0 (suc i) d (omega arith) (omega arith)) (new (suc i) d (omega arith))
+join_keeps : (s : EndpointSpec) (rest : List EndpointSpec) (es : List Endpoint) → All (MayJoinThem es) (s ∷ rest) → AllPairs AreApart (s ∷ rest) → All (MayJoinThem (joined s es)) rest
+join_keeps s rest es new apart = λ i d lt.
+    All_joined (λ (e : Endpoint). AreApart e.spec (get_or rest i d)) s es (apart 0 (suc i) d (omega arith) (omega arith)) (new (suc i) d (omega arith))
 
 may_one : (change : DeviceChange) (s : EndpointSpec) (rest : List EndpointSpec) (es : List Endpoint) → MayGoOn change es (s ∷ rest) → MayGoOn change (endpoint_changed change es s) rest
 may_one change s rest es may = record {
   within = λ i d lt. may.within (suc i) d (omega arith);
-  new = λ join. subst (λ (k : DeviceChange). All (MayJoinThem (endpoint_changed k es s)) rest) (sym join) (join-keeps s rest es (may.new join) (may.apart join));
+  new = λ join. subst (λ (k : DeviceChange). All (MayJoinThem (endpoint_changed k es s)) rest) (sym join) (join_keeps s rest es (may.new join) (may.apart join));
   apart = λ join i j d lt below. may.apart join (suc i) (suc j) d (omega arith) (omega arith);
 }
 
@@ -155,14 +155,14 @@ prefix P [] ys all = tt
 prefix P (x ∷ xs) ys all = (all.0, prefix P xs ys all.1)
 
 -- what holds of all that are left, holds of the next
-pub All-next : (P : EndpointSpec → Type 0) (config : CellConfig) (i : ℕ) → i < length config.pci_devices → All P (specs_left config i) → All P (specs_at config i)
-All-next P config i lt all =
+pub All_next : (P : EndpointSpec → Type 0) (config : CellConfig) (i : ℕ) → i < length config.pci_devices → All P (specs_left config i) → All P (specs_at config i)
+All_next P config i lt all =
     All-from_recursion P (specs_at config i)
-    (prefix P (specs_at config i) (specs_left config (i + 1)) (recursion_from_All P (specs_at config i ++ specs_left config (i + 1)) (subst (λ (specs : List EndpointSpec). All P specs) (left-next config i lt) all)))
+    (prefix P (specs_at config i) (specs_left config (i + 1)) (recursion_from_All P (specs_at config i ++ specs_left config (i + 1)) (subst (λ (specs : List EndpointSpec). All P specs) (left_next config i lt) all)))
 
 -- and the change may go on after the next
-pub may-next : (change : DeviceChange) (config : CellConfig) (i : ℕ) (old new : List Endpoint) → i < length config.pci_devices → MayGoOn change old (specs_left config i)
+pub may_next : (change : DeviceChange) (config : CellConfig) (i : ℕ) (old new : List Endpoint) → i < length config.pci_devices → MayGoOn change old (specs_left config i)
     → new ≡ endpoints_changed change (specs_at config i) old → MayGoOn change new (specs_left config (i + 1))
-may-next change config i old new lt may is =
+may_next change config i old new lt may is =
     subst (λ (es : List Endpoint). MayGoOn change es (specs_left config (i + 1))) (sym is)
-    (may_all change (specs_at config i) (specs_left config (i + 1)) old (subst (MayGoOn change old) (left-next config i lt) may))
+    (may_all change (specs_at config i) (specs_left config (i + 1)) old (subst (MayGoOn change old) (left_next config i lt) may))

@@ -9,8 +9,8 @@ use Rattle.jh_cellcfg.specs.declared.region.Region.{Region}
 use Rattle.jh_check.specs.Clean.{IsClean}
 use Rattle.jh_check.specs.Laws.{IsNumbered}
 use Rattle.jh_check.specs.Refusals.{is_known, IsAccepted}
-use Rattle.jh_check.proofs.JoinLemmas.{joins-clean}
-use Rattle.jh_check.proofs.RefusalLemmas.{accepted-from}
+use Rattle.jh_check.proofs.JoinLemmas.{joins_clean}
+use Rattle.jh_check.proofs.RefusalLemmas.{accepted_from}
 use Rattle.jh_shape.specs.Pages.{pages_of}
 use Rattle.jh_script.specs.declared.image.Image.{Image}
 use Rattle.jh_history.specs.declared.call.OpenCall.{OpenCall}
@@ -23,8 +23,8 @@ use Rattle.jh_history.specs.Configs.{Reads, config_read}
 use Rattle.jh_history.specs.Phases.{configs_of, may_give, creation_of, refused_by}
 use Rattle.jh_history.specs.Sound.{MayCome, IsSoundCall, IsInPhase, IsOpen, IsSound}
 use Rattle.jh_history.specs.DueFacts.{MayLive}
-use Rattle.jh_history.proofs.SoundDecideLemmas.{coming-from_decision}
-use Rattle.jh_history.proofs.DueDecideLemmas.{read-from_comes}
+use Rattle.jh_history.proofs.SoundDecideLemmas.{coming_from_decision}
+use Rattle.jh_history.proofs.DueDecideLemmas.{read_from_comes}
 
 -- ---- a cell in which nothing is found
 
@@ -35,8 +35,8 @@ numbered system configs config held = (suc held.0, omega arith, slice_get-get_or
 item : (regions : List Region) (k : ℕ) (d : Region) → k < length regions → slice_get regions k ≡ Some (get_or regions k d)
 item regions k d lt = slice_get-get_or regions k d lt
 
-pub clean-lives : (image : Image) (f : Facts) (config : CellConfig) → is_known (image.system.root ∷ configs_of f.cells) config ≡ false → IsClean image.system (configs_of f.cells ++ config ∷ []) → MayLive image f.cells config
-clean-lives image f config unknown clean =
+pub clean_lives : (image : Image) (f : Facts) (config : CellConfig) → is_known (image.system.root ∷ configs_of f.cells) config ≡ false → IsClean image.system (configs_of f.cells ++ config ∷ []) → MayLive image f.cells config
+clean_lives image f config unknown clean =
     let regions : List Region = config.memory_regions in
     let n = numbered image.system (configs_of f.cells ++ config ∷ []) config (Contains-push (configs_of f.cells) config) in
     record {
@@ -56,35 +56,35 @@ same_read c config e = same_Some c config (ap config_read e)
 accepted : (image : Image) (f : Facts) (caller at : ℕ) (config : CellConfig) → creation_of image f caller at ≡ Comes config
     → IsAccepted image.system (configs_of f.cells) config (may_give image f caller) (pages_of image.system.root.memory_regions (configs_of f.cells ++ config ∷ [])) (pool_pages image.system)
 accepted image f caller at config comes =
-    let coming = coming-from_decision image f caller at (ap refused_by comes) in
-    let reads : Reads coming.config ≡ Reads config = sym coming.reads ∙ read-from_comes image f caller at config comes in
+    let coming = coming_from_decision image f caller at (ap refused_by comes) in
+    let reads : Reads coming.config ≡ Reads config = sym coming.reads ∙ read_from_comes image f caller at config comes in
     let P : CellConfig → Type 0 = λ c. IsAccepted image.system (configs_of f.cells) c (may_give image f caller) (pages_of image.system.root.memory_regions (configs_of f.cells ++ c ∷ [])) (pool_pages image.system) in
     subst P (same_read coming.config config reads)
-    (accepted-from image.system (configs_of f.cells) coming.config (may_give image f caller)
+    (accepted_from image.system (configs_of f.cells) coming.config (may_give image f caller)
     (pages_of image.system.root.memory_regions (configs_of f.cells ++ coming.config ∷ [])) (pool_pages image.system) coming.good)
 
 -- nothing is found with it
-pub comes-clean : (image : Image) (f : Facts) (caller at : ℕ) (config : CellConfig) → IsSound image f → creation_of image f caller at ≡ Comes config → IsClean image.system (configs_of f.cells ++ config ∷ [])
-comes-clean image f caller at config sound comes = joins-clean image.system (configs_of f.cells) config sound.cells.clean (accepted image f caller at config comes).clean
+pub comes_clean : (image : Image) (f : Facts) (caller at : ℕ) (config : CellConfig) → IsSound image f → creation_of image f caller at ≡ Comes config → IsClean image.system (configs_of f.cells ++ config ∷ [])
+comes_clean image f caller at config sound comes = joins_clean image.system (configs_of f.cells) config sound.cells.clean (accepted image f caller at config comes).clean
 
-pub decided-lives : (image : Image) (f : Facts) (caller at : ℕ) (config : CellConfig) → IsSound image f → creation_of image f caller at ≡ Comes config → MayLive image f.cells config
-decided-lives image f caller at config sound comes =
-    clean-lives image f config (accepted image f caller at config comes).unknown (comes-clean image f caller at config sound comes)
+pub decided_lives : (image : Image) (f : Facts) (caller at : ℕ) (config : CellConfig) → IsSound image f → creation_of image f caller at ≡ Comes config → MayLive image f.cells config
+decided_lives image f caller at config sound comes =
+    clean_lives image f config (accepted image f caller at config comes).unknown (comes_clean image f caller at config sound comes)
 
 -- ---- until it comes
 
-pub call-open : (image : Image) (f : Facts) (o : OpenCall) → IsSound image f → f.call ≡ Some o → IsOpen image (configs_of f.cells) f.cpu o
-call-open image f o sound call =
+pub call_open : (image : Image) (f : Facts) (o : OpenCall) → IsSound image f → f.call ≡ Some o → IsOpen image (configs_of f.cells) f.cpu o
+call_open image f o sound call =
     let P : Option OpenCall → Type 0 = IsSoundCall image (configs_of f.cells) f.cpu in
     subst P call sound.call
 
 -- the cell that the open call creates
-pub to-come : (image : Image) (f : Facts) (o : OpenCall) (config : CellConfig) → IsSound image f → f.call ≡ Some o → o.phase ≡ ToCreate config → MayCome image (configs_of f.cells) f.cpu o.caller config
-to-come image f o config sound call phase =
+pub to_come : (image : Image) (f : Facts) (o : OpenCall) (config : CellConfig) → IsSound image f → f.call ≡ Some o → o.phase ≡ ToCreate config → MayCome image (configs_of f.cells) f.cpu o.caller config
+to_come image f o config sound call phase =
     let P : Phase → Type 0 = IsInPhase image (configs_of f.cells) f.cpu o.caller o.call in
-    (subst P phase (call-open image f o sound call).phase).1
+    (subst P phase (call_open image f o sound call).phase).1
 
-pub comes-lives : (image : Image) (f : Facts) (o : OpenCall) (config : CellConfig) → IsSound image f → f.call ≡ Some o → o.phase ≡ ToCreate config → MayLive image f.cells config
-comes-lives image f o config sound call phase =
-    let may = to-come image f o config sound call phase in
-    clean-lives image f config may.unknown may.clean
+pub comes_lives : (image : Image) (f : Facts) (o : OpenCall) (config : CellConfig) → IsSound image f → f.call ≡ Some o → o.phase ≡ ToCreate config → MayLive image f.cells config
+comes_lives image f o config sound call phase =
+    let may = to_come image f o config sound call phase in
+    clean_lives image f config may.unknown may.clean

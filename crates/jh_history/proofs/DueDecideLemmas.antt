@@ -24,7 +24,7 @@ use Rattle.jh_history.specs.Phases.{may_give, configs_of, is_locked, unless_refu
 use Rattle.jh_history.specs.Due.{due_at}
 use Rattle.jh_history.specs.Sound.{IsSound}
 use Rattle.jh_history.specs.DueFacts.{HasRead}
-use Rattle.jh_history.proofs.DuePhaseLemmas.{IsLater, IsActIn, IsOfOpen, later-open}
+use Rattle.jh_history.proofs.DuePhaseLemmas.{IsLater, IsActIn, IsOfOpen, later_open}
 
 -- ---- what comes of a create is what it read
 
@@ -51,13 +51,13 @@ by_lock : (image : Image) (f : Facts) (caller : ℕ) (locked : Bool) (read : Rea
 by_lock image f caller true read config e = not_refused EPERM config e
 by_lock image f caller false read config e = by_read image f caller read config e
 
-pub read-from_comes : (image : Image) (f : Facts) (caller at : ℕ) (config : CellConfig) → creation_of image f caller at ≡ Comes config → read_at image f at ≡ Reads config
+pub read_from_comes : (image : Image) (f : Facts) (caller at : ℕ) (config : CellConfig) → creation_of image f caller at ≡ Comes config → read_at image f at ≡ Reads config
 unfolding creation_of
-read-from_comes image f caller at config e = by_lock image f caller (list_any (is_locked f) f.cells) (read_at image f at) config e
+read_from_comes image f caller at config e = by_lock image f caller (list_any (is_locked f) f.cells) (read_at image f at) config e
 
 read_by : (image : Image) (f : Facts) (caller at : ℕ) (c : Creation) → creation_of image f caller at ≡ c → refused_by c ≡ None → HasRead image f caller at
 read_by image f caller at (Refused number) e none = absurd (none-some number (sym none))
-read_by image f caller at (Comes config) e none = record { config = config; comes = e; read = read-from_comes image f caller at config e }
+read_by image f caller at (Comes config) e none = record { config = config; comes = e; read = read_from_comes image f caller at config e }
 
 -- ---- the call
 
@@ -88,7 +88,7 @@ later_decide : (entry : Entry) (refused : Option ℤ) → entry.act ≡ Decide r
 later_decide entry refused is = subst IsLater (sym is) tt
 
 open_decide : (image : Image) (f : Facts) (entry : Entry) (refused : Option ℤ) → IsSound image f → due_at image f entry.cpu ≡ Some entry → entry.act ≡ Decide refused → IsOfOpen image f entry.cpu entry.act
-open_decide image f entry refused sound due is = later-open image f entry sound due (later_decide entry refused is)
+open_decide image f entry refused sound due is = later_open image f entry sound due (later_decide entry refused is)
 
 deciding : (image : Image) (f : Facts) (entry : Entry) (refused : Option ℤ) (o : OpenCall) → IsSound image f → due_at image f entry.cpu ≡ Some entry → entry.act ≡ Decide refused → f.call ≡ Some o → IsDeciding image f entry.cpu refused o
 deciding image f entry refused o sound due is call =
@@ -97,18 +97,18 @@ deciding image f entry refused o sound due is call =
     let P : OpenCall → Type 0 = IsDeciding image f entry.cpu refused in
     subst P (same_Some h.call o (sym h.is ∙ call)) (record { caller = h.caller; phase = parts.0; why = parts.1 })
 
-pub decide-call : (image : Image) (f : Facts) (entry : Entry) (refused : Option ℤ) → IsSound image f → due_at image f entry.cpu ≡ Some entry → entry.act ≡ Decide refused → f.call ≢ None
-decide-call image f entry refused sound due is none =
+pub decide_call : (image : Image) (f : Facts) (entry : Entry) (refused : Option ℤ) → IsSound image f → due_at image f entry.cpu ≡ Some entry → entry.act ≡ Decide refused → f.call ≢ None
+decide_call image f entry refused sound due is none =
     let h = open_decide image f entry refused sound due is in
     absurd (none-some h.call (sym none ∙ h.is))
 
-pub decide-caller : (image : Image) (f : Facts) (entry : Entry) (refused : Option ℤ) (o : OpenCall) → IsSound image f → due_at image f entry.cpu ≡ Some entry → entry.act ≡ Decide refused → f.call ≡ Some o → o.caller ≡ entry.cpu
-decide-caller image f entry refused o sound due is call = (deciding image f entry refused o sound due is call).caller
+pub decide_caller : (image : Image) (f : Facts) (entry : Entry) (refused : Option ℤ) (o : OpenCall) → IsSound image f → due_at image f entry.cpu ≡ Some entry → entry.act ≡ Decide refused → f.call ≡ Some o → o.caller ≡ entry.cpu
+decide_caller image f entry refused o sound due is call = (deciding image f entry refused o sound due is call).caller
 
-pub decide-phase : (image : Image) (f : Facts) (entry : Entry) (refused : Option ℤ) (o : OpenCall) → IsSound image f → due_at image f entry.cpu ≡ Some entry → entry.act ≡ Decide refused → f.call ≡ Some o → o.phase ≡ ToDecide
-decide-phase image f entry refused o sound due is call = (deciding image f entry refused o sound due is call).phase
+pub decide_phase : (image : Image) (f : Facts) (entry : Entry) (refused : Option ℤ) (o : OpenCall) → IsSound image f → due_at image f entry.cpu ≡ Some entry → entry.act ≡ Decide refused → f.call ≡ Some o → o.phase ≡ ToDecide
+decide_phase image f entry refused o sound due is call = (deciding image f entry refused o sound due is call).phase
 
-pub decide-goes_on : (image : Image) (f : Facts) (entry : Entry) (o : OpenCall) (at : ℕ) → IsSound image f → due_at image f entry.cpu ≡ Some entry → entry.act ≡ Decide None → f.call ≡ Some o → o.call ≡ Create at → HasRead image f o.caller at
-decide-goes_on image f entry o at sound due is call create =
+pub decide_goes_on : (image : Image) (f : Facts) (entry : Entry) (o : OpenCall) (at : ℕ) → IsSound image f → due_at image f entry.cpu ≡ Some entry → entry.act ≡ Decide None → f.call ≡ Some o → o.call ≡ Create at → HasRead image f o.caller at
+decide_goes_on image f entry o at sound due is call create =
     let h = deciding image f entry None o sound due is call in
     read_by image f o.caller at (creation_of image f o.caller at) refl (sym (h.why ∙ ap (decision image f o.caller) create))

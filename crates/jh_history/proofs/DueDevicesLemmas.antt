@@ -4,11 +4,11 @@ use Rattle.std.specs.Prelude.{IfSome, All, Contains, find, option_map, option_an
 use Rattle.std.proofs.lemmas.Bool.{both_ways, cond_both}
 use Rattle.std.proofs.lemmas.Option.{none-some, same_Some}
 use Rattle.std.proofs.lemmas.List.Elements.{All-contains, Contains-push}
-use Rattle.jh_num.proofs.Lists.{IsFound-from_find, Contains-map, Contains-tail}
+use Rattle.jh_num.proofs.Lists.{IsFound_from_find, Contains_map, Contains_tail}
 use Rattle.jh_cellcfg.specs.declared.config.CellConfig.{CellConfig}
 use Rattle.jh_cellcfg.specs.declared.live.Live.{Live}
 use Rattle.jh_cellcfg.specs.Lives.{has_id}
-use Rattle.jh_check.proofs.JoinLemmas.{clean-from_nothing}
+use Rattle.jh_check.proofs.JoinLemmas.{clean_from_nothing}
 use Rattle.jh_cpu.specs.declared.cpu.Cpu.{Cpu}
 use Rattle.jh_call.specs.declared.call.Call.{Call}
 use Rattle.jh_call.specs.declared.call.Call.TheVariants.{Create, Start, Loadable, Destroy, Info, State, CpuInfo, Unknown}
@@ -44,21 +44,21 @@ use Rattle.jh_history.specs.Lives.{live_in}
 use Rattle.jh_history.specs.Phases.{configs_of, creation_of}
 use Rattle.jh_history.specs.Sound.{IsOfDevice, IsSoundEndpoint, IsSoundCall, IsInPhase, IsSound}
 use Rattle.jh_history.specs.DueFacts.{IsWordOf}
-use Rattle.jh_history.proofs.SoundDueLemmas.{next-from_due, IsOfProgram, IsOfState}
-use Rattle.jh_history.proofs.SpecsLemmas.{All-from_held, devices-good, specs-within, specs-apart, specs-apart_new, held-numbered}
-use Rattle.jh_history.proofs.DuePhaseLemmas.{IsOf, IsActIn, due-parts, phase-act}
-use Rattle.jh_history.proofs.DueComesLemmas.{comes-clean}
+use Rattle.jh_history.proofs.SoundDueLemmas.{next_from_due, IsOfProgram, IsOfState}
+use Rattle.jh_history.proofs.SpecsLemmas.{All_from_held, devices_good, specs_within, specs_apart, specs_apart_new, held_numbered}
+use Rattle.jh_history.proofs.DuePhaseLemmas.{IsOf, IsActIn, due_parts, phase_act_holds}
+use Rattle.jh_history.proofs.DueComesLemmas.{comes_clean}
 
 -- ---- at opening
 
-pub opening-joins : (image : Image) → IsAdmitted image → MayChange Join [] image.system.root
-opening-joins image admitted =
-    let clean = clean-from_nothing image.system [] admitted.system.clean in
+pub opening_joins : (image : Image) → IsAdmitted image → MayChange Join [] image.system.root
+opening_joins image admitted =
+    let clean = clean_from_nothing image.system [] admitted.system.clean in
     record {
-      good = devices-good image.system [] 0 image.system.root clean refl;
-      within = specs-within image.system [] 0 image.system.root clean refl;
-      new = λ _. All-from_held (MayJoinThem []) (specs_of image.system.root) (λ spec held k d below. absurd (omega arith));
-      apart = λ _. specs-apart image.system [] 0 image.system.root clean refl;
+      good = devices_good image.system [] 0 image.system.root clean refl;
+      within = specs_within image.system [] 0 image.system.root clean refl;
+      new = λ _. All_from_held (MayJoinThem []) (specs_of image.system.root) (λ spec held k d below. absurd (omega arith));
+      apart = λ _. specs_apart image.system [] 0 image.system.root clean refl;
     }
 
 -- ---- at a Commit
@@ -67,11 +67,11 @@ opening-joins image admitted =
 live_changes : (image : Image) (f : Facts) (change : DeviceChange) (config : CellConfig) → IsSound image f → (change ≡ Join → ⊥) → Contains (configs_of f.cells) config → MayChange change f.endpoints config
 live_changes image f change config sound other held =
     let configs : List CellConfig = configs_of f.cells in
-    let all : Contains (image.system.root ∷ configs) config = Contains-tail image.system.root configs config held in
-    let numbered = held-numbered image.system configs config all in
+    let all : Contains (image.system.root ∷ configs) config = Contains_tail image.system.root configs config held in
+    let numbered = held_numbered image.system configs config all in
     record {
-      good = devices-good image.system configs all.0 config sound.cells.clean numbered;
-      within = specs-within image.system configs all.0 config sound.cells.clean numbered;
+      good = devices_good image.system configs all.0 config sound.cells.clean numbered;
+      within = specs_within image.system configs all.0 config sound.cells.clean numbered;
       new = λ joins. absurd (other joins);
       apart = λ joins. absurd (other joins);
     }
@@ -82,30 +82,30 @@ coming_changes image f caller at config sound phase =
     let configs : List CellConfig = configs_of f.cells in
     let may = phase.1 in
     let back : Contains (image.system.root ∷ (configs ++ config ∷ [])) config = Contains-push (image.system.root ∷ configs) config in
-    let numbered = held-numbered image.system (configs ++ config ∷ []) config back in
+    let numbered = held_numbered image.system (configs ++ config ∷ []) config back in
     record {
-      good = devices-good image.system (configs ++ config ∷ []) back.0 config may.clean numbered;
-      within = specs-within image.system (configs ++ config ∷ []) back.0 config may.clean numbered;
-      new = λ _. All-from_held (MayJoinThem f.endpoints) (specs_of config)
-          (λ spec held. All-from_held (λ (e : Endpoint). AreApart e.spec spec) f.endpoints
+      good = devices_good image.system (configs ++ config ∷ []) back.0 config may.clean numbered;
+      within = specs_within image.system (configs ++ config ∷ []) back.0 config may.clean numbered;
+      new = λ _. All_from_held (MayJoinThem f.endpoints) (specs_of config)
+          (λ spec held. All_from_held (λ (e : Endpoint). AreApart e.spec spec) f.endpoints
           (λ e there.
           let own : IsOfDevice image configs e.spec = All-contains (λ (x : Endpoint). IsOfDevice image configs x.spec) f.endpoints e sound.endpoints.own there in
-          specs-apart_new image.system configs config own.0 e.spec spec may.clean may.unknown own.1 own.2 held));
-      apart = λ _. specs-apart image.system (configs ++ config ∷ []) back.0 config may.clean numbered;
+          specs_apart_new image.system configs config own.0 e.spec spec may.clean may.unknown own.1 own.2 held));
+      apart = λ _. specs_apart image.system (configs ++ config ∷ []) back.0 config may.clean numbered;
     }
 
 held_by : (cells : List Live) (id : ℕ) (o : Option Live) (c : CellConfig) → find (has_id id) cells ≡ o → option_map (λ (live : Live). live.config) o ≡ Some c → Contains (configs_of cells) c
 held_by cells id None c is h = absurd (none-some c h)
 held_by cells id (Some live) c is h =
     let P : CellConfig → Type 0 = Contains (configs_of cells) in
-    subst P (same_Some live.config c h) (Contains-map (λ (l : Live). l.config) cells live (IsFound-from_find (has_id id) cells live is).held)
+    subst P (same_Some live.config c h) (Contains_map (λ (l : Live). l.config) cells live (IsFound_from_find (has_id id) cells live is).held)
 
-pub live-held : (cells : List Live) (id : ℕ) (c : CellConfig) → live_in cells id ≡ Some c → Contains (configs_of cells) c
-live-held cells id c h = held_by cells id (find (has_id id) cells) c refl h
+pub live_held : (cells : List Live) (id : ℕ) (c : CellConfig) → live_in cells id ≡ Some c → Contains (configs_of cells) c
+live_held cells id c h = held_by cells id (find (has_id id) cells) c refl h
 
 found_changes : (image : Image) (f : Facts) (change : DeviceChange) (id : ℕ) (o : Option CellConfig) → IsSound image f → (change ≡ Join → ⊥) → live_in f.cells id ≡ o → IfSome o (MayChange change f.endpoints)
 found_changes image f change id None sound other is = tt
-found_changes image f change id (Some config) sound other is = live_changes image f change config sound other (live-held f.cells id config is)
+found_changes image f change id (Some config) sound other is = live_changes image f change config sound other (live_held f.cells id config is)
 
 abbrev joins : DeviceChange → Bool
 joins Join = true
@@ -151,16 +151,16 @@ open_changes : (image : Image) (f : Facts) (call : Option OpenCall) (act : Act) 
 open_changes image f None act sound h = tt
 open_changes image f (Some o) act sound h = act_changes image f o act sound h.phase
 
-pub commit-changes : (image : Image) (f : Facts) (act : Act) → IsSound image f → IfSome (changing_by f.cells f.call act) (MayChange (change_by f.call) f.endpoints)
-commit-changes image f act sound = open_changes image f f.call act sound sound.call
+pub commit_changes : (image : Image) (f : Facts) (act : Act) → IsSound image f → IfSome (changing_by f.cells f.call act) (MayChange (change_by f.call) f.endpoints)
+commit_changes image f act sound = open_changes image f f.call act sound sound.call
 
 -- ---- of a cell that comes
 
-pub comes-good : (image : Image) (f : Facts) (caller at : ℕ) (config : CellConfig) → IsSound image f → creation_of image f caller at ≡ Coming config → HasGoodDevices config
-comes-good image f caller at config sound comes =
+pub comes_good : (image : Image) (f : Facts) (caller at : ℕ) (config : CellConfig) → IsSound image f → creation_of image f caller at ≡ Coming config → HasGoodDevices config
+comes_good image f caller at config sound comes =
     let all : List CellConfig = configs_of f.cells ++ config ∷ [] in
     let back : Contains (image.system.root ∷ all) config = Contains-push (image.system.root ∷ configs_of f.cells) config in
-    devices-good image.system all back.0 config (comes-clean image f caller at config sound comes) (held-numbered image.system all config back)
+    devices_good image.system all back.0 config (comes_clean image f caller at config sound comes) (held_numbered image.system all config back)
 
 -- ---- an interrupt
 
@@ -211,14 +211,14 @@ due_next : (image : Image) (f : Facts) (call : Option OpenCall) (cpu : ℕ) (act
 due_next image f None cpu act h = state_next image f (f.cpu cpu) cpu act h
 due_next image f (Some o) cpu act h =
     ⊎_elim
-    (λ made. phase_next image f (f.cpu cpu).owner o.caller o.call o.phase act (phase-act image f (is_idle_but image f o.caller) o.caller o.call o.phase act made.1))
+    (λ made. phase_next image f (f.cpu cpu).owner o.caller o.call o.phase act (phase_act_holds image f (is_idle_but image f o.caller) o.caller o.call o.phase act made.1))
     (λ other. state_next image f (f.cpu cpu) cpu act other.1)
     h
 
-pub interrupt-next : (image : Image) (f : Facts) (entry : Entry) → IsSound image f → due_at image f entry.cpu ≡ Some entry → IsNextOf entry.cell f.endpoints entry.act
-interrupt-next image f entry sound due =
+pub interrupt_next : (image : Image) (f : Facts) (entry : Entry) → IsSound image f → due_at image f entry.cpu ≡ Some entry → IsNextOf entry.cell f.endpoints entry.act
+interrupt_next image f entry sound due =
     let P : ℕ → Type 0 = λ cell. IsNextOf cell f.endpoints entry.act in
-    subst P (sym (next-from_due image f entry due).cell) (due_next image f f.call entry.cpu entry.act (due-parts image f entry sound due))
+    subst P (sym (next_from_due image f entry due).cell) (due_next image f f.call entry.cpu entry.act (due_parts image f entry sound due))
 
 -- ---- a word of a state table
 
@@ -233,12 +233,12 @@ endpoint_word : (endpoints : List Endpoint) (cell : ℕ) (register : InWindow) (
     → IfSome (option_and_then (λ (e : Endpoint). slot_written e register.bar register.at (value % 2 ^ 32)) o) (IsWordOf endpoints)
 endpoint_word endpoints cell register value None sound is = tt
 endpoint_word endpoints cell register value (Some e) sound is =
-    let there = (IsFound-from_find (λ (x : Endpoint). is_device cell register.device x.spec) endpoints e is).held in
+    let there = (IsFound_from_find (λ (x : Endpoint). is_device cell register.device x.spec) endpoints e is).held in
     slot_word endpoints e register.bar register.at (value % 2 ^ 32) there (All-contains IsSoundEndpoint endpoints e sound there)
 
-pub reach-word : (image : Image) (f : Facts) (id value : ℕ) (found : Reach) → IsSound image f → IfSome (slot_of_reach (devices_of image f id) found value) (IsWordOf f.endpoints)
-reach-word image f id value (Memory places) sound = tt
-reach-word image f id value (Subpage places) sound = tt
-reach-word image f id value (Config bytes) sound = tt
-reach-word image f id value (Window register) sound = endpoint_word f.endpoints id register value (endpoint_at id register.device f.endpoints) sound.endpoints.sound refl
-reach-word image f id value Nothing sound = tt
+pub reach_word : (image : Image) (f : Facts) (id value : ℕ) (found : Reach) → IsSound image f → IfSome (slot_of_reach (devices_of image f id) found value) (IsWordOf f.endpoints)
+reach_word image f id value (Memory places) sound = tt
+reach_word image f id value (Subpage places) sound = tt
+reach_word image f id value (Config bytes) sound = tt
+reach_word image f id value (Window register) sound = endpoint_word f.endpoints id register value (endpoint_at id register.device f.endpoints) sound.endpoints.sound refl
+reach_word image f id value Nothing sound = tt

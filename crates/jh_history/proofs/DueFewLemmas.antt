@@ -6,7 +6,7 @@ use Rattle.std.specs.List.{AllByRecursion, IsDistinct, list_any}
 use Rattle.std.proofs.lemmas.Bool.{both_ways, or_parts, or_cases, eqb-true, eq-eqb, false_from_ne_true}
 use Rattle.std.proofs.lemmas.List.{length-map, length-append}
 use Rattle.std.proofs.lemmas.Map.Steps.{length-le_from_distinct_below}
-use Rattle.jh_num.proofs.Lists.{Contains-head, Contains-tail}
+use Rattle.jh_num.proofs.Lists.{Contains_head, Contains_tail}
 use Rattle.jh_cellcfg.specs.declared.config.CellConfig.{CellConfig}
 use Rattle.jh_cellcfg.specs.declared.live.Live.{Live}
 use Rattle.jh_cellcfg.specs.Cells.{name_of, is_cpu_set}
@@ -19,10 +19,10 @@ use Rattle.jh_history.specs.Lives.{is_on_board}
 use Rattle.jh_history.specs.Phases.{configs_of}
 use Rattle.jh_history.specs.Sound.{AreTwo, AreSoundCells, HasItsCpus, AreOwned, IsSound}
 use Rattle.jh_history.specs.DueFacts.{NamesCpu}
-use Rattle.jh_history.proofs.SoundCellsLemmas.{cells-joined}
-use Rattle.jh_history.proofs.SoundDecideLemmas.{board-few}
-use Rattle.jh_history.proofs.SoundCommitLemmas.{cell_lent, owned-lent}
-use Rattle.jh_history.proofs.DueComesLemmas.{call-open, to-come}
+use Rattle.jh_history.proofs.SoundCellsLemmas.{cells_joined}
+use Rattle.jh_history.proofs.SoundDecideLemmas.{board_few}
+use Rattle.jh_history.proofs.SoundCommitLemmas.{cell_lent, owned_lent}
+use Rattle.jh_history.proofs.DueComesLemmas.{call_open, to_come}
 
 -- ---- a CPU of each
 
@@ -44,8 +44,8 @@ named_by (config ∷ configs) names q h =
     ⊎_elim
     (λ here.
     let P : ℕ → Type 0 = λ k. is_cpu_set config.cpu_set k ≡ true in
-    (config, Contains-head config configs, subst P (sym (eqb-true q names.0.0 here)) names.0.1))
-    (λ later. let r = named_by configs names.1 q later in (r.0, Contains-tail config configs r.0 r.1, r.2))
+    (config, Contains_head config configs, subst P (sym (eqb-true q names.0.0 here)) names.0.1))
+    (λ later. let r = named_by configs names.1 q later in (r.0, Contains_tail config configs r.0 r.1, r.2))
     (or_cases (eqb q names.0.0) (list_any (eqb q) (cpus_of configs names.1)) h)
 
 -- ---- they differ, since their owners do
@@ -57,8 +57,8 @@ owners : (image : Image) (cpu : ℕ → Cpu) (configs : List CellConfig) (names 
     → map (λ i. (cpu i).owner) (cpus_of configs names) ≡ map number configs
 owners image cpu [] names has = refl
 owners image cpu (config ∷ configs) names has =
-    let here : (cpu names.0.0).owner ≡ config.id = (has config (Contains-head config configs)).owned names.0.0 names.0.1 in
-    let rest : map (λ i. (cpu i).owner) (cpus_of configs names.1) ≡ map number configs = owners image cpu configs names.1 (λ c held. has c (Contains-tail config configs c held)) in
+    let here : (cpu names.0.0).owner ≡ config.id = (has config (Contains_head config configs)).owned names.0.0 names.0.1 in
+    let rest : map (λ i. (cpu i).owner) (cpus_of configs names.1) ≡ map number configs = owners image cpu configs names.1 (λ c held. has c (Contains_tail config configs c held)) in
     ap (λ (n : ℕ). n ∷ map (λ i. (cpu i).owner) (cpus_of configs names.1)) here ∙ ap (λ (ns : List ℕ). config.id ∷ ns) rest
 
 ids_apart : (config : CellConfig) (configs : List CellConfig) → All (AreTwo config) configs → AllByRecursion (λ n. eqb config.id n ≡ false) (map number configs)
@@ -100,8 +100,8 @@ owned_few image configs cpu own sound owned names on root =
     let below : (q : ℕ) → list_any (eqb q) all ≡ true → q < 16 =
     λ q h.
     ⊎_elim
-    (λ is. let P : ℕ → Type 0 = λ k. k < 16 in subst P (sym (eqb-true q own is)) (board-few image configs sound.clean own on))
-    (λ later. let r = named_by configs names q later in board-few image configs sound.clean q ((owned.cells r.0 r.1).board q r.2))
+    (λ is. let P : ℕ → Type 0 = λ k. k < 16 in subst P (sym (eqb-true q own is)) (board_few image configs sound.clean own on))
+    (λ later. let r = named_by configs names q later in board_few image configs sound.clean q ((owned.cells r.0 r.1).board q r.2))
     (or_cases (eqb q own) (list_any (eqb q) (cpus_of configs names)) h) in
     let few : length all ≤ 16 = length-le_from_distinct_below all 16 distinct below in
     let as_many : length (cpus_of configs names) ≡ length configs = cpus_length configs names in
@@ -114,16 +114,16 @@ names_of (live ∷ cells) all config names = (all 0 live (omega arith), names_of
 lent_caller : (config : CellConfig) (cpu : ℕ → Cpu) (caller : ℕ) → is_cpu_set config.cpu_set caller ≡ false → cell_lent config cpu caller ≡ cpu caller
 lent_caller config cpu caller other = rw other refl
 
-pub few-cells : (image : Image) (f : Facts) (o : OpenCall) (config : CellConfig) → IsSound image f → All (λ (live : Live). NamesCpu live.config) f.cells → NamesCpu config → f.call ≡ Some o → o.phase ≡ ToCreate config → length f.cells < 15
-few-cells image f o config sound all names call phase =
+pub few_cells : (image : Image) (f : Facts) (o : OpenCall) (config : CellConfig) → IsSound image f → All (λ (live : Live). NamesCpu live.config) f.cells → NamesCpu config → f.call ≡ Some o → o.phase ≡ ToCreate config → length f.cells < 15
+few_cells image f o config sound all names call phase =
     let configs : List CellConfig = configs_of f.cells in
-    let caller = (call-open image f o sound call).caller in
-    let may = to-come image f o config sound call phase in
+    let caller = (call_open image f o sound call).caller in
+    let may = to_come image f o config sound call phase in
     let other : is_cpu_set config.cpu_set o.caller ≡ false = false_from_ne_true (is_cpu_set config.cpu_set o.caller) (λ set. may.other o.caller set refl) in
     let few : length (configs ++ config ∷ []) < 16 =
     owned_few image (configs ++ config ∷ []) (cell_lent config f.cpu) o.caller
-    (cells-joined image.system configs config sound.cells may.unknown may.clean may.room)
-    (owned-lent image configs f.cpu o.caller config sound.cells sound.cpus may)
+    (cells_joined image.system configs config sound.cells may.unknown may.clean may.room)
+    (owned_lent image configs f.cpu o.caller config sound.cells sound.cpus may)
     (names_of f.cells all config names)
     caller.board
     (ap (λ (c : Cpu). c.owner) (lent_caller config f.cpu o.caller other) ∙ caller.owner) in

@@ -3,7 +3,7 @@ use Rattle.std.proofs.Common.{◌≡◌, ℕ, List, Bool, true, false, cond, ◌
 use Rattle.std.specs.Prelude.{Contains, find, option_map, option_and_then}
 use Rattle.std.proofs.lemmas.Bool.{both_ways, eq-eqb}
 use Rattle.std.proofs.lemmas.Option.{none-some, same_Some}
-use Rattle.jh_num.proofs.Lists.{IsFound-from_find, Contains-from_map}
+use Rattle.jh_num.proofs.Lists.{IsFound_from_find, Contains_from_map}
 use Rattle.jh_cellcfg.specs.declared.config.CellConfig.{CellConfig}
 use Rattle.jh_cellcfg.specs.declared.live.Live.{Live}
 use Rattle.jh_cellcfg.specs.Lives.{has_id}
@@ -32,30 +32,30 @@ use Rattle.jh_history.specs.Phases.{configs_of, decision}
 use Rattle.jh_history.specs.Due.{due_at}
 use Rattle.jh_history.specs.Sound.{IsOwner, IsSoundCall, IsInPhase, IsSound}
 use Rattle.jh_history.specs.DueFacts.{IsLive, HasPage}
-use Rattle.jh_history.proofs.SoundDueLemmas.{next-from_due}
-use Rattle.jh_history.proofs.DuePhaseLemmas.{IsLater, IsActIn, later-open}
+use Rattle.jh_history.proofs.SoundDueLemmas.{next_from_due}
+use Rattle.jh_history.proofs.DuePhaseLemmas.{IsLater, IsActIn, later_open}
 
 -- ---- cells that live
 
 live_config : (cells : List Live) (config : CellConfig) (id : ℕ) → Contains (configs_of cells) config → config.id ≡ id → IsLive cells id
 live_config cells config id held named =
-    let found = Contains-from_map (λ (live : Live). live.config) cells config held in
+    let found = Contains_from_map (λ (live : Live). live.config) cells config held in
     (found.0, found.1, ap (λ (c : CellConfig). c.id) found.2 ∙ named)
 
 found_by : (cells : List Live) (id : ℕ) (o : Option Live) (c : CellConfig) → find (has_id id) cells ≡ o → option_map (λ (live : Live). live.config) o ≡ Some c → IsLive cells c.id
 found_by cells id None c is h = absurd (none-some c h)
 found_by cells id (Some live) c is h =
-    (live, (IsFound-from_find (has_id id) cells live is).held, ap (λ (x : CellConfig). x.id) (same_Some live.config c h))
+    (live, (IsFound_from_find (has_id id) cells live is).held, ap (λ (x : CellConfig). x.id) (same_Some live.config c h))
 
-pub live-found : (cells : List Live) (id : ℕ) (c : CellConfig) → live_in cells id ≡ Some c → IsLive cells c.id
-live-found cells id c h = found_by cells id (find (has_id id) cells) c refl h
+pub live_found : (cells : List Live) (id : ℕ) (c : CellConfig) → live_in cells id ≡ Some c → IsLive cells c.id
+live_found cells id c h = found_by cells id (find (has_id id) cells) c refl h
 
 -- the cell that a call names lives
 named_live : (cells : List Live) (call : Call) (c : CellConfig) → named_cell cells call ≡ Some c → IsLive cells c.id
 named_live cells (Create at) c h = absurd (none-some c h)
-named_live cells (Start id) c h = live-found cells id c h
-named_live cells (Loadable id) c h = live-found cells id c h
-named_live cells (Destroy id) c h = live-found cells id c h
+named_live cells (Start id) c h = live_found cells id c h
+named_live cells (Loadable id) c h = live_found cells id c h
+named_live cells (Destroy id) c h = live_found cells id c h
 named_live cells (Info kind) c h = absurd (none-some c h)
 named_live cells (State id) c h = absurd (none-some c h)
 named_live cells (CpuInfo cpu kind) c h = absurd (none-some c h)
@@ -109,8 +109,8 @@ commit_create window at cells (ToFinish answer) write h = absurd (none-some writ
 
 commit_cell : (window : ℕ) (cells : List Live) (call : Call) (phase : Phase) (write : PageWrite) → committing window cells call phase ≡ Some write → IsComing cells phase write.cell
 commit_cell window cells (Create at) phase write h = commit_create window at cells phase write h
-commit_cell window cells (Start id) phase write h = inl (mapped_live cells (λ c. Fresh STATE_RUNNING c.console window) (live_in cells id) write (live-found cells id) h)
-commit_cell window cells (Loadable id) phase write h = inl (mapped_live cells (λ _. NewState STATE_SHUT_DOWN) (live_in cells id) write (live-found cells id) h)
+commit_cell window cells (Start id) phase write h = inl (mapped_live cells (λ c. Fresh STATE_RUNNING c.console window) (live_in cells id) write (live_found cells id) h)
+commit_cell window cells (Loadable id) phase write h = inl (mapped_live cells (λ _. NewState STATE_SHUT_DOWN) (live_in cells id) write (live_found cells id) h)
 commit_cell window cells (Destroy id) phase write h = absurd (none-some write h)
 commit_cell window cells (Info kind) phase write h = absurd (none-some write h)
 commit_cell window cells (State id) phase write h = absurd (none-some write h)
@@ -137,7 +137,7 @@ owner_live image f owner h other =
 entry_live : (image : Image) (f : Facts) (entry : Entry) → IsSound image f → due_at image f entry.cpu ≡ Some entry → eqb entry.cell image.system.root.id ≡ false → IsLive f.cells entry.cell
 entry_live image f entry sound due other =
     let P : ℕ → Type 0 = IsOwner image (configs_of f.cells) in
-    owner_live image f entry.cell (subst P (sym (next-from_due image f entry due).cell) (sound.cpus.others entry.cpu)) other
+    owner_live image f entry.cell (subst P (sym (next_from_due image f entry due).cell) (sound.cpus.others entry.cpu)) other
 
 failed_by : (image : Image) (f : Facts) (entry : Entry) (root left : Bool) (write : PageWrite) → (eqb entry.cell image.system.root.id ≡ false → IsLive f.cells entry.cell) → eqb entry.cell image.system.root.id ≡ root
     → cond (root || left) None (Some (record { cell = entry.cell; change = NewState STATE_FAILED })) ≡ Some write → IsLive f.cells write.cell
@@ -176,7 +176,7 @@ told_config image f caller id call (ToFinish answer) act h is phase = not_tellin
 
 told_live : (image : Image) (f : Facts) (entry : Entry) (id : ℕ) → IsSound image f → due_at image f entry.cpu ≡ Some entry → IsLater entry.act → tells entry.act ≡ Some id → IsLive f.cells id
 told_live image f entry id sound due later is =
-    let h = later-open image f entry sound due later in
+    let h = later_open image f entry sound due later in
     let P : Option OpenCall → Type 0 = IsSoundCall image (configs_of f.cells) f.cpu in
     told_config image f h.call.caller id h.call.call h.call.phase entry.act h.phase is (subst P h.is sound.call).phase
 
@@ -211,5 +211,5 @@ page_by image f entry write (Noted id Other) sound due is h = absurd (none-some 
 page_by image f entry write (Noted id Silent) sound due is h = inl (note_live image f entry id (Noted id Silent) (NewState STATE_FAILED) write sound due is tt refl h)
 page_by image f entry write (Finish answer) sound due is h = absurd (none-some write h)
 
-pub page-cells : (image : Image) (f : Facts) (entry : Entry) (write : PageWrite) → IsSound image f → due_at image f entry.cpu ≡ Some entry → page_write_by image f entry entry.act ≡ Some write → HasPage f entry.act write.cell
-page-cells image f entry write sound due h = page_by image f entry write entry.act sound due refl h
+pub page_cells : (image : Image) (f : Facts) (entry : Entry) (write : PageWrite) → IsSound image f → due_at image f entry.cpu ≡ Some entry → page_write_by image f entry entry.act ≡ Some write → HasPage f entry.act write.cell
+page_cells image f entry write sound due h = page_by image f entry write entry.act sound due refl h

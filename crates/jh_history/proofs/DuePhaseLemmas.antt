@@ -19,7 +19,7 @@ use Rattle.jh_history.specs.Facts.{Facts}
 use Rattle.jh_history.specs.Due.{due_at, caller_act, state_act, is_idle_but}
 use Rattle.jh_history.specs.Phases.{phase_act, keeps_decide, keeps_commit, configs_of, decision, settled_of, heard_of}
 use Rattle.jh_history.specs.Sound.{IsSoundCall, IsSound}
-use Rattle.jh_history.proofs.SoundDueLemmas.{next-from_due, Comes, IsOfProgram, IsOfState, state-parts, IsOfCall, call-parts}
+use Rattle.jh_history.proofs.SoundDueLemmas.{next_from_due, IsOutcomeOf, IsOfProgram, IsOfState, state_parts, IsOfCall, call_parts}
 
 -- ---- what is due, by the call that is open
 
@@ -30,11 +30,11 @@ IsOf image f (Some o) cpu act = IsOfCall image f o cpu act
 parts_by : (image : Image) (f : Facts) (call : Option OpenCall) (cpu : ℕ) (act : Act) → IsSoundCall image (configs_of f.cells) f.cpu call
     → option_map_or (caller_act image f (f.cpu cpu)) (option_and_then (λ (o : OpenCall). cond (eqb o.caller cpu) (Some o) None) call) (state_act image f (f.cpu cpu) cpu) ≡ Some act
     → IsOf image f call cpu act
-parts_by image f None cpu act sound h = state-parts image f (f.cpu cpu) cpu act h
-parts_by image f (Some o) cpu act sound h = call-parts image f o cpu act sound.caller h
+parts_by image f None cpu act sound h = state_parts image f (f.cpu cpu) cpu act h
+parts_by image f (Some o) cpu act sound h = call_parts image f o cpu act sound.caller h
 
-pub due-parts : (image : Image) (f : Facts) (entry : Entry) → IsSound image f → due_at image f entry.cpu ≡ Some entry → IsOf image f f.call entry.cpu entry.act
-due-parts image f entry sound due = parts_by image f f.call entry.cpu entry.act sound.call (next-from_due image f entry due).act
+pub due_parts : (image : Image) (f : Facts) (entry : Entry) → IsSound image f → due_at image f entry.cpu ≡ Some entry → IsOf image f f.call entry.cpu entry.act
+due_parts image f entry sound due = parts_by image f f.call entry.cpu entry.act sound.call (next_from_due image f entry due).act
 
 -- ---- phases behind the first
 
@@ -56,7 +56,7 @@ IsLater (Noted id how) = Unit {0}
 IsLater (Finish answer) = Unit {0}
 
 -- no program comes to it
-not_of_program : (image : Image) (cell : ℕ) (op : Op) (act : Act) → IsLater act → Comes image cell op act → ⊥
+not_of_program : (image : Image) (cell : ℕ) (op : Op) (act : Act) → IsLater act → IsOutcomeOf image cell op act → ⊥
 not_of_program image cell op (Read width at got) later comes = later
 not_of_program image cell op (Write width at value ok) later comes = later
 not_of_program image cell op (Fetch at got) later comes = later
@@ -95,22 +95,22 @@ unless : (b : Bool) (other act : Act) → cond b None (Some other) ≡ Some act 
 unless true other act h = absurd (none-some act h)
 unless false other act h = sym (same_Some other act h)
 
-settle_act : (o : Option Settled) (act : Act) → option_map (λ (how : Settled). Settle how) o ≡ Some act → (how : Settled) × (act ≡ Settle how)
+pub settle_act : (o : Option Settled) (act : Act) → option_map (λ (how : Settled). Settle how) o ≡ Some act → (how : Settled) × (act ≡ Settle how)
 settle_act None act h = absurd (none-some act h)
 settle_act (Some how) act h = (how, sym (same_Some (Settle how) act h))
 
-noted_act : (id : ℕ) (o : Option Heard) (act : Act) → option_map (λ (how : Heard). Noted id how) o ≡ Some act → (how : Heard) × (act ≡ Noted id how)
+pub noted_act : (id : ℕ) (o : Option Heard) (act : Act) → option_map (λ (how : Heard). Noted id how) o ≡ Some act → (how : Heard) × (act ≡ Noted id how)
 noted_act id None act h = absurd (none-some act h)
 noted_act id (Some how) act h = (how, sym (same_Some (Noted id how) act h))
 
-pub phase-act : (image : Image) (f : Facts) (idle : Bool) (caller : ℕ) (call : Call) (phase : Phase) (act : Act) → phase_act image f idle caller call phase ≡ Some act → IsActIn image f caller call phase act
-phase-act image f idle caller call ToDecide act h = unless (any_below (λ i. keeps_decide image caller i (f.cpu i)) 16) (Decide (decision image f caller call)) act h
-phase-act image f idle caller call (ToSettle waited) act h = settle_act (settled_of f idle call waited) act h
-phase-act image f idle caller call (ToCreate config) act h = sym (same_Some Commit act h)
-phase-act image f idle caller call ToCommit act h = unless (any_below (λ i. keeps_commit image call i (f.cpu i)) 16) Commit act h
-phase-act image f idle caller call (ToNote id about answer) act h = sym (same_Some (Note id) act h)
-phase-act image f idle caller call (ToNoted id about answer waited) act h = noted_act id (heard_of f idle id waited) act h
-phase-act image f idle caller call (ToFinish answer) act h = sym (same_Some (Finish answer) act h)
+pub phase_act_holds : (image : Image) (f : Facts) (idle : Bool) (caller : ℕ) (call : Call) (phase : Phase) (act : Act) → phase_act image f idle caller call phase ≡ Some act → IsActIn image f caller call phase act
+phase_act_holds image f idle caller call ToDecide act h = unless (any_below (λ i. keeps_decide image caller i (f.cpu i)) 16) (Decide (decision image f caller call)) act h
+phase_act_holds image f idle caller call (ToSettle waited) act h = settle_act (settled_of f idle call waited) act h
+phase_act_holds image f idle caller call (ToCreate config) act h = sym (same_Some Commit act h)
+phase_act_holds image f idle caller call ToCommit act h = unless (any_below (λ i. keeps_commit image call i (f.cpu i)) 16) Commit act h
+phase_act_holds image f idle caller call (ToNote id about answer) act h = sym (same_Some (Note id) act h)
+phase_act_holds image f idle caller call (ToNoted id about answer waited) act h = noted_act id (heard_of f idle id waited) act h
+phase_act_holds image f idle caller call (ToFinish answer) act h = sym (same_Some (Finish answer) act h)
 
 -- ---- the call that is open
 
@@ -125,9 +125,9 @@ open_by : (image : Image) (f : Facts) (call : Option OpenCall) (cpu : ℕ) (act 
 open_by image f None cpu act is later h = absurd (not_of_state image f cpu act later h)
 open_by image f (Some o) cpu act is later h =
     ⊎_elim
-    (λ made. record { call = o; is = is; caller = made.0; phase = phase-act image f (is_idle_but image f o.caller) o.caller o.call o.phase act made.1 })
+    (λ made. record { call = o; is = is; caller = made.0; phase = phase_act_holds image f (is_idle_but image f o.caller) o.caller o.call o.phase act made.1 })
     (λ other. absurd (not_of_state image f cpu act later other.1))
     h
 
-pub later-open : (image : Image) (f : Facts) (entry : Entry) → IsSound image f → due_at image f entry.cpu ≡ Some entry → IsLater entry.act → IsOfOpen image f entry.cpu entry.act
-later-open image f entry sound due later = open_by image f f.call entry.cpu entry.act refl later (due-parts image f entry sound due)
+pub later_open : (image : Image) (f : Facts) (entry : Entry) → IsSound image f → due_at image f entry.cpu ≡ Some entry → IsLater entry.act → IsOfOpen image f entry.cpu entry.act
+later_open image f entry sound due later = open_by image f f.call entry.cpu entry.act refl later (due_parts image f entry sound due)

@@ -7,7 +7,7 @@ use Rattle.std.proofs.lemmas.Bool.{both_ways, and_parts, and_from, false_from_ne
 use Rattle.std.proofs.lemmas.Option.{none-some, same_Some, slice_get-get_or}
 use Rattle.std.proofs.lemmas.List.Elements.{All-from_recursion}
 use Rattle.jh_num.specs.declared.address.TheConstants.{ADDRESS_END, PAGE_SIZE}
-use Rattle.jh_num.proofs.Lists.{IsFound-from_find}
+use Rattle.jh_num.proofs.Lists.{IsFound_from_find}
 use Rattle.jh_cellcfg.specs.declared.config.CellConfig.{CellConfig}
 use Rattle.jh_cellcfg.specs.declared.live.Live.{Live}
 use Rattle.jh_cellcfg.specs.declared.region.Region.{Region}
@@ -40,9 +40,9 @@ use Rattle.jh_history.specs.Phases.{configs_of}
 use Rattle.jh_history.specs.Wants.{IsReachOfAct, IsReachOfEntry}
 use Rattle.jh_history.specs.Sound.{IsSound}
 use Rattle.jh_history.specs.DueFacts.{IsLive, IsOfCells, ReachesCells, WritesCells}
-use Rattle.jh_history.proofs.BehindLemmas.{takes_all-size, takes_all-subpage}
-use Rattle.jh_history.proofs.GrantLemmas.{gives-has, has-some}
-use Rattle.jh_history.proofs.SoundDecideLemmas.{found-live}
+use Rattle.jh_history.proofs.BehindLemmas.{takes_all_size, takes_all_subpage}
+use Rattle.jh_history.proofs.GrantLemmas.{gives_has, has_some}
+use Rattle.jh_history.proofs.SoundDecideLemmas.{found_live}
 use Rattle.jh_history.proofs.DueComesLemmas.{numbered}
 
 -- ---- the places of an access, one by one
@@ -65,9 +65,9 @@ within_or_not : (cells : List Live) (b : Bool) (o : Option (List Place)) → ((q
 within_or_not cells true o all = reached_by cells o all
 within_or_not cells false o all = tt
 
-reach_by-cells : (cells : List Live) (place : ℕ → Option Place) → ((a : ℕ) (p : Place) → place a ≡ Some p → IsOfCells cells p) → (at width : ℕ) → ReachesCells cells (reach_by place at width)
+reach_by_cells : (cells : List Live) (place : ℕ → Option Place) → ((a : ℕ) (p : Place) → place a ≡ Some p → IsOfCells cells p) → (at width : ℕ) → ReachesCells cells (reach_by place at width)
 unfolding reach_by
-reach_by-cells cells place each at width = within_or_not cells (leb (at + width) ADDRESS_END) (places_from place at width) (λ qs e. each_from (IsOfCells cells) place each at width qs e)
+reach_by_cells cells place each at width = within_or_not cells (leb (at + width) ADDRESS_END) (places_from place at width) (λ qs e. each_from (IsOfCells cells) place each at width qs e)
 
 -- ---- the place that a region gives
 
@@ -94,28 +94,28 @@ comm_by : (image : Image) (f : Facts) (id at : ℕ) (r : Region) (root : Bool) (
     → IsTrue (has_address r at) → is_comm r ≡ true → (byte_in r at < PAGE_SIZE) × IsLive f.cells id
 comm_by image f id at r true o sound is held has comm =
     let item = item_of image.system.root.memory_regions r held in
-    absurd (both_ways (is_comm r) (sound.cells.clean.no_comm item.0 r item.1 (has-some r at has)) comm)
+    absurd (both_ways (is_comm r) (sound.cells.clean.no_comm item.0 r item.1 (has_some r at has)) comm)
 comm_by image f id at r false None sound is held has comm = let lt : held.0 < 0 = held.1 in absurd (omega arith)
 comm_by image f id at r false (Some live) sound is held has comm =
-    let found = found-live f.cells id live is in
+    let found = found_live f.cells id live is in
     let cell = numbered image.system (configs_of f.cells) live.config found.0 in
     let item = item_of live.config.memory_regions r held in
-    let page = sound.cells.clean.comms cell.0 live.config cell.1 cell.2 item.0 r item.1 (has-some r at has) comm in
-    (byte_within r at page.size has, (live, (IsFound-from_find (has_id id) f.cells live is).held, found.1))
+    let page = sound.cells.clean.comms cell.0 live.config cell.1 cell.2 item.0 r item.1 (has_some r at has) comm in
+    (byte_within r at page.size has, (live, (IsFound_from_find (has_id id) f.cells live is).held, found.1))
 
 by_region : (image : Image) (f : Facts) (id : ℕ) (access : Access) (at : ℕ) (p : Place) (o : Option Region) → IsSound image f → region_of (regions_in image f.cells id) access at ≡ o
     → option_map (λ (r : Region). place_in_cell id r at) o ≡ Some p → IsOfCells f.cells p
 by_region image f id access at p None sound is e = absurd (none-some p e)
 by_region image f id access at p (Some r) sound is e =
-    let found = IsFound-from_find (gives access at) (regions_in image f.cells id) r is in
+    let found = IsFound_from_find (gives access at) (regions_in image f.cells id) r is in
     let P : Place → Type 0 = IsOfCells f.cells in
     subst P (same_Some (place_in_cell id r at) p e)
     (place_by f.cells id r at (is_comm r)
-    (λ comm. comm_by image f id at r (eqb id image.system.root.id) (find (has_id id) f.cells) sound refl found.held (gives-has access at r found.passes) comm))
+    (λ comm. comm_by image f id at r (eqb id image.system.root.id) (find (has_id id) f.cells) sound refl found.held (gives_has access at r found.passes) comm))
 
-place_of-cells : (image : Image) (f : Facts) (id : ℕ) (access : Access) (at : ℕ) (p : Place) → IsSound image f → place_of id (regions_in image f.cells id) access at ≡ Some p → IsOfCells f.cells p
+place_of_cells : (image : Image) (f : Facts) (id : ℕ) (access : Access) (at : ℕ) (p : Place) → IsSound image f → place_of id (regions_in image f.cells id) access at ≡ Some p → IsOfCells f.cells p
 unfolding place_of
-place_of-cells image f id access at p sound e = by_region image f id access at p (region_of (regions_in image f.cells id) access at) sound refl e
+place_of_cells image f id access at p sound e = by_region image f id access at p (region_of (regions_in image f.cells id) access at) sound refl e
 
 -- ---- what is granted
 
@@ -127,9 +127,9 @@ granted_by : (kept : Place → Bool) (o : Option Place) (p : Place) → option_a
 granted_by kept None p e = absurd (none-some p e)
 granted_by kept (Some q) p e = ap Some (unless_by (kept q) q p e)
 
-granted-cells : (image : Image) (f : Facts) (id : ℕ) (access : Access) (at : ℕ) (p : Place) → IsSound image f → granted image f id access at ≡ Some p → IsOfCells f.cells p
-granted-cells image f id access at p sound e =
-    place_of-cells image f id access at p sound (granted_by (is_kept image f.cells id) (place_of id (regions_in image f.cells id) access at) p e)
+granted_cells : (image : Image) (f : Facts) (id : ℕ) (access : Access) (at : ℕ) (p : Place) → IsSound image f → granted image f id access at ≡ Some p → IsOfCells f.cells p
+granted_cells image f id access at p sound e =
+    place_of_cells image f id access at p sound (granted_by (is_kept image f.cells id) (place_of id (regions_in image f.cells id) access at) p e)
 
 -- ---- a subpage region that has an access
 
@@ -142,7 +142,7 @@ plain_by image lives id r true o clean is held some pages comm =
     both_ways (is_comm r) (clean.no_comm item.0 r item.1 some) comm
 plain_by image lives id r false None clean is held some pages comm = let lt : held.0 < 0 = held.1 in absurd (omega arith)
 plain_by image lives id r false (Some live) clean is held some pages comm =
-    let cell = numbered image.system (configs_of lives) live.config (found-live lives id live is).0 in
+    let cell = numbered image.system (configs_of lives) live.config (found_live lives id live is).0 in
     let item = item_of live.config.memory_regions r held in
     let page = clean.comms cell.0 live.config cell.1 cell.2 item.0 r item.1 some comm in
     let size : r.size ≡ 4096 = page.size in
@@ -150,9 +150,9 @@ plain_by image lives id r false (Some live) clean is held some pages comm =
     let whole : r.size % 4096 ≡ 0 = omega arith in
     both_ways (is_page_mapped r) pages (and_from (eqb (r.virt_start % 4096) 0) (eqb (r.size % 4096) 0) (eq-eqb (r.virt_start % 4096) 0 start) (eq-eqb (r.size % 4096) 0 whole))
 
-pub takes_all-plain : (image : Image) (lives : List Live) (id : ℕ) (closed : ℕ → Bool) (at n : ℕ) (r : Region) → IsClean image.system (configs_of lives) → Contains (regions_in image lives id) r → takes_all closed at n r ≡ true → is_comm r ≡ false
-takes_all-plain image lives id closed at n r clean held takes =
-    false_from_ne_true (is_comm r) (plain_by image lives id r (eqb id image.system.root.id) (find (has_id id) lives) clean refl held (takes_all-size closed at n r takes) (takes_all-subpage closed at n r takes))
+pub takes_all_plain : (image : Image) (lives : List Live) (id : ℕ) (closed : ℕ → Bool) (at n : ℕ) (r : Region) → IsClean image.system (configs_of lives) → Contains (regions_in image lives id) r → takes_all closed at n r ≡ true → is_comm r ≡ false
+takes_all_plain image lives id closed at n r clean held takes =
+    false_from_ne_true (is_comm r) (plain_by image lives id r (eqb id image.system.root.id) (find (has_id id) lives) clean refl held (takes_all_size closed at n r takes) (takes_all_subpage closed at n r takes))
 
 -- so its places are those of physical memory
 row_cells : (cells : List Live) (p n : ℕ) → AllByRecursion (IsOfCells cells) (places_in_row (Physical p) n)
@@ -179,8 +179,8 @@ found_answers : (image : Image) (lives : List Live) (id : ℕ) (closed : ℕ →
     → ReachesCells lives (answer_by id o start end window write at width)
 found_answers image lives id closed start end window write at width None clean is = device_answers lives start window at width (behind_between start end (asked_windows window) at width)
 found_answers image lives id closed start end window write at width (Some r) clean is =
-    let found = IsFound-from_find (takes_all closed at width) (regions_in image lives id) r is in
-    region_answers lives id at width r (is_comm r) (lets_through at width write r) (takes_all-plain image lives id closed at width r clean found.held found.passes)
+    let found = IsFound_from_find (takes_all closed at width) (regions_in image lives id) r is in
+    region_answers lives id at width r (is_comm r) (lets_through at width write r) (takes_all_plain image lives id closed at width r clean found.held found.passes)
 
 access_answers : (image : Image) (lives : List Live) (id : ℕ) (closed : ℕ → Bool) (start end : ℕ) (window : Option TheWindow) (access : Access) (at width : ℕ) → IsClean image.system (configs_of lives)
     → ReachesCells lives (answer_to id (find (takes_all closed at width) (regions_in image lives id)) start end window access at width)
@@ -192,9 +192,9 @@ answer_or_not : (lives : List Live) (b : Bool) (found : Reach) → ReachesCells 
 answer_or_not lives true found all = all
 answer_or_not lives false found all = tt
 
-behind-cells : (image : Image) (lives : List Live) (endpoints : List Endpoint) (id : ℕ) (access : Access) (at width : ℕ) → IsClean image.system (configs_of lives) → ReachesCells lives (behind_in image lives endpoints id access at width)
+behind_cells : (image : Image) (lives : List Live) (endpoints : List Endpoint) (id : ℕ) (access : Access) (at width : ℕ) → IsClean image.system (configs_of lives) → ReachesCells lives (behind_in image lives endpoints id access at width)
 unfolding answer
-behind-cells image lives endpoints id access at width clean =
+behind_cells image lives endpoints id access at width clean =
     let closed : ℕ → Bool = λ p. is_kept image lives id (Physical p) in
     let window = window_found (devices_in image lives endpoints id) at width in
     answer_or_not lives (leb (at + width) ADDRESS_END) (answer_to id (find (takes_all closed at width) (regions_in image lives id)) (ecam_start image.system) (ecam_end image.system) window access at width)
@@ -209,17 +209,17 @@ memory_or_behind cells (Config bytes) behind all rest = tt
 memory_or_behind cells (Window register) behind all rest = tt
 memory_or_behind cells Nothing behind all rest = rest
 
-pub reach-cells : (image : Image) (f : Facts) (cell at width : ℕ) (access : Access) (found : Reach) → IsSound image f → found ≡ reach image f cell access at width → ReachesCells f.cells found
-reach-cells image f cell at width access found sound is =
+pub reach_cells : (image : Image) (f : Facts) (cell at width : ℕ) (access : Access) (found : Reach) → IsSound image f → found ≡ reach image f cell access at width → ReachesCells f.cells found
+reach_cells image f cell at width access found sound is =
     let P : Reach → Type 0 = ReachesCells f.cells in
     subst P (sym is)
     (memory_or_behind f.cells (reach_by (granted image f cell access) at width) (behind_in image f.cells f.endpoints cell access at width)
-    (reach_by-cells f.cells (granted image f cell access) (λ a p e. granted-cells image f cell access a p sound e) at width)
-    (behind-cells image f.cells f.endpoints cell access at width sound.cells.clean))
+    (reach_by_cells f.cells (granted image f cell access) (λ a p e. granted_cells image f cell access a p sound e) at width)
+    (behind_cells image f.cells f.endpoints cell access at width sound.cells.clean))
 
 write_by : (image : Image) (f : Facts) (cell : ℕ) (act : Act) (found : Reach) → IsSound image f → IsReachOfAct image f cell act found → WritesCells f.cells act found
 write_by image f cell (Read width at got) found sound is = tt
-write_by image f cell (Write width at value ok) found sound is = reach-cells image f cell at width ToWrite found sound is
+write_by image f cell (Write width at value ok) found sound is = reach_cells image f cell at width ToWrite found sound is
 write_by image f cell (Fetch at got) found sound is = tt
 write_by image f cell (Await width at value ok) found sound is = tt
 write_by image f cell (Irq device vector) found sound is = tt
@@ -233,5 +233,5 @@ write_by image f cell (Note id) found sound is = tt
 write_by image f cell (Noted id how) found sound is = tt
 write_by image f cell (Finish answer) found sound is = tt
 
-pub write-cells : (image : Image) (f : Facts) (entry : Entry) (found : Reach) → IsSound image f → IsReachOfEntry image f entry found → WritesCells f.cells entry.act found
-write-cells image f entry found sound is = write_by image f entry.cell entry.act found sound is
+pub write_cells : (image : Image) (f : Facts) (entry : Entry) (found : Reach) → IsSound image f → IsReachOfEntry image f entry found → WritesCells f.cells entry.act found
+write_cells image f entry found sound is = write_by image f entry.cell entry.act found sound is

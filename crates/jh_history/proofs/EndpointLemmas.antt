@@ -4,7 +4,7 @@ use Rattle.std.specs.Option.{option_map_or}
 use Rattle.std.proofs.lemmas.Option.{none-some}
 use Rattle.std.proofs.lemmas.List.{length-set}
 use Rattle.std.proofs.lemmas.List.Elements.{All-cons, All-head, All-tail, All-filter, All-contains}
-use Rattle.jh_num.proofs.Lists.{Contains-head, Contains-tail}
+use Rattle.jh_num.proofs.Lists.{Contains_head, Contains_tail}
 use Rattle.jh_vpci.specs.Space.{Space, has_vectors}
 use Rattle.jh_vpci.specs.Windows.{AreWindows}
 use Rattle.jh_vpci.specs.Words.{word_of, word_at}
@@ -15,8 +15,9 @@ use Rattle.jh_ivshmem.specs.Specs.{IsWithin, is_device, is_peer, is_other, is_be
 use Rattle.jh_ivshmem.specs.Endpoint.{raised, taken, cleared, fresh, is_open}
 use Rattle.jh_ivshmem.specs.Registers.{register_written, is_in_table}
 use Rattle.jh_ivshmem.specs.Changes.{changed}
-use Rattle.jh_ivshmem.specs.Links.{endpoint_at, joined, rung, told, told_of, state_written, written, reset_of, left_by, taken_of}
-use Rattle.jh_ivshmem.proofs.NamedLemmas.{named-cell, named-device}
+use Rattle.jh_ivshmem.specs.Links.{endpoint_at, joined, rung, others_raised, told_of, state_written, written, reset_of, left_by, taken_of}
+use Rattle.jh_ivshmem.proofs.NamedLemmas.{named_cell, named_device}
+use Rattle.jh_ivshmem.proofs.ChangeLemmas.{cleared_spec}
 use Rattle.jh_history.specs.declared.device_change.DeviceChange.TheVariants.{Join, Reset, Leave}
 use Rattle.jh_history.specs.Endpoints.{endpoint_changed, endpoints_changed}
 use Rattle.jh_history.specs.Sound.{IsSoundEndpoint}
@@ -97,19 +98,19 @@ pub record Follow (old new : List Endpoint) : Type 0 where
   pub specs : specs_in new ≡ specs_in old
   pub sound : All IsSoundEndpoint old → All IsSoundEndpoint new
 
-pub follow-same : (list : List Endpoint) → Follow list list
-follow-same list = record { specs = refl; sound = λ h. h }
+pub follow_same : (list : List Endpoint) → Follow list list
+follow_same list = record { specs = refl; sound = λ h. h }
 
-pub follow-both : (one two three : List Endpoint) → Follow one two → Follow two three → Follow one three
-follow-both one two three h g = record { specs = g.specs ∙ h.specs; sound = λ s. g.sound (h.sound s) }
+pub follow_both : (one two three : List Endpoint) → Follow one two → Follow two three → Follow one three
+follow_both one two three h g = record { specs = g.specs ∙ h.specs; sound = λ s. g.sound (h.sound s) }
 
 follow_either : (b : Bool) (old one other : List Endpoint) → Follow old one → Follow old other → Follow old (cond b one other)
 follow_either true old one other h g = h
 follow_either false old one other h g = g
 
-pub follow-option : {X : Type 0} (o : Option X) (f : X → List Endpoint) (old other : List Endpoint) → ((x : X) → Follow old (f x)) → Follow old other → Follow old (option_map_or f o other)
-follow-option None f old other h g = g
-follow-option (Some x) f old other h g = h x
+pub follow_option : {X : Type 0} (o : Option X) (f : X → List Endpoint) (old other : List Endpoint) → ((x : X) → Follow old (f x)) → Follow old other → Follow old (option_map_or f o other)
+follow_option None f old other h g = g
+follow_option (Some x) f old other h g = h x
 
 spec_by : (b : Bool) (f : Endpoint → Endpoint) (e : Endpoint) → (f e).spec ≡ e.spec → (cond b (f e) e).spec ≡ e.spec
 spec_by true f e h = h
@@ -146,14 +147,14 @@ sound_there t f [] keeps sound = sound
 sound_there t f (e ∷ list) keeps sound =
     let here = All-head IsSoundEndpoint e list sound in
     All-cons IsSoundEndpoint (cond (t e.spec) (f e) e) (changed t f list)
-    (sound_test (t e.spec) t f e refl (λ is. keeps e (Contains-head e list) is here) here)
-    (sound_there t f list (λ x held is. keeps x (Contains-tail e list x held) is) (All-tail IsSoundEndpoint e list sound))
+    (sound_test (t e.spec) t f e refl (λ is. keeps e (Contains_head e list) is here) here)
+    (sound_there t f list (λ x held is. keeps x (Contains_tail e list x held) is) (All-tail IsSoundEndpoint e list sound))
 
-pub follow-changed : (t : EndpointSpec → Bool) (f : Endpoint → Endpoint) → ((e : Endpoint) → (f e).spec ≡ e.spec) → ((e : Endpoint) → IsSoundEndpoint e → IsSoundEndpoint (f e)) → (list : List Endpoint) → Follow list (changed t f list)
-follow-changed t f spec sound list = record { specs = specs_changed t f spec list; sound = sound_changed t f sound list }
+pub follow_changed : (t : EndpointSpec → Bool) (f : Endpoint → Endpoint) → ((e : Endpoint) → (f e).spec ≡ e.spec) → ((e : Endpoint) → IsSoundEndpoint e → IsSoundEndpoint (f e)) → (list : List Endpoint) → Follow list (changed t f list)
+follow_changed t f spec sound list = record { specs = specs_changed t f spec list; sound = sound_changed t f sound list }
 
 follow_stays : (t : EndpointSpec → Bool) (f : Endpoint → Endpoint) → ((e : Endpoint) → Stays e (f e)) → (list : List Endpoint) → Follow list (changed t f list)
-follow_stays t f stays list = follow-changed t f (λ e. (stays e).spec) (λ e. stays_sound e (f e) (stays e)) list
+follow_stays t f stays list = follow_changed t f (λ e. (stays e).spec) (λ e. stays_sound e (f e) (stays e)) list
 
 -- one endpoint with another's configuration space, of which the same is fixed
 space_sound : (e x : Endpoint) (at width value : ℕ) → x.spec ≡ e.spec → IsSoundEndpoint e → IsSoundEndpoint x
@@ -168,10 +169,10 @@ space_sound e x at width value same sound whole =
     }
 
 -- a write to the configuration space of an endpoint, where what is fixed of each of the same device is the same
-pub follow-space : (cell device : ℕ) (e : Endpoint) (at width value : ℕ) (list : List Endpoint) → Contains list e
+pub follow_space : (cell device : ℕ) (e : Endpoint) (at width value : ℕ) (list : List Endpoint) → Contains list e
     → ((x : Endpoint) → Contains list x → is_device cell device x.spec ≡ true → x.spec ≡ e.spec)
     → Follow list (changed (is_device cell device) (λ (x : Endpoint). record x { space = config_written e.space at width value }) list)
-follow-space cell device e at width value list held same =
+follow_space cell device e at width value list held same =
     let put : Endpoint → Endpoint = λ x. record x { space = config_written e.space at width value } in
     record {
       specs = specs_changed (is_device cell device) put (λ x. refl) list;
@@ -182,46 +183,42 @@ follow-space cell device e at width value list held same =
     }
 
 told_follow : (e : Endpoint) (value : ℕ) (list : List Endpoint) → Follow list (told_of e value list)
-told_follow e value list = follow_either (e.state == value) list list (told e.spec list) (follow-same list) (follow_stays (is_other e.spec.bdf e.spec.id) (raised 0) (raised_stays 0) list)
+told_follow e value list = follow_either (e.state == value) list list (others_raised e.spec list) (follow_same list) (follow_stays (is_other e.spec.bdf e.spec.id) (raised 0) (raised_stays 0) list)
 
 -- a write to a register
-pub follow-written : (e : Endpoint) (bar at value : ℕ) (list : List Endpoint) → Follow list (written e bar at value list)
+pub follow_written : (e : Endpoint) (bar at value : ℕ) (list : List Endpoint) → Follow list (written e bar at value list)
 unfolding written
-follow-written e bar at value list =
+follow_written e bar at value list =
     let there : List Endpoint = told_of e value list in
     follow_either ((bar == 0) && (at == 0x0c)) list (rung e.spec.bdf (value / 2 ^ 16) (value % 2 ^ 16) list) _
     (follow_stays (is_peer e.spec.bdf (value / 2 ^ 16)) (raised (value % 2 ^ 16)) (raised_stays (value % 2 ^ 16)) list)
     (follow_either ((bar == 0) && (at == 0x10)) list (state_written e value list) _
-    (follow-both list there (state_written e value list) (told_follow e value list)
+    (follow_both list there (state_written e value list) (told_follow e value list)
     (follow_stays (is_device e.spec.cell e.spec.device) (λ (o : Endpoint). record o { state = value }) (λ o. record { spec = refl; space = refl; vectors = refl }) there))
     (follow_stays (is_device e.spec.cell e.spec.device) (register_written bar at value) (register_stays bar at value) list))
 
 -- a vector that is taken
-pub follow-taken : (cell : ℕ) (next : Option (ℕ × ℕ)) (list : List Endpoint) → Follow list (taken_of cell next list)
-follow-taken cell None list = follow-same list
-follow-taken cell (Some next) list = follow_stays (is_device cell next.0) (taken next.1) (taken_stays next.1) list
+pub follow_taken : (cell : ℕ) (next : Option (ℕ × ℕ)) (list : List Endpoint) → Follow list (taken_of cell next list)
+follow_taken cell None list = follow_same list
+follow_taken cell (Some next) list = follow_stays (is_device cell next.0) (taken next.1) (taken_stays next.1) list
 
 cleared_sound : (e : Endpoint) → IsSoundEndpoint e → IsSoundEndpoint (cleared e)
 unfolding cleared
 cleared_sound e sound = record { within = sound.within; function = sound.function; windows = record { pages = refl; tables = refl }; vectors = refl }
 
-cleared_spec : (e : Endpoint) → (cleared e).spec ≡ e.spec
-unfolding cleared
-cleared_spec e = refl
-
 reset_follow : (e : Endpoint) (list : List Endpoint) → Follow list (reset_of e list)
 reset_follow e list =
     let there : List Endpoint = told_of e 0 list in
-    follow-both list there (reset_of e list) (told_follow e 0 list) (follow-changed (is_device e.spec.cell e.spec.device) cleared cleared_spec cleared_sound there)
+    follow_both list there (reset_of e list) (told_follow e 0 list) (follow_changed (is_device e.spec.cell e.spec.device) cleared cleared_spec cleared_sound there)
 
 -- the devices of a cell that is started are reset
-pub follow-reset : (specs : List EndpointSpec) (list : List Endpoint) → Follow list (endpoints_changed Reset specs list)
-follow-reset [] list = follow-same list
-follow-reset (s ∷ specs) list =
+pub follow_reset : (specs : List EndpointSpec) (list : List Endpoint) → Follow list (endpoints_changed Reset specs list)
+follow_reset [] list = follow_same list
+follow_reset (s ∷ specs) list =
     let next : List Endpoint = endpoint_changed Reset list s in
-    follow-both list next (endpoints_changed Reset specs next)
-    (follow-option (endpoint_at s.cell s.device list) (λ (e : Endpoint). reset_of e list) list list (λ e. reset_follow e list) (follow-same list))
-    (follow-reset specs next)
+    follow_both list next (endpoints_changed Reset specs next)
+    (follow_option (endpoint_at s.cell s.device list) (λ (e : Endpoint). reset_of e list) list list (λ e. reset_follow e list) (follow_same list))
+    (follow_reset specs next)
 
 -- ---- joining
 
@@ -252,14 +249,14 @@ sound_joined s [] within sound = All-cons IsSoundEndpoint (fresh s) [] (fresh_so
 sound_joined s (e ∷ list) within sound =
     joins_by (is_before s.cell s.device e.spec) s e list within sound (sound_joined s list within (All-tail IsSoundEndpoint e list sound))
 
-pub specs-join : (specs : List EndpointSpec) (list : List Endpoint) → specs_in (endpoints_changed Join specs list) ≡ fold placed (specs_in list) specs
-specs-join [] list = refl
-specs-join (s ∷ specs) list = specs-join specs (joined s list) ∙ ap (λ (l : List EndpointSpec). fold placed l specs) (specs_joined s list)
+pub specs_join : (specs : List EndpointSpec) (list : List Endpoint) → specs_in (endpoints_changed Join specs list) ≡ fold placed (specs_in list) specs
+specs_join [] list = refl
+specs_join (s ∷ specs) list = specs_join specs (joined s list) ∙ ap (λ (l : List EndpointSpec). fold placed l specs) (specs_joined s list)
 
-pub sound-join : (specs : List EndpointSpec) (list : List Endpoint) → All IsWithin specs → All IsSoundEndpoint list → All IsSoundEndpoint (endpoints_changed Join specs list)
-sound-join [] list within sound = sound
-sound-join (s ∷ specs) list within sound =
-    sound-join specs (joined s list) (All-tail IsWithin s specs within) (sound_joined s list (All-head IsWithin s specs within) sound)
+pub sound_join : (specs : List EndpointSpec) (list : List Endpoint) → All IsWithin specs → All IsSoundEndpoint list → All IsSoundEndpoint (endpoints_changed Join specs list)
+sound_join [] list within sound = sound
+sound_join (s ∷ specs) list within sound =
+    sound_join specs (joined s list) (All-tail IsWithin s specs within) (sound_joined s list (All-head IsWithin s specs within) sound)
 
 -- ---- leaving
 
@@ -292,19 +289,19 @@ specs_left s list (Some e) found =
     let p : EndpointSpec → Bool = λ x. not (is_device e.spec.cell e.spec.device x) in
     specs_filter p (told_of e 0 list)
     ∙ ap (filter p) (told_follow e 0 list).specs
-    ∙ ap (λ (n : ℕ). filter (λ (x : EndpointSpec). not (is_device n e.spec.device x)) (specs_in list)) (named-cell s.cell s.device list e found)
-    ∙ ap (λ (n : ℕ). filter (λ (x : EndpointSpec). not (is_device s.cell n x)) (specs_in list)) (named-device s.cell s.device list e found)
+    ∙ ap (λ (n : ℕ). filter (λ (x : EndpointSpec). not (is_device n e.spec.device x)) (specs_in list)) (named_cell s.cell s.device list e found)
+    ∙ ap (λ (n : ℕ). filter (λ (x : EndpointSpec). not (is_device s.cell n x)) (specs_in list)) (named_device s.cell s.device list e found)
 
 left_sound : (s : EndpointSpec) (list : List Endpoint) (o : Option Endpoint) → All IsSoundEndpoint list → All IsSoundEndpoint (option_map_or (λ (e : Endpoint). left_by e list) o list)
 left_sound s list None sound = sound
 left_sound s list (Some e) sound = All-filter (λ (o : Endpoint). not (is_device e.spec.cell e.spec.device o.spec)) IsSoundEndpoint (told_of e 0 list) ((told_follow e 0 list).sound sound)
 
-pub specs-leave : (specs : List EndpointSpec) (list : List Endpoint) → specs_in (endpoints_changed Leave specs list) ≡ fold without (specs_in list) specs
-specs-leave [] list = refl
-specs-leave (s ∷ specs) list =
-    specs-leave specs (endpoint_changed Leave list s)
+pub specs_leave : (specs : List EndpointSpec) (list : List Endpoint) → specs_in (endpoints_changed Leave specs list) ≡ fold without (specs_in list) specs
+specs_leave [] list = refl
+specs_leave (s ∷ specs) list =
+    specs_leave specs (endpoint_changed Leave list s)
     ∙ ap (λ (l : List EndpointSpec). fold without l specs) (specs_left s list (endpoint_at s.cell s.device list) refl)
 
-pub sound-leave : (specs : List EndpointSpec) (list : List Endpoint) → All IsSoundEndpoint list → All IsSoundEndpoint (endpoints_changed Leave specs list)
-sound-leave [] list sound = sound
-sound-leave (s ∷ specs) list sound = sound-leave specs (endpoint_changed Leave list s) (left_sound s list (endpoint_at s.cell s.device list) sound)
+pub sound_leave : (specs : List EndpointSpec) (list : List Endpoint) → All IsSoundEndpoint list → All IsSoundEndpoint (endpoints_changed Leave specs list)
+sound_leave [] list sound = sound
+sound_leave (s ∷ specs) list sound = sound_leave specs (endpoint_changed Leave list s) (left_sound s list (endpoint_at s.cell s.device list) sound)

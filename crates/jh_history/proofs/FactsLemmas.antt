@@ -4,7 +4,6 @@ use Rattle.std.specs.List.{fold}
 use Rattle.std.proofs.lemmas.List.{take_more}
 use Rattle.std.proofs.lemmas.List.Sums.{fold-append}
 use Rattle.jh_script.specs.declared.image.Image.{Image}
-use Rattle.jh_history.specs.declared.place.Place.{Place}
 use Rattle.jh_history.specs.declared.entry.Entry.{Entry}
 use Rattle.jh_history.specs.Facts.{Facts}
 use Rattle.jh_history.specs.History.{start, after, facts}
@@ -16,22 +15,22 @@ use Rattle.jh_history.specs.Due.{due_at, due, IsLegal, IsLegalFrom}
 pub same_function : {A B : Type 0} (f g : A → B) → ((x : A) → f x ≡ g x) → f ≡ g
 same_function f g h = λ i x. h x i
 
-pub facts-push : (image : Image) (entries : List Entry) (entry : Entry) → facts image (entries ++ entry ∷ []) ≡ after image (facts image entries) entry
+pub facts_push : (image : Image) (entries : List Entry) (entry : Entry) → facts image (entries ++ entry ∷ []) ≡ after image (facts image entries) entry
 unfolding facts
-facts-push image entries entry = fold-append (after image) (start image) entries (entry ∷ [])
+facts_push image entries entry = fold-append (after image) (start image) entries (entry ∷ [])
 
-pub facts-nil : (image : Image) → facts image [] ≡ start image
+pub facts_nil : (image : Image) → facts image [] ≡ start image
 unfolding facts
-facts-nil image = refl
+facts_nil image = refl
 
 -- what an entry does to each fact
-pub byte-after : (image : Image) (f : Facts) (entry : Entry) → (after image f entry).byte ≡ byte_after image f entry
+pub byte_after_holds : (image : Image) (f : Facts) (entry : Entry) → (after image f entry).byte ≡ byte_after image f entry
 unfolding after
-byte-after image f entry = refl
+byte_after_holds image f entry = refl
 
-pub cpu-after : (image : Image) (f : Facts) (entry : Entry) → (after image f entry).cpu ≡ cpu_after image f entry
+pub cpu_after_holds : (image : Image) (f : Facts) (entry : Entry) → (after image f entry).cpu ≡ cpu_after image f entry
 unfolding after
-cpu-after image f entry = refl
+cpu_after_holds image f entry = refl
 
 legal_more : (image : Image) (f : Facts) (entries : List Entry) (entry : Entry)
     → IsLegalFrom image f entries
@@ -40,22 +39,14 @@ legal_more : (image : Image) (f : Facts) (entries : List Entry) (entry : Entry)
 legal_more image f [] entry legal h = (h, tt)
 legal_more image f (first ∷ entries) entry legal h = (legal.0, legal_more image (after image f first) entries entry legal.1 h)
 
-pub IsLegal-push : (image : Image) (entries : List Entry) (entry : Entry) → IsLegal image entries → due image entries entry.cpu ≡ Some entry → IsLegal image (entries ++ entry ∷ [])
+pub IsLegal_push : (image : Image) (entries : List Entry) (entry : Entry) → IsLegal image entries → due image entries entry.cpu ≡ Some entry → IsLegal image (entries ++ entry ∷ [])
 unfolding IsLegal facts
-IsLegal-push image entries entry legal h = legal_more image (start image) entries entry legal h
+IsLegal_push image entries entry legal h = legal_more image (start image) entries entry legal h
 
-pub IsLegal-nil : (image : Image) → IsLegal image []
+pub IsLegal_nil : (image : Image) → IsLegal image []
 unfolding IsLegal
-IsLegal-nil image = tt
+IsLegal_nil image = tt
 
 -- the entry at a place of a list
-pub facts-next : (image : Image) (entries : List Entry) (i : ℕ) (d : Entry) → i < length entries → facts image (take (i + 1) entries) ≡ after image (facts image (take i entries)) (get_or entries i d)
-facts-next image entries i d lt = ap (facts image) (take_more entries i d lt) ∙ facts-push image (take i entries) (get_or entries i d)
-
-pub byte-next : (image : Image) (entries : List Entry) (i : ℕ) (d : Entry) (q : Place) → i < length entries → (facts image (take (i + 1) entries)).byte q ≡ byte_after image (facts image (take i entries)) (get_or entries i d) q
-unfolding after
-byte-next image entries i d q lt = ap (λ (f : Facts). f.byte q) (facts-next image entries i d lt)
-
-pub cpu-next : (image : Image) (entries : List Entry) (i : ℕ) (d : Entry) (k : ℕ) → i < length entries → (facts image (take (i + 1) entries)).cpu k ≡ cpu_after image (facts image (take i entries)) (get_or entries i d) k
-unfolding after
-cpu-next image entries i d k lt = ap (λ (f : Facts). f.cpu k) (facts-next image entries i d lt)
+pub facts_next : (image : Image) (entries : List Entry) (i : ℕ) (d : Entry) → i < length entries → facts image (take (i + 1) entries) ≡ after image (facts image (take i entries)) (get_or entries i d)
+facts_next image entries i d lt = ap (facts image) (take_more entries i d lt) ∙ facts_push image (take i entries) (get_or entries i d)

@@ -1,5 +1,5 @@
 -- What lets the slow plain program follow an entry: the devices that it changes may be changed.
-use Rattle.std.proofs.Common.{◌≡◌, ℕ, ◌+◌, ◌*◌, ◌^◌, ◌<◌, ◌≤◌, List, [], Option, Some, None, inl, inr, refl, sym, ap, subst, ◌∙◌, arith}
+use Rattle.std.proofs.Common.{◌≡◌, ℕ, ◌+◌, ◌*◌, ◌^◌, ◌<◌, List, [], Option, Some, None, inl, inr, refl, sym, ap, subst, ◌∙◌, arith}
 use Rattle.std.specs.Prelude.{IfSome}
 use Rattle.std.specs.Option.{option_map_or}
 use Rattle.jh_cellcfg.specs.declared.config.CellConfig.{CellConfig}
@@ -7,7 +7,6 @@ use Rattle.jh_cellcfg.specs.declared.live.Live.{Live}
 use Rattle.jh_ivshmem.specs.declared.endpoint.Endpoint.{Endpoint}
 use Rattle.jh_ivshmem.specs.declared.spec.EndpointSpec.{EndpointSpec}
 use Rattle.jh_ivshmem.specs.declared.spec.Slot.{Slot}
-use Rattle.jh_ivshmem.specs.Specs.{slot_of}
 use Rattle.jh_script.specs.declared.image.Image.{Image}
 use Rattle.jh_history.specs.declared.access.Reach.{Reach}
 use Rattle.jh_history.specs.declared.call.OpenCall.{OpenCall}
@@ -20,8 +19,8 @@ use Rattle.jh_history.specs.DueFacts.{IsWordOf}
 use Rattle.jh_history.specs.Endpoints.{change_by, changing_at, changing_by, specs_changing, IsNextOf, MayChange}
 use Rattle.jh_history.specs.Facts.{Facts}
 use Rattle.jh_history.specs.Grants.{devices_of}
-use Rattle.jh_history.specs.PlainView.{PlainView, Stands, IsSameBut, HasWords, MayCommit, MayFollow}
-use Rattle.jh_history.proofs.PlainStepLemmas.{commit-or}
+use Rattle.jh_history.specs.PlainView.{PlainView, StandsFor, IsSameBut, MayCommit, MayFollow}
+use Rattle.jh_history.proofs.PlainStepLemmas.{commit_or}
 
 -- ---- words of state tables
 
@@ -57,9 +56,9 @@ other_at cells o (Note id) other = refl
 other_at cells o (Noted id how) other = refl
 other_at cells o (Finish answer) other = refl
 
-changing-other : (cells : List Live) (call : Option OpenCall) (act : Act) → (act ≡ Commit → ⊥) → changing_by cells call act ≡ None
-changing-other cells None act other = refl
-changing-other cells (Some o) act other = other_at cells o act other
+changing_other : (cells : List Live) (call : Option OpenCall) (act : Act) → (act ≡ Commit → ⊥) → changing_by cells call act ≡ None
+changing_other cells None act other = refl
+changing_other cells (Some o) act other = other_at cells o act other
 
 -- after what the act writes itself they may be changed as before
 may_by : (old new : PlainView) (act : Act) → MayCommit old act → IsSameBut old new → new.endpoints ≡ old.endpoints → MayCommit new act
@@ -68,16 +67,16 @@ may_by old new act may same endpoints =
     (subst (λ (call : Option OpenCall). IfSome (changing_by new.cells call act) (MayChange (change_by call) old.endpoints)) (sym same.call)
     (subst (λ (cells : List Live). IfSome (changing_by cells old.call act) (MayChange (change_by old.call) old.endpoints)) (sym same.cells) may))
 
-pub may-commit : (old new : PlainView) (act : Act) → MayCommit old act → IsSameBut old new → (act ≡ Commit → new.endpoints ≡ old.endpoints) → MayCommit new act
-may-commit old new act may same endpoints = elim (commit-or act) [
+pub may_commit : (old new : PlainView) (act : Act) → MayCommit old act → IsSameBut old new → (act ≡ Commit → new.endpoints ≡ old.endpoints) → MayCommit new act
+may_commit old new act may same endpoints = elim (commit_or act) [
   | inl commit ↦ may_by old new act may same (endpoints commit)
-  | inr other ↦ subst (λ (o : Option CellConfig). IfSome o (MayChange (change_by new.call) new.endpoints)) (sym (changing-other new.cells new.call act other)) tt
+  | inr other ↦ subst (λ (o : Option CellConfig). IfSome o (MayChange (change_by new.call) new.endpoints)) (sym (changing_other new.cells new.call act other)) tt
 ]
 
 -- the endpoints of its devices
-pub specs-changing : (f : Facts) (cells : List Live) (call : Option OpenCall) (act : Act) (o : Option CellConfig) → f.cells ≡ cells → f.call ≡ call → changing_by cells call act ≡ o
+pub specs_changing_holds : (f : Facts) (cells : List Live) (call : Option OpenCall) (act : Act) (o : Option CellConfig) → f.cells ≡ cells → f.call ≡ call → changing_by cells call act ≡ o
     → option_map_or specs_of o [] ≡ specs_changing f act
-specs-changing f cells call act o alive opened is =
+specs_changing_holds f cells call act o alive opened is =
     ap (λ (k : Option CellConfig). option_map_or specs_of k []) (sym is)
     ∙ ap (λ (lives : List Live). option_map_or specs_of (changing_by lives call act) []) (sym alive)
     ∙ ap (λ (k : Option OpenCall). option_map_or specs_of (changing_by f.cells k act) []) (sym opened)
@@ -85,11 +84,11 @@ specs-changing f cells call act o alive opened is =
 -- ---- an entry
 
 -- what holds of sound facts lets the entry be followed
-pub may-follow : (i : Image) (f : Facts) (plain : PlainView) (entry : Entry) → Stands plain i f
+pub may_follow : (i : Image) (f : Facts) (plain : PlainView) (entry : Entry) → StandsFor plain i f
     → ((id value : ℕ) (found : Reach) → IfSome (slot_of_reach (devices_of i f id) found value) (IsWordOf f.endpoints))
     → IfSome (changing_by f.cells f.call entry.act) (MayChange (change_by f.call) f.endpoints)
     → IsNextOf entry.cell f.endpoints entry.act → MayFollow plain entry
-may-follow i f plain entry stands words commit next = record {
+may_follow i f plain entry stands words commit next = record {
   words = λ id value found.
       subst (λ (x : Image). IfSome (slot_of_reach (devices_in x plain.cells plain.endpoints id) found value) (λ (slot : Slot). slot.place + 4 < 2 ^ 64)) stands.same
       (subst (λ (cells : List Live). IfSome (slot_of_reach (devices_in i cells plain.endpoints id) found value) (λ (slot : Slot). slot.place + 4 < 2 ^ 64)) stands.cells

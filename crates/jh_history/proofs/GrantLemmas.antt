@@ -9,8 +9,8 @@ use Rattle.jh_history.specs.declared.access.Access.{Access}
 use Rattle.jh_history.specs.Places.{further, places_in_row}
 use Rattle.jh_history.specs.Access.{gives, right_of, place_in_cell, region_of, place_of, places_from}
 use Rattle.jh_history.proofs.FactsLemmas.{same_function}
-use Rattle.jh_num.proofs.Lists.{IsFound-from_find}
-use Rattle.jh_history.proofs.AccessLemmas.{places_from-row, places_from-none}
+use Rattle.jh_num.proofs.Lists.{IsFound_from_find}
+use Rattle.jh_history.proofs.AccessLemmas.{places_from_row, places_from_none}
 
 -- what ends at a page's border has all of the page or nothing
 page_below : (s at k : ℕ) → s % 4096 ≡ 0 → at % 4096 + k < 4096 → at < s → at + k < s
@@ -47,14 +47,14 @@ gives_by r access at k true is within = ap (λ (b : Bool). b && true && has_flag
 gives_by r access at k false is within = ap (λ (b : Bool). b && has_flags (right_of access) r) (and_right (has_address r (at + k)) false refl ∙ sym (and_right (has_address r at) false refl))
 
 -- the region gives each address of a page or none
-pub gives-same : (r : Region) (access : Access) (at k : ℕ) → at % 4096 + k < 4096 → gives access (at + k) r ≡ gives access at r
-gives-same r access at k within =
+pub gives_same : (r : Region) (access : Access) (at k : ℕ) → at % 4096 + k < 4096 → gives access (at + k) r ≡ gives access at r
+gives_same r access at k within =
     let h = gives_by r access at k (is_page_mapped r) refl within in h
 
 -- so the region is the same for each address of a page
-pub region_of-same : (regions : List Region) (access : Access) (at k : ℕ) → at % 4096 + k < 4096 → region_of regions access (at + k) ≡ region_of regions access at
-region_of-same regions access at k within =
-    ap (λ (p : Region → Bool). find p regions) (same_function (gives access (at + k)) (gives access at) (λ r. gives-same r access at k within))
+pub region_of_same : (regions : List Region) (access : Access) (at k : ℕ) → at % 4096 + k < 4096 → region_of regions access (at + k) ≡ region_of regions access at
+region_of_same regions access at k within =
+    ap (λ (p : Region → Bool). find p regions) (same_function (gives access (at + k)) (gives access at) (λ r. gives_same r access at k within))
 
 -- the place of an address further on
 by_comm : (id : ℕ) (r : Region) (at k : ℕ) (b : Bool) → r.virt_start ≤ at
@@ -62,38 +62,38 @@ by_comm : (id : ℕ) (r : Region) (at k : ℕ) (b : Bool) → r.virt_start ≤ a
 by_comm id r at k true le = let e : (at + k) - r.virt_start ≡ (at - r.virt_start) + k = omega arith in ap (Page id) e
 by_comm id r at k false le = let e : r.phys_start + ((at + k) - r.virt_start) ≡ (r.phys_start + (at - r.virt_start)) + k = omega arith in ap Physical e
 
-pub place_in_cell-further : (id : ℕ) (r : Region) (at k : ℕ) → r.virt_start ≤ at → place_in_cell id r (at + k) ≡ further (place_in_cell id r at) k
-place_in_cell-further id r at k le = by_comm id r at k (is_comm r) le
+pub place_in_cell_further : (id : ℕ) (r : Region) (at k : ℕ) → r.virt_start ≤ at → place_in_cell id r (at + k) ≡ further (place_in_cell id r at) k
+place_in_cell_further id r at k le = by_comm id r at k (is_comm r) le
 
 -- the address is one of the region's that gives it
-pub gives-has : (access : Access) (at : ℕ) (r : Region) → gives access at r ≡ true → IsTrue (has_address r at)
-gives-has access at r h = (and_parts (has_address r at) (is_page_mapped r) (and_parts (has_address r at && is_page_mapped r) (has_flags (right_of access) r) h).0).0
+pub gives_has : (access : Access) (at : ℕ) (r : Region) → gives access at r ≡ true → IsTrue (has_address r at)
+gives_has access at r h = (and_parts (has_address r at) (is_page_mapped r) (and_parts (has_address r at && is_page_mapped r) (has_flags (right_of access) r) h).0).0
 
-pub has-start : (r : Region) (at : ℕ) → IsTrue (has_address r at) → r.virt_start ≤ at
-has-start r at h = leb-true r.virt_start at (and_parts (leb r.virt_start at) (ltb at (r.virt_start + r.size)) h).0
+pub has_start : (r : Region) (at : ℕ) → IsTrue (has_address r at) → r.virt_start ≤ at
+has_start r at h = leb-true r.virt_start at (and_parts (leb r.virt_start at) (ltb at (r.virt_start + r.size)) h).0
 
-pub has-some : (r : Region) (at : ℕ) → IsTrue (has_address r at) → 0 < r.size
-has-some r at h =
+pub has_some : (r : Region) (at : ℕ) → IsTrue (has_address r at) → 0 < r.size
+has_some r at h =
     let parts = and_parts (leb r.virt_start at) (ltb at (r.virt_start + r.size)) h in
     let low : r.virt_start ≤ at = leb-true r.virt_start at parts.0 in
     let high : at < r.virt_start + r.size = ltb-true at (r.virt_start + r.size) parts.1 in
     omega arith
 
 -- what the region found gives the addresses of its page
-pub places_from-page : (id : ℕ) (regions : List Region) (access : Access) (at count : ℕ) (r : Region) → at % 4096 + count ≤ 4096 → region_of regions access at ≡ Some r
+pub places_from_page : (id : ℕ) (regions : List Region) (access : Access) (at count : ℕ) (r : Region) → at % 4096 + count ≤ 4096 → region_of regions access at ≡ Some r
     → places_from (place_of id regions access) at count ≡ Some (places_in_row (place_in_cell id r at) count)
 unfolding place_of
-places_from-page id regions access at count r within is =
-    let passes = (IsFound-from_find (gives access at) regions r is).passes in
-    let low = has-start r at (gives-has access at r passes) in
-    places_from-row (place_of id regions access) (place_in_cell id r at) at count
-    (λ k lt. ap (option_map (λ (s : Region). place_in_cell id s (at + k))) (region_of-same regions access at k (omega arith) ∙ is) ∙ ap Some (place_in_cell-further id r at k low))
+places_from_page id regions access at count r within is =
+    let passes = (IsFound_from_find (gives access at) regions r is).passes in
+    let low = has_start r at (gives_has access at r passes) in
+    places_from_row (place_of id regions access) (place_in_cell id r at) at count
+    (λ k lt. ap (option_map (λ (s : Region). place_in_cell id s (at + k))) (region_of_same regions access at k (omega arith) ∙ is) ∙ ap Some (place_in_cell_further id r at k low))
 
-pub places_from-page_none : (id : ℕ) (regions : List Region) (access : Access) (at count : ℕ) → 0 < count → region_of regions access at ≡ None
+pub places_from_page_none : (id : ℕ) (regions : List Region) (access : Access) (at count : ℕ) → 0 < count → region_of regions access at ≡ None
     → places_from (place_of id regions access) at count ≡ None
 unfolding place_of
-places_from-page_none id regions access at count some is = places_from-none (place_of id regions access) at count some (ap (option_map (λ (s : Region). place_in_cell id s at)) is)
+places_from_page_none id regions access at count some is = places_from_none (place_of id regions access) at count some (ap (option_map (λ (s : Region). place_in_cell id s at)) is)
 
 -- the region that is found has the address
-pub region_of-has : (regions : List Region) (access : Access) (at : ℕ) (r : Region) → region_of regions access at ≡ Some r → IsTrue (has_address r at)
-region_of-has regions access at r is = gives-has access at r (IsFound-from_find (gives access at) regions r is).passes
+pub region_of_has : (regions : List Region) (access : Access) (at : ℕ) (r : Region) → region_of regions access at ≡ Some r → IsTrue (has_address r at)
+region_of_has regions access at r is = gives_has access at r (IsFound_from_find (gives access at) regions r is).passes

@@ -1,5 +1,5 @@
 -- Items, one after another.
-use Rattle.std.proofs.Common.{◌≡◌, ℕ, zero, suc, ◌+◌, List, [], ◌∷◌, ◌++◌, Bool, true, false, refl, sym, ◌∙◌, ap, append_assoc, add-zero, add-one, add-suc, cond, arith, ◌⊎◌, inl, inr, ◌<◌, length, Option, Some, None}
+use Rattle.std.proofs.Common.{◌≡◌, ℕ, zero, suc, ◌+◌, List, [], ◌∷◌, ◌++◌, Bool, true, false, refl, sym, ◌∙◌, ap, append_assoc, add-zero, add-suc, cond, arith, ◌⊎◌, inl, inr, ◌<◌, length, Option, Some, None}
 use Rattle.std.specs.List.{fold, AllByRecursion, filter}
 use Rattle.std.specs.Prelude.{nat_lt, IsTrue}
 use Rattle.std.proofs.lemmas.Bool.{false≢true, cases_eq, cases_lt}
@@ -9,48 +9,48 @@ use Rattle.std.proofs.lemmas.List.Sums.{fold-append}
 use Rattle.jh_script.specs.declared.image.Image.{Image}
 use Rattle.jh_history.specs.declared.entry.Entry.{Entry}
 use Rattle.jh_history.specs.History.{facts}
-use Rattle.jh_history.proofs.DueLemmas.{due_at-absent, due_at-beyond}
+use Rattle.jh_history.proofs.DueLemmas.{due_at_absent, due_at_beyond}
 use Rattle.jh_history.specs.Lives.{is_on_board}
 use Rattle.jh_history.specs.Due.{due, IsQuiet}
 use Rattle.jh_history.specs.Items.{Reached, with_due, with_item, items, below, rounds, cpus_of}
 
-abbrev at : List Entry → Bool → Reached
-at entries full = record { entries = entries; full = full }
+abbrev pub reached : List Entry → Bool → Reached
+reached entries full = record { entries = entries; full = full }
 
 -- after a stop nothing changes
-fold-full : (image : Image) (limit : ℕ) (cpus : List ℕ) (es : List Entry) → fold (with_item image limit) (record { entries = es; full = true }) cpus ≡ record { entries = es; full = true }
-fold-full image limit [] es = refl
-fold-full image limit (cpu ∷ cpus) es = fold-full image limit cpus es
+fold_full : (image : Image) (limit : ℕ) (cpus : List ℕ) (es : List Entry) → fold (with_item image limit) (record { entries = es; full = true }) cpus ≡ record { entries = es; full = true }
+fold_full image limit [] es = refl
+fold_full image limit (cpu ∷ cpus) es = fold_full image limit cpus es
 
 -- items after others
-pub items-append : (image : Image) (limit : ℕ) (xs ys : List ℕ) (es fs : List Entry) → items image limit xs es ≡ record { entries = fs; full = false } → items image limit (xs ++ ys) es ≡ items image limit ys fs
+pub items_append : (image : Image) (limit : ℕ) (xs ys : List ℕ) (es fs : List Entry) → items image limit xs es ≡ record { entries = fs; full = false } → items image limit (xs ++ ys) es ≡ items image limit ys fs
 unfolding items
-items-append image limit xs ys es fs h = fold-append (with_item image limit) (record { entries = es; full = false }) xs ys ∙ ap (λ (r : Reached). fold (with_item image limit) r ys) h
+items_append image limit xs ys es fs h = fold-append (with_item image limit) (record { entries = es; full = false }) xs ys ∙ ap (λ (r : Reached). fold (with_item image limit) r ys) h
 
 -- items after a stop
-pub items-append_full : (image : Image) (limit : ℕ) (xs ys : List ℕ) (es fs : List Entry) → items image limit xs es ≡ record { entries = fs; full = true } → items image limit (xs ++ ys) es ≡ record { entries = fs; full = true }
+pub items_append_full : (image : Image) (limit : ℕ) (xs ys : List ℕ) (es fs : List Entry) → items image limit xs es ≡ record { entries = fs; full = true } → items image limit (xs ++ ys) es ≡ record { entries = fs; full = true }
 unfolding items
-items-append_full image limit xs ys es fs h = fold-append (with_item image limit) (record { entries = es; full = false }) xs ys ∙ ap (λ (r : Reached). fold (with_item image limit) r ys) h ∙ fold-full image limit ys fs
+items_append_full image limit xs ys es fs h = fold-append (with_item image limit) (record { entries = es; full = false }) xs ys ∙ ap (λ (r : Reached). fold (with_item image limit) r ys) h ∙ fold_full image limit ys fs
 
-pub items-nil : (image : Image) (limit : ℕ) (es : List Entry) → items image limit [] es ≡ record { entries = es; full = false }
+pub items_nil : (image : Image) (limit : ℕ) (es : List Entry) → items image limit [] es ≡ record { entries = es; full = false }
 unfolding items
-items-nil image limit es = refl
+items_nil image limit es = refl
 
 -- one item
-pub items-one : (image : Image) (limit : ℕ) (cpu : ℕ) (es : List Entry) → items image limit (cpu ∷ []) es ≡ with_due limit es (due image es cpu)
+pub items_one : (image : Image) (limit : ℕ) (cpu : ℕ) (es : List Entry) → items image limit (cpu ∷ []) es ≡ with_due limit es (due image es cpu)
 unfolding items
-items-one image limit cpu es = refl
+items_one image limit cpu es = refl
 
 -- at a quiet journal no item changes anything
-pub items-quiet : (image : Image) (limit : ℕ) (cpus : List ℕ) (es : List Entry) → IsQuiet image es → items image limit cpus es ≡ record { entries = es; full = false }
+pub items_quiet : (image : Image) (limit : ℕ) (cpus : List ℕ) (es : List Entry) → IsQuiet image es → items image limit cpus es ≡ record { entries = es; full = false }
 unfolding items
-items-quiet image limit [] es quiet = refl
-items-quiet image limit (cpu ∷ cpus) es quiet = rw (quiet cpu) (items-quiet image limit cpus es quiet)
+items_quiet image limit [] es quiet = refl
+items_quiet image limit (cpu ∷ cpus) es quiet = rw (quiet cpu) (items_quiet image limit cpus es quiet)
 
 -- rounds after rounds
-pub rounds-append : (n m : ℕ) (cpus : List ℕ) → rounds (n + m) cpus ≡ rounds n cpus ++ rounds m cpus
-rounds-append n zero cpus = rw add-zero (sym (append-nil (rounds n cpus)))
-rounds-append n (suc m) cpus = rw add-suc (ap (λ (xs : List ℕ). xs ++ cpus) (rounds-append n m cpus) ∙ append_assoc (rounds n cpus) (rounds m cpus) cpus)
+pub rounds_append : (n m : ℕ) (cpus : List ℕ) → rounds (n + m) cpus ≡ rounds n cpus ++ rounds m cpus
+rounds_append n zero cpus = rw add-zero (sym (append-nil (rounds n cpus)))
+rounds_append n (suc m) cpus = rw add-suc (ap (λ (xs : List ℕ). xs ++ cpus) (rounds_append n m cpus) ∙ append_assoc (rounds n cpus) (rounds m cpus) cpus)
 
 -- nothing is due to these CPUs
 abbrev pub NoneDue : Image → List Entry → List ℕ → Type 0
@@ -69,24 +69,24 @@ grow_some image cpu cpus es fs entry (inl same) = let n = ap length same.0 ∙ l
 grow_some image cpu cpus es fs entry (inr more) = let n = length_push es entry in inr (omega arith)
 
 grow_limit : (image : Image) (limit cpu : ℕ) (cpus : List ℕ) (es fs : List Entry) (entry : Entry) (b : Bool)
-    → ((es' : List Entry) → fold (with_item image limit) (at es' false) cpus ≡ at fs false → Grows image cpus es' fs)
-    → fold (with_item image limit) (cond b (at (es ++ entry ∷ []) false) (at es true)) cpus ≡ at fs false → Grows image (cpu ∷ cpus) es fs
+    → ((es' : List Entry) → fold (with_item image limit) (reached es' false) cpus ≡ reached fs false → Grows image cpus es' fs)
+    → fold (with_item image limit) (cond b (reached (es ++ entry ∷ []) false) (reached es true)) cpus ≡ reached fs false → Grows image (cpu ∷ cpus) es fs
 grow_limit image limit cpu cpus es fs entry true ih h = grow_some image cpu cpus es fs entry (ih (es ++ entry ∷ []) h)
-grow_limit image limit cpu cpus es fs entry false ih h = absurd (false≢true (sym (ap (λ (r : Reached). r.full) (sym (fold-full image limit cpus es) ∙ h))))
+grow_limit image limit cpu cpus es fs entry false ih h = absurd (false≢true (sym (ap (λ (r : Reached). r.full) (sym (fold_full image limit cpus es) ∙ h))))
 
 grow_item : (image : Image) (limit cpu : ℕ) (cpus : List ℕ) (es fs : List Entry) (o : Option Entry)
-    → ((es' : List Entry) → fold (with_item image limit) (at es' false) cpus ≡ at fs false → Grows image cpus es' fs)
-    → due image es cpu ≡ o → fold (with_item image limit) (with_due limit es o) cpus ≡ at fs false → Grows image (cpu ∷ cpus) es fs
+    → ((es' : List Entry) → fold (with_item image limit) (reached es' false) cpus ≡ reached fs false → Grows image cpus es' fs)
+    → due image es cpu ≡ o → fold (with_item image limit) (with_due limit es o) cpus ≡ reached fs false → Grows image (cpu ∷ cpus) es fs
 grow_item image limit cpu cpus es fs None ih e h = grow_none image cpu cpus es fs e (ih es h)
 grow_item image limit cpu cpus es fs (Some entry) ih e h = grow_limit image limit cpu cpus es fs entry (nat_lt (length es) limit) ih h
 
-grow : (image : Image) (limit : ℕ) (cpus : List ℕ) (es fs : List Entry) → fold (with_item image limit) (at es false) cpus ≡ at fs false → Grows image cpus es fs
+grow : (image : Image) (limit : ℕ) (cpus : List ℕ) (es fs : List Entry) → fold (with_item image limit) (reached es false) cpus ≡ reached fs false → Grows image cpus es fs
 grow image limit [] es fs h = inl (sym (ap (λ (r : Reached). r.entries) h), tt)
 grow image limit (cpu ∷ cpus) es fs h = grow_item image limit cpu cpus es fs (due image es cpu) (λ es' h'. grow image limit cpus es' fs h') refl h
 
-pub items-grows : (image : Image) (limit : ℕ) (cpus : List ℕ) (es fs : List Entry) → items image limit cpus es ≡ record { entries = fs; full = false } → Grows image cpus es fs
+pub items_grows : (image : Image) (limit : ℕ) (cpus : List ℕ) (es fs : List Entry) → items image limit cpus es ≡ record { entries = fs; full = false } → Grows image cpus es fs
 unfolding items
-items-grows image limit cpus es fs h = grow image limit cpus es fs h
+items_grows image limit cpus es fs h = grow image limit cpus es fs h
 
 all_left : {X : Type 0} (P : X → Type 0) (xs ys : List X) → AllByRecursion P (xs ++ ys) → AllByRecursion P xs
 all_left P [] ys h = tt
@@ -111,20 +111,13 @@ all_below P p (suc n) k all lt e =
     ]
 
 quiet_at : (image : Image) (es : List Entry) (cpu : ℕ) (b : Bool) → (IsTrue (is_on_board image cpu) → cpu < 16) → AllByRecursion (λ cpu. due image es cpu ≡ None) (filter (is_on_board image) (below 16)) → is_on_board image cpu ≡ b → due image es cpu ≡ None
-quiet_at image es cpu false few all e = due_at-absent image (facts image es) cpu e
+quiet_at image es cpu false few all e = due_at_absent image (facts image es) cpu e
 quiet_at image es cpu true few all e = elim (cases_lt cpu 16) [
   | inl lt ↦ all_below (λ cpu. due image es cpu ≡ None) (is_on_board image) 16 cpu all lt e
-  | inr le ↦ due_at-beyond image (facts image es) cpu few le
+  | inr le ↦ due_at_beyond image (facts image es) cpu few le
 ]
 
 -- where nothing is due to each CPU of the board, the journal is quiet
-pub IsQuiet-from_cpus : (image : Image) (es : List Entry) → ((cpu : ℕ) → IsTrue (is_on_board image cpu) → cpu < 16) → NoneDue image es (cpus_of image) → IsQuiet image es
+pub IsQuiet_from_cpus : (image : Image) (es : List Entry) → ((cpu : ℕ) → IsTrue (is_on_board image cpu) → cpu < 16) → NoneDue image es (cpus_of image) → IsQuiet image es
 unfolding cpus_of
-IsQuiet-from_cpus image es few all cpu = quiet_at image es cpu (is_on_board image cpu) (few cpu) all refl
-
--- one number more that passes, or that doesn't
-pub filter_below_more : (p : ℕ → Bool) (k : ℕ) → p k ≡ true → filter p (below (k + 1)) ≡ filter p (below k) ++ k ∷ []
-filter_below_more p k e = rw (add-one, filter-append, e) refl
-
-pub filter_below_skip : (p : ℕ → Bool) (k : ℕ) → p k ≡ false → filter p (below (k + 1)) ≡ filter p (below k)
-filter_below_skip p k e = rw (add-one, filter-append, e) (append-nil (filter p (below k)))
+IsQuiet_from_cpus image es few all cpu = quiet_at image es cpu (is_on_board image cpu) (few cpu) all refl

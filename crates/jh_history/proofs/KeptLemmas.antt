@@ -23,26 +23,26 @@ use Rattle.jh_history.specs.Cpus.{cpu_after}
 use Rattle.jh_history.specs.Endpoints.{endpoints_put, endpoints_after}
 use Rattle.jh_history.specs.History.{after, cells_after, call_after}
 use Rattle.jh_history.specs.Wants.{reach_of}
-use Rattle.jh_history.specs.PlainView.{PlainView, overwritten, last_byte, Stands}
+use Rattle.jh_history.specs.PlainView.{PlainView, overwritten, last_byte, StandsFor}
 use Rattle.std.proofs.lemmas.List.{append-nil}
-use Rattle.jh_history.proofs.PlaceLemmas.{row-next, written-over}
+use Rattle.jh_history.proofs.PlaceLemmas.{row_next, written_over}
 
 -- one byte more
-pub last_byte-push : (image : Image) (bytes : List WrittenByte) (one : WrittenByte) (q : Place) → last_byte image (bytes ++ one ∷ []) q ≡ overwritten q (last_byte image bytes q) one
-last_byte-push image bytes one q = fold-append (overwritten q) (loaded_byte image q) bytes (one ∷ [])
+pub last_byte_push : (image : Image) (bytes : List WrittenByte) (one : WrittenByte) (q : Place) → last_byte image (bytes ++ one ∷ []) q ≡ overwritten q (last_byte image bytes q) one
+last_byte_push image bytes one q = fold-append (overwritten q) (loaded_byte image q) bytes (one ∷ [])
 
 -- one byte of a write
-pub over-more : (image : Image) (old new : List WrittenByte) (p at : Place) (byte k n rest : ℕ) (places : List Place) (q : Place) → k < n → at ≡ further p k → byte ≡ rest % 256 → new ≡ old ++ record { place = at; byte = byte } ∷ []
+pub over_more : (image : Image) (old new : List WrittenByte) (p at : Place) (byte k n rest : ℕ) (places : List Place) (q : Place) → k < n → at ≡ further p k → byte ≡ rest % 256 → new ≡ old ++ record { place = at; byte = byte } ∷ []
     → over (places_in_row (further p (k + 1)) (n - (k + 1)) ++ places) (rest / 256) q (last_byte image new q) ≡ over (places_in_row (further p k) (n - k) ++ places) rest q (last_byte image old q)
-over-more image old new p at byte k n rest places q lt is_at is_byte is =
-    rw (is, last_byte-push, is_at, is_byte) (ap (λ (ps : List Place). over (ps ++ places) rest q (last_byte image old q)) (sym (row-next p k n lt)))
+over_more image old new p at byte k n rest places q lt is_at is_byte is =
+    rw (is, last_byte_push, is_at, is_byte) (ap (λ (ps : List Place). over (ps ++ places) rest q (last_byte image old q)) (sym (row_next p k n lt)))
 
 -- the two runs of a write
-pub over-runs : (image : Image) (old middle new : List WrittenByte) (low high places : List Place) (value rest last : ℕ) (q : Place) → places ≡ low ++ high
+pub over_runs : (image : Image) (old middle new : List WrittenByte) (low high places : List Place) (value rest last : ℕ) (q : Place) → places ≡ low ++ high
     → ((ps : List Place) → over ps rest q (last_byte image middle q) ≡ over (low ++ ps) value q (last_byte image old q))
     → ((ps : List Place) → over ps last q (last_byte image new q) ≡ over (high ++ ps) rest q (last_byte image middle q))
     → last_byte image new q ≡ over places value q (last_byte image old q)
-over-runs image old middle new low high places value rest last q is first second =
+over_runs image old middle new low high places value rest last q is first second =
     second [] ∙ first (high ++ []) ∙ ap (λ (ps : List Place). over (low ++ ps) value q (last_byte image old q)) (append-nil high) ∙ ap (λ (ps : List Place). over ps value q (last_byte image old q)) (sym is)
 
 abbrev pub is_device : Reach → Bool
@@ -50,69 +50,69 @@ is_device (Config bytes) = true
 is_device (Window register) = true
 is_device found = false
 
-no-put : (devices : Devices) (found : Reach) (value : ℕ) → is_device found ≡ false → devices.endpoints ≡ endpoints_put devices found value
-no-put devices (Memory places) value is = refl
-no-put devices (Subpage places) value is = refl
-no-put devices (Config bytes) value is = absurd (both_ways true is refl)
-no-put devices (Window register) value is = absurd (both_ways true is refl)
-no-put devices Nothing value is = refl
+no_put : (devices : Devices) (found : Reach) (value : ℕ) → is_device found ≡ false → devices.endpoints ≡ endpoints_put devices found value
+no_put devices (Memory places) value is = refl
+no_put devices (Subpage places) value is = refl
+no_put devices (Config bytes) value is = absurd (both_ways true is refl)
+no_put devices (Window register) value is = absurd (both_ways true is refl)
+no_put devices Nothing value is = refl
 
 -- a write where it reaches memory, or a subpage region
-written_at : (i : Image) (f : Facts) (places : List Place) (value : ℕ) (q : Place) (old : PlainView) → Stands old i f → over places value q (last_byte i old.bytes q) ≡ written f.byte places value q
-written_at i f places value q old stands = ap (over places value q) (sym (stands.bytes q)) ∙ sym (written-over f.byte places value q)
+written_at : (i : Image) (f : Facts) (places : List Place) (value : ℕ) (q : Place) (old : PlainView) → StandsFor old i f → over places value q (last_byte i old.bytes q) ≡ written f.byte places value q
+written_at i f places value q old stands = ap (over places value q) (sym (stands.bytes q)) ∙ sym (written_over f.byte places value q)
 
-pub kept-write : (i : Image) (f : Facts) (cell : ℕ) (wanted : Wanted) (found : Reach) (places : List Place) (value : ℕ) (q : Place) (old : PlainView) → Stands old i f → found ≡ reach_of i f cell wanted → found ≡ Memory places
+pub kept_write : (i : Image) (f : Facts) (cell : ℕ) (wanted : Wanted) (found : Reach) (places : List Place) (value : ℕ) (q : Place) (old : PlainView) → StandsFor old i f → found ≡ reach_of i f cell wanted → found ≡ Memory places
     → over places value q (last_byte i old.bytes q) ≡ write_of f.byte (devices_of i f cell) (reach_of i f cell wanted) value q
-kept-write i f cell wanted found places value q old stands is_found is =
+kept_write i f cell wanted found places value q old stands is_found is =
     written_at i f places value q old stands ∙ ap (λ (r : Reach). write_of f.byte (devices_of i f cell) r value q) (sym is ∙ is_found)
 
-pub kept-write_subpage : (i : Image) (f : Facts) (cell : ℕ) (wanted : Wanted) (found : Reach) (places : List Place) (value : ℕ) (q : Place) (old : PlainView) → Stands old i f → found ≡ reach_of i f cell wanted → found ≡ Subpage places
+pub kept_write_subpage : (i : Image) (f : Facts) (cell : ℕ) (wanted : Wanted) (found : Reach) (places : List Place) (value : ℕ) (q : Place) (old : PlainView) → StandsFor old i f → found ≡ reach_of i f cell wanted → found ≡ Subpage places
     → over places value q (last_byte i old.bytes q) ≡ write_of f.byte (devices_of i f cell) (reach_of i f cell wanted) value q
-kept-write_subpage i f cell wanted found places value q old stands is_found is =
+kept_write_subpage i f cell wanted found places value q old stands is_found is =
     written_at i f places value q old stands ∙ ap (λ (r : Reach). write_of f.byte (devices_of i f cell) r value q) (sym is ∙ is_found)
 
 -- what an access reaches, by the image and the cells that are kept
-pub reach-kept : (i image : Image) (f : Facts) (cells : List Live) (endpoints : List Endpoint) (cell : ℕ) (wanted : Wanted) (found : Reach) → image ≡ i → cells ≡ f.cells → endpoints ≡ f.endpoints
+pub reach_kept : (i image : Image) (f : Facts) (cells : List Live) (endpoints : List Endpoint) (cell : ℕ) (wanted : Wanted) (found : Reach) → image ≡ i → cells ≡ f.cells → endpoints ≡ f.endpoints
     → found ≡ reach_in image cells endpoints cell wanted.access wanted.at wanted.width → found ≡ reach_of i f cell wanted
-reach-kept i image f cells endpoints cell wanted found same lives ends is =
+reach_kept i image f cells endpoints cell wanted found same lives ends is =
     is
     ∙ ap (λ (x : Image). reach_in x cells endpoints cell wanted.access wanted.at wanted.width) same
     ∙ ap (λ (l : List Live). reach_in i l endpoints cell wanted.access wanted.at wanted.width) lives
     ∙ ap (λ (es : List Endpoint). reach_in i f.cells es cell wanted.access wanted.at wanted.width) ends
 
 -- a write where it reaches memory leaves the endpoints, and so does one that reaches nothing
-pub others-put : (i : Image) (f : Facts) (cell : ℕ) (wanted : Wanted) (found : Reach) (value : ℕ) → found ≡ reach_of i f cell wanted → is_device found ≡ false
+pub others_put : (i : Image) (f : Facts) (cell : ℕ) (wanted : Wanted) (found : Reach) (value : ℕ) → found ≡ reach_of i f cell wanted → is_device found ≡ false
     → f.endpoints ≡ endpoints_put (devices_of i f cell) (reach_of i f cell wanted) value
-others-put i f cell wanted found value is other = no-put (devices_of i f cell) found value other ∙ ap (λ (r : Reach). endpoints_put (devices_of i f cell) r value) is
+others_put i f cell wanted found value is other = no_put (devices_of i f cell) found value other ∙ ap (λ (r : Reach). endpoints_put (devices_of i f cell) r value) is
 
 -- the devices of a cell, by what is kept
 abbrev devices_by : ℕ → List PciDevice → List Endpoint → Devices
 devices_by cell list endpoints = record { cell = cell; list = list; endpoints = endpoints }
 
-pub devices-kept : (i image : Image) (lives cells : List Live) (ends endpoints : List Endpoint) (cell : ℕ) (list : List PciDevice) → image ≡ i → cells ≡ lives → endpoints ≡ ends
+pub devices_kept : (i image : Image) (lives cells : List Live) (ends endpoints : List Endpoint) (cell : ℕ) (list : List PciDevice) → image ≡ i → cells ≡ lives → endpoints ≡ ends
     → list ≡ list_in image cells cell → devices_by cell list endpoints ≡ devices_in i lives ends cell
-devices-kept i image lives cells ends endpoints cell list same alive there is =
+devices_kept i image lives cells ends endpoints cell list same alive there is =
     ap (λ (l : List PciDevice). devices_by cell l endpoints) is
     ∙ ap (λ (x : Image). devices_in x cells endpoints cell) same
     ∙ ap (λ (l : List Live). devices_in i l endpoints cell) alive
     ∙ ap (λ (es : List Endpoint). devices_in i lives es cell) there
 
 -- a write where it reaches a device
-pub device-write : (byte : Place → ℕ) (devices : Devices) (found : Reach) (value : ℕ) (q : Place) → is_device found ≡ true → with_slot_if (slot_of_reach devices found value) byte q ≡ write_of byte devices found value q
-device-write byte devices (Memory places) value q is = absurd (both_ways true (sym is) refl)
-device-write byte devices (Subpage places) value q is = absurd (both_ways true (sym is) refl)
-device-write byte devices (Config bytes) value q is = refl
-device-write byte devices (Window register) value q is = refl
-device-write byte devices Nothing value q is = absurd (both_ways true (sym is) refl)
+pub device_write : (byte : Place → ℕ) (devices : Devices) (found : Reach) (value : ℕ) (q : Place) → is_device found ≡ true → with_slot_if (slot_of_reach devices found value) byte q ≡ write_of byte devices found value q
+device_write byte devices (Memory places) value q is = absurd (both_ways true (sym is) refl)
+device_write byte devices (Subpage places) value q is = absurd (both_ways true (sym is) refl)
+device_write byte devices (Config bytes) value q is = refl
+device_write byte devices (Window register) value q is = refl
+device_write byte devices Nothing value q is = absurd (both_ways true (sym is) refl)
 
 -- one entry more
-pub Stands-after : (i : Image) (f : Facts) (entry : Entry) (old new : PlainView) → Stands old i f → new.image ≡ old.image
+pub Stands_after : (i : Image) (f : Facts) (entry : Entry) (old new : PlainView) → StandsFor old i f → new.image ≡ old.image
     → new.cells ≡ cells_after f entry → new.endpoints ≡ endpoints_after i f entry → new.call ≡ call_after i f entry
     → ((k : ℕ) → k < 16 → slice_get new.cpus k ≡ Some (cpu_after i f entry k))
     → ((q : Place) → last_byte i new.bytes q ≡ byte_after i f entry q)
-    → Stands new i (after i f entry)
+    → StandsFor new i (after i f entry)
 unfolding after
-Stands-after i f entry old new stands same cells endpoints call cpus bytes = record {
+Stands_after i f entry old new stands same cells endpoints call cpus bytes = record {
   same = stands.same ∙ sym same;
   cells = sym cells;
   endpoints = sym endpoints;

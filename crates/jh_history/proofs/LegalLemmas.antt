@@ -14,9 +14,9 @@ due_from image f [] rest entry legal = legal.0
 due_from image f (first ∷ before) rest entry legal = due_from image (after image f first) before rest entry legal.1
 
 -- an entry of a legal journal is the one due there
-pub due-split : (image : Image) (before rest : List Entry) (entry : Entry) → IsLegal image (before ++ entry ∷ rest) → due image before entry.cpu ≡ Some entry
+pub due_split : (image : Image) (before rest : List Entry) (entry : Entry) → IsLegal image (before ++ entry ∷ rest) → due image before entry.cpu ≡ Some entry
 unfolding IsLegal facts
-due-split image before rest entry legal = due_from image (start image) before rest entry legal
+due_split image before rest entry legal = due_from image (start image) before rest entry legal
 
 due_at_index : (image : Image) (f : Facts) (entries : List Entry) (k : ℕ) (d : Entry) → IsLegalFrom image f entries → k < length entries
     → due_at image (fold (after image) f (take k entries)) (get_or entries k d).cpu ≡ Some (get_or entries k d)
@@ -25,18 +25,18 @@ due_at_index image f (entry ∷ entries) zero d legal lt = legal.0
 due_at_index image f (entry ∷ entries) (suc k) d legal lt = due_at_index image (after image f entry) entries k d legal.1 (omega arith)
 
 -- so is the one with a number
-pub due-index : (image : Image) (entries : List Entry) (k : ℕ) (d : Entry) → IsLegal image entries → k < length entries → due image (take k entries) (get_or entries k d).cpu ≡ Some (get_or entries k d)
+pub due_index : (image : Image) (entries : List Entry) (k : ℕ) (d : Entry) → IsLegal image entries → k < length entries → due image (take k entries) (get_or entries k d).cpu ≡ Some (get_or entries k d)
 unfolding IsLegal facts
-due-index image entries k d legal lt = due_at_index image (start image) entries k d legal lt
+due_index image entries k d legal lt = due_at_index image (start image) entries k d legal lt
 
 begins_from : (image : Image) (f : Facts) (before rest : List Entry) → IsLegalFrom image f (before ++ rest) → IsLegalFrom image f before
 begins_from image f [] rest legal = tt
 begins_from image f (first ∷ before) rest legal = (legal.0, begins_from image (after image f first) before rest legal.1)
 
 -- a beginning of a legal journal is legal
-pub IsLegal-begin : (image : Image) (before rest : List Entry) → IsLegal image (before ++ rest) → IsLegal image before
+pub IsLegal_begin : (image : Image) (before rest : List Entry) → IsLegal image (before ++ rest) → IsLegal image before
 unfolding IsLegal
-IsLegal-begin image before rest legal = begins_from image (start image) before rest legal
+IsLegal_begin image before rest legal = begins_from image (start image) before rest legal
 
 legal_from : (image : Image) (f : Facts) (entries : List Entry)
     → ((before rest : List Entry) (entry : Entry) → entries ≡ before ++ entry ∷ rest → due_at image (fold (after image) f before) entry.cpu ≡ Some entry)
@@ -45,9 +45,9 @@ legal_from image f [] each = tt
 legal_from image f (first ∷ entries) each = (each [] entries first refl, legal_from image (after image f first) entries (λ before rest entry e. each (first ∷ before) rest entry (ap (λ (es : List Entry). first ∷ es) e)))
 
 -- where each entry is due, the journal is legal
-pub IsLegal-from_due : (image : Image) (entries : List Entry) → ((before rest : List Entry) (entry : Entry) → entries ≡ before ++ entry ∷ rest → due image before entry.cpu ≡ Some entry) → IsLegal image entries
+pub IsLegal_from_due : (image : Image) (entries : List Entry) → ((before rest : List Entry) (entry : Entry) → entries ≡ before ++ entry ∷ rest → due image before entry.cpu ≡ Some entry) → IsLegal image entries
 unfolding IsLegal facts
-IsLegal-from_due image entries each = legal_from image (start image) entries each
+IsLegal_from_due image entries each = legal_from image (start image) entries each
 
 abbrev cpus : List Entry → List ℕ
 cpus entries = map (λ (e : Entry). e.cpu) entries
@@ -67,19 +67,19 @@ same_from image f (x ∷ xs) (y ∷ ys) legal_x legal_y e =
     cc
 
 -- a legal journal is determined by its CPU numbers
-pub IsLegal-same : (image : Image) (xs ys : List Entry) → IsLegal image xs → IsLegal image ys → cpus xs ≡ cpus ys → xs ≡ ys
+pub IsLegal_same : (image : Image) (xs ys : List Entry) → IsLegal image xs → IsLegal image ys → cpus xs ≡ cpus ys → xs ≡ ys
 unfolding IsLegal
-IsLegal-same image xs ys legal_x legal_y e = same_from image (start image) xs ys legal_x legal_y e
+IsLegal_same image xs ys legal_x legal_y e = same_from image (start image) xs ys legal_x legal_y e
 
 rest_from : (image : Image) (f : Facts) (before rest : List Entry) → IsLegalFrom image f (before ++ rest) → IsLegalFrom image (fold (after image) f before) rest
 rest_from image f [] rest legal = legal
 rest_from image f (first ∷ before) rest legal = rest_from image (after image f first) before rest legal.1
 
 -- the rest of a legal journal is legal from the facts of what is before it
-pub IsLegal-rest : (image : Image) (before rest : List Entry) → IsLegal image (before ++ rest) → IsLegalFrom image (facts image before) rest
+pub IsLegal_rest : (image : Image) (before rest : List Entry) → IsLegal image (before ++ rest) → IsLegalFrom image (facts image before) rest
 unfolding IsLegal facts
-IsLegal-rest image before rest legal = rest_from image (start image) before rest legal
+IsLegal_rest image before rest legal = rest_from image (start image) before rest legal
 
-pub facts-append : (image : Image) (before rest : List Entry) → facts image (before ++ rest) ≡ fold (after image) (facts image before) rest
+pub facts_append : (image : Image) (before rest : List Entry) → facts image (before ++ rest) ≡ fold (after image) (facts image before) rest
 unfolding facts
-facts-append image before rest = fold-append (after image) (start image) before rest
+facts_append image before rest = fold-append (after image) (start image) before rest

@@ -33,7 +33,6 @@ pub mod DueReachLemmas
 pub mod DueFewLemmas
 pub mod DueDevicesLemmas
 pub mod GrantedLemmas
-pub mod CountLemmas
 pub mod LoopLemmas
 pub mod PageWriteLemmas
 pub mod PlainStepLemmas

@@ -3,16 +3,13 @@ use Rattle.std.proofs.Common.{◌≡◌, ℕ, suc, ◌<◌, ◌&&◌, nat_lt, Bo
 use Rattle.std.proofs.lemmas.Bool.{cases_lt, both_ways, and_parts, and_from, or_cases, or_left, or_right, ltb-true, lt-ltb, eqb-true, eq-eqb, not-true, not_from_false}
 use Rattle.std.proofs.lemmas.List.Elements.{All-cons, All-head, All-tail, All-contains, Contains-get_or}
 use Rattle.std.proofs.lemmas.List.Kept.{AllPairs-cons, AllPairs-filter}
-use Rattle.jh_num.proofs.Lists.{Contains-head, Contains-tail, Contains-cases, IsFound-from_filter, Contains-filter}
+use Rattle.jh_num.proofs.Lists.{Contains_head, Contains_tail, Contains_cases, IsFound_from_filter, Contains_filter}
 use Rattle.jh_ivshmem.specs.declared.spec.EndpointSpec.{EndpointSpec}
 use Rattle.jh_ivshmem.specs.Specs.{AreApart, ComesBefore, is_device, is_before}
-use Rattle.jh_ivshmem.proofs.ApartLemmas.{device_turned, peer_turned}
+use Rattle.jh_ivshmem.proofs.OrderLemmas.{apart_turned}
 use Rattle.jh_history.proofs.EndpointLemmas.{placed, without}
 
 -- ---- apart and in order
-
-apart_turned : (a b : EndpointSpec) → AreApart a b → AreApart b a
-apart_turned a b apart = record { devices = sym (device_turned a b) ∙ apart.devices; peers = sym (peer_turned a b) ∙ apart.peers }
 
 -- the lower cell comes first, in one cell the lower device
 abbrev IsLower : EndpointSpec → EndpointSpec → Type 0
@@ -84,23 +81,23 @@ all_placed P (x ∷ xs) s all here =
     ]
 
 placed_new : (xs : List EndpointSpec) (s : EndpointSpec) → Contains (placed xs s) s
-placed_new [] s = Contains-head s []
+placed_new [] s = Contains_head s []
 placed_new (x ∷ xs) s =
     elim (is_before s.cell s.device x) as (λ b. Contains (cond b (x ∷ placed xs s) (s ∷ x ∷ xs)) s) [
-      | true ↦ Contains-tail x (placed xs s) s (placed_new xs s)
-      | false ↦ Contains-head s (x ∷ xs)
+      | true ↦ Contains_tail x (placed xs s) s (placed_new xs s)
+      | false ↦ Contains_head s (x ∷ xs)
     ]
 
 placed_old : (xs : List EndpointSpec) (s x : EndpointSpec) → Contains xs x → Contains (placed xs s) x
 placed_old [] s x h = let below : h.0 < 0 = h.1 in absurd (omega arith)
 placed_old (y ∷ ys) s x h =
     let later : y ≡ x ⊎ Contains (placed ys s) x =
-    ⊎_elim (λ (same : y ≡ x). inl same) (λ (held : Contains ys x). inr (placed_old ys s x held)) (Contains-cases y ys x h) in
+    ⊎_elim (λ (same : y ≡ x). inl same) (λ (held : Contains ys x). inr (placed_old ys s x held)) (Contains_cases y ys x h) in
     let here : Contains (y ∷ placed ys s) x =
-    ⊎_elim (λ (same : y ≡ x). subst (Contains (y ∷ placed ys s)) same (Contains-head y (placed ys s))) (λ (held : Contains (placed ys s) x). Contains-tail y (placed ys s) x held) later in
+    ⊎_elim (λ (same : y ≡ x). subst (Contains (y ∷ placed ys s)) same (Contains_head y (placed ys s))) (λ (held : Contains (placed ys s) x). Contains_tail y (placed ys s) x held) later in
     elim (is_before s.cell s.device y) as (λ b. Contains (cond b (y ∷ placed ys s) (s ∷ y ∷ ys)) x) [
       | true ↦ here
-      | false ↦ Contains-tail s (y ∷ ys) x h
+      | false ↦ Contains_tail s (y ∷ ys) x h
     ]
 
 placed_from : (xs : List EndpointSpec) (s x : EndpointSpec) → Contains (placed xs s) x → (s ≡ x) ⊎ Contains xs x
@@ -116,20 +113,20 @@ pairs_first : {X : Type 0} (R : X → X → Type 0) (x : X) (xs : List X) → Al
 pairs_first R x xs h k d lt = h 0 (suc k) d (omega arith) (omega arith)
 
 -- each two elements are in a relation that rules another out: two that are in the other are one
-pub one-of_pairs : {X : Type 0} (R Q : X → X → Type 0) (none : (a b : X) → R a b → Q a b → ⊥) (turned : (a b : X) → Q a b → Q b a) (xs : List X) (a b : X) → AllPairs R xs → Contains xs a → Contains xs b → Q a b → a ≡ b
-one-of_pairs R Q none turned [] a b pairs has_a has_b is = let below : has_a.0 < 0 = has_a.1 in absurd (omega arith)
-one-of_pairs {X = X} R Q none turned (x ∷ xs) a b pairs has_a has_b is =
+pub one_of_pairs : {X : Type 0} (R Q : X → X → Type 0) (none : (a b : X) → R a b → Q a b → ⊥) (turned : (a b : X) → Q a b → Q b a) (xs : List X) (a b : X) → AllPairs R xs → Contains xs a → Contains xs b → Q a b → a ≡ b
+one_of_pairs R Q none turned [] a b pairs has_a has_b is = let below : has_a.0 < 0 = has_a.1 in absurd (omega arith)
+one_of_pairs {X = X} R Q none turned (x ∷ xs) a b pairs has_a has_b is =
     let first : All (R x) xs = pairs_first R x xs pairs in
     let rest : AllPairs R xs = pairs_rest R x xs pairs in
     let apart : (y z : X) → x ≡ y → Contains xs z → R y z = λ y z same held. subst (λ (v : X). R v z) same (All-contains (R x) xs z first held) in
-    elim (Contains-cases x xs a has_a) as (λ _. a ≡ b) [
-      | inl here ↦ elim (Contains-cases x xs b has_b) as (λ _. a ≡ b) [
+    elim (Contains_cases x xs a has_a) as (λ _. a ≡ b) [
+      | inl here ↦ elim (Contains_cases x xs b has_b) as (λ _. a ≡ b) [
         | inl too ↦ sym here ∙ too
         | inr later ↦ absurd (none a b (apart a b here later) is)
       ]
-      | inr later ↦ elim (Contains-cases x xs b has_b) as (λ _. a ≡ b) [
+      | inr later ↦ elim (Contains_cases x xs b has_b) as (λ _. a ≡ b) [
         | inl here ↦ absurd (none b a (apart b a here later) (turned a b is))
-        | inr too ↦ one-of_pairs R Q none turned xs a b rest later too is
+        | inr too ↦ one_of_pairs R Q none turned xs a b rest later too is
       ]
     ]
 
@@ -178,31 +175,31 @@ pub record HaveJoined (specs news now : List EndpointSpec) : Type 0 where
 
 joined_more : (specs : List EndpointSpec) (s : EndpointSpec) (news now : List EndpointSpec) → HaveJoined (placed specs s) news now → HaveJoined specs (s ∷ news) now
 joined_more specs s news now rest =
-    let is_new : (x : EndpointSpec) → s ≡ x → Contains (s ∷ news) x = λ x same. subst (Contains (s ∷ news)) same (Contains-head s news) in
+    let is_new : (x : EndpointSpec) → s ≡ x → Contains (s ∷ news) x = λ x same. subst (Contains (s ∷ news)) same (Contains_head s news) in
     let here : Contains now s = rest.old s (placed_new specs s) in
     record {
       row = rest.row;
       from = λ x h.
           ⊎_elim
           (λ (held : Contains (placed specs s) x). ⊎_elim (λ (same : s ≡ x). inr (is_new x same)) (λ (old : Contains specs x). inl old) (placed_from specs s x held))
-          (λ (later : Contains news x). inr (Contains-tail s news x later))
+          (λ (later : Contains news x). inr (Contains_tail s news x later))
           (rest.from x h);
       old = λ x h. rest.old x (placed_old specs s x h);
-      new = λ x h. ⊎_elim (λ (same : s ≡ x). subst (Contains now) same here) (λ (later : Contains news x). rest.new x later) (Contains-cases s news x h);
+      new = λ x h. ⊎_elim (λ (same : s ≡ x). subst (Contains now) same here) (λ (later : Contains news x). rest.new x later) (Contains_cases s news x h);
     }
 
 -- those of a cell join others that they are apart from
-pub all-join : (specs news : List EndpointSpec) → AreRow specs → AllPairs AreApart news → ((x y : EndpointSpec) → Contains specs x → Contains news y → AreApart x y) → HaveJoined specs news (fold placed specs news)
-all-join specs [] row single apart = record { row = row; from = λ x h. inl h; old = λ x h. h; new = λ x h. let below : h.0 < 0 = h.1 in absurd (omega arith) }
-all-join specs (s ∷ news) row single apart =
-    let next : AreRow (placed specs s) = row_placed specs s row (λ k d lt. apart_turned (get_or specs k d) s (apart (get_or specs k d) s (Contains-get_or specs k d lt) (Contains-head s news))) in
+pub all_join : (specs news : List EndpointSpec) → AreRow specs → AllPairs AreApart news → ((x y : EndpointSpec) → Contains specs x → Contains news y → AreApart x y) → HaveJoined specs news (fold placed specs news)
+all_join specs [] row single apart = record { row = row; from = λ x h. inl h; old = λ x h. h; new = λ x h. let below : h.0 < 0 = h.1 in absurd (omega arith) }
+all_join specs (s ∷ news) row single apart =
+    let next : AreRow (placed specs s) = row_placed specs s row (λ k d lt. apart_turned (get_or specs k d) s (apart (get_or specs k d) s (Contains-get_or specs k d lt) (Contains_head s news))) in
     let first : All (AreApart s) news = pairs_first AreApart s news single in
     let still : (x y : EndpointSpec) → Contains (placed specs s) x → Contains news y → AreApart x y = λ x y held later.
     ⊎_elim
     (λ (same : s ≡ x). subst (λ (z : EndpointSpec). AreApart z y) same (All-contains (AreApart s) news y first later))
-    (λ (old : Contains specs x). apart x y old (Contains-tail s news y later))
+    (λ (old : Contains specs x). apart x y old (Contains_tail s news y later))
     (placed_from specs s x held) in
-    joined_more specs s news (fold placed (placed specs s) news) (all-join (placed specs s) news next (pairs_rest AreApart s news single) still)
+    joined_more specs s news (fold placed (placed specs s) news) (all_join (placed specs s) news next (pairs_rest AreApart s news single) still)
 
 -- ---- those of a cell leave
 
@@ -223,22 +220,22 @@ left_more specs s gone now rest =
     let other : EndpointSpec → Bool = λ x. not (is_device s.cell s.device x) in
     record {
       row = rest.row;
-      from = λ x h. (IsFound-from_filter other specs x (rest.from x h)).held;
+      from = λ x h. (IsFound_from_filter other specs x (rest.from x h)).held;
       beside = λ x h t held.
           ⊎_elim
-          (λ (same : s ≡ t). ap (λ (z : EndpointSpec). is_device z.cell z.device x) (sym same) ∙ not-true (is_device s.cell s.device x) (IsFound-from_filter other specs x (rest.from x h)).passes)
+          (λ (same : s ≡ t). ap (λ (z : EndpointSpec). is_device z.cell z.device x) (sym same) ∙ not-true (is_device s.cell s.device x) (IsFound_from_filter other specs x (rest.from x h)).passes)
           (λ (later : Contains gone t). rest.beside x h t later)
-          (Contains-cases s gone t held);
+          (Contains_cases s gone t held);
       stay = λ x h beside.
           rest.stay x
-          (Contains-filter other specs x h (not_from_false (is_device s.cell s.device x) (beside s (Contains-head s gone))))
-          (λ t later. beside t (Contains-tail s gone t later));
+          (Contains_filter other specs x h (not_from_false (is_device s.cell s.device x) (beside s (Contains_head s gone))))
+          (λ t later. beside t (Contains_tail s gone t later));
     }
 
-pub all-leave : (specs gone : List EndpointSpec) → AreRow specs → HaveLeft specs gone (fold without specs gone)
+pub all_leave : (specs gone : List EndpointSpec) → AreRow specs → HaveLeft specs gone (fold without specs gone)
 unfolding IsBeside
-all-leave specs [] row = record { row = row; from = λ x h. h; beside = λ x h t held. (let below : held.0 < 0 = held.1 in absurd (omega arith)); stay = λ x h beside. h }
-all-leave specs (s ∷ gone) row =
+all_leave specs [] row = record { row = row; from = λ x h. h; beside = λ x h t held. (let below : held.0 < 0 = held.1 in absurd (omega arith)); stay = λ x h beside. h }
+all_leave specs (s ∷ gone) row =
     let other : EndpointSpec → Bool = λ x. not (is_device s.cell s.device x) in
     let next : AreRow (without specs s) = record { apart = AllPairs-filter AreApart other specs row.apart; order = AllPairs-filter ComesBefore other specs row.order } in
-    left_more specs s gone (fold without (without specs s) gone) (all-leave (without specs s) gone next)
+    left_more specs s gone (fold without (without specs s) gone) (all_leave (without specs s) gone next)

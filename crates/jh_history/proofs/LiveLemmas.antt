@@ -2,7 +2,7 @@
 use Rattle.std.proofs.Common.{◌≡◌, ℕ, zero, suc, ◌+◌, ◌-◌, ◌<◌, ◌≤◌, Bool, true, false, cond, ◌||◌, ◌&&◌, not, eqb, List, [], ◌∷◌, ◌++◌, length, get_or, drop, set, remove, Option, Some, None, refl, sym, ap, ◌∙◌, arith}
 use Rattle.std.specs.Prelude.{find, map, filter, option_map}
 use Rattle.std.proofs.lemmas.List.{drop_more, drop_all}
-use Rattle.jh_num.proofs.Lists.{find-map}
+use Rattle.jh_num.proofs.Lists.{find_map}
 use Rattle.jh_cellcfg.specs.declared.config.CellConfig.{CellConfig}
 use Rattle.jh_cellcfg.specs.declared.live.Live.{Live}
 use Rattle.jh_cellcfg.specs.Lives.{has_id, id_of}
@@ -11,6 +11,7 @@ use Rattle.jh_history.specs.Phases.{configs_of}
 use Rattle.jh_history.specs.Calls.{is_told, is_told_by, first_told, behind}
 use Rattle.jh_history.specs.Commits.{marked, is_other}
 use Rattle.jh_history.specs.LiveView.{joined}
+use Rattle.jh_history.proofs.LoopLemmas.{live_of}
 
 abbrev config : Live → CellConfig
 config live = live.config
@@ -22,8 +23,8 @@ abbrev pub number : CellConfig → ℕ
 number c = c.id
 
 -- the cell with the id
-pub live_in-is : (lives : List Live) (cells : List CellConfig) (id : ℕ) → configs_of lives ≡ cells → find (has_number id) cells ≡ live_in lives id
-live_in-is lives cells id e = ap (find (has_number id)) (sym e) ∙ find-map config (has_number id) lives
+pub live_in_is : (lives : List Live) (cells : List CellConfig) (id : ℕ) → configs_of lives ≡ cells → find (has_number id) cells ≡ live_in lives id
+live_in_is lives cells id e = ap (find (has_number id)) (sym e) ∙ find_map config (has_number id) lives
 
 -- the first cell that is told
 abbrev pub told_of : ℕ → List CellConfig → Option ℕ
@@ -33,11 +34,11 @@ both_maps : (o : Option Live) → option_map number (option_map config o) ≡ op
 both_maps (Some live) = refl
 both_maps None = refl
 
-told_of-is : (about : ℕ) (lives : List Live) → told_of about (configs_of lives) ≡ first_told about lives
-told_of-is about lives = ap (option_map number) (find-map config (is_told_by about) lives) ∙ both_maps (find (is_told about) lives)
+told_of_is : (about : ℕ) (lives : List Live) → told_of about (configs_of lives) ≡ first_told about lives
+told_of_is about lives = ap (option_map number) (find_map config (is_told_by about) lives) ∙ both_maps (find (is_told about) lives)
 
-pub first_told-is : (about : ℕ) (lives : List Live) (cells : List CellConfig) → configs_of lives ≡ cells → told_of about cells ≡ first_told about lives
-first_told-is about lives cells e = ap (told_of about) (sym e) ∙ told_of-is about lives
+pub first_told_is : (about : ℕ) (lives : List Live) (cells : List CellConfig) → configs_of lives ≡ cells → told_of about cells ≡ first_told about lives
+first_told_is about lives cells e = ap (told_of about) (sym e) ∙ told_of_is about lives
 
 -- those behind the one with the id
 abbrev pub behind_of : ℕ → List CellConfig → List CellConfig
@@ -48,89 +49,86 @@ behind_by : (id : ℕ) (b : Bool) (lives rest : List Live) → behind_of id (con
 behind_by id true lives rest e = refl
 behind_by id false lives rest e = e
 
-behind_of-is : (id : ℕ) (lives : List Live) → behind_of id (configs_of lives) ≡ configs_of (behind id lives)
-behind_of-is id [] = refl
-behind_of-is id (live ∷ lives) = behind_by id (has_id id live) lives (behind id lives) (behind_of-is id lives)
+behind_of_is : (id : ℕ) (lives : List Live) → behind_of id (configs_of lives) ≡ configs_of (behind id lives)
+behind_of_is id [] = refl
+behind_of_is id (live ∷ lives) = behind_by id (has_id id live) lives (behind id lives) (behind_of_is id lives)
 
 -- that of them, or of all of what is left where the one with the id was passed
 abbrev pub told_from : Bool → ℕ → ℕ → List CellConfig → Option ℕ
 told_from true about id cells = told_of about cells
 told_from false about id cells = told_of about (behind_of id cells)
 
-pub next_told-is : (about id : ℕ) (lives : List Live) (cells : List CellConfig) → configs_of lives ≡ cells → told_from false about id cells ≡ first_told about (behind id lives)
-next_told-is about id lives cells e =
+pub next_told_is : (about id : ℕ) (lives : List Live) (cells : List CellConfig) → configs_of lives ≡ cells → told_from false about id cells ≡ first_told about (behind id lives)
+next_told_is about id lives cells e =
     ap (λ (cs : List CellConfig). told_of about (behind_of id cs)) (sym e)
-    ∙ ap (told_of about) (behind_of-is id lives)
-    ∙ told_of-is about (behind id lives)
+    ∙ ap (told_of about) (behind_of_is id lives)
+    ∙ told_of_is about (behind id lives)
 
-pub told_from-end : (b : Bool) (about id : ℕ) → told_from b about id [] ≡ None
-told_from-end true about id = refl
-told_from-end false about id = refl
+pub told_from_end : (b : Bool) (about id : ℕ) → told_from b about id [] ≡ None
+told_from_end true about id = refl
+told_from_end false about id = refl
 
-pub told_from-here : (b : Bool) (about id : ℕ) (c : CellConfig) (cs : List CellConfig) → b ≡ true → is_told_by about c ≡ true → told_from b about id (c ∷ cs) ≡ Some c.id
-told_from-here b about id c cs e told = rw (e, told) refl
+pub told_from_here : (b : Bool) (about id : ℕ) (c : CellConfig) (cs : List CellConfig) → b ≡ true → is_told_by about c ≡ true → told_from b about id (c ∷ cs) ≡ Some c.id
+told_from_here b about id c cs e told = rw (e, told) refl
 
-told_from-pass : (about id : ℕ) (c : CellConfig) (cs : List CellConfig) (b : Bool) → told_of about (cond b cs (behind_of id cs)) ≡ told_from b about id cs
-told_from-pass about id c cs true = refl
-told_from-pass about id c cs false = refl
+told_from_pass : (about id : ℕ) (c : CellConfig) (cs : List CellConfig) (b : Bool) → told_of about (cond b cs (behind_of id cs)) ≡ told_from b about id cs
+told_from_pass about id c cs true = refl
+told_from_pass about id c cs false = refl
 
-pub told_from-skip : (b : Bool) (about id : ℕ) (c : CellConfig) (cs : List CellConfig) → (b && is_told_by about c) ≡ false → told_from b about id (c ∷ cs) ≡ told_from (b || has_number id c) about id cs
-told_from-skip true about id c cs fails = rw fails refl
-told_from-skip false about id c cs fails = told_from-pass about id c cs (has_number id c)
+pub told_from_skip : (b : Bool) (about id : ℕ) (c : CellConfig) (cs : List CellConfig) → (b && is_told_by about c) ≡ false → told_from b about id (c ∷ cs) ≡ told_from (b || has_number id c) about id cs
+told_from_skip true about id c cs fails = rw fails refl
+told_from_skip false about id c cs fails = told_from_pass about id c cs (has_number id c)
 
 -- a loop over the cells, one further
-pub found-here : (p : CellConfig → Bool) (cells : List CellConfig) (k : ℕ) (c : CellConfig) → k < length cells → c ≡ get_or cells k c → p c ≡ true → find p (drop k cells) ≡ Some c
-found-here p cells k c lt is passes = ap (find p) (drop_more cells k c lt) ∙ rw (← is, passes) refl
+pub found_here : (p : CellConfig → Bool) (cells : List CellConfig) (k : ℕ) (c : CellConfig) → k < length cells → c ≡ get_or cells k c → p c ≡ true → find p (drop k cells) ≡ Some c
+found_here p cells k c lt is passes = ap (find p) (drop_more cells k c lt) ∙ rw (← is, passes) refl
 
-pub nothing-left : {X : Type 0} (xs : List X) (k : ℕ) → length xs ≤ k → drop k xs ≡ []
-nothing-left xs k le = drop_all k xs le
+pub nothing_left : {X : Type 0} (xs : List X) (k : ℕ) → length xs ≤ k → drop k xs ≡ []
+nothing_left xs k le = drop_all k xs le
 
-pub told_from-found : (b : Bool) (about id : ℕ) (cells : List CellConfig) (k : ℕ) (c : CellConfig) → k < length cells → c ≡ get_or cells k c → b ≡ true → is_told_by about c ≡ true
+pub told_from_found : (b : Bool) (about id : ℕ) (cells : List CellConfig) (k : ℕ) (c : CellConfig) → k < length cells → c ≡ get_or cells k c → b ≡ true → is_told_by about c ≡ true
     → told_from b about id (drop k cells) ≡ Some c.id
-told_from-found b about id cells k c lt is behind told =
+told_from_found b about id cells k c lt is behind told =
     ap (told_from b about id) (drop_more cells k c lt)
     ∙ ap (λ (d : CellConfig). told_from b about id (d ∷ drop (k + 1) cells)) (sym is)
-    ∙ told_from-here b about id c (drop (k + 1) cells) behind told
+    ∙ told_from_here b about id c (drop (k + 1) cells) behind told
 
-pub told_from-next : (b after : Bool) (about id : ℕ) (cells : List CellConfig) (k : ℕ) (c : CellConfig) → k < length cells → c ≡ get_or cells k c → (b && is_told_by about c) ≡ false → after ≡ (b || has_number id c)
+pub told_from_next : (b after : Bool) (about id : ℕ) (cells : List CellConfig) (k : ℕ) (c : CellConfig) → k < length cells → c ≡ get_or cells k c → (b && is_told_by about c) ≡ false → after ≡ (b || has_number id c)
     → told_from after about id (drop (k + 1) cells) ≡ told_from b about id (drop k cells)
-told_from-next b after about id cells k c lt is fails passed =
+told_from_next b after about id cells k c lt is fails passed =
     sym
     (ap (told_from b about id) (drop_more cells k c lt)
     ∙ ap (λ (d : CellConfig). told_from b about id (d ∷ drop (k + 1) cells)) (sym is)
-    ∙ told_from-skip b about id c (drop (k + 1) cells) fails
+    ∙ told_from_skip b about id c (drop (k + 1) cells) fails
     ∙ ap (λ (p : Bool). told_from p about id (drop (k + 1) cells)) (sym passed))
 
 -- configurations with their marks
-pub configs-joined : (cells : List CellConfig) (marks : List Bool) → length marks ≡ length cells → configs_of (joined cells marks) ≡ cells
-configs-joined [] marks e = refl
-configs-joined (c ∷ cs) [] e = absurd (omega arith)
-configs-joined (c ∷ cs) (m ∷ ms) e = ap (λ (rest : List CellConfig). c ∷ rest) (configs-joined cs ms (omega arith))
+pub configs_joined : (cells : List CellConfig) (marks : List Bool) → length marks ≡ length cells → configs_of (joined cells marks) ≡ cells
+configs_joined [] marks e = refl
+configs_joined (c ∷ cs) [] e = absurd (omega arith)
+configs_joined (c ∷ cs) (m ∷ ms) e = ap (λ (rest : List CellConfig). c ∷ rest) (configs_joined cs ms (omega arith))
 
-pub length-joined : (cells : List CellConfig) (marks : List Bool) → length marks ≡ length cells → length (joined cells marks) ≡ length cells
-length-joined [] marks e = refl
-length-joined (c ∷ cs) [] e = absurd (omega arith)
-length-joined (c ∷ cs) (m ∷ ms) e = ap (λ n. suc n) (length-joined cs ms (omega arith))
+pub length_joined : (cells : List CellConfig) (marks : List Bool) → length marks ≡ length cells → length (joined cells marks) ≡ length cells
+length_joined [] marks e = refl
+length_joined (c ∷ cs) [] e = absurd (omega arith)
+length_joined (c ∷ cs) (m ∷ ms) e = ap (λ n. suc n) (length_joined cs ms (omega arith))
 
-abbrev live_of : CellConfig → Bool → Live
-live_of c mark = record { config = c; loadable = mark }
+pub joined_push : (cells : List CellConfig) (marks : List Bool) (c : CellConfig) (mark : Bool) → length marks ≡ length cells → joined (cells ++ c ∷ []) (marks ++ mark ∷ []) ≡ joined cells marks ++ live_of c mark ∷ []
+joined_push [] [] c mark e = refl
+joined_push [] (m ∷ ms) c mark e = absurd (omega arith)
+joined_push (x ∷ cs) [] c mark e = absurd (omega arith)
+joined_push (x ∷ cs) (m ∷ ms) c mark e = ap (λ (rest : List Live). live_of x m ∷ rest) (joined_push cs ms c mark (omega arith))
 
-pub joined-push : (cells : List CellConfig) (marks : List Bool) (c : CellConfig) (mark : Bool) → length marks ≡ length cells → joined (cells ++ c ∷ []) (marks ++ mark ∷ []) ≡ joined cells marks ++ live_of c mark ∷ []
-joined-push [] [] c mark e = refl
-joined-push [] (m ∷ ms) c mark e = absurd (omega arith)
-joined-push (x ∷ cs) [] c mark e = absurd (omega arith)
-joined-push (x ∷ cs) (m ∷ ms) c mark e = ap (λ (rest : List Live). live_of x m ∷ rest) (joined-push cs ms c mark (omega arith))
+pub joined_remove : (i : ℕ) (cells : List CellConfig) (marks : List Bool) → length marks ≡ length cells → i < length cells → joined (remove cells i) (remove marks i) ≡ remove (joined cells marks) i
+joined_remove i [] marks e l = absurd (omega arith)
+joined_remove i (c ∷ cs) [] e l = absurd (omega arith)
+joined_remove zero (c ∷ cs) (m ∷ ms) e l = refl
+joined_remove (suc i) (c ∷ cs) (m ∷ ms) e l = ap (λ (rest : List Live). live_of c m ∷ rest) (joined_remove i cs ms (omega arith) (omega arith))
 
-pub joined-remove : (i : ℕ) (cells : List CellConfig) (marks : List Bool) → length marks ≡ length cells → i < length cells → joined (remove cells i) (remove marks i) ≡ remove (joined cells marks) i
-joined-remove i [] marks e l = absurd (omega arith)
-joined-remove i (c ∷ cs) [] e l = absurd (omega arith)
-joined-remove zero (c ∷ cs) (m ∷ ms) e l = refl
-joined-remove (suc i) (c ∷ cs) (m ∷ ms) e l = ap (λ (rest : List Live). live_of c m ∷ rest) (joined-remove i cs ms (omega arith) (omega arith))
-
-pub length-removed : {X : Type 0} (i : ℕ) (xs : List X) → i < length xs → suc (length (remove xs i)) ≡ length xs
-length-removed i [] l = absurd (omega arith)
-length-removed zero (x ∷ xs) l = refl
-length-removed (suc i) (x ∷ xs) l = ap (λ n. suc n) (length-removed i xs (omega arith))
+pub length_removed : {X : Type 0} (i : ℕ) (xs : List X) → i < length xs → suc (length (remove xs i)) ≡ length xs
+length_removed i [] l = absurd (omega arith)
+length_removed zero (x ∷ xs) l = refl
+length_removed (suc i) (x ∷ xs) l = ap (λ n. suc n) (length_removed i xs (omega arith))
 
 -- the marks where those of the first so many cells are put
 abbrev pub marks_to : ℕ → ℕ → Bool → List CellConfig → List Bool → List Bool
@@ -143,32 +141,26 @@ marked_by : (id : ℕ) (loadable : Bool) (c : CellConfig) (m b : Bool) → live_
 marked_by id loadable c m true = refl
 marked_by id loadable c m false = refl
 
-pub marks_to-all : (id : ℕ) (loadable : Bool) (cells : List CellConfig) (marks : List Bool) → length marks ≡ length cells → joined cells (marks_to (length cells) id loadable cells marks) ≡ map (marked id loadable) (joined cells marks)
-marks_to-all id loadable [] marks e = refl
-marks_to-all id loadable (c ∷ cs) [] e = absurd (omega arith)
-marks_to-all id loadable (c ∷ cs) (m ∷ ms) e =
+pub marks_to_all : (id : ℕ) (loadable : Bool) (cells : List CellConfig) (marks : List Bool) → length marks ≡ length cells → joined cells (marks_to (length cells) id loadable cells marks) ≡ map (marked id loadable) (joined cells marks)
+marks_to_all id loadable [] marks e = refl
+marks_to_all id loadable (c ∷ cs) [] e = absurd (omega arith)
+marks_to_all id loadable (c ∷ cs) (m ∷ ms) e =
     ap (λ (live : Live). live ∷ joined cs (marks_to (length cs) id loadable cs ms)) (marked_by id loadable c m (has_number id c))
-    ∙ ap (λ (rest : List Live). marked id loadable (live_of c m) ∷ rest) (marks_to-all id loadable cs ms (omega arith))
+    ∙ ap (λ (rest : List Live). marked id loadable (live_of c m) ∷ rest) (marks_to_all id loadable cs ms (omega arith))
 
-pub marks_to-length : (n id : ℕ) (loadable : Bool) (cells : List CellConfig) (marks : List Bool) → length marks ≡ length cells → length (marks_to n id loadable cells marks) ≡ length cells
-marks_to-length zero id loadable cells marks e = e
-marks_to-length (suc n) id loadable [] marks e = e
-marks_to-length (suc n) id loadable (c ∷ cs) [] e = e
-marks_to-length (suc n) id loadable (c ∷ cs) (m ∷ ms) e = ap (λ k. suc k) (marks_to-length n id loadable cs ms (omega arith))
-
-pub marks_to-put : (i id : ℕ) (loadable : Bool) (cells : List CellConfig) (marks : List Bool) (d : CellConfig) → length marks ≡ length cells → i < length cells → has_number id (get_or cells i d) ≡ true
+pub marks_to_put : (i id : ℕ) (loadable : Bool) (cells : List CellConfig) (marks : List Bool) (d : CellConfig) → length marks ≡ length cells → i < length cells → has_number id (get_or cells i d) ≡ true
     → set (marks_to i id loadable cells marks) i loadable ≡ marks_to (suc i) id loadable cells marks
-marks_to-put i id loadable [] marks d e lt is = absurd (omega arith)
-marks_to-put i id loadable (c ∷ cs) [] d e lt is = absurd (omega arith)
-marks_to-put zero id loadable (c ∷ cs) (m ∷ ms) d e lt is = ap (λ b. cond b loadable m ∷ ms) (sym is)
-marks_to-put (suc i) id loadable (c ∷ cs) (m ∷ ms) d e lt is = ap (λ (rest : List Bool). cond (has_number id c) loadable m ∷ rest) (marks_to-put i id loadable cs ms d (omega arith) (omega arith) is)
+marks_to_put i id loadable [] marks d e lt is = absurd (omega arith)
+marks_to_put i id loadable (c ∷ cs) [] d e lt is = absurd (omega arith)
+marks_to_put zero id loadable (c ∷ cs) (m ∷ ms) d e lt is = ap (λ b. cond b loadable m ∷ ms) (sym is)
+marks_to_put (suc i) id loadable (c ∷ cs) (m ∷ ms) d e lt is = ap (λ (rest : List Bool). cond (has_number id c) loadable m ∷ rest) (marks_to_put i id loadable cs ms d (omega arith) (omega arith) is)
 
-pub marks_to-skip : (i id : ℕ) (loadable : Bool) (cells : List CellConfig) (marks : List Bool) (d : CellConfig) → length marks ≡ length cells → i < length cells → has_number id (get_or cells i d) ≡ false
+pub marks_to_skip : (i id : ℕ) (loadable : Bool) (cells : List CellConfig) (marks : List Bool) (d : CellConfig) → length marks ≡ length cells → i < length cells → has_number id (get_or cells i d) ≡ false
     → marks_to i id loadable cells marks ≡ marks_to (suc i) id loadable cells marks
-marks_to-skip i id loadable [] marks d e lt is = absurd (omega arith)
-marks_to-skip i id loadable (c ∷ cs) [] d e lt is = absurd (omega arith)
-marks_to-skip zero id loadable (c ∷ cs) (m ∷ ms) d e lt is = ap (λ b. cond b loadable m ∷ ms) (sym is)
-marks_to-skip (suc i) id loadable (c ∷ cs) (m ∷ ms) d e lt is = ap (λ (rest : List Bool). cond (has_number id c) loadable m ∷ rest) (marks_to-skip i id loadable cs ms d (omega arith) (omega arith) is)
+marks_to_skip i id loadable [] marks d e lt is = absurd (omega arith)
+marks_to_skip i id loadable (c ∷ cs) [] d e lt is = absurd (omega arith)
+marks_to_skip zero id loadable (c ∷ cs) (m ∷ ms) d e lt is = ap (λ b. cond b loadable m ∷ ms) (sym is)
+marks_to_skip (suc i) id loadable (c ∷ cs) (m ∷ ms) d e lt is = ap (λ (rest : List Bool). cond (has_number id c) loadable m ∷ rest) (marks_to_skip i id loadable cs ms d (omega arith) (omega arith) is)
 
 -- the list without those elements from the place on that fail
 abbrev pub left_from : {X : Type 0} → ℕ → (X → Bool) → List X → List X
@@ -176,88 +168,88 @@ left_from zero p xs = filter p xs
 left_from (suc n) p [] = []
 left_from (suc n) p (x ∷ xs) = x ∷ left_from n p xs
 
-pub left_from-all : {X : Type 0} (p : X → Bool) (xs : List X) → left_from (length xs) p xs ≡ xs
-left_from-all p [] = refl
-left_from-all p (x ∷ xs) = ap (λ rest. x ∷ rest) (left_from-all p xs)
+pub left_from_all : {X : Type 0} (p : X → Bool) (xs : List X) → left_from (length xs) p xs ≡ xs
+left_from_all p [] = refl
+left_from_all p (x ∷ xs) = ap (λ rest. x ∷ rest) (left_from_all p xs)
 
-pub left_from-long : {X : Type 0} (i : ℕ) (p : X → Bool) (xs : List X) → i < length xs → i < length (left_from (suc i) p xs)
-left_from-long i p [] lt = absurd (omega arith)
-left_from-long zero p (x ∷ xs) lt = omega arith
-left_from-long (suc i) p (x ∷ xs) lt = let h = left_from-long i p xs (omega arith) in omega arith
+pub left_from_long : {X : Type 0} (i : ℕ) (p : X → Bool) (xs : List X) → i < length xs → i < length (left_from (suc i) p xs)
+left_from_long i p [] lt = absurd (omega arith)
+left_from_long zero p (x ∷ xs) lt = omega arith
+left_from_long (suc i) p (x ∷ xs) lt = let h = left_from_long i p xs (omega arith) in omega arith
 
-pub left_from-at : {X : Type 0} (i : ℕ) (p : X → Bool) (xs : List X) (d : X) → i < length xs → get_or (left_from (suc i) p xs) i d ≡ get_or xs i d
-left_from-at i p [] d lt = absurd (omega arith)
-left_from-at zero p (x ∷ xs) d lt = refl
-left_from-at (suc i) p (x ∷ xs) d lt = left_from-at i p xs d (omega arith)
+pub left_from_at : {X : Type 0} (i : ℕ) (p : X → Bool) (xs : List X) (d : X) → i < length xs → get_or (left_from (suc i) p xs) i d ≡ get_or xs i d
+left_from_at i p [] d lt = absurd (omega arith)
+left_from_at zero p (x ∷ xs) d lt = refl
+left_from_at (suc i) p (x ∷ xs) d lt = left_from_at i p xs d (omega arith)
 
-pub left_from-keep : {X : Type 0} (i : ℕ) (p : X → Bool) (xs : List X) (d : X) → i < length xs → p (get_or xs i d) ≡ true → left_from (suc i) p xs ≡ left_from i p xs
-left_from-keep i p [] d lt is = absurd (omega arith)
-left_from-keep zero p (x ∷ xs) d lt is = ap (λ b. cond b (x ∷ filter p xs) (filter p xs)) (sym is)
-left_from-keep (suc i) p (x ∷ xs) d lt is = ap (λ rest. x ∷ rest) (left_from-keep i p xs d (omega arith) is)
+pub left_from_keep : {X : Type 0} (i : ℕ) (p : X → Bool) (xs : List X) (d : X) → i < length xs → p (get_or xs i d) ≡ true → left_from (suc i) p xs ≡ left_from i p xs
+left_from_keep i p [] d lt is = absurd (omega arith)
+left_from_keep zero p (x ∷ xs) d lt is = ap (λ b. cond b (x ∷ filter p xs) (filter p xs)) (sym is)
+left_from_keep (suc i) p (x ∷ xs) d lt is = ap (λ rest. x ∷ rest) (left_from_keep i p xs d (omega arith) is)
 
-pub left_from-drop : {X : Type 0} (i : ℕ) (p : X → Bool) (xs : List X) (d : X) → i < length xs → p (get_or xs i d) ≡ false → remove (left_from (suc i) p xs) i ≡ left_from i p xs
-left_from-drop i p [] d lt is = absurd (omega arith)
-left_from-drop zero p (x ∷ xs) d lt is = ap (λ b. cond b (x ∷ filter p xs) (filter p xs)) (sym is)
-left_from-drop (suc i) p (x ∷ xs) d lt is = ap (λ rest. x ∷ rest) (left_from-drop i p xs d (omega arith) is)
+pub left_from_drop : {X : Type 0} (i : ℕ) (p : X → Bool) (xs : List X) (d : X) → i < length xs → p (get_or xs i d) ≡ false → remove (left_from (suc i) p xs) i ≡ left_from i p xs
+left_from_drop i p [] d lt is = absurd (omega arith)
+left_from_drop zero p (x ∷ xs) d lt is = ap (λ b. cond b (x ∷ filter p xs) (filter p xs)) (sym is)
+left_from_drop (suc i) p (x ∷ xs) d lt is = ap (λ rest. x ∷ rest) (left_from_drop i p xs d (omega arith) is)
 
 -- the configuration at a place
-pub joined-at : (i : ℕ) (cells : List CellConfig) (marks : List Bool) (d : Live) (c : CellConfig) → length marks ≡ length cells → i < length cells → config (get_or (joined cells marks) i d) ≡ get_or cells i c
-joined-at i [] marks d c e lt = absurd (omega arith)
-joined-at i (x ∷ cs) [] d c e lt = absurd (omega arith)
-joined-at zero (x ∷ cs) (m ∷ ms) d c e lt = refl
-joined-at (suc i) (x ∷ cs) (m ∷ ms) d c e lt = joined-at i cs ms d c (omega arith) (omega arith)
+pub joined_at : (i : ℕ) (cells : List CellConfig) (marks : List Bool) (d : Live) (c : CellConfig) → length marks ≡ length cells → i < length cells → config (get_or (joined cells marks) i d) ≡ get_or cells i c
+joined_at i [] marks d c e lt = absurd (omega arith)
+joined_at i (x ∷ cs) [] d c e lt = absurd (omega arith)
+joined_at zero (x ∷ cs) (m ∷ ms) d c e lt = refl
+joined_at (suc i) (x ∷ cs) (m ∷ ms) d c e lt = joined_at i cs ms d c (omega arith) (omega arith)
 
 -- a loop that takes cells away, from the last one on
-leave-at : (k id : ℕ) (first cells : List CellConfig) (first_marks marks : List Bool) (c : CellConfig) → length first_marks ≡ length first → length marks ≡ length cells → k < length first
+leave_at : (k id : ℕ) (first cells : List CellConfig) (first_marks marks : List Bool) (c : CellConfig) → length first_marks ≡ length first → length marks ≡ length cells → k < length first
     → k < length cells → c ≡ get_or cells k c → joined cells marks ≡ left_from (suc k) (is_other id) (joined first first_marks)
     → is_other id (get_or (joined first first_marks) k (live_of c false)) ≡ not (has_number id c)
-leave-at k id first cells first_marks marks c even_first even lt within is left =
+leave_at k id first cells first_marks marks c even_first even lt within is left =
     let d = live_of c false in
-    let long : k < length (joined first first_marks) = (let e = length-joined first first_marks even_first in omega arith) in
+    let long : k < length (joined first first_marks) = (let e = length_joined first first_marks even_first in omega arith) in
     let same : get_or (joined cells marks) k d ≡ get_or (joined first first_marks) k d =
-    ap (λ (lives : List Live). get_or lives k d) left ∙ left_from-at k (is_other id) (joined first first_marks) d long in
-    let at : config (get_or (joined first first_marks) k d) ≡ c = ap config (sym same) ∙ joined-at k cells marks d c even within ∙ sym is in
+    ap (λ (lives : List Live). get_or lives k d) left ∙ left_from_at k (is_other id) (joined first first_marks) d long in
+    let at : config (get_or (joined first first_marks) k d) ≡ c = ap config (sym same) ∙ joined_at k cells marks d c even within ∙ sym is in
     ap (λ (x : CellConfig). not (has_number id x)) at
 
-pub leave-within : (k id : ℕ) (first cells : List CellConfig) (first_marks marks : List Bool) → length first_marks ≡ length first → length marks ≡ length cells → k < length first
+pub leave_within : (k id : ℕ) (first cells : List CellConfig) (first_marks marks : List Bool) → length first_marks ≡ length first → length marks ≡ length cells → k < length first
     → joined cells marks ≡ left_from (suc k) (is_other id) (joined first first_marks) → k < length cells
-leave-within k id first cells first_marks marks even_first even lt left =
-    let long : k < length (joined first first_marks) = (let e = length-joined first first_marks even_first in omega arith) in
-    let h = left_from-long k (is_other id) (joined first first_marks) long in
+leave_within k id first cells first_marks marks even_first even lt left =
+    let long : k < length (joined first first_marks) = (let e = length_joined first first_marks even_first in omega arith) in
+    let h = left_from_long k (is_other id) (joined first first_marks) long in
     let e : length (joined cells marks) ≡ length (left_from (suc k) (is_other id) (joined first first_marks)) = ap (λ (lives : List Live). length lives) left in
-    let f = length-joined cells marks even in
+    let f = length_joined cells marks even in
     omega arith
 
-pub leave-keep : (k id : ℕ) (first cells : List CellConfig) (first_marks marks : List Bool) (c : CellConfig) → length first_marks ≡ length first → length marks ≡ length cells → k < length first
+pub leave_keep : (k id : ℕ) (first cells : List CellConfig) (first_marks marks : List Bool) (c : CellConfig) → length first_marks ≡ length first → length marks ≡ length cells → k < length first
     → c ≡ get_or cells k c → joined cells marks ≡ left_from (suc k) (is_other id) (joined first first_marks) → has_number id c ≡ false
     → joined cells marks ≡ left_from k (is_other id) (joined first first_marks)
-leave-keep k id first cells first_marks marks c even_first even lt is left other =
-    let within = leave-within k id first cells first_marks marks even_first even lt left in
-    let long : k < length (joined first first_marks) = (let e = length-joined first first_marks even_first in omega arith) in
+leave_keep k id first cells first_marks marks c even_first even lt is left other =
+    let within = leave_within k id first cells first_marks marks even_first even lt left in
+    let long : k < length (joined first first_marks) = (let e = length_joined first first_marks even_first in omega arith) in
     left
-    ∙ left_from-keep k (is_other id) (joined first first_marks) (live_of c false) long
-    (leave-at k id first cells first_marks marks c even_first even lt within is left ∙ ap not other)
+    ∙ left_from_keep k (is_other id) (joined first first_marks) (live_of c false) long
+    (leave_at k id first cells first_marks marks c even_first even lt within is left ∙ ap not other)
 
-pub leave-drop : (k id : ℕ) (first cells : List CellConfig) (first_marks marks : List Bool) (c : CellConfig) → length first_marks ≡ length first → length marks ≡ length cells → k < length first
+pub leave_drop : (k id : ℕ) (first cells : List CellConfig) (first_marks marks : List Bool) (c : CellConfig) → length first_marks ≡ length first → length marks ≡ length cells → k < length first
     → c ≡ get_or cells k c → joined cells marks ≡ left_from (suc k) (is_other id) (joined first first_marks) → has_number id c ≡ true
     → joined (remove cells k) (remove marks k) ≡ left_from k (is_other id) (joined first first_marks)
-leave-drop k id first cells first_marks marks c even_first even lt is left other =
-    let within = leave-within k id first cells first_marks marks even_first even lt left in
-    let long : k < length (joined first first_marks) = (let e = length-joined first first_marks even_first in omega arith) in
-    joined-remove k cells marks even within
+leave_drop k id first cells first_marks marks c even_first even lt is left other =
+    let within = leave_within k id first cells first_marks marks even_first even lt left in
+    let long : k < length (joined first first_marks) = (let e = length_joined first first_marks even_first in omega arith) in
+    joined_remove k cells marks even within
     ∙ ap (λ (lives : List Live). remove lives k) left
-    ∙ left_from-drop k (is_other id) (joined first first_marks) (live_of c false) long
-    (leave-at k id first cells first_marks marks c even_first even lt within is left ∙ ap not other)
+    ∙ left_from_drop k (is_other id) (joined first first_marks) (live_of c false) long
+    (leave_at k id first cells first_marks marks c even_first even lt within is left ∙ ap not other)
 
-pub leave-even : (k : ℕ) (cells : List CellConfig) (marks : List Bool) → length marks ≡ length cells → k < length cells → length (remove marks k) ≡ length (remove cells k)
-leave-even k cells marks even lt =
-    let a = length-removed k cells lt in
-    let b = length-removed k marks (omega arith) in
+pub leave_even : (k : ℕ) (cells : List CellConfig) (marks : List Bool) → length marks ≡ length cells → k < length cells → length (remove marks k) ≡ length (remove cells k)
+leave_even k cells marks even lt =
+    let a = length_removed k cells lt in
+    let b = length_removed k marks (omega arith) in
     omega arith
 
-pub leave-so_far : (i id : ℕ) (lives rest : List Live) → 0 < i → lives ≡ left_from i (is_other id) rest → lives ≡ left_from (suc (i - 1)) (is_other id) rest
-leave-so_far i id lives rest some is = is ∙ (let e : i ≡ suc (i - 1) = omega arith in ap (λ (n : ℕ). left_from n (is_other id) rest) e)
+pub leave_so_far : (i id : ℕ) (lives rest : List Live) → 0 < i → lives ≡ left_from i (is_other id) rest → lives ≡ left_from (suc (i - 1)) (is_other id) rest
+leave_so_far i id lives rest some is = is ∙ (let e : i ≡ suc (i - 1) = omega arith in ap (λ (n : ℕ). left_from n (is_other id) rest) e)
 
-pub leave-begin : (n id : ℕ) (cells : List CellConfig) (marks : List Bool) → length marks ≡ length cells → n ≡ length cells → joined cells marks ≡ left_from n (is_other id) (joined cells marks)
-leave-begin n id cells marks even is =
-    sym (ap (λ (k : ℕ). left_from k (is_other id) (joined cells marks)) (is ∙ sym (length-joined cells marks even)) ∙ left_from-all (is_other id) (joined cells marks))
+pub leave_begin : (n id : ℕ) (cells : List CellConfig) (marks : List Bool) → length marks ≡ length cells → n ≡ length cells → joined cells marks ≡ left_from n (is_other id) (joined cells marks)
+leave_begin n id cells marks even is =
+    sym (ap (λ (k : ℕ). left_from k (is_other id) (joined cells marks)) (is ∙ sym (length_joined cells marks even)) ∙ left_from_all (is_other id) (joined cells marks))

@@ -33,41 +33,41 @@ use Rattle.jh_history.specs.Facts.{Facts}
 use Rattle.jh_history.specs.History.{start, after}
 use Rattle.jh_history.specs.Wants.{pending_op, goes_on}
 use Rattle.jh_history.specs.Due.{due_at, call_of, is_idle_but, caller_act, state_act, next_act, act_of, await_of, got_by, entry_by, IsLegal, IsLegalFrom}
-use Rattle.jh_script.specs.Operations.{IsPlain}
-use Rattle.jh_history.specs.Admitted.{IsAdmitted, IsPlainAct, IsPlainEntry}
-use Rattle.jh_history.proofs.AdmittedLemmas.{program_of-plain, width_le}
-use Rattle.jh_history.proofs.DueLemmas.{due_at-absent, due_at-present}
+use Rattle.jh_script.specs.Operations.{IsWellFormed}
+use Rattle.jh_history.specs.Admitted.{IsAdmitted, IsWellFormedAct, IsWellFormedEntry}
+use Rattle.jh_history.proofs.AdmittedLemmas.{program_of_plain, width_le}
+use Rattle.jh_history.proofs.DueLemmas.{due_at_absent, due_at_present}
 
 ops_by : (image : Image) (cpu : ℕ) (cell : Option CellConfig) → IsAdmitted image
-    → AllByRecursion IsPlain (option_map_or (λ (c : CellConfig). program_of image (name_of c) cpu) cell [])
-ops_by image cpu (Some c) admitted = recursion_from_All IsPlain (program_of image (name_of c) cpu) (program_of-plain image (name_of c) cpu admitted)
+    → AllByRecursion IsWellFormed (option_map_or (λ (c : CellConfig). program_of image (name_of c) cpu) cell [])
+ops_by image cpu (Some c) admitted = recursion_from_All IsWellFormed (program_of image (name_of c) cpu) (program_of_plain image (name_of c) cpu admitted)
 ops_by image cpu None admitted = tt
 
-pub ops_in-plain : (image : Image) (cells : List Live) (id cpu : ℕ) → IsAdmitted image → AllByRecursion IsPlain (ops_in image cells id cpu)
-ops_in-plain image cells id cpu admitted = ops_by image cpu (cell_in image cells id) admitted
+pub ops_in_plain : (image : Image) (cells : List Live) (id cpu : ℕ) → IsAdmitted image → AllByRecursion IsWellFormed (ops_in image cells id cpu)
+ops_in_plain image cells id cpu admitted = ops_by image cpu (cell_in image cells id) admitted
 
-pub at_place : (ops : List Op) (i : ℕ) → AllByRecursion IsPlain ops → IfSome (slice_get ops i) IsPlain
+pub at_place : (ops : List Op) (i : ℕ) → AllByRecursion IsWellFormed ops → IfSome (slice_get ops i) IsWellFormed
 at_place [] i all = tt
 at_place (op ∷ ops) zero all = all.0
 at_place (op ∷ ops) (suc i) all = at_place ops i all.1
 
-plain_if : (b : Bool) (o : Option Act) → IfSome o IsPlainAct → IfSome (cond b o None) IsPlainAct
+plain_if : (b : Bool) (o : Option Act) → IfSome o IsWellFormedAct → IfSome (cond b o None) IsWellFormedAct
 plain_if true o plain = plain
 plain_if false o plain = tt
 
-plain_await : (width at value : ℕ) (o : Option ℕ) → IfSome (await_of width at value o) IsPlainAct
+plain_await : (width at value : ℕ) (o : Option ℕ) → IfSome (await_of width at value o) IsWellFormedAct
 plain_await width at value None = tt
 plain_await width at value (Some got) = plain_if (eqb got value) (Some (AwaitAct width at value true)) tt
 
-plain_irq : (o : Option (ℕ × ℕ)) → IfSome (option_map (λ (next : ℕ × ℕ). IrqAct next.0 next.1) o) IsPlainAct
+plain_irq : (o : Option (ℕ × ℕ)) → IfSome (option_map (λ (next : ℕ × ℕ). IrqAct next.0 next.1) o) IsWellFormedAct
 plain_irq None = tt
 plain_irq (Some next) = tt
 
-plain_hvc : (code a b : ℕ) (answer : ℤ) (begins : Bool) → IsPlainAct (cond begins (Begin code a b) (HvcAct code a b answer))
+plain_hvc : (code a b : ℕ) (answer : ℤ) (begins : Bool) → IsWellFormedAct (cond begins (Begin code a b) (HvcAct code a b answer))
 plain_hvc code a b answer true = tt
 plain_hvc code a b answer false = tt
 
-plain_act : (image : Image) (f : Facts) (cell : ℕ) (op : Op) → IsPlain op → IfSome (act_of image f cell op) IsPlainAct
+plain_act : (image : Image) (f : Facts) (cell : ℕ) (op : Op) → IsWellFormed op → IfSome (act_of image f cell op) IsWellFormedAct
 plain_act image f cell (Read width at) plain = width_le width plain
 plain_act image f cell (Write width at value) plain = width_le width plain.0
 plain_act image f cell (Fetch at) plain = tt
@@ -75,32 +75,32 @@ plain_act image f cell (Await width at value) plain = plain_await width at value
 plain_act image f cell Irq plain = plain_irq (pending_of cell f.endpoints)
 plain_act image f cell (Hvc code a b) plain = plain_hvc code a b (answer_of (decoded code a b) (seen_of image f cell (decoded code a b))) ((eqb cell image.system.root.id) && is_management (decoded code a b))
 
-plain_op : (image : Image) (f : Facts) (cell : ℕ) (o : Option Op) → IfSome o IsPlain → IfSome (option_and_then (act_of image f cell) o) IsPlainAct
+plain_op : (image : Image) (f : Facts) (cell : ℕ) (o : Option Op) → IfSome o IsWellFormed → IfSome (option_and_then (act_of image f cell) o) IsWellFormedAct
 plain_op image f cell None plain = tt
 plain_op image f cell (Some op) plain = plain_act image f cell op plain
 
-plain_pending : (image : Image) (f : Facts) (state : Cpu) (cpu : ℕ) (b : Bool) → IsAdmitted image → IfSome (cond b (op_at image f state cpu) None) IsPlain
-plain_pending image f state cpu true admitted = at_place (ops_in image f.cells state.owner cpu) state.position (ops_in-plain image f.cells state.owner cpu admitted)
+plain_pending : (image : Image) (f : Facts) (state : Cpu) (cpu : ℕ) (b : Bool) → IsAdmitted image → IfSome (cond b (op_at image f state cpu) None) IsWellFormed
+plain_pending image f state cpu true admitted = at_place (ops_in image f.cells state.owner cpu) state.position (ops_in_plain image f.cells state.owner cpu admitted)
 plain_pending image f state cpu false admitted = tt
 
 plain_state : (image : Image) (f : Facts) (state : Cpu) (cpu : ℕ) (asked : Bool) → IsAdmitted image
-    → IfSome (cond asked (Some Stop) (option_and_then (act_of image f state.owner) (pending_op image f state cpu))) IsPlainAct
+    → IfSome (cond asked (Some Stop) (option_and_then (act_of image f state.owner) (pending_op image f state cpu))) IsWellFormedAct
 plain_state image f state cpu true admitted = tt
 plain_state image f state cpu false admitted = plain_op image f state.owner (pending_op image f state cpu) (plain_pending image f state cpu (goes_on state) admitted)
 
-plain_unless : (b : Bool) (act : Act) → IsPlainAct act → IfSome (cond b None (Some act)) IsPlainAct
+plain_unless : (b : Bool) (act : Act) → IsWellFormedAct act → IfSome (cond b None (Some act)) IsWellFormedAct
 plain_unless true act plain = tt
 plain_unless false act plain = plain
 
-plain_settle : (o : Option Settled) → IfSome (option_map (λ (how : Settled). Settle how) o) IsPlainAct
+plain_settle : (o : Option Settled) → IfSome (option_map (λ (how : Settled). Settle how) o) IsWellFormedAct
 plain_settle None = tt
 plain_settle (Some how) = tt
 
-plain_noted : (id : ℕ) (o : Option Heard) → IfSome (option_map (λ (how : Heard). Noted id how) o) IsPlainAct
+plain_noted : (id : ℕ) (o : Option Heard) → IfSome (option_map (λ (how : Heard). Noted id how) o) IsWellFormedAct
 plain_noted id None = tt
 plain_noted id (Some how) = tt
 
-plain_phase : (image : Image) (f : Facts) (idle : Bool) (caller : ℕ) (call : Call) (phase : Phase) → IfSome (phase_act image f idle caller call phase) IsPlainAct
+plain_phase : (image : Image) (f : Facts) (idle : Bool) (caller : ℕ) (call : Call) (phase : Phase) → IfSome (phase_act image f idle caller call phase) IsWellFormedAct
 plain_phase image f idle caller call ToDecide = plain_unless (any_below (λ i. keeps_decide image caller i (f.cpu i)) 16) (Decide (decision image f caller call)) tt
 plain_phase image f idle caller call (ToSettle waited) = plain_settle (settled_of f idle call waited)
 plain_phase image f idle caller call (ToCreate config) = tt
@@ -109,31 +109,31 @@ plain_phase image f idle caller call (ToNote id about answer) = tt
 plain_phase image f idle caller call (ToNoted id about answer waited) = plain_noted id (heard_of f idle id waited)
 plain_phase image f idle caller call (ToFinish answer) = tt
 
-plain_caller : (asked : Bool) (goes : Bool) (o : Option Act) → IfSome o IsPlainAct → IfSome (cond asked (Some Stop) (cond goes o None)) IsPlainAct
+plain_caller : (asked : Bool) (goes : Bool) (o : Option Act) → IfSome o IsWellFormedAct → IfSome (cond asked (Some Stop) (cond goes o None)) IsWellFormedAct
 plain_caller true goes o plain = tt
 plain_caller false goes o plain = plain_if goes o plain
 
 plain_call : (image : Image) (f : Facts) (state : Cpu) (cpu : ℕ) (begun : Option OpenCall) → IsAdmitted image
-    → IfSome (option_map_or (caller_act image f state) begun (state_act image f state cpu)) IsPlainAct
+    → IfSome (option_map_or (caller_act image f state) begun (state_act image f state cpu)) IsWellFormedAct
 plain_call image f state cpu None admitted = plain_state image f state cpu state.asked admitted
 plain_call image f state cpu (Some o) admitted = plain_caller state.asked (goes_on state) (phase_act image f (is_idle_but image f o.caller) o.caller o.call o.phase) (plain_phase image f (is_idle_but image f o.caller) o.caller o.call o.phase)
 
-entry_plain : (cpu cell : ℕ) (entry : Entry) (o : Option Act) → IfSome o IsPlainAct → option_map (entry_by cpu cell) o ≡ Some entry → IsPlainEntry entry
+entry_plain : (cpu cell : ℕ) (entry : Entry) (o : Option Act) → IfSome o IsWellFormedAct → option_map (entry_by cpu cell) o ≡ Some entry → IsWellFormedEntry entry
 entry_plain cpu cell entry None plain h = absurd (none-some entry h)
-entry_plain cpu cell entry (Some act) plain h = let P : Entry → Type 0 = IsPlainEntry in subst P (same_Some (entry_by cpu cell act) entry h) plain
+entry_plain cpu cell entry (Some act) plain h = let P : Entry → Type 0 = IsWellFormedEntry in subst P (same_Some (entry_by cpu cell act) entry h) plain
 
-at_board : (image : Image) (f : Facts) (cpu : ℕ) (entry : Entry) (b : Bool) → IsAdmitted image → is_on_board image cpu ≡ b → due_at image f cpu ≡ Some entry → IsPlainEntry entry
+at_board : (image : Image) (f : Facts) (cpu : ℕ) (entry : Entry) (b : Bool) → IsAdmitted image → is_on_board image cpu ≡ b → due_at image f cpu ≡ Some entry → IsWellFormedEntry entry
 at_board image f cpu entry true admitted e h =
-    entry_plain cpu (f.cpu cpu).owner entry (next_act image f (f.cpu cpu) cpu) (plain_call image f (f.cpu cpu) cpu (call_of f cpu) admitted) (sym (due_at-present image f cpu e) ∙ h)
-at_board image f cpu entry false admitted e h = absurd (none-some entry (sym (due_at-absent image f cpu e) ∙ h))
+    entry_plain cpu (f.cpu cpu).owner entry (next_act image f (f.cpu cpu) cpu) (plain_call image f (f.cpu cpu) cpu (call_of f cpu) admitted) (sym (due_at_present image f cpu e) ∙ h)
+at_board image f cpu entry false admitted e h = absurd (none-some entry (sym (due_at_absent image f cpu e) ∙ h))
 
-pub due_at-plain : (image : Image) (f : Facts) (cpu : ℕ) (entry : Entry) → IsAdmitted image → due_at image f cpu ≡ Some entry → IsPlainEntry entry
-due_at-plain image f cpu entry admitted h = at_board image f cpu entry (is_on_board image cpu) admitted refl h
+pub due_at_plain : (image : Image) (f : Facts) (cpu : ℕ) (entry : Entry) → IsAdmitted image → due_at image f cpu ≡ Some entry → IsWellFormedEntry entry
+due_at_plain image f cpu entry admitted h = at_board image f cpu entry (is_on_board image cpu) admitted refl h
 
-plain_from : (image : Image) (f : Facts) (entries : List Entry) → IsAdmitted image → IsLegalFrom image f entries → AllByRecursion IsPlainEntry entries
+plain_from : (image : Image) (f : Facts) (entries : List Entry) → IsAdmitted image → IsLegalFrom image f entries → AllByRecursion IsWellFormedEntry entries
 plain_from image f [] admitted legal = tt
-plain_from image f (entry ∷ entries) admitted legal = (due_at-plain image f entry.cpu entry admitted legal.0, plain_from image (after image f entry) entries admitted legal.1)
+plain_from image f (entry ∷ entries) admitted legal = (due_at_plain image f entry.cpu entry admitted legal.0, plain_from image (after image f entry) entries admitted legal.1)
 
-pub legal_is_plain : (image : Image) (entries : List Entry) → IsAdmitted image → IsLegal image entries → All IsPlainEntry entries
+pub legal_is_plain : (image : Image) (entries : List Entry) → IsAdmitted image → IsLegal image entries → All IsWellFormedEntry entries
 unfolding IsLegal
-legal_is_plain image entries admitted legal = All-from_recursion IsPlainEntry entries (plain_from image (start image) entries admitted legal)
+legal_is_plain image entries admitted legal = All-from_recursion IsWellFormedEntry entries (plain_from image (start image) entries admitted legal)

@@ -9,19 +9,19 @@ use Rattle.jh_history.specs.Access.{reach_by, memory_read}
 use Rattle.jh_history.specs.Facts.{Facts}
 use Rattle.jh_history.specs.Grants.{granted_in, granted, is_kept}
 use Rattle.jh_history.specs.Lives.{regions_in}
-use Rattle.jh_history.specs.PlainView.{PlainView, Stands, IsFit, last_byte}
+use Rattle.jh_history.specs.PlainView.{PlainView, StandsFor, IsFit, last_byte}
 use Rattle.jh_history.proofs.FactsLemmas.{same_function}
-use Rattle.jh_history.proofs.GrantedLemmas.{regions-within}
-use Rattle.jh_history.proofs.ReadLemmas.{read-one, granted-beyond}
+use Rattle.jh_history.proofs.GrantedLemmas.{regions_within}
+use Rattle.jh_history.proofs.ReadLemmas.{read_one, granted_beyond}
 
 -- the byte that root reads at the address, where it may
 abbrev pub read_in : PlainView → ℕ → Option ℕ
 read_in p at = memory_read (last_byte p.image p.bytes) (reach_by (granted_in p.image p.cells p.image.system.root.id Read) at 1)
 
-pub plain-reads : (p : PlainView) (i : Image) (f : Facts) (at : ℕ) → IsFit p.image p.cells → Stands p i f → read_in p at ≡ option_map f.byte (granted i f i.system.root.id Read at)
-plain-reads p i f at fit stands =
+pub plain_reads : (p : PlainView) (i : Image) (f : Facts) (at : ℕ) → IsFit p.image p.cells → StandsFor p i f → read_in p at ≡ option_map f.byte (granted i f i.system.root.id Read at)
+plain_reads p i f at fit stands =
     let id = p.image.system.root.id in
-    read-one (last_byte p.image p.bytes) (granted_in p.image p.cells id Read) at (λ a le. granted-beyond id (regions_in p.image p.cells id) (is_kept p.image p.cells id) a (regions-within p.image p.cells id fit.sound.clean) le)
+    read_one (last_byte p.image p.bytes) (granted_in p.image p.cells id Read) at (λ a le. granted_beyond id (regions_in p.image p.cells id) (is_kept p.image p.cells id) a (regions_within p.image p.cells id fit.sound.clean) le)
     ∙ ap (λ (x : Image). option_map (last_byte x p.bytes) (granted_in x p.cells x.system.root.id Read at)) (sym stands.same)
     ∙ ap (λ (lives : List Live). option_map (last_byte i p.bytes) (granted_in i lives i.system.root.id Read at)) (sym stands.cells)
     ∙ ap (λ (byte : Place → ℕ). option_map byte (granted i f i.system.root.id Read at)) (same_function (last_byte i p.bytes) f.byte (λ q. sym (stands.bytes q)))

@@ -1,6 +1,6 @@
 -- What an entry does to the open call and to the live cells, for the slow plain program.
 use Rattle.std.proofs.Common.{◌≡◌, ℤ, ◌≤◌, Bool, true, false, List, length, Option, Some, None, refl, sym, ap, subst, ◌∙◌, inl, inr, ◌⊎◌}
-use Rattle.std.specs.Prelude.{option_map, All}
+use Rattle.std.specs.Prelude.{All}
 use Rattle.std.proofs.lemmas.Bool.{both_ways}
 use Rattle.jh_check.specs.Clean.{IsSoundBitmap, IsSoundCpuSet}
 use Rattle.jh_script.specs.declared.image.Image.{Image}
@@ -9,18 +9,15 @@ use Rattle.jh_history.specs.History.{after, coming_of}
 use Rattle.jh_history.specs.Phases.{configs_of}
 use Rattle.jh_history.specs.Sound.{AreSoundCells, IsSound}
 use Rattle.jh_history.specs.PlainView.{IsFit}
-use Rattle.jh_history.proofs.FewLemmas.{few-sound}
-use Rattle.std.proofs.lemmas.Option.{none-some, same_Some}
+use Rattle.jh_history.proofs.FewLemmas.{few_sound}
 use Rattle.jh_cellcfg.specs.declared.config.CellConfig.{CellConfig}
 use Rattle.jh_cellcfg.specs.declared.live.Live.{Live}
-use Rattle.jh_call.specs.declared.call.Call.{Call}
 use Rattle.jh_history.specs.declared.call.OpenCall.{OpenCall}
-use Rattle.jh_history.specs.declared.call.Phase.{Phase}
 use Rattle.jh_history.specs.declared.entry.Entry.{Entry}
 use Rattle.jh_history.specs.declared.entry.Act.{Act}
 use Rattle.jh_history.specs.declared.entry.Act.TheVariants.{Read, Write, Fetch, Await, Irq, Hvc, Begin, Stop, Decide, Settle, Commit, Note, Noted, Finish}
 use Rattle.jh_history.specs.Calls.{call_by}
-use Rattle.jh_history.specs.Commits.{committed_cells, cells_by, created, created_by}
+use Rattle.jh_history.specs.Commits.{cells_by}
 
 -- what a create reads matters at its Decide alone
 coming_by : (lives : List Live) (a b : Option CellConfig) (call : Option OpenCall) (entry : Entry) (act : Act) → ((refused : Option ℤ) → act ≡ Decide refused → ⊥) → call_by lives a call entry act ≡ call_by lives b call entry act
@@ -39,25 +36,8 @@ coming_by lives a b call entry (Note id) other = refl
 coming_by lives a b call entry (Noted id how) other = refl
 coming_by lives a b call entry (Finish answer) other = refl
 
-pub coming-elsewhere : (lives : List Live) (a b : Option CellConfig) (call : Option OpenCall) (entry : Entry) → ((refused : Option ℤ) → entry.act ≡ Decide refused → ⊥) → call_by lives a call entry entry.act ≡ call_by lives b call entry entry.act
-coming-elsewhere lives a b call entry other = coming_by lives a b call entry entry.act other
-
-abbrev call_of : OpenCall → Call
-call_of o = o.call
-
--- the cells after a Commit
-pub commit-some : (begun : Option OpenCall) (act : Act) (call : Call) (made : Option CellConfig) (old new : List Live) → act ≡ Commit → Some call ≡ option_map call_of begun → made ≡ created_by begun act
-    → ((phase : Phase) → made ≡ created call phase → new ≡ committed_cells call phase old) → new ≡ cells_by begun old act
-commit-some None act call made old new is there m h = absurd (none-some call (sym there))
-commit-some (Some o) act call made old new is there m h =
-    let same : call ≡ o.call = same_Some call o.call there in
-    h o.phase (m ∙ ap (λ (a : Act). created_by (Some o) a) is ∙ ap (λ (k : Call). created k o.phase) (sym same))
-    ∙ ap (λ (k : Call). committed_cells k o.phase old) same
-    ∙ ap (λ (a : Act). cells_by (Some o) old a) (sym is)
-
-pub commit-none : (begun : Option OpenCall) (act : Act) (old : List Live) → act ≡ Commit → None ≡ option_map call_of begun → old ≡ cells_by begun old act
-commit-none None act old is there = ap (λ (a : Act). cells_by None old a) (sym is)
-commit-none (Some o) act old is there = absurd (none-some o.call there)
+pub coming_elsewhere : (lives : List Live) (a b : Option CellConfig) (call : Option OpenCall) (entry : Entry) → ((refused : Option ℤ) → entry.act ≡ Decide refused → ⊥) → call_by lives a call entry entry.act ≡ call_by lives b call entry entry.act
+coming_elsewhere lives a b call entry other = coming_by lives a b call entry entry.act other
 
 other_by : (begun : Option OpenCall) (old : List Live) (act : Act) → (act ≡ Commit → ⊥) → old ≡ cells_by begun old act
 other_by begun old (Read width at got) other = refl
@@ -75,8 +55,8 @@ other_by begun old (Note id) other = refl
 other_by begun old (Noted id how) other = refl
 other_by begun old (Finish answer) other = refl
 
-pub commit-other : (begun : Option OpenCall) (act : Act) (old : List Live) → (act ≡ Commit → ⊥) → old ≡ cells_by begun old act
-commit-other begun act old other = other_by begun old act other
+pub commit_other : (begun : Option OpenCall) (act : Act) (old : List Live) → (act ≡ Commit → ⊥) → old ≡ cells_by begun old act
+commit_other begun act old other = other_by begun old act other
 
 -- ---- how many cells live
 
@@ -90,13 +70,13 @@ not_commit act e other = both_ways true (sym (ap is_commit e) ∙ other) refl
 abbrev Names : List CellConfig → Type 0
 Names configs = All (λ (c : CellConfig). IsSoundBitmap c.cpu_set → IsSoundCpuSet c.cpu_set) configs
 
-after-cells : (image : Image) (f : Facts) (entry : Entry) → (after image f entry).cells ≡ cells_by f.call f.cells entry.act
+pub after_cells : (image : Image) (f : Facts) (entry : Entry) → (after image f entry).cells ≡ cells_by f.call f.cells entry.act
 unfolding after
-after-cells image f entry = refl
+after_cells image f entry = refl
 
-after-call : (image : Image) (f : Facts) (entry : Entry) → (after image f entry).call ≡ call_by f.cells (coming_of image f) f.call entry entry.act
+pub after_call : (image : Image) (f : Facts) (entry : Entry) → (after image f entry).call ≡ call_by f.cells (coming_of image f) f.call entry entry.act
 unfolding after
-after-call image f entry = refl
+after_call image f entry = refl
 
 -- after a Commit the call is still open
 still_open : (lives : List Live) (coming : Option CellConfig) (o : OpenCall) (entry : Entry) (act : Act) → act ≡ Commit → (p : OpenCall) × (call_by lives coming (Some o) entry act ≡ Some p)
@@ -109,38 +89,38 @@ few_by image f entry None e sound few names is =
     subst (λ (lives : List Live). length lives ≤ 15) (sym same) few
 few_by image f entry (Some o) e sound few names is =
     let p = still_open f.cells (coming_of image f) o entry entry.act is in
-    let open_call = after-call image f entry ∙ ap (λ (c : Option OpenCall). call_by f.cells (coming_of image f) c entry entry.act) e ∙ p.1 in
-    subst (λ (lives : List Live). length lives ≤ 15) (after-cells image f entry)
-    (few-sound image (after image f entry) p.0 sound open_call (subst (λ (lives : List Live). Names (configs_of lives)) (sym (after-cells image f entry)) names))
+    let open_call = after_call image f entry ∙ ap (λ (c : Option OpenCall). call_by f.cells (coming_of image f) c entry entry.act) e ∙ p.1 in
+    subst (λ (lives : List Live). length lives ≤ 15) (after_cells image f entry)
+    (few_sound image (after image f entry) p.0 sound open_call (subst (λ (lives : List Live). Names (configs_of lives)) (sym (after_cells image f entry)) names))
 
-pub commit-or : (act : Act) → (act ≡ Commit) ⊎ (act ≡ Commit → ⊥)
-commit-or (Read width at got) = inr (λ e. not_commit (Read width at got) e refl)
-commit-or (Write width at value ok) = inr (λ e. not_commit (Write width at value ok) e refl)
-commit-or (Fetch at got) = inr (λ e. not_commit (Fetch at got) e refl)
-commit-or (Await width at value ok) = inr (λ e. not_commit (Await width at value ok) e refl)
-commit-or (Irq device vector) = inr (λ e. not_commit (Irq device vector) e refl)
-commit-or (Hvc code a b answer) = inr (λ e. not_commit (Hvc code a b answer) e refl)
-commit-or (Begin code a b) = inr (λ e. not_commit (Begin code a b) e refl)
-commit-or Stop = inr (λ e. not_commit Stop e refl)
-commit-or (Decide refused) = inr (λ e. not_commit (Decide refused) e refl)
-commit-or (Settle how) = inr (λ e. not_commit (Settle how) e refl)
-commit-or Commit = inl refl
-commit-or (Note id) = inr (λ e. not_commit (Note id) e refl)
-commit-or (Noted id how) = inr (λ e. not_commit (Noted id how) e refl)
-commit-or (Finish answer) = inr (λ e. not_commit (Finish answer) e refl)
+pub commit_or : (act : Act) → (act ≡ Commit) ⊎ (act ≡ Commit → ⊥)
+commit_or (Read width at got) = inr (λ e. not_commit (Read width at got) e refl)
+commit_or (Write width at value ok) = inr (λ e. not_commit (Write width at value ok) e refl)
+commit_or (Fetch at got) = inr (λ e. not_commit (Fetch at got) e refl)
+commit_or (Await width at value ok) = inr (λ e. not_commit (Await width at value ok) e refl)
+commit_or (Irq device vector) = inr (λ e. not_commit (Irq device vector) e refl)
+commit_or (Hvc code a b answer) = inr (λ e. not_commit (Hvc code a b answer) e refl)
+commit_or (Begin code a b) = inr (λ e. not_commit (Begin code a b) e refl)
+commit_or Stop = inr (λ e. not_commit Stop e refl)
+commit_or (Decide refused) = inr (λ e. not_commit (Decide refused) e refl)
+commit_or (Settle how) = inr (λ e. not_commit (Settle how) e refl)
+commit_or Commit = inl refl
+commit_or (Note id) = inr (λ e. not_commit (Note id) e refl)
+commit_or (Noted id how) = inr (λ e. not_commit (Noted id how) e refl)
+commit_or (Finish answer) = inr (λ e. not_commit (Finish answer) e refl)
 
 few_at : (image : Image) (f : Facts) (entry : Entry) (act : Act) → entry.act ≡ act → IsSound image (after image f entry) → length f.cells ≤ 15 → Names (configs_of (cells_by f.call f.cells entry.act)) → length (cells_by f.call f.cells entry.act) ≤ 15
-few_at image f entry act is sound few names = elim (commit-or act) [
+few_at image f entry act is sound few names = elim (commit_or act) [
   | inl commit ↦ few_by image f entry f.call refl sound few names (is ∙ commit)
-  | inr other ↦ subst (λ (lives : List Live). length lives ≤ 15) (commit-other f.call entry.act f.cells (λ e. other (sym is ∙ e))) few
+  | inr other ↦ subst (λ (lives : List Live). length lives ≤ 15) (commit_other f.call entry.act f.cells (λ e. other (sym is ∙ e))) few
 ]
 
 -- the cells that live after an entry that is due are fit
-pub fit-after : (image : Image) (f : Facts) (entry : Entry) (cells new : List Live) → IsFit image cells → f.cells ≡ cells → IsSound image (after image f entry) → new ≡ cells_by f.call f.cells entry.act → Names (configs_of new) → IsFit image new
-fit-after image f entry cells new fit e sound is names =
+pub fit_after : (image : Image) (f : Facts) (entry : Entry) (cells new : List Live) → IsFit image cells → f.cells ≡ cells → IsSound image (after image f entry) → new ≡ cells_by f.call f.cells entry.act → Names (configs_of new) → IsFit image new
+fit_after image f entry cells new fit e sound is names =
     let few : length f.cells ≤ 15 = subst (λ (lives : List Live). length lives ≤ 15) (sym e) fit.few in
     record {
       admitted = fit.admitted;
-      sound = subst (λ (lives : List Live). AreSoundCells image.system (configs_of lives)) (after-cells image f entry ∙ sym is) sound.cells;
+      sound = subst (λ (lives : List Live). AreSoundCells image.system (configs_of lives)) (after_cells image f entry ∙ sym is) sound.cells;
       few = subst (λ (lives : List Live). length lives ≤ 15) (sym is) (few_at image f entry entry.act refl sound few (subst (λ (lives : List Live). Names (configs_of lives)) is names));
     }

@@ -4,7 +4,7 @@ use Rattle.std.specs.Prelude.{Contains, find, option_map}
 use Rattle.std.specs.List.{list_any}
 use Rattle.std.proofs.lemmas.Bool.{both_ways, and_parts, cond_both, eqb-true, eq-eqb, ne_eqb, cases_lt, not-true, false_from_ne_true}
 use Rattle.std.proofs.lemmas.Option.{none-some}
-use Rattle.jh_num.proofs.Lists.{IsFound-from_find, Contains-map}
+use Rattle.jh_num.proofs.Lists.{IsFound_from_find, Contains_map}
 use Rattle.jh_num.specs.declared.error.TheConstants.{EPERM, ENOENT, EINVAL}
 use Rattle.jh_cellcfg.specs.declared.config.CellConfig.{CellConfig}
 use Rattle.jh_cellcfg.specs.declared.live.Live.{Live}
@@ -12,9 +12,9 @@ use Rattle.jh_cellcfg.specs.Lives.{has_id}
 use Rattle.jh_cellcfg.specs.Cells.{is_cpu_set}
 use Rattle.jh_check.specs.Clean.{IsClean}
 use Rattle.jh_check.specs.Refusals.{any_below, refusal_of, IsAccepted}
-use Rattle.jh_check.proofs.GivenLemmas.{zero-names}
-use Rattle.jh_check.proofs.JoinLemmas.{joins-clean}
-use Rattle.jh_check.proofs.RefusalLemmas.{below-at, accepted-from}
+use Rattle.jh_check.proofs.GivenLemmas.{zero_names}
+use Rattle.jh_check.proofs.JoinLemmas.{joins_clean}
+use Rattle.jh_check.proofs.RefusalLemmas.{below_at, accepted_from}
 use Rattle.jh_shape.specs.Pages.{pages_of}
 use Rattle.jh_cpu.specs.declared.cpu.Cpu.{Cpu}
 use Rattle.jh_cpu.specs.Changes.{asked_of}
@@ -36,15 +36,15 @@ use Rattle.jh_history.specs.Cpus.{is_running, settled, is_agreed}
 use Rattle.jh_history.specs.History.{coming_by}
 use Rattle.jh_history.specs.Phases.{keeps_decide, may_give, configs_of, is_locked, is_other_locked, unless_refused, creation_by, creation_of, refused_by, id_refusal, first_refusal, decision}
 use Rattle.jh_history.specs.Sound.{AreSoundCells, AreOwned, IsCalm, IsHalted, IsAsked, IsHalting, HasCome, GoesOn, IsCaller, IsAboutLive, MayCome, IsInPhase, IsOpen}
-use Rattle.jh_history.proofs.SoundCpusLemmas.{owned-kept, named-same, root-unnamed, running-mode}
+use Rattle.jh_history.proofs.SoundCpusLemmas.{owned_kept, named_same, root_unnamed, running_mode}
 
 -- the board's CPUs are below 16
-pub board-few : (image : Image) (configs : List CellConfig) → IsClean image.system configs → (cpu : ℕ) → is_on_board image cpu ≡ true → cpu < 16
-board-few image configs clean cpu on =
+pub board_few : (image : Image) (configs : List CellConfig) → IsClean image.system configs → (cpu : ℕ) → is_on_board image cpu ≡ true → cpu < 16
+board_few image configs clean cpu on =
     let bitmap = clean.cpus 0 image.system.root refl in
     elim (cases_lt cpu 16) [
       | inl lt ↦ lt
-      | inr le ↦ absurd (both_ways (is_on_board image cpu) (zero-names image.system.root.cpu_set cpu (bitmap.few (cpu / 8) (omega arith))) on)
+      | inr le ↦ absurd (both_ways (is_on_board image cpu) (zero_names image.system.root.cpu_set cpu (bitmap.few (cpu / 8) (omega arith))) on)
     ]
 
 -- ---- phases in which root's other CPUs have stopped, and no CPU of a cell is asked
@@ -77,13 +77,13 @@ late_goes call (ToNoted id about answer waited) cpu late h = h
 late_goes call (ToFinish answer) cpu late h = h
 
 -- a call that has come to such a phase
-pub open-late : (image : Image) (configs : List CellConfig) (cpu : ℕ → Cpu) (caller : ℕ) (call : Call) (phase : Phase) → IsLate phase → IsCaller image caller call (cpu caller)
+pub open_late : (image : Image) (configs : List CellConfig) (cpu : ℕ → Cpu) (caller : ℕ) (call : Call) (phase : Phase) → IsLate phase → IsCaller image caller call (cpu caller)
     → ((i : ℕ) → is_on_board image i ≡ true → i ≢ caller → (cpu i).owner ≡ image.system.root.id → IsHalted (cpu i))
     → ((i : ℕ) → (cpu i).owner ≢ image.system.root.id → IsCalm (cpu i))
     → ((i : ℕ) → is_on_board image i ≡ false → IsCalm (cpu i))
     → IsInPhase image configs cpu caller call phase
     → IsOpen image configs cpu (record { caller = caller; call = call; phase = phase })
-open-late image configs cpu caller call phase late is_caller roots cells absent in_phase = record {
+open_late image configs cpu caller call phase late is_caller roots cells absent in_phase = record {
   caller = is_caller;
   roots = λ i on other is. late_come phase (cpu i) late (roots i on other is);
   cells = λ i is. late_goes call phase (cpu i) late (cells i is);
@@ -94,10 +94,10 @@ open-late image configs cpu caller call phase late is_caller roots cells absent 
 -- ---- the Decide
 
 -- what is found by its id
-pub found-live : (cells : List Live) (id : ℕ) (live : Live) → find (has_id id) cells ≡ Some live → Contains (configs_of cells) live.config × (live.config.id ≡ id)
-found-live cells id live h =
-    let found = IsFound-from_find (has_id id) cells live h in
-    (Contains-map (λ (l : Live). l.config) cells live found.held, eqb-true live.config.id id found.passes)
+pub found_live : (cells : List Live) (id : ℕ) (live : Live) → find (has_id id) cells ≡ Some live → Contains (configs_of cells) live.config × (live.config.id ≡ id)
+found_live cells id live h =
+    let found = IsFound_from_find (has_id id) cells live h in
+    (Contains_map (λ (l : Live). l.config) cells live found.held, eqb-true live.config.id id found.passes)
 
 -- a live cell besides root has the id
 abbrev pub IsLiveId : List CellConfig → ℕ → Type 0
@@ -105,7 +105,7 @@ IsLiveId configs id = (config : CellConfig) × Contains configs config × (confi
 
 live_by : (cells : List Live) (id : ℕ) (o : Option Live) → find (has_id id) cells ≡ o → is_some (option_map (λ (l : Live). l.config) o) ≡ true → IsLiveId (configs_of cells) id
 live_by cells id None e some = absurd (both_ways false refl some)
-live_by cells id (Some live) e some = let found = found-live cells id live e in (live.config, found.0, found.1)
+live_by cells id (Some live) e some = let found = found_live cells id live e in (live.config, found.0, found.1)
 
 -- an id that isn't refused is that of such a cell
 named_by : (image : Image) (f : Facts) (id : ℕ) (root some : Bool) → eqb id image.system.root.id ≡ root → is_some (cond root (Some image.system.root) (live_in f.cells id)) ≡ some
@@ -144,14 +144,14 @@ coming_by_lock : (image : Image) (f : Facts) (caller at : ℕ) (b : Bool) → re
 coming_by_lock image f caller at true h = absurd (none-some EPERM (sym h))
 coming_by_lock image f caller at false h = coming_read image f caller (read_at image f at) h
 
-pub coming-from_decision : (image : Image) (f : Facts) (caller at : ℕ) → refused_by (creation_of image f caller at) ≡ None → IsComing image f caller (read_at image f at)
+pub coming_from_decision : (image : Image) (f : Facts) (caller at : ℕ) → refused_by (creation_of image f caller at) ≡ None → IsComing image f caller (read_at image f at)
 unfolding creation_of
-coming-from_decision image f caller at h = coming_by_lock image f caller at (list_any (is_locked f) f.cells) h
+coming_from_decision image f caller at h = coming_by_lock image f caller at (list_any (is_locked f) f.cells) h
 
-may-come : (image : Image) (f : Facts) (caller : ℕ) (config : CellConfig) → IsClean image.system (configs_of f.cells)
+may_come : (image : Image) (f : Facts) (caller : ℕ) (config : CellConfig) → IsClean image.system (configs_of f.cells)
     → IsAccepted image.system (configs_of f.cells) config (may_give image f caller) (pages_of image.system.root.memory_regions (configs_of f.cells ++ config ∷ [])) (pool_pages image.system)
     → MayCome image (configs_of f.cells) f.cpu caller config
-may-come image f caller config clean accepted =
+may_come image f caller config clean accepted =
     let root : ℕ = image.system.root.id in
     let gives : (i : ℕ) → is_cpu_set config.cpu_set i ≡ true → (is_on_board image i && not (eqb i caller) && eqb (f.cpu i).owner root) ≡ true = accepted.cpus in
     let first : (i : ℕ) → is_cpu_set config.cpu_set i ≡ true → ((is_on_board image i && not (eqb i caller)) ≡ true) × (eqb (f.cpu i).owner root ≡ true) =
@@ -163,7 +163,7 @@ may-come image f caller config clean accepted =
       board = λ i set. (second i set).0;
       other = λ i set e. both_ways (eqb i caller) (not-true (eqb i caller) ((second i set).1)) (eq-eqb i caller e);
       owner = λ i set. eqb-true (f.cpu i).owner root ((first i set).1);
-      clean = joins-clean image.system (configs_of f.cells) config clean accepted.clean;
+      clean = joins_clean image.system (configs_of f.cells) config clean accepted.clean;
       room = accepted.room;
     }
 
@@ -174,11 +174,11 @@ IsDecided image f caller call phase = IsLate phase × IsInPhase image (configs_o
 decided_create : (image : Image) (f : Facts) (caller at : ℕ) (o : Option ℤ) → IsClean image.system (configs_of f.cells) → refused_by (creation_of image f caller at) ≡ o → IsDecided image f caller (Create at) (decided (Create at) (config_read (read_at image f at)) o)
 decided_create image f caller at (Some number) clean h = (tt, tt)
 decided_create image f caller at None clean h =
-    let coming = coming-from_decision image f caller at h in
+    let coming = coming_from_decision image f caller at h in
     let P : ReadCell → Type 0 = λ r. IsDecided image f caller (Create at) (decided (Create at) (config_read r) None) in
-    let accepted = accepted-from image.system (configs_of f.cells) coming.config (may_give image f caller)
+    let accepted = accepted_from image.system (configs_of f.cells) coming.config (may_give image f caller)
     (pages_of image.system.root.memory_regions (configs_of f.cells ++ coming.config ∷ [])) (pool_pages image.system) coming.good in
-    subst P (sym coming.reads) (tt, (tt, may-come image f caller coming.config clean accepted))
+    subst P (sym coming.reads) (tt, (tt, may_come image f caller coming.config clean accepted))
 
 decided_start : (image : Image) (f : Facts) (caller id : ℕ) (o : Option ℤ) → id_refusal image f id ≡ o → IsDecided image f caller (Start id) (decided (Start id) None o)
 decided_start image f caller id (Some number) h = (tt, tt)
@@ -206,23 +206,23 @@ decided_phase image f caller (CpuInfo cpu kind) manages clean = absurd (both_way
 decided_phase image f caller Unknown manages clean = absurd (both_ways false refl manages)
 
 -- a Decide is due once all have stopped
-pub halted-to_decide : (image : Image) (caller i : ℕ) (cpu : ℕ → Cpu) → i < 16 → any_below (λ k. keeps_decide image caller k (cpu k)) 16 ≡ false → is_on_board image i ≡ true → i ≢ caller → (cpu i).owner ≡ image.system.root.id
+pub halted_to_decide : (image : Image) (caller i : ℕ) (cpu : ℕ → Cpu) → i < 16 → any_below (λ k. keeps_decide image caller k (cpu k)) 16 ≡ false → is_on_board image i ≡ true → i ≢ caller → (cpu i).owner ≡ image.system.root.id
     → IsHalting (cpu i) → IsHalted (cpu i)
-halted-to_decide image caller i cpu few none on other is h =
+halted_to_decide image caller i cpu few none on other is h =
     ⊎_elim
     (λ (asked : IsAsked (cpu i)).
     let keeps : keeps_decide image caller i (cpu i) ≡ true = rw (on, ne_eqb i caller other, eq-eqb (cpu i).owner image.system.root.id is, asked.running, asked.stopped) refl in
-    absurd (both_ways (any_below (λ k. keeps_decide image caller k (cpu k)) 16) none (below-at (λ k. keeps_decide image caller k (cpu k)) 16 i few keeps)))
+    absurd (both_ways (any_below (λ k. keeps_decide image caller k (cpu k)) 16) none (below_at (λ k. keeps_decide image caller k (cpu k)) 16 i few keeps)))
     (λ (halted : IsHalted (cpu i)). halted)
     h
 
-pub open-decided : (image : Image) (f : Facts) (caller : ℕ) (call : Call) → AreSoundCells image.system (configs_of f.cells) → IsOpen image (configs_of f.cells) f.cpu (record { caller = caller; call = call; phase = ToDecide })
+pub open_decided : (image : Image) (f : Facts) (caller : ℕ) (call : Call) → AreSoundCells image.system (configs_of f.cells) → IsOpen image (configs_of f.cells) f.cpu (record { caller = caller; call = call; phase = ToDecide })
     → any_below (λ k. keeps_decide image caller k (f.cpu k)) 16 ≡ false
     → IsOpen image (configs_of f.cells) f.cpu (record { caller = caller; call = call; phase = decided call (coming_by image f call) (decision image f caller call) })
-open-decided image f caller call sound opens none =
+open_decided image f caller call sound opens none =
     let next = decided_phase image f caller call opens.caller.management sound.clean in
-    open-late image (configs_of f.cells) f.cpu caller call (decided call (coming_by image f call) (decision image f caller call)) next.0 opens.caller
-    (λ i on other is. halted-to_decide image caller i f.cpu (board-few image (configs_of f.cells) sound.clean i on) none on other is (opens.roots i on other is))
+    open_late image (configs_of f.cells) f.cpu caller call (decided call (coming_by image f call) (decision image f caller call)) next.0 opens.caller
+    (λ i on other is. halted_to_decide image caller i f.cpu (board_few image (configs_of f.cells) sound.clean i on) none on other is (opens.roots i on other is))
     opens.cells
     opens.absent
     next.1
@@ -230,20 +230,20 @@ open-decided image f caller call sound opens none =
 -- ---- the Settle
 
 -- a CPU that the board lacks isn't one of the cell that the call is about
-pub absent-unnamed : (image : Image) (configs : List CellConfig) (cpu : ℕ → Cpu) (call : Call) (i : ℕ) → AreOwned image configs cpu → IsAboutLive configs call → is_on_board image i ≡ false → is_named call (cpu i).owner ≡ false
-absent-unnamed image configs cpu call i owned about off =
+pub absent_unnamed : (image : Image) (configs : List CellConfig) (cpu : ℕ → Cpu) (call : Call) (i : ℕ) → AreOwned image configs cpu → IsAboutLive configs call → is_on_board image i ≡ false → is_named call (cpu i).owner ≡ false
+absent_unnamed image configs cpu call i owned about off =
     false_from_ne_true (is_named call (cpu i).owner)
     (λ yes.
     let has = owned.cells about.0 about.1 in
-    both_ways (is_on_board image i) off (has.board i (has.named i (named-same call (cpu i).owner about.0.id yes about.2))))
+    both_ways (is_on_board image i) off (has.board i (has.named i (named_same call (cpu i).owner about.0.id yes about.2))))
 
-pub settled-owner : (agreed : Bool) (call : Call) (cpu : Cpu) → (settled agreed call cpu).owner ≡ cpu.owner
-settled-owner agreed call cpu =
+pub settled_owner : (agreed : Bool) (call : Call) (cpu : Cpu) → (settled agreed call cpu).owner ≡ cpu.owner
+settled_owner agreed call cpu =
     let same : Cpu → Type 0 = λ c. c.owner ≡ cpu.owner in
     cond_both (agreed && is_named call cpu.owner && is_running cpu.mode) (asked_of cpu) cpu same (λ _. refl) (λ _. refl)
 
-pub owned-settled : (image : Image) (configs : List CellConfig) (cpu : ℕ → Cpu) (agreed : Bool) (call : Call) → AreOwned image configs cpu → AreOwned image configs (λ i. settled agreed call (cpu i))
-owned-settled image configs cpu agreed call owned = owned-kept image configs cpu (λ i. settled agreed call (cpu i)) (λ i. settled-owner agreed call (cpu i)) owned
+pub owned_settled : (image : Image) (configs : List CellConfig) (cpu : ℕ → Cpu) (agreed : Bool) (call : Call) → AreOwned image configs cpu → AreOwned image configs (λ i. settled agreed call (cpu i))
+owned_settled image configs cpu agreed call owned = owned_kept image configs cpu (λ i. settled agreed call (cpu i)) (λ i. settled_owner agreed call (cpu i)) owned
 
 -- only CPUs of the cell that the call is about are asked
 settled_other : (call : Call) (cpu : Cpu) → is_named call cpu.owner ≡ false → settled true call cpu ≡ cpu
@@ -252,7 +252,7 @@ settled_other call cpu other = rw other refl
 settled_named : (call : Call) (cpu : Cpu) (b : Bool) → is_running cpu.mode ≡ b → is_named call cpu.owner ≡ true → IsCalm cpu → IsHalting (settled true call cpu)
 settled_named call cpu true runs named calm =
     let asked : settled true call cpu ≡ asked_of cpu = rw (named, runs) refl in
-    subst IsHalting (sym asked) (inl (record { asked = refl; stopped = calm.stopped; running = running-mode cpu runs }))
+    subst IsHalting (sym asked) (inl (record { asked = refl; stopped = calm.stopped; running = running_mode cpu runs }))
 settled_named call cpu false rests named calm =
     let same : settled true call cpu ≡ cpu = rw (named, rests) refl in
     subst IsHalting (sym same) (inr (record { asked = calm.asked; stopped = calm.stopped ∙ sym rests }))
@@ -264,9 +264,9 @@ open_agreed : (image : Image) (configs : List CellConfig) (cpu : ℕ → Cpu) (c
 open_agreed image configs cpu caller waited call sound owned opens =
     let root : ℕ = image.system.root.id in
     let about : IsAboutLive configs call = opens.phase in
-    let unnamed : is_named call root ≡ false = root-unnamed image.system configs call sound about in
+    let unnamed : is_named call root ≡ false = root_unnamed image.system configs call sound about in
     let roots_same : (i : ℕ) → (cpu i).owner ≡ root → settled true call (cpu i) ≡ cpu i = λ i is. settled_other call (cpu i) (ap (is_named call) is ∙ unnamed) in
-    let owner : (i : ℕ) → (settled true call (cpu i)).owner ≡ (cpu i).owner = λ i. settled-owner true call (cpu i) in
+    let owner : (i : ℕ) → (settled true call (cpu i)).owner ≡ (cpu i).owner = λ i. settled_owner true call (cpu i) in
     record {
       caller = subst (IsCaller image caller call) (sym (roots_same caller opens.caller.owner)) opens.caller;
       roots = λ i on other is. let was : (cpu i).owner ≡ root = sym (owner i) ∙ is in subst IsHalted (sym (roots_same i was)) (opens.roots i on other was);
@@ -275,13 +275,13 @@ open_agreed image configs cpu caller waited call sound owned opens =
             λ named. settled_named call (cpu i) (is_running (cpu i).mode) refl (ap (is_named call) (sym (owner i)) ∙ named) calm,
             λ other. subst IsCalm (sym (settled_other call (cpu i) (ap (is_named call) (sym (owner i)) ∙ other))) calm,
           );
-      absent = λ i off. subst IsCalm (sym (settled_other call (cpu i) (absent-unnamed image configs cpu call i owned about off))) (opens.absent i off);
+      absent = λ i off. subst IsCalm (sym (settled_other call (cpu i) (absent_unnamed image configs cpu call i owned about off))) (opens.absent i off);
       phase = about;
     }
 
-pub open-settled : (image : Image) (configs : List CellConfig) (cpu : ℕ → Cpu) (caller waited : ℕ) (call : Call) (how : Settled) → AreSoundCells image.system configs → AreOwned image configs cpu
+pub open_settled : (image : Image) (configs : List CellConfig) (cpu : ℕ → Cpu) (caller waited : ℕ) (call : Call) (how : Settled) → AreSoundCells image.system configs → AreOwned image configs cpu
     → IsOpen image configs cpu (record { caller = caller; call = call; phase = ToSettle waited })
     → IsOpen image configs (λ i. settled (is_agreed how) call (cpu i)) (record { caller = caller; call = call; phase = after_settle how })
-open-settled image configs cpu caller waited call Agreed sound owned opens = open_agreed image configs cpu caller waited call sound owned opens
-open-settled image configs cpu caller waited call Timeout sound owned opens = open_agreed image configs cpu caller waited call sound owned opens
-open-settled image configs cpu caller waited call Denied sound owned opens = record { caller = opens.caller; roots = opens.roots; cells = opens.cells; absent = opens.absent; phase = tt }
+open_settled image configs cpu caller waited call Agreed sound owned opens = open_agreed image configs cpu caller waited call sound owned opens
+open_settled image configs cpu caller waited call Timeout sound owned opens = open_agreed image configs cpu caller waited call sound owned opens
+open_settled image configs cpu caller waited call Denied sound owned opens = record { caller = opens.caller; roots = opens.roots; cells = opens.cells; absent = opens.absent; phase = tt }

@@ -48,39 +48,39 @@ next_by image f entry true on h = record {
 }
 next_by image f entry false on h = absurd (none-some entry h)
 
-pub next-from_due : (image : Image) (f : Facts) (entry : Entry) → due_at image f entry.cpu ≡ Some entry → IsNext image f entry
+pub next_from_due : (image : Image) (f : Facts) (entry : Entry) → due_at image f entry.cpu ≡ Some entry → IsNext image f entry
 unfolding due_at
-next-from_due image f entry due = next_by image f entry (is_on_board image entry.cpu) refl due
+next_from_due image f entry due = next_by image f entry (is_on_board image entry.cpu) refl due
 
 -- ---- of a CPU that has no call open
 
 -- what an operation of the cell comes to: a management call is one of root's
-abbrev pub Comes : Image → ℕ → Op → Act → Type 0
-Comes image cell op (Read width at got) = Unit {0}
-Comes image cell op (Write width at value ok) = Unit {0}
-Comes image cell op (Fetch at got) = Unit {0}
-Comes image cell op (Await width at value ok) = Unit {0}
-Comes image cell op (Irq device vector) = Unit {0}
-Comes image cell op (Hvc code a b answer) = Unit {0}
-Comes image cell op (Begin code a b) = (op ≡ HvcOp code a b) × (cell ≡ image.system.root.id) × (is_management (decoded code a b) ≡ true)
-Comes image cell op Stop = ⊥
-Comes image cell op (Decide refused) = ⊥
-Comes image cell op (Settle how) = ⊥
-Comes image cell op Commit = ⊥
-Comes image cell op (Note id) = ⊥
-Comes image cell op (Noted id how) = ⊥
-Comes image cell op (Finish answer) = ⊥
+abbrev pub IsOutcomeOf : Image → ℕ → Op → Act → Type 0
+IsOutcomeOf image cell op (Read width at got) = Unit {0}
+IsOutcomeOf image cell op (Write width at value ok) = Unit {0}
+IsOutcomeOf image cell op (Fetch at got) = Unit {0}
+IsOutcomeOf image cell op (Await width at value ok) = Unit {0}
+IsOutcomeOf image cell op (Irq device vector) = Unit {0}
+IsOutcomeOf image cell op (Hvc code a b answer) = Unit {0}
+IsOutcomeOf image cell op (Begin code a b) = (op ≡ HvcOp code a b) × (cell ≡ image.system.root.id) × (is_management (decoded code a b) ≡ true)
+IsOutcomeOf image cell op Stop = ⊥
+IsOutcomeOf image cell op (Decide refused) = ⊥
+IsOutcomeOf image cell op (Settle how) = ⊥
+IsOutcomeOf image cell op Commit = ⊥
+IsOutcomeOf image cell op (Note id) = ⊥
+IsOutcomeOf image cell op (Noted id how) = ⊥
+IsOutcomeOf image cell op (Finish answer) = ⊥
 
-await_comes : (image : Image) (cell : ℕ) (op : Op) (width at value : ℕ) (o : Option ℕ) → IfSome (await_of width at value o) (Comes image cell op)
+await_comes : (image : Image) (cell : ℕ) (op : Op) (width at value : ℕ) (o : Option ℕ) → IfSome (await_of width at value o) (IsOutcomeOf image cell op)
 await_comes image cell op width at value None = tt
 await_comes image cell op width at value (Some got) =
-    cond_both (eqb got value) (Some (Await width at value true)) None (λ (o : Option Act). IfSome o (Comes image cell op)) (λ _. tt) (λ _. tt)
+    cond_both (eqb got value) (Some (Await width at value true)) None (λ (o : Option Act). IfSome o (IsOutcomeOf image cell op)) (λ _. tt) (λ _. tt)
 
-irq_comes : (image : Image) (cell : ℕ) (o : Option (ℕ × ℕ)) → IfSome (option_map (λ (next : ℕ × ℕ). Irq next.0 next.1) o) (Comes image cell IrqOp)
+irq_comes : (image : Image) (cell : ℕ) (o : Option (ℕ × ℕ)) → IfSome (option_map (λ (next : ℕ × ℕ). Irq next.0 next.1) o) (IsOutcomeOf image cell IrqOp)
 irq_comes image cell None = tt
 irq_comes image cell (Some next) = tt
 
-act_comes : (image : Image) (f : Facts) (cell : ℕ) (op : Op) → IfSome (act_of image f cell op) (Comes image cell op)
+act_comes : (image : Image) (f : Facts) (cell : ℕ) (op : Op) → IfSome (act_of image f cell op) (IsOutcomeOf image cell op)
 act_comes image f cell (ReadOp width at) = tt
 act_comes image f cell (WriteOp width at value) = tt
 act_comes image f cell (FetchOp at) = tt
@@ -89,13 +89,13 @@ act_comes image f cell IrqOp = irq_comes image cell (pending_of cell f.endpoints
 act_comes image f cell (HvcOp code a b) =
     cond_both (eqb cell image.system.root.id && is_management (decoded code a b)) (Begin code a b)
     (Hvc code a b (answer_of (decoded code a b) (seen_of image f cell (decoded code a b))))
-    (Comes image cell (HvcOp code a b))
+    (IsOutcomeOf image cell (HvcOp code a b))
     (λ yes. let parts = and_parts (eqb cell image.system.root.id) (is_management (decoded code a b)) yes in (refl, eqb-true cell image.system.root.id parts.0, parts.1))
     (λ _. tt)
 
-comes_by : (image : Image) (cell : ℕ) (op : Op) (act : Act) (o : Option Act) → IfSome o (Comes image cell op) → o ≡ Some act → Comes image cell op act
+comes_by : (image : Image) (cell : ℕ) (op : Op) (act : Act) (o : Option Act) → IfSome o (IsOutcomeOf image cell op) → o ≡ Some act → IsOutcomeOf image cell op act
 comes_by image cell op act None h e = absurd (none-some act e)
-comes_by image cell op act (Some other) h e = let P : Act → Type 0 = Comes image cell op in subst P (same_Some other act e) h
+comes_by image cell op act (Some other) h e = let P : Act → Type 0 = IsOutcomeOf image cell op in subst P (same_Some other act e) h
 
 -- the CPU in the state goes on with its program, and comes to the act
 pub record IsOfProgram (image : Image) (f : Facts) (state : Cpu) (cpu : ℕ) (act : Act) : Type 0 where
@@ -103,7 +103,7 @@ pub record IsOfProgram (image : Image) (f : Facts) (state : Cpu) (cpu : ℕ) (ac
   pub op : Op
   pub at : op_at image f state cpu ≡ Some op
   pub is : act_of image f state.owner op ≡ Some act
-  pub comes : Comes image state.owner op act
+  pub comes : IsOutcomeOf image state.owner op act
 
 program_at : (image : Image) (f : Facts) (state : Cpu) (cpu : ℕ) (act : Act) (o : Option Op) → goes_on state ≡ true → op_at image f state cpu ≡ o → option_and_then (act_of image f state.owner) o ≡ Some act → IsOfProgram image f state cpu act
 program_at image f state cpu act None goes at h = absurd (none-some act h)
@@ -127,15 +127,15 @@ state_by : (image : Image) (f : Facts) (state : Cpu) (cpu : ℕ) (act : Act) (b 
 state_by image f state cpu act true asked h = inl (asked, same_Some Stop act h)
 state_by image f state cpu act false asked h = inr (program_by image f state cpu act (goes_on state) refl h)
 
-pub state-parts : (image : Image) (f : Facts) (state : Cpu) (cpu : ℕ) (act : Act) → state_act image f state cpu ≡ Some act → IsOfState image f state cpu act
-state-parts image f state cpu act h = state_by image f state cpu act state.asked refl h
+pub state_parts : (image : Image) (f : Facts) (state : Cpu) (cpu : ℕ) (act : Act) → state_act image f state cpu ≡ Some act → IsOfState image f state cpu act
+state_parts image f state cpu act h = state_by image f state cpu act state.asked refl h
 
 -- ---- of the caller
 
 -- the caller of a call makes its phases
-pub caller-phase : (image : Image) (f : Facts) (o : OpenCall) (act : Act) (state : Cpu) → IsCaller image o.caller o.call state → caller_act image f state o ≡ Some act
+pub caller_phase : (image : Image) (f : Facts) (o : OpenCall) (act : Act) (state : Cpu) → IsCaller image o.caller o.call state → caller_act image f state o ≡ Some act
     → phase_act image f (is_idle_but image f o.caller) o.caller o.call o.phase ≡ Some act
-caller-phase image f o act state caller h =
+caller_phase image f o act state caller h =
     let e : caller_act image f state o ≡ phase_act image f (is_idle_but image f o.caller) o.caller o.call o.phase = rw (caller.calm.asked, caller.calm.stopped, caller.running) refl in
     sym e ∙ h
 
@@ -151,9 +151,9 @@ call_by : (image : Image) (f : Facts) (o : OpenCall) (cpu : ℕ) (act : Act) (b 
 call_by image f o cpu act true own caller h =
     let is : o.caller ≡ cpu = eqb-true o.caller cpu own in
     let P : ℕ → Type 0 = λ k. IsCaller image o.caller o.call (f.cpu k) in
-    inl (is, caller-phase image f o act (f.cpu cpu) (subst P is caller) h)
-call_by image f o cpu act false own caller h = inr (λ e. both_ways (eqb o.caller cpu) own (eq-eqb o.caller cpu (sym e)), state-parts image f (f.cpu cpu) cpu act h)
+    inl (is, caller_phase image f o act (f.cpu cpu) (subst P is caller) h)
+call_by image f o cpu act false own caller h = inr (λ e. both_ways (eqb o.caller cpu) own (eq-eqb o.caller cpu (sym e)), state_parts image f (f.cpu cpu) cpu act h)
 
-pub call-parts : (image : Image) (f : Facts) (o : OpenCall) (cpu : ℕ) (act : Act) → IsCaller image o.caller o.call (f.cpu o.caller)
+pub call_parts : (image : Image) (f : Facts) (o : OpenCall) (cpu : ℕ) (act : Act) → IsCaller image o.caller o.call (f.cpu o.caller)
     → option_map_or (caller_act image f (f.cpu cpu)) (cond (eqb o.caller cpu) (Some o) None) (state_act image f (f.cpu cpu) cpu) ≡ Some act → IsOfCall image f o cpu act
-call-parts image f o cpu act caller h = call_by image f o cpu act (eqb o.caller cpu) refl caller h
+call_parts image f o cpu act caller h = call_by image f o cpu act (eqb o.caller cpu) refl caller h

@@ -3,7 +3,7 @@ use Rattle.std.proofs.Common.{◌≡◌, ◌≢◌, ℕ, ◌<◌, ◌%◌, ◌^�
 use Rattle.std.specs.Option.{option_map_or}
 use Rattle.std.proofs.lemmas.Bool.{both_ways, and_parts, and_left, ne_eqb, eqb-true, eq-eqb, not-true, not_from_false, or_parts}
 use Rattle.std.proofs.lemmas.List.Elements.{All-nil, All-contains, Contains-get_or, Contains-append_left, Contains-push, Contains-push_cases}
-use Rattle.jh_num.proofs.Lists.{Contains-head, Contains-tail, Contains-cases, Contains-map, Contains-from_map, Contains-filter, IsFound-from_find, IsFound-from_filter, find-some, find-None}
+use Rattle.jh_num.proofs.Lists.{Contains_head, Contains_tail, Contains_cases, Contains_map, Contains_from_map, Contains_filter, IsFound_from_find, IsFound_from_filter, find_some, find_None}
 use Rattle.jh_cellcfg.specs.declared.config.CellConfig.{CellConfig}
 use Rattle.jh_cellcfg.specs.declared.live.Live.{Live}
 use Rattle.jh_cellcfg.specs.Lives.{has_id}
@@ -38,11 +38,11 @@ use Rattle.jh_history.specs.Commits.{committed_cells, cells_by, marked, is_other
 use Rattle.jh_history.specs.Phases.{configs_of}
 use Rattle.jh_history.specs.History.{cells_after}
 use Rattle.jh_history.specs.Sound.{AreTwo, AreSoundCells, IsInPhase, IsSoundCall, IsOfDevice, HasEndpoint, IsSoundEndpoint, AreEndpoints, IsSound}
-use Rattle.jh_history.proofs.SoundCpusLemmas.{other-root}
-use Rattle.jh_history.proofs.SoundCommitLemmas.{configs-marked, is_other_config, configs-others, configs-joined}
-use Rattle.jh_history.proofs.SpecsLemmas.{specs-device, specs-within, specs-apart, specs-apart_new, held-numbered}
-use Rattle.jh_history.proofs.LinkLemmas.{AreRow, HaveJoined, HaveLeft, IsBeside, one-of_pairs, all-join, all-leave}
-use Rattle.jh_history.proofs.EndpointLemmas.{specs_in, placed, without, Follow, follow-same, follow-option, follow-space, follow-written, follow-taken, follow-reset, specs-join, sound-join, specs-leave, sound-leave}
+use Rattle.jh_history.proofs.SoundCpusLemmas.{other_root}
+use Rattle.jh_history.proofs.SoundCommitLemmas.{configs_marked, is_other_config, configs_others, configs_joined}
+use Rattle.jh_history.proofs.SpecsLemmas.{specs_device, specs_within, specs_apart, specs_apart_new, held_numbered}
+use Rattle.jh_history.proofs.LinkLemmas.{AreRow, HaveJoined, HaveLeft, IsBeside, one_of_pairs, all_join, all_leave}
+use Rattle.jh_history.proofs.EndpointLemmas.{specs_in, placed, without, Follow, follow_same, follow_option, follow_space, follow_written, follow_taken, follow_reset, specs_join, sound_join, specs_leave, sound_leave}
 
 -- ---- what is fixed of the endpoints
 
@@ -55,7 +55,7 @@ record AreSpecs (image : Image) (configs : List CellConfig) (specs : List Endpoi
 -- one device has one endpoint
 one_device : (specs : List EndpointSpec) (a b : EndpointSpec) → AllPairs AreApart specs → Contains specs a → Contains specs b → is_device a.cell a.device b ≡ true → a ≡ b
 one_device specs a b apart has_a has_b is =
-    one-of_pairs AreApart (λ (x y : EndpointSpec). is_device x.cell x.device y ≡ true)
+    one_of_pairs AreApart (λ (x y : EndpointSpec). is_device x.cell x.device y ≡ true)
     (λ x y two same. both_ways (is_device x.cell x.device y) two.devices same)
     (λ x y same. sym (device_turned x y) ∙ same)
     specs a b apart has_a has_b is
@@ -64,12 +64,12 @@ specs_of_them : (image : Image) (configs : List CellConfig) (list : List Endpoin
 specs_of_them image configs list are = record {
   own = λ s h.
       let P : EndpointSpec → Type 0 = IsOfDevice image configs in
-      let from = Contains-from_map (λ (e : Endpoint). e.spec) list s h in
+      let from = Contains_from_map (λ (e : Endpoint). e.spec) list s h in
       subst P from.2 (All-contains (λ (e : Endpoint). P e.spec) list from.0 are.own from.1);
   whole = λ config held s h.
       let has = All-contains (HasEndpoint list) (specs_of config) s (are.whole config held) h in
-      let found = IsFound-from_find (λ (e : Endpoint). is_device s.cell s.device e.spec) list has.0 has.1 in
-      subst (Contains (specs_in list)) has.2 (Contains-map (λ (e : Endpoint). e.spec) list has.0 found.held);
+      let found = IsFound_from_find (λ (e : Endpoint). is_device s.cell s.device e.spec) list has.0 has.1 in
+      subst (Contains (specs_in list)) has.2 (Contains_map (λ (e : Endpoint). e.spec) list has.0 found.held);
   row = record { apart = are.apart; order = are.order };
 }
 
@@ -77,15 +77,15 @@ specs_of_them image configs list are = record {
 has_by : (list : List Endpoint) (s : EndpointSpec) → AllPairs AreApart (specs_in list) → Contains (specs_in list) s → HasEndpoint list s
 has_by list s apart h =
     let test : Endpoint → Bool = λ e. is_device s.cell s.device e.spec in
-    let from = Contains-from_map (λ (e : Endpoint). e.spec) list s h in
+    let from = Contains_from_map (λ (e : Endpoint). e.spec) list s h in
     let passes : test from.0 ≡ true = ap (λ (x : EndpointSpec). is_device s.cell s.device x) from.2 ∙ own_device s in
-    let some = find-some test list from.0 from.1 passes in
-    let found = IsFound-from_find test list some.0 some.1 in
-    (some.0, some.1, sym (one_device (specs_in list) s some.0.spec apart h (Contains-map (λ (e : Endpoint). e.spec) list some.0 found.held) found.passes))
+    let some = find_some test list from.0 from.1 passes in
+    let found = IsFound_from_find test list some.0 some.1 in
+    (some.0, some.1, sym (one_device (specs_in list) s some.0.spec apart h (Contains_map (λ (e : Endpoint). e.spec) list some.0 found.held) found.passes))
 
 them_of_specs : (image : Image) (configs : List CellConfig) (list : List Endpoint) → AreSpecs image configs (specs_in list) → All IsSoundEndpoint list → AreEndpoints image configs list
 them_of_specs image configs list are sound = record {
-  own = λ k d lt. are.own (get_or list k d).spec (Contains-map (λ (e : Endpoint). e.spec) list (get_or list k d) (Contains-get_or list k d lt));
+  own = λ k d lt. are.own (get_or list k d).spec (Contains_map (λ (e : Endpoint). e.spec) list (get_or list k d) (Contains-get_or list k d lt));
   whole = λ config held k d lt.
       let s : EndpointSpec = get_or (specs_of config) k d in
       has_by list s are.row.apart (are.whole config held s (Contains-get_or (specs_of config) k d lt));
@@ -112,49 +112,49 @@ same_device cell n a b is_a is_b =
 -- a write to configuration space
 function_follow : (devices : Devices) (bytes : InConfig) (value n : ℕ) (o : Option Endpoint) → AllPairs AreApart (specs_in devices.endpoints) → endpoint_at devices.cell n devices.endpoints ≡ o
     → Follow devices.endpoints (option_map_or (λ (e : Endpoint). space_put devices.cell n (config_written e.space (bytes.at % 4096) bytes.width (value % 2 ^ 32)) devices.endpoints) o devices.endpoints)
-function_follow devices bytes value n None apart is = follow-same devices.endpoints
+function_follow devices bytes value n None apart is = follow_same devices.endpoints
 function_follow devices bytes value n (Some e) apart is =
     let list : List Endpoint = devices.endpoints in
-    let found = IsFound-from_find (λ (x : Endpoint). is_device devices.cell n x.spec) list e is in
-    follow-space devices.cell n e (bytes.at % 4096) bytes.width (value % 2 ^ 32) list found.held
+    let found = IsFound_from_find (λ (x : Endpoint). is_device devices.cell n x.spec) list e is in
+    follow_space devices.cell n e (bytes.at % 4096) bytes.width (value % 2 ^ 32) list found.held
     (λ x held passes.
     one_device (specs_in list) x.spec e.spec apart
-    (Contains-map (λ (y : Endpoint). y.spec) list x held)
-    (Contains-map (λ (y : Endpoint). y.spec) list e found.held)
+    (Contains_map (λ (y : Endpoint). y.spec) list x held)
+    (Contains_map (λ (y : Endpoint). y.spec) list e found.held)
     (same_device devices.cell n x.spec e.spec passes found.passes))
 
 -- a write that reaches a device
 put_follow : (devices : Devices) (found : Reach) (value : ℕ) → AllPairs AreApart (specs_in devices.endpoints) → Follow devices.endpoints (endpoints_put devices found value)
 put_follow devices (Config bytes) value apart =
-    follow-option (number_at devices bytes.at) (function_put devices bytes value) devices.endpoints devices.endpoints
+    follow_option (number_at devices bytes.at) (function_put devices bytes value) devices.endpoints devices.endpoints
     (λ n. function_follow devices bytes value n (endpoint_at devices.cell n devices.endpoints) apart refl)
-    (follow-same devices.endpoints)
+    (follow_same devices.endpoints)
 put_follow devices (Window register) value apart =
-    follow-option (endpoint_at devices.cell register.device devices.endpoints)
+    follow_option (endpoint_at devices.cell register.device devices.endpoints)
     (λ (e : Endpoint). written e register.bar register.at (value % 2 ^ 32) devices.endpoints) devices.endpoints devices.endpoints
-    (λ e. follow-written e register.bar register.at (value % 2 ^ 32) devices.endpoints)
-    (follow-same devices.endpoints)
-put_follow devices (Memory places) value apart = follow-same devices.endpoints
-put_follow devices (Subpage places) value apart = follow-same devices.endpoints
-put_follow devices Nothing value apart = follow-same devices.endpoints
+    (λ e. follow_written e register.bar register.at (value % 2 ^ 32) devices.endpoints)
+    (follow_same devices.endpoints)
+put_follow devices (Memory places) value apart = follow_same devices.endpoints
+put_follow devices (Subpage places) value apart = follow_same devices.endpoints
+put_follow devices Nothing value apart = follow_same devices.endpoints
 
 -- what an act does to them itself
 acted_follow : (image : Image) (f : Facts) (cell : ℕ) (act : Act) → AllPairs AreApart (specs_in f.endpoints) → Follow f.endpoints (endpoints_acted image f cell act)
 acted_follow image f cell (Write width at value true) apart = put_follow (devices_of image f cell) (reach image f cell ToWrite at width) value apart
-acted_follow image f cell (Write width at value false) apart = follow-same f.endpoints
-acted_follow image f cell (Irq device vector) apart = follow-taken cell (Some (device, vector)) f.endpoints
-acted_follow image f cell (Read width at got) apart = follow-same f.endpoints
-acted_follow image f cell (Fetch at got) apart = follow-same f.endpoints
-acted_follow image f cell (Await width at value ok) apart = follow-same f.endpoints
-acted_follow image f cell (Hvc code a b answer) apart = follow-same f.endpoints
-acted_follow image f cell (Begin code a b) apart = follow-same f.endpoints
-acted_follow image f cell Stop apart = follow-same f.endpoints
-acted_follow image f cell (Decide refused) apart = follow-same f.endpoints
-acted_follow image f cell (Settle how) apart = follow-same f.endpoints
-acted_follow image f cell Commit apart = follow-same f.endpoints
-acted_follow image f cell (Note id) apart = follow-same f.endpoints
-acted_follow image f cell (Noted id how) apart = follow-same f.endpoints
-acted_follow image f cell (Finish answer) apart = follow-same f.endpoints
+acted_follow image f cell (Write width at value false) apart = follow_same f.endpoints
+acted_follow image f cell (Irq device vector) apart = follow_taken cell (Some (device, vector)) f.endpoints
+acted_follow image f cell (Read width at got) apart = follow_same f.endpoints
+acted_follow image f cell (Fetch at got) apart = follow_same f.endpoints
+acted_follow image f cell (Await width at value ok) apart = follow_same f.endpoints
+acted_follow image f cell (Hvc code a b answer) apart = follow_same f.endpoints
+acted_follow image f cell (Begin code a b) apart = follow_same f.endpoints
+acted_follow image f cell Stop apart = follow_same f.endpoints
+acted_follow image f cell (Decide refused) apart = follow_same f.endpoints
+acted_follow image f cell (Settle how) apart = follow_same f.endpoints
+acted_follow image f cell Commit apart = follow_same f.endpoints
+acted_follow image f cell (Note id) apart = follow_same f.endpoints
+acted_follow image f cell (Noted id how) apart = follow_same f.endpoints
+acted_follow image f cell (Finish answer) apart = follow_same f.endpoints
 
 -- ---- a cell comes
 
@@ -165,25 +165,25 @@ specs_open : (image : Image) (now : List EndpointSpec) → HaveJoined [] (specs_
 specs_open image now joined = record {
   own = λ s h. ⊎_elim
       (λ (old : Contains [] s). absurd (nothing_in s old))
-      (λ (new : Contains (specs_of image.system.root) s). (image.system.root, Contains-head image.system.root [], new))
+      (λ (new : Contains (specs_of image.system.root) s). (image.system.root, Contains_head image.system.root [], new))
       (joined.from s h);
   whole = λ config held s h.
       let is_root : image.system.root ≡ config =
-      ⊎_elim (λ (same : image.system.root ≡ config). same) (λ (later : Contains [] config). absurd (nothing_in config later)) (Contains-cases image.system.root [] config held) in
+      ⊎_elim (λ (same : image.system.root ≡ config). same) (λ (later : Contains [] config). absurd (nothing_in config later)) (Contains_cases image.system.root [] config held) in
       joined.new s (subst (λ (c : CellConfig). Contains (specs_of c) s) (sym is_root) h);
   row = joined.row;
 }
 
 -- at opening the devices of root have joined
-pub endpoints-open : (image : Image) → IsClean image.system [] → AreEndpoints image [] (endpoints_changed Join (specs_of image.system.root) [])
-endpoints-open image clean =
+pub endpoints_open : (image : Image) → IsClean image.system [] → AreEndpoints image [] (endpoints_changed Join (specs_of image.system.root) [])
+endpoints_open image clean =
     let specs : List EndpointSpec = specs_of image.system.root in
     let none : AreRow [] = record { apart = λ i j d before within. absurd (let no : ⊥ = omega arith in no); order = λ i j d before within. absurd (let no : ⊥ = omega arith in no) } in
-    let joined = all-join [] specs none (specs-apart image.system [] 0 image.system.root clean refl) (λ x y old _. absurd (nothing_in x old)) in
+    let joined = all_join [] specs none (specs_apart image.system [] 0 image.system.root clean refl) (λ x y old _. absurd (nothing_in x old)) in
     let P : List EndpointSpec → Type 0 = AreSpecs image [] in
     them_of_specs image [] (endpoints_changed Join specs [])
-    (subst P (sym (specs-join specs [])) (specs_open image (fold placed [] specs) joined))
-    (sound-join specs [] (specs-within image.system [] 0 image.system.root clean refl) (All-nil IsSoundEndpoint))
+    (subst P (sym (specs_join specs [])) (specs_open image (fold placed [] specs) joined))
+    (sound_join specs [] (specs_within image.system [] 0 image.system.root clean refl) (All-nil IsSoundEndpoint))
 
 specs_come : (image : Image) (configs : List CellConfig) (new : CellConfig) (specs now : List EndpointSpec) → AreSpecs image configs specs → HaveJoined specs (specs_of new) now → AreSpecs image (configs ++ new ∷ []) now
 specs_come image configs new specs now are joined =
@@ -209,15 +209,15 @@ endpoints_come image configs new list unknown clean are =
     let specs : List EndpointSpec = specs_of new in
     let old : AreSpecs image configs (specs_in list) = specs_of_them image configs list are in
     let held : Contains (image.system.root ∷ all) new = Contains-push cells new in
-    let numbered = held-numbered image.system all new held in
+    let numbered = held_numbered image.system all new held in
     let apart : (x y : EndpointSpec) → Contains (specs_in list) x → Contains specs y → AreApart x y = λ x y has_x has_y.
     let of = old.own x has_x in
-    specs-apart_new image.system configs new of.0 x y clean unknown of.1 of.2 has_y in
-    let joined = all-join (specs_in list) specs old.row (specs-apart image.system all held.0 new clean numbered) apart in
+    specs_apart_new image.system configs new of.0 x y clean unknown of.1 of.2 has_y in
+    let joined = all_join (specs_in list) specs old.row (specs_apart image.system all held.0 new clean numbered) apart in
     let P : List EndpointSpec → Type 0 = AreSpecs image all in
     them_of_specs image all (endpoints_changed Join specs list)
-    (subst P (sym (specs-join specs list)) (specs_come image configs new (specs_in list) (fold placed (specs_in list) specs) old joined))
-    (sound-join specs list (specs-within image.system all held.0 new clean numbered) are.sound)
+    (subst P (sym (specs_join specs list)) (specs_come image configs new (specs_in list) (fold placed (specs_in list) specs) old joined))
+    (sound_join specs list (specs_within image.system all held.0 new clean numbered) are.sound)
 
 -- ---- a cell goes
 
@@ -235,7 +235,7 @@ beside_cell gone id x of other s h =
 
 -- the endpoint of a cell's device has the cell's id
 spec_cell : (config : CellConfig) (s : EndpointSpec) → Contains (specs_of config) s → s.cell ≡ config.id
-spec_cell config s h = ap (λ (x : EndpointSpec). x.cell) (specs-device config s h).is
+spec_cell config s h = ap (λ (x : EndpointSpec). x.cell) (specs_device config s h).is
 
 specs_go : (image : Image) (configs : List CellConfig) (id : ℕ) (specs gone now : List EndpointSpec) → AreSpecs image configs specs → AreOfCell image configs id gone → HaveLeft specs gone now
     → AreSpecs image (filter (is_other_config id) configs) now
@@ -248,24 +248,24 @@ specs_go image configs id specs gone now are of left =
           let was = are.own s (left.from s h) in
           let stays : Contains configs was.0 → Contains rest was.0 = λ held.
           let other : was.0.id ≢ id = λ same. both_ways (is_device s.cell s.device s) (left.beside s h s (of.all was.0 held same s was.2)) (own_device s) in
-          Contains-filter (is_other_config id) configs was.0 held (not_from_false (eqb was.0.id id) (ne_eqb was.0.id id other)) in
+          Contains_filter (is_other_config id) configs was.0 held (not_from_false (eqb was.0.id id) (ne_eqb was.0.id id other)) in
           let held : Contains (root ∷ rest) was.0 = ⊎_elim
-          (λ (same : root ≡ was.0). subst (Contains (root ∷ rest)) same (Contains-head root rest))
-          (λ (later : Contains configs was.0). Contains-tail root rest was.0 (stays later))
-          (Contains-cases root configs was.0 was.1) in
+          (λ (same : root ≡ was.0). subst (Contains (root ∷ rest)) same (Contains_head root rest))
+          (λ (later : Contains configs was.0). Contains_tail root rest was.0 (stays later))
+          (Contains_cases root configs was.0 was.1) in
           (was.0, held, was.2);
       whole = λ config held s h.
           let cell : s.cell ≡ config.id = spec_cell config s h in
           ⊎_elim
           (λ (same : root ≡ config).
           left.stay s
-          (are.whole config (subst (Contains (root ∷ configs)) same (Contains-head root configs)) s h)
+          (are.whole config (subst (Contains (root ∷ configs)) same (Contains_head root configs)) s h)
           (beside_cell gone id s of.cell (λ t there is. of.other t there (sym is ∙ cell ∙ ap (λ (c : CellConfig). c.id) (sym same)))))
           (λ (later : Contains rest config).
-          let found = IsFound-from_filter (is_other_config id) configs config later in
+          let found = IsFound_from_filter (is_other_config id) configs config later in
           let other : config.id ≢ id = λ same. both_ways (eqb config.id id) (not-true (eqb config.id id) found.passes) (eq-eqb config.id id same) in
-          left.stay s (are.whole config (Contains-tail root configs config found.held) s h) (beside_cell gone id s of.cell (λ t there is. other (sym cell ∙ is))))
-          (Contains-cases root rest config held);
+          left.stay s (are.whole config (Contains_tail root configs config found.held) s h) (beside_cell gone id s of.cell (λ t there is. other (sym cell ∙ is))))
+          (Contains_cases root rest config held);
       row = left.row;
     }
 
@@ -273,10 +273,10 @@ specs_go image configs id specs gone now are of left =
 one_cell : (image : Image) (configs : List CellConfig) (a b : CellConfig) → AreSoundCells image.system configs → Contains configs a → Contains configs b → a.id ≡ b.id → a ≡ b
 one_cell image configs a b sound has_a has_b is =
     let cells : List CellConfig = image.system.root ∷ configs in
-    one-of_pairs AreTwo (λ (x y : CellConfig). x.id ≡ y.id)
+    one_of_pairs AreTwo (λ (x y : CellConfig). x.id ≡ y.id)
     (λ x y two same. both_ways (eqb x.id y.id) (or_parts (eqb x.id y.id) _ two).0 (eq-eqb x.id y.id same))
     (λ x y same. sym same)
-    cells a b sound.differ (Contains-tail image.system.root configs a has_a) (Contains-tail image.system.root configs b has_b) is
+    cells a b sound.differ (Contains_tail image.system.root configs a has_a) (Contains_tail image.system.root configs b has_b) is
 
 of_cell_by : (image : Image) (cells : List Live) (id : ℕ) (o : Option Live) → AreSoundCells image.system (configs_of cells) → find (has_id id) cells ≡ o
     → AreOfCell image (configs_of cells) id (option_map_or specs_of (option_map (λ (live : Live). live.config) o) [])
@@ -284,17 +284,17 @@ of_cell_by image cells id None sound none = record {
   cell = λ s h. absurd (nothing_in s h);
   other = λ s h. absurd (nothing_in s h);
   all = λ config held same s h.
-      let from = Contains-from_map (λ (live : Live). live.config) cells config held in
+      let from = Contains_from_map (λ (live : Live). live.config) cells config held in
       let named : has_id id from.0 ≡ true = eq-eqb from.0.config.id id (ap (λ (c : CellConfig). c.id) from.2 ∙ same) in
-      absurd (both_ways (has_id id from.0) (find-None (has_id id) cells from.0 none from.1) named);
+      absurd (both_ways (has_id id from.0) (find_None (has_id id) cells from.0 none from.1) named);
 }
 of_cell_by image cells id (Some live) sound found =
-    let is = IsFound-from_find (has_id id) cells live found in
+    let is = IsFound_from_find (has_id id) cells live found in
     let named : live.config.id ≡ id = eqb-true live.config.id id is.passes in
-    let held : Contains (configs_of cells) live.config = Contains-map (λ (l : Live). l.config) cells live is.held in
+    let held : Contains (configs_of cells) live.config = Contains_map (λ (l : Live). l.config) cells live is.held in
     record {
       cell = λ s h. spec_cell live.config s h ∙ named;
-      other = λ s h same. other-root image.system (configs_of cells) live.config sound held (named ∙ same);
+      other = λ s h same. other_root image.system (configs_of cells) live.config sound held (named ∙ same);
       all = λ config has same s h. subst (λ (c : CellConfig). Contains (specs_of c) s) (one_cell image (configs_of cells) config live.config sound has held (same ∙ sym named)) h;
     }
 
@@ -304,11 +304,11 @@ endpoints_go : (image : Image) (configs : List CellConfig) (id : ℕ) (gone : Li
 endpoints_go image configs id gone list of are =
     let rest : List CellConfig = filter (is_other_config id) configs in
     let old : AreSpecs image configs (specs_in list) = specs_of_them image configs list are in
-    let left = all-leave (specs_in list) gone old.row in
+    let left = all_leave (specs_in list) gone old.row in
     let P : List EndpointSpec → Type 0 = AreSpecs image rest in
     them_of_specs image rest (endpoints_changed Leave gone list)
-    (subst P (sym (specs-leave gone list)) (specs_go image configs id (specs_in list) gone (fold without (specs_in list) gone) old of left))
-    (sound-leave gone list are.sound)
+    (subst P (sym (specs_leave gone list)) (specs_go image configs id (specs_in list) gone (fold without (specs_in list) gone) old of left))
+    (sound_leave gone list are.sound)
 
 -- ---- each act
 
@@ -324,7 +324,7 @@ commit_after : (image : Image) (f : Facts) (caller : ℕ) (call : Call) (phase :
     → IsInPhase image (configs_of f.cells) f.cpu caller call phase → AreEndpoints image (configs_of (committed_cells call phase f.cells)) (committed f call phase)
 commit_after image f caller (Create at) (ToCreate new) sound are in_phase =
     let may = in_phase.1 in
-    endpoints_by image (f.cells ++ (record { config = new; loadable = false }) ∷ []) (configs_of f.cells ++ new ∷ []) (endpoints_changed Join (specs_of new) f.endpoints) (configs-joined f.cells new)
+    endpoints_by image (f.cells ++ (record { config = new; loadable = false }) ∷ []) (configs_of f.cells ++ new ∷ []) (endpoints_changed Join (specs_of new) f.endpoints) (configs_joined f.cells new)
     (endpoints_come image (configs_of f.cells) new f.endpoints may.unknown may.clean are)
 commit_after image f caller (Create at) ToDecide sound are in_phase = are
 commit_after image f caller (Create at) (ToSettle waited) sound are in_phase = are
@@ -334,12 +334,12 @@ commit_after image f caller (Create at) (ToNoted id about answer waited) sound a
 commit_after image f caller (Create at) (ToFinish answer) sound are in_phase = are
 commit_after image f caller (Start id) phase sound are in_phase =
     let specs : List EndpointSpec = option_map_or specs_of (live_in f.cells id) [] in
-    endpoints_by image (map (marked id false) f.cells) (configs_of f.cells) (endpoints_changed Reset specs f.endpoints) (configs-marked id false f.cells)
-    (endpoints_follow image (configs_of f.cells) f.endpoints (endpoints_changed Reset specs f.endpoints) (follow-reset specs f.endpoints) are)
-commit_after image f caller (Loadable id) phase sound are in_phase = endpoints_by image (map (marked id true) f.cells) (configs_of f.cells) f.endpoints (configs-marked id true f.cells) are
+    endpoints_by image (map (marked id false) f.cells) (configs_of f.cells) (endpoints_changed Reset specs f.endpoints) (configs_marked id false f.cells)
+    (endpoints_follow image (configs_of f.cells) f.endpoints (endpoints_changed Reset specs f.endpoints) (follow_reset specs f.endpoints) are)
+commit_after image f caller (Loadable id) phase sound are in_phase = endpoints_by image (map (marked id true) f.cells) (configs_of f.cells) f.endpoints (configs_marked id true f.cells) are
 commit_after image f caller (Destroy id) phase sound are in_phase =
     let gone : List EndpointSpec = option_map_or specs_of (live_in f.cells id) [] in
-    endpoints_by image (filter (is_other id) f.cells) (filter (is_other_config id) (configs_of f.cells)) (endpoints_changed Leave gone f.endpoints) (configs-others id f.cells)
+    endpoints_by image (filter (is_other id) f.cells) (filter (is_other_config id) (configs_of f.cells)) (endpoints_changed Leave gone f.endpoints) (configs_others id f.cells)
     (endpoints_go image (configs_of f.cells) id gone f.endpoints (of_cell_by image f.cells id (find (has_id id) f.cells) sound refl) are)
 commit_after image f caller (Info kind) phase sound are in_phase = are
 commit_after image f caller (State id) phase sound are in_phase = are
@@ -387,5 +387,5 @@ act_after image f cell (Noted id how) sound = still image f cell f.call (Noted i
 act_after image f cell (Finish answer) sound = still image f cell f.call (Finish answer) (never f.call) sound.endpoints
 
 -- what is sound has the endpoints of its devices after each entry
-pub endpoints-after : (image : Image) (f : Facts) (entry : Entry) → IsSound image f → AreEndpoints image (configs_of (cells_after f entry)) (endpoints_after image f entry)
-endpoints-after image f entry sound = act_after image f entry.cell entry.act sound
+pub endpoints_after_holds : (image : Image) (f : Facts) (entry : Entry) → IsSound image f → AreEndpoints image (configs_of (cells_after f entry)) (endpoints_after image f entry)
+endpoints_after_holds image f entry sound = act_after image f entry.cell entry.act sound

@@ -42,13 +42,13 @@ use Rattle.jh_history.specs.Phases.{phase_act, keeps_decide, keeps_commit, confi
 use Rattle.jh_history.specs.Due.{due_at, is_idle_but, IsLegal, IsLegalFrom}
 use Rattle.jh_history.proofs.FactsLemmas.{same_function}
 use Rattle.jh_history.specs.Sound.{AreSoundCells, AreOwned, IsCalm, IsHalted, IsOpen, IsSoundCall, AreEndpoints, IsSound}
-use Rattle.jh_history.proofs.SoundCellsLemmas.{cells-open, cells-joined, cells-fewer}
-use Rattle.jh_history.proofs.SoundCpusLemmas.{IsMild, owned-kept, come-rests}
-use Rattle.jh_history.proofs.SoundDueLemmas.{IsNext, next-from_due, IsOfProgram, IsOfState, state-parts, IsOfCall, call-parts}
-use Rattle.jh_history.proofs.SoundStepLemmas.{one_changed, one-owner, calm-one, open-mild, open-stop, owned-begun, open-begun, owned-finished, calm-finished}
-use Rattle.jh_history.proofs.SoundDecideLemmas.{open-decided, owned-settled, open-settled}
-use Rattle.jh_history.proofs.SoundCommitLemmas.{cell_changed, owned-changed, open-changed, restarted-calm, parked-calm, configs-marked, is_other_config, configs-others, owned-returned, open-destroyed, configs-joined, owned-lent, open-created, open-noted, open-note}
-use Rattle.jh_history.proofs.SoundEndpointsLemmas.{endpoints-open, endpoints-after}
+use Rattle.jh_history.proofs.SoundCellsLemmas.{cells_open, cells_joined, cells_fewer}
+use Rattle.jh_history.proofs.SoundCpusLemmas.{IsMild, owned_kept, come_rests}
+use Rattle.jh_history.proofs.SoundDueLemmas.{IsNext, next_from_due, IsOfProgram, IsOfState, state_parts, IsOfCall, call_parts}
+use Rattle.jh_history.proofs.SoundStepLemmas.{one_changed, one_owner, calm_one, open_mild, open_stop, owned_begun, open_begun, owned_finished, calm_finished}
+use Rattle.jh_history.proofs.SoundDecideLemmas.{open_decided, owned_settled, open_settled}
+use Rattle.jh_history.proofs.SoundCommitLemmas.{cell_changed, owned_changed, open_changed, restarted_calm, parked_calm, configs_marked, is_other_config, configs_others, owned_returned, open_destroyed, configs_joined, owned_lent, open_created, open_noted, open_note}
+use Rattle.jh_history.proofs.SoundEndpointsLemmas.{endpoints_open, endpoints_after_holds}
 
 -- what an entry changes beside the CPUs, the cells and the call
 record Rest : Type 0 where
@@ -65,7 +65,7 @@ record IsSoundBut (image : Image) (f : Facts) : Type 0 where
   cpus : AreOwned image (configs_of f.cells) f.cpu
   call : IsSoundCall image (configs_of f.cells) f.cpu f.call
 
-abbrev opened_call : ℕ → Call → Phase → OpenCall
+abbrev pub opened_call : ℕ → Call → Phase → OpenCall
 opened_call caller call phase = record { caller = caller; call = call; phase = phase }
 
 -- the facts behind an act of the CPU, whatever it writes
@@ -82,8 +82,8 @@ mild_if false = tt
 own_none : (image : Image) (rest rest' : Rest) (cpu : ℕ → Cpu) (cells : List Live) (own : ℕ) (change : Change) → IsMild change → IsSoundBut image (board rest cpu cells None) → IsSoundBut image (board rest' (one_changed change own cpu) cells None)
 own_none image rest rest' cpu cells own change mild sound = record {
   cells = sound.cells;
-  cpus = owned-kept image (configs_of cells) cpu (one_changed change own cpu) (one-owner change own cpu) sound.cpus;
-  call = calm-one change own cpu mild sound.call;
+  cpus = owned_kept image (configs_of cells) cpu (one_changed change own cpu) (one_owner change own cpu) sound.cpus;
+  call = calm_one change own cpu mild sound.call;
 }
 
 begin_none : (image : Image) (rest rest' : Rest) (cpu : ℕ → Cpu) (cells : List Live) (coming : Option CellConfig) (own cell code a b : ℕ) → IsSoundBut image (board rest cpu cells None) → is_on_board image own ≡ true
@@ -96,8 +96,8 @@ begin_none image rest rest' cpu cells coming own cell code a b sound on program 
     ap (λ (ops : List Op). slice_get ops (cpu own).position) (sym roots) ∙ program.at ∙ ap Some program.comes.0 in
     record {
       cells = sound.cells;
-      cpus = owned-begun image (configs_of cells) cpu own sound.cpus;
-      call = open-begun image (configs_of cells) cpu own code a b sound.call on is program.goes at program.comes.2;
+      cpus = owned_begun image (configs_of cells) cpu own sound.cpus;
+      call = open_begun image (configs_of cells) cpu own code a b sound.call on is program.goes at program.comes.2;
     }
 
 program_none : (image : Image) (rest rest' : Rest) (cpu : ℕ → Cpu) (cells : List Live) (coming : Option CellConfig) (own cell : ℕ) (act : Act) → IsSoundBut image (board rest cpu cells None) → is_on_board image own ≡ true
@@ -131,16 +131,16 @@ own_some : (image : Image) (rest rest' : Rest) (cpu : ℕ → Cpu) (cells : List
     → goes_on (cpu own) ≡ true → IsSoundBut image (board rest' (one_changed change own cpu) cells (Some (opened_call o.caller o.call (counted cell o.call o.phase))))
 own_some image rest rest' cpu cells o own cell change mild sound on other goes = record {
   cells = sound.cells;
-  cpus = owned-kept image (configs_of cells) cpu (one_changed change own cpu) (one-owner change own cpu) sound.cpus;
-  call = open-mild image (configs_of cells) cpu o change own cell mild sound.call on other goes;
+  cpus = owned_kept image (configs_of cells) cpu (one_changed change own cpu) (one_owner change own cpu) sound.cpus;
+  call = open_mild image (configs_of cells) cpu o change own cell mild sound.call on other goes;
 }
 
 stop_some : (image : Image) (rest rest' : Rest) (cpu : ℕ → Cpu) (cells : List Live) (o : OpenCall) (coming : Option CellConfig) (own cell : ℕ) → IsSoundBut image (board rest cpu cells (Some o)) → is_on_board image own ≡ true → own ≢ o.caller
     → (cpu own).asked ≡ true → IsSoundBut image (behind_act image rest' cpu cells (Some o) coming own cell Stop)
 stop_some image rest rest' cpu cells o coming own cell sound on other asked = record {
   cells = sound.cells;
-  cpus = owned-kept image (configs_of cells) cpu (one_changed Halt own cpu) (one-owner Halt own cpu) sound.cpus;
-  call = open-stop image (configs_of cells) cpu o own cell sound.call on other asked;
+  cpus = owned_kept image (configs_of cells) cpu (one_changed Halt own cpu) (one_owner Halt own cpu) sound.cpus;
+  call = open_stop image (configs_of cells) cpu o own cell sound.call on other asked;
 }
 
 program_some : (image : Image) (rest rest' : Rest) (cpu : ℕ → Cpu) (cells : List Live) (o : OpenCall) (coming : Option CellConfig) (own cell : ℕ) (act : Act) → IsSoundBut image (board rest cpu cells (Some o)) → is_on_board image own ≡ true → own ≢ o.caller
@@ -151,7 +151,7 @@ program_some image rest rest' cpu cells o coming own cell (Fetch at got) sound o
 program_some image rest rest' cpu cells o coming own cell (Await width at value ok) sound on other program = own_some image rest rest' cpu cells o own cell (change_if ok) (mild_if ok) sound on other program.goes
 program_some image rest rest' cpu cells o coming own cell (Irq device vector) sound on other program = own_some image rest rest' cpu cells o own cell Step tt sound on other program.goes
 program_some image rest rest' cpu cells o coming own cell (Hvc code a b answer) sound on other program = own_some image rest rest' cpu cells o own cell Step tt sound on other program.goes
-program_some image rest rest' cpu cells o coming own cell (Begin code a b) sound on other program = absurd (come-rests o.phase (cpu own) (sound.call.roots own on other program.comes.1) program.goes)
+program_some image rest rest' cpu cells o coming own cell (Begin code a b) sound on other program = absurd (come_rests o.phase (cpu own) (sound.call.roots own on other program.comes.1) program.goes)
 program_some image rest rest' cpu cells o coming own cell Stop sound on other program = absurd program.comes
 program_some image rest rest' cpu cells o coming own cell (Decide refused) sound on other program = absurd program.comes
 program_some image rest rest' cpu cells o coming own cell (Settle how) sound on other program = absurd program.comes
@@ -203,7 +203,7 @@ decide_sound image rest rest' cpu cells caller call cell act false sound none h 
     let P : Act → Type 0 = λ x. IsSoundBut image (behind_act image rest' cpu cells (Some (opened_call caller call ToDecide)) (coming_by image f call) caller cell x) in
     subst P (same_Some (Decide refused) act h)
     (phase_only image rest' cpu cells caller (opened_call caller call (decided call (coming_by image f call) refused))
-    (record { cells = sound.cells; cpus = sound.cpus; call = open-decided image f caller call sound.cells sound.call none }))
+    (record { cells = sound.cells; cpus = sound.cpus; call = open_decided image f caller call sound.cells sound.call none }))
 
 -- the Settle
 settle_sound : (image : Image) (rest rest' : Rest) (cpu : ℕ → Cpu) (cells : List Live) (caller waited : ℕ) (call : Call) (coming : Option CellConfig) (cell : ℕ) (act : Act) (o : Option Settled) → IsSoundBut image (board rest cpu cells (Some (opened_call caller call (ToSettle waited))))
@@ -215,8 +215,8 @@ settle_sound image rest rest' cpu cells caller waited call coming cell act (Some
     subst P (same_Some (Settle how) act h)
     (record {
       cells = sound.cells;
-      cpus = owned-settled image (configs_of cells) cpu (is_agreed how) call sound.cpus;
-      call = open-settled image (configs_of cells) cpu caller waited call how sound.cells sound.cpus sound.call;
+      cpus = owned_settled image (configs_of cells) cpu (is_agreed how) call sound.cpus;
+      call = open_settled image (configs_of cells) cpu caller waited call how sound.cells sound.cpus sound.call;
     })
 
 -- the Commit of a create
@@ -227,10 +227,10 @@ create_sound image rest rest' cpu cells caller (Create at) new coming cell sound
     let may = sound.call.phase.1 in
     sound_by image rest' (λ i. acted image (Some (opened_call caller (Create at) (ToCreate new))) Commit caller i (cpu i)) (cells ++ (record { config = new; loadable = false }) ∷ []) (configs ++ new ∷ [])
     (opened_call caller (Create at) (telling new.id (pos new.id) (first_told new.id cells)))
-    (configs-joined cells new)
-    (cells-joined image.system configs new sound.cells may.unknown may.clean may.room)
-    (owned-lent image configs cpu caller new sound.cells sound.cpus may)
-    (open-created image cells cpu caller at new sound.cells sound.cpus sound.call)
+    (configs_joined cells new)
+    (cells_joined image.system configs new sound.cells may.unknown may.clean may.room)
+    (owned_lent image configs cpu caller new sound.cells sound.cpus may)
+    (open_created image cells cpu caller at new sound.cells sound.cpus sound.call)
 create_sound image rest rest' cpu cells caller (Start id) new coming cell sound = absurd sound.call.phase.0
 create_sound image rest rest' cpu cells caller (Loadable id) new coming cell sound = absurd sound.call.phase.0
 create_sound image rest rest' cpu cells caller (Destroy id) new coming cell sound = absurd sound.call.phase.0
@@ -255,27 +255,27 @@ mark_sound image rest cpu cells caller id call loadable change answer about kept
     let P : (ℕ → Cpu) → Type 0 = λ c. IsSoundBut image (board rest c (map (marked id loadable) cells) (Some (opened_call caller call (ToFinish answer)))) in
     subst P same
     (sound_by image rest (cell_changed change call cpu) (map (marked id loadable) cells) (configs_of cells) (opened_call caller call (ToFinish answer))
-    (configs-marked id loadable cells)
+    (configs_marked id loadable cells)
     sound
-    (owned-changed image (configs_of cells) cpu change call kept owned)
-    (open-changed image (configs_of cells) cpu change caller call answer kept calm sound owned opens none))
+    (owned_changed image (configs_of cells) cpu change call kept owned)
+    (open_changed image (configs_of cells) cpu change caller call answer kept calm sound owned opens none))
 
 -- the Commit of a call about a cell that lives
 commit_sound : (image : Image) (rest rest' : Rest) (cpu : ℕ → Cpu) (cells : List Live) (caller : ℕ) (call : Call) (coming : Option CellConfig) (cell : ℕ) → IsSoundBut image (board rest cpu cells (Some (opened_call caller call ToCommit)))
     → any_below (λ k. keeps_commit image call k (cpu k)) 16 ≡ false → IsSoundBut image (behind_act image rest' cpu cells (Some (opened_call caller call ToCommit)) coming caller cell Commit)
 commit_sound image rest rest' cpu cells caller (Create at) coming cell sound none = absurd (both_ways false refl sound.call.phase.2)
 commit_sound image rest rest' cpu cells caller (Start id) coming cell sound none =
-    mark_sound image rest' cpu cells caller id (Start id) false restarted (pos 0) (λ x. turned id x) (λ c. refl) restarted-calm sound.cells sound.cpus sound.call none
+    mark_sound image rest' cpu cells caller id (Start id) false restarted (pos 0) (λ x. turned id x) (λ c. refl) restarted_calm sound.cells sound.cpus sound.call none
 commit_sound image rest rest' cpu cells caller (Loadable id) coming cell sound none =
-    mark_sound image rest' cpu cells caller id (Loadable id) true parked (pos 0) (λ x. turned id x) (λ c. refl) parked-calm sound.cells sound.cpus sound.call none
+    mark_sound image rest' cpu cells caller id (Loadable id) true parked (pos 0) (λ x. turned id x) (λ c. refl) parked_calm sound.cells sound.cpus sound.call none
 commit_sound image rest rest' cpu cells caller (Destroy id) coming cell sound none =
     let configs : List CellConfig = configs_of cells in
     sound_by image rest' (λ i. acted image (Some (opened_call caller (Destroy id) ToCommit)) Commit caller i (cpu i)) (filter (is_other id) cells) (filter (is_other_config id) configs)
     (opened_call caller (Destroy id) (telling id (pos 0) (first_told id cells)))
-    (configs-others id cells)
-    (cells-fewer image.system (is_other_config id) configs sound.cells)
-    (owned-returned image configs cpu id sound.cells sound.cpus)
-    (open-destroyed image cells cpu caller id sound.cells sound.cpus sound.call none)
+    (configs_others id cells)
+    (cells_fewer image.system (is_other_config id) configs sound.cells)
+    (owned_returned image configs cpu id sound.cells sound.cpus)
+    (open_destroyed image cells cpu caller id sound.cells sound.cpus sound.call none)
 commit_sound image rest rest' cpu cells caller (Info kind) coming cell sound none = absurd (both_ways false refl sound.call.phase.2)
 commit_sound image rest rest' cpu cells caller (State id) coming cell sound none = absurd (both_ways false refl sound.call.phase.2)
 commit_sound image rest rest' cpu cells caller (CpuInfo i kind) coming cell sound none = absurd (both_ways false refl sound.call.phase.2)
@@ -298,7 +298,7 @@ noted_sound image rest rest' cpu cells caller id about waited call answer coming
     let P : Act → Type 0 = λ x. IsSoundBut image (behind_act image rest' cpu cells (Some (opened_call caller call (ToNoted id about answer waited))) coming caller cell x) in
     subst P (same_Some (Noted id how) act h)
     (phase_only image rest' cpu cells caller (opened_call caller call (telling about answer (first_told about (behind id cells))))
-    (record { cells = sound.cells; cpus = sound.cpus; call = open-noted image cells cpu caller id about waited call answer sound.call }))
+    (record { cells = sound.cells; cpus = sound.cpus; call = open_noted image cells cpu caller id about waited call answer sound.call }))
 
 -- each phase of a call
 phase_sound : (image : Image) (rest rest' : Rest) (cpu : ℕ → Cpu) (cells : List Live) (caller : ℕ) (call : Call) (phase : Phase) (idle : Bool) (cell : ℕ) (act : Act) → IsSoundBut image (board rest cpu cells (Some (opened_call caller call phase)))
@@ -321,7 +321,7 @@ phase_sound image rest rest' cpu cells caller call (ToNote id about answer) idle
     let P : Act → Type 0 = λ x. IsSoundBut image (behind_act image rest' cpu cells (Some (opened_call caller call (ToNote id about answer))) (coming_by image f call) caller cell x) in
     subst P (same_Some (Note id) act h)
     (phase_only image rest' cpu cells caller (opened_call caller call (ToNoted id about answer 0))
-    (record { cells = sound.cells; cpus = sound.cpus; call = open-note image (configs_of cells) cpu caller id about call answer sound.call }))
+    (record { cells = sound.cells; cpus = sound.cpus; call = open_note image (configs_of cells) cpu caller id about call answer sound.call }))
 phase_sound image rest rest' cpu cells caller call (ToNoted id about answer waited) idle cell act sound h =
     let f : Facts = board rest cpu cells (Some (opened_call caller call (ToNoted id about answer waited))) in
     noted_sound image rest rest' cpu cells caller id about waited call answer (coming_by image f call) cell act (heard_of f idle id waited) sound h
@@ -329,7 +329,7 @@ phase_sound image rest rest' cpu cells caller call (ToFinish answer) idle cell a
     let f : Facts = board rest cpu cells (Some (opened_call caller call (ToFinish answer))) in
     let P : Act → Type 0 = λ x. IsSoundBut image (behind_act image rest' cpu cells (Some (opened_call caller call (ToFinish answer))) (coming_by image f call) caller cell x) in
     subst P (same_Some (Finish answer) act h)
-    (record { cells = sound.cells; cpus = owned-finished image (configs_of cells) cpu caller sound.cpus; call = calm-finished image (configs_of cells) cpu caller caller call answer sound.call })
+    (record { cells = sound.cells; cpus = owned_finished image (configs_of cells) cpu caller sound.cpus; call = calm_finished image (configs_of cells) cpu caller caller call answer sound.call })
 
 -- ---- an entry that is due
 
@@ -347,16 +347,16 @@ due_sound : (image : Image) (rest rest' : Rest) (cpu : ℕ → Cpu) (cells : Lis
     → IsNext image (board rest cpu cells call) (record { cpu = own; cell = cell; act = act })
     → IsSoundBut image (behind_act image rest' cpu cells call (coming_of image (board rest cpu cells call)) own cell act)
 due_sound image rest rest' cpu cells None own cell act sound next =
-    state_none image rest rest' cpu cells None own cell act sound next.board (state-parts image (board rest cpu cells None) (cpu own) own act next.act)
+    state_none image rest rest' cpu cells None own cell act sound next.board (state_parts image (board rest cpu cells None) (cpu own) own act next.act)
 due_sound image rest rest' cpu cells (Some o) own cell act sound next =
-    call_sound image rest rest' cpu cells o own cell act sound next.board (call-parts image (board rest cpu cells (Some o)) o own act sound.call.caller next.act)
+    call_sound image rest rest' cpu cells o own cell act sound next.board (call_parts image (board rest cpu cells (Some o)) o own act sound.call.caller next.act)
 
 but_after : (image : Image) (f : Facts) (entry : Entry) → IsSoundBut image f → due_at image f entry.cpu ≡ Some entry → IsSoundBut image (after image f entry)
 unfolding after
 but_after image f entry sound due =
     let rest : Rest = record { byte = f.byte; endpoints = f.endpoints } in
     let rest' : Rest = record { byte = byte_after image f entry; endpoints = endpoints_after image f entry } in
-    due_sound image rest rest' f.cpu f.cells f.call entry.cpu entry.cell entry.act sound (next-from_due image f entry due)
+    due_sound image rest rest' f.cpu f.cells f.call entry.cpu entry.cell entry.act sound (next_from_due image f entry due)
 
 but_devices : (image : Image) (f : Facts) → IsSound image f → IsSoundBut image f
 but_devices image f sound = record { cells = sound.cells; cpus = sound.cpus; call = sound.call }
@@ -365,27 +365,27 @@ and_devices : (image : Image) (f : Facts) → IsSoundBut image f → AreEndpoint
 and_devices image f sound endpoints = record { cells = sound.cells; cpus = sound.cpus; call = sound.call; endpoints = endpoints }
 
 -- an entry that is due leaves sound what was sound
-pub sound-after : (image : Image) (f : Facts) (entry : Entry) → IsSound image f → due_at image f entry.cpu ≡ Some entry → IsSound image (after image f entry)
+pub sound_after : (image : Image) (f : Facts) (entry : Entry) → IsSound image f → due_at image f entry.cpu ≡ Some entry → IsSound image (after image f entry)
 unfolding after
-sound-after image f entry sound due =
-    and_devices image (after image f entry) (but_after image f entry (but_devices image f sound) due) (endpoints-after image f entry sound)
+sound_after image f entry sound due =
+    and_devices image (after image f entry) (but_after image f entry (but_devices image f sound) due) (endpoints_after_holds image f entry sound)
 
 -- at opening
-pub sound-start : (image : Image) → IsAdmitted image → IsSound image (start image)
-sound-start image admitted =
-    let sound : AreSoundCells image.system [] = cells-open image.system admitted.system in
+pub sound_start : (image : Image) → IsAdmitted image → IsSound image (start image)
+sound_start image admitted =
+    let sound : AreSoundCells image.system [] = cells_open image.system admitted.system in
     record {
       cells = sound;
       cpus = record { cells = λ config held. let below : held.0 < 0 = held.1 in absurd (omega arith); others = λ i. inl refl };
       call = λ i. record { asked = refl; stopped = refl };
-      endpoints = endpoints-open image sound.clean;
+      endpoints = endpoints_open image sound.clean;
     }
 
 sound_from : (image : Image) (f : Facts) (entries : List Entry) → IsSound image f → IsLegalFrom image f entries → IsSound image (fold (after image) f entries)
 sound_from image f [] sound legal = sound
-sound_from image f (entry ∷ entries) sound legal = sound_from image (after image f entry) entries (sound-after image f entry sound legal.0) legal.1
+sound_from image f (entry ∷ entries) sound legal = sound_from image (after image f entry) entries (sound_after image f entry sound legal.0) legal.1
 
 -- after each legal journal
-pub legal-sound : (image : Image) (entries : List Entry) → IsAdmitted image → IsLegal image entries → IsSound image (facts image entries)
+pub legal_sound : (image : Image) (entries : List Entry) → IsAdmitted image → IsLegal image entries → IsSound image (facts image entries)
 unfolding IsLegal facts
-legal-sound image entries admitted legal = sound_from image (start image) entries (sound-start image admitted) legal
+legal_sound image entries admitted legal = sound_from image (start image) entries (sound_start image admitted) legal

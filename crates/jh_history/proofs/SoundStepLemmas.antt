@@ -21,37 +21,37 @@ use Rattle.jh_history.specs.Calls.{counted}
 use Rattle.jh_history.specs.Cpus.{changed, is_running, begun, finished, resumed_in}
 use Rattle.jh_history.specs.Wants.{goes_on}
 use Rattle.jh_history.specs.Sound.{AreOwned, IsCalm, IsHalting, HasCome, GoesOn, IsCaller, IsOpen}
-use Rattle.jh_history.proofs.SoundCpusLemmas.{IsMild, mild-calm, changed-owner, goes-running, running-mode, come-rests, come-stopped, goes-stopped, goes-mild, come-counted, goes-counted, owned-kept, phase-counted}
+use Rattle.jh_history.proofs.SoundCpusLemmas.{IsMild, mild_calm, changed_owner, goes_running, running_mode, come_rests, come_stopped, goes_stopped, goes_mild, come_counted, goes_counted, owned_kept, phase_counted}
 
 -- one CPU changes
 abbrev pub one_changed : Change → ℕ → (ℕ → Cpu) → ℕ → Cpu
 one_changed change own cpu i = cond (eqb i own) (changed change (cpu i)) (cpu i)
 
 -- what holds of the CPU that changes, and of each other, holds of each
-pub at-each : (P : ℕ → Cpu → Type 0) (change : Change) (own : ℕ) (cpu : ℕ → Cpu) (i : ℕ) → P own (changed change (cpu own)) → (i ≢ own → P i (cpu i)) → P i (one_changed change own cpu i)
-at-each P change own cpu i at others =
+pub at_each : (P : ℕ → Cpu → Type 0) (change : Change) (own : ℕ) (cpu : ℕ → Cpu) (i : ℕ) → P own (changed change (cpu own)) → (i ≢ own → P i (cpu i)) → P i (one_changed change own cpu i)
+at_each P change own cpu i at others =
     let Q : ℕ → Type 0 = λ k. P k (changed change (cpu k)) in
     cond_both (eqb i own) (changed change (cpu i)) (cpu i) (P i)
     (λ yes. subst Q (sym (eqb-true i own yes)) at)
     (λ no. others (λ is. both_ways (eqb i own) no (eq-eqb i own is)))
 
-pub one-owner : (change : Change) (own : ℕ) (cpu : ℕ → Cpu) (i : ℕ) → (one_changed change own cpu i).owner ≡ (cpu i).owner
-one-owner change own cpu i =
+pub one_owner : (change : Change) (own : ℕ) (cpu : ℕ → Cpu) (i : ℕ) → (one_changed change own cpu i).owner ≡ (cpu i).owner
+one_owner change own cpu i =
     let same : Cpu → Type 0 = λ c. c.owner ≡ (cpu i).owner in
-    cond_both (eqb i own) (changed change (cpu i)) (cpu i) same (λ _. changed-owner change (cpu i)) (λ _. refl)
+    cond_both (eqb i own) (changed change (cpu i)) (cpu i) same (λ _. changed_owner change (cpu i)) (λ _. refl)
 
 -- ---- an operation of a CPU
 
 -- where no call is open
-pub calm-one : (change : Change) (own : ℕ) (cpu : ℕ → Cpu) → IsMild change → ((i : ℕ) → IsCalm (cpu i)) → (i : ℕ) → IsCalm (one_changed change own cpu i)
-calm-one change own cpu mild calm i = at-each (λ k c. IsCalm c) change own cpu i (mild-calm change (cpu own) mild (calm own)) (λ _. calm i)
+pub calm_one : (change : Change) (own : ℕ) (cpu : ℕ → Cpu) → IsMild change → ((i : ℕ) → IsCalm (cpu i)) → (i : ℕ) → IsCalm (one_changed change own cpu i)
+calm_one change own cpu mild calm i = at_each (λ k c. IsCalm c) change own cpu i (mild_calm change (cpu own) mild (calm own)) (λ _. calm i)
 
 -- where one is open, of another CPU than its caller
-pub open-one : (image : Image) (configs : List CellConfig) (cpu : ℕ → Cpu) (o : OpenCall) (change : Change) (own cell : ℕ) → IsOpen image configs cpu o → is_on_board image own ≡ true → own ≢ o.caller
+pub open_one : (image : Image) (configs : List CellConfig) (cpu : ℕ → Cpu) (o : OpenCall) (change : Change) (own cell : ℕ) → IsOpen image configs cpu o → is_on_board image own ≡ true → own ≢ o.caller
     → ((cpu own).owner ≡ image.system.root.id → HasCome o.phase (changed change (cpu own)))
     → ((cpu own).owner ≢ image.system.root.id → GoesOn o.call o.phase (changed change (cpu own)))
     → IsOpen image configs (one_changed change own cpu) (record { caller = o.caller; call = o.call; phase = counted cell o.call o.phase })
-open-one image configs cpu o change own cell opens on other come goes =
+open_one image configs cpu o change own cell opens on other come goes =
     let root : ℕ = image.system.root.id in
     let phase : Phase = counted cell o.call o.phase in
     let C : ℕ → Cpu → Type 0 = λ k c. k ≡ o.caller → IsCaller image o.caller o.call c in
@@ -59,42 +59,42 @@ open-one image configs cpu o change own cell opens on other come goes =
     let G : ℕ → Cpu → Type 0 = λ k c. c.owner ≢ root → GoesOn o.call phase c in
     let A : ℕ → Cpu → Type 0 = λ k c. is_on_board image k ≡ false → IsCalm c in
     record {
-      caller = at-each C change own cpu o.caller (λ is. absurd (other is)) (λ _ _. opens.caller) refl;
-      roots = λ i. at-each R change own cpu i
-          (λ _ _ is. come-counted cell o.call o.phase (changed change (cpu own)) (come (sym (changed-owner change (cpu own)) ∙ is)))
-          (λ _ here apart is. come-counted cell o.call o.phase (cpu i) (opens.roots i here apart is));
-      cells = λ i. at-each G change own cpu i
-          (λ is. goes-counted cell o.call o.phase (changed change (cpu own)) (goes (λ e. is (changed-owner change (cpu own) ∙ e))))
-          (λ _ is. goes-counted cell o.call o.phase (cpu i) (opens.cells i is));
-      absent = λ i. at-each A change own cpu i (λ off. absurd (both_ways (is_on_board image own) off on)) (λ _. opens.absent i);
-      phase = phase-counted image configs cpu (one_changed change own cpu) o.caller cell o.call o.phase (one-owner change own cpu) opens.phase;
+      caller = at_each C change own cpu o.caller (λ is. absurd (other is)) (λ _ _. opens.caller) refl;
+      roots = λ i. at_each R change own cpu i
+          (λ _ _ is. come_counted cell o.call o.phase (changed change (cpu own)) (come (sym (changed_owner change (cpu own)) ∙ is)))
+          (λ _ here apart is. come_counted cell o.call o.phase (cpu i) (opens.roots i here apart is));
+      cells = λ i. at_each G change own cpu i
+          (λ is. goes_counted cell o.call o.phase (changed change (cpu own)) (goes (λ e. is (changed_owner change (cpu own) ∙ e))))
+          (λ _ is. goes_counted cell o.call o.phase (cpu i) (opens.cells i is));
+      absent = λ i. at_each A change own cpu i (λ off. absurd (both_ways (is_on_board image own) off on)) (λ _. opens.absent i);
+      phase = phase_counted image configs cpu (one_changed change own cpu) o.caller cell o.call o.phase (one_owner change own cpu) opens.phase;
     }
 
 -- a CPU that stops
-pub open-stop : (image : Image) (configs : List CellConfig) (cpu : ℕ → Cpu) (o : OpenCall) (own cell : ℕ) → IsOpen image configs cpu o → is_on_board image own ≡ true → own ≢ o.caller → (cpu own).asked ≡ true
+pub open_stop : (image : Image) (configs : List CellConfig) (cpu : ℕ → Cpu) (o : OpenCall) (own cell : ℕ) → IsOpen image configs cpu o → is_on_board image own ≡ true → own ≢ o.caller → (cpu own).asked ≡ true
     → IsOpen image configs (one_changed Halt own cpu) (record { caller = o.caller; call = o.call; phase = counted cell o.call o.phase })
-open-stop image configs cpu o own cell opens on other asked =
-    open-one image configs cpu o Halt own cell opens on other
-    (λ is. come-stopped o.phase (cpu own) asked (opens.roots own on other is))
-    (λ is. goes-stopped o.call o.phase (cpu own) asked (opens.cells own is))
+open_stop image configs cpu o own cell opens on other asked =
+    open_one image configs cpu o Halt own cell opens on other
+    (λ is. come_stopped o.phase (cpu own) asked (opens.roots own on other is))
+    (λ is. goes_stopped o.call o.phase (cpu own) asked (opens.cells own is))
 
 -- a CPU that goes on with its program: it isn't root's
-pub open-mild : (image : Image) (configs : List CellConfig) (cpu : ℕ → Cpu) (o : OpenCall) (change : Change) (own cell : ℕ) → IsMild change → IsOpen image configs cpu o → is_on_board image own ≡ true → own ≢ o.caller → goes_on (cpu own) ≡ true
+pub open_mild : (image : Image) (configs : List CellConfig) (cpu : ℕ → Cpu) (o : OpenCall) (change : Change) (own cell : ℕ) → IsMild change → IsOpen image configs cpu o → is_on_board image own ≡ true → own ≢ o.caller → goes_on (cpu own) ≡ true
     → IsOpen image configs (one_changed change own cpu) (record { caller = o.caller; call = o.call; phase = counted cell o.call o.phase })
-open-mild image configs cpu o change own cell mild opens on other goes =
-    open-one image configs cpu o change own cell opens on other
-    (λ is. absurd (come-rests o.phase (cpu own) (opens.roots own on other is) goes))
-    (λ is. goes-mild o.call o.phase change (cpu own) mild goes (opens.cells own is))
+open_mild image configs cpu o change own cell mild opens on other goes =
+    open_one image configs cpu o change own cell opens on other
+    (λ is. absurd (come_rests o.phase (cpu own) (opens.roots own on other is) goes))
+    (λ is. goes_mild o.call o.phase change (cpu own) mild goes (opens.cells own is))
 
 -- ---- the beginning of a call
 
-pub begun-owner : (image : Image) (own i : ℕ) (cpu : Cpu) → (begun image own i cpu).owner ≡ cpu.owner
-begun-owner image own i cpu =
+pub begun_owner : (image : Image) (own i : ℕ) (cpu : Cpu) → (begun image own i cpu).owner ≡ cpu.owner
+begun_owner image own i cpu =
     let same : Cpu → Type 0 = λ c. c.owner ≡ cpu.owner in
     cond_both (is_on_board image i && not (eqb i own) && eqb cpu.owner image.system.root.id && is_running cpu.mode) (asked_of cpu) cpu same (λ _. refl) (λ _. refl)
 
-pub owned-begun : (image : Image) (configs : List CellConfig) (cpu : ℕ → Cpu) (own : ℕ) → AreOwned image configs cpu → AreOwned image configs (λ i. begun image own i (cpu i))
-owned-begun image configs cpu own owned = owned-kept image configs cpu (λ i. begun image own i (cpu i)) (λ i. begun-owner image own i (cpu i)) owned
+pub owned_begun : (image : Image) (configs : List CellConfig) (cpu : ℕ → Cpu) (own : ℕ) → AreOwned image configs cpu → AreOwned image configs (λ i. begun image own i (cpu i))
+owned_begun image configs cpu own owned = owned_kept image configs cpu (λ i. begun image own i (cpu i)) (λ i. begun_owner image own i (cpu i)) owned
 
 begun_not : (image : Image) (own i : ℕ) (cpu : Cpu) → (is_on_board image i && not (eqb i own) && eqb cpu.owner image.system.root.id && is_running cpu.mode) ≡ false → begun image own i cpu ≡ cpu
 begun_not image own i cpu fails = rw fails refl
@@ -124,21 +124,21 @@ begun_absent image own i cpu off =
 begun_root : (image : Image) (own i : ℕ) (cpu : Cpu) (b : Bool) → is_running cpu.mode ≡ b → is_on_board image i ≡ true → i ≢ own → cpu.owner ≡ image.system.root.id → IsCalm cpu → IsHalting (begun image own i cpu)
 begun_root image own i cpu true runs on other is calm =
     let asked : begun image own i cpu ≡ asked_of cpu = rw (on, ne_eqb i own other, eq-eqb cpu.owner image.system.root.id is, runs) refl in
-    subst IsHalting (sym asked) (inl (record { asked = refl; stopped = calm.stopped; running = running-mode cpu runs }))
+    subst IsHalting (sym asked) (inl (record { asked = refl; stopped = calm.stopped; running = running_mode cpu runs }))
 begun_root image own i cpu false rests on other is calm =
     let same : begun image own i cpu ≡ cpu = begun_not image own i cpu (and_right (is_on_board image i && not (eqb i own) && eqb cpu.owner image.system.root.id) (is_running cpu.mode) rests) in
     subst IsHalting (sym same) (inr (record { asked = calm.asked; stopped = calm.stopped ∙ sym rests }))
 
-pub open-begun : (image : Image) (configs : List CellConfig) (cpu : ℕ → Cpu) (own code a b : ℕ) → ((i : ℕ) → IsCalm (cpu i)) → is_on_board image own ≡ true → (cpu own).owner ≡ image.system.root.id → goes_on (cpu own) ≡ true
+pub open_begun : (image : Image) (configs : List CellConfig) (cpu : ℕ → Cpu) (own code a b : ℕ) → ((i : ℕ) → IsCalm (cpu i)) → is_on_board image own ≡ true → (cpu own).owner ≡ image.system.root.id → goes_on (cpu own) ≡ true
     → slice_get (program_of image (name_of image.system.root) own) (cpu own).position ≡ Some (HvcOp code a b) → is_management (decoded code a b) ≡ true
     → IsOpen image configs (λ i. begun image own i (cpu i)) (record { caller = own; call = decoded code a b; phase = ToDecide })
-open-begun image configs cpu own code a b calm on root goes at management =
+open_begun image configs cpu own code a b calm on root goes at management =
     let caller : IsCaller image own (decoded code a b) (cpu own) =
-    record { board = on; owner = root; running = running-mode (cpu own) (goes-running (cpu own) goes); calm = calm own; code = code; a = a; b = b; at = at; asks = refl; management = management } in
+    record { board = on; owner = root; running = running_mode (cpu own) (goes_running (cpu own) goes); calm = calm own; code = code; a = a; b = b; at = at; asks = refl; management = management } in
     record {
       caller = subst (IsCaller image own (decoded code a b)) (sym (begun_own image own (cpu own))) caller;
-      roots = λ i here other is. begun_root image own i (cpu i) (is_running (cpu i).mode) refl here other (sym (begun-owner image own i (cpu i)) ∙ is) (calm i);
-      cells = λ i is. subst IsCalm (sym (begun_cells image own i (cpu i) (λ e. is (begun-owner image own i (cpu i) ∙ e)))) (calm i);
+      roots = λ i here other is. begun_root image own i (cpu i) (is_running (cpu i).mode) refl here other (sym (begun_owner image own i (cpu i)) ∙ is) (calm i);
+      cells = λ i is. subst IsCalm (sym (begun_cells image own i (cpu i) (λ e. is (begun_owner image own i (cpu i) ∙ e)))) (calm i);
       absent = λ i off. subst IsCalm (sym (begun_absent image own i (cpu i) off)) (calm i);
       phase = tt;
     }
@@ -150,14 +150,14 @@ resumed_owner root cpu =
     let same : Cpu → Type 0 = λ c. c.owner ≡ cpu.owner in
     cond_both (eqb cpu.owner root) (resumed cpu) cpu same (λ _. refl) (λ _. refl)
 
-pub finished-owner : (image : Image) (own i : ℕ) (cpu : Cpu) → (finished image own i cpu).owner ≡ cpu.owner
-finished-owner image own i cpu =
+pub finished_owner : (image : Image) (own i : ℕ) (cpu : Cpu) → (finished image own i cpu).owner ≡ cpu.owner
+finished_owner image own i cpu =
     let same : Cpu → Type 0 = λ c. c.owner ≡ cpu.owner in
     let there : Cpu = resumed_in image.system.root.id cpu in
     cond_both (eqb i own) (moved there) there same (λ _. resumed_owner image.system.root.id cpu) (λ _. resumed_owner image.system.root.id cpu)
 
-pub owned-finished : (image : Image) (configs : List CellConfig) (cpu : ℕ → Cpu) (own : ℕ) → AreOwned image configs cpu → AreOwned image configs (λ i. finished image own i (cpu i))
-owned-finished image configs cpu own owned = owned-kept image configs cpu (λ i. finished image own i (cpu i)) (λ i. finished-owner image own i (cpu i)) owned
+pub owned_finished : (image : Image) (configs : List CellConfig) (cpu : ℕ → Cpu) (own : ℕ) → AreOwned image configs cpu → AreOwned image configs (λ i. finished image own i (cpu i))
+owned_finished image configs cpu own owned = owned_kept image configs cpu (λ i. finished image own i (cpu i)) (λ i. finished_owner image own i (cpu i)) owned
 
 -- whether the CPU comes back is asked of root's alone
 resumed_calm : (root : ℕ) (cpu : Cpu) → cpu.asked ≡ false → (cpu.owner ≢ root → IsCalm cpu) → IsCalm (resumed_in root cpu)
@@ -183,9 +183,9 @@ asked_by image configs cpu caller call answer i true true true on is who opens =
 asked_by image configs cpu caller call answer i true true false on is who opens =
     (opens.roots i on (λ e. both_ways (eqb i caller) who (eq-eqb i caller e)) (eqb-true (cpu i).owner image.system.root.id is)).asked
 
-pub calm-finished : (image : Image) (configs : List CellConfig) (cpu : ℕ → Cpu) (caller own : ℕ) (call : Call) (answer : ℤ) → IsOpen image configs cpu (record { caller = caller; call = call; phase = ToFinish answer })
+pub calm_finished : (image : Image) (configs : List CellConfig) (cpu : ℕ → Cpu) (caller own : ℕ) (call : Call) (answer : ℤ) → IsOpen image configs cpu (record { caller = caller; call = call; phase = ToFinish answer })
     → (i : ℕ) → IsCalm (finished image own i (cpu i))
-calm-finished image configs cpu caller own call answer opens i =
+calm_finished image configs cpu caller own call answer opens i =
     finished_calm image own i (cpu i)
     (asked_by image configs cpu caller call answer i (is_on_board image i) (eqb (cpu i).owner image.system.root.id) (eqb i caller) refl refl refl opens)
     (λ other. opens.cells i other)

@@ -11,7 +11,8 @@ use Rattle.jh_script.specs.declared.image.Program.{Program}
 use Rattle.jh_script.specs.declared.image.Preload.{Preload}
 use Rattle.jh_script.specs.declared.op.Op.{Op}
 use Rattle.jh_script.specs.declared.op.Op.TheVariants.{Hvc}
-use Rattle.jh_script.specs.Operations.{IsPlain}
+use Rattle.jh_script.specs.Limits.{most_ops}
+use Rattle.jh_script.specs.Operations.{IsWellFormed}
 use Rattle.jh_history.specs.declared.entry.Act.{Act}
 use Rattle.jh_history.specs.declared.entry.Act.TheVariants.{Read as ReadAct, Write as WriteAct}
 use Rattle.jh_history.specs.declared.entry.Entry.{Entry}
@@ -31,8 +32,8 @@ pub record IsAdmittedSystem (system : SystemConfig) : Type 0 where
   pub room : root_pages system ≤ pool_pages system
 
 pub record IsSoundProgram (program : Program) : Type 0 where
-  pub few : length program.ops ≤ 4096
-  pub plain : All IsPlain program.ops
+  pub few : length program.ops ≤ most_ops
+  pub plain : All IsWellFormed program.ops
 
 -- two programs are of different cells or CPUs
 abbrev pub IsOtherProgram : Program → Program → Type 0
@@ -68,10 +69,10 @@ abbrev pub HasNoCall : Image → Type 0
 HasNoCall image = All (λ (p : Program). All IsNoCall p.ops) image.programs
 
 -- the act's width is at most that of a register
-abbrev pub IsPlainAct : Act → Type 0
-IsPlainAct (ReadAct width at got) = width ≤ 8
-IsPlainAct (WriteAct width at value ok) = width ≤ 8
-IsPlainAct _ = Unit {0}
+abbrev pub IsWellFormedAct : Act → Type 0
+IsWellFormedAct (ReadAct width at got) = width ≤ 8
+IsWellFormedAct (WriteAct width at value ok) = width ≤ 8
+IsWellFormedAct _ = Unit {0}
 
-abbrev pub IsPlainEntry : Entry → Type 0
-IsPlainEntry entry = IsPlainAct entry.act
+abbrev pub IsWellFormedEntry : Entry → Type 0
+IsWellFormedEntry entry = IsWellFormedAct entry.act

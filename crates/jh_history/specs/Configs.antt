@@ -4,7 +4,7 @@ use Rattle.jh_num.specs.declared.error.TheConstants.{EINVAL, E2BIG}
 use Rattle.jh_cellcfg.specs.declared.config.CellConfig.{CellConfig}
 use Rattle.jh_cellcfg.specs.declared.fault.ConfigFault.{ConfigFault}
 use Rattle.jh_cellcfg.specs.declared.fault.ConfigFault.TheVariants.{Count}
-use Rattle.jh_cellcfg.specs.declared.fault.Which.TheVariants.{Total}
+use Rattle.jh_cellcfg.specs.declared.fault.Part.TheVariants.{Total}
 use Rattle.jh_cellcfg.specs.Faults.{header_fault, header_size}
 use Rattle.jh_cellcfg.specs.Reading.{config_of}
 use Rattle.jh_script.specs.declared.image.Image.{Image}

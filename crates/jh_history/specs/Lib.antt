@@ -23,8 +23,7 @@ pub mod Sound
 pub mod DueFacts
 pub mod Items
 pub mod Admitted
-pub mod PastView
 pub mod LiveView
 pub mod ReadView
 pub mod PlainView
-pub mod Apart
+pub mod Private

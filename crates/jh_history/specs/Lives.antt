@@ -45,9 +45,6 @@ ops_in image cells id cpu = option_map_or (λ (c : CellConfig). program_of image
 abbrev pub cell_of : Image → Facts → ℕ → Option CellConfig
 cell_of image facts id = cell_in image facts.cells id
 
-abbrev pub regions_of : Image → Facts → ℕ → List Region
-regions_of image facts id = regions_in image facts.cells id
-
 abbrev pub ops_of : Image → Facts → ℕ → ℕ → List Op
 ops_of image facts id cpu = ops_in image facts.cells id cpu
 

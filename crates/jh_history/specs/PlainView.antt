@@ -60,7 +60,7 @@ pub record IsFit (image : Image) (cells : List Live) : Type 0 where
   pub few : length cells ≤ 15
 
 -- what is kept stands for these facts of the image
-pub record Stands (plain : PlainView) (image : Image) (facts : Facts) : Type 0 where
+pub record StandsFor (plain : PlainView) (image : Image) (facts : Facts) : Type 0 where
   pub same : image ≡ plain.image
   pub cells : facts.cells ≡ plain.cells
   pub endpoints : facts.endpoints ≡ plain.endpoints

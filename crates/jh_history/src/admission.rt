@@ -2,27 +2,18 @@
 ghost use Rattle.std.specs.Prelude.{◌≡◌, ℕ, ◌↔◌, ◌<◌, ◌≤◌, ◌+◌, ◌^◌, [], IsTrue, IfOk, All, AllPairs, length};
 ghost use Rattle.jh_check.specs.Findings.{findings};
 ghost use Rattle.jh_script.specs.declared.image.Program.{Program as TheProgram};
-ghost use Rattle.jh_script.specs.Operations.{is_width, IsPlain};
-ghost use Rattle.jh_history.specs.Admitted.{root_pages as root_pages_lem, pool_pages as pool_pages_lem, IsAdmittedSystem, IsSoundProgram, IsOtherProgram, IsSoundPreload, IsOtherPreload, IsAdmitted};
+ghost use Rattle.jh_script.specs.Operations.{is_width, IsWellFormed};
+ghost use Rattle.jh_history.specs.Admitted.{root_pages, pool_pages, IsAdmittedSystem, IsSoundProgram, IsOtherProgram, IsSoundPreload, IsOtherPreload, IsAdmitted};
 
 use crate::apart::{Apart, are_apart, has_none_of};
 use crate::cells::is_program_of;
+use crate::within::ends_within;
 use jh_cellcfg::{Region, SystemConfig};
 use jh_check::check;
-use jh_num::{ADDRESS_END, NoMemory, PAGE_SIZE};
-use jh_script::{Image, Op, Preload, Program};
+use jh_num::{NoMemory, PAGE_SIZE};
+use jh_script::{Image, MAX_OPS, Op, Preload, Program};
 use jh_shape::Target;
 use std::alloc::Global;
-
-/// The most operations of a program.
-const OPS_LIMIT: usize = 4096;
-
-/// Whether so many bytes from the start on end within the addresses.
-fn ends_within(start: u64, size: u64) -> bool
-    ensures { IsTrue result ↔ (start + size ≤ ADDRESS_END) }
-{
-    start <= ADDRESS_END && size <= ADDRESS_END - start
-}
 
 impl Apart for Program {
     ghost use Rattle.jh_history.specs.Admitted.{IsOtherProgram};
@@ -58,7 +49,7 @@ impl Apart for Preload {
 
 /// The pages that root takes before any cell is created.
 pub fn root_pages(system: &SystemConfig) -> u64
-    ensures { result ≡ root_pages_lem system.now }
+    ensures { result ≡ root_pages system.now }
 {
     let target = Target {
         regions: system.root.memory_regions.as_slice(),
@@ -74,7 +65,7 @@ pub fn root_pages(system: &SystemConfig) -> u64
 
 /// The pages that the hypervisor has to give.
 pub fn pool_pages(system: &SystemConfig) -> u64
-    ensures { result ≡ pool_pages_lem system.now }
+    ensures { result ≡ pool_pages system.now }
 {
     system.hypervisor_memory.size / PAGE_SIZE
 }
@@ -109,8 +100,8 @@ fn fits(width: u8, value: u64) -> bool
 }
 
 /// Whether the operation is within its limits.
-fn is_plain(op: &Op) -> bool
-    ensures { IsTrue result ↔ IsPlain op.now }
+fn is_well_formed(op: &Op) -> bool
+    ensures { IsTrue result ↔ IsWellFormed op.now }
 {
     match *op {
         Op::Read { width, .. } => fits(width, 0),
@@ -124,7 +115,7 @@ fn is_plain(op: &Op) -> bool
 fn is_sound_program(program: &Program) -> bool
     ensures { IsTrue result ↔ IsSoundProgram program.now }
 {
-    program.ops.len() <= OPS_LIMIT && program.ops.as_slice().iter().all(|op| is_plain(op))
+    program.ops.len() <= MAX_OPS && program.ops.as_slice().iter().all(|op| is_well_formed(op))
 }
 
 /// Whether each of the programs is.

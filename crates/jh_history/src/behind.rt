@@ -4,18 +4,19 @@ ghost use Rattle.jh_num.specs.declared.address.TheConstants.{ADDRESS_END};
 ghost use Rattle.jh_cellcfg.specs.declared.region.Region.{Region as TheRegion};
 ghost use Rattle.jh_cellcfg.specs.Regions.{has_address, IsInRange};
 ghost use Rattle.jh_history.specs.Places.{places_in_row};
-ghost use Rattle.jh_history.specs.Access.{place_in_cell as place_in_cell_lem};
+ghost use Rattle.jh_history.specs.Access.{place_in_cell};
 ghost use Rattle.jh_mmio.specs.Dispatch.{behind_between};
-ghost use Rattle.jh_history.specs.Behind.{ecam_start, ecam_end, by_region as by_region_lem, in_window as in_window_lem, asked_windows, by_device as by_device_lem, behind_regions as behind_regions_lem, window_found, answer_by as answer_by_lem, answer_to as answer_to_lem};
+ghost use Rattle.jh_history.specs.Behind.{ecam_start, ecam_end, by_region, in_window, asked_windows, by_device, behind_regions, window_found, answer_by, answer_to};
 ghost use Rattle.jh_history.specs.Devices.{IsGoodWindow};
 
 use crate::access::{Access, ConfigBytes, Reach, Register, Wanted};
 use crate::devices::Devices;
 use crate::grants::place_in_cell;
 use crate::place::{Places, Run};
+use crate::within::ends_within;
 use jh_cellcfg::{Region, SystemConfig};
 use jh_mmio::{Hitting, Window, behind, lets_through};
-use jh_num::{ADDRESS_END, Range};
+use jh_num::Range;
 
 /// How many bytes of the ECAM window a bus has.
 const BUS: u64 = 0x10_0000;
@@ -40,8 +41,7 @@ pub fn ecam_of(system: &SystemConfig) -> Range
 pub fn is_within(wanted: &Wanted) -> bool
     ensures { IsTrue result ↔ ((0 < wanted.now.width) × (wanted.now.at + wanted.now.width ≤ ADDRESS_END)) }
 {
-    let width = u64::from(wanted.width);
-    width > 0 && wanted.at <= ADDRESS_END && width <= ADDRESS_END - wanted.at
+    wanted.width > 0 && ends_within(wanted.at, u64::from(wanted.width))
 }
 
 /// The places that the region of the cell gives so many addresses from one of its own on.
@@ -49,7 +49,7 @@ pub fn places_in(cell: u32, region: &Region, at: u64, width: u8) -> Places
     requires few { width ≤ 8 }
     requires within { IsInRange region.now }
     requires has { IsTrue (has_address region.now at) }
-    ensures { result ≡ places_in_row (place_in_cell_lem cell region.now at) width }
+    ensures { result ≡ places_in_row (place_in_cell cell region.now at) width }
 {
     let first = place_in_cell(cell, region, at);
     Places::new(
@@ -67,7 +67,7 @@ fn by_region(cell: u32, region: &Region, wanted: &Wanted, write: bool) -> Reach
     requires few { wanted.now.width ≤ 8 }
     requires within { IsInRange region.now }
     requires has { IsTrue (has_address region.now wanted.now.at) }
-    ensures { result ≡ by_region_lem cell wanted.now.at wanted.now.width write region.now }
+    ensures { result ≡ by_region cell wanted.now.at wanted.now.width write region.now }
 {
     if lets_through(region, wanted.at, wanted.width, write) {
         Reach::Subpage(places_in(cell, region, wanted.at, wanted.width))
@@ -81,7 +81,7 @@ fn in_window(window: Window, at: u64) -> Reach
     requires good { IsGoodWindow window }
     requires first { window.start ≤ at }
     requires last { at < window.start + window.size }
-    ensures { result ≡ in_window_lem at window }
+    ensures { result ≡ in_window at window }
 {
     let at = ((at - window.start) / 4 * 4) as u32;
     Reach::Window(Register::new(window.device, window.bar, at))
@@ -91,7 +91,7 @@ fn in_window(window: Window, at: u64) -> Reach
 fn by_device(ecam: Range, window: Option<Window>, wanted: &Wanted, hitting: Hitting) -> Reach
     requires good { IfSome window IsGoodWindow }
     requires hits { hitting ≡ behind_between ecam.start ecam.end (asked_windows window) wanted.now.at wanted.now.width }
-    ensures { result ≡ by_device_lem ecam.start window wanted.now.at wanted.now.width hitting }
+    ensures { result ≡ by_device ecam.start window wanted.now.at wanted.now.width hitting }
 {
     match hitting {
         Hitting::Ecam => {
@@ -110,7 +110,7 @@ fn by_device(ecam: Range, window: Option<Window>, wanted: &Wanted, hitting: Hitt
 fn behind_regions(ecam: Range, window: Option<Window>, wanted: &Wanted) -> Reach
     requires some { 0 < wanted.now.width }
     requires good { IfSome window IsGoodWindow }
-    ensures { result ≡ behind_regions_lem ecam.start ecam.end window wanted.now.at wanted.now.width }
+    ensures { result ≡ behind_regions ecam.start ecam.end window wanted.now.at wanted.now.width }
 {
     let hitting = match window {
         Some(window) => behind(ecam, &[window], wanted.at, wanted.width),
@@ -131,7 +131,7 @@ fn answer_by(
     requires few { wanted.now.width ≤ 8 }
     requires within { IfSome region IsInRange }
     requires has { IfSome region (λ (r : TheRegion). IsTrue (has_address r wanted.now.at)) }
-    ensures { result ≡ answer_by_lem devices.now.cell region ecam.start ecam.end (window_found devices.now wanted.now.at wanted.now.width) write wanted.now.at wanted.now.width }
+    ensures { result ≡ answer_by devices.now.cell region ecam.start ecam.end (window_found devices.now wanted.now.at wanted.now.width) write wanted.now.at wanted.now.width }
 {
     match region {
         Some(region) => by_region(devices.cell(), &region, wanted, write),
@@ -146,7 +146,7 @@ pub fn answer_of(devices: &Devices, region: Option<Region>, ecam: Range, wanted:
     requires few { wanted.now.width ≤ 8 }
     requires within { IfSome region IsInRange }
     requires has { IfSome region (λ (r : TheRegion). IsTrue (has_address r wanted.now.at)) }
-    ensures { result ≡ answer_to_lem devices.now.cell region ecam.start ecam.end (window_found devices.now wanted.now.at wanted.now.width) wanted.now.access wanted.now.at wanted.now.width }
+    ensures { result ≡ answer_to devices.now.cell region ecam.start ecam.end (window_found devices.now wanted.now.at wanted.now.width) wanted.now.access wanted.now.at wanted.now.width }
 {
     match wanted.access {
         Access::Read => answer_by(devices, region, ecam, wanted, false),

@@ -4,7 +4,7 @@ ghost use Rattle.jh_call.specs.declared.call.Call.TheVariants.{Create};
 ghost use Rattle.jh_cellcfg.specs.declared.live.Live.{Live as TheLive};
 ghost use Rattle.jh_history.specs.Phases.{configs_of};
 ghost use Rattle.jh_history.specs.Commits.{created, created_at, created_by};
-ghost use Rattle.jh_history.specs.Calls.{one_more as one_more_lem, is_told_by, first_told as first_told_lem, behind, telling as telling_lem, decided as decided_lem, after_settle as after_settle_lem, after_commit as after_commit_lem, after_note as after_note_lem, after_noted as after_noted_lem, counted as counted_lem, phase_after as phase_after_lem, call_by};
+ghost use Rattle.jh_history.specs.Calls.{one_more, is_told_by, first_told, behind, telling, decided, after_settle, after_commit, after_note, after_noted, counted, phase_after, call_by};
 
 use crate::boxed::BoxedCell;
 use crate::call::{OpenCall, Phase};
@@ -30,7 +30,7 @@ struct Next {
 
 /// One more, or still the last number of 64 bits.
 fn one_more(n: u64) -> u64
-    ensures { result ≡ one_more_lem n }
+    ensures { result ≡ one_more n }
 {
     n.saturating_add(1)
 }
@@ -44,7 +44,7 @@ fn is_told(about: u64, cell: &CellConfig) -> bool
 
 /// The id of the first of the cells that is told.
 fn first_told(about: u64, cells: &[CellConfig]) -> Option<u32>
-    ensures { (lives : List TheLive) → configs_of lives ≡ cells.now → result ≡ first_told_lem about lives }
+    ensures { (lives : List TheLive) → configs_of lives ≡ cells.now → result ≡ first_told about lives }
 {
     for cell in cells {
         if is_told(about, cell) {
@@ -56,7 +56,7 @@ fn first_told(about: u64, cells: &[CellConfig]) -> Option<u32>
 
 /// That of those behind the one with the id.
 fn next_told(about: u64, cells: &[CellConfig], id: u32) -> Option<u32>
-    ensures { (lives : List TheLive) → configs_of lives ≡ cells.now → result ≡ first_told_lem about (behind id lives) }
+    ensures { (lives : List TheLive) → configs_of lives ≡ cells.now → result ≡ first_told about (behind id lives) }
 {
     let mut is_behind = false;
     for cell in cells {
@@ -70,7 +70,7 @@ fn next_told(about: u64, cells: &[CellConfig], id: u32) -> Option<u32>
 
 /// The cell is told next, or, where there is none, the call ends with the answer.
 fn telling(about: u64, answer: i64, told: Option<u32>) -> Phase
-    ensures { result ≡ telling_lem about answer told }
+    ensures { result ≡ telling about answer told }
 {
     match told {
         Some(id) => Phase::ToNote { id, about, answer },
@@ -80,7 +80,7 @@ fn telling(about: u64, answer: i64, told: Option<u32>) -> Phase
 
 /// The phase after a Decide that goes on.
 fn go_on(call: &Call, coming: Option<BoxedCell>) -> Phase
-    ensures { result ≡ decided_lem call.now coming None }
+    ensures { result ≡ decided call.now coming None }
 {
     match *call {
         Call::Create { .. } => match coming {
@@ -93,7 +93,7 @@ fn go_on(call: &Call, coming: Option<BoxedCell>) -> Phase
 
 /// The phase after a Decide.
 fn decided(call: &Call, coming: Option<BoxedCell>, refused: Option<i64>) -> Phase
-    ensures { result ≡ decided_lem call.now coming refused }
+    ensures { result ≡ decided call.now coming refused }
 {
     match refused {
         Some(answer) => Phase::ToFinish { answer },
@@ -102,7 +102,7 @@ fn decided(call: &Call, coming: Option<BoxedCell>, refused: Option<i64>) -> Phas
 }
 
 fn after_settle(how: Settled) -> Phase
-    ensures { result ≡ after_settle_lem how }
+    ensures { result ≡ after_settle how }
 {
     match how {
         Settled::Agreed | Settled::Timeout => Phase::ToCommit,
@@ -112,7 +112,7 @@ fn after_settle(how: Settled) -> Phase
 
 /// What the Commit of a create comes to.
 fn after_create(phase: Phase, cells: &[CellConfig]) -> Next
-    ensures phase { (at : ℕ) (lives : List TheLive) → configs_of lives ≡ cells.now → result.phase ≡ after_commit_lem (Create at) phase lives }
+    ensures phase { (at : ℕ) (lives : List TheLive) → configs_of lives ≡ cells.now → result.phase ≡ after_commit (Create at) phase lives }
     ensures created { (at : ℕ) → result.created ≡ created (Create at) phase }
 {
     match phase {
@@ -134,7 +134,7 @@ fn after_create(phase: Phase, cells: &[CellConfig]) -> Next
 
 /// What a Commit comes to.
 fn after_commit(call: &Call, phase: Phase, cells: &[CellConfig]) -> Next
-    ensures phase { (lives : List TheLive) → configs_of lives ≡ cells.now → result.phase ≡ after_commit_lem call.now phase lives }
+    ensures phase { (lives : List TheLive) → configs_of lives ≡ cells.now → result.phase ≡ after_commit call.now phase lives }
     ensures created { result.created ≡ created call.now phase }
 {
     match *call {
@@ -151,7 +151,7 @@ fn after_commit(call: &Call, phase: Phase, cells: &[CellConfig]) -> Next
 }
 
 fn after_note(phase: Phase) -> Phase
-    ensures { result ≡ after_note_lem phase }
+    ensures { result ≡ after_note phase }
 {
     match phase {
         Phase::ToNote { id, about, answer } => Phase::ToNoted {
@@ -165,7 +165,7 @@ fn after_note(phase: Phase) -> Phase
 }
 
 fn after_noted(phase: Phase, cells: &[CellConfig]) -> Phase
-    ensures { (lives : List TheLive) → configs_of lives ≡ cells.now → result ≡ after_noted_lem phase lives }
+    ensures { (lives : List TheLive) → configs_of lives ≡ cells.now → result ≡ after_noted phase lives }
 {
     match phase {
         Phase::ToNoted {
@@ -180,7 +180,7 @@ fn after_noted(phase: Phase, cells: &[CellConfig]) -> Phase
 
 /// The phase after an entry of the cell that is none of the call's own.
 fn counted(cell: u32, call: &Call, phase: Phase) -> Phase
-    ensures { result ≡ counted_lem cell call.now phase }
+    ensures { result ≡ counted cell call.now phase }
 {
     match phase {
         Phase::ToSettle { waited } => {
@@ -229,7 +229,7 @@ fn phase_after(
     phase: Phase,
     entry: &Entry,
 ) -> Next
-    ensures phase { (lives : List TheLive) → configs_of lives ≡ cells.now → result.phase ≡ phase_after_lem lives coming entry.now.cell call.now phase entry.now.act }
+    ensures phase { (lives : List TheLive) → configs_of lives ≡ cells.now → result.phase ≡ phase_after lives coming entry.now.cell call.now phase entry.now.act }
     ensures created { result.created ≡ created_at call.now phase entry.now.act }
 {
     match entry.act {
@@ -249,7 +249,8 @@ fn goes_on(
     begun: OpenCall,
     entry: &Entry,
 ) -> Called
-    ensures phase { (lives : List TheLive) → configs_of lives ≡ cells.now → result.call ≡ Some (record { caller = begun.caller; call = begun.call; phase = phase_after_lem lives coming entry.now.cell begun.call begun.phase entry.now.act }) }
+    ensures phase { (lives : List TheLive) → configs_of lives ≡ cells.now
+        → result.call ≡ Some (record { caller = begun.caller; call = begun.call; phase = phase_after lives coming entry.now.cell begun.call begun.phase entry.now.act }) }
     ensures created { result.created ≡ created_at begun.call begun.phase entry.now.act }
 {
     let OpenCall {

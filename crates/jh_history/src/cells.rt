@@ -5,17 +5,17 @@ ghost use Rattle.jh_cellcfg.specs.declared.live.Live.{Live as TheLive};
 ghost use Rattle.jh_check.specs.Clean.{IsClean};
 ghost use Rattle.jh_cellcfg.specs.declared.region.Region.{Region as TheRegion};
 ghost use Rattle.jh_cellcfg.specs.Regions.{has_address, IsInRange};
-ghost use Rattle.jh_mmio.specs.Dispatch.{takes_all as takes_all_lem};
+ghost use Rattle.jh_mmio.specs.Dispatch.{takes_all};
 ghost use Rattle.jh_history.specs.declared.place.Place.TheVariants.{Physical};
-ghost use Rattle.jh_script.specs.Operations.{IsPlain};
-ghost use Rattle.jh_history.specs.Access.{right_of, gives as gives_lem, region_of as region_of_lem, memory_or_nothing, reach_by};
-ghost use Rattle.jh_history.specs.Grants.{granted_in, is_kept as is_kept_lem, behind_in as behind_in_lem, reach_in as reach_in_lem};
+ghost use Rattle.jh_script.specs.Operations.{IsWellFormed};
+ghost use Rattle.jh_history.specs.Access.{right_of, gives, region_of, memory_or_nothing, reach_by};
+ghost use Rattle.jh_history.specs.Grants.{granted_in, is_kept, behind_in, reach_in};
 ghost use Rattle.jh_history.specs.Devices.{list_in};
 ghost use Rattle.jh_history.specs.Phases.{configs_of};
 ghost use Rattle.jh_history.specs.Places.{places_of_run, IsRun};
 ghost use Rattle.jh_history.specs.Admitted.{IsAdmitted};
 ghost use Rattle.jh_history.specs.Facts.{Facts};
-ghost use Rattle.jh_history.specs.Lives.{is_on_board as is_on_board_lem, is_program_of as is_program_of_lem, program_of as program_of_lem, cell_in, regions_in as regions_in_lem, ops_in as ops_in_lem, op_at as op_at_lem};
+ghost use Rattle.jh_history.specs.Lives.{is_on_board, is_program_of, program_of, cell_in, regions_in, ops_in, op_at};
 
 use crate::access::{Access, Reach, Wanted};
 use crate::behind::{answer_of, ecam_of, is_within, places_in};
@@ -33,14 +33,14 @@ use std::marker::Model;
 
 /// Whether the board has the CPU.
 pub fn is_on_board(image: &Image, cpu: u8) -> bool
-    ensures { result ≡ is_on_board_lem image.now cpu }
+    ensures { result ≡ is_on_board image.now cpu }
 {
     image.system.root.has_cpu(cpu)
 }
 
 /// Whether the program is that of the CPU in the cell of that name.
 pub fn is_program_of(program: &Program, name: &[u8], cpu: u8) -> bool
-    ensures { result ≡ is_program_of_lem name.now cpu program.now }
+    ensures { result ≡ is_program_of name.now cpu program.now }
 {
     program.cpu == cpu && program.cell.as_slice() == name
 }
@@ -48,7 +48,7 @@ pub fn is_program_of(program: &Program, name: &[u8], cpu: u8) -> bool
 /// The operations of the CPU in the cell of that name.
 #[tactic(auto, unfolding(crate::specs::Lives::program_of))]
 pub fn program_of<'a>(image: &'a Image, name: &[u8], cpu: u8) -> &'a [Op]
-    ensures { result.now ≡ program_of_lem image.now name.now cpu }
+    ensures { result.now ≡ program_of image.now name.now cpu }
 {
     for program in image.programs.as_slice() {
         if is_program_of(program, name, cpu) {
@@ -71,7 +71,7 @@ fn right_of(access: Access) -> RegionFlags
 
 /// Whether the region is page-mapped and gives the address with the right.
 pub fn gives(region: &Region, access: Access, at: u64) -> bool
-    ensures gives { result ≡ gives_lem access at region.now }
+    ensures gives { result ≡ gives access at region.now }
 {
     region.has_address(at) && region.is_page_mapped() && region.has(right_of(access))
 }
@@ -79,7 +79,7 @@ pub fn gives(region: &Region, access: Access, at: u64) -> bool
 /// The region that gives the address with the right.
 fn region_of(regions: &[Region], access: Access, at: u64) -> Option<Region>
     requires { All (λ (r : Region). 0 < r.size → IsInRange r) regions.now }
-    ensures found { result ≡ region_of_lem regions.now access at }
+    ensures found { result ≡ region_of regions.now access at }
     ensures within { IfSome result (λ region. IsInRange region) }
 {
     for region in regions {
@@ -108,7 +108,7 @@ pub(crate) fn config_in<'a>(
 /// Its regions.
 fn regions_in<'a>(image: &'a Image, cells: &'a [CellConfig], id: u32) -> &'a [Region]
     requires { IsClean image.now.system cells.now }
-    ensures regions { (lives : List TheLive) → configs_of lives ≡ cells.now → result.now ≡ regions_in_lem image.now lives id }
+    ensures regions { (lives : List TheLive) → configs_of lives ≡ cells.now → result.now ≡ regions_in image.now lives id }
     ensures within { All (λ (r : Region). 0 < r.size → IsInRange r) result.now }
 {
     match config_in(image, cells, u64::from(id)) {
@@ -130,8 +130,8 @@ pub(crate) fn devices_in<'a>(image: &'a Image, cells: &'a [CellConfig], id: u32)
 /// The operations of its program of the CPU.
 fn ops_in<'a>(image: &'a Image, cells: &[CellConfig], id: u32, cpu: u8) -> &'a [Op]
     requires { IsAdmitted image.now }
-    ensures ops { (lives : List TheLive) → configs_of lives ≡ cells.now → result.now ≡ ops_in_lem image.now lives id cpu }
-    ensures plain { All IsPlain result.now }
+    ensures ops { (lives : List TheLive) → configs_of lives ≡ cells.now → result.now ≡ ops_in image.now lives id cpu }
+    ensures plain { All IsWellFormed result.now }
 {
     match config_in(image, cells, u64::from(id)) {
         Some(cell) => program_of(image, cell.name(), cpu),
@@ -142,8 +142,8 @@ fn ops_in<'a>(image: &'a Image, cells: &[CellConfig], id: u32, cpu: u8) -> &'a [
 /// The operation that the CPU is at, in that state.
 pub(crate) fn op_at(image: &Image, cells: &[CellConfig], state: Cpu, cpu: u8) -> Option<Op>
     requires { IsAdmitted image.now }
-    ensures op { (f : Facts) → configs_of f.cells ≡ cells.now → result ≡ op_at_lem image.now f state cpu }
-    ensures plain { IfSome result IsPlain }
+    ensures op { (f : Facts) → configs_of f.cells ≡ cells.now → result ≡ op_at image.now f state cpu }
+    ensures plain { IfSome result IsWellFormed }
 {
     ops_in(image, cells, state.owner, cpu)
         .get(state.position as usize)
@@ -186,7 +186,7 @@ impl<'a> Grants for ImageGrants<'a> {
 
 /// Whether the cell is kept from the place.
 fn is_kept(image: &Image, cells: &LiveCells, cell: u32, place: Place) -> bool
-    ensures { result ≡ is_kept_lem image.now cells.now cell place }
+    ensures { result ≡ is_kept image.now cells.now cell place }
 {
     match place {
         Place::Physical(p) => cell == image.system.root.id && cells.closes(p),
@@ -197,7 +197,7 @@ fn is_kept(image: &Image, cells: &LiveCells, cell: u32, place: Place) -> bool
 /// Whether it is kept from one of the run.
 fn is_run_kept(image: &Image, cells: &LiveCells, cell: u32, run: Run) -> bool
     requires { IsRun run }
-    ensures { result ≡ list_any (is_kept_lem image.now cells.now cell) (places_of_run run) }
+    ensures { result ≡ list_any (is_kept image.now cells.now cell) (places_of_run run) }
 {
     for k in 0..run.count {
         if is_kept(image, cells, cell, run.first.further(k)) {
@@ -209,7 +209,7 @@ fn is_run_kept(image: &Image, cells: &LiveCells, cell: u32, run: Run) -> bool
 
 /// Whether it is kept from one of these.
 fn are_kept(image: &Image, cells: &LiveCells, cell: u32, places: &Places) -> bool
-    ensures { result ≡ list_any (is_kept_lem image.now cells.now cell) places.now }
+    ensures { result ≡ list_any (is_kept image.now cells.now cell) places.now }
 {
     let (low, high) = places.runs();
     if is_run_kept(image, cells, cell, low) {
@@ -246,7 +246,7 @@ fn takes_all(image: &Image, cells: &LiveCells, cell: u32, region: &Region, wante
     requires some { 0 < wanted.now.width }
     requires few { wanted.now.width ≤ 8 }
     requires within { 0 < region.now.size → IsInRange region.now }
-    ensures takes { result ≡ takes_all_lem (λ p. is_kept_lem image.now cells.now cell (Physical p)) wanted.now.at wanted.now.width region.now }
+    ensures takes { result ≡ takes_all (λ p. is_kept image.now cells.now cell (Physical p)) wanted.now.at wanted.now.width region.now }
     ensures first { IsTrue result → IsTrue (has_address region.now wanted.now.at) }
 {
     if has_whole(region, wanted.at, wanted.width) {
@@ -262,7 +262,7 @@ fn subpage_of(image: &Image, cells: &LiveCells, cell: u32, wanted: &Wanted) -> O
     requires clean { IsClean image.now.system (configs_of cells.now) }
     requires some { 0 < wanted.now.width }
     requires few { wanted.now.width ≤ 8 }
-    ensures found { result ≡ find (takes_all_lem (λ p. is_kept_lem image.now cells.now cell (Physical p)) wanted.now.at wanted.now.width) (regions_in_lem image.now cells.now cell) }
+    ensures found { result ≡ find (takes_all (λ p. is_kept image.now cells.now cell (Physical p)) wanted.now.at wanted.now.width) (regions_in image.now cells.now cell) }
     ensures within { IfSome result IsInRange }
     ensures first { IfSome result (λ (r : TheRegion). IsTrue (has_address r wanted.now.at)) }
 {
@@ -285,7 +285,7 @@ fn behind_in(
 ) -> Reach
     requires clean { IsClean image.now.system (configs_of cells.now) }
     requires few { wanted.now.width ≤ 8 }
-    ensures { result ≡ behind_in_lem image.now cells.now endpoints.now.list cell wanted.now.access wanted.now.at wanted.now.width }
+    ensures { result ≡ behind_in image.now cells.now endpoints.now.list cell wanted.now.access wanted.now.at wanted.now.width }
 {
     if is_within(wanted) {
         let region = subpage_of(image, cells, cell, wanted);
@@ -308,7 +308,7 @@ pub(crate) fn reach_in(
 ) -> Reach
     requires clean { IsClean image.now.system (configs_of cells.now) }
     requires few { wanted.now.width ≤ 8 }
-    ensures { result ≡ reach_in_lem image.now cells.now endpoints.now.list cell wanted.now.access wanted.now.at wanted.now.width }
+    ensures { result ≡ reach_in image.now cells.now endpoints.now.list cell wanted.now.access wanted.now.at wanted.now.width }
 {
     match memory_in(image, cells, cell, wanted) {
         Some(places) => Reach::Memory(places),

@@ -6,7 +6,7 @@ ghost use Rattle.jh_script.specs.declared.image.Image.{Image as TheImage};
 ghost use Rattle.jh_history.specs.declared.call.OpenCall.{OpenCall as TheOpenCall};
 ghost use Rattle.jh_history.specs.Admitted.{IsAdmitted};
 ghost use Rattle.jh_history.specs.Facts.{Facts};
-ghost use Rattle.jh_history.specs.Cpus.{change_if as change_if_lem, change_of as change_of_lem, changed as changed_lem, begun, is_agreed as is_agreed_lem, settled, end_in_root as end_in_root_lem, committed, finished, acted, cpu_after, is_running as is_running_lem};
+ghost use Rattle.jh_history.specs.Cpus.{change_if, change_of, changed, begun, is_agreed, settled, end_in_root, committed, finished, acted, cpu_after, is_running};
 
 use crate::call::{OpenCall, Phase};
 use crate::cells::{is_on_board, program_of};
@@ -30,7 +30,7 @@ pub enum Change {
 
 /// Whether a CPU in this mode runs.
 pub(crate) fn is_running(mode: Mode) -> bool
-    ensures { result ≡ is_running_lem mode }
+    ensures { result ≡ is_running mode }
 {
     match mode {
         Mode::Running => true,
@@ -40,7 +40,7 @@ pub(crate) fn is_running(mode: Mode) -> bool
 
 /// What an access does to its CPU, by whether it succeeded.
 fn change_if(good: bool) -> Change
-    ensures { result ≡ change_if_lem good }
+    ensures { result ≡ change_if good }
 {
     if good { Change::Step } else { Change::Fail }
 }
@@ -48,7 +48,7 @@ fn change_if(good: bool) -> Change
 impl Change {
     /// What the act does to its CPU, other than with the rest of them.
     pub fn of(act: &Act) -> Change
-        ensures { result ≡ change_of_lem act.now }
+        ensures { result ≡ change_of act.now }
     {
         match *act {
             Act::Read { got, .. } | Act::Fetch { got, .. } => change_if(got.is_some()),
@@ -67,7 +67,7 @@ impl Change {
 
     /// Changes the CPU so.
     pub fn apply(self, cpu: &mut Cpu)
-        ensures { cpu.new ≡ changed_lem self cpu.old }
+        ensures { cpu.new ≡ changed self cpu.old }
     {
         match self {
             Change::Stay => {}
@@ -93,7 +93,7 @@ fn begin(image: &Image, own: u8, i: u8, cpu: &mut Cpu)
 
 /// Whether the call goes on.
 fn is_agreed(how: Settled) -> bool
-    ensures { result ≡ is_agreed_lem how }
+    ensures { result ≡ is_agreed how }
 {
     match how {
         Settled::Agreed | Settled::Timeout => true,
@@ -113,7 +113,7 @@ fn settle(agreed: bool, call: &Call, cpu: &mut Cpu)
 /// How many operations root's program of the CPU has.
 fn end_in_root(image: &Image, i: u8) -> u32
     requires { IsAdmitted image.now }
-    ensures { result ≡ end_in_root_lem image.now i }
+    ensures { result ≡ end_in_root image.now i }
 {
     program_of(image, image.system.root.name(), i).len() as u32
 }
@@ -199,7 +199,8 @@ fn act_on(image: &Image, call: Option<&OpenCall>, entry: &Entry, i: u8, cpu: &mu
 
 /// Whether the act changes more CPUs than that which makes it.
 fn is_for_many(act: &Act) -> bool
-    ensures { (image : TheImage) (call : Option TheOpenCall) (own i : ℕ) (cpu : TheCpu) → result ≡ false → acted image call act.now own i cpu ≡ (if i == own then changed_lem (change_of_lem act.now) cpu else cpu) }
+    ensures { (image : TheImage) (call : Option TheOpenCall) (own i : ℕ) (cpu : TheCpu) → result ≡ false
+        → acted image call act.now own i cpu ≡ (if i == own then changed (change_of act.now) cpu else cpu) }
 {
     matches!(
         act,
@@ -222,7 +223,8 @@ fn act_on_all(image: &Image, call: Option<&OpenCall>, entry: &Entry, cpus: &mut 
 pub fn cpus_after(cpus: &mut [Cpu], image: &Image, call: Option<&OpenCall>, entry: &Entry)
     requires admitted { IsAdmitted image.now }
     requires cpus { length cpus.old ≡ 16 }
-    ensures { (f : Facts) → f.call ≡ option_copied call.entry → ((i : ℕ) → i < 16 → slice_get cpus.old i ≡ Some (f.cpu i)) → (i : ℕ) → i < 16 → slice_get cpus.new i ≡ Some (cpu_after image.now f entry.now i) }
+    ensures { (f : Facts) → f.call ≡ option_copied call.entry → ((i : ℕ) → i < 16 → slice_get cpus.old i ≡ Some (f.cpu i))
+        → (i : ℕ) → i < 16 → slice_get cpus.new i ≡ Some (cpu_after image.now f entry.now i) }
 {
     if is_for_many(&entry.act) {
         act_on_all(image, call, entry, cpus);

@@ -1,10 +1,10 @@
 //! What comes of a create.
 ghost use Rattle.std.specs.Prelude.{◌≡◌, ℕ, ◌<◌, ◌≤◌, ◌==◌, Bool, Some, false, length, slice_get, slice_index_or, IfOk, IfSome, IfNone};
 ghost use Rattle.std.specs.List.{list_any};
-ghost use Rattle.jh_check.specs.Refusals.{refusal_of as refusal_of_lem};
-ghost use Rattle.jh_history.specs.Admitted.{pool_pages as pool_pages_lem, IsAdmitted};
+ghost use Rattle.jh_check.specs.Refusals.{refusal_of};
+ghost use Rattle.jh_history.specs.Admitted.{pool_pages, IsAdmitted};
 ghost use Rattle.jh_history.specs.Facts.{Facts};
-ghost use Rattle.jh_history.specs.Phases.{configs_of, may_give as may_give_lem, unless_refused as unless_refused_lem, creation_by};
+ghost use Rattle.jh_history.specs.Phases.{configs_of, may_give, unless_refused, creation_by};
 ghost use Rattle.jh_history.specs.ReadView.{as_read, gives_by, refusal_by};
 
 use crate::admission::pool_pages;
@@ -31,7 +31,7 @@ fn may_give(image: &Image, state: Cpu, caller: u8, cpu: u8) -> bool
 fn given(image: &Image, cpus: &[Cpu], caller: u8) -> [bool; 16]
     requires admitted { IsAdmitted image.now }
     requires cpus { length cpus.now ≡ 16 }
-    ensures { (f : Facts) → ((i : ℕ) → i < 16 → slice_get cpus.now i ≡ Some (f.cpu i)) → (cpu : ℕ) → slice_index_or result cpu false ≡ may_give_lem image.now f caller cpu }
+    ensures { (f : Facts) → ((i : ℕ) → i < 16 → slice_get cpus.now i ≡ Some (f.cpu i)) → (cpu : ℕ) → slice_index_or result cpu false ≡ may_give image.now f caller cpu }
 {
     admitted_roots_are_sound(image);
     let mut may = [false; 16];
@@ -60,7 +60,7 @@ fn refusal_with(
 ) -> Result<Option<i64>, NoMemory>
     requires few { length cells.now ≤ 15 }
     requires kept { length cells.now ≡ 15 → list_any (λ (b : Bool). b) may.now ≡ false }
-    ensures { IfOk result (λ refusal. refusal ≡ refusal_of_lem image.now.system cells.now config.now (λ cpu. slice_index_or may.now cpu false) pages (pool_pages_lem image.now.system)) }
+    ensures { IfOk result (λ refusal. refusal ≡ refusal_of image.now.system cells.now config.now (λ cpu. slice_index_or may.now cpu false) pages (pool_pages image.now.system)) }
 {
     if cells.len() == 15 {
         return Ok(refusal_without_cpus(&image.system, cells, config));
@@ -89,7 +89,7 @@ fn refusal_by(
 
 /// The cell comes, unless it is refused.
 fn unless_refused(config: BoxedCell, refusal: Option<i64>) -> Creation
-    ensures { result ≡ unless_refused_lem config refusal }
+    ensures { result ≡ unless_refused config refusal }
 {
     match refusal {
         Some(number) => Creation::Refused { number },
@@ -111,7 +111,8 @@ pub fn judged(
     requires admitted { IsAdmitted image.now }
     requires few { length cells.now ≤ 15 }
     requires cpus { length cpus.now ≡ 16 }
-    ensures told { (f : Facts) → configs_of f.cells ≡ cells.now → ((i : ℕ) → i < 16 → slice_get cpus.now i ≡ Some (f.cpu i)) → IfOk result (λ told. IfSome told (λ creation. creation ≡ creation_by image.now f caller (as_read read))) }
+    ensures told { (f : Facts) → configs_of f.cells ≡ cells.now → ((i : ℕ) → i < 16 → slice_get cpus.now i ≡ Some (f.cpu i))
+        → IfOk result (λ told. IfSome told (λ creation. creation ≡ creation_by image.now f caller (as_read read))) }
     ensures untold { IfOk result (λ told. IfNone told (length cells.now ≡ 15)) }
 {
     match read {

@@ -4,7 +4,7 @@ ghost use Rattle.jh_call.specs.declared.call.Call.TheVariants.{Create};
 ghost use Rattle.jh_cellcfg.specs.declared.live.Live.{Live as TheLive};
 ghost use Rattle.jh_ivshmem.specs.Specs.{IsWithin, AreApart, slot_of};
 ghost use Rattle.jh_history.specs.declared.device_change.DeviceChange.TheVariants.{Join as Joins, Reset as Resets, Leave as Leaves};
-ghost use Rattle.jh_history.specs.Endpoints.{endpoint_changed, device_change, change_by, changing as changing_lem, changing_by};
+ghost use Rattle.jh_history.specs.Endpoints.{endpoint_changed, device_change, change_by, changing, changing_by};
 ghost use Rattle.jh_history.specs.Phases.{configs_of};
 
 use crate::call::OpenCall;
@@ -42,6 +42,7 @@ fn reset(endpoints: &mut Endpoints, spec: EndpointSpec) -> Slot
     ensures spare { endpoints.new.spare ≡ endpoints.old.spare }
 {
     if endpoints.has(spec.cell, spec.device) {
+        // its slot is the one told below
         let _ = endpoints.reset(spec.cell, spec.device);
     }
     cleared(spec)
@@ -55,6 +56,7 @@ fn leave(endpoints: &mut Endpoints, spec: EndpointSpec) -> Slot
     ensures spare { endpoints.old.spare ≤ endpoints.new.spare }
 {
     if endpoints.has(spec.cell, spec.device) {
+        // its slot is the one told below
         let _ = endpoints.leave(spec.cell, spec.device);
     }
     cleared(spec)
@@ -103,7 +105,7 @@ impl DeviceChange {
 
 /// The configuration of the cell whose devices the Commit of the call changes.
 fn changing<'a>(cells: &'a [CellConfig], begun: &'a OpenCall) -> Option<&'a CellConfig>
-    ensures { (lives : List TheLive) → configs_of lives ≡ cells.now → option_copied result ≡ changing_lem lives begun.now.call begun.now.phase }
+    ensures { (lives : List TheLive) → configs_of lives ≡ cells.now → option_copied result ≡ changing lives begun.now.call begun.now.phase }
 {
     match begun.call {
         Call::Create { .. } => coming_in(&begun.phase),

@@ -1,14 +1,11 @@
 //! What is fixed of the endpoints of a cell's ivshmem devices.
 ghost use Rattle.std.specs.Prelude.{◌≡◌, ◌<◌, ◌^◌, true, None, Some, option_copied, if◌then◌else◌};
 ghost use Rattle.jh_check.specs.Clean.{IsGoodDevice};
-ghost use Rattle.jh_history.specs.Devices.{is_endpoint as is_endpoint_lem, section_at, size_of as size_of_lem, place_of_section, address_of_section, function_of as function_of_lem, spec_of as spec_of_lem};
+ghost use Rattle.jh_history.specs.Devices.{is_endpoint, section_at, size_of, place_of_section, address_of_section, function_of, spec_of};
 
 use jh_cellcfg::{CellConfig, PciDevice, Region};
 use jh_ivshmem::EndpointSpec;
 use jh_vpci::FunctionSpec;
-
-/// The kind of an ivshmem device, by `JAILHOUSE_PCI_TYPE_IVSHMEM`.
-const IVSHMEM: u8 = 3;
 
 /// The sections of a device that every device has, in their order from its first.
 const STATE_TABLE: u8 = 0;
@@ -19,10 +16,10 @@ const FIRST_OUTPUT: u8 = 2;
 
 /// Whether the device of that number is an ivshmem device. A number has 32 bits.
 pub fn is_endpoint(number: usize, device: &PciDevice) -> bool
-    ensures value { result ≡ is_endpoint_lem number device.now }
+    ensures value { result ≡ is_endpoint number device.now }
     ensures small { result ≡ true → number < 2 ^ 32 }
 {
-    number <= u32::MAX as usize && device.kind == IVSHMEM
+    number <= u32::MAX as usize && device.is_shmem()
 }
 
 /// The section of the device.
@@ -34,7 +31,7 @@ fn section<'a>(config: &'a CellConfig, device: &PciDevice, k: u8) -> Option<&'a 
 }
 
 fn size_of(region: Option<&Region>) -> u64
-    ensures { result ≡ size_of_lem (option_copied region.entry) }
+    ensures { result ≡ size_of (option_copied region.entry) }
 {
     match region {
         Some(region) => region.size,
@@ -63,7 +60,7 @@ fn address_of(region: Option<&Region>) -> u64
 /// What the device's function shows.
 fn function_of(config: &CellConfig, device: &PciDevice) -> FunctionSpec
     requires { IsGoodDevice config.now device.now }
-    ensures { result ≡ function_of_lem config.now device.now }
+    ensures { result ≡ function_of config.now device.now }
 {
     FunctionSpec {
         protocol: device.shmem_protocol,
@@ -78,7 +75,7 @@ fn function_of(config: &CellConfig, device: &PciDevice) -> FunctionSpec
 /// The endpoint of the cell's device of that number.
 fn spec_of(config: &CellConfig, number: u32, device: &PciDevice) -> EndpointSpec
     requires { IsGoodDevice config.now device.now }
-    ensures { result ≡ spec_of_lem config.now number device.now }
+    ensures { result ≡ spec_of config.now number device.now }
 {
     EndpointSpec {
         cell: config.id,
@@ -93,8 +90,8 @@ fn spec_of(config: &CellConfig, number: u32, device: &PciDevice) -> EndpointSpec
 
 /// The endpoint of the cell's device of that number, where it is an ivshmem device.
 pub fn endpoint_of(config: &CellConfig, number: usize, device: &PciDevice) -> Option<EndpointSpec>
-    requires { is_endpoint_lem number device.now ≡ true → IsGoodDevice config.now device.now }
-    ensures { result ≡ (if is_endpoint_lem number device.now then Some (spec_of_lem config.now number device.now) else None) }
+    requires { is_endpoint number device.now ≡ true → IsGoodDevice config.now device.now }
+    ensures { result ≡ (if is_endpoint number device.now then Some (spec_of config.now number device.now) else None) }
 {
     if is_endpoint(number, device) {
         Some(spec_of(config, number as u32, device))

@@ -1,18 +1,17 @@
 //! What accesses reach, by the regions that give addresses to cells.
 ghost use Rattle.std.specs.Prelude.{◌≡◌, ◌+◌, ◌%◌, ◌<◌, ◌≤◌, IsTrue, IfSome, option_map};
+ghost use Rattle.jh_num.specs.declared.address.TheConstants.{ADDRESS_END};
 ghost use Rattle.jh_cellcfg.specs.declared.region.Region.{Region as TheRegion};
 ghost use Rattle.jh_cellcfg.specs.Regions.{has_address, IsInRange};
 ghost use Rattle.jh_history.specs.Places.{places_in_row, places_of_run, number_of, IsRun};
 ghost use Rattle.jh_history.specs.declared.place.Place.{Place as ThePlace};
-ghost use Rattle.jh_history.specs.Access.{place_in_cell as place_in_cell_lem, place_of, places_from, memory_or_nothing, reach_by};
+ghost use Rattle.jh_history.specs.Access.{place_in_cell, place_of, places_from, memory_or_nothing, reach_by};
 
 use crate::access::{Access, Wanted};
 use crate::place::{Place, Places, Run};
+use crate::within::ends_within;
 use jh_cellcfg::Region;
-use jh_num::ADDRESS_END;
-
-/// How many bytes a page has.
-const PAGE: u64 = 4096;
+use jh_num::PAGE_SIZE;
 
 /// Tells the region that gives a cell an address.
 pub trait Grants {
@@ -35,7 +34,7 @@ fn in_page(at: u64, width: u8) -> u8
     ensures page { at % 4096 + result ≤ 4096 }
     ensures whole { result < width → at % 4096 + result ≡ 4096 }
 {
-    let left = PAGE - at % PAGE;
+    let left = PAGE_SIZE - at % PAGE_SIZE;
     if u64::from(width) <= left {
         width
     } else {
@@ -47,7 +46,7 @@ fn in_page(at: u64, width: u8) -> u8
 pub(crate) fn place_in_cell(cell: u32, region: &Region, at: u64) -> Place
     requires within { IsInRange region.now }
     requires has { IsTrue (has_address region.now at) }
-    ensures place { result ≡ place_in_cell_lem cell region.now at }
+    ensures place { result ≡ place_in_cell cell region.now at }
     ensures small { number_of result < ADDRESS_END }
 {
     let offset = at - region.virt_start;
@@ -114,8 +113,7 @@ pub fn memory<G: Grants>(grants: &G, cell: u32, wanted: &Wanted) -> Option<Place
     requires { wanted.now.width ≤ 8 }
     ensures { memory_or_nothing result ≡ reach_by (place_of cell (G.regions grants.now cell) wanted.now.access) wanted.now.at wanted.now.width }
 {
-    let width = u64::from(wanted.width);
-    if wanted.at > ADDRESS_END || width > ADDRESS_END - wanted.at {
+    if !ends_within(wanted.at, u64::from(wanted.width)) {
         return None;
     }
     places_of(grants, cell, wanted)

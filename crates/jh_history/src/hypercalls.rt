@@ -2,11 +2,11 @@
 ghost use Rattle.std.specs.Prelude.{◌≡◌, ◌≢◌, ℕ, Option, option_map, true, false, nat_eq};
 ghost use Rattle.jh_script.specs.declared.image.Image.{Image as TheImage};
 ghost use Rattle.jh_history.specs.declared.access.Reach.{Reach as TheReach};
-ghost use Rattle.jh_history.specs.Admitted.{IsPlainAct};
+ghost use Rattle.jh_history.specs.Admitted.{IsWellFormedAct};
 ghost use Rattle.jh_history.specs.Wants.{IsReachOfAct};
 ghost use Rattle.jh_history.specs.Facts.{Facts};
-ghost use Rattle.jh_history.specs.Hypercalls.{state_told as state_told_lem, state_seen as state_seen_lem, mode_seen as mode_seen_lem, cpu_told as cpu_told_lem, cpu_seen as cpu_seen_lem, seen_of as seen_of_lem, hvc_act as hvc_act_lem};
-ghost use Rattle.jh_call.specs.Calls.{is_management as is_management_lem};
+ghost use Rattle.jh_history.specs.Hypercalls.{state_told, state_seen, mode_seen, cpu_told, cpu_seen, seen_of, hvc_act};
+ghost use Rattle.jh_call.specs.Calls.{is_management};
 
 use crate::entry::Act;
 use crate::known::Known;
@@ -16,7 +16,7 @@ use jh_cpu::{Cpu, Mode};
 
 /// The state word of the live cell with the id, 0 for root.
 fn state_told<K: Known>(known: &K, id: u64) -> Option<u32>
-    ensures { (i : TheImage) (f : Facts) → K.Knows known.now i f → result ≡ state_told_lem i f id }
+    ensures { (i : TheImage) (f : Facts) → K.Knows known.now i f → result ≡ state_told i f id }
 {
     if id == u64::from(known.root()) {
         return Some(0);
@@ -29,7 +29,7 @@ fn state_told<K: Known>(known: &K, id: u64) -> Option<u32>
 
 /// The state that the call asks for.
 fn state_seen<K: Known>(known: &K, call: &Call) -> Option<u32>
-    ensures { (i : TheImage) (f : Facts) → K.Knows known.now i f → result ≡ state_seen_lem i f call.now }
+    ensures { (i : TheImage) (f : Facts) → K.Knows known.now i f → result ≡ state_seen i f call.now }
 {
     match *call {
         Call::State { id } => state_told(known, id),
@@ -39,7 +39,7 @@ fn state_seen<K: Known>(known: &K, call: &Call) -> Option<u32>
 
 /// What is seen of a CPU in that state.
 fn mode_seen(state: Cpu) -> CpuSeen
-    ensures { result ≡ mode_seen_lem state }
+    ensures { result ≡ mode_seen state }
 {
     match state.mode {
         Mode::Failed => CpuSeen::Failed,
@@ -49,7 +49,7 @@ fn mode_seen(state: Cpu) -> CpuSeen
 
 /// What the cell sees of the CPU; `root` says whether it is root, which sees all of the board's.
 fn cpu_told<K: Known>(known: &K, cell: u32, root: bool, cpu: u64) -> CpuSeen
-    ensures told { (i : TheImage) (f : Facts) → K.Knows known.now i f → root ≡ nat_eq cell i.system.root.id → result ≡ cpu_told_lem i f cell cpu }
+    ensures told { (i : TheImage) (f : Facts) → K.Knows known.now i f → root ≡ nat_eq cell i.system.root.id → result ≡ cpu_told i f cell cpu }
     ensures own { root ≡ true → result ≢ CpuSeen.Foreign }
 {
     known.has_few_cpus();
@@ -66,7 +66,7 @@ fn cpu_told<K: Known>(known: &K, cell: u32, root: bool, cpu: u64) -> CpuSeen
 
 /// What the cell sees of the CPU that the call asks for.
 fn cpu_seen<K: Known>(known: &K, cell: u32, root: bool, call: &Call) -> CpuSeen
-    ensures told { (i : TheImage) (f : Facts) → K.Knows known.now i f → root ≡ nat_eq cell i.system.root.id → result ≡ cpu_seen_lem i f cell call.now }
+    ensures told { (i : TheImage) (f : Facts) → K.Knows known.now i f → root ≡ nat_eq cell i.system.root.id → result ≡ cpu_seen i f cell call.now }
     ensures own { root ≡ true → result ≢ CpuSeen.Foreign }
 {
     match *call {
@@ -77,7 +77,7 @@ fn cpu_seen<K: Known>(known: &K, cell: u32, root: bool, call: &Call) -> CpuSeen
 
 /// What is seen where the cell makes the call.
 fn seen_of<K: Known>(known: &K, cell: u32, root: bool, call: &Call) -> Seen
-    ensures told { (i : TheImage) (f : Facts) → K.Knows known.now i f → root ≡ nat_eq cell i.system.root.id → result ≡ seen_of_lem i f cell call.now }
+    ensures told { (i : TheImage) (f : Facts) → K.Knows known.now i f → root ≡ nat_eq cell i.system.root.id → result ≡ seen_of i f cell call.now }
     ensures root { result.root ≡ root }
     ensures own { root ≡ true → result.cpu ≢ CpuSeen.Foreign }
 {
@@ -93,7 +93,7 @@ fn seen_of<K: Known>(known: &K, cell: u32, root: bool, call: &Call) -> Seen
 
 /// Whether the call manages cells.
 fn is_management(call: &Call) -> bool
-    ensures { result ≡ is_management_lem call.now }
+    ensures { result ≡ is_management call.now }
 {
     matches!(
         call,
@@ -103,9 +103,9 @@ fn is_management(call: &Call) -> bool
 
 /// What the cell's hypercall comes to.
 pub(crate) fn hvc_act<K: Known>(known: &K, cell: u32, code: u64, a: u64, b: u64) -> Act
-    ensures act { (i : TheImage) (f : Facts) → K.Knows known.now i f → result ≡ hvc_act_lem i f cell code a b }
+    ensures act { (i : TheImage) (f : Facts) → K.Knows known.now i f → result ≡ hvc_act i f cell code a b }
     ensures reached { (i : TheImage) (f : Facts) (own : ℕ) (found : TheReach) → IsReachOfAct i f own result found }
-    ensures plain { IsPlainAct result }
+    ensures plain { IsWellFormedAct result }
 {
     let call = decode(code, a, b);
     let root = cell == known.root();

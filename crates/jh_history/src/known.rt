@@ -15,7 +15,7 @@ use jh_script::Op;
 pub trait Known {
     ghost use Rattle.jh_num.specs.Memory.{spelled};
     ghost use Rattle.jh_script.specs.declared.image.Image.{Image};
-    ghost use Rattle.jh_script.specs.Operations.{IsPlain};
+    ghost use Rattle.jh_script.specs.Operations.{IsWellFormed};
     ghost use Rattle.jh_history.specs.Facts.{Facts};
     ghost use Rattle.jh_history.specs.Lives.{is_on_board, live_in, cell_of, op_at};
     ghost use Rattle.jh_shape.specs.Pages.{pages_of};
@@ -83,7 +83,7 @@ pub trait Known {
     fn operation(&self, cpu: u8, state: Cpu) -> Option<Op>
         requires { cpu < 16 }
         ensures told { (i : Image) (f : Facts) → Knows self.now i f → result ≡ op_at i f state cpu }
-        ensures plain { IfSome result IsPlain };
+        ensures plain { IfSome result IsWellFormed };
 
     /// What the cell's access reaches. It is asked once a turn, and only for the access that the CPU's next entry makes.
     fn reach(&self, cell: u32, wanted: &Wanted) -> Reach

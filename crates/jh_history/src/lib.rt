@@ -35,6 +35,7 @@ mod plain;
 mod plain_known;
 mod reading;
 mod sound;
+mod within;
 mod written;
 
 pub use access::{Access, ConfigBytes, Reach, Register, Wanted};

@@ -3,9 +3,9 @@ ghost use Rattle.std.specs.Prelude.{◌≡◌, ℕ, ◌+◌, ◌<◌, [], ◌++�
 ghost use Rattle.std.specs.List.{list_any};
 ghost use Rattle.jh_cellcfg.specs.declared.live.Live.{Live as TheLive};
 ghost use Rattle.jh_history.specs.declared.call.Phase.{Phase as ThePhase};
-ghost use Rattle.jh_shape.specs.Shapes.{is_closed, holder_of_live, takes as takes_lem};
+ghost use Rattle.jh_shape.specs.Shapes.{is_closed, holder_of_live, takes};
 ghost use Rattle.jh_history.specs.Phases.{configs_of};
-ghost use Rattle.jh_history.specs.Commits.{marked, is_other, committed_cells, created as created_lem};
+ghost use Rattle.jh_history.specs.Commits.{marked, is_other, committed_cells, created as created_by};
 ghost use Rattle.jh_history.specs.LiveView.{joined};
 
 use crate::boxed::BoxedCell;
@@ -54,6 +54,7 @@ fn leave(cells: &mut Vec<CellConfig>, marks: &mut Vec<bool>, id: u64)
 {
     for i in (0..cells.len()).rev() {
         if u64::from(cells[i].id) == id {
+            // the cell is dropped, and its mark with it
             let _ = cells.remove(i);
             let _ = marks.remove(i);
         }
@@ -62,14 +63,14 @@ fn leave(cells: &mut Vec<CellConfig>, marks: &mut Vec<bool>, id: u64)
 
 /// Whether the region takes the place from root, where its cell is loadable or not.
 fn takes(region: &Region, loadable: bool, place: u64) -> bool
-    ensures { result ≡ takes_lem loadable region.now place }
+    ensures { result ≡ takes loadable region.now place }
 {
     region.is_unshared() && !(loadable && region.is_loadable()) && region.has_place(place)
 }
 
 /// Whether one of the regions does.
 fn any_takes(regions: &[Region], loadable: bool, place: u64) -> bool
-    ensures { result ≡ list_any (λ region. takes_lem loadable region place) regions.now }
+    ensures { result ≡ list_any (λ region. takes loadable region place) regions.now }
 {
     regions.iter().any(|region| takes(region, loadable, place))
 }
@@ -126,7 +127,7 @@ impl LiveCells {
 
     /// The cells after a Commit of the call, which creates a cell of that configuration.
     pub(crate) fn commit(&mut self, call: &Call, created: Option<BoxedCell>) -> Result<(), NoMemory>
-        ensures ok { OnOk result ((phase : ThePhase) → created ≡ created_lem call.now phase → self.new ≡ committed_cells call.now phase self.old) }
+        ensures ok { OnOk result ((phase : ThePhase) → created ≡ created_by call.now phase → self.new ≡ committed_cells call.now phase self.old) }
         ensures err { OnErr result (self.new ≡ self.old) }
     {
         match *call {

@@ -1,16 +1,16 @@
 //! What a CPU does next, told by what is known.
 ghost use Rattle.std.specs.Prelude.{◌≡◌, ◌<◌, ◌≤◌, ℕ, None, IfSome, IfOk, IsTrue, ◌↔◌, is_some, option_map, option_copied};
 ghost use Rattle.jh_script.specs.declared.image.Image.{Image as TheImage};
-ghost use Rattle.jh_script.specs.Operations.{IsPlain};
-ghost use Rattle.jh_cellcfg.specs.Cells.{is_cpu_set as is_cpu_set_lem};
+ghost use Rattle.jh_script.specs.Operations.{IsWellFormed};
+ghost use Rattle.jh_cellcfg.specs.Cells.{is_cpu_set};
 ghost use Rattle.jh_check.specs.Refusals.{any_below};
-ghost use Rattle.jh_history.specs.Access.{read_of as read_of_lem, is_reached as is_reached_lem};
+ghost use Rattle.jh_history.specs.Access.{read_of, is_reached};
 ghost use Rattle.jh_history.specs.declared.access.Reach.{Reach as TheReach};
 ghost use Rattle.jh_history.specs.Facts.{Facts};
-ghost use Rattle.jh_history.specs.Wants.{wanted_of as wanted_of_lem, goes_on as goes_on_lem, pending_op as pending_op_lem, wanted_at, IsReachOf, IsReachIn, IsReachAt, IsReachOfAct, IsReachOfEntry};
-ghost use Rattle.jh_history.specs.Grants.{devices_of as devices_of_lem};
-ghost use Rattle.jh_history.specs.Due.{irq_of as irq_of_lem, act_of as act_of_lem, await_of as await_of_lem, state_act as state_act_lem, call_of as call_of_lem, is_other_due as is_other_due_lem, is_idle_but as is_idle_but_lem, caller_act as caller_act_lem, next_act as next_act_lem, entry_by as entry_by_lem, due_at};
-ghost use Rattle.jh_history.specs.Admitted.{IsPlainAct};
+ghost use Rattle.jh_history.specs.Wants.{wanted_of, goes_on, pending_op, wanted_at, IsReachOf, IsReachIn, IsReachAt, IsReachOfAct, IsReachOfEntry};
+ghost use Rattle.jh_history.specs.Grants.{devices_of};
+ghost use Rattle.jh_history.specs.Due.{irq_of, act_of, await_of, state_act, call_of, is_other_due, is_idle_but, caller_act, next_act, entry_by, due_at};
+ghost use Rattle.jh_history.specs.Admitted.{IsWellFormedAct};
 
 use crate::access::{Access, Reach, Wanted};
 use crate::call::OpenCall;
@@ -26,8 +26,8 @@ use jh_script::Op;
 
 /// The access that the operation makes.
 fn wanted_of(op: Op) -> Option<Wanted>
-    requires { IsPlain op }
-    ensures wanted { result ≡ wanted_of_lem op }
+    requires { IsWellFormed op }
+    ensures wanted { result ≡ wanted_of op }
     ensures few { IfSome result (λ wanted. wanted.width ≤ 8) }
 {
     match op {
@@ -52,7 +52,7 @@ fn wanted_of(op: Op) -> Option<Wanted>
 
 /// Whether a CPU in this state goes on with its program.
 fn goes_on(state: Cpu) -> bool
-    ensures { result ≡ goes_on_lem state }
+    ensures { result ≡ goes_on state }
 {
     !state.asked && !state.stopped && is_running(state.mode)
 }
@@ -60,8 +60,8 @@ fn goes_on(state: Cpu) -> bool
 /// The operation that a CPU in this state is about to make.
 fn pending_op<K: Known>(known: &K, cpu: u8, state: Cpu) -> Option<Op>
     requires { cpu < 16 }
-    ensures op { (i : TheImage) (f : Facts) → K.Knows known.now i f → result ≡ pending_op_lem i f state cpu }
-    ensures plain { IfSome result IsPlain }
+    ensures op { (i : TheImage) (f : Facts) → K.Knows known.now i f → result ≡ pending_op i f state cpu }
+    ensures plain { IfSome result IsWellFormed }
 {
     if goes_on(state) {
         known.operation(cpu, state)
@@ -95,7 +95,7 @@ pub fn reach_of<K: Known>(known: &K, cpu: u8) -> Reach
 
 /// The devices of the cell.
 fn devices_of<K: Known>(known: &K, cell: u32) -> Devices
-    ensures { (i : TheImage) (f : Facts) → K.Knows known.now i f → result ≡ devices_of_lem i f cell }
+    ensures { (i : TheImage) (f : Facts) → K.Knows known.now i f → result ≡ devices_of i f cell }
 {
     match known.cell(u64::from(cell)) {
         Some(config) => Devices::new(cell, config.pci_devices.as_slice(), known.endpoints()),
@@ -105,7 +105,7 @@ fn devices_of<K: Known>(known: &K, cell: u32) -> Devices
 
 /// The number that an access of the cell reads where it reaches.
 fn read_of<K: Known>(known: &K, cell: u32, reach: &Reach) -> Option<u64>
-    ensures { (i : TheImage) (f : Facts) → K.Knows known.now i f → result ≡ read_of_lem f.byte (devices_of_lem i f cell) reach.now }
+    ensures { (i : TheImage) (f : Facts) → K.Knows known.now i f → result ≡ read_of f.byte (devices_of i f cell) reach.now }
 {
     match reach {
         Reach::Memory(places) => Some(known.value(places)),
@@ -124,7 +124,7 @@ fn read_of<K: Known>(known: &K, cell: u32, reach: &Reach) -> Option<u64>
 
 /// Whether the access reaches something.
 fn is_reached(reach: &Reach) -> bool
-    ensures { result ≡ is_reached_lem reach.now }
+    ensures { result ≡ is_reached reach.now }
 {
     match reach {
         Reach::Memory(_) => true,
@@ -137,7 +137,7 @@ fn is_reached(reach: &Reach) -> bool
 
 /// What an await that read this comes to, where it is due.
 fn await_of(width: u8, at: u64, value: u64, got: Option<u64>) -> Option<Act>
-    ensures { result ≡ await_of_lem width at value got }
+    ensures { result ≡ await_of width at value got }
 {
     match got {
         None => Some(Act::Await {
@@ -163,9 +163,9 @@ fn await_of(width: u8, at: u64, value: u64, got: Option<u64>) -> Option<Act>
 
 /// The interrupt that the cell takes, where a vector of one of its devices is pending.
 fn irq_of<K: Known>(known: &K, cell: u32) -> Option<Act>
-    ensures act { (i : TheImage) (f : Facts) → K.Knows known.now i f → result ≡ irq_of_lem cell f.endpoints }
+    ensures act { (i : TheImage) (f : Facts) → K.Knows known.now i f → result ≡ irq_of cell f.endpoints }
     ensures reached { (i : TheImage) (f : Facts) (found : TheReach) → IfSome result (λ act. IsReachOfAct i f cell act found) }
-    ensures plain { IfSome result IsPlainAct }
+    ensures plain { IfSome result IsWellFormedAct }
 {
     match known.endpoints().pending(cell) {
         Some((device, vector)) => Some(Act::Irq { device, vector }),
@@ -175,10 +175,10 @@ fn irq_of<K: Known>(known: &K, cell: u32) -> Option<Act>
 
 /// What the cell's operation comes to, where it is due; `reach` is what its access reaches.
 fn act_of<K: Known>(known: &K, cell: u32, op: Op, reach: &Reach) -> Option<Act>
-    requires { IsPlain op }
-    ensures act { (i : TheImage) (f : Facts) → K.Knows known.now i f → IsReachOf i f cell op reach.now → result ≡ act_of_lem i f cell op }
+    requires { IsWellFormed op }
+    ensures act { (i : TheImage) (f : Facts) → K.Knows known.now i f → IsReachOf i f cell op reach.now → result ≡ act_of i f cell op }
     ensures reached { (i : TheImage) (f : Facts) → IsReachOf i f cell op reach.now → IfSome result (λ act. IsReachOfAct i f cell act reach.now) }
-    ensures plain { IfSome result IsPlainAct }
+    ensures plain { IfSome result IsWellFormedAct }
 {
     match op {
         Op::Read { width, at } => {
@@ -211,9 +211,9 @@ fn act_of<K: Known>(known: &K, cell: u32, op: Op, reach: &Reach) -> Option<Act>
 /// about to make.
 fn state_act<K: Known>(known: &K, cpu: u8, state: Cpu, reach: &Reach) -> Option<Act>
     requires { cpu < 16 }
-    ensures act { (i : TheImage) (f : Facts) → K.Knows known.now i f → IsReachIn i f state cpu reach.now → result ≡ state_act_lem i f state cpu }
+    ensures act { (i : TheImage) (f : Facts) → K.Knows known.now i f → IsReachIn i f state cpu reach.now → result ≡ state_act i f state cpu }
     ensures reached { (i : TheImage) (f : Facts) → K.Knows known.now i f → IsReachIn i f state cpu reach.now → IfSome result (λ act. IsReachOfAct i f state.owner act reach.now) }
-    ensures plain { IfSome result IsPlainAct }
+    ensures plain { IfSome result IsWellFormedAct }
 {
     if state.asked {
         return Some(Act::Stop);
@@ -227,7 +227,7 @@ fn state_act<K: Known>(known: &K, cpu: u8, state: Cpu, reach: &Reach) -> Option<
 /// Whether an await of the value is due, where its read got this: it is where it read the value, or
 /// where the read is a violation.
 fn is_await_due(value: u64, got: Option<u64>) -> bool
-    ensures { (width at : ℕ) → result ≡ is_some (await_of_lem width at value got) }
+    ensures { (width at : ℕ) → result ≡ is_some (await_of width at value got) }
 {
     match got {
         None => true,
@@ -237,8 +237,8 @@ fn is_await_due(value: u64, got: Option<u64>) -> bool
 
 /// Whether the cell's operation is due.
 fn is_op_due<K: Known>(known: &K, cell: u32, op: Op) -> bool
-    requires { IsPlain op }
-    ensures { (i : TheImage) (f : Facts) → K.Knows known.now i f → result ≡ is_some (act_of_lem i f cell op) }
+    requires { IsWellFormed op }
+    ensures { (i : TheImage) (f : Facts) → K.Knows known.now i f → result ≡ is_some (act_of i f cell op) }
 {
     match op {
         Op::Read { .. } | Op::Write { .. } | Op::Fetch { .. } => true,
@@ -258,7 +258,7 @@ fn is_op_due<K: Known>(known: &K, cell: u32, op: Op) -> bool
 /// Whether a CPU in this state has something due.
 fn is_state_due<K: Known>(known: &K, cpu: u8, state: Cpu) -> bool
     requires { cpu < 16 }
-    ensures { (i : TheImage) (f : Facts) → K.Knows known.now i f → result ≡ is_some (state_act_lem i f state cpu) }
+    ensures { (i : TheImage) (f : Facts) → K.Knows known.now i f → result ≡ is_some (state_act i f state cpu) }
 {
     if state.asked {
         return true;
@@ -271,7 +271,7 @@ fn is_state_due<K: Known>(known: &K, cpu: u8, state: Cpu) -> bool
 
 /// The call that is open, where the CPU made it.
 fn call_of<K: Known>(known: &K, cpu: u8) -> Option<&OpenCall>
-    ensures { (i : TheImage) (f : Facts) → K.Knows known.now i f → option_copied result ≡ call_of_lem f cpu }
+    ensures { (i : TheImage) (f : Facts) → K.Knows known.now i f → option_copied result ≡ call_of f cpu }
 {
     match known.call() {
         Some(begun) => {
@@ -288,14 +288,14 @@ fn call_of<K: Known>(known: &K, cpu: u8) -> Option<&OpenCall>
 /// Whether the CPU is another of the board's than the caller, and has something due by its own program.
 fn is_other_due<K: Known>(known: &K, caller: u8, cpu: u8) -> bool
     requires { cpu < 16 }
-    ensures { (i : TheImage) (f : Facts) → K.Knows known.now i f → result ≡ is_other_due_lem i f caller cpu }
+    ensures { (i : TheImage) (f : Facts) → K.Knows known.now i f → result ≡ is_other_due i f caller cpu }
 {
     known.has_cpu(cpu) && cpu != caller && is_state_due(known, cpu, known.cpu(cpu))
 }
 
 /// Whether any CPU is.
 fn any_other_due<K: Known>(known: &K, caller: u8) -> bool
-    ensures { (i : TheImage) (f : Facts) → K.Knows known.now i f → result ≡ any_below (is_other_due_lem i f caller) 16 }
+    ensures { (i : TheImage) (f : Facts) → K.Knows known.now i f → result ≡ any_below (is_other_due i f caller) 16 }
 {
     for cpu in 0..16u8 {
         if is_other_due(known, caller, cpu) {
@@ -307,16 +307,16 @@ fn any_other_due<K: Known>(known: &K, caller: u8) -> bool
 
 /// Whether no CPU but the caller has anything due, each by its own program.
 pub(crate) fn is_idle_but<K: Known>(known: &K, caller: u8) -> bool
-    ensures { (i : TheImage) (f : Facts) → K.Knows known.now i f → result ≡ is_idle_but_lem i f caller }
+    ensures { (i : TheImage) (f : Facts) → K.Knows known.now i f → result ≡ is_idle_but i f caller }
 {
     !any_other_due(known, caller)
 }
 
 /// What the caller of the call does next.
 fn caller_act<K: Known>(known: &K, state: Cpu, begun: &OpenCall) -> Result<Option<Act>, NoMemory>
-    ensures act { (i : TheImage) (f : Facts) → K.Knows known.now i f → IfOk result (λ act. act ≡ caller_act_lem i f state begun.now) }
+    ensures act { (i : TheImage) (f : Facts) → K.Knows known.now i f → IfOk result (λ act. act ≡ caller_act i f state begun.now) }
     ensures reached { (i : TheImage) (f : Facts) (cell : ℕ) (found : TheReach) → IfOk result (λ act. IfSome act (λ act. IsReachOfAct i f cell act found)) }
-    ensures plain { IfOk result (λ act. IfSome act IsPlainAct) }
+    ensures plain { IfOk result (λ act. IfSome act IsWellFormedAct) }
 {
     if state.asked {
         return Ok(Some(Act::Stop));
@@ -329,7 +329,7 @@ fn caller_act<K: Known>(known: &K, state: Cpu, begun: &OpenCall) -> Result<Optio
 
 /// Whether the caller of the call has something due.
 fn is_caller_due<K: Known>(known: &K, state: Cpu, begun: &OpenCall) -> bool
-    ensures { (i : TheImage) (f : Facts) → K.Knows known.now i f → result ≡ is_some (caller_act_lem i f state begun.now) }
+    ensures { (i : TheImage) (f : Facts) → K.Knows known.now i f → result ≡ is_some (caller_act i f state begun.now) }
 {
     if state.asked {
         return true;
@@ -345,9 +345,9 @@ fn next_act<K: Known>(
     reach: &Reach,
 ) -> Result<Option<Act>, NoMemory>
     requires { cpu < 16 }
-    ensures act { (i : TheImage) (f : Facts) → K.Knows known.now i f → IsReachIn i f state cpu reach.now → IfOk result (λ act. act ≡ next_act_lem i f state cpu) }
+    ensures act { (i : TheImage) (f : Facts) → K.Knows known.now i f → IsReachIn i f state cpu reach.now → IfOk result (λ act. act ≡ next_act i f state cpu) }
     ensures reached { (i : TheImage) (f : Facts) → K.Knows known.now i f → IsReachIn i f state cpu reach.now → IfOk result (λ act. IfSome act (λ act. IsReachOfAct i f state.owner act reach.now)) }
-    ensures plain { IfOk result (λ act. IfSome act IsPlainAct) }
+    ensures plain { IfOk result (λ act. IfSome act IsWellFormedAct) }
 {
     match call_of(known, cpu) {
         Some(begun) => caller_act(known, state, begun),
@@ -358,7 +358,7 @@ fn next_act<K: Known>(
 /// Whether a CPU in this state has something due.
 fn is_next_due<K: Known>(known: &K, cpu: u8, state: Cpu) -> bool
     requires { cpu < 16 }
-    ensures { (i : TheImage) (f : Facts) → K.Knows known.now i f → result ≡ is_some (next_act_lem i f state cpu) }
+    ensures { (i : TheImage) (f : Facts) → K.Knows known.now i f → result ≡ is_some (next_act i f state cpu) }
 {
     match call_of(known, cpu) {
         Some(begun) => is_caller_due(known, state, begun),
@@ -368,7 +368,7 @@ fn is_next_due<K: Known>(known: &K, cpu: u8, state: Cpu) -> bool
 
 /// The CPU's act as an entry, in the name of its owner.
 fn entry_by(cpu: u8, cell: u32, act: Option<Act>) -> Option<Entry>
-    ensures { result ≡ option_map (entry_by_lem cpu cell) act }
+    ensures { result ≡ option_map (entry_by cpu cell) act }
 {
     match act {
         None => None,
@@ -383,7 +383,7 @@ pub fn next_of<K: Known>(known: &K, cpu: u8, reach: &Reach) -> Result<Option<Ent
     ensures due { (i : TheImage) (f : Facts) → K.Knows known.now i f → IsReachAt i f cpu reach.now → IfOk result (λ entry. entry ≡ due_at i f cpu) }
     ensures reached { (i : TheImage) (f : Facts) → K.Knows known.now i f → IsReachAt i f cpu reach.now → IfOk result (λ entry. IfSome entry (λ entry. IsReachOfEntry i f entry reach.now)) }
     ensures cpu { IfOk result (λ entry. IfSome entry (λ entry. entry.cpu ≡ cpu)) }
-    ensures plain { IfOk result (λ entry. IfSome entry (λ entry. IsPlainAct entry.act)) }
+    ensures plain { IfOk result (λ entry. IfSome entry (λ entry. IsWellFormedAct entry.act)) }
 {
     if !known.has_cpu(cpu) {
         return Ok(None);
@@ -405,7 +405,7 @@ pub fn is_due<K: Known>(known: &K, cpu: u8) -> bool
 /// something due.
 pub fn none_due<K: Known>(known: &K, first: u8) -> bool
     requires { first < 16 }
-    ensures { (i : TheImage) (f : Facts) → K.Knows known.now i f → ((cpu : ℕ) → IsTrue (is_cpu_set_lem i.system.root.cpu_set cpu) → cpu < 16) → IsTrue result ↔ ((cpu : ℕ) → due_at i f cpu ≡ None) }
+    ensures { (i : TheImage) (f : Facts) → K.Knows known.now i f → ((cpu : ℕ) → IsTrue (is_cpu_set i.system.root.cpu_set cpu) → cpu < 16) → IsTrue result ↔ ((cpu : ℕ) → due_at i f cpu ≡ None) }
 {
     for k in 0..16u8 {
         if is_due(known, (first + k) % 16) {

@@ -9,10 +9,10 @@ ghost use Rattle.jh_cellcfg.specs.declared.config.CellConfig.{CellConfig as TheC
 ghost use Rattle.jh_cellcfg.specs.declared.live.Live.{Live as TheLive};
 ghost use Rattle.jh_check.specs.Refusals.{any_below};
 ghost use Rattle.jh_history.specs.Facts.{Facts};
-ghost use Rattle.jh_history.specs.Lives.{is_on_board as is_on_board_lem, live_in as live_in_lem};
+ghost use Rattle.jh_history.specs.Lives.{is_on_board, live_in};
 ghost use Rattle.jh_history.specs.Cpus.{cpu_after};
 ghost use Rattle.jh_history.specs.Phases.{configs_of};
-ghost use Rattle.jh_history.specs.Pages.{on_page as on_page_lem, named_cell as named_cell_lem, is_left as is_left_lem, failing as failing_lem, unless_good as unless_good_lem, asking as asking_lem, committing as committing_lem, page_write_by};
+ghost use Rattle.jh_history.specs.Pages.{on_page, named_cell, is_left, failing, unless_good, asking, committing, page_write_by};
 
 use crate::call::{OpenCall, Phase};
 use crate::cells::is_on_board;
@@ -29,7 +29,7 @@ use jh_script::Image;
 
 /// A write into the page of the cell.
 fn on_page(change: PageChange, cell: &CellConfig) -> PageWrite
-    ensures { result ≡ on_page_lem change cell.now }
+    ensures { result ≡ on_page change cell.now }
 {
     PageWrite {
         cell: cell.id,
@@ -39,7 +39,7 @@ fn on_page(change: PageChange, cell: &CellConfig) -> PageWrite
 
 /// The configuration of the cell with the id among these.
 pub(crate) fn live_in(cells: &[CellConfig], id: u64) -> Option<&CellConfig>
-    ensures { (lives : List TheLive) → configs_of lives ≡ cells.now → option_copied result ≡ live_in_lem lives id }
+    ensures { (lives : List TheLive) → configs_of lives ≡ cells.now → option_copied result ≡ live_in lives id }
 {
     for cell in cells {
         if u64::from(cell.id) == id {
@@ -51,7 +51,7 @@ pub(crate) fn live_in(cells: &[CellConfig], id: u64) -> Option<&CellConfig>
 
 /// The live cell that the call names.
 fn named_cell<'a>(cells: &'a [CellConfig], call: &Call) -> Option<&'a CellConfig>
-    ensures { (lives : List TheLive) → configs_of lives ≡ cells.now → option_copied result ≡ named_cell_lem lives call.now }
+    ensures { (lives : List TheLive) → configs_of lives ≡ cells.now → option_copied result ≡ named_cell lives call.now }
 {
     match *call {
         Call::Start { id } | Call::Loadable { id } | Call::Destroy { id } => live_in(cells, id),
@@ -61,7 +61,7 @@ fn named_cell<'a>(cells: &'a [CellConfig], call: &Call) -> Option<&'a CellConfig
 
 /// Whether the CPU is the cell's, and hasn't failed.
 fn is_left(cell: u32, cpu: Cpu) -> bool
-    ensures { result ≡ is_left_lem cell cpu }
+    ensures { result ≡ is_left cell cpu }
 {
     cpu.owner == cell
         && match cpu.mode {
@@ -73,7 +73,7 @@ fn is_left(cell: u32, cpu: Cpu) -> bool
 /// Whether one of the CPUs is the cell's, and hasn't failed.
 fn is_any_left(image: &Image, cell: u32, cpus: &[Cpu]) -> bool
     requires { length cpus.now ≡ 16 }
-    ensures { (state : ℕ → TheCpu) → ((i : ℕ) → i < 16 → slice_get cpus.now i ≡ Some (state i)) → result ≡ any_below (λ i. is_on_board_lem image.now i && is_left_lem cell (state i)) 16 }
+    ensures { (state : ℕ → TheCpu) → ((i : ℕ) → i < 16 → slice_get cpus.now i ≡ Some (state i)) → result ≡ any_below (λ i. is_on_board image.now i && is_left cell (state i)) 16 }
 {
     for i in 0..16u8 {
         if is_on_board(image, i) && is_left(cell, cpus[usize::from(i)]) {
@@ -86,7 +86,7 @@ fn is_any_left(image: &Image, cell: u32, cpus: &[Cpu]) -> bool
 /// A violation after which all CPUs of a cell besides root have failed puts it into the state FAILED.
 fn failing(image: &Image, cpus: &[Cpu], entry: &Entry) -> Option<PageWrite>
     requires { length cpus.now ≡ 16 }
-    ensures { (f : Facts) → ((i : ℕ) → i < 16 → slice_get cpus.now i ≡ Some (cpu_after image.now f entry.now i)) → result ≡ failing_lem image.now f entry.now }
+    ensures { (f : Facts) → ((i : ℕ) → i < 16 → slice_get cpus.now i ≡ Some (cpu_after image.now f entry.now i)) → result ≡ failing image.now f entry.now }
 {
     if entry.cell == image.system.root.id || is_any_left(image, entry.cell, cpus) {
         return None;
@@ -98,14 +98,14 @@ fn failing(image: &Image, cpus: &[Cpu], entry: &Entry) -> Option<PageWrite>
 }
 
 fn unless_good(good: bool, write: Option<PageWrite>) -> Option<PageWrite>
-    ensures { result ≡ unless_good_lem good write }
+    ensures { result ≡ unless_good good write }
 {
     if good { None } else { write }
 }
 
 /// At a Decide that goes on, the cell is asked to shut down, unless it is passive.
 fn asking(cells: &[CellConfig], call: &Call) -> Option<PageWrite>
-    ensures { (lives : List TheLive) → configs_of lives ≡ cells.now → result ≡ asking_lem lives call.now }
+    ensures { (lives : List TheLive) → configs_of lives ≡ cells.now → result ≡ asking lives call.now }
 {
     match named_cell(cells, call) {
         Some(cell) => {
@@ -121,7 +121,7 @@ fn asking(cells: &[CellConfig], call: &Call) -> Option<PageWrite>
 
 /// The change of the page, where there is a cell.
 fn on_page_of(change: PageChange, cell: Option<&CellConfig>) -> Option<PageWrite>
-    ensures { result ≡ option_map (on_page_lem change) (option_copied cell.entry) }
+    ensures { result ≡ option_map (on_page change) (option_copied cell.entry) }
 {
     match cell {
         Some(cell) => Some(on_page(change, cell)),
@@ -131,7 +131,7 @@ fn on_page_of(change: PageChange, cell: Option<&CellConfig>) -> Option<PageWrite
 
 /// A fresh page of the cell.
 fn fresh_of(state: u32, window: u64, cell: Option<&CellConfig>) -> Option<PageWrite>
-    ensures { result ≡ option_map (λ (c : TheConfig). on_page_lem (Fresh state c.console window) c) (option_copied cell.entry) }
+    ensures { result ≡ option_map (λ (c : TheConfig). on_page (Fresh state c.console window) c) (option_copied cell.entry) }
 {
     match cell {
         Some(cell) => {
@@ -160,7 +160,7 @@ pub(crate) fn coming_in(phase: &Phase) -> Option<&CellConfig>
 /// By the Commit of a create and of a start the page is fresh, by that of a set loadable its state is
 /// SHUT_DOWN.
 fn committing(window: u64, cells: &[CellConfig], begun: &OpenCall) -> Option<PageWrite>
-    ensures { (lives : List TheLive) → configs_of lives ≡ cells.now → result ≡ committing_lem window lives begun.now.call begun.now.phase }
+    ensures { (lives : List TheLive) → configs_of lives ≡ cells.now → result ≡ committing window lives begun.now.call begun.now.phase }
 {
     match begun.call {
         Call::Create { .. } => fresh_of(STATE_SHUT_DOWN, window, coming_in(&begun.phase)),
@@ -174,7 +174,7 @@ fn committing(window: u64, cells: &[CellConfig], begun: &OpenCall) -> Option<Pag
 
 /// What a Decide that goes on writes.
 fn at_decide(cells: &[CellConfig], call: Option<&OpenCall>) -> Option<PageWrite>
-    ensures { (lives : List TheLive) → configs_of lives ≡ cells.now → result ≡ option_and_then (λ (o : TheOpenCall). asking_lem lives o.call) (option_copied call.entry) }
+    ensures { (lives : List TheLive) → configs_of lives ≡ cells.now → result ≡ option_and_then (λ (o : TheOpenCall). asking lives o.call) (option_copied call.entry) }
 {
     match call {
         Some(begun) => asking(cells, &begun.call),
@@ -184,7 +184,8 @@ fn at_decide(cells: &[CellConfig], call: Option<&OpenCall>) -> Option<PageWrite>
 
 /// What a Settle writes at which the cell's time is over.
 fn at_timeout(cells: &[CellConfig], call: Option<&OpenCall>) -> Option<PageWrite>
-    ensures { (lives : List TheLive) → configs_of lives ≡ cells.now → result ≡ option_and_then (λ (o : TheOpenCall). option_map (on_page_lem (State STATE_FAILED)) (named_cell_lem lives o.call)) (option_copied call.entry) }
+    ensures { (lives : List TheLive) → configs_of lives ≡ cells.now
+        → result ≡ option_and_then (λ (o : TheOpenCall). option_map (on_page (State STATE_FAILED)) (named_cell lives o.call)) (option_copied call.entry) }
 {
     match call {
         Some(begun) => on_page_of(
@@ -197,7 +198,7 @@ fn at_timeout(cells: &[CellConfig], call: Option<&OpenCall>) -> Option<PageWrite
 
 /// What a Commit writes.
 fn at_commit(window: u64, cells: &[CellConfig], call: Option<&OpenCall>) -> Option<PageWrite>
-    ensures { (lives : List TheLive) → configs_of lives ≡ cells.now → result ≡ option_and_then (λ (o : TheOpenCall). committing_lem window lives o.call o.phase) (option_copied call.entry) }
+    ensures { (lives : List TheLive) → configs_of lives ≡ cells.now → result ≡ option_and_then (λ (o : TheOpenCall). committing window lives o.call o.phase) (option_copied call.entry) }
 {
     match call {
         Some(begun) => committing(window, cells, begun),
@@ -215,7 +216,9 @@ pub fn page_write(
     entry: &Entry,
 ) -> Option<PageWrite>
     requires { length cpus.now ≡ 16 }
-    ensures { (f : Facts) → configs_of f.cells ≡ cells.now → f.call ≡ option_copied call.entry → ((i : ℕ) → i < 16 → slice_get cpus.now i ≡ Some (cpu_after image.now f entry.now i)) → result ≡ page_write_by image.now f entry.now entry.now.act }
+    ensures { (f : Facts) → configs_of f.cells ≡ cells.now → f.call ≡ option_copied call.entry
+        → ((i : ℕ) → i < 16 → slice_get cpus.now i ≡ Some (cpu_after image.now f entry.now i))
+        → result ≡ page_write_by image.now f entry.now entry.now.act }
 {
     match entry.act {
         Act::Read { got, .. } | Act::Fetch { got, .. } => {

@@ -6,15 +6,15 @@ ghost use Rattle.jh_check.specs.Refusals.{any_below};
 ghost use Rattle.jh_comm.specs.Page.{word_in};
 ghost use Rattle.jh_history.specs.declared.place.Place.TheVariants.{Page};
 ghost use Rattle.jh_history.specs.Facts.{Facts};
-ghost use Rattle.jh_history.specs.Phases.{keeps_decide as keeps_decide_lem, keeps_commit as keeps_commit_lem, id_refusal as id_refusal_lem, first_refusal as first_refusal_lem, is_down as is_down_lem, is_over as is_over_lem, settled_by as settled_by_lem, heard_by as heard_by_lem, state_word as state_word_lem, reply_word as reply_word_lem, settled_of as settled_of_lem, heard_of as heard_of_lem, decision as decision_lem, phase_act as phase_act_lem};
-ghost use Rattle.jh_history.specs.Pages.{named_cell as named_cell_lem};
+ghost use Rattle.jh_history.specs.Phases.{keeps_decide, keeps_commit, id_refusal, first_refusal, is_down, is_over, settled_by, heard_by, state_word, reply_word, settled_of, heard_of, decision, phase_act};
+ghost use Rattle.jh_history.specs.Pages.{named_cell};
 ghost use Rattle.jh_history.specs.declared.entry.Settled.{Settled as TheSettled};
 ghost use Rattle.jh_history.specs.declared.entry.Heard.{Heard as TheHeard};
 ghost use Rattle.jh_history.specs.declared.entry.Act.TheVariants.{Settle, Noted};
 ghost use Rattle.jh_history.specs.Alone.{is_phase};
-ghost use Rattle.jh_history.specs.Calls.{is_named as is_named_lem};
-ghost use Rattle.jh_cellcfg.specs.Cells.{is_passive as is_passive_lem};
-ghost use Rattle.jh_history.specs.Due.{is_idle_but as is_idle_but_lem};
+ghost use Rattle.jh_history.specs.Calls.{is_named};
+ghost use Rattle.jh_cellcfg.specs.Cells.{is_passive};
+ghost use Rattle.jh_history.specs.Due.{is_idle_but};
 
 use crate::call::{OpenCall, Phase};
 use crate::change::is_running;
@@ -35,7 +35,7 @@ const REPLY_AT: u64 = 16;
 
 /// Whether the call is about the cell with the id.
 pub(crate) fn is_named(call: &Call, id: u64) -> bool
-    ensures { result ≡ is_named_lem call.now id }
+    ensures { result ≡ is_named call.now id }
 {
     match *call {
         Call::Start { id: cell } | Call::Loadable { id: cell } | Call::Destroy { id: cell } => {
@@ -60,14 +60,14 @@ fn word_at<K: Known>(known: &K, cell: u32, offset: u64) -> u32
 
 /// The state of the live cell.
 pub(crate) fn state_word<K: Known>(known: &K, cell: u32) -> u32
-    ensures { (i : TheImage) (f : Facts) → K.Knows known.now i f → result ≡ state_word_lem f cell }
+    ensures { (i : TheImage) (f : Facts) → K.Knows known.now i f → result ≡ state_word f cell }
 {
     word_at(known, cell, STATE_AT)
 }
 
 /// What the live cell replied.
 fn reply_word<K: Known>(known: &K, cell: u32) -> u32
-    ensures { (i : TheImage) (f : Facts) → K.Knows known.now i f → result ≡ reply_word_lem f cell }
+    ensures { (i : TheImage) (f : Facts) → K.Knows known.now i f → result ≡ reply_word f cell }
 {
     word_at(known, cell, REPLY_AT)
 }
@@ -75,7 +75,7 @@ fn reply_word<K: Known>(known: &K, cell: u32) -> u32
 /// Whether the Decide waits for the CPU.
 fn keeps_decide<K: Known>(known: &K, caller: u8, cpu: u8) -> bool
     requires { cpu < 16 }
-    ensures { (i : TheImage) (f : Facts) → K.Knows known.now i f → result ≡ keeps_decide_lem i caller cpu (f.cpu cpu) }
+    ensures { (i : TheImage) (f : Facts) → K.Knows known.now i f → result ≡ keeps_decide i caller cpu (f.cpu cpu) }
 {
     let state = known.cpu(cpu);
     known.has_cpu(cpu)
@@ -87,7 +87,7 @@ fn keeps_decide<K: Known>(known: &K, caller: u8, cpu: u8) -> bool
 
 /// Whether the Decide waits for any.
 fn any_keeps_decide<K: Known>(known: &K, caller: u8) -> bool
-    ensures { (i : TheImage) (f : Facts) → K.Knows known.now i f → result ≡ any_below (λ k. keeps_decide_lem i caller k (f.cpu k)) 16 }
+    ensures { (i : TheImage) (f : Facts) → K.Knows known.now i f → result ≡ any_below (λ k. keeps_decide i caller k (f.cpu k)) 16 }
 {
     for cpu in 0..16u8 {
         if keeps_decide(known, caller, cpu) {
@@ -100,7 +100,7 @@ fn any_keeps_decide<K: Known>(known: &K, caller: u8) -> bool
 /// Whether the Commit waits for the CPU.
 fn keeps_commit<K: Known>(known: &K, call: &Call, cpu: u8) -> bool
     requires { cpu < 16 }
-    ensures { (i : TheImage) (f : Facts) → K.Knows known.now i f → result ≡ keeps_commit_lem i call.now cpu (f.cpu cpu) }
+    ensures { (i : TheImage) (f : Facts) → K.Knows known.now i f → result ≡ keeps_commit i call.now cpu (f.cpu cpu) }
 {
     let state = known.cpu(cpu);
     known.has_cpu(cpu)
@@ -111,7 +111,7 @@ fn keeps_commit<K: Known>(known: &K, call: &Call, cpu: u8) -> bool
 
 /// Whether the Commit waits for any.
 fn any_keeps_commit<K: Known>(known: &K, call: &Call) -> bool
-    ensures { (i : TheImage) (f : Facts) → K.Knows known.now i f → result ≡ any_below (λ k. keeps_commit_lem i call.now k (f.cpu k)) 16 }
+    ensures { (i : TheImage) (f : Facts) → K.Knows known.now i f → result ≡ any_below (λ k. keeps_commit i call.now k (f.cpu k)) 16 }
 {
     for cpu in 0..16u8 {
         if keeps_commit(known, call, cpu) {
@@ -123,22 +123,22 @@ fn any_keeps_commit<K: Known>(known: &K, call: &Call) -> bool
 
 /// Whether a cell in that state doesn't run.
 fn is_down(state: u32) -> bool
-    ensures { result ≡ is_down_lem state }
+    ensures { result ≡ is_down state }
 {
     state == STATE_SHUT_DOWN || state == STATE_FAILED
 }
 
 /// Whether the cell has had its time: so many entries, or no CPU but the caller has anything due.
 fn is_over<K: Known>(known: &K, caller: u8, timeout: u64, waited: u64) -> bool
-    ensures { (i : TheImage) (f : Facts) → K.Knows known.now i f → result ≡ is_over_lem timeout waited (is_idle_but_lem i f caller) }
+    ensures { (i : TheImage) (f : Facts) → K.Knows known.now i f → result ≡ is_over timeout waited (is_idle_but i f caller) }
 {
     (timeout != 0 && timeout <= waited) || is_idle_but(known, caller)
 }
 
 /// How the cell met the request to shut down, by its own words; nothing yet where it says nothing.
 fn settled_by(passive: bool, state: u32, reply: u32) -> Option<Settled>
-    ensures said { IfSome result (λ how. (over : Bool) → settled_by_lem passive state reply over ≡ Some how) }
-    ensures silent { result ≡ None → (over : Bool) → settled_by_lem passive state reply over ≡ (if over then Some Settled.Timeout else None) }
+    ensures said { IfSome result (λ how. (over : Bool) → settled_by passive state reply over ≡ Some how) }
+    ensures silent { result ≡ None → (over : Bool) → settled_by passive state reply over ≡ (if over then Some Settled.Timeout else None) }
 {
     if passive || is_down(state) || reply == REPLY_REQUEST_APPROVED {
         return Some(Settled::Agreed);
@@ -152,8 +152,8 @@ fn settled_by(passive: bool, state: u32, reply: u32) -> Option<Settled>
 
 /// How the cell met the note of a change, by its own words; nothing yet where it says nothing.
 fn heard_by(state: u32, reply: u32) -> Option<Heard>
-    ensures said { IfSome result (λ how. (over : Bool) → heard_by_lem state reply over ≡ Some how) }
-    ensures silent { result ≡ None → (over : Bool) → heard_by_lem state reply over ≡ (if over then Some Heard.Timeout else None) }
+    ensures said { IfSome result (λ how. (over : Bool) → heard_by state reply over ≡ Some how) }
+    ensures silent { result ≡ None → (over : Bool) → heard_by state reply over ≡ (if over then Some Heard.Timeout else None) }
 {
     if is_down(state) {
         return Some(Heard::Down);
@@ -166,7 +166,7 @@ fn heard_by(state: u32, reply: u32) -> Option<Heard>
 
 /// What a call about the id is refused for, by which cell it is.
 fn id_refusal<K: Known>(known: &K, id: u64) -> Option<i64>
-    ensures { (i : TheImage) (f : Facts) → K.Knows known.now i f → result ≡ id_refusal_lem i f id }
+    ensures { (i : TheImage) (f : Facts) → K.Knows known.now i f → result ≡ id_refusal i f id }
 {
     if known.cell(id).is_none() {
         return Some(ENOENT);
@@ -180,7 +180,7 @@ fn id_refusal<K: Known>(known: &K, id: u64) -> Option<i64>
 
 /// The first refusal, else that of a locked cell.
 fn first_refusal(refusal: Option<i64>, locked: bool) -> Option<i64>
-    ensures { result ≡ first_refusal_lem refusal locked }
+    ensures { result ≡ first_refusal refusal locked }
 {
     match refusal {
         Some(number) => Some(number),
@@ -190,7 +190,7 @@ fn first_refusal(refusal: Option<i64>, locked: bool) -> Option<i64>
 
 /// The live cell that the call names.
 fn named_cell<'a, K: Known>(known: &'a K, call: &Call) -> Option<&'a CellConfig>
-    ensures { (i : TheImage) (f : Facts) → K.Knows known.now i f → option_copied result ≡ named_cell_lem f.cells call.now }
+    ensures { (i : TheImage) (f : Facts) → K.Knows known.now i f → option_copied result ≡ named_cell f.cells call.now }
 {
     match *call {
         Call::Start { id } | Call::Loadable { id } | Call::Destroy { id } => known.live(id),
@@ -200,7 +200,8 @@ fn named_cell<'a, K: Known>(known: &'a K, call: &Call) -> Option<&'a CellConfig>
 
 /// How the cell met the request to shut down; nothing yet where it hasn't.
 fn settled_in<K: Known>(known: &K, caller: u8, cell: &CellConfig, waited: u64) -> Option<Settled>
-    ensures { (i : TheImage) (f : Facts) → K.Knows known.now i f → result ≡ settled_by_lem (is_passive_lem cell.now) (state_word_lem f cell.now.id) (reply_word_lem f cell.now.id) (is_over_lem cell.now.msg_reply_timeout waited (is_idle_but_lem i f caller)) }
+    ensures { (i : TheImage) (f : Facts) → K.Knows known.now i f
+        → result ≡ settled_by (is_passive cell.now) (state_word f cell.now.id) (reply_word f cell.now.id) (is_over cell.now.msg_reply_timeout waited (is_idle_but i f caller)) }
 {
     let state = state_word(known, cell.id);
     let reply = reply_word(known, cell.id);
@@ -218,7 +219,7 @@ fn settled_in<K: Known>(known: &K, caller: u8, cell: &CellConfig, waited: u64) -
 
 /// How the call's cell met the request to shut down; nothing yet where it hasn't.
 fn settled_of<K: Known>(known: &K, caller: u8, call: &Call, waited: u64) -> Option<Settled>
-    ensures { (i : TheImage) (f : Facts) → K.Knows known.now i f → result ≡ settled_of_lem f (is_idle_but_lem i f caller) call.now waited }
+    ensures { (i : TheImage) (f : Facts) → K.Knows known.now i f → result ≡ settled_of f (is_idle_but i f caller) call.now waited }
 {
     match named_cell(known, call) {
         Some(cell) => settled_in(known, caller, cell, waited),
@@ -228,7 +229,7 @@ fn settled_of<K: Known>(known: &K, caller: u8, call: &Call, waited: u64) -> Opti
 
 /// How the cell with the id met the note of a change; nothing yet where it hasn't.
 fn heard_in<K: Known>(known: &K, caller: u8, id: u32, timeout: u64, waited: u64) -> Option<Heard>
-    ensures { (i : TheImage) (f : Facts) → K.Knows known.now i f → result ≡ heard_by_lem (state_word_lem f id) (reply_word_lem f id) (is_over_lem timeout waited (is_idle_but_lem i f caller)) }
+    ensures { (i : TheImage) (f : Facts) → K.Knows known.now i f → result ≡ heard_by (state_word f id) (reply_word f id) (is_over timeout waited (is_idle_but i f caller)) }
 {
     match heard_by(state_word(known, id), reply_word(known, id)) {
         Some(how) => Some(how),
@@ -244,7 +245,7 @@ fn heard_in<K: Known>(known: &K, caller: u8, id: u32, timeout: u64, waited: u64)
 
 /// The same of a live cell; nothing where none has the id.
 fn heard_of<K: Known>(known: &K, caller: u8, id: u32, waited: u64) -> Option<Heard>
-    ensures { (i : TheImage) (f : Facts) → K.Knows known.now i f → result ≡ heard_of_lem f (is_idle_but_lem i f caller) id waited }
+    ensures { (i : TheImage) (f : Facts) → K.Knows known.now i f → result ≡ heard_of f (is_idle_but i f caller) id waited }
 {
     match known.live(u64::from(id)) {
         Some(cell) => heard_in(known, caller, id, cell.msg_reply_timeout, waited),
@@ -254,7 +255,7 @@ fn heard_of<K: Known>(known: &K, caller: u8, id: u32, waited: u64) -> Option<Hea
 
 /// What the call is refused for at its Decide.
 fn decision<K: Known>(known: &K, caller: u8, call: &Call) -> Result<Option<i64>, NoMemory>
-    ensures { (i : TheImage) (f : Facts) → K.Knows known.now i f → IfOk result (λ refused. refused ≡ decision_lem i f caller call.now) }
+    ensures { (i : TheImage) (f : Facts) → K.Knows known.now i f → IfOk result (λ refused. refused ≡ decision i f caller call.now) }
 {
     match *call {
         Call::Create { at } => known.refusal(caller, at),
@@ -292,7 +293,7 @@ fn noted(id: u32, how: Option<Heard>) -> Option<Act>
 /// What is due to the caller in the phase of its call. Other CPUs are asked only where the phase waits for a cell that
 /// says nothing.
 pub(crate) fn phase_act<K: Known>(known: &K, begun: &OpenCall) -> Result<Option<Act>, NoMemory>
-    ensures act { (i : TheImage) (f : Facts) → K.Knows known.now i f → IfOk result (λ act. act ≡ phase_act_lem i f (is_idle_but_lem i f begun.now.caller) begun.now.caller begun.now.call begun.now.phase) }
+    ensures act { (i : TheImage) (f : Facts) → K.Knows known.now i f → IfOk result (λ act. act ≡ phase_act i f (is_idle_but i f begun.now.caller) begun.now.caller begun.now.call begun.now.phase) }
     ensures phase { IfOk result (λ act. IfSome act (λ act. is_phase act ≡ true)) }
 {
     match &begun.phase {
@@ -326,7 +327,7 @@ pub(crate) fn phase_act<K: Known>(known: &K, begun: &OpenCall) -> Result<Option<
 
 /// Whether something is due to the caller in the phase of its call.
 pub(crate) fn is_phase_due<K: Known>(known: &K, begun: &OpenCall) -> bool
-    ensures { (i : TheImage) (f : Facts) → K.Knows known.now i f → result ≡ is_some (phase_act_lem i f (is_idle_but_lem i f begun.now.caller) begun.now.caller begun.now.call begun.now.phase) }
+    ensures { (i : TheImage) (f : Facts) → K.Knows known.now i f → result ≡ is_some (phase_act i f (is_idle_but i f begun.now.caller) begun.now.caller begun.now.call begun.now.phase) }
 {
     match &begun.phase {
         Phase::ToDecide => !any_keeps_decide(known, begun.caller),

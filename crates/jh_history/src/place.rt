@@ -1,6 +1,6 @@
 //! Where bytes are kept.
 ghost use Rattle.std.specs.Prelude.{◌≡◌, ◌+◌, ◌^◌, ◌<◌, ◌≤◌, ◌++◌};
-ghost use Rattle.jh_history.specs.Places.{is_same as is_same_lem, number_of, further as further_lem, places_of_run, IsRun};
+ghost use Rattle.jh_history.specs.Places.{is_same, number_of, further, places_of_run, IsRun};
 
 use std::marker::Model;
 
@@ -16,7 +16,7 @@ pub enum Place {
 impl Place {
     /// Whether the two are one place.
     pub fn is_same(self, other: Place) -> bool
-        ensures { result ≡ is_same_lem self other }
+        ensures { result ≡ is_same self other }
     {
         match self {
             Place::Physical(p) => match other {
@@ -38,7 +38,7 @@ impl Place {
     /// The place so many further.
     pub fn further(self, count: u8) -> Place
         requires { number_of self + count < 2 ^ 64 }
-        ensures { result ≡ further_lem self count }
+        ensures { result ≡ further self count }
     {
         match self {
             Place::Physical(p) => Place::Physical(p + u64::from(count)),

@@ -3,7 +3,7 @@ ghost use Rattle.std.specs.Prelude.{◌≡◌, ◌≤◌, ℕ, length, IsTrue, I
 ghost use Rattle.jh_script.specs.declared.image.Image.{Image as TheImage};
 ghost use Rattle.jh_history.specs.Facts.{Facts};
 ghost use Rattle.jh_history.specs.Phases.{creation_of};
-ghost use Rattle.jh_history.specs.PlainView.{root_byte, Stands};
+ghost use Rattle.jh_history.specs.PlainView.{root_byte, StandsFor};
 ghost use Rattle.jh_history.specs.Sound.{IsSound};
 
 use crate::access::{Access, Reach, Wanted};
@@ -81,7 +81,7 @@ impl<'a> Plain<'a> {
 
     /// What comes of a create by the caller, of the configuration at the address.
     fn creation(&self, caller: u8, at: u64) -> Result<Creation, NoMemory>
-        ensures { (i : TheImage) (f : Facts) → Stands self.now i f × IsSound i f → IfOk result (λ creation. creation ≡ creation_of i f caller at) }
+        ensures { (i : TheImage) (f : Facts) → StandsFor self.now i f × IsSound i f → IfOk result (λ creation. creation ≡ creation_of i f caller at) }
     {
         if is_any_locked(self, self.cells.configs()) {
             return Ok(Creation::Refused { number: EPERM });
@@ -96,10 +96,10 @@ impl<'a> Plain<'a> {
 }
 
 impl<'a> Known for Plain<'a> {
-    ghost use Rattle.jh_history.specs.PlainView.{Stands};
+    ghost use Rattle.jh_history.specs.PlainView.{StandsFor};
     ghost use Rattle.jh_history.specs.Sound.{IsSound};
 
-    ghost Knows = { λ p i f. Stands p i f × IsSound i f };
+    ghost Knows = { λ p i f. StandsFor p i f × IsSound i f };
 
     fn root(&self) -> u32 {
         self.image.system.root.id

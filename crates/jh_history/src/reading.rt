@@ -3,21 +3,18 @@ ghost use Rattle.std.specs.Prelude.{◌≡◌, ◌+◌, ◌%◌, ◌<◌, ◌≤
 ghost use Rattle.jh_num.specs.declared.address.TheConstants.{ADDRESS_END};
 ghost use Rattle.jh_cellcfg.specs.Faults.{header_fault, header_size};
 ghost use Rattle.jh_cellcfg.specs.Reading.{config_of};
-ghost use Rattle.jh_history.specs.Configs.{Reads, refused_for as refused_for_lem, read_whole as read_whole_lem};
-ghost use Rattle.jh_history.specs.ReadView.{bytes_by, read_behind as read_behind_lem, read_by, as_read};
+ghost use Rattle.jh_history.specs.Configs.{Reads, refused_for, read_whole};
+ghost use Rattle.jh_history.specs.ReadView.{bytes_by, read_behind, read_by, as_read};
 
 use crate::boxed::BoxedCell;
 use crate::call::Creation;
-use jh_cellcfg::{ConfigFault, Which, cell_size, read_cell};
+use jh_cellcfg::{ConfigFault, Part, cell_size, read_cell};
 use jh_num::error::{E2BIG, EINVAL};
-use jh_num::{ADDRESS_END, NoMemory, Seq};
+use jh_num::{ADDRESS_END, NoMemory, PAGE_SIZE, Seq};
 use std::alloc::Global;
 
 /// How many bytes a configuration's header has.
 const HEADER: u32 = 132;
-
-/// How many bytes a page has.
-const PAGE: u64 = 4096;
 
 /// Tells what root may read.
 pub trait RootBytes {
@@ -47,7 +44,7 @@ fn in_page(at: u64, end: u64) -> u16
     ensures page { at % 4096 + result ≤ 4096 }
     ensures few { at + result ≤ end }
 {
-    let left = PAGE - at % PAGE;
+    let left = PAGE_SIZE - at % PAGE_SIZE;
     left.min(end - at) as u16
 }
 
@@ -80,11 +77,11 @@ fn bytes_at<R: RootBytes>(
 
 /// What a create is refused for where the header has the fault.
 fn refused_for(fault: &ConfigFault) -> i64
-    ensures { result ≡ refused_for_lem fault.now }
+    ensures { result ≡ refused_for fault.now }
 {
     match fault {
         ConfigFault::Count {
-            which: Which::Total,
+            part: Part::Total,
             ..
         } => E2BIG,
         _ => EINVAL,
@@ -113,7 +110,7 @@ fn read_whole<R: RootBytes>(
     size: u32,
 ) -> Result<Creation, NoMemory>
     requires { 1 ≤ size }
-    ensures { IfOk result (λ read. as_read read ≡ read_whole_lem (bytes_by (R.readable root.now) at size)) }
+    ensures { IfOk result (λ read. as_read read ≡ read_whole (bytes_by (R.readable root.now) at size)) }
 {
     match bytes_at(alloc, root, at, size)? {
         Some(bytes) => told(alloc, bytes.as_slice()),
@@ -128,7 +125,7 @@ fn read_behind<R: RootBytes>(
     at: u64,
     header: &[u8; 132],
 ) -> Result<Creation, NoMemory>
-    ensures { IfOk result (λ read. as_read read ≡ read_behind_lem (R.readable root.now) at header.now (header_fault header.now)) }
+    ensures { IfOk result (λ read. as_read read ≡ read_behind (R.readable root.now) at header.now (header_fault header.now)) }
 {
     match cell_size(header) {
         Ok(size) => read_whole(alloc, root, at, size),

@@ -5,7 +5,7 @@ ghost use Rattle.jh_history.specs.declared.place.Place.{Place as ThePlace};
 ghost use Rattle.jh_history.specs.Places.{over, places_of_run, IsRun};
 ghost use Rattle.jh_ivshmem.specs.declared.spec.Slot.{Slot as TheSlot};
 ghost use Rattle.jh_history.specs.Access.{with_slot, with_slot_if};
-ghost use Rattle.jh_history.specs.Bytes.{preloaded, loaded_byte as loaded_byte_lem};
+ghost use Rattle.jh_history.specs.Bytes.{preloaded, loaded_byte};
 ghost use Rattle.jh_history.specs.declared.comm.PageChange.TheVariants.{State, Message, Fresh};
 ghost use Rattle.jh_history.specs.Pages.{with_page, with_page_write};
 ghost use Rattle.jh_history.specs.Admitted.{IsAdmitted};
@@ -61,7 +61,7 @@ fn preloads_byte(image: &Image, place: u64) -> u8
 /// The byte that the preloads put.
 pub(crate) fn loaded_byte(image: &Image, place: Place) -> u8
     requires { IsAdmitted image.now }
-    ensures { result ≡ loaded_byte_lem image.now place }
+    ensures { result ≡ loaded_byte image.now place }
 {
     match place {
         Place::Physical(p) => preloads_byte(image, p),

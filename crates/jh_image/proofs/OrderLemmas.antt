@@ -1,26 +1,20 @@
 -- The files of a board, read one after another.
-use Rattle.std.proofs.Common.{◌≡◌, ℕ, List, [], ◌∷◌, ◌++◌, map, sym, subst}
-use Rattle.jh_cellcfg.specs.declared.config.SystemConfig.{SystemConfig}
+use Rattle.std.proofs.Common.{ℕ, List, [], ◌∷◌, ◌++◌, map, sym, subst}
 use Rattle.jh_outside.specs.Trail.{Ask, Asks, handed, AsksAll, AsksUntil}
-use Rattle.jh_outside.specs.TrailLaws.{all-both, until-first, until-behind, until-more, until-last}
+use Rattle.jh_outside.specs.TrailLaws.{all-both, until-first, until-behind, until-more}
 use Rattle.jh_image.specs.declared.board.Listing.{Listing}
 use Rattle.jh_image.specs.declared.board.BoardFault.{BoardFault}
 use Rattle.jh_image.specs.declared.board.BoardFault.TheVariants as boards
 use Rattle.jh_image.specs.declared.fault.ImageCause.{ImageCause}
-use Rattle.jh_image.specs.declared.fault.ImageCause.TheVariants.{ReadFault}
 use Rattle.jh_image.specs.Files.{Contents, Lists}
-use Rattle.jh_image.specs.Causes.{IsBoardRefusal, IsUnsound}
-use Rattle.jh_image.specs.Order.{ask_for, preload_name, program_name, board_files, AsksBoard, AsksBoardUntil, until_the_board, until_a_file}
+use Rattle.jh_image.specs.Causes.{IsBoardRefusal}
+use Rattle.jh_image.specs.Order.{ask_for, preload_name, program_name, board_files, AsksBoardUntil, until_the_board, until_a_file}
 
 -- a cause that is no failed read is found in what was handed out
-pub board-asked : (A : Ask → Type 0) (name board : List ℕ) (fault : BoardFault) → A (handed name) → (file : List ℕ) (cause : ImageCause) → IsBoardRefusal board fault file cause → A (ask_for cause name)
-board-asked A name board boards.Json a file cause h = subst (λ k. A (ask_for k name)) (sym h.1) a
-board-asked A name board (boards.Member member) a file cause h = subst (λ k. A (ask_for k name)) (sym h.1) a
-board-asked A name board boards.NoMemory a file cause h = absurd h
-
-pub unsound-asked : (A : Ask → Type 0) (name board system_name : List ℕ) (system : SystemConfig) → A (handed name) → (file : List ℕ) (cause : ImageCause) → IsUnsound board system_name system file cause → A (ask_for cause name)
-unsound-asked A name board system_name system a file ReadFault h = absurd h
-unsound-asked A name board system_name system a file _ h = a
+pub board_asked : (A : Ask → Type 0) (name board : List ℕ) (fault : BoardFault) → A (handed name) → (file : List ℕ) (cause : ImageCause) → IsBoardRefusal board fault file cause → A (ask_for cause name)
+board_asked A name board boards.Json a file cause h = subst (λ k. A (ask_for k name)) (sym h.1) a
+board_asked A name board (boards.Member member) a file cause h = subst (λ k. A (ask_for k name)) (sym h.1) a
+board_asked A name board boards.NoMemory a file cause h = absurd h
 
 module _ {S : Type 0} (one : S → Ask → S → Type 0) (failed : S → List ℕ) (contents : Contents) (board : List ℕ) where
   pub at_the_board : (s t : S) (cause : ImageCause) → Asks one failed s (ask_for cause board ∷ []) t → AsksBoardUntil one failed contents board cause s t

@@ -1,5 +1,5 @@
 -- What stops the reading of a board.
-use Rattle.std.proofs.Common.{◌≡◌, ℕ, ◌≤◌, List, [], subst, sym, refl, inl, inr, arith, Ok, Err}
+use Rattle.std.proofs.Common.{◌≡◌, ℕ, ◌≤◌, List, [], subst, sym, Ok, Err}
 use Rattle.std.specs.Prelude.{OnOk, IfErr, IsErrAnd, Result}
 use Rattle.jh_check.specs.Findings.{findings}
 use Rattle.jh_history.specs.Admitted.{IsAdmittedSystem, root_pages, pool_pages}
@@ -8,16 +8,13 @@ use Rattle.jh_script.specs.declared.image.Preload.{Preload}
 use Rattle.jh_script.specs.declared.image.Program.{Program}
 use Rattle.jh_image.specs.declared.board.Listing.{Listing}
 use Rattle.jh_image.specs.declared.board.ProgramFile.{ProgramFile}
-use Rattle.jh_image.specs.declared.board.BoardFault.{BoardFault}
-use Rattle.jh_image.specs.declared.board.BoardFault.TheVariants as boards
 use Rattle.jh_image.specs.declared.fault.ImageCause.{ImageCause}
-use Rattle.jh_image.specs.declared.fault.ImageCause.TheVariants.{ReadFault, Oversize, Json, Member, Findings, PoolSmall, Program as BadProgram}
+use Rattle.jh_image.specs.declared.fault.ImageCause.TheVariants.{ReadFault, Oversize, PoolSmall, Program as BadProgram}
 use Rattle.jh_image.specs.declared.fault.ImageFault.{ImageFault}
 use Rattle.jh_image.specs.declared.fault.ImageFault.TheVariants.{Refused, NoMemory}
-use Rattle.jh_image.specs.Boards.{IsListingAnswer}
 use Rattle.jh_image.specs.Files.{Contents, HasBytes}
-use Rattle.jh_image.specs.Images.{HasSystem, IsNextProgram, Comes, a_program}
-use Rattle.jh_image.specs.Causes.{IsBadBoard, StopsReading, OnRefused, IsCountedAt, IsCounted, HandsOutNothing, IsRefusal, IsBoardRefusal, IsUnsound, IsPoolSmall, IsProgramUnread}
+use Rattle.jh_image.specs.Images.{IsNextProgram, IsNextFile, a_program}
+use Rattle.jh_image.specs.Causes.{StopsReading, OnRefused, HandsOutNothing, IsRefusal, IsUnsound, IsPoolSmall, IsProgramUnread}
 
 -- an error that is passed up
 pub passed_up : {X E : Type 0} (r : Result X E) (e : E) (P : E → Type 0) → IsErrAnd r (λ y. y ≡ e) → P e → IfErr r P
@@ -34,35 +31,17 @@ on_refused P Q (Refused file cause) f h = f file cause h
 on_refused P Q NoMemory f h = tt
 
 -- a file whose turn comes, and that can't be read or is too large
-pub unread-stops : (contents : Contents) (board name : List ℕ) → Comes contents board name → (file : List ℕ) (cause : ImageCause) → HandsOutNothing contents name file cause → StopsReading contents board file cause
-unread-stops contents board name comes file ReadFault h = subst (λ f. Comes contents board f) (sym h) comes
-unread-stops contents board name comes file Oversize h = subst (λ f. StopsReading contents board f Oversize) (sym h.0) (comes, h.1)
-unread-stops contents board name comes file _ h = absurd h
-
-refusal-stops : (contents : Contents) (board file : List ℕ) (wanted cause : ImageCause) → IsRefusal board wanted file cause → StopsReading contents board board wanted → StopsReading contents board file cause
-refusal-stops contents board file wanted cause h stops = subst (λ f. StopsReading contents board f cause) (sym h.0) (subst (λ k. StopsReading contents board board k) (sym h.1) stops)
-
-bad-board : (contents : Contents) (board bytes : List ℕ) → HasBytes contents board bytes → (fault : BoardFault) → IsListingAnswer bytes (Err fault) → IsBadBoard contents board board fault
-bad-board contents board bytes has fault told = record { file_is = refl; bytes = bytes; has = has; told = told }
-
--- a board whose bytes are refused
-pub board-stops : (contents : Contents) (board bytes : List ℕ) → HasBytes contents board bytes → (fault : BoardFault) → IsListingAnswer bytes (Err fault) → (file : List ℕ) (cause : ImageCause) → IsBoardRefusal board fault file cause → StopsReading contents board file cause
-board-stops contents board bytes has boards.Json told file cause h = refusal-stops contents board file Json cause h (bad-board contents board bytes has boards.Json told)
-board-stops contents board bytes has (boards.Member name) told file cause h = refusal-stops contents board file (Member name) cause h (bad-board contents board bytes has (boards.Member name) told)
-board-stops contents board bytes has boards.NoMemory told file cause h = absurd h
-
--- a system that isn't admitted
-pub unsound-stops : (contents : Contents) (board : List ℕ) (listing : Listing) (system : SystemConfig) → HasSystem contents board listing system → (file : List ℕ) (cause : ImageCause) → IsUnsound board listing.system system file cause → StopsReading contents board file cause
-unsound-stops contents board listing system has file (Findings found) h = record { listing = listing; system = system; has = has; file_is = h.0; found_are = h.1; some = h.2 }
-unsound-stops contents board listing system has file (PoolSmall need have) h = record { listing = listing; system = system; has = has; clean = h.1; file_is = h.0; need_is = h.2; have_is = h.3; few = h.4 }
-unsound-stops contents board listing system has file _ h = absurd h
+pub unread_stops : (contents : Contents) (board name : List ℕ) → IsNextFile contents board name → (file : List ℕ) (cause : ImageCause) → HandsOutNothing contents name file cause → StopsReading contents board file cause
+unread_stops contents board name comes file ReadFault h = subst (λ f. IsNextFile contents board f) (sym h) comes
+unread_stops contents board name comes file Oversize h = subst (λ f. StopsReading contents board f Oversize) (sym h.0) (comes, h.1)
+unread_stops contents board name comes file _ h = absurd h
 
 -- a program whose turn comes, and that can't be read or is none
-pub program-stops : (contents : Contents) (board : List ℕ) (listing : Listing) (system : SystemConfig) (preloads : List Preload) (programs : List Program) (entry : ProgramFile) → IsNextProgram contents board listing system preloads programs entry
+pub program_stops : (contents : Contents) (board : List ℕ) (listing : Listing) (system : SystemConfig) (preloads : List Preload) (programs : List Program) (entry : ProgramFile) → IsNextProgram contents board listing system preloads programs entry
     → (file : List ℕ) (cause : ImageCause) → IsProgramUnread contents entry.file file cause → StopsReading contents board file cause
-program-stops contents board listing system preloads programs entry next file ReadFault h = subst (λ f. Comes contents board f) (sym h) (a_program listing system preloads programs entry next)
-program-stops contents board listing system preloads programs entry next file Oversize h = subst (λ f. StopsReading contents board f Oversize) (sym h.0) (a_program listing system preloads programs entry next, h.1)
-program-stops contents board listing system preloads programs entry next file (BadProgram fault) h = record {
+program_stops contents board listing system preloads programs entry next file ReadFault h = subst (λ f. IsNextFile contents board f) (sym h) (a_program listing system preloads programs entry next)
+program_stops contents board listing system preloads programs entry next file Oversize h = subst (λ f. StopsReading contents board f Oversize) (sym h.0) (a_program listing system preloads programs entry next, h.1)
+program_stops contents board listing system preloads programs entry next file (BadProgram fault) h = record {
   listing = listing;
   system = system;
   preloads = preloads;
@@ -74,37 +53,17 @@ program-stops contents board listing system preloads programs entry next file (B
   has = subst (λ f. HasBytes contents f h.bytes) (sym h.file_is) h.has;
   told = h.told;
 }
-program-stops contents board listing system preloads programs entry next file _ h = absurd h
+program_stops contents board listing system preloads programs entry next file _ h = absurd h
 
 -- where nothing is found, a system with a small pool isn't admitted
-small-unsound : (board name : List ℕ) (system : SystemConfig) → findings system [] ≡ [] → (file : List ℕ) (cause : ImageCause) → IsPoolSmall board system file cause → IsUnsound board name system file cause
-small-unsound board name system clean file (PoolSmall need have) h = (h.0, clean, h.1, h.2, h.3)
-small-unsound board name system clean file _ h = absurd h
+small_unsound : (board name : List ℕ) (system : SystemConfig) → findings system [] ≡ [] → (file : List ℕ) (cause : ImageCause) → IsPoolSmall board system file cause → IsUnsound board name system file cause
+small_unsound board name system clean file (PoolSmall need have) h = (h.0, clean, h.1, h.2, h.3)
+small_unsound board name system clean file _ h = absurd h
 
-pub checked-ok : {X : Type 0} (system : SystemConfig) → findings system [] ≡ [] → (r : Result X ImageFault) → OnOk r (root_pages system ≤ pool_pages system) → OnOk r (IsAdmittedSystem system)
-checked-ok system clean (Ok x) h = record { clean = clean; room = h }
-checked-ok system clean (Err e) h = tt
+pub checked_ok : {X : Type 0} (system : SystemConfig) → findings system [] ≡ [] → (r : Result X ImageFault) → OnOk r (root_pages system ≤ pool_pages system) → OnOk r (IsAdmittedSystem system)
+checked_ok system clean (Ok x) h = record { clean = clean; room = h }
+checked_ok system clean (Err e) h = tt
 
-pub checked-err : {X : Type 0} (board name : List ℕ) (system : SystemConfig) → findings system [] ≡ [] → (r : Result X ImageFault) → IfErr r (OnRefused (IsPoolSmall board system)) → IfErr r (OnRefused (IsUnsound board name system))
-checked-err board name system clean (Ok x) h = tt
-checked-err board name system clean (Err e) h = on_refused (IsPoolSmall board system) (IsUnsound board name system) e (small-unsound board name system clean) h
-
--- ---- counts
-
--- a refusal for another cause needs no count
-pub board-counted : (old new : ℕ) (failed board : List ℕ) (fault : BoardFault) (file : List ℕ) (cause : ImageCause) → IsBoardRefusal board fault file cause → IsCountedAt old new failed file cause
-board-counted old new failed board boards.Json file cause h = subst (λ k. IsCountedAt old new failed file k) (sym h.1) tt
-board-counted old new failed board (boards.Member name) file cause h = subst (λ k. IsCountedAt old new failed file k) (sym h.1) tt
-board-counted old new failed board boards.NoMemory file cause h = absurd h
-
-pub unsound-counted : (old new : ℕ) (failed board name : List ℕ) (system : SystemConfig) (file : List ℕ) (cause : ImageCause) → IsUnsound board name system file cause → IsCountedAt old new failed file cause
-unsound-counted old new failed board name system file ReadFault h = absurd h
-unsound-counted old new failed board name system file _ h = tt
-
-counted_at-before : (old mid new : ℕ) (failed : List ℕ) → old ≤ mid → (file : List ℕ) (cause : ImageCause) → IsCountedAt mid new failed file cause → IsCountedAt old new failed file cause
-counted_at-before old mid new failed le file ReadFault h = (elim h.0 [ inl rose ↦ inl (omega arith) | inr end ↦ inr end ], h.1)
-counted_at-before old mid new failed le file _ h = tt
-
--- a count that rose later rose
-pub counted-before : (old mid new : ℕ) (failed : List ℕ) (fault : ImageFault) → old ≤ mid → IsCounted mid new failed fault → IsCounted old new failed fault
-counted-before old mid new failed fault le h = on_refused (IsCountedAt mid new failed) (IsCountedAt old new failed) fault (counted_at-before old mid new failed le) h
+pub checked_err : {X : Type 0} (board name : List ℕ) (system : SystemConfig) → findings system [] ≡ [] → (r : Result X ImageFault) → IfErr r (OnRefused (IsPoolSmall board system)) → IfErr r (OnRefused (IsUnsound board name system))
+checked_err board name system clean (Ok x) h = tt
+checked_err board name system clean (Err e) h = on_refused (IsPoolSmall board system) (IsUnsound board name system) e (small_unsound board name system clean) h

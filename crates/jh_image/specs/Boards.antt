@@ -5,16 +5,12 @@ use Rattle.std.specs.Cmp.Lexicographic.{pointwise}
 use Rattle.serde_json.specs.Data.{Data}
 use Rattle.serde_json.specs.Find.{as_str, as_object}
 use Rattle.jh_cellcfg.specs.Limits.{is_printable}
-use Rattle.jh_spec.specs.Json.{IsText, told_at, unlisted, has_only, number_told, number_below, list_at}
+use Rattle.jh_spec.specs.Json.{◌>>=◌, IsText, told_at, unlisted, has_only, number_told, number_below, list_at}
 use Rattle.jh_image.specs.declared.board.Listing.{Listing}
 use Rattle.jh_image.specs.declared.board.PreloadFile.{PreloadFile}
 use Rattle.jh_image.specs.declared.board.ProgramFile.{ProgramFile}
 use Rattle.jh_image.specs.declared.board.BoardFault.{BoardFault}
 use Rattle.jh_image.specs.declared.board.BoardFault.TheVariants.{Json, Member, NoMemory}
-
-infixl 10 ◌>>=◌
-abbrev pub ◌>>=◌ : {A B : Type 0} → Option A → (A → Option B) → Option B
-o >>= f = option_and_then f o
 
 -- ---- entries: objects with these members and no others
 

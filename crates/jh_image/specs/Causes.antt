@@ -25,7 +25,7 @@ use Rattle.jh_image.specs.declared.fault.ImageFault.TheVariants.{Refused, NoMemo
 use Rattle.jh_image.specs.Boards.{IsListingAnswer}
 use Rattle.jh_image.specs.Opening.{IsFit}
 use Rattle.jh_image.specs.Files.{Contents, HasBytes, IsOversize, IsPreloadOf, Lists}
-use Rattle.jh_image.specs.Images.{HasSystem, IsNextPreload, IsNextProgram, MakesImage, Comes, IsImage}
+use Rattle.jh_image.specs.Images.{HasSystem, IsNextPreload, IsNextProgram, IsNextFile, IsImage}
 
 -- the file is the board's, and its bytes are refused for that
 pub record IsBadBoard (contents : Contents) (board file : List ℕ) (fault : BoardFault) : Type 0 where
@@ -92,8 +92,8 @@ pub record IsBadProgram (contents : Contents) (board file : List ℕ) (fault : S
 -- reading the board stops at this file, for this cause; which of the files that are read could not be read only
 -- the files know
 abbrev pub StopsReading : Contents → List ℕ → List ℕ → ImageCause → Type 0
-StopsReading contents board file ReadFault = Comes contents board file
-StopsReading contents board file Oversize = Comes contents board file × IsOversize contents file
+StopsReading contents board file ReadFault = IsNextFile contents board file
+StopsReading contents board file Oversize = IsNextFile contents board file × IsOversize contents file
 StopsReading contents board file Json = IsBadBoard contents board file boards.Json
 StopsReading contents board file (Member name) = IsBadBoard contents board file (boards.Member name)
 StopsReading contents board file (System fault) = IsBadSystem contents board file fault

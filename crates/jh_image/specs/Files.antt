@@ -1,6 +1,6 @@
 -- What the files that a board names hand out.
 use Rattle.std.specs.Prelude.{◌≡◌, ℕ, ◌+◌, ◌<◌, ◌≤◌, List, [], ◌∷◌, ◌++◌, length, Ok}
-use Rattle.jh_outside.specs.Reads.{Told, HandsOut}
+use Rattle.jh_outside.specs.Reads.{KnownFile, HandsOut}
 use Rattle.jh_cellcfg.specs.declared.region.Region.{Region}
 use Rattle.jh_cellcfg.specs.declared.config.SystemConfig.{SystemConfig}
 use Rattle.jh_syscfg.specs.Layout.{IsSystem, IsSystemWithinLimits, system_spelling}
@@ -15,7 +15,7 @@ use Rattle.jh_image.specs.Opening.{IsFit}
 
 -- what files tell of each name
 abbrev pub Contents : Type 0
-Contents = List ℕ → Told
+Contents = List ℕ → KnownFile
 
 -- the most bytes of a board and of each file that it names: 1 MiB
 abbrev pub max_file_size : ℕ

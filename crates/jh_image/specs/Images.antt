@@ -44,11 +44,13 @@ pub record MakesImage (contents : Contents) (board : List ℕ) (listing : Listin
   pub all : Programs contents listing.programs image.programs
 
 -- the file's turn comes
-pub data Comes (contents : Contents) (board : List ℕ) : List ℕ → Type 0 where
-  the_board : Comes contents board board
-  the_system : (listing : Listing) → Lists contents board listing → Comes contents board listing.system
-  a_preload : (listing : Listing) (system : SystemConfig) (preloads : List Preload) (file : PreloadFile) → IsNextPreload contents board listing system preloads file → Comes contents board file.file
-  a_program : (listing : Listing) (system : SystemConfig) (preloads : List Preload) (programs : List Program) (file : ProgramFile) → IsNextProgram contents board listing system preloads programs file → Comes contents board file.file
+pub data IsNextFile (contents : Contents) (board : List ℕ) : List ℕ → Type 0 where
+  the_board : IsNextFile contents board board
+  the_system : (listing : Listing) → Lists contents board listing → IsNextFile contents board listing.system
+  a_preload : (listing : Listing) (system : SystemConfig) (preloads : List Preload) (file : PreloadFile)
+      → IsNextPreload contents board listing system preloads file → IsNextFile contents board file.file
+  a_program : (listing : Listing) (system : SystemConfig) (preloads : List Preload) (programs : List Program) (file : ProgramFile)
+      → IsNextProgram contents board listing system preloads programs file → IsNextFile contents board file.file
 
 -- the board's files make this image
 pub record IsImage (contents : Contents) (board : List ℕ) (image : Image) : Type 0 where

@@ -1,5 +1,5 @@
 -- The order in which a board's files are read, each once, and how far a call comes in it.
-use Rattle.std.specs.Prelude.{◌≡◌, ℕ, List, [], ◌∷◌, ◌++◌, map}
+use Rattle.std.specs.Prelude.{ℕ, List, [], ◌∷◌, ◌++◌, map}
 use Rattle.jh_outside.specs.Trail.{Ask, handed, faulted, AsksAll, AsksUntil}
 use Rattle.jh_image.specs.declared.board.Listing.{Listing}
 use Rattle.jh_image.specs.declared.board.PreloadFile.{PreloadFile}

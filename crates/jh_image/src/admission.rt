@@ -2,7 +2,7 @@
 ghost use Rattle.std.specs.Prelude.{◌≡◌, ◌≤◌, ◌<◌, ◌↔◌, [], IsTrue, IfOk, IfErr, OnOk};
 ghost use Rattle.jh_check.specs.Findings.{findings};
 ghost use Rattle.jh_check.specs.Lists.{capped};
-ghost use Rattle.jh_history.specs.Admitted.{root_pages as root_pages_lem, pool_pages as pool_pages_lem, IsAdmittedSystem};
+ghost use Rattle.jh_history.specs.Admitted.{root_pages, pool_pages, IsAdmittedSystem};
 ghost use Rattle.jh_image.specs.Causes.{OnRefused, IsUnsound, IsPoolSmall};
 
 use crate::fault::{ImageCause, ImageFault};
@@ -14,7 +14,7 @@ use std::alloc::Global;
 
 /// Whether root's pages are at most those of the pool. The board has this name.
 fn check_pool(alloc: Global, board: &str, system: &SystemConfig) -> Result<(), ImageFault>
-    ensures ok { OnOk result (root_pages_lem system.now ≤ pool_pages_lem system.now) }
+    ensures ok { OnOk result (root_pages system.now ≤ pool_pages system.now) }
     ensures err { IfErr result (OnRefused (IsPoolSmall board.now system.now)) }
 {
     let need = root_pages(system);

@@ -21,7 +21,8 @@ pub fn boards_make_one_image()
 /// Where files tell what they hold and a board makes an image, nothing stops its reading but a file that can't be
 /// read.
 pub fn boards_that_make_an_image_are_not_refused()
-    ensures { (contents : Contents) (board file : List ℕ) (image : TheImage) (cause : TheCause) → AreTold contents → IsImage contents board image → StopsReading contents board file cause → cause ≡ ReadFault }
+    ensures { (contents : Contents) (board file : List ℕ) (image : TheImage) (cause : TheCause) → AreTold contents
+        → IsImage contents board image → StopsReading contents board file cause → cause ≡ ReadFault }
 {
     one_system_spelling();
     system_has_no_fault();

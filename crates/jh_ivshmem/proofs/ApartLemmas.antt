@@ -3,6 +3,7 @@ use Rattle.std.proofs.Common.{ℕ, ◌≡◌, ◌≢◌, ◌<◌, Bool, true, fa
 use Rattle.std.proofs.lemmas.Bool.{cases_Bool, cases_eq, cases_lt}
 use Rattle.std.proofs.lemmas.Bool.Decides.{nat_tests}
 use Rattle.std.proofs.lemmas.List.{length-set, length-map, get_or-map, get_or-set_same, get_or-set_other, get_or_default, same_lists}
+use Rattle.jh_vpci.proofs.BitLemmas.{equals}
 use Rattle.jh_ivshmem.specs.declared.endpoint.Endpoint.{Endpoint}
 use Rattle.jh_ivshmem.specs.declared.spec.EndpointSpec.{EndpointSpec}
 use Rattle.jh_ivshmem.specs.Specs.{is_device, is_peer, AreApart}
@@ -12,9 +13,6 @@ use Rattle.jh_ivshmem.specs.Keys.{key_of, is_key_apart}
 both_true : (a b : Bool) → (a && b) ≡ true → (a ≡ true) × (b ≡ true)
 both_true true b h = (refl, h)
 both_true false b h = cc
-
-equals : (a b : ℕ) → (a == b) ≡ true → a ≡ b
-equals a b h = grind (arith, nat_tests)
 
 never : (b : Bool) → b ≡ true → b ≡ false → ⊥
 never b h g = cc
@@ -72,15 +70,15 @@ single test none es i k d apart within here inside other =
     ]
 
 -- what a change leaves at a place
-pub changed-at : (test : EndpointSpec → Bool) (f : Endpoint → Endpoint) (es : List Endpoint) (k : ℕ) (d : Endpoint)
+pub changed_at : (test : EndpointSpec → Bool) (f : Endpoint → Endpoint) (es : List Endpoint) (k : ℕ) (d : Endpoint)
     → k < length es → get_or (changed test f es) k d ≡ cond (test (get_or es k d).spec) (f (get_or es k d)) (get_or es k d)
 unfolding changed
-changed-at test f es k d within = get_or-map (λ (o : Endpoint). cond (test o.spec) (f o) o) es k d d within
+changed_at test f es k d within = get_or-map (λ (o : Endpoint). cond (test o.spec) (f o) o) es k d d within
 
-pub changed-length : (test : EndpointSpec → Bool) (f : Endpoint → Endpoint) (es : List Endpoint)
+pub changed_length : (test : EndpointSpec → Bool) (f : Endpoint → Endpoint) (es : List Endpoint)
     → length (changed test f es) ≡ length es
 unfolding changed
-changed-length test f es = length-map es _
+changed_length test f es = length-map es _
 
 set_at : (test : EndpointSpec → Bool) (f : Endpoint → Endpoint) (es : List Endpoint) (i : ℕ) (e : Endpoint)
     → i < length es → e ≡ get_or es i e → test e.spec ≡ true
@@ -106,22 +104,22 @@ set_at test f es i e within read here others k d inside =
     ]
 
 -- a change of the one that has the name
-pub set-changed : (test : EndpointSpec → Bool) (f : Endpoint → Endpoint) (es : List Endpoint) (i : ℕ) (e : Endpoint)
+pub set_changed : (test : EndpointSpec → Bool) (f : Endpoint → Endpoint) (es : List Endpoint) (i : ℕ) (e : Endpoint)
     → i < length es → e ≡ get_or es i e → test e.spec ≡ true
     → ((k : ℕ) (d : Endpoint) → k < length es → k ≢ i → test (get_or es k d).spec ≡ false)
     → set es i (f e) ≡ changed test f es
-set-changed test f es i e within read here others =
-    same_lists (set es i (f e)) (changed test f es) (length-set es i (f e) ∙ sym (changed-length test f es)) (λ k d inside.
+set_changed test f es i e within read here others =
+    same_lists (set es i (f e)) (changed test f es) (length-set es i (f e) ∙ sym (changed_length test f es)) (λ k d inside.
     let count = length-set es i (f e) in
     let bound : k < length es = omega arith in
     set_at test f es i e within read here others k d bound)
 
 -- the same for the endpoint of a device
-pub set-device : (cell device : ℕ) (f : Endpoint → Endpoint) (es : List Endpoint) (i : ℕ) (e : Endpoint)
+pub set_device : (cell device : ℕ) (f : Endpoint → Endpoint) (es : List Endpoint) (i : ℕ) (e : Endpoint)
     → AllPairs AreApart (map (λ (o : Endpoint). o.spec) es) → i < length es → e ≡ get_or es i e
     → is_device cell device e.spec ≡ true → set es i (f e) ≡ changed (is_device cell device) f es
-set-device cell device f es i e apart within read here =
-    set-changed (is_device cell device) f es i e within read here
+set_device cell device f es i e apart within read here =
+    set_changed (is_device cell device) f es i e within read here
     (λ k d inside other.
     single (is_device cell device) (devices_apart cell device) es i k d apart within
     (let same = get_or_default es i d e within in

@@ -23,44 +23,44 @@ keeps_either : (b : Bool) (old one other : Endpoint) → Keeps old one → Keeps
 keeps_either true old one other h g = h
 keeps_either false old one other h g = g
 
-pub raised-keeps : (v : ℕ) (e : Endpoint) → Keeps e (raised v e)
+pub raised_keeps : (v : ℕ) (e : Endpoint) → Keeps e (raised v e)
 unfolding raised
-raised-keeps v e = keeps_either (is_open e v) e _ e (record { spec = refl; vectors = length-set e.vectors v _ }) (keeps_all e)
+raised_keeps v e = keeps_either (is_open e v) e _ e (record { spec = refl; vectors = length-set e.vectors v _ }) (keeps_all e)
 
-written-keeps : (bar at value : ℕ) (e : Endpoint) → Keeps e (register_written bar at value e)
+written_keeps : (bar at value : ℕ) (e : Endpoint) → Keeps e (register_written bar at value e)
 unfolding register_written
-written-keeps bar at value e =
+written_keeps bar at value e =
     keeps_either (bar == 0) e _ _
     (keeps_either (at == 0x08) e _ e (record { spec = refl; vectors = refl }) (keeps_all e))
     (keeps_either (is_in_table e at) e _ e (record { spec = refl; vectors = length-set e.vectors (at / 16) _ }) (keeps_all e))
 
-pub after-keeps : (change : Change) (e : Endpoint) → length e.vectors ≡ 16 → Keeps e (after change e)
+pub after_keeps : (change : Change) (e : Endpoint) → length e.vectors ≡ 16 → Keeps e (after change e)
 unfolding taken cleared
-after-keeps (Raise v) e full = raised-keeps v e
-after-keeps (Write bar at value) e full = written-keeps bar at value e
-after-keeps (State value) e full = record { spec = refl; vectors = refl }
-after-keeps Reset e full = record { spec = refl; vectors = sym full }
-after-keeps (Take v) e full = record { spec = refl; vectors = length-set e.vectors v _ }
+after_keeps (Raise v) e full = raised_keeps v e
+after_keeps (Write bar at value) e full = written_keeps bar at value e
+after_keeps (State value) e full = record { spec = refl; vectors = refl }
+after_keeps Reset e full = record { spec = refl; vectors = sym full }
+after_keeps (Take v) e full = record { spec = refl; vectors = length-set e.vectors v _ }
 
-pub after-sound : (change : Change) (e : Endpoint) → IsSound e → IsSound (after change e)
-after-sound change e sound =
-    let keeps = after-keeps change e sound.vectors in
+pub after_sound : (change : Change) (e : Endpoint) → IsSound e → IsSound (after change e)
+after_sound change e sound =
+    let keeps = after_keeps change e sound.vectors in
     record {
       vectors = keeps.vectors ∙ sound.vectors;
       within = subst IsWithin (sym keeps.spec) sound.within;
     }
 
 -- each change keeps the spec
-pub raised-spec : (v : ℕ) (e : Endpoint) → (raised v e).spec ≡ e.spec
-raised-spec v e = (raised-keeps v e).spec
+pub raised_spec : (v : ℕ) (e : Endpoint) → (raised v e).spec ≡ e.spec
+raised_spec v e = (raised_keeps v e).spec
 
-pub register_written-spec : (bar at value : ℕ) (e : Endpoint) → (register_written bar at value e).spec ≡ e.spec
-register_written-spec bar at value e = (written-keeps bar at value e).spec
+pub register_written_spec : (bar at value : ℕ) (e : Endpoint) → (register_written bar at value e).spec ≡ e.spec
+register_written_spec bar at value e = (written_keeps bar at value e).spec
 
-pub taken-spec : (v : ℕ) (e : Endpoint) → (taken v e).spec ≡ e.spec
+pub taken_spec : (v : ℕ) (e : Endpoint) → (taken v e).spec ≡ e.spec
 unfolding taken
-taken-spec v e = refl
+taken_spec v e = refl
 
-pub cleared-spec : (e : Endpoint) → (cleared e).spec ≡ e.spec
+pub cleared_spec : (e : Endpoint) → (cleared e).spec ≡ e.spec
 unfolding cleared
-cleared-spec e = refl
+cleared_spec e = refl

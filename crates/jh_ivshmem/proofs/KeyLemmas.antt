@@ -87,9 +87,9 @@ found_some whom es (Some i) is =
     ]
 
 -- the space of one endpoint is another
-pub kept-space : (es : List Endpoint) (ks : List Key) (i : ℕ) (e : Endpoint) (space : Space) → AreKept es ks → IsSound e
+pub kept_space : (es : List Endpoint) (ks : List Key) (i : ℕ) (e : Endpoint) (space : Space) → AreKept es ks → IsSound e
     → e ≡ get_or es i e → AreKept (set es i (record e { space = space })) ks
-kept-space es ks i e space kept sound read = record {
+kept_space es ks i e space kept sound read = record {
   keys = kept.keys ∙ sym (map-set_same key_of es i (record e { space = space }) e (ap key_of read));
   sound = All-set IsSound es i (record e { space = space }) (record { vectors = sound.vectors; within = sound.within }) kept.sound;
   apart =
@@ -103,9 +103,9 @@ kept-space es ks i e space kept sound read = record {
 }
 
 -- one of the endpoints is another, sound, with the same spec
-pub kept-set : (es : List Endpoint) (ks : List Key) (i : ℕ) (e : Endpoint) (old : Endpoint) → AreKept es ks
+pub kept_set : (es : List Endpoint) (ks : List Key) (i : ℕ) (e : Endpoint) (old : Endpoint) → AreKept es ks
     → old ≡ get_or es i old → IsSound e → e.spec ≡ old.spec → AreKept (set es i e) (set ks i (key_of e))
-kept-set es ks i e old kept read sound same = record {
+kept_set es ks i e old kept read sound same = record {
   keys = ap (λ k. set k i (key_of e)) kept.keys ∙ sym (map-set key_of es i e);
   sound = All-set IsSound es i e sound kept.sound;
   apart =
@@ -126,10 +126,10 @@ map_filter f p q same (x ∷ xs) =
     ]
 
 -- those of a device leave
-pub kept-filter : (es : List Endpoint) (ks : List Key) (p : Endpoint → Bool) (q : Key → Bool) (r : EndpointSpec → Bool)
+pub kept_filter : (es : List Endpoint) (ks : List Key) (p : Endpoint → Bool) (q : Key → Bool) (r : EndpointSpec → Bool)
     → ((e : Endpoint) → q (key_of e) ≡ p e) → ((e : Endpoint) → r e.spec ≡ p e)
     → AreKept es ks → AreKept (filter p es) (filter q ks)
-kept-filter es ks p q r same by_spec kept = record {
+kept_filter es ks p q r same by_spec kept = record {
   keys = ap (filter q) kept.keys ∙ sym (map_filter key_of p q same es);
   sound = All-filter p IsSound es kept.sound;
   apart = subst (AllPairs AreApart) (sym (map_filter (λ (o : Endpoint). o.spec) p r by_spec es))

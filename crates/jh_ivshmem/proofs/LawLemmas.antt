@@ -4,6 +4,7 @@ use Rattle.std.proofs.lemmas.Bool.{cases_Bool, cases_eq, cases_lt}
 use Rattle.std.proofs.lemmas.Bool.Decides.{nat_tests}
 use Rattle.std.proofs.lemmas.List.{get_or-set_same, get_or-set_other, get_or_past}
 use Rattle.jh_vpci.specs.Space.{has_vectors, is_open as is_function_open}
+use Rattle.jh_vpci.proofs.BitLemmas.{differs}
 use Rattle.jh_ivshmem.specs.declared.endpoint.Endpoint.{Endpoint}
 use Rattle.jh_ivshmem.specs.declared.vector.Vector.{Vector}
 use Rattle.jh_ivshmem.specs.declared.spec.EndpointSpec.{EndpointSpec}
@@ -12,7 +13,7 @@ use Rattle.jh_ivshmem.specs.Endpoint.{is_open, raised, cleared, vector_at, fresh
 use Rattle.jh_ivshmem.specs.Registers.{register_written, with_word, is_in_table}
 use Rattle.jh_ivshmem.specs.Changes.{changed}
 use Rattle.jh_ivshmem.specs.Links.{told_of, written, reset_of}
-use Rattle.jh_ivshmem.proofs.ApartLemmas.{changed-at, changed-length}
+use Rattle.jh_ivshmem.proofs.ApartLemmas.{changed_at, changed_length}
 
 pub closed : (v : ℕ) (e : Endpoint) → is_open e v ≡ false → raised v e ≡ e
 unfolding raised
@@ -97,19 +98,19 @@ closed_vector v e some h = closed v e (part_4 e.control (nat_lt v (count_of e.sp
     (not (has_vectors e.spec.function) || not (vector_at e v).masked)
     (shut (has_vectors e.spec.function) (vector_at e v).masked some h))
 
-pub raised-pending : (v : ℕ) (e : Endpoint) → v < length e.vectors → is_open e v ≡ true → (vector_at (raised v e) v).pending ≡ true
+pub raised_pending : (v : ℕ) (e : Endpoint) → v < length e.vectors → is_open e v ≡ true → (vector_at (raised v e) v).pending ≡ true
 unfolding raised
-raised-pending v e within opened =
+raised_pending v e within opened =
     rw opened (ap (λ (x : Vector). x.pending)
     (get_or-set_same e.vectors v (record (vector_at e v) { pending = true }) fresh_vector within))
 
-pub raised-control : (v : ℕ) (e : Endpoint) → is_open e v ≡ true → (raised v e).control ≡ not e.space.one_shot
+pub raised_control : (v : ℕ) (e : Endpoint) → is_open e v ≡ true → (raised v e).control ≡ not e.space.one_shot
 unfolding raised
-raised-control v e opened = rw opened refl
+raised_control v e opened = rw opened refl
 
-pub raised-others : (v u : ℕ) (e : Endpoint) → u ≢ v → vector_at (raised v e) u ≡ vector_at e u
+pub raised_others : (v u : ℕ) (e : Endpoint) → u ≢ v → vector_at (raised v e) u ≡ vector_at e u
 unfolding raised
-raised-others v u e other =
+raised_others v u e other =
     elim (cases_Bool (is_open e v)) as (λ _. vector_at (raised v e) u ≡ vector_at e u) [
       | inl opened ↦ rw opened (get_or-set_other e.vectors v u (record (vector_at e v) { pending = true }) fresh_vector other)
       | inr closes ↦ rw closes refl
@@ -119,9 +120,9 @@ none : false ≡ true → ⊥
 none h = cc
 
 -- a vector written at a place keeps what is pending, where the new one keeps it
-set-keeps : (xs : List Vector) (v u : ℕ) (y : Vector) → ((get_or xs v fresh_vector).pending ≡ true → y.pending ≡ true)
+set_keeps : (xs : List Vector) (v u : ℕ) (y : Vector) → ((get_or xs v fresh_vector).pending ≡ true → y.pending ≡ true)
     → (get_or xs u fresh_vector).pending ≡ true → (get_or (set xs v y) u fresh_vector).pending ≡ true
-set-keeps xs v u y keeps was =
+set_keeps xs v u y keeps was =
     elim (cases_eq u v) as (λ _. (get_or (set xs v y) u fresh_vector).pending ≡ true) [
       | inr other ↦ ap (λ (x : Vector). x.pending) (get_or-set_other xs v u y fresh_vector other) ∙ was
       | inl same ↦ elim (cases_lt u (length xs)) as (λ _. (get_or (set xs v y) u fresh_vector).pending ≡ true) [
@@ -133,34 +134,34 @@ set-keeps xs v u y keeps was =
       ]
     ]
 
-pub raised-keeps_pending : (v u : ℕ) (e : Endpoint) → (vector_at e u).pending ≡ true → (vector_at (raised v e) u).pending ≡ true
+pub raised_keeps_pending : (v u : ℕ) (e : Endpoint) → (vector_at e u).pending ≡ true → (vector_at (raised v e) u).pending ≡ true
 unfolding raised
-raised-keeps_pending v u e was =
+raised_keeps_pending v u e was =
     elim (cases_Bool (is_open e v)) as (λ _. (vector_at (raised v e) u).pending ≡ true) [
-      | inl opened ↦ rw opened (set-keeps e.vectors v u (record (vector_at e v) { pending = true }) (λ _. refl) was)
+      | inl opened ↦ rw opened (set_keeps e.vectors v u (record (vector_at e v) { pending = true }) (λ _. refl) was)
       | inr closes ↦ rw closes was
     ]
 
-word-pending : (a b c : Bool) (n value : ℕ) (x : Vector) → (cond a (record x { address = value })
+word_pending : (a b c : Bool) (n value : ℕ) (x : Vector) → (cond a (record x { address = value })
     (cond b (record x { upper_address = value }) (cond c (record x { message = value }) (record x { masked = value % 2 == 1 })))).pending ≡ x.pending
-word-pending true b c n value x = refl
-word-pending false true c n value x = refl
-word-pending false false true n value x = refl
-word-pending false false false n value x = refl
+word_pending true b c n value x = refl
+word_pending false true c n value x = refl
+word_pending false false true n value x = refl
+word_pending false false false n value x = refl
 
-pub register_written-keeps_pending : (bar at value u : ℕ) (e : Endpoint) → (vector_at e u).pending ≡ true
+pub register_written_keeps_pending : (bar at value u : ℕ) (e : Endpoint) → (vector_at e u).pending ≡ true
     → (vector_at (register_written bar at value e) u).pending ≡ true
 unfolding register_written
-register_written-keeps_pending bar at value u e was =
+register_written_keeps_pending bar at value u e was =
     elim (cases_Bool (bar == 0)) as (λ _. (vector_at (register_written bar at value e) u).pending ≡ true) [
       | inl registers ↦ elim (cases_Bool (at == 0x08)) as (λ _. (vector_at (register_written bar at value e) u).pending ≡ true) [
         | inl control ↦ rw (registers, control) was
         | inr other ↦ rw (registers, other) was
       ]
       | inr table ↦ elim (cases_Bool (is_in_table e at)) as (λ _. (vector_at (register_written bar at value e) u).pending ≡ true) [
-        | inl inside ↦ rw (table, inside) (set-keeps e.vectors (at / 16) u
+        | inl inside ↦ rw (table, inside) (set_keeps e.vectors (at / 16) u
             (with_word (at / 4 % 4) value (vector_at e (at / 16)))
-            (λ h. word-pending (at / 4 % 4 == 0) (at / 4 % 4 == 1) (at / 4 % 4 == 2) (at / 4 % 4) value (vector_at e (at / 16)) ∙ h) was)
+            (λ h. word_pending (at / 4 % 4 == 0) (at / 4 % 4 == 1) (at / 4 % 4 == 2) (at / 4 % 4) value (vector_at e (at / 16)) ∙ h) was)
         | inr outside ↦ rw (table, outside) was
       ]
     ]
@@ -171,59 +172,56 @@ either f v keeps true o h = keeps o h
 either f v keeps false o h = h
 
 -- a change that keeps pending vectors keeps them at each place
-changed-keeps_pending : (test : EndpointSpec → Bool) (f : Endpoint → Endpoint) (list : List Endpoint) (k v : ℕ) (d : Endpoint)
+changed_keeps_pending : (test : EndpointSpec → Bool) (f : Endpoint → Endpoint) (list : List Endpoint) (k v : ℕ) (d : Endpoint)
     → ((o : Endpoint) → (vector_at o v).pending ≡ true → (vector_at (f o) v).pending ≡ true) → k < length list
     → (vector_at (get_or list k d) v).pending ≡ true → (vector_at (get_or (changed test f list) k d) v).pending ≡ true
-changed-keeps_pending test f list k v d keeps within was =
-    ap (λ (o : Endpoint). (vector_at o v).pending) (changed-at test f list k d within)
+changed_keeps_pending test f list k v d keeps within was =
+    ap (λ (o : Endpoint). (vector_at o v).pending) (changed_at test f list k d within)
     ∙ either f v keeps (test (get_or list k d).spec) (get_or list k d) was
 
-told-keeps_pending : (e : Endpoint) (value : ℕ) (list : List Endpoint) (k v : ℕ) (d : Endpoint) → k < length list
+told_keeps_pending : (e : Endpoint) (value : ℕ) (list : List Endpoint) (k v : ℕ) (d : Endpoint) → k < length list
     → (vector_at (get_or list k d) v).pending ≡ true → (vector_at (get_or (told_of e value list) k d) v).pending ≡ true
-told-keeps_pending e value list k v d within was =
+told_keeps_pending e value list k v d within was =
     elim (cases_Bool (e.state == value)) as (λ _. (vector_at (get_or (told_of e value list) k d) v).pending ≡ true) [
       | inl same ↦ rw same was
-      | inr other ↦ rw other (changed-keeps_pending (is_other e.spec.bdf e.spec.id) (raised 0) list k v d
-          (λ o h. raised-keeps_pending 0 v o h) within was)
+      | inr other ↦ rw other (changed_keeps_pending (is_other e.spec.bdf e.spec.id) (raised 0) list k v d
+          (λ o h. raised_keeps_pending 0 v o h) within was)
     ]
 
-told-length : (e : Endpoint) (value : ℕ) (list : List Endpoint) → length (told_of e value list) ≡ length list
-told-length e value list =
+told_length : (e : Endpoint) (value : ℕ) (list : List Endpoint) → length (told_of e value list) ≡ length list
+told_length e value list =
     elim (cases_Bool (e.state == value)) as (λ _. length (told_of e value list) ≡ length list) [
       | inl same ↦ rw same refl
-      | inr other ↦ rw other (changed-length (is_other e.spec.bdf e.spec.id) (raised 0) list)
+      | inr other ↦ rw other (changed_length (is_other e.spec.bdf e.spec.id) (raised 0) list)
     ]
 
-pub written-keeps_pending : (e : Endpoint) (bar at value : ℕ) (list : List Endpoint) (k v : ℕ) (d : Endpoint) → k < length list
+pub written_keeps_pending : (e : Endpoint) (bar at value : ℕ) (list : List Endpoint) (k v : ℕ) (d : Endpoint) → k < length list
     → (vector_at (get_or list k d) v).pending ≡ true → (vector_at (get_or (written e bar at value list) k d) v).pending ≡ true
 unfolding written
-written-keeps_pending e bar at value list k v d within was =
+written_keeps_pending e bar at value list k v d within was =
     elim (cases_Bool ((bar == 0) && (at == 0x0c))) as (λ _. (vector_at (get_or (written e bar at value list) k d) v).pending ≡ true) [
-      | inl doorbell ↦ rw doorbell (changed-keeps_pending (is_peer e.spec.bdf (value / 2 ^ 16)) (raised (value % 2 ^ 16)) list k v d
-          (λ o h. raised-keeps_pending (value % 2 ^ 16) v o h) within was)
+      | inl doorbell ↦ rw doorbell (changed_keeps_pending (is_peer e.spec.bdf (value / 2 ^ 16)) (raised (value % 2 ^ 16)) list k v d
+          (λ o h. raised_keeps_pending (value % 2 ^ 16) v o h) within was)
       | inr other ↦ elim (cases_Bool ((bar == 0) && (at == 0x10)))
           as (λ _. (vector_at (get_or (written e bar at value list) k d) v).pending ≡ true) [
             | inl state ↦ rw (other, state)
-                (changed-keeps_pending (is_device e.spec.cell e.spec.device) (λ (o : Endpoint). record o { state = value })
-                (told_of e value list) k v d (λ o h. h) (let same = told-length e value list in omega arith)
-                (told-keeps_pending e value list k v d within was))
+                (changed_keeps_pending (is_device e.spec.cell e.spec.device) (λ (o : Endpoint). record o { state = value })
+                (told_of e value list) k v d (λ o h. h) (let same = told_length e value list in omega arith)
+                (told_keeps_pending e value list k v d within was))
             | inr register ↦ rw (other, register)
-                (changed-keeps_pending (is_device e.spec.cell e.spec.device) (register_written bar at value) list k v d
-                (λ o h. register_written-keeps_pending bar at value v o h) within was)
+                (changed_keeps_pending (is_device e.spec.cell e.spec.device) (register_written bar at value) list k v d
+                (λ o h. register_written_keeps_pending bar at value v o h) within was)
           ]
     ]
 
 -- an endpoint that isn't meant stays
-pub stays-at : (test : EndpointSpec → Bool) (f : Endpoint → Endpoint) (list : List Endpoint) (k : ℕ) (d : Endpoint)
+pub stays_at : (test : EndpointSpec → Bool) (f : Endpoint → Endpoint) (list : List Endpoint) (k : ℕ) (d : Endpoint)
     → k < length list → test (get_or list k d).spec ≡ false → get_or (changed test f list) k d ≡ get_or list k d
-stays-at test f list k d within fails = changed-at test f list k d within ∙ rw fails refl
+stays_at test f list k d within fails = changed_at test f list k d within ∙ rw fails refl
 
-pub meant-at : (test : EndpointSpec → Bool) (f : Endpoint → Endpoint) (list : List Endpoint) (k : ℕ) (d : Endpoint)
+pub meant_at : (test : EndpointSpec → Bool) (f : Endpoint → Endpoint) (list : List Endpoint) (k : ℕ) (d : Endpoint)
     → k < length list → test (get_or list k d).spec ≡ true → get_or (changed test f list) k d ≡ f (get_or list k d)
-meant-at test f list k d within passes = changed-at test f list k d within ∙ rw passes refl
-
-differs : (a b : ℕ) → a ≢ b → (a == b) ≡ false
-differs a b h = grind (arith, nat_tests)
+meant_at test f list k d within passes = changed_at test f list k d within ∙ rw passes refl
 
 no_peer : (bdf id : ℕ) (s : EndpointSpec) → s.bdf ≢ bdf → is_peer bdf id s ≡ false
 no_peer bdf id s other = rw (differs s.bdf bdf other) refl
@@ -231,43 +229,43 @@ no_peer bdf id s other = rw (differs s.bdf bdf other) refl
 no_other : (bdf id : ℕ) (s : EndpointSpec) → s.bdf ≢ bdf → is_other bdf id s ≡ false
 no_other bdf id s other = rw (differs s.bdf bdf other) refl
 
-told-stays : (e : Endpoint) (value : ℕ) (list : List Endpoint) (k : ℕ) (d : Endpoint) → k < length list
+told_stays : (e : Endpoint) (value : ℕ) (list : List Endpoint) (k : ℕ) (d : Endpoint) → k < length list
     → (get_or list k d).spec.bdf ≢ e.spec.bdf → get_or (told_of e value list) k d ≡ get_or list k d
-told-stays e value list k d within link =
+told_stays e value list k d within link =
     elim (cases_Bool (e.state == value)) as (λ _. get_or (told_of e value list) k d ≡ get_or list k d) [
       | inl same ↦ rw same refl
-      | inr other ↦ rw other (stays-at (is_other e.spec.bdf e.spec.id) (raised 0) list k d within
+      | inr other ↦ rw other (stays_at (is_other e.spec.bdf e.spec.id) (raised 0) list k d within
           (no_other e.spec.bdf e.spec.id (get_or list k d).spec link))
     ]
 
 -- a change of the endpoint itself after the others of its link were told
-own-stays : (e : Endpoint) (value : ℕ) (f : Endpoint → Endpoint) (list : List Endpoint) (k : ℕ) (d : Endpoint) → k < length list
+own_stays : (e : Endpoint) (value : ℕ) (f : Endpoint → Endpoint) (list : List Endpoint) (k : ℕ) (d : Endpoint) → k < length list
     → (get_or list k d).spec.bdf ≢ e.spec.bdf → is_device e.spec.cell e.spec.device (get_or list k d).spec ≡ false
     → get_or (changed (is_device e.spec.cell e.spec.device) f (told_of e value list)) k d ≡ get_or list k d
-own-stays e value f list k d within link device =
-    let same = told-stays e value list k d within link in
-    stays-at (is_device e.spec.cell e.spec.device) f (told_of e value list) k d
-    (let all = told-length e value list in omega arith)
+own_stays e value f list k d within link device =
+    let same = told_stays e value list k d within link in
+    stays_at (is_device e.spec.cell e.spec.device) f (told_of e value list) k d
+    (let all = told_length e value list in omega arith)
     (ap (λ (o : Endpoint). is_device e.spec.cell e.spec.device o.spec) same ∙ device)
     ∙ same
 
-pub written-stays : (e : Endpoint) (bar at value : ℕ) (list : List Endpoint) (k : ℕ) (d : Endpoint) → k < length list
+pub written_stays : (e : Endpoint) (bar at value : ℕ) (list : List Endpoint) (k : ℕ) (d : Endpoint) → k < length list
     → (get_or list k d).spec.bdf ≢ e.spec.bdf → is_device e.spec.cell e.spec.device (get_or list k d).spec ≡ false
     → get_or (written e bar at value list) k d ≡ get_or list k d
 unfolding written
-written-stays e bar at value list k d within link device =
+written_stays e bar at value list k d within link device =
     elim (cases_Bool ((bar == 0) && (at == 0x0c))) as (λ _. get_or (written e bar at value list) k d ≡ get_or list k d) [
-      | inl doorbell ↦ rw doorbell (stays-at (is_peer e.spec.bdf (value / 2 ^ 16)) (raised (value % 2 ^ 16)) list k d within
+      | inl doorbell ↦ rw doorbell (stays_at (is_peer e.spec.bdf (value / 2 ^ 16)) (raised (value % 2 ^ 16)) list k d within
           (no_peer e.spec.bdf (value / 2 ^ 16) (get_or list k d).spec link))
       | inr other ↦ elim (cases_Bool ((bar == 0) && (at == 0x10)))
           as (λ _. get_or (written e bar at value list) k d ≡ get_or list k d) [
-            | inl state ↦ rw (other, state) (own-stays e value (λ (o : Endpoint). record o { state = value }) list k d within link device)
+            | inl state ↦ rw (other, state) (own_stays e value (λ (o : Endpoint). record o { state = value }) list k d within link device)
             | inr register ↦ rw (other, register)
-                (stays-at (is_device e.spec.cell e.spec.device) (register_written bar at value) list k d within device)
+                (stays_at (is_device e.spec.cell e.spec.device) (register_written bar at value) list k d within device)
           ]
     ]
 
-pub reset-stays : (e : Endpoint) (list : List Endpoint) (k : ℕ) (d : Endpoint) → k < length list
+pub reset_stays : (e : Endpoint) (list : List Endpoint) (k : ℕ) (d : Endpoint) → k < length list
     → (get_or list k d).spec.bdf ≢ e.spec.bdf → is_device e.spec.cell e.spec.device (get_or list k d).spec ≡ false
     → get_or (reset_of e list) k d ≡ get_or list k d
-reset-stays e list k d within link device = own-stays e 0 cleared list k d within link device
+reset_stays e list k d within link device = own_stays e 0 cleared list k d within link device

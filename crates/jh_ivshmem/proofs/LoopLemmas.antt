@@ -14,9 +14,9 @@ use Rattle.jh_ivshmem.specs.declared.key.Key.{Key}
 use Rattle.jh_ivshmem.specs.declared.endpoint.Endpoint.{Endpoint}
 use Rattle.jh_ivshmem.specs.Changes.{changed, after, is_meant}
 use Rattle.jh_ivshmem.specs.Keys.{IsSound, AreKept, key_of, is_key_meant}
-use Rattle.jh_ivshmem.proofs.ChangeLemmas.{after-keeps, after-sound}
-use Rattle.jh_ivshmem.proofs.KeyLemmas.{key_meant, kept-set, found_within, found_none}
-use Rattle.jh_ivshmem.proofs.ApartLemmas.{set-device}
+use Rattle.jh_ivshmem.proofs.ChangeLemmas.{after_keeps, after_sound}
+use Rattle.jh_ivshmem.proofs.KeyLemmas.{key_meant, kept_set, found_within, found_none}
+use Rattle.jh_ivshmem.proofs.ApartLemmas.{set_device}
 
 -- the change of an endpoint that is meant
 abbrev pub changing : Whom → Change → Endpoint → Endpoint
@@ -54,8 +54,8 @@ step_meant whom change before now ks i e changes within is_e meant =
       list = ap (λ new. set now i new) (sym changed_here)
           ∙ map_over_more (changing whom change) before now i e first changes.list is_e;
       count = length-set now i (after change e) ∙ changes.count;
-      kept = kept-set now ks i (after change e) e changes.kept is_e (after-sound change e sound)
-          (after-keeps change e sound.vectors).spec;
+      kept = kept_set now ks i (after change e) e changes.kept is_e (after_sound change e sound)
+          (after_keeps change e sound.vectors).spec;
     }
 
 other_at : (whom : Whom) (change : Change) (before now : List Endpoint) (ks : List Key) (i : ℕ) (e : Endpoint)
@@ -92,10 +92,6 @@ at_end whom change before now ks i changes past =
     ∙ ap (λ l. map (changing whom change) before ++ l) (drop_all i before past)
     ∙ append-nil (map (changing whom change) before)
 
-pub at_start : (whom : Whom) (change : Change) (before : List Endpoint) (ks : List Key) → AreKept before ks
-    → Changes whom change before before ks 0
-at_start whom change before ks kept = record { list = refl; count = refl; kept = kept }
-
 -- the endpoint of a device is changed alone
 pub record ChangesOne (cell device : ℕ) (change : Change) (es now : List Endpoint) (ks : List Key) : Type 0 where
   pub list : now ≡ changed (is_device cell device) (after change) es
@@ -121,9 +117,9 @@ change_found cell device change es now ks keys i e kept is read put keyed =
     let at = device_at cell device es ks i e kept is read in
     let sound = sound_at es ks i e kept at.0 read in
     record {
-      list = put ∙ set-device cell device (after change) es i e kept.apart at.0 read at.1;
+      list = put ∙ set_device cell device (after change) es i e kept.apart at.0 read at.1;
       kept = subst (λ l. AreKept l keys) (sym put) (subst (AreKept (set es i (after change e))) (sym keyed)
-          (kept-set es ks i (after change e) e kept read (after-sound change e sound) (after-keeps change e sound.vectors).spec));
+          (kept_set es ks i (after change e) e kept read (after_sound change e sound) (after_keeps change e sound.vectors).spec));
     }
 
 none_meant : (cell device : ℕ) (change : Change) (es : List Endpoint) → find (λ (e : Endpoint). is_device cell device e.spec) es ≡ None

@@ -32,25 +32,25 @@ second_of_two : (a b : Bool) → (a && b) ≡ true → b ≡ true
 second_of_two true b h = h
 second_of_two false b h = cc
 
-pub named-cell : (cell device : ℕ) (list : List Endpoint) (e : Endpoint) → endpoint_at cell device list ≡ Some e → e.spec.cell ≡ cell
-named-cell cell device list e h =
+pub named_cell : (cell device : ℕ) (list : List Endpoint) (e : Endpoint) → endpoint_at cell device list ≡ Some e → e.spec.cell ≡ cell
+named_cell cell device list e h =
     let t = first_of_two (e.spec.cell == cell) (e.spec.device == device) (passes cell device list e h) in grind (arith, nat_tests)
 
-pub named-device : (cell device : ℕ) (list : List Endpoint) (e : Endpoint) → endpoint_at cell device list ≡ Some e → e.spec.device ≡ device
-named-device cell device list e h =
+pub named_device : (cell device : ℕ) (list : List Endpoint) (e : Endpoint) → endpoint_at cell device list ≡ Some e → e.spec.device ≡ device
+named_device cell device list e h =
     let t = second_of_two (e.spec.cell == cell) (e.spec.device == device) (passes cell device list e h) in grind (arith, nat_tests)
 
 -- its own cell and device name it
 pub by_own_name : (P : ℕ → ℕ → Type 0) (cell device : ℕ) (list : List Endpoint) (e : Endpoint)
     → endpoint_at cell device list ≡ Some e → P cell device → P e.spec.cell e.spec.device
 by_own_name P cell device list e h p =
-    subst (λ n. P e.spec.cell n) (sym (named-device cell device list e h))
-    (subst (λ n. P n device) (sym (named-cell cell device list e h)) p)
+    subst (λ n. P e.spec.cell n) (sym (named_device cell device list e h))
+    (subst (λ n. P n device) (sym (named_cell cell device list e h)) p)
 
-pub length-changed : (test : EndpointSpec → Bool) (f : Endpoint → Endpoint) (list : List Endpoint)
+pub length_changed : (test : EndpointSpec → Bool) (f : Endpoint → Endpoint) (list : List Endpoint)
     → length (changed test f list) ≡ length list
 unfolding changed
-length-changed test f list = length-map list _
+length_changed test f list = length-map list _
 
 pub same_found : (cell device : ℕ) (list : List Endpoint) (e o : Endpoint) → endpoint_at cell device list ≡ Some e
     → endpoint_at cell device list ≡ Some o → o ≡ e

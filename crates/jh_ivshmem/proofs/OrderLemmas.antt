@@ -21,9 +21,9 @@ use Rattle.jh_ivshmem.proofs.ApartLemmas.{peer_turned, device_turned}
 lower : ℕ → ℕ → ℕ → ℕ → Bool
 lower cell device c d = nat_lt c cell || ((c == cell) && nat_lt d device)
 
-lower-parts : (cell device c d : ℕ) → lower cell device c d ≡ true → (c < cell) ⊎ ((c ≡ cell) × (d < device))
+lower_parts : (cell device c d : ℕ) → lower cell device c d ≡ true → (c < cell) ⊎ ((c ≡ cell) × (d < device))
 unfolding lower
-lower-parts cell device c d h =
+lower_parts cell device c d h =
     elim (or_cases (nat_lt c cell) ((c == cell) && nat_lt d device) h) as (λ _. (c < cell) ⊎ ((c ≡ cell) × (d < device))) [
       | inl first ↦ inl (ltb-true c cell first)
       | inr second ↦
@@ -31,41 +31,41 @@ lower-parts cell device c d h =
           inr (eqb-true c cell both.0, ltb-true d device both.1)
     ]
 
-lower-first : (cell device c d : ℕ) → c < cell → lower cell device c d ≡ true
+lower_first : (cell device c d : ℕ) → c < cell → lower cell device c d ≡ true
 unfolding lower
-lower-first cell device c d lt = or_left (nat_lt c cell) ((c == cell) && nat_lt d device) (lt-ltb c cell lt)
+lower_first cell device c d lt = or_left (nat_lt c cell) ((c == cell) && nat_lt d device) (lt-ltb c cell lt)
 
-lower-second : (cell device c d : ℕ) → c ≡ cell → d < device → lower cell device c d ≡ true
+lower_second : (cell device c d : ℕ) → c ≡ cell → d < device → lower cell device c d ≡ true
 unfolding lower
-lower-second cell device c d same lt =
+lower_second cell device c d same lt =
     or_right (nat_lt c cell) ((c == cell) && nat_lt d device) (and_from (c == cell) (nat_lt d device) (eq-eqb c cell same) (lt-ltb d device lt))
 
-lower-trans : (a b c d e f : ℕ) → lower c d a b ≡ true → lower e f c d ≡ true → lower e f a b ≡ true
-lower-trans a b c d e f one two =
-    elim (lower-parts c d a b one) as (λ _. lower e f a b ≡ true) [
-      | inl first ↦ elim (lower-parts e f c d two) as (λ _. lower e f a b ≡ true) [
-        | inl next ↦ lower-first e f a b (omega arith)
-        | inr next ↦ lower-first e f a b (let same = next.0 in omega arith)
+lower_trans : (a b c d e f : ℕ) → lower c d a b ≡ true → lower e f c d ≡ true → lower e f a b ≡ true
+lower_trans a b c d e f one two =
+    elim (lower_parts c d a b one) as (λ _. lower e f a b ≡ true) [
+      | inl first ↦ elim (lower_parts e f c d two) as (λ _. lower e f a b ≡ true) [
+        | inl next ↦ lower_first e f a b (omega arith)
+        | inr next ↦ lower_first e f a b (let same = next.0 in omega arith)
       ]
-      | inr first ↦ elim (lower-parts e f c d two) as (λ _. lower e f a b ≡ true) [
-        | inl next ↦ lower-first e f a b (let same = first.0 in omega arith)
-        | inr next ↦ lower-second e f a b (first.0 ∙ next.0) (let less = first.1 in let more = next.1 in omega arith)
+      | inr first ↦ elim (lower_parts e f c d two) as (λ _. lower e f a b ≡ true) [
+        | inl next ↦ lower_first e f a b (let same = first.0 in omega arith)
+        | inr next ↦ lower_second e f a b (first.0 ∙ next.0) (let less = first.1 in let more = next.1 in omega arith)
       ]
     ]
 
 -- two that differ are in one order or the other
-lower-other : (a b c d : ℕ) → lower c d a b ≡ false → (a ≡ c → b ≡ d → ⊥) → lower a b c d ≡ true
-lower-other a b c d fails differ =
+lower_other : (a b c d : ℕ) → lower c d a b ≡ false → (a ≡ c → b ≡ d → ⊥) → lower a b c d ≡ true
+lower_other a b c d fails differ =
     elim (cases_lt c a) as (λ _. lower a b c d ≡ true) [
-      | inl above ↦ lower-first a b c d above
+      | inl above ↦ lower_first a b c d above
       | inr low ↦ elim (cases_lt a c) as (λ _. lower a b c d ≡ true) [
-        | inl below ↦ absurd (both_ways (lower c d a b) fails (lower-first c d a b below))
+        | inl below ↦ absurd (both_ways (lower c d a b) fails (lower_first c d a b below))
         | inr high ↦
             let same : a ≡ c = omega arith in
             elim (cases_lt d b) as (λ _. lower a b c d ≡ true) [
-              | inl above ↦ lower-second a b c d (sym same) above
+              | inl above ↦ lower_second a b c d (sym same) above
               | inr less ↦ elim (cases_lt b d) as (λ _. lower a b c d ≡ true) [
-                | inl below ↦ absurd (both_ways (lower c d a b) fails (lower-second c d a b same below))
+                | inl below ↦ absurd (both_ways (lower c d a b) fails (lower_second c d a b same below))
                 | inr more ↦ absurd (differ same (let equal : b ≡ d = omega arith in equal))
               ]
             ]
@@ -73,12 +73,12 @@ lower-other a b c d fails differ =
     ]
 
 -- what is lower has another name
-lower-differs : (cell device c d : ℕ) → lower cell device c d ≡ true → ((c == cell) && (d == device)) ≡ false
-lower-differs cell device c d h = false_from_ne_true ((c == cell) && (d == device)) (λ same.
+lower_differs : (cell device c d : ℕ) → lower cell device c d ≡ true → ((c == cell) && (d == device)) ≡ false
+lower_differs cell device c d h = false_from_ne_true ((c == cell) && (d == device)) (λ same.
     let both = and_parts (c == cell) (d == device) same in
     let cells : c ≡ cell = eqb-true c cell both.0 in
     let devices : d ≡ device = eqb-true d device both.1 in
-    elim (lower-parts cell device c d h) as (λ _. ⊥) [
+    elim (lower_parts cell device c d h) as (λ _. ⊥) [
       | inl first ↦ (let no : ⊥ = omega arith in no)
       | inr second ↦ (let less = second.1 in let no : ⊥ = omega arith in no)
     ])
@@ -182,7 +182,7 @@ keys_partitioned cell device ks order i j d le within h =
       | inl same ↦ ap (λ n. is_key_before cell device (get_or ks n d)) same ∙ h
       | inr other ↦
           let before : i < j = omega arith in
-          lower-trans (get_or ks i d).cell (get_or ks i d).device (get_or ks j d).cell (get_or ks j d).device cell device
+          lower_trans (get_or ks i d).cell (get_or ks i d).device (get_or ks j d).cell (get_or ks j d).device cell device
           (order i j d before within) h
     ]
 
@@ -195,7 +195,7 @@ pub place_found : (cell device : ℕ) (ks : List Key) (i : ℕ) (d : Key) → Is
 unfolding lower
 place_found cell device ks i d place lt meant =
     position_here (is_key_meant (Device cell device)) ks i d lt
-    (λ j before. lower-differs cell device (get_or ks j d).cell (get_or ks j d).device (place.0 j d (omega arith) before))
+    (λ j before. lower_differs cell device (get_or ks j d).cell (get_or ks j d).device (place.0 j d (omega arith) before))
     meant
 
 -- one behind the place isn't meant where the one at the place isn't
@@ -216,7 +216,7 @@ none_by : (cell device : ℕ) (ks : List Key) (i : ℕ) (d : Key) → IsPlace ce
 unfolding lower
 none_by cell device ks i d place order fails = position_nowhere (is_key_meant (Device cell device)) ks d (λ j within.
     elim (cases_lt j i) as (λ _. is_key_meant (Device cell device) (get_or ks j d) ≡ false) [
-      | inl before ↦ lower-differs cell device (get_or ks j d).cell (get_or ks j d).device (place.0 j d (omega arith) before)
+      | inl before ↦ lower_differs cell device (get_or ks j d).cell (get_or ks j d).device (place.0 j d (omega arith) before)
       | inr past ↦ elim (cases_eq j i) as (λ _. is_key_meant (Device cell device) (get_or ks j d) ≡ false) [
         | inl here ↦
             let inside : i < length ks = omega arith in
@@ -267,13 +267,13 @@ inserted_joins s (e ∷ es) (suc i) bound place =
     ))
     ∙ sym (ap (λ b. cond b (e ∷ joined s es) (fresh s ∷ e ∷ es)) passes)
 
-apart_turned : (a b : EndpointSpec) → AreApart a b → AreApart b a
+pub apart_turned : (a b : EndpointSpec) → AreApart a b → AreApart b a
 apart_turned a b apart = record { devices = sym (device_turned a b) ∙ apart.devices; peers = sym (peer_turned a b) ∙ apart.peers }
 
 -- of two that are apart the one comes before the other that the other doesn't come before
 comes_before : (a s : EndpointSpec) → AreApart a s → is_before s.cell s.device a ≡ false → ComesBefore s a
 unfolding lower
-comes_before a s apart fails = lower-other a.cell a.device s.cell s.device fails (λ cells devices.
+comes_before a s apart fails = lower_other a.cell a.device s.cell s.device fails (λ cells devices.
     both_ways (is_device a.cell a.device s) apart.devices
     (and_from (s.cell == a.cell) (s.device == a.device) (eq-eqb s.cell a.cell (sym cells)) (eq-eqb s.device a.device (sym devices))))
 
@@ -296,9 +296,9 @@ keys_insert es i e =
     ∙ sym (map-append key_of (take i es) (e ∷ drop i es))
 
 -- an endpoint that is apart from all is put where it belongs
-pub kept-insert : (s : EndpointSpec) (es : List Endpoint) (i : ℕ) → i ≤ length es → AreKept es (map key_of es) → StandsAt s.cell s.device es i
+pub kept_insert : (s : EndpointSpec) (es : List Endpoint) (i : ℕ) → i ≤ length es → AreKept es (map key_of es) → StandsAt s.cell s.device es i
     → IsSound (fresh s) → All (λ (o : Endpoint). AreApart o.spec s) es → AreKept (insert es i (fresh s)) (insert (map key_of es) i (key_of (fresh s)))
-kept-insert s es i bound kept place sound new = record {
+kept_insert s es i bound kept place sound new = record {
   keys = keys_insert es i (fresh s);
   sound = sound_insert es i (fresh s) kept.sound sound;
   apart = pairs_map (λ (o : Endpoint). o.spec) AreApart (insert es i (fresh s))
@@ -325,7 +325,7 @@ joins s es now ks keys e key i kept bound place is_e is_key put keyed sound new 
     let inside : i ≤ length es = omega arith in
     let stands : StandsAt s.cell s.device es i = stands_at s.cell s.device es i inside (subst (λ l. IsPlace s.cell s.device l i) kept.keys place) in
     let own : AreKept es (map key_of es) = subst (AreKept es) kept.keys kept in
-    let all = kept-insert s es i inside own stands sound new in
+    let all = kept_insert s es i inside own stands sound new in
     let put_fresh : now ≡ insert es i (fresh s) = put ∙ ap (insert es i) is_e in
     let keyed_fresh : keys ≡ insert (map key_of es) i (key_of (fresh s)) =
     keyed ∙ ap (λ l. insert l i key) kept.keys ∙ ap (insert (map key_of es) i) (is_key ∙ ap key_of is_e) in

@@ -17,7 +17,7 @@ key_of e = record {
   pending = pending_in e;
 }
 
--- it has place for 16 vectors, and is within the limits
+-- it has room for 16 vectors, and is within the limits
 pub record IsSound (e : Endpoint) : Type 0 where
   pub vectors : length e.vectors ≡ 16
   pub within : IsWithin e.spec

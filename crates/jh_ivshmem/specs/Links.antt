@@ -35,12 +35,12 @@ abbrev pub rung : ℕ → ℕ → ℕ → List Endpoint → List Endpoint
 rung bdf target v list = changed (is_peer bdf target) (raised v) list
 
 -- the others of the endpoint's link learn that its state is another: vector 0 of each is raised
-abbrev pub told : EndpointSpec → List Endpoint → List Endpoint
-told spec list = changed (is_other spec.bdf spec.id) (raised 0) list
+abbrev pub others_raised : EndpointSpec → List Endpoint → List Endpoint
+others_raised spec list = changed (is_other spec.bdf spec.id) (raised 0) list
 
 -- they are told where the state gets another value
 abbrev pub told_of : Endpoint → ℕ → List Endpoint → List Endpoint
-told_of e value list = if e.state == value then list else told e.spec list
+told_of e value list = if e.state == value then list else others_raised e.spec list
 
 -- a write to the state register
 abbrev pub state_written : Endpoint → ℕ → List Endpoint → List Endpoint

@@ -6,7 +6,7 @@ use crate::spec::EndpointSpec;
 use crate::vector::Vector;
 use jh_vpci::ConfigSpace;
 
-/// A device of a cell on its link. It has place for 16 vectors, of which those past its count stay as
+/// A device of a cell on its link. It has room for 16 vectors, of which those past its count stay as
 /// they are after a reset.
 #[derive(Drop)]
 pub struct Endpoint {

@@ -142,7 +142,7 @@ fn make_room<T>(list: &mut Vec<T>) -> Result<(), NoMemory>
     Ok(())
 }
 
-/// Puts an element at the place, where there is room.
+/// Puts an element at the index, where there is room.
 fn put<T: Drop>(list: &mut Vec<T>, place: usize, element: T)
     requires place { place ≤ vec_len list.old }
     requires room { vec_len list.old < vec_capacity list.old }

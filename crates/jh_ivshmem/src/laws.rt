@@ -44,6 +44,7 @@ pub fn a_doorbell_reaches_one_endpoint(_links: &Endpoints)
         → is_peer bdf target (slice_index_or _links.now.list i d).spec ≡ true
         → is_peer bdf target (slice_index_or _links.now.list k d).spec ≡ false }
 {
+    // for the proof: the invariant, by which no two endpoints are alike
     let _ = &_links.keys;
 }
 
@@ -51,6 +52,7 @@ pub fn a_doorbell_reaches_one_endpoint(_links: &Endpoints)
 pub fn the_same_state_changes_nothing(_links: &Endpoints, _cell: u32, _device: u32)
     ensures { ForEndpoint _cell _device _links.now.list (λ e. written e 0 0x10 e.state _links.now.list ≡ _links.now.list) }
 {
+    // for the proof: the invariant, by which no two endpoints are alike
     let _ = &_links.keys;
 }
 

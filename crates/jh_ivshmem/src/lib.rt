@@ -20,6 +20,3 @@ pub use laws::{
 };
 pub use spec::{EndpointSpec, Slot};
 pub use vector::Vector;
-
-#[cfg(test)]
-mod tests;

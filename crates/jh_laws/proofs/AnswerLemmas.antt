@@ -26,20 +26,21 @@ use Rattle.jh_history.specs.Phases.{phase_act, configs_of, settled_of, heard_of}
 use Rattle.jh_history.specs.History.{after, facts, coming_of, coming_by}
 use Rattle.jh_history.specs.Due.{due_at, is_idle_but, IsLegal}
 use Rattle.jh_history.specs.Admitted.{IsAdmitted}
-use Rattle.jh_history.proofs.LegalLemmas.{facts-append}
+use Rattle.jh_history.proofs.LegalLemmas.{facts_append}
 use Rattle.jh_history.specs.Sound.{IsSound}
 use Rattle.jh_laws.specs.Ways.{is_phase, is_decide, is_commit, call_begun, begun}
 use Rattle.jh_laws.specs.Exchanges.{how_many, made_by_named, made_by_cell, IsSettledBy, IsHeardBy}
-use Rattle.jh_history.proofs.SoundLemmas.{sound-after}
-use Rattle.jh_laws.proofs.CallLemmas.{Expects, phase-expects, expects-counted, phase-of_due, begun-of, call-after, stretch, IsBeside, entry-of_call, not_same}
-use Rattle.jh_laws.proofs.DueCpusLemmas.{named-of, live-of, settled_with, heard_with}
-use Rattle.jh_laws.proofs.ExchangeLemmas.{counted_over, waits-over, settle-counts, noted-counts, settled-as, heard-as}
+use Rattle.jh_history.proofs.SoundLemmas.{sound_after}
+use Rattle.jh_history.proofs.PlainStepLemmas.{after_call}
+use Rattle.jh_laws.proofs.CallLemmas.{Expects, phase_expects, expects_counted, phase_of_due, begun_of, stretch, IsBeside, entry_of_call, not_same}
+use Rattle.jh_laws.proofs.DueCpusLemmas.{named_of, live_of, settled_with, heard_with}
+use Rattle.jh_laws.proofs.ExchangeLemmas.{counted_over, waits_over, settle_counts, noted_counts, settled_as, heard_as}
 
 -- ---- the phase that is waited in
 
 expects_over : (call : Call) (phase : Phase) (entries : List Entry) (act : Act) → Expects (counted_over call phase entries) act → Expects phase act
 expects_over call phase [] act h = h
-expects_over call phase (entry ∷ entries) act h = expects-counted entry.cell call phase act (expects_over call (counted entry.cell call phase) entries act h)
+expects_over call phase (entry ∷ entries) act h = expects_counted entry.cell call phase act (expects_over call (counted entry.cell call phase) entries act h)
 
 -- behind a Decide that goes on, a Settle is expected in one phase alone
 decided_settle : (call : Call) (coming : Option CellConfig) (how : Settled) → Expects (decided call coming None) (Settle how) → decided call coming None ≡ ToSettle 0
@@ -105,8 +106,8 @@ settles_by image f caller waited call how sound is h =
     let o : OpenCall = record { caller = caller; call = call; phase = ToSettle waited } in
     let idle : Bool = is_idle_but image f caller in
     let found = some_value (settled_with f idle waited) (named_cell f.cells call) how (settle_in (settled_of f idle call waited) how h) in
-    let live = named-of f.cells call found.0 found.1 in
-    (found.0, live.0, live.1, settled-as image f o found.0 waited how sound.cells is found.2)
+    let live = named_of f.cells call found.0 found.1 in
+    (found.0, live.0, live.1, settled_as image f o found.0 waited how sound.cells is found.2)
 
 -- at the entry itself
 settles_there : (image : Image) (f : Facts) (caller : ℕ) (call : Call) (middle : List Entry) (phase : Phase) (settle : Entry) (how : Settled) → phase ≡ ToSettle 0 → IsSound image f
@@ -116,7 +117,7 @@ settles_there image f caller call middle phase settle how zero_is sound is h =
     let n : ℕ = how_many (λ (e : Entry). is_named call e.cell) middle in
     let e : min (0 + n) (2 ^ 64 - 1) ≡ min n (2 ^ 64 - 1) = omega arith in
     let counts : counted_over call phase middle ≡ ToSettle (made_by_named call middle) =
-    ap (λ (p : Phase). counted_over call p middle) zero_is ∙ settle-counts call 0 middle (omega arith) ∙ ap ToSettle e in
+    ap (λ (p : Phase). counted_over call p middle) zero_is ∙ settle_counts call 0 middle (omega arith) ∙ ap ToSettle e in
     let P : Phase → Type 0 = λ p. f.call ≡ Some (record { caller = caller; call = call; phase = p }) in
     let Q : Phase → Type 0 = λ p. phase_act image f (is_idle_but image f caller) caller call p ≡ Some (Settle how) in
     settles_by image f caller (made_by_named call middle) call how sound (subst P counts is) (subst Q counts h)
@@ -127,13 +128,13 @@ own_act image f o entry act sound is due own act_is =
     ⊎_elim
     (λ made. made.1 ∙ ap Some act_is)
     (λ (beside : IsBeside image f o entry). absurd (beside.other own))
-    (entry-of_call image f o entry sound is due)
+    (entry_of_call image f o entry sound is due)
 
 -- the call behind a Decide that goes on, and behind a note
 decided_call : (image : Image) (f : Facts) (entry : Entry) (o : OpenCall) (call : Call) → f.call ≡ Some o → o.caller ≡ entry.cpu → o.call ≡ call → entry.act ≡ Decide None
     → (after image f entry).call ≡ Some (record { caller = entry.cpu; call = call; phase = decided call (coming_by image f call) None })
 decided_call image f entry o call opens caller same act =
-    call-after image f entry
+    after_call image f entry
     ∙ ap (λ (c : Option OpenCall). call_by f.cells (option_and_then (λ (x : OpenCall). coming_by image f x.call) c) c entry entry.act) opens
     ∙ ap (call_by f.cells (coming_by image f o.call) (Some o) entry) act
     ∙ ap (λ (k : Call). Some (record { caller = o.caller; call = k; phase = decided k (coming_by image f k) None })) same
@@ -142,36 +143,36 @@ decided_call image f entry o call opens caller same act =
 noted_call : (image : Image) (f : Facts) (entry : Entry) (o : OpenCall) (id about : ℕ) (answer : ℤ) → f.call ≡ Some o → o.caller ≡ entry.cpu → o.phase ≡ ToNote id about answer → entry.act ≡ Note id
     → (after image f entry).call ≡ Some (record { caller = entry.cpu; call = o.call; phase = ToNoted id about answer 0 })
 noted_call image f entry o id about answer opens caller phase act =
-    call-after image f entry
+    after_call image f entry
     ∙ ap (λ (c : Option OpenCall). call_by f.cells (coming_of image f) c entry entry.act) opens
     ∙ ap (call_by f.cells (coming_of image f) (Some o) entry) act
     ∙ ap (λ (p : Phase). Some (record { caller = o.caller; call = o.call; phase = after_note p })) phase
     ∙ ap (λ (k : ℕ). Some (record { caller = k; call = o.call; phase = ToNoted id about answer 0 })) caller
 
-pub settles-at : (image : Image) (before middle rest : List Entry) (decide settle first : Entry) (how : Settled) → IsAdmitted image → IsLegal image (before ++ decide ∷ (middle ++ settle ∷ rest)) → begun before ≡ Some first
+pub settles_at : (image : Image) (before middle rest : List Entry) (decide settle first : Entry) (how : Settled) → IsAdmitted image → IsLegal image (before ++ decide ∷ (middle ++ settle ∷ rest)) → begun before ≡ Some first
     → decide.act ≡ Decide None → All (λ (e : Entry). e.cpu ≢ decide.cpu) middle → settle.cpu ≡ decide.cpu → settle.act ≡ Settle how
     → (config : CellConfig) × Contains (configs_of (facts image (before ++ decide ∷ middle)).cells) config × (is_named (call_begun first.act) config.id ≡ true)
     × IsSettledBy image (facts image (before ++ decide ∷ middle)) decide.cpu config (made_by_named (call_begun first.act) middle) how
-settles-at image before middle rest decide settle first how admitted legal is act others own settles =
+settles_at image before middle rest decide settle first how admitted legal is act others own settles =
     let s = stretch image before middle rest decide settle admitted legal in
     let f0 : Facts = facts image before in
     let f1 : Facts = after image f0 decide in
     let f : Facts = fold (after image) f1 middle in
-    let of = phase-of_due image f0 decide s.sound s.first_due (ap is_phase act) in
+    let of = phase_of_due image f0 decide s.sound s.first_due (ap is_phase act) in
     let o : OpenCall = of.o in
     let call : Call = call_begun first.act in
-    let begins = begun-of image before o of.opens in
+    let begins = begun_of image before o of.opens in
     let same : o.call ≡ call = begins.3 ∙ ap (λ (e : Entry). call_begun e.act) (same_Some begins.0 first (sym begins.1 ∙ is)) in
     let caller : ℕ = decide.cpu in
     let coming : Option CellConfig = coming_by image f0 call in
     let made = decided_call image f0 decide o call of.opens of.caller same act in
-    let waits = waits-over image caller call (decided call coming None) f1 middle (sound-after image f0 decide s.sound s.first_due) made s.between others in
+    let waits = waits_over image caller call (decided call coming None) f1 middle (sound_after image f0 decide s.sound s.first_due) made s.between others in
     let open_there : OpenCall = record { caller = caller; call = call; phase = counted_over call (decided call coming None) middle } in
     let acts = own_act image f open_there settle (Settle how) waits.0 waits.1 s.last_due own settles in
-    let expected = expects_over call (decided call coming None) middle (Settle how) (phase-expects image f (is_idle_but image f caller) caller call (counted_over call (decided call coming None) middle) (Settle how) acts) in
+    let expected = expects_over call (decided call coming None) middle (Settle how) (phase_expects image f (is_idle_but image f caller) caller call (counted_over call (decided call coming None) middle) (Settle how) acts) in
     let says = settles_there image f caller call middle (decided call coming None) settle how (decided_settle call coming how expected) waits.0 waits.1 acts in
     let P : Facts → Type 0 = λ g. (config : CellConfig) × Contains (configs_of g.cells) config × (is_named call config.id ≡ true) × IsSettledBy image g caller config (made_by_named call middle) how in
-    subst P (sym (facts-append image before (decide ∷ middle))) says
+    subst P (sym (facts_append image before (decide ∷ middle))) says
 
 hears_by : (image : Image) (f : Facts) (caller id about waited other : ℕ) (answer : ℤ) (call : Call) (how : Heard) → IsSound image f → f.call ≡ Some (record { caller = caller; call = call; phase = ToNoted id about answer waited })
     → phase_act image f (is_idle_but image f caller) caller call (ToNoted id about answer waited) ≡ Some (Noted other how)
@@ -182,33 +183,33 @@ hears_by image f caller id about waited other answer call how sound is h =
     let told = heard_in id other (heard_of f idle id waited) how h in
     let found = some_value (heard_with f idle id waited) (live_in f.cells id) how told.0 in
     let c : CellConfig = found.0 in
-    let live = live-of f.cells id (find (has_id id) f.cells) c refl found.1 in
+    let live = live_of f.cells id (find (has_id id) f.cells) c refl found.1 in
     let P : ℕ → Type 0 = λ k. heard_with f idle k waited c ≡ Some how in
-    (told.1, (c, live.0, live.1, heard-as image f o c waited how sound.cells is (subst P (sym live.1) found.2)))
+    (told.1, (c, live.0, live.1, heard_as image f o c waited how sound.cells is (subst P (sym live.1) found.2)))
 
-pub hears-at : (image : Image) (before middle rest : List Entry) (note noted : Entry) (id other : ℕ) (how : Heard) → IsAdmitted image → IsLegal image (before ++ note ∷ (middle ++ noted ∷ rest))
+pub hears_at : (image : Image) (before middle rest : List Entry) (note noted : Entry) (id other : ℕ) (how : Heard) → IsAdmitted image → IsLegal image (before ++ note ∷ (middle ++ noted ∷ rest))
     → note.act ≡ Note id → All (λ (e : Entry). e.cpu ≢ note.cpu) middle → noted.cpu ≡ note.cpu → noted.act ≡ Noted other how
     → (other ≡ id) × ((config : CellConfig) × Contains (configs_of (facts image (before ++ note ∷ middle)).cells) config × (config.id ≡ id) × IsHeardBy image (facts image (before ++ note ∷ middle)) note.cpu config (made_by_cell id middle) how)
-hears-at image before middle rest note noted id other how admitted legal act others own hears =
+hears_at image before middle rest note noted id other how admitted legal act others own hears =
     let s = stretch image before middle rest note noted admitted legal in
     let f0 : Facts = facts image before in
     let f1 : Facts = after image f0 note in
     let f : Facts = fold (after image) f1 middle in
-    let of = phase-of_due image f0 note s.sound s.first_due (ap is_phase act) in
+    let of = phase_of_due image f0 note s.sound s.first_due (ap is_phase act) in
     let o : OpenCall = of.o in
     let caller : ℕ = note.cpu in
     let E : Act → Type 0 = Expects o.phase in
-    let told = note_phase o.phase id (subst E act (phase-expects image f0 (is_idle_but image f0 o.caller) o.caller o.call o.phase note.act of.act)) in
+    let told = note_phase o.phase id (subst E act (phase_expects image f0 (is_idle_but image f0 o.caller) o.caller o.call o.phase note.act of.act)) in
     let about : ℕ = told.0 in
     let answer : ℤ = told.1 in
     let made = noted_call image f0 note o id about answer of.opens of.caller told.2 act in
-    let waits = waits-over image caller o.call (ToNoted id about answer 0) f1 middle (sound-after image f0 note s.sound s.first_due) made s.between others in
+    let waits = waits_over image caller o.call (ToNoted id about answer 0) f1 middle (sound_after image f0 note s.sound s.first_due) made s.between others in
     let n : ℕ = how_many (λ (e : Entry). eqb e.cell id) middle in
     let e : min (0 + n) (2 ^ 64 - 1) ≡ min n (2 ^ 64 - 1) = omega arith in
-    let counts : counted_over o.call (ToNoted id about answer 0) middle ≡ ToNoted id about answer (made_by_cell id middle) = noted-counts o.call id about 0 answer middle (omega arith) ∙ ap (ToNoted id about answer) e in
+    let counts : counted_over o.call (ToNoted id about answer 0) middle ≡ ToNoted id about answer (made_by_cell id middle) = noted_counts o.call id about 0 answer middle (omega arith) ∙ ap (ToNoted id about answer) e in
     let acts = own_act image f (record { caller = caller; call = o.call; phase = counted_over o.call (ToNoted id about answer 0) middle }) noted (Noted other how) waits.0 waits.1 s.last_due own hears in
     let P : Phase → Type 0 = λ p. f.call ≡ Some (record { caller = caller; call = o.call; phase = p }) in
     let Q : Phase → Type 0 = λ p. phase_act image f (is_idle_but image f caller) caller o.call p ≡ Some (Noted other how) in
     let says = hears_by image f caller id about (made_by_cell id middle) other answer o.call how waits.0 (subst P counts waits.1) (subst Q counts acts) in
     let R : Facts → Type 0 = λ g. (config : CellConfig) × Contains (configs_of g.cells) config × (config.id ≡ id) × IsHeardBy image g caller config (made_by_cell id middle) how in
-    (says.0, subst R (sym (facts-append image before (note ∷ middle))) says.1)
+    (says.0, subst R (sym (facts_append image before (note ∷ middle))) says.1)

@@ -25,20 +25,20 @@ use Rattle.jh_history.specs.Endpoints.{with_words}
 use Rattle.jh_history.specs.History.{after, facts}
 use Rattle.jh_history.specs.Due.{IsLegal, IsLegalFrom}
 use Rattle.jh_history.specs.Admitted.{IsAdmitted, has_byte_at, IsOtherPreload}
-use Rattle.jh_history.proofs.AloneLemmas.{byte_after-roots}
-use Rattle.jh_history.proofs.FactsLemmas.{byte-after, facts-push, facts-nil}
-use Rattle.jh_history.proofs.LegalLemmas.{IsLegal-begin, IsLegal-rest, facts-append}
+use Rattle.jh_history.proofs.AloneLemmas.{byte_after_roots}
+use Rattle.jh_history.proofs.FactsLemmas.{byte_after_holds, facts_push, facts_nil}
+use Rattle.jh_history.proofs.LegalLemmas.{IsLegal_begin, IsLegal_rest, facts_append}
 use Rattle.jh_laws.specs.Outcomes.{is_violation}
 use Rattle.jh_laws.specs.Writes.{Writes, WritesNot}
 use Rattle.jh_laws.specs.Written.{IsByteBy}
 use Rattle.jh_laws.specs.Ends.{IsAnsweredByRegister}
 use Rattle.jh_laws.specs.Journals.{HasNoDevice}
-use Rattle.jh_laws.proofs.RootLemmas.{op-plain}
-use Rattle.jh_laws.proofs.EndsLemmas.{IsSmallAct, op-small}
-use Rattle.jh_laws.proofs.WordLemmas.{words-page}
-use Rattle.jh_laws.proofs.WrittenLemmas.{write-puts, write-kept}
-use Rattle.jh_laws.proofs.MadeLemmas.{IsSilent, by_root, IsNext, AllRoots, no-specs_of_root, next-made, roots_after, roots-at, made-at}
-use Rattle.jh_laws.proofs.OutcomeLemmas.{roots-sound}
+use Rattle.jh_laws.proofs.RootLemmas.{op_plain}
+use Rattle.jh_laws.proofs.EndsLemmas.{IsSmallAct, op_small_holds}
+use Rattle.jh_laws.proofs.WordLemmas.{words_page}
+use Rattle.jh_laws.proofs.WrittenLemmas.{write_puts, write_kept}
+use Rattle.jh_laws.proofs.MadeLemmas.{IsSilent, by_root, IsNext, AllRoots, no_specs_of_root, next_made, roots_after, roots_at, made_at}
+use Rattle.jh_laws.proofs.OutcomeLemmas.{roots_sound}
 
 -- root has no register, where no device has an endpoint
 no_register : (image : Image) (f : Facts) (at width n bar offset : ℕ) (e : Endpoint) → f.endpoints ≡ [] → IsAnsweredByRegister image f image.system.root.id ToWrite at width n bar offset e → ⊥
@@ -50,13 +50,13 @@ no_register image f at width n bar offset e bare by =
 is_written : (image : Image) (f : Facts) (act : Act) (place : Place) (byte : ℕ) → IsSilent image → AllRoots image f → Writes image image.system.root act place byte → byte_written image f image.system.root.id act place ≡ byte
 is_written image f (Write width at value true) place byte admitted roots writes =
     let P : List Live → Type 0 = λ cells. IsByteBy image cells image.system.root.id at width value place byte in
-    write-puts image f image.system.root.id at width value place byte (roots-sound image f admitted roots) (subst P (sym roots.alone.cells) writes.1)
+    write_puts image f image.system.root.id at width value place byte (roots_sound image f admitted roots) (subst P (sym roots.alone.cells) writes.1)
 is_written image f (Write width at value false) place byte admitted roots writes = absurd (false≢true writes.0)
 is_written image f _ place byte admitted roots writes = absurd writes
 
 byte_kept : (image : Image) (f : Facts) (act : Act) (place : Place) → IsSilent image → AllRoots image f → IsSmallAct act → ((byte : ℕ) → Writes image image.system.root act place byte → ⊥) → byte_written image f image.system.root.id act place ≡ f.byte place
 byte_kept image f (Write width at value true) place admitted roots small none =
-    write-kept image f image.system.root.id at width value place (roots-sound image f admitted roots) small.1
+    write_kept image f image.system.root.id at width value place (roots_sound image f admitted roots) small.1
     (λ byte h. let P : List Live → Type 0 = λ cells. IsByteBy image cells image.system.root.id at width value place byte in none byte (refl, subst P roots.alone.cells h))
     (λ n e by. absurd (no_register image f at width n 0 0x10 e roots.endpoints by))
 byte_kept image f (Write width at value false) place admitted roots small none = refl
@@ -65,13 +65,13 @@ byte_kept image f _ place admitted roots small none = refl
 -- the value fits its width
 made_small : (image : Image) (f : Facts) (entry : Entry) → IsSilent image → IsNext image f entry → IsSmallAct entry.act
 made_small image f entry admitted made =
-    op-small image f image.system.root.id made.op entry.act (op-plain image (name_of image.system.root) entry.cpu (f.cpu entry.cpu).position made.op admitted.admitted made.at) made.act
+    op_small_holds image f image.system.root.id made.op entry.act (op_plain image (name_of image.system.root) entry.cpu (f.cpu entry.cpu).position made.op admitted.admitted made.at) made.act
 
 -- one entry
 after_at_root : (image : Image) (f : Facts) (entry : Entry) (place : Place) → IsSilent image → AllRoots image f → IsNext image f entry → (after image f entry).byte place ≡ byte_written image f image.system.root.id entry.act place
 after_at_root image f entry place admitted roots made =
-    ap (λ (byte : Place → ℕ). byte place) (byte-after image f entry)
-    ∙ byte_after-roots image f entry place (by_root image f entry admitted roots made)
+    ap (λ (byte : Place → ℕ). byte place) (byte_after_holds image f entry)
+    ∙ byte_after_roots image f entry place (by_root image f entry admitted roots made)
     ∙ ap (λ (cell : ℕ). byte_written image f cell entry.act place) (made.cell_is ∙ (roots.cpus entry.cpu).owner)
 
 after_written : (image : Image) (f : Facts) (entry : Entry) (place : Place) (byte : ℕ) → IsSilent image → AllRoots image f → IsNext image f entry → Writes image image.system.root entry.act place byte → (after image f entry).byte place ≡ byte
@@ -83,19 +83,19 @@ after_kept image f entry place admitted roots made none =
     after_at_root image f entry place admitted roots made ∙ byte_kept image f entry.act place admitted roots (made_small image f entry admitted made) none
 
 roots_before : (image : Image) (before rest : List Entry) → IsSilent image → IsLegal image (before ++ rest) → AllRoots image (facts image before)
-roots_before image before rest admitted legal = roots-at image before admitted (IsLegal-begin image before rest legal)
+roots_before image before rest admitted legal = roots_at image before admitted (IsLegal_begin image before rest legal)
 
-pub byte-written : (image : Image) (before rest : List Entry) (entry : Entry) (place : Place) (byte : ℕ) → IsSilent image → IsLegal image (before ++ entry ∷ rest) → Writes image image.system.root entry.act place byte
+pub byte_written_holds : (image : Image) (before rest : List Entry) (entry : Entry) (place : Place) (byte : ℕ) → IsSilent image → IsLegal image (before ++ entry ∷ rest) → Writes image image.system.root entry.act place byte
     → (facts image (before ++ entry ∷ [])).byte place ≡ byte
-byte-written image before rest entry place byte admitted legal writes =
-    ap (λ (f : Facts). f.byte place) (facts-push image before entry)
-    ∙ after_written image (facts image before) entry place byte admitted (roots_before image before (entry ∷ rest) admitted legal) (made-at image before rest entry admitted legal) writes
+byte_written_holds image before rest entry place byte admitted legal writes =
+    ap (λ (f : Facts). f.byte place) (facts_push image before entry)
+    ∙ after_written image (facts image before) entry place byte admitted (roots_before image before (entry ∷ rest) admitted legal) (made_at image before rest entry admitted legal) writes
 
-pub byte-kept : (image : Image) (before rest : List Entry) (entry : Entry) (place : Place) → IsSilent image → IsLegal image (before ++ entry ∷ rest) → WritesNot image image.system.root place entry
+pub byte_kept_holds : (image : Image) (before rest : List Entry) (entry : Entry) (place : Place) → IsSilent image → IsLegal image (before ++ entry ∷ rest) → WritesNot image image.system.root place entry
     → (facts image (before ++ entry ∷ [])).byte place ≡ (facts image before).byte place
-byte-kept image before rest entry place admitted legal none =
-    ap (λ (f : Facts). f.byte place) (facts-push image before entry)
-    ∙ after_kept image (facts image before) entry place admitted (roots_before image before (entry ∷ rest) admitted legal) (made-at image before rest entry admitted legal) none
+byte_kept_holds image before rest entry place admitted legal none =
+    ap (λ (f : Facts). f.byte place) (facts_push image before entry)
+    ∙ after_kept image (facts image before) entry place admitted (roots_before image before (entry ∷ rest) admitted legal) (made_at image before rest entry admitted legal) none
 
 -- a violation writes nothing
 violation_writes : (image : Image) (act : Act) (place : Place) (byte : ℕ) → is_violation act ≡ true → Writes image image.system.root act place byte → ⊥
@@ -103,33 +103,33 @@ violation_writes image (Write width at value true) place byte h writes = false�
 violation_writes image (Write width at value false) place byte h writes = false≢true writes.0
 violation_writes image _ place byte h writes = writes
 
-pub byte-violation : (image : Image) (before rest : List Entry) (entry : Entry) (place : Place) → IsSilent image → IsLegal image (before ++ entry ∷ rest) → is_violation entry.act ≡ true
+pub byte_violation : (image : Image) (before rest : List Entry) (entry : Entry) (place : Place) → IsSilent image → IsLegal image (before ++ entry ∷ rest) → is_violation entry.act ≡ true
     → (facts image (before ++ entry ∷ [])).byte place ≡ (facts image before).byte place
-byte-violation image before rest entry place admitted legal h = byte-kept image before rest entry place admitted legal (λ byte. violation_writes image entry.act place byte h)
+byte_violation image before rest entry place admitted legal h = byte_kept_holds image before rest entry place admitted legal (λ byte. violation_writes image entry.act place byte h)
 
 -- entries that don't write the place
 kept_from : (image : Image) (f : Facts) (entries : List Entry) (place : Place) → IsSilent image → AllRoots image f → IsLegalFrom image f entries → AllByRecursion (WritesNot image image.system.root place) entries
     → (fold (after image) f entries).byte place ≡ f.byte place
 kept_from image f [] place admitted roots legal none = refl
 kept_from image f (entry ∷ entries) place admitted roots legal none =
-    let made : IsNext image f entry = next-made image f entry entries roots legal in
+    let made : IsNext image f entry = next_made image f entry entries roots legal in
     kept_from image (after image f entry) entries place admitted (roots_after image f entry admitted made roots) legal.1 none.1 ∙ after_kept image f entry place admitted roots made none.0
 
-pub byte-rest : (image : Image) (before rest : List Entry) (place : Place) → IsSilent image → IsLegal image (before ++ rest) → AllByRecursion (WritesNot image image.system.root place) rest
+pub byte_rest : (image : Image) (before rest : List Entry) (place : Place) → IsSilent image → IsLegal image (before ++ rest) → AllByRecursion (WritesNot image image.system.root place) rest
     → (facts image (before ++ rest)).byte place ≡ (facts image before).byte place
-byte-rest image before rest place admitted legal none =
-    ap (λ (f : Facts). f.byte place) (facts-append image before rest)
-    ∙ kept_from image (facts image before) rest place admitted (roots_before image before rest admitted legal) (IsLegal-rest image before rest legal) none
+byte_rest image before rest place admitted legal none =
+    ap (λ (f : Facts). f.byte place) (facts_append image before rest)
+    ∙ kept_from image (facts image before) rest place admitted (roots_before image before rest admitted legal) (IsLegal_rest image before rest legal) none
 
 -- the last entry that wrote the place gave it its byte
-pub byte-last : (image : Image) (before rest : List Entry) (entry : Entry) (place : Place) (byte : ℕ) → IsSilent image → IsLegal image (before ++ entry ∷ rest) → Writes image image.system.root entry.act place byte → AllByRecursion (WritesNot image image.system.root place) rest
+pub byte_last : (image : Image) (before rest : List Entry) (entry : Entry) (place : Place) (byte : ℕ) → IsSilent image → IsLegal image (before ++ entry ∷ rest) → Writes image image.system.root entry.act place byte → AllByRecursion (WritesNot image image.system.root place) rest
     → (facts image (before ++ entry ∷ rest)).byte place ≡ byte
-byte-last image before rest entry place byte admitted legal writes none =
+byte_last image before rest entry place byte admitted legal writes none =
     let split : (before ++ entry ∷ []) ++ rest ≡ before ++ entry ∷ rest = append_assoc before (entry ∷ []) rest in
     let P : List Entry → Type 0 = IsLegal image in
     ap (λ (es : List Entry). (facts image es).byte place) (sym split)
-    ∙ byte-rest image (before ++ entry ∷ []) rest place admitted (subst P (sym split) legal) none
-    ∙ byte-written image before rest entry place byte admitted legal writes
+    ∙ byte_rest image (before ++ entry ∷ []) rest place admitted (subst P (sym split) legal) none
+    ∙ byte_written_holds image before rest entry place byte admitted legal writes
 
 -- preloads
 abbrev NoneAt : List Preload → ℕ → Type 0
@@ -164,24 +164,24 @@ opened_put f (p ∷ ps) place (suc i) d lt has apart = opened_put (preloaded f p
 -- the bytes at opening, where root has no device
 opening_is : (image : Image) (q : Place) → HasNoDevice image → (facts image []).byte q ≡ loaded_byte image q
 opening_is image q bare =
-    ap (λ (f : Facts). f.byte q) (facts-nil image)
-    ∙ ap (λ (specs : List EndpointSpec). with_words specs (loaded_byte image) q) (no-specs_of_root image bare)
+    ap (λ (f : Facts). f.byte q) (facts_nil image)
+    ∙ ap (λ (specs : List EndpointSpec). with_words specs (loaded_byte image) q) (no_specs_of_root image bare)
 
 -- no word of a state table is in a page
-pub opening-page : (image : Image) (cell offset : ℕ) → (facts image []).byte (Page cell offset) ≡ 0
-opening-page image cell offset = ap (λ (f : Facts). f.byte (Page cell offset)) (facts-nil image) ∙ words-page (specs_of image.system.root) (loaded_byte image) cell offset
+pub opening_page : (image : Image) (cell offset : ℕ) → (facts image []).byte (Page cell offset) ≡ 0
+opening_page image cell offset = ap (λ (f : Facts). f.byte (Page cell offset)) (facts_nil image) ∙ words_page (specs_of image.system.root) (loaded_byte image) cell offset
 
 -- what a preload puts stands there at opening
-opening-put : (image : Image) (place : ℕ) (p : Preload) → IsAdmitted image → HasNoDevice image → Contains image.preloads p → IsTrue (has_byte_at p place) → (facts image []).byte (Physical place) ≡ slice_index p.bytes (place - p.at)
-opening-put image place p admitted bare held has =
+opening_put : (image : Image) (place : ℕ) (p : Preload) → IsAdmitted image → HasNoDevice image → Contains image.preloads p → IsTrue (has_byte_at p place) → (facts image []).byte (Physical place) ≡ slice_index p.bytes (place - p.at)
+opening_put image place p admitted bare held has =
     let same : get_or image.preloads held.0 p ≡ p = held.2 in
     opening_is image (Physical place) bare
     ∙ opened_put (λ _. 0) image.preloads place held.0 p held.1 (ap (λ (q : Preload). has_byte_at q place) same ∙ has) admitted.apart
     ∙ ap (λ (q : Preload). slice_index q.bytes (place - q.at)) same
 
 -- and 0 elsewhere
-opening-none : (image : Image) (place : ℕ) → HasNoDevice image → ((p : Preload) → Contains image.preloads p → IsTrue (has_byte_at p place) → ⊥) → (facts image []).byte (Physical place) ≡ 0
-opening-none image place bare none =
+opening_none : (image : Image) (place : ℕ) → HasNoDevice image → ((p : Preload) → Contains image.preloads p → IsTrue (has_byte_at p place) → ⊥) → (facts image []).byte (Physical place) ≡ 0
+opening_none image place bare none =
     let each : NoneAt image.preloads place = λ k d lt. elim (cases_Bool (has_byte_at (get_or image.preloads k d) place)) [
       | inl has ↦ absurd (none (get_or image.preloads k d) (k, lt, get_or_default image.preloads k (get_or image.preloads k d) d lt) has)
       | inr absent ↦ absent
@@ -189,17 +189,17 @@ opening-none image place bare none =
     opening_is image (Physical place) bare ∙ opened_none (λ _. 0) image.preloads place each
 
 -- both by the place's number in the preload
-has_byte-there : (p : Preload) (k : ℕ) → k < length p.bytes → has_byte_at p (p.at + k) ≡ true
-has_byte-there p k lt = and_from (leb p.at (p.at + k)) (ltb (p.at + k) (p.at + length p.bytes)) (le-leb p.at (p.at + k) (omega arith)) (lt-ltb (p.at + k) (p.at + length p.bytes) (omega arith))
+has_byte_there : (p : Preload) (k : ℕ) → k < length p.bytes → has_byte_at p (p.at + k) ≡ true
+has_byte_there p k lt = and_from (leb p.at (p.at + k)) (ltb (p.at + k) (p.at + length p.bytes)) (le-leb p.at (p.at + k) (omega arith)) (lt-ltb (p.at + k) (p.at + length p.bytes) (omega arith))
 
-pub opening-byte : (image : Image) (p : Preload) (k : ℕ) → IsAdmitted image → HasNoDevice image → Contains image.preloads p → k < length p.bytes → (facts image []).byte (Physical (p.at + k)) ≡ slice_index p.bytes k
-opening-byte image p k admitted bare held lt =
+pub opening_byte : (image : Image) (p : Preload) (k : ℕ) → IsAdmitted image → HasNoDevice image → Contains image.preloads p → k < length p.bytes → (facts image []).byte (Physical (p.at + k)) ≡ slice_index p.bytes k
+opening_byte image p k admitted bare held lt =
     let same : (p.at + k) - p.at ≡ k = omega arith in
-    opening-put image (p.at + k) p admitted bare held (has_byte-there p k lt) ∙ ap (slice_index p.bytes) same
+    opening_put image (p.at + k) p admitted bare held (has_byte_there p k lt) ∙ ap (slice_index p.bytes) same
 
-pub opening-zero : (image : Image) (place : ℕ) → HasNoDevice image → ((p : Preload) (k : ℕ) → Contains image.preloads p → k < length p.bytes → place ≢ p.at + k) → (facts image []).byte (Physical place) ≡ 0
-opening-zero image place bare none =
-    opening-none image place bare (λ p held has.
+pub opening_zero : (image : Image) (place : ℕ) → HasNoDevice image → ((p : Preload) (k : ℕ) → Contains image.preloads p → k < length p.bytes → place ≢ p.at + k) → (facts image []).byte (Physical place) ≡ 0
+opening_zero image place bare none =
+    opening_none image place bare (λ p held has.
     let parts = and_parts (leb p.at place) (ltb place (p.at + length p.bytes)) has in
     let first : p.at ≤ place = leb-true p.at place parts.0 in
     let last : place < p.at + length p.bytes = ltb-true place (p.at + length p.bytes) parts.1 in

@@ -31,14 +31,16 @@ use Rattle.jh_history.specs.Configs.{ReadCell, config_read}
 use Rattle.jh_history.specs.History.{start, after, facts, coming_of, coming_by}
 use Rattle.jh_history.specs.Phases.{phase_act, configs_of, settled_of, heard_of, decision, keeps_decide, keeps_commit}
 use Rattle.jh_history.specs.Due.{due_at, due, is_idle_but, IsLegal, IsLegalFrom}
-use Rattle.jh_history.proofs.FactsLemmas.{facts-push}
-use Rattle.jh_history.proofs.LegalLemmas.{due-split, IsLegal-begin, IsLegal-rest}
+use Rattle.jh_history.proofs.FactsLemmas.{facts_push}
+use Rattle.jh_history.proofs.LegalLemmas.{due_split, IsLegal_begin, IsLegal_rest}
 use Rattle.jh_history.specs.Sound.{HasCome, IsAboutLive, IsCreate, IsNews, IsOpen, IsSoundCall, IsSound}
 use Rattle.jh_laws.specs.Ways.{is_phase, is_call, is_decide, is_finish, is_agreement, is_commit, call_begun, begun_by, begun, IsBegun, IsNoteOr, IsTelling, IsBehindGo, IsBehindCommit, MayFollow}
-use Rattle.jh_history.proofs.SoundCpusLemmas.{come-rests, halting-rests, root-unnamed}
-use Rattle.jh_history.proofs.SoundDueLemmas.{IsNext, next-from_due, Comes, IsOfProgram, state-parts, IsOfCall, call-parts}
-use Rattle.jh_history.proofs.SoundDecideLemmas.{coming-from_decision}
-use Rattle.jh_history.proofs.SoundLemmas.{sound-after, legal-sound}
+use Rattle.jh_history.proofs.SoundCpusLemmas.{come_rests, halting_rests, root_unnamed}
+use Rattle.jh_history.proofs.SoundDueLemmas.{IsNext, next_from_due, IsOutcomeOf, IsOfProgram, state_parts, IsOfCall, call_parts}
+use Rattle.jh_history.proofs.SoundDecideLemmas.{coming_from_decision}
+use Rattle.jh_history.proofs.SoundLemmas.{sound_after, legal_sound}
+use Rattle.jh_history.proofs.DuePhaseLemmas.{noted_act, settle_act}
+use Rattle.jh_history.proofs.PlainStepLemmas.{after_call}
 
 -- ---- an entry beside a call
 
@@ -54,7 +56,7 @@ IsEntryOf image f o entry =
     ((o.caller ≡ entry.cpu) × (phase_act image f (is_idle_but image f o.caller) o.caller o.call o.phase ≡ Some entry.act))
     ⊎ IsBeside image f o entry
 
-no_call : (image : Image) (cell : ℕ) (op : Op) (act : Act) → cell ≢ image.system.root.id → Comes image cell op act → is_call act ≡ false
+no_call : (image : Image) (cell : ℕ) (op : Op) (act : Act) → cell ≢ image.system.root.id → IsOutcomeOf image cell op act → is_call act ≡ false
 no_call image cell op (Read width at got) other comes = refl
 no_call image cell op (Write width at value ok) other comes = refl
 no_call image cell op (Fetch at got) other comes = refl
@@ -79,7 +81,7 @@ entry_of_parts image f o entry opens next h =
     ⊎_elim
     (λ stops. inr (record { other = other.0; act = ap is_call (sym stops.1); who = inl stops }))
     (λ (program : IsOfProgram image f (f.cpu entry.cpu) entry.cpu entry.act).
-    let apart : (f.cpu entry.cpu).owner ≢ image.system.root.id = λ is. come-rests o.phase (f.cpu entry.cpu) (opens.roots entry.cpu next.board other.0 is) program.goes in
+    let apart : (f.cpu entry.cpu).owner ≢ image.system.root.id = λ is. come_rests o.phase (f.cpu entry.cpu) (opens.roots entry.cpu next.board other.0 is) program.goes in
     inr (record { other = other.0; act = no_call image (f.cpu entry.cpu).owner program.op entry.act apart program.comes; who = inr (program, apart) }))
     other.1)
     h
@@ -90,17 +92,17 @@ with_call f call = record f { call = call }
 
 entry_by_call : (image : Image) (f : Facts) (o : OpenCall) (entry : Entry) → IsSound image (with_call f (Some o)) → due_at image (with_call f (Some o)) entry.cpu ≡ Some entry → IsEntryOf image (with_call f (Some o)) o entry
 entry_by_call image f o entry sound due =
-    let next = next-from_due image (with_call f (Some o)) entry due in
-    entry_of_parts image (with_call f (Some o)) o entry sound.call next (call-parts image (with_call f (Some o)) o entry.cpu entry.act sound.call.caller next.act)
+    let next = next_from_due image (with_call f (Some o)) entry due in
+    entry_of_parts image (with_call f (Some o)) o entry sound.call next (call_parts image (with_call f (Some o)) o entry.cpu entry.act sound.call.caller next.act)
 
-pub entry-of_call : (image : Image) (f : Facts) (o : OpenCall) (entry : Entry) → IsSound image f → f.call ≡ Some o → due_at image f entry.cpu ≡ Some entry → IsEntryOf image f o entry
-entry-of_call image f o entry sound is due =
+pub entry_of_call : (image : Image) (f : Facts) (o : OpenCall) (entry : Entry) → IsSound image f → f.call ≡ Some o → due_at image f entry.cpu ≡ Some entry → IsEntryOf image f o entry
+entry_of_call image f o entry sound is due =
     let P : Option OpenCall → Type 0 = λ c. IsSound image (with_call f c) → due_at image (with_call f c) entry.cpu ≡ Some entry → IsEntryOf image (with_call f c) o entry in
     subst P (sym is) (entry_by_call image f o entry) sound due
 
 -- the call is open, as it says
-pub sound-open : (image : Image) (f : Facts) (o : OpenCall) → IsSound image f → f.call ≡ Some o → IsOpen image (configs_of f.cells) f.cpu o
-sound-open image f o sound is =
+pub sound_open : (image : Image) (f : Facts) (o : OpenCall) → IsSound image f → f.call ≡ Some o → IsOpen image (configs_of f.cells) f.cpu o
+sound_open image f o sound is =
     let P : Option OpenCall → Type 0 = λ c. IsSoundCall image (configs_of f.cells) f.cpu c in
     subst P is sound.call
 
@@ -122,14 +124,10 @@ counted_act cells coming o entry (Note id) own = absurd (both_ways true own refl
 counted_act cells coming o entry (Noted id how) own = absurd (both_ways true own refl)
 counted_act cells coming o entry (Finish answer) own = absurd (both_ways true own refl)
 
-pub call-after : (image : Image) (f : Facts) (entry : Entry) → (after image f entry).call ≡ call_by f.cells (coming_of image f) f.call entry entry.act
-unfolding after
-call-after image f entry = refl
-
-pub call-counted : (image : Image) (f : Facts) (o : OpenCall) (entry : Entry) → f.call ≡ Some o → is_call entry.act ≡ false
+pub call_counted : (image : Image) (f : Facts) (o : OpenCall) (entry : Entry) → f.call ≡ Some o → is_call entry.act ≡ false
     → (after image f entry).call ≡ Some (record { caller = o.caller; call = o.call; phase = counted entry.cell o.call o.phase })
-call-counted image f o entry is own =
-    call-after image f entry
+call_counted image f o entry is own =
+    after_call image f entry
     ∙ ap (λ (c : Option OpenCall). call_by f.cells (coming_of image f) c entry entry.act) is
     ∙ counted_act f.cells (coming_of image f) o entry entry.act own
 
@@ -144,38 +142,30 @@ Expects (ToNote id about answer) next = next ≡ Note id
 Expects (ToNoted id about answer waited) next = (how : Heard) × (next ≡ Noted id how)
 Expects (ToFinish answer) next = next ≡ Finish answer
 
-settle_of : (o : Option Settled) (act : Act) → option_map (λ (how : Settled). Settle how) o ≡ Some act → (how : Settled) × (act ≡ Settle how)
-settle_of None act h = absurd (none-some act h)
-settle_of (Some how) act h = (how, sym (same_Some (Settle how) act h))
-
-noted_of : (id : ℕ) (o : Option Heard) (act : Act) → option_map (λ (how : Heard). Noted id how) o ≡ Some act → (how : Heard) × (act ≡ Noted id how)
-noted_of id None act h = absurd (none-some act h)
-noted_of id (Some how) act h = (how, sym (same_Some (Noted id how) act h))
-
 unless_of : (b : Bool) (made act : Act) → cond b None (Some made) ≡ Some act → act ≡ made
 unless_of true made act h = absurd (none-some act h)
 unless_of false made act h = sym (same_Some made act h)
 
-pub phase-expects : (image : Image) (f : Facts) (idle : Bool) (caller : ℕ) (call : Call) (phase : Phase) (act : Act) → phase_act image f idle caller call phase ≡ Some act → Expects phase act
-phase-expects image f idle caller call ToDecide act h = (decision image f caller call, unless_of (any_below (λ i. keeps_decide image caller i (f.cpu i)) 16) (Decide (decision image f caller call)) act h)
-phase-expects image f idle caller call (ToSettle waited) act h = settle_of (settled_of f idle call waited) act h
-phase-expects image f idle caller call (ToCreate config) act h = sym (same_Some Commit act h)
-phase-expects image f idle caller call ToCommit act h = unless_of (any_below (λ i. keeps_commit image call i (f.cpu i)) 16) Commit act h
-phase-expects image f idle caller call (ToNote id about answer) act h = sym (same_Some (Note id) act h)
-phase-expects image f idle caller call (ToNoted id about answer waited) act h = noted_of id (heard_of f idle id waited) act h
-phase-expects image f idle caller call (ToFinish answer) act h = sym (same_Some (Finish answer) act h)
+pub phase_expects : (image : Image) (f : Facts) (idle : Bool) (caller : ℕ) (call : Call) (phase : Phase) (act : Act) → phase_act image f idle caller call phase ≡ Some act → Expects phase act
+phase_expects image f idle caller call ToDecide act h = (decision image f caller call, unless_of (any_below (λ i. keeps_decide image caller i (f.cpu i)) 16) (Decide (decision image f caller call)) act h)
+phase_expects image f idle caller call (ToSettle waited) act h = settle_act (settled_of f idle call waited) act h
+phase_expects image f idle caller call (ToCreate config) act h = sym (same_Some Commit act h)
+phase_expects image f idle caller call ToCommit act h = unless_of (any_below (λ i. keeps_commit image call i (f.cpu i)) 16) Commit act h
+phase_expects image f idle caller call (ToNote id about answer) act h = sym (same_Some (Note id) act h)
+phase_expects image f idle caller call (ToNoted id about answer waited) act h = noted_act id (heard_of f idle id waited) act h
+phase_expects image f idle caller call (ToFinish answer) act h = sym (same_Some (Finish answer) act h)
 
 -- counting changes nothing of it
-pub expects-counted : (cell : ℕ) (call : Call) (phase : Phase) (act : Act) → Expects (counted cell call phase) act → Expects phase act
-expects-counted cell call ToDecide act h = h
-expects-counted cell call (ToSettle waited) act h =
+pub expects_counted : (cell : ℕ) (call : Call) (phase : Phase) (act : Act) → Expects (counted cell call phase) act → Expects phase act
+expects_counted cell call ToDecide act h = h
+expects_counted cell call (ToSettle waited) act h =
     cond_both (is_named call cell) (ToSettle (one_more waited)) (ToSettle waited) (λ (p : Phase). Expects p act → (how : Settled) × (act ≡ Settle how)) (λ _ k. k) (λ _ k. k) h
-expects-counted cell call (ToCreate config) act h = h
-expects-counted cell call ToCommit act h = h
-expects-counted cell call (ToNote id about answer) act h = h
-expects-counted cell call (ToNoted id about answer waited) act h =
+expects_counted cell call (ToCreate config) act h = h
+expects_counted cell call ToCommit act h = h
+expects_counted cell call (ToNote id about answer) act h = h
+expects_counted cell call (ToNoted id about answer waited) act h =
     cond_both (eqb cell id) (ToNoted id about answer (one_more waited)) (ToNoted id about answer waited) (λ (p : Phase). Expects p act → (how : Heard) × (act ≡ Noted id how)) (λ _ k. k) (λ _ k. k) h
-expects-counted cell call (ToFinish answer) act h = h
+expects_counted cell call (ToFinish answer) act h = h
 
 -- ---- what follows an act of a call
 
@@ -191,7 +181,7 @@ telling_follows about answer answers (Some id) next is h = inl (id, h)
 decide_follows : (image : Image) (f : Facts) (caller : ℕ) (call : Call) (o : Option ℤ) (next : Act) → is_management call ≡ true → decision image f caller call ≡ o → Expects (decided call (coming_by image f call) o) next → MayFollow call (Decide o) next
 decide_follows image f caller (Create at) (Some number) next manages is h = h
 decide_follows image f caller (Create at) None next manages is h =
-    let coming = coming-from_decision image f caller at is in
+    let coming = coming_from_decision image f caller at is in
     let P : ReadCell → Type 0 = λ r. Expects (decided (Create at) (config_read r) None) next → next ≡ Commit in
     subst P (sym coming.reads) (λ k. k) h
 decide_follows image f caller (Start id) (Some number) next manages is h = h
@@ -253,7 +243,7 @@ phase_follows image f entry caller call ToDecide idle opens h more =
 phase_follows image f entry caller call (ToSettle waited) idle opens h more =
     let o : OpenCall = record { caller = caller; call = call; phase = ToSettle waited } in
     let P : Act → Type 0 = λ act. GoesOnWith (call_by f.cells (coming_by image f call) (Some o) entry act) caller act in
-    let how = settle_of (settled_of f idle call waited) entry.act h in
+    let how = settle_act (settled_of f idle call waited) entry.act h in
     subst P (sym how.1) (record { caller = caller; call = call; phase = after_settle how.0 }, refl, refl, λ next e. settle_follows call how.0 next e)
 phase_follows image f entry caller call (ToCreate config) idle opens h more =
     let o : OpenCall = record { caller = caller; call = call; phase = ToCreate config } in
@@ -271,14 +261,14 @@ phase_follows image f entry caller call (ToNote id about answer) idle opens h mo
 phase_follows image f entry caller call (ToNoted id about answer waited) idle opens h more =
     let o : OpenCall = record { caller = caller; call = call; phase = ToNoted id about answer waited } in
     let P : Act → Type 0 = λ act. GoesOnWith (call_by f.cells (coming_by image f call) (Some o) entry act) caller act in
-    let how = noted_of id (heard_of f idle id waited) entry.act h in
+    let how = noted_act id (heard_of f idle id waited) entry.act h in
     let told : Option ℕ = first_told about (behind id f.cells) in
     subst P (sym how.1) (record { caller = caller; call = call; phase = telling about answer told }, refl, refl, λ next e. noted_follows call (configs_of f.cells) id about how.0 answer told next opens.phase.1 e)
 phase_follows image f entry caller call (ToFinish answer) idle opens h more =
     absurd (both_ways (is_finish entry.act) more (ap is_finish (sym (same_Some (Finish answer) entry.act h))))
 
 -- where no call is open, an entry begins one or is none of a call
-none_act : (image : Image) (cell : ℕ) (op : Op) (act : Act) → Comes image cell op act → is_phase act ≡ false
+none_act : (image : Image) (cell : ℕ) (op : Op) (act : Act) → IsOutcomeOf image cell op act → is_phase act ≡ false
 none_act image cell op (Read width at got) comes = refl
 none_act image cell op (Write width at value ok) comes = refl
 none_act image cell op (Fetch at got) comes = refl
@@ -296,14 +286,14 @@ none_act image cell op (Finish answer) comes = absurd comes
 
 none_by_call : (image : Image) (f : Facts) (entry : Entry) → IsSound image (with_call f None) → due_at image (with_call f None) entry.cpu ≡ Some entry → is_phase entry.act ≡ false
 none_by_call image f entry sound due =
-    let next = next-from_due image (with_call f None) entry due in
+    let next = next_from_due image (with_call f None) entry due in
     ⊎_elim
     (λ stops. ap is_phase (sym stops.1))
     (λ (program : IsOfProgram image (with_call f None) (f.cpu entry.cpu) entry.cpu entry.act). none_act image (f.cpu entry.cpu).owner program.op entry.act program.comes)
-    (state-parts image (with_call f None) (f.cpu entry.cpu) entry.cpu entry.act next.act)
+    (state_parts image (with_call f None) (f.cpu entry.cpu) entry.cpu entry.act next.act)
 
-pub entry-of_none : (image : Image) (f : Facts) (entry : Entry) → IsSound image f → f.call ≡ None → due_at image f entry.cpu ≡ Some entry → is_phase entry.act ≡ false
-entry-of_none image f entry sound is due =
+pub entry_of_none : (image : Image) (f : Facts) (entry : Entry) → IsSound image f → f.call ≡ None → due_at image f entry.cpu ≡ Some entry → is_phase entry.act ≡ false
+entry_of_none image f entry sound is due =
     let P : Option OpenCall → Type 0 = λ c. IsSound image (with_call f c) → due_at image (with_call f c) entry.cpu ≡ Some entry → is_phase entry.act ≡ false in
     subst P (sym is) (none_by_call image f entry) sound due
 
@@ -331,25 +321,25 @@ phase_call (Hvc code a b answer) h = h
 phase_call Stop h = h
 
 phase_by : (image : Image) (f : Facts) (entry : Entry) (call : Option OpenCall) → IsSound image f → f.call ≡ call → due_at image f entry.cpu ≡ Some entry → is_phase entry.act ≡ true → IsPhaseOf image f entry
-phase_by image f entry None sound is due phase = absurd (both_ways (is_phase entry.act) (entry-of_none image f entry sound is due) phase)
+phase_by image f entry None sound is due phase = absurd (both_ways (is_phase entry.act) (entry_of_none image f entry sound is due) phase)
 phase_by image f entry (Some o) sound is due phase =
     ⊎_elim
     (λ made. record { o = o; opens = is; caller = made.0; act = made.1 })
     (λ (beside : IsBeside image f o entry). absurd (both_ways (is_call entry.act) beside.act (phase_call entry.act phase)))
-    (entry-of_call image f o entry sound is due)
+    (entry_of_call image f o entry sound is due)
 
-pub phase-of_due : (image : Image) (f : Facts) (entry : Entry) → IsSound image f → due_at image f entry.cpu ≡ Some entry → is_phase entry.act ≡ true → IsPhaseOf image f entry
-phase-of_due image f entry sound due phase = phase_by image f entry f.call sound refl due phase
+pub phase_of_due : (image : Image) (f : Facts) (entry : Entry) → IsSound image f → due_at image f entry.cpu ≡ Some entry → is_phase entry.act ≡ true → IsPhaseOf image f entry
+phase_of_due image f entry sound due phase = phase_by image f entry f.call sound refl due phase
 
 -- behind a phase that isn't the last
-pub phase-goes : (image : Image) (f : Facts) (entry : Entry) → IsSound image f → due_at image f entry.cpu ≡ Some entry → is_phase entry.act ≡ true → is_finish entry.act ≡ false → GoesOnWith (after image f entry).call entry.cpu entry.act
-phase-goes image f entry sound due phase more =
-    let of = phase-of_due image f entry sound due phase in
+pub phase_goes : (image : Image) (f : Facts) (entry : Entry) → IsSound image f → due_at image f entry.cpu ≡ Some entry → is_phase entry.act ≡ true → is_finish entry.act ≡ false → GoesOnWith (after image f entry).call entry.cpu entry.act
+phase_goes image f entry sound due phase more =
+    let of = phase_of_due image f entry sound due phase in
     let o : OpenCall = of.o in
-    let next = phase_follows image f entry o.caller o.call o.phase (is_idle_but image f o.caller) (sound-open image f o sound of.opens) of.act more in
+    let next = phase_follows image f entry o.caller o.call o.phase (is_idle_but image f o.caller) (sound_open image f o sound of.opens) of.act more in
     let coming : coming_of image f ≡ coming_by image f o.call = ap (option_and_then (λ (c : OpenCall). coming_by image f c.call)) of.opens in
     let behind_it : (after image f entry).call ≡ call_by f.cells (coming_by image f o.call) (Some o) entry entry.act =
-    call-after image f entry
+    after_call image f entry
     ∙ ap (λ (c : Option OpenCall). call_by f.cells (coming_of image f) c entry entry.act) of.opens
     ∙ ap (λ (k : Option CellConfig). call_by f.cells k (Some o) entry entry.act) coming in
     (next.0, behind_it ∙ next.1, next.2 ∙ of.caller, next.3)
@@ -359,24 +349,24 @@ begin_goes : (image : Image) (f : Facts) (entry : Entry) (code a b : ℕ) → en
 begin_goes image f entry code a b is =
     let P : Act → Type 0 = λ act. GoesOnWith (call_by f.cells (coming_of image f) f.call entry act) entry.cpu act in
     let Q : Option OpenCall → Type 0 = λ c. GoesOnWith c entry.cpu entry.act in
-    subst Q (sym (call-after image f entry))
+    subst Q (sym (after_call image f entry))
     (subst P (sym is) (record { caller = entry.cpu; call = decoded code a b; phase = ToDecide }, refl, refl, λ next e. e))
 
-pub call-goes : (image : Image) (f : Facts) (entry : Entry) (act : Act) → entry.act ≡ act → IsSound image f → due_at image f entry.cpu ≡ Some entry → is_call act ≡ true → is_finish act ≡ false → GoesOnWith (after image f entry).call entry.cpu entry.act
-call-goes image f entry (Begin code a b) is sound due call more = begin_goes image f entry code a b is
-call-goes image f entry (Decide refused) is sound due call more = phase-goes image f entry sound due (ap is_phase is) (ap is_finish is)
-call-goes image f entry (Settle how) is sound due call more = phase-goes image f entry sound due (ap is_phase is) (ap is_finish is)
-call-goes image f entry Commit is sound due call more = phase-goes image f entry sound due (ap is_phase is) (ap is_finish is)
-call-goes image f entry (Note id) is sound due call more = phase-goes image f entry sound due (ap is_phase is) (ap is_finish is)
-call-goes image f entry (Noted id how) is sound due call more = phase-goes image f entry sound due (ap is_phase is) (ap is_finish is)
-call-goes image f entry (Finish answer) is sound due call more = absurd (both_ways true more refl)
-call-goes image f entry (Read width at got) is sound due call more = absurd (both_ways false refl call)
-call-goes image f entry (Write width at value ok) is sound due call more = absurd (both_ways false refl call)
-call-goes image f entry (Fetch at got) is sound due call more = absurd (both_ways false refl call)
-call-goes image f entry (Await width at value ok) is sound due call more = absurd (both_ways false refl call)
-call-goes image f entry (Irq device vector) is sound due call more = absurd (both_ways false refl call)
-call-goes image f entry (Hvc code a b answer) is sound due call more = absurd (both_ways false refl call)
-call-goes image f entry Stop is sound due call more = absurd (both_ways false refl call)
+pub call_goes : (image : Image) (f : Facts) (entry : Entry) (act : Act) → entry.act ≡ act → IsSound image f → due_at image f entry.cpu ≡ Some entry → is_call act ≡ true → is_finish act ≡ false → GoesOnWith (after image f entry).call entry.cpu entry.act
+call_goes image f entry (Begin code a b) is sound due call more = begin_goes image f entry code a b is
+call_goes image f entry (Decide refused) is sound due call more = phase_goes image f entry sound due (ap is_phase is) (ap is_finish is)
+call_goes image f entry (Settle how) is sound due call more = phase_goes image f entry sound due (ap is_phase is) (ap is_finish is)
+call_goes image f entry Commit is sound due call more = phase_goes image f entry sound due (ap is_phase is) (ap is_finish is)
+call_goes image f entry (Note id) is sound due call more = phase_goes image f entry sound due (ap is_phase is) (ap is_finish is)
+call_goes image f entry (Noted id how) is sound due call more = phase_goes image f entry sound due (ap is_phase is) (ap is_finish is)
+call_goes image f entry (Finish answer) is sound due call more = absurd (both_ways true more refl)
+call_goes image f entry (Read width at got) is sound due call more = absurd (both_ways false refl call)
+call_goes image f entry (Write width at value ok) is sound due call more = absurd (both_ways false refl call)
+call_goes image f entry (Fetch at got) is sound due call more = absurd (both_ways false refl call)
+call_goes image f entry (Await width at value ok) is sound due call more = absurd (both_ways false refl call)
+call_goes image f entry (Irq device vector) is sound due call more = absurd (both_ways false refl call)
+call_goes image f entry (Hvc code a b answer) is sound due call more = absurd (both_ways false refl call)
+call_goes image f entry Stop is sound due call more = absurd (both_ways false refl call)
 
 -- ---- along a journal
 
@@ -386,7 +376,7 @@ pub along : (image : Image) (P : Facts → Type 0) (Q : Entry → Type 0) → ((
     → IsSound image (fold (after image) f entries) × P (fold (after image) f entries)
 along image P Q step f [] sound holds legal each = (sound, holds)
 along image P Q step f (entry ∷ entries) sound holds legal each =
-    along image P Q step (after image f entry) entries (sound-after image f entry sound legal.0)
+    along image P Q step (after image f entry) entries (sound_after image f entry sound legal.0)
     (step f entry sound holds legal.0 (All-head Q entry entries each)) legal.1 (All-tail Q entry entries each)
 
 split_from : (image : Image) (f : Facts) (entries : List Entry) (last : Entry) (rest : List Entry) → IsLegalFrom image f (entries ++ last ∷ rest)
@@ -405,10 +395,10 @@ pub record IsStretch (image : Image) (before middle : List Entry) (first last : 
 
 pub stretch : (image : Image) (before middle rest : List Entry) (first last : Entry) → IsAdmitted image → IsLegal image (before ++ first ∷ (middle ++ last ∷ rest)) → IsStretch image before middle first last
 stretch image before middle rest first last admitted legal =
-    let from : IsLegalFrom image (facts image before) (first ∷ (middle ++ last ∷ rest)) = IsLegal-rest image before (first ∷ (middle ++ last ∷ rest)) legal in
+    let from : IsLegalFrom image (facts image before) (first ∷ (middle ++ last ∷ rest)) = IsLegal_rest image before (first ∷ (middle ++ last ∷ rest)) legal in
     let more = split_from image (after image (facts image before) first) middle last rest from.1 in
     record {
-      sound = legal-sound image before admitted (IsLegal-begin image before (first ∷ (middle ++ last ∷ rest)) legal);
+      sound = legal_sound image before admitted (IsLegal_begin image before (first ∷ (middle ++ last ∷ rest)) legal);
       first_due = from.0;
       between = more.0;
       last_due = more.1;
@@ -427,20 +417,20 @@ waiting_kept image caller call act f entry sound waiting due other =
     (λ made. absurd (other (sym made.0 ∙ waiting.2)))
     (λ (beside : IsBeside image f o entry). (
       record { caller = o.caller; call = o.call; phase = counted entry.cell o.call o.phase },
-      call-counted image f o entry waiting.1 beside.act,
+      call_counted image f o entry waiting.1 beside.act,
       waiting.2,
       waiting.3,
-      λ next h. waiting.4 next (expects-counted entry.cell o.call o.phase next h),
+      λ next h. waiting.4 next (expects_counted entry.cell o.call o.phase next h),
     ))
-    (entry-of_call image f o entry sound waiting.1 due)
+    (entry_of_call image f o entry sound waiting.1 due)
 
 waiting_next : (image : Image) (caller : ℕ) (call : Call) (act : Act) (f : Facts) (entry : Entry) → IsSound image f → IsWaiting caller call act f → due_at image f entry.cpu ≡ Some entry → entry.cpu ≡ caller → MayFollow call act entry.act
 waiting_next image caller call act f entry sound waiting due own =
     let o : OpenCall = waiting.0 in
     ⊎_elim
-    (λ made. waiting.4 entry.act (phase-expects image f (is_idle_but image f o.caller) o.caller o.call o.phase entry.act made.1))
+    (λ made. waiting.4 entry.act (phase_expects image f (is_idle_but image f o.caller) o.caller o.call o.phase entry.act made.1))
     (λ (beside : IsBeside image f o entry). absurd (beside.other (own ∙ sym waiting.2)))
-    (entry-of_call image f o entry sound waiting.1 due)
+    (entry_of_call image f o entry sound waiting.1 due)
 
 -- an entry of a call, and the next one of the same CPU
 pub follows : (image : Image) (before middle rest : List Entry) (first last : Entry) → IsAdmitted image → IsLegal image (before ++ first ∷ (middle ++ last ∷ rest))
@@ -449,11 +439,11 @@ pub follows : (image : Image) (before middle rest : List Entry) (first last : En
 follows image before middle rest first last admitted legal call more others own =
     let s = stretch image before middle rest first last admitted legal in
     let f : Facts = after image (facts image before) first in
-    let goes = call-goes image (facts image before) first first.act refl s.sound s.first_due call more in
+    let goes = call_goes image (facts image before) first first.act refl s.sound s.first_due call more in
     let o : OpenCall = goes.0 in
     let waiting : IsWaiting first.cpu o.call first.act f = (o, goes.1, goes.2, refl, goes.3) in
     let end = along image (IsWaiting first.cpu o.call first.act) (λ (e : Entry). e.cpu ≢ first.cpu) (waiting_kept image first.cpu o.call first.act) f middle
-    (sound-after image (facts image before) first s.sound s.first_due) waiting s.between others in
+    (sound_after image (facts image before) first s.sound s.first_due) waiting s.between others in
     (o, goes.1, waiting_next image first.cpu o.call first.act (fold (after image) f middle) last end.0 end.1 s.last_due own)
 
 -- ---- suspension
@@ -476,10 +466,10 @@ halted_past (ToNoted id about answer waited) cpu past h = h.asked
 halted_past (ToFinish answer) cpu past h = h.asked
 
 -- past the Decide an entry of another CPU isn't root's
-pub past-other : (image : Image) (f : Facts) (o : OpenCall) (entry : Entry) → IsSound image f → f.call ≡ Some o → IsPast o.phase → due_at image f entry.cpu ≡ Some entry → entry.cpu ≢ o.caller → entry.cell ≢ image.system.root.id
-past-other image f o entry sound is past due other root =
-    let next = next-from_due image f entry due in
-    let opens = sound-open image f o sound is in
+pub past_other : (image : Image) (f : Facts) (o : OpenCall) (entry : Entry) → IsSound image f → f.call ≡ Some o → IsPast o.phase → due_at image f entry.cpu ≡ Some entry → entry.cpu ≢ o.caller → entry.cell ≢ image.system.root.id
+past_other image f o entry sound is past due other root =
+    let next = next_from_due image f entry due in
+    let opens = sound_open image f o sound is in
     let come : HasCome o.phase (f.cpu entry.cpu) = opens.roots entry.cpu next.board other (sym next.cell ∙ root) in
     ⊎_elim
     (λ made. other (sym made.0))
@@ -488,7 +478,7 @@ past-other image f o entry sound is past due other root =
     (λ stops. both_ways (f.cpu entry.cpu).asked (halted_past o.phase (f.cpu entry.cpu) past come) stops.0)
     (λ goes. goes.1 (sym next.cell ∙ root))
     beside.who)
-    (entry-of_call image f o entry sound is due)
+    (entry_of_call image f o entry sound is due)
 
 -- two acts that a test tells apart
 pub not_same : (test : Act → Bool) (one other : Act) → test one ≡ true → test other ≡ false → one ≡ other → ⊥
@@ -580,16 +570,16 @@ suspending_kept image caller f entry sound suspending due more =
     let o : OpenCall = suspending.0 in
     ⊎_elim
     (λ made.
-    let phase : is_phase entry.act ≡ true = phase_expected o.phase entry.act (phase-expects image f (is_idle_but image f o.caller) o.caller o.call o.phase entry.act made.1) in
-    let goes = phase-goes image f entry sound due phase more in
+    let phase : is_phase entry.act ≡ true = phase_expected o.phase entry.act (phase_expects image f (is_idle_but image f o.caller) o.caller o.call o.phase entry.act made.1) in
+    let goes = phase_goes image f entry sound due phase more in
     (goes.0, goes.1, goes.2 ∙ sym made.0 ∙ suspending.2, past_from goes.0.call entry.act goes.0.phase phase goes.3))
     (λ (beside : IsBeside image f o entry). (
       record { caller = o.caller; call = o.call; phase = counted entry.cell o.call o.phase },
-      call-counted image f o entry suspending.1 beside.act,
+      call_counted image f o entry suspending.1 beside.act,
       suspending.2,
       past_counted entry.cell o.call o.phase suspending.3,
     ))
-    (entry-of_call image f o entry sound suspending.1 due)
+    (entry_of_call image f o entry sound suspending.1 due)
 
 decide_phase : (act : Act) → is_decide act ≡ true → (is_phase act ≡ true) × (is_finish act ≡ false)
 decide_phase (Decide refused) h = (refl, refl)
@@ -608,21 +598,21 @@ decide_phase (Hvc code a b answer) h = absurd (both_ways false refl h)
 decide_phase Stop h = absurd (both_ways false refl h)
 
 -- from a Decide to the end of its call an entry of root is its caller's
-pub suspended-roots : (image : Image) (before middle rest : List Entry) (first last : Entry) → IsAdmitted image → IsLegal image (before ++ first ∷ (middle ++ last ∷ rest))
+pub suspended_roots : (image : Image) (before middle rest : List Entry) (first last : Entry) → IsAdmitted image → IsLegal image (before ++ first ∷ (middle ++ last ∷ rest))
     → is_decide first.act ≡ true → All (λ (e : Entry). is_finish e.act ≡ false) middle → last.cell ≡ image.system.root.id → last.cpu ≡ first.cpu
-suspended-roots image before middle rest first last admitted legal decides others root =
+suspended_roots image before middle rest first last admitted legal decides others root =
     let s = stretch image before middle rest first last admitted legal in
     let f : Facts = after image (facts image before) first in
     let act = decide_phase first.act decides in
-    let goes = phase-goes image (facts image before) first s.sound s.first_due act.0 act.1 in
+    let goes = phase_goes image (facts image before) first s.sound s.first_due act.0 act.1 in
     let start_at : IsSuspending first.cpu f = (goes.0, goes.1, goes.2, past_from goes.0.call first.act goes.0.phase act.0 goes.3) in
     let end = along image (IsSuspending first.cpu) (λ (e : Entry). is_finish e.act ≡ false) (suspending_kept image first.cpu) f middle
-    (sound-after image (facts image before) first s.sound s.first_due) start_at s.between others in
+    (sound_after image (facts image before) first s.sound s.first_due) start_at s.between others in
     let there : Facts = fold (after image) f middle in
     ⊎_elim
     (λ (same : eqb last.cpu first.cpu ≡ true). eqb-true last.cpu first.cpu same)
     (λ (apart : eqb last.cpu first.cpu ≡ false).
-    absurd (past-other image there end.1.0 last end.0 end.1.1 end.1.3 s.last_due (λ e. both_ways (eqb last.cpu first.cpu) apart (eq-eqb last.cpu first.cpu (e ∙ end.1.2))) root))
+    absurd (past_other image there end.1.0 last end.0 end.1.1 end.1.3 s.last_due (λ e. both_ways (eqb last.cpu first.cpu) apart (eq-eqb last.cpu first.cpu (e ∙ end.1.2))) root))
     (cases_Bool (eqb last.cpu first.cpu))
 
 -- the call is about to be committed
@@ -633,16 +623,16 @@ committing_kept : (image : Image) (call : Call) (f : Facts) (entry : Entry) → 
 committing_kept image call f entry sound committing due more =
     let o : OpenCall = record { caller = committing.0; call = call; phase = ToCommit } in
     ⊎_elim
-    (λ made. absurd (both_ways (is_commit entry.act) more (ap is_commit (phase-expects image f (is_idle_but image f o.caller) o.caller call ToCommit entry.act made.1))))
-    (λ (beside : IsBeside image f o entry). (committing.0, call-counted image f o entry committing.1 beside.act))
-    (entry-of_call image f o entry sound committing.1 due)
+    (λ made. absurd (both_ways (is_commit entry.act) more (ap is_commit (phase_expects image f (is_idle_but image f o.caller) o.caller call ToCommit entry.act made.1))))
+    (λ (beside : IsBeside image f o entry). (committing.0, call_counted image f o entry committing.1 beside.act))
+    (entry_of_call image f o entry sound committing.1 due)
 
 committing_stops : (image : Image) (call : Call) (f : Facts) (entry : Entry) → IsSound image f → IsCommitting call f → due_at image f entry.cpu ≡ Some entry → is_named call entry.cell ≡ true → entry.act ≡ Stop
 committing_stops image call f entry sound committing due named =
     let o : OpenCall = record { caller = committing.0; call = call; phase = ToCommit } in
-    let opens = sound-open image f o sound committing.1 in
-    let next = next-from_due image f entry due in
-    let unnamed = root-unnamed image.system (configs_of f.cells) call sound.cells opens.phase in
+    let opens = sound_open image f o sound committing.1 in
+    let next = next_from_due image f entry due in
+    let unnamed = root_unnamed image.system (configs_of f.cells) call sound.cells opens.phase in
     let P : ℕ → Type 0 = λ k. (f.cpu k).owner ≡ image.system.root.id in
     let apart : (f.cpu entry.cpu).owner ≢ image.system.root.id = λ root. both_ways (is_named call entry.cell) (ap (is_named call) (next.cell ∙ root) ∙ unnamed) named in
     ⊎_elim
@@ -650,9 +640,9 @@ committing_stops image call f entry sound committing due named =
     (λ (beside : IsBeside image f o entry).
     ⊎_elim
     (λ stops. sym stops.1)
-    (λ goes. absurd (halting-rests (f.cpu entry.cpu) ((opens.cells entry.cpu apart).0 (ap (is_named call) (sym next.cell) ∙ named)) goes.0.goes))
+    (λ goes. absurd (halting_rests (f.cpu entry.cpu) ((opens.cells entry.cpu apart).0 (ap (is_named call) (sym next.cell) ∙ named)) goes.0.goes))
     beside.who)
-    (entry-of_call image f o entry sound committing.1 due)
+    (entry_of_call image f o entry sound committing.1 due)
 
 agreement_settles : (act : Act) → is_agreement act ≡ true → (how : Settled) × (act ≡ Settle how) × (after_settle how ≡ ToCommit) × (is_phase act ≡ true)
 agreement_settles (Settle Agreed) h = (Agreed, refl, refl, refl)
@@ -675,7 +665,7 @@ agreement_settles Stop h = absurd (both_ways false refl h)
 settled_call : (image : Image) (f : Facts) (o : OpenCall) (entry : Entry) (how : Settled) → f.call ≡ Some o → entry.act ≡ Settle how → after_settle how ≡ ToCommit
     → (after image f entry).call ≡ Some (record { caller = o.caller; call = o.call; phase = ToCommit })
 settled_call image f o entry how opens act commits =
-    call-after image f entry
+    after_call image f entry
     ∙ ap (λ (c : Option OpenCall). call_by f.cells (coming_of image f) c entry entry.act) opens
     ∙ ap (λ (x : Act). call_by f.cells (coming_of image f) (Some o) entry x) act
     ∙ ap (λ (p : Phase). Some (record { caller = o.caller; call = o.call; phase = p })) commits
@@ -709,11 +699,11 @@ begun_from image f b [] h = h
 begun_from image f b (entry ∷ entries) h =
     let P : Option OpenCall → Type 0 = IsBegun (begun_by b entry entry.act) in
     begun_from image (after image f entry) (begun_by b entry entry.act) entries
-    (subst P (sym (call-after image f entry)) (begun_act f.cells (coming_of image f) b f.call entry entry.act refl h))
+    (subst P (sym (after_call image f entry)) (begun_act f.cells (coming_of image f) b f.call entry entry.act refl h))
 
-pub begun-call : (image : Image) (entries : List Entry) → IsBegun (begun entries) (facts image entries).call
+pub begun_call : (image : Image) (entries : List Entry) → IsBegun (begun entries) (facts image entries).call
 unfolding facts
-begun-call image entries = begun_from image (start image) None entries tt
+begun_call image entries = begun_from image (start image) None entries tt
 
 begun_none : (b : Option Entry) (call : Option OpenCall) → call ≡ None → IsBegun b call → b ≡ None
 begun_none None call is h = refl
@@ -729,58 +719,58 @@ begun_some (Some entry) (Some p) o is h =
     (entry, refl, sym (ap (λ (x : OpenCall). x.caller) e) ∙ h.0, sym (ap (λ (x : OpenCall). x.call) e) ∙ h.1)
 
 -- what the call that is open says of the one that was begun
-pub begun-of : (image : Image) (entries : List Entry) (o : OpenCall) → (facts image entries).call ≡ Some o → (first : Entry) × (begun entries ≡ Some first) × (o.caller ≡ first.cpu) × (o.call ≡ call_begun first.act)
-begun-of image entries o is = begun_some (begun entries) (facts image entries).call o is (begun-call image entries)
+pub begun_of : (image : Image) (entries : List Entry) (o : OpenCall) → (facts image entries).call ≡ Some o → (first : Entry) × (begun entries ≡ Some first) × (o.caller ≡ first.cpu) × (o.call ≡ call_begun first.act)
+begun_of image entries o is = begun_some (begun entries) (facts image entries).call o is (begun_call image entries)
 
 begin_none_by : (image : Image) (f : Facts) (entry : Entry) (code a b : ℕ) (call : Option OpenCall) → entry.act ≡ Begin code a b → IsSound image f → f.call ≡ call → due_at image f entry.cpu ≡ Some entry → f.call ≡ None
 begin_none_by image f entry code a b None act sound is due = is
 begin_none_by image f entry code a b (Some o) act sound is due =
     ⊎_elim
-    (λ made. absurd (both_ways (is_phase entry.act) (ap is_phase act) (phase_expected o.phase entry.act (phase-expects image f (is_idle_but image f o.caller) o.caller o.call o.phase entry.act made.1))))
+    (λ made. absurd (both_ways (is_phase entry.act) (ap is_phase act) (phase_expected o.phase entry.act (phase_expects image f (is_idle_but image f o.caller) o.caller o.call o.phase entry.act made.1))))
     (λ (beside : IsBeside image f o entry). absurd (both_ways (is_call entry.act) beside.act (ap is_call act)))
-    (entry-of_call image f o entry sound is due)
+    (entry_of_call image f o entry sound is due)
 
 -- none begins while another is open
-pub begins-alone : (image : Image) (before rest : List Entry) (entry : Entry) (code a b : ℕ) → IsAdmitted image → IsLegal image (before ++ entry ∷ rest) → entry.act ≡ Begin code a b → begun before ≡ None
-begins-alone image before rest entry code a b admitted legal act =
+pub begins_alone : (image : Image) (before rest : List Entry) (entry : Entry) (code a b : ℕ) → IsAdmitted image → IsLegal image (before ++ entry ∷ rest) → entry.act ≡ Begin code a b → begun before ≡ None
+begins_alone image before rest entry code a b admitted legal act =
     let f : Facts = facts image before in
-    let sound = legal-sound image before admitted (IsLegal-begin image before (entry ∷ rest) legal) in
-    begun_none (begun before) f.call (begin_none_by image f entry code a b f.call act sound refl (due-split image before rest entry legal)) (begun-call image before)
+    let sound = legal_sound image before admitted (IsLegal_begin image before (entry ∷ rest) legal) in
+    begun_none (begun before) f.call (begin_none_by image f entry code a b f.call act sound refl (due_split image before rest entry legal)) (begun_call image before)
 
 -- a phase is the caller's
-pub phases-own : (image : Image) (before rest : List Entry) (entry : Entry) → IsAdmitted image → IsLegal image (before ++ entry ∷ rest) → is_phase entry.act ≡ true → (first : Entry) × (begun before ≡ Some first) × (first.cpu ≡ entry.cpu)
-phases-own image before rest entry admitted legal phase =
+pub phases_own : (image : Image) (before rest : List Entry) (entry : Entry) → IsAdmitted image → IsLegal image (before ++ entry ∷ rest) → is_phase entry.act ≡ true → (first : Entry) × (begun before ≡ Some first) × (first.cpu ≡ entry.cpu)
+phases_own image before rest entry admitted legal phase =
     let f : Facts = facts image before in
-    let sound = legal-sound image before admitted (IsLegal-begin image before (entry ∷ rest) legal) in
-    let of = phase-of_due image f entry sound (due-split image before rest entry legal) phase in
-    let first = begun-of image before of.o of.opens in
+    let sound = legal_sound image before admitted (IsLegal_begin image before (entry ∷ rest) legal) in
+    let of = phase_of_due image f entry sound (due_split image before rest entry legal) phase in
+    let first = begun_of image before of.o of.opens in
     (first.0, first.1, sym first.2 ∙ of.caller)
 
 -- what may follow, by the beginning of the call
-pub follows-begun : (image : Image) (before middle rest : List Entry) (one next : Entry) → IsAdmitted image → IsLegal image (before ++ one ∷ (middle ++ next ∷ rest))
+pub follows_begun : (image : Image) (before middle rest : List Entry) (one next : Entry) → IsAdmitted image → IsLegal image (before ++ one ∷ (middle ++ next ∷ rest))
     → is_call one.act ≡ true → is_finish one.act ≡ false → All (λ (e : Entry). e.cpu ≢ one.cpu) middle → next.cpu ≡ one.cpu
     → (first : Entry) × (begun (before ++ one ∷ []) ≡ Some first) × MayFollow (call_begun first.act) one.act next.act
-follows-begun image before middle rest one next admitted legal call more others own =
+follows_begun image before middle rest one next admitted legal call more others own =
     let h = follows image before middle rest one next admitted legal call more others own in
-    let first = begun-of image (before ++ one ∷ []) h.0 (ap (λ (f : Facts). f.call) (facts-push image before one) ∙ h.1) in
+    let first = begun_of image (before ++ one ∷ []) h.0 (ap (λ (f : Facts). f.call) (facts_push image before one) ∙ h.1) in
     let P : Call → Type 0 = λ k. MayFollow k one.act next.act in
     (first.0, first.1, subst P first.3 h.2)
 
 -- from a Settle that isn't denied to the Commit the CPUs of the cell stop
-pub suspended-cells : (image : Image) (before middle rest : List Entry) (first settle last : Entry) → IsAdmitted image → IsLegal image (before ++ settle ∷ (middle ++ last ∷ rest))
+pub suspended_cells : (image : Image) (before middle rest : List Entry) (first settle last : Entry) → IsAdmitted image → IsLegal image (before ++ settle ∷ (middle ++ last ∷ rest))
     → is_agreement settle.act ≡ true → All (λ (e : Entry). is_commit e.act ≡ false) middle → begun before ≡ Some first → is_named (call_begun first.act) last.cell ≡ true → last.act ≡ Stop
-suspended-cells image before middle rest first settle last admitted legal agreed others is named =
+suspended_cells image before middle rest first settle last admitted legal agreed others is named =
     let s = stretch image before middle rest settle last admitted legal in
     let f0 : Facts = facts image before in
     let f : Facts = after image f0 settle in
     let how = agreement_settles settle.act agreed in
-    let of = phase-of_due image f0 settle s.sound s.first_due how.3 in
+    let of = phase_of_due image f0 settle s.sound s.first_due how.3 in
     let o : OpenCall = of.o in
-    let begins = begun-of image before o of.opens in
+    let begins = begun_of image before o of.opens in
     let same : first ≡ begins.0 = same_Some first begins.0 (sym is ∙ begins.1) in
     let call : call_begun first.act ≡ o.call = ap (λ (e : Entry). call_begun e.act) same ∙ sym begins.3 in
     let end = along image (IsCommitting o.call) (λ (e : Entry). is_commit e.act ≡ false) (committing_kept image o.call) f middle
-    (sound-after image f0 settle s.sound s.first_due) (o.caller, settled_call image f0 o settle how.0 of.opens how.1 how.2) s.between others in
+    (sound_after image f0 settle s.sound s.first_due) (o.caller, settled_call image f0 o settle how.0 of.opens how.1 how.2) s.between others in
     committing_stops image o.call (fold (after image) f middle) last end.0 end.1 s.last_due (ap (λ (k : Call). is_named k last.cell) (sym call) ∙ named)
 
 -- ---- what an entry is
@@ -793,18 +783,18 @@ pub data IsMadeBy (image : Image) (f : Facts) (entry : Entry) : Type 0 where
 
 made_none : (image : Image) (f : Facts) (entry : Entry) → due_at image (with_call f None) entry.cpu ≡ Some entry → IsMadeBy image (with_call f None) entry
 made_none image f entry due =
-    let next = next-from_due image (with_call f None) entry due in
+    let next = next_from_due image (with_call f None) entry due in
     ⊎_elim
     (λ stops. Stopping stops.1)
     (λ (program : IsOfProgram image (with_call f None) (f.cpu entry.cpu) entry.cpu entry.act). Running program)
-    (state-parts image (with_call f None) (f.cpu entry.cpu) entry.cpu entry.act next.act)
+    (state_parts image (with_call f None) (f.cpu entry.cpu) entry.cpu entry.act next.act)
 
 made_some : (image : Image) (f : Facts) (o : OpenCall) (entry : Entry) → IsSound image f → f.call ≡ Some o → due_at image f entry.cpu ≡ Some entry → IsMadeBy image f entry
 made_some image f o entry sound is due =
     ⊎_elim
-    (λ made. Calling (phase_expected o.phase entry.act (phase-expects image f (is_idle_but image f o.caller) o.caller o.call o.phase entry.act made.1)))
+    (λ made. Calling (phase_expected o.phase entry.act (phase_expects image f (is_idle_but image f o.caller) o.caller o.call o.phase entry.act made.1)))
     (λ (beside : IsBeside image f o entry). ⊎_elim (λ stops. Stopping stops.1) (λ goes. Running goes.0) beside.who)
-    (entry-of_call image f o entry sound is due)
+    (entry_of_call image f o entry sound is due)
 
 made_by_call : (image : Image) (f : Facts) (entry : Entry) (call : Option OpenCall) → IsSound image f → f.call ≡ call → due_at image f entry.cpu ≡ Some entry → IsMadeBy image f entry
 made_by_call image f entry None sound is due =
@@ -812,5 +802,5 @@ made_by_call image f entry None sound is due =
     subst P (sym is) (made_none image f entry) due
 made_by_call image f entry (Some o) sound is due = made_some image f o entry sound is due
 
-pub made-by : (image : Image) (f : Facts) (entry : Entry) → IsSound image f → due_at image f entry.cpu ≡ Some entry → IsMadeBy image f entry
-made-by image f entry sound due = made_by_call image f entry f.call sound refl due
+pub made_by : (image : Image) (f : Facts) (entry : Entry) → IsSound image f → due_at image f entry.cpu ≡ Some entry → IsMadeBy image f entry
+made_by image f entry sound due = made_by_call image f entry f.call sound refl due

@@ -25,16 +25,13 @@ use Rattle.jh_history.specs.History.{after, facts, coming_of, coming_by}
 use Rattle.jh_history.specs.Phases.{configs_of}
 use Rattle.jh_history.specs.Due.{due_at, is_idle_but, IsLegal}
 use Rattle.jh_history.specs.Admitted.{IsAdmitted}
-use Rattle.jh_history.proofs.FactsLemmas.{facts-push}
-use Rattle.jh_history.proofs.LegalLemmas.{due-split, IsLegal-begin, facts-append}
+use Rattle.jh_history.proofs.FactsLemmas.{facts_push}
+use Rattle.jh_history.proofs.LegalLemmas.{due_split, IsLegal_begin, facts_append}
 use Rattle.jh_history.specs.Sound.{IsInPhase, IsOpen, IsSound}
 use Rattle.jh_laws.specs.Ways.{is_phase, is_commit, is_finish, call_begun, begun}
-use Rattle.jh_history.proofs.SoundLemmas.{sound-after, legal-sound}
-use Rattle.jh_laws.proofs.CallLemmas.{Expects, phase-expects, phase-of_due, phase-goes, sound-open, call-after, call-counted, IsBeside, entry-of_call, along, stretch, begun-of, past_from, not_same, IsPast}
-
-pub cells-after : (image : Image) (f : Facts) (entry : Entry) → (after image f entry).cells ≡ cells_by f.call f.cells entry.act
-unfolding after
-cells-after image f entry = refl
+use Rattle.jh_history.proofs.SoundLemmas.{sound_after, legal_sound}
+use Rattle.jh_history.proofs.PlainStepLemmas.{after_call, after_cells}
+use Rattle.jh_laws.proofs.CallLemmas.{Expects, phase_expects, phase_of_due, phase_goes, sound_open, call_counted, IsBeside, entry_of_call, along, stretch, begun_of, past_from, not_same, IsPast}
 
 -- no other entry than a Commit changes which cells live
 kept_by : (call : Option OpenCall) (cells : List Live) (act : Act) → is_commit act ≡ false → cells_by call cells act ≡ cells
@@ -53,10 +50,10 @@ kept_by call cells (Note id) h = refl
 kept_by call cells (Noted id how) h = refl
 kept_by call cells (Finish answer) h = refl
 
-pub cells-kept : (image : Image) (before : List Entry) (entry : Entry) → is_commit entry.act ≡ false → (facts image (before ++ entry ∷ [])).cells ≡ (facts image before).cells
-cells-kept image before entry h =
+pub cells_kept : (image : Image) (before : List Entry) (entry : Entry) → is_commit entry.act ≡ false → (facts image (before ++ entry ∷ [])).cells ≡ (facts image before).cells
+cells_kept image before entry h =
     let f : Facts = facts image before in
-    ap (λ (g : Facts). g.cells) (facts-push image before entry) ∙ cells-after image f entry ∙ kept_by f.call f.cells entry.act h
+    ap (λ (g : Facts). g.cells) (facts_push image before entry) ∙ after_cells image f entry ∙ kept_by f.call f.cells entry.act h
 
 -- a Commit is one of the call that was begun
 pub record IsCommitOf (image : Image) (before : List Entry) (entry : Entry) (call : Call) : Type 0 where
@@ -65,25 +62,25 @@ pub record IsCommitOf (image : Image) (before : List Entry) (entry : Entry) (cal
   pub holds : IsInPhase image (configs_of (facts image before).cells) (facts image before).cpu entry.cpu call phase
   pub cells : (facts image (before ++ entry ∷ [])).cells ≡ committed_cells call phase (facts image before).cells
 
-pub commit-of : (image : Image) (before rest : List Entry) (entry first : Entry) → IsAdmitted image → IsLegal image (before ++ entry ∷ rest) → entry.act ≡ Commit → begun before ≡ Some first → IsCommitOf image before entry (call_begun first.act)
-commit-of image before rest entry first admitted legal act is =
+pub commit_of : (image : Image) (before rest : List Entry) (entry first : Entry) → IsAdmitted image → IsLegal image (before ++ entry ∷ rest) → entry.act ≡ Commit → begun before ≡ Some first → IsCommitOf image before entry (call_begun first.act)
+commit_of image before rest entry first admitted legal act is =
     let f : Facts = facts image before in
-    let sound = legal-sound image before admitted (IsLegal-begin image before (entry ∷ rest) legal) in
-    let due : due_at image f entry.cpu ≡ Some entry = due-split image before rest entry legal in
-    let of = phase-of_due image f entry sound due (ap is_phase act) in
+    let sound = legal_sound image before admitted (IsLegal_begin image before (entry ∷ rest) legal) in
+    let due : due_at image f entry.cpu ≡ Some entry = due_split image before rest entry legal in
+    let of = phase_of_due image f entry sound due (ap is_phase act) in
     let o : OpenCall = of.o in
-    let opens : IsOpen image (configs_of f.cells) f.cpu o = sound-open image f o sound of.opens in
-    let begins = begun-of image before o of.opens in
+    let opens : IsOpen image (configs_of f.cells) f.cpu o = sound_open image f o sound of.opens in
+    let begins = begun_of image before o of.opens in
     let call : o.call ≡ call_begun first.act = begins.3 ∙ ap (λ (e : Entry). call_begun e.act) (same_Some begins.0 first (sym begins.1 ∙ is)) in
     let P : Call → Type 0 = λ k. IsInPhase image (configs_of f.cells) f.cpu entry.cpu k o.phase in
     let Q : ℕ → Type 0 = λ k. IsInPhase image (configs_of f.cells) f.cpu k o.call o.phase in
     let E : Act → Type 0 = Expects o.phase in
     record {
       phase = o.phase;
-      expects = subst E act (phase-expects image f (is_idle_but image f o.caller) o.caller o.call o.phase entry.act of.act);
+      expects = subst E act (phase_expects image f (is_idle_but image f o.caller) o.caller o.call o.phase entry.act of.act);
       holds = subst P call (subst Q of.caller opens.phase);
-      cells = ap (λ (g : Facts). g.cells) (facts-push image before entry)
-          ∙ cells-after image f entry
+      cells = ap (λ (g : Facts). g.cells) (facts_push image before entry)
+          ∙ after_cells image f entry
           ∙ ap (λ (c : Option OpenCall). cells_by c f.cells entry.act) of.opens
           ∙ ap (cells_by (Some o) f.cells) act
           ∙ ap (λ (k : Call). committed_cells k o.phase f.cells) call;
@@ -93,14 +90,14 @@ commit-of image before rest entry first admitted legal act is =
 with_call : (image : Image) (before : List Entry) (entry : Entry) (one other : Call) → one ≡ other → IsCommitOf image before entry one → IsCommitOf image before entry other
 with_call image before entry one other same h = let P : Call → Type 0 = IsCommitOf image before entry in subst P same h
 
-pub commit-start : (image : Image) (before : List Entry) (entry : Entry) (id : ℕ) → IsCommitOf image before entry (Start id) → (facts image (before ++ entry ∷ [])).cells ≡ map (marked id false) (facts image before).cells
-commit-start image before entry id h = h.cells
+pub commit_start : (image : Image) (before : List Entry) (entry : Entry) (id : ℕ) → IsCommitOf image before entry (Start id) → (facts image (before ++ entry ∷ [])).cells ≡ map (marked id false) (facts image before).cells
+commit_start image before entry id h = h.cells
 
-pub commit-loadable : (image : Image) (before : List Entry) (entry : Entry) (id : ℕ) → IsCommitOf image before entry (Loadable id) → (facts image (before ++ entry ∷ [])).cells ≡ map (marked id true) (facts image before).cells
-commit-loadable image before entry id h = h.cells
+pub commit_loadable : (image : Image) (before : List Entry) (entry : Entry) (id : ℕ) → IsCommitOf image before entry (Loadable id) → (facts image (before ++ entry ∷ [])).cells ≡ map (marked id true) (facts image before).cells
+commit_loadable image before entry id h = h.cells
 
-pub commit-destroy : (image : Image) (before : List Entry) (entry : Entry) (id : ℕ) → IsCommitOf image before entry (Destroy id) → (facts image (before ++ entry ∷ [])).cells ≡ filter (is_other id) (facts image before).cells
-commit-destroy image before entry id h = h.cells
+pub commit_destroy : (image : Image) (before : List Entry) (entry : Entry) (id : ℕ) → IsCommitOf image before entry (Destroy id) → (facts image (before ++ entry ∷ [])).cells ≡ filter (is_other id) (facts image before).cells
+commit_destroy image before entry id h = h.cells
 
 created_by : (image : Image) (configs : List CellConfig) (cpu : ℕ → Cpu) (caller at : ℕ) (cells after : List Live) (phase : Phase) → Expects phase Commit → IsInPhase image configs cpu caller (Create at) phase → after ≡ committed_cells (Create at) phase cells
     → (config : CellConfig) × (after ≡ cells ++ (record { config = config; loadable = false }) ∷ [])
@@ -112,13 +109,13 @@ created_by image configs cpu caller at cells after (ToNote id about answer) e h 
 created_by image configs cpu caller at cells after (ToNoted id about answer waited) e h is = absurd (not_same is_commit Commit (Noted id e.0) refl refl e.1)
 created_by image configs cpu caller at cells after (ToFinish answer) e h is = absurd (not_same is_commit Commit (Finish answer) refl refl e)
 
-pub commit-create : (image : Image) (before : List Entry) (entry : Entry) (at : ℕ) → IsCommitOf image before entry (Create at)
+pub commit_create : (image : Image) (before : List Entry) (entry : Entry) (at : ℕ) → IsCommitOf image before entry (Create at)
     → (config : CellConfig) × ((facts image (before ++ entry ∷ [])).cells ≡ (facts image before).cells ++ (record { config = config; loadable = false }) ∷ [])
-commit-create image before entry at h =
+commit_create image before entry at h =
     created_by image (configs_of (facts image before).cells) (facts image before).cpu entry.cpu at (facts image before).cells (facts image (before ++ entry ∷ [])).cells h.phase h.expects h.holds h.cells
 
-pub commit-as : (image : Image) (before rest : List Entry) (entry first : Entry) (call : Call) → IsAdmitted image → IsLegal image (before ++ entry ∷ rest) → entry.act ≡ Commit → begun before ≡ Some first → call_begun first.act ≡ call → IsCommitOf image before entry call
-commit-as image before rest entry first call admitted legal act is same = with_call image before entry (call_begun first.act) call same (commit-of image before rest entry first admitted legal act is)
+pub commit_as : (image : Image) (before rest : List Entry) (entry first : Entry) (call : Call) → IsAdmitted image → IsLegal image (before ++ entry ∷ rest) → entry.act ≡ Commit → begun before ≡ Some first → call_begun first.act ≡ call → IsCommitOf image before entry call
+commit_as image before rest entry first call admitted legal act is same = with_call image before entry (call_begun first.act) call same (commit_of image before rest entry first admitted legal act is)
 
 -- ---- the configuration of a create
 
@@ -134,8 +131,8 @@ creating_kept : (image : Image) (caller at : ℕ) (config : CellConfig) (f : Fac
 creating_kept image caller at config f entry sound is due other =
     ⊎_elim
     (λ made. absurd (other (sym made.0)))
-    (λ (beside : IsBeside image f (creating caller at config) entry). call-counted image f (creating caller at config) entry is beside.act)
-    (entry-of_call image f (creating caller at config) entry sound is due)
+    (λ (beside : IsBeside image f (creating caller at config) entry). call_counted image f (creating caller at config) entry is beside.act)
+    (entry_of_call image f (creating caller at config) entry sound is due)
 
 creating_commits : (image : Image) (caller at : ℕ) (config : CellConfig) (f : Facts) (entry : Entry) → IsSound image f → IsCreating caller at config f → due_at image f entry.cpu ≡ Some entry → entry.cpu ≡ caller
     → (after image f entry).cells ≡ f.cells ++ (record { config = config; loadable = false }) ∷ []
@@ -143,10 +140,10 @@ creating_commits image caller at config f entry sound is due own =
     let o : OpenCall = creating caller at config in
     ⊎_elim
     (λ made.
-    let act : entry.act ≡ Commit = phase-expects image f (is_idle_but image f caller) caller (Create at) (ToCreate config) entry.act made.1 in
-    cells-after image f entry ∙ ap (λ (c : Option OpenCall). cells_by c f.cells entry.act) is ∙ ap (cells_by (Some o) f.cells) act)
+    let act : entry.act ≡ Commit = phase_expects image f (is_idle_but image f caller) caller (Create at) (ToCreate config) entry.act made.1 in
+    after_cells image f entry ∙ ap (λ (c : Option OpenCall). cells_by c f.cells entry.act) is ∙ ap (cells_by (Some o) f.cells) act)
     (λ (beside : IsBeside image f o entry). absurd (beside.other own))
-    (entry-of_call image f o entry sound is due)
+    (entry_of_call image f o entry sound is due)
 
 -- behind the Decide that goes on
 decided_by : (caller at : ℕ) (call : Option OpenCall) (o : OpenCall) (coming : Option CellConfig) → call ≡ Some (record { caller = caller; call = Create at; phase = decided (Create at) coming None }) → call ≡ Some o → IsPast o.phase
@@ -161,10 +158,10 @@ decided_call : (image : Image) (f : Facts) (entry : Entry) (at : ℕ) → IsSoun
     → (config : CellConfig) × (config_read (read_at image f at) ≡ Some config) × IsCreating entry.cpu at config (after image f entry)
 decided_call image f entry at sound due act o opens caller call =
     let phase : is_phase entry.act ≡ true = ap is_phase act in
-    let goes = phase-goes image f entry sound due phase (ap is_finish act) in
+    let goes = phase_goes image f entry sound due phase (ap is_finish act) in
     let coming : coming_of image f ≡ coming_by image f o.call = ap (option_and_then (λ (c : OpenCall). coming_by image f c.call)) opens in
     let made : (after image f entry).call ≡ Some (record { caller = entry.cpu; call = Create at; phase = decided (Create at) (config_read (read_at image f at)) None }) =
-    call-after image f entry
+    after_call image f entry
     ∙ ap (λ (c : Option OpenCall). call_by f.cells (coming_of image f) c entry entry.act) opens
     ∙ ap (λ (k : Option CellConfig). call_by f.cells k (Some o) entry entry.act) coming
     ∙ ap (call_by f.cells (coming_by image f o.call) (Some o) entry) act
@@ -178,26 +175,26 @@ made_cells behind made there up_to config same cells before =
     ap (λ (g : Facts). g.cells) same ∙ cells ∙ ap (λ (g : Facts). g.cells ++ (record { config = config; loadable = false }) ∷ []) (sym before)
 
 -- what the Decide read is what the Commit makes
-pub created-as_read : (image : Image) (before middle rest : List Entry) (decide commit first : Entry) (at : ℕ) → IsAdmitted image → IsLegal image (before ++ decide ∷ (middle ++ commit ∷ rest))
+pub created_as_read : (image : Image) (before middle rest : List Entry) (decide commit first : Entry) (at : ℕ) → IsAdmitted image → IsLegal image (before ++ decide ∷ (middle ++ commit ∷ rest))
     → begun before ≡ Some first → call_begun first.act ≡ Create at → decide.act ≡ Decide None → All (λ (e : Entry). e.cpu ≢ decide.cpu) middle → commit.cpu ≡ decide.cpu
     → (config : CellConfig) × (config_read (read_at image (facts image before) at) ≡ Some config)
     × ((facts image (before ++ decide ∷ (middle ++ commit ∷ []))).cells ≡ (facts image (before ++ decide ∷ middle)).cells ++ (record { config = config; loadable = false }) ∷ [])
-created-as_read image before middle rest decide commit first at admitted legal is call act others own =
+created_as_read image before middle rest decide commit first at admitted legal is call act others own =
     let s = stretch image before middle rest decide commit admitted legal in
     let f0 : Facts = facts image before in
     let f : Facts = after image f0 decide in
     let there : Facts = fold (after image) f middle in
-    let of = phase-of_due image f0 decide s.sound s.first_due (ap is_phase act) in
-    let begins = begun-of image before of.o of.opens in
+    let of = phase_of_due image f0 decide s.sound s.first_due (ap is_phase act) in
+    let begins = begun_of image before of.o of.opens in
     let same : of.o.call ≡ Create at = begins.3 ∙ ap (λ (e : Entry). call_begun e.act) (same_Some begins.0 first (sym begins.1 ∙ is)) ∙ call in
     let made = decided_call image f0 decide at s.sound s.first_due act of.o of.opens of.caller same in
     let config : CellConfig = made.0 in
     let end = along image (IsCreating decide.cpu at config) (λ (e : Entry). e.cpu ≢ decide.cpu) (creating_kept image decide.cpu at config) f middle
-    (sound-after image f0 decide s.sound s.first_due) made.2 s.between others in
+    (sound_after image f0 decide s.sound s.first_due) made.2 s.between others in
     let commits = creating_commits image decide.cpu at config there commit end.0 end.1 s.last_due own in
-    let up_to : facts image (before ++ decide ∷ middle) ≡ there = facts-append image before (decide ∷ middle) in
+    let up_to : facts image (before ++ decide ∷ middle) ≡ there = facts_append image before (decide ∷ middle) in
     let behind : facts image (before ++ decide ∷ (middle ++ commit ∷ [])) ≡ after image there commit =
-    facts-append image before (decide ∷ (middle ++ commit ∷ [])) ∙ fold-append (after image) f middle (commit ∷ []) in (
+    facts_append image before (decide ∷ (middle ++ commit ∷ [])) ∙ fold-append (after image) f middle (commit ∷ []) in (
       config,
       made.1,
       made_cells (facts image (before ++ decide ∷ (middle ++ commit ∷ []))) (after image there commit) there (facts image (before ++ decide ∷ middle)) config behind commits up_to,

@@ -14,25 +14,25 @@ use Rattle.jh_history.specs.declared.entry.Entry.{Entry}
 use Rattle.jh_history.specs.Facts.{Facts}
 use Rattle.jh_history.specs.History.{start, after, facts}
 use Rattle.jh_history.specs.Due.{due_at, due, IsLegal, IsLegalFrom}
-use Rattle.jh_history.proofs.FactsLemmas.{facts-push}
-use Rattle.jh_history.proofs.LegalLemmas.{IsLegal-begin, IsLegal-rest, facts-append}
+use Rattle.jh_history.proofs.FactsLemmas.{facts_push}
+use Rattle.jh_history.proofs.LegalLemmas.{IsLegal_begin, IsLegal_rest, facts_append}
 use Rattle.jh_laws.specs.Outcomes.{is_violation}
 use Rattle.jh_laws.specs.Operations.{op_of, op_by, operations_by, program_in}
-use Rattle.jh_laws.proofs.MadeLemmas.{IsSilent, IsNext, AllRoots, moved_by, own_after, other_after, roots_after, roots-at, roots-start, next-made, made-at, made-access, due_at-failed, done_by-moved}
+use Rattle.jh_laws.proofs.MadeLemmas.{IsSilent, IsNext, AllRoots, moved_by, own_after, other_after, roots_after, roots_at, roots_start, next_made, made_at, made_access, due_at_failed, done_by_moved}
 
 -- the entry's CPU after it, and the others
 own_moved : (image : Image) (f : Facts) (entry : Entry) → IsSilent image → IsNext image f entry → (after image f entry).cpu entry.cpu ≡ moved_by (is_violation entry.act) (f.cpu entry.cpu)
-own_moved image f entry admitted made = own_after image f entry admitted made ∙ done_by-moved image (is_violation entry.act) (f.cpu entry.cpu) entry.cpu made.op admitted made.at
+own_moved image f entry admitted made = own_after image f entry admitted made ∙ done_by_moved image (is_violation entry.act) (f.cpu entry.cpu) entry.cpu made.op admitted made.at
 
-pub cpu-by : (image : Image) (before rest : List Entry) (entry : Entry) (b : Bool) → IsSilent image → IsLegal image (before ++ entry ∷ rest) → is_violation entry.act ≡ b
+pub cpu_by : (image : Image) (before rest : List Entry) (entry : Entry) (b : Bool) → IsSilent image → IsLegal image (before ++ entry ∷ rest) → is_violation entry.act ≡ b
     → (facts image (before ++ entry ∷ [])).cpu entry.cpu ≡ moved_by b ((facts image before).cpu entry.cpu)
-cpu-by image before rest entry b admitted legal h =
-    ap (λ (g : Facts). g.cpu entry.cpu) (facts-push image before entry)
-    ∙ own_moved image (facts image before) entry admitted (made-at image before rest entry admitted legal)
+cpu_by image before rest entry b admitted legal h =
+    ap (λ (g : Facts). g.cpu entry.cpu) (facts_push image before entry)
+    ∙ own_moved image (facts image before) entry admitted (made_at image before rest entry admitted legal)
     ∙ ap (λ (v : Bool). moved_by v ((facts image before).cpu entry.cpu)) h
 
-pub cpu-other : (image : Image) (before rest : List Entry) (entry : Entry) (cpu : ℕ) → IsSilent image → IsLegal image (before ++ entry ∷ rest) → cpu ≢ entry.cpu → (facts image (before ++ entry ∷ [])).cpu cpu ≡ (facts image before).cpu cpu
-cpu-other image before rest entry cpu admitted legal ne = ap (λ (g : Facts). g.cpu cpu) (facts-push image before entry) ∙ other_after image (facts image before) entry cpu admitted (made-at image before rest entry admitted legal) ne
+pub cpu_other : (image : Image) (before rest : List Entry) (entry : Entry) (cpu : ℕ) → IsSilent image → IsLegal image (before ++ entry ∷ rest) → cpu ≢ entry.cpu → (facts image (before ++ entry ∷ [])).cpu cpu ≡ (facts image before).cpu cpu
+cpu_other image before rest entry cpu admitted legal ne = ap (λ (g : Facts). g.cpu cpu) (facts_push image before entry) ∙ other_after image (facts image before) entry cpu admitted (made_at image before rest entry admitted legal) ne
 
 moved_one : (b : Bool) (state : Cpu) → (moved_by b state).position ≡ state.position + 1
 moved_one true state = refl
@@ -42,10 +42,10 @@ position_after : (image : Image) (f : Facts) (entry : Entry) → IsSilent image 
 position_after image f entry admitted made = ap (λ (c : Cpu). c.position) (own_moved image f entry admitted made) ∙ moved_one (is_violation entry.act) (f.cpu entry.cpu)
 
 -- each entry moves its CPU by one
-pub cpu-position : (image : Image) (before rest : List Entry) (entry : Entry) → IsSilent image → IsLegal image (before ++ entry ∷ rest)
+pub cpu_position : (image : Image) (before rest : List Entry) (entry : Entry) → IsSilent image → IsLegal image (before ++ entry ∷ rest)
     → ((facts image (before ++ entry ∷ [])).cpu entry.cpu).position ≡ ((facts image before).cpu entry.cpu).position + 1
-cpu-position image before rest entry admitted legal =
-    ap (λ (g : Facts). (g.cpu entry.cpu).position) (facts-push image before entry) ∙ position_after image (facts image before) entry admitted (made-at image before rest entry admitted legal)
+cpu_position image before rest entry admitted legal =
+    ap (λ (g : Facts). (g.cpu entry.cpu).position) (facts_push image before entry) ∙ position_after image (facts image before) entry admitted (made_at image before rest entry admitted legal)
 
 -- the entry's CPU isn't one to which nothing is due
 other_than : (image : Image) (f : Facts) (cpu : ℕ) (entry : Entry) → due_at image f cpu ≡ None → due_at image f entry.cpu ≡ Some entry → entry.cpu ≢ cpu
@@ -53,29 +53,29 @@ other_than image f cpu entry none due same = none-some entry (sym none ∙ ap (d
 
 failed_from : (image : Image) (f : Facts) (entries : List Entry) (cpu : ℕ) → IsSilent image → AllRoots image f → (f.cpu cpu).mode ≡ Failed → IsLegalFrom image f entries
     → AllByRecursion (λ (e : Entry). e.cpu ≢ cpu) entries × (due_at image (fold (after image) f entries) cpu ≡ None)
-failed_from image f [] cpu admitted roots failed legal = (tt, due_at-failed image f cpu roots.alone.call (roots.cpus cpu) failed)
+failed_from image f [] cpu admitted roots failed legal = (tt, due_at_failed image f cpu roots.alone.call (roots.cpus cpu) failed)
 failed_from image f (entry ∷ entries) cpu admitted roots failed legal =
-    let ne : entry.cpu ≢ cpu = other_than image f cpu entry (due_at-failed image f cpu roots.alone.call (roots.cpus cpu) failed) legal.0 in
-    let made : IsNext image f entry = next-made image f entry entries roots legal in
+    let ne : entry.cpu ≢ cpu = other_than image f cpu entry (due_at_failed image f cpu roots.alone.call (roots.cpus cpu) failed) legal.0 in
+    let made : IsNext image f entry = next_made image f entry entries roots legal in
     let still : ((after image f entry).cpu cpu).mode ≡ Failed = ap (λ (c : Cpu). c.mode) (other_after image f entry cpu admitted made (λ e. ne (sym e))) ∙ failed in
     let rest = failed_from image (after image f entry) entries cpu admitted (roots_after image f entry admitted made roots) still legal.1 in
     ((ne, rest.0), rest.1)
 
 -- a CPU that has failed makes no entry any more
-failed-rest : (image : Image) (before rest : List Entry) (cpu : ℕ) → IsSilent image → IsLegal image (before ++ rest) → ((facts image before).cpu cpu).mode ≡ Failed
+failed_rest : (image : Image) (before rest : List Entry) (cpu : ℕ) → IsSilent image → IsLegal image (before ++ rest) → ((facts image before).cpu cpu).mode ≡ Failed
     → AllByRecursion (λ (e : Entry). e.cpu ≢ cpu) rest × (due image (before ++ rest) cpu ≡ None)
-failed-rest image before rest cpu admitted legal failed =
-    let found = failed_from image (facts image before) rest cpu admitted (roots-at image before admitted (IsLegal-begin image before rest legal)) failed (IsLegal-rest image before rest legal) in
-    (found.0, ap (λ (f : Facts). due_at image f cpu) (facts-append image before rest) ∙ found.1)
+failed_rest image before rest cpu admitted legal failed =
+    let found = failed_from image (facts image before) rest cpu admitted (roots_at image before admitted (IsLegal_begin image before rest legal)) failed (IsLegal_rest image before rest legal) in
+    (found.0, ap (λ (f : Facts). due_at image f cpu) (facts_append image before rest) ∙ found.1)
 
 -- after a violation nothing is due to its CPU, and no entry is its own
-pub violation-rest : (image : Image) (before rest : List Entry) (entry : Entry) → IsSilent image → IsLegal image (before ++ entry ∷ rest) → is_violation entry.act ≡ true
+pub violation_rest : (image : Image) (before rest : List Entry) (entry : Entry) → IsSilent image → IsLegal image (before ++ entry ∷ rest) → is_violation entry.act ≡ true
     → AllByRecursion (λ (e : Entry). e.cpu ≢ entry.cpu) rest × (due image (before ++ entry ∷ rest) entry.cpu ≡ None)
-violation-rest image before rest entry admitted legal h =
+violation_rest image before rest entry admitted legal h =
     let split : (before ++ entry ∷ []) ++ rest ≡ before ++ entry ∷ rest = append_assoc before (entry ∷ []) rest in
     let P : List Entry → Type 0 = IsLegal image in
-    let is_failed : ((facts image (before ++ entry ∷ [])).cpu entry.cpu).mode ≡ Failed = ap (λ (c : Cpu). c.mode) (cpu-by image before rest entry true admitted legal h) in
-    let found = failed-rest image (before ++ entry ∷ []) rest entry.cpu admitted (subst P (sym split) legal) is_failed in
+    let is_failed : ((facts image (before ++ entry ∷ [])).cpu entry.cpu).mode ≡ Failed = ap (λ (c : Cpu). c.mode) (cpu_by image before rest entry true admitted legal h) in
+    let found = failed_rest image (before ++ entry ∷ []) rest entry.cpu admitted (subst P (sym split) legal) is_failed in
     (found.0, ap (λ (es : List Entry). due image es entry.cpu) (sym split) ∙ found.1)
 
 -- what the CPU made goes on from the beginning of its program that it had made before
@@ -90,7 +90,7 @@ made_own : (image : Image) (f g : Facts) (entry : Entry) (entries : List Entry) 
 made_own image f g entry entries admitted made rest =
     let program = program_in image image.system.root entry.cpu in
     let i = (f.cpu entry.cpu).position in
-    let op : op_by entry.cpu entry ≡ Some made.op = ap (λ (b : Bool). cond b (op_of entry.act) None) (same_number entry.cpu) ∙ (made-access image f entry.cpu entry made admitted).operation in
+    let op : op_by entry.cpu entry ≡ Some made.op = ap (λ (b : Bool). cond b (op_of entry.act) None) (same_number entry.cpu) ∙ (made_access image f entry.cpu entry made admitted).operation in
     let one : take i program ++ made.op ∷ operations_by entry.cpu entries ≡ take (i + 1) program ++ operations_by entry.cpu entries =
     sym (append_assoc (take i program) (made.op ∷ []) (operations_by entry.cpu entries)) ∙ ap (λ (xs : List Op). xs ++ operations_by entry.cpu entries) (sym (took program i made.op made.at)) in
     ap (λ (o : Option Op). take i program ++ cons_option o (operations_by entry.cpu entries)) op
@@ -117,15 +117,15 @@ made_one image cpu f g entry entries admitted made rest = elim (cases_eq entry.c
 made_from : (image : Image) (cpu : ℕ) (f : Facts) (entries : List Entry) → IsSilent image → AllRoots image f → IsLegalFrom image f entries → IsMadeFrom image cpu f (fold (after image) f entries) entries
 made_from image cpu f [] admitted roots legal = append-nil (take (f.cpu cpu).position (program_in image image.system.root cpu))
 made_from image cpu f (entry ∷ entries) admitted roots legal =
-    let made : IsNext image f entry = next-made image f entry entries roots legal in
+    let made : IsNext image f entry = next_made image f entry entries roots legal in
     made_one image cpu f (fold (after image) f (entry ∷ entries)) entry entries admitted made
     (made_from image cpu (after image f entry) entries admitted (roots_after image f entry admitted made roots) legal.1)
 
 -- the entries of a CPU are a beginning of its program
-pub operations-taken : (image : Image) (entries : List Entry) (cpu : ℕ) → IsSilent image → IsLegal image entries
+pub operations_taken : (image : Image) (entries : List Entry) (cpu : ℕ) → IsSilent image → IsLegal image entries
     → operations_by cpu entries ≡ take ((facts image entries).cpu cpu).position (program_in image image.system.root cpu)
 unfolding facts IsLegal
-operations-taken image entries cpu admitted legal = made_from image cpu (start image) entries admitted (roots-start image admitted.bare) legal
+operations_taken image entries cpu admitted legal = made_from image cpu (start image) entries admitted (roots_start image admitted.bare) legal
 
 -- as many as its position tells
 abbrev IsCounted : ℕ → Facts → Facts → List Entry → Type 0
@@ -133,7 +133,7 @@ IsCounted cpu f g entries = (g.cpu cpu).position ≡ (f.cpu cpu).position + leng
 
 counted_own : (image : Image) (f g : Facts) (entry : Entry) (entries : List Entry) → IsSilent image → IsNext image f entry → IsCounted entry.cpu (after image f entry) g entries → IsCounted entry.cpu f g (entry ∷ entries)
 counted_own image f g entry entries admitted made rest =
-    let op : op_by entry.cpu entry ≡ Some made.op = ap (λ (b : Bool). cond b (op_of entry.act) None) (same_number entry.cpu) ∙ (made-access image f entry.cpu entry made admitted).operation in
+    let op : op_by entry.cpu entry ≡ Some made.op = ap (λ (b : Bool). cond b (op_of entry.act) None) (same_number entry.cpu) ∙ (made_access image f entry.cpu entry made admitted).operation in
     let more : length (operations_by entry.cpu (entry ∷ entries)) ≡ suc (length (operations_by entry.cpu entries)) = ap (λ (o : Option Op). length (cons_option o (operations_by entry.cpu entries))) op in
     let moved : ((after image f entry).cpu entry.cpu).position ≡ (f.cpu entry.cpu).position + 1 = position_after image f entry admitted made in
     let last : (g.cpu entry.cpu).position ≡ ((after image f entry).cpu entry.cpu).position + length (operations_by entry.cpu entries) = rest in
@@ -157,12 +157,12 @@ counted_one image cpu f g entry entries admitted made rest = elim (cases_eq entr
 counted_from : (image : Image) (cpu : ℕ) (f : Facts) (entries : List Entry) → IsSilent image → AllRoots image f → IsLegalFrom image f entries → IsCounted cpu f (fold (after image) f entries) entries
 counted_from image cpu f [] admitted roots legal = omega arith
 counted_from image cpu f (entry ∷ entries) admitted roots legal =
-    let made : IsNext image f entry = next-made image f entry entries roots legal in
+    let made : IsNext image f entry = next_made image f entry entries roots legal in
     counted_one image cpu f (fold (after image) f (entry ∷ entries)) entry entries admitted made
     (counted_from image cpu (after image f entry) entries admitted (roots_after image f entry admitted made roots) legal.1)
 
-pub operations-counted : (image : Image) (entries : List Entry) (cpu : ℕ) → IsSilent image → IsLegal image entries → ((facts image entries).cpu cpu).position ≡ length (operations_by cpu entries)
+pub operations_counted : (image : Image) (entries : List Entry) (cpu : ℕ) → IsSilent image → IsLegal image entries → ((facts image entries).cpu cpu).position ≡ length (operations_by cpu entries)
 unfolding facts IsLegal
-operations-counted image entries cpu admitted legal =
-    let counted : IsCounted cpu (start image) (fold (after image) (start image) entries) entries = counted_from image cpu (start image) entries admitted (roots-start image admitted.bare) legal in
+operations_counted image entries cpu admitted legal =
+    let counted : IsCounted cpu (start image) (fold (after image) (start image) entries) entries = counted_from image cpu (start image) entries admitted (roots_start image admitted.bare) legal in
     counted ∙ zero-add (length (operations_by cpu entries))

@@ -5,7 +5,7 @@ use Rattle.std.specs.List.{list_any}
 use Rattle.std.proofs.lemmas.Bool.{both_ways, and_parts, and_from, eqb-true, eq-eqb, ne_eqb, not-true, not_from_false, false_from_ne_true}
 use Rattle.std.proofs.lemmas.Option.{none-some, same_Some}
 use Rattle.jh_num.specs.declared.error.TheConstants.{EPERM, ENOENT, EINVAL}
-use Rattle.jh_num.proofs.Lists.{IsFound-from_list_any, list_any-from_Contains}
+use Rattle.jh_num.proofs.Lists.{IsFound_from_list_any, list_any_from_Contains}
 use Rattle.jh_cellcfg.specs.declared.config.CellConfig.{CellConfig}
 use Rattle.jh_cellcfg.specs.declared.live.Live.{Live}
 use Rattle.jh_cellcfg.specs.declared.fault.ConfigFault.{ConfigFault}
@@ -13,7 +13,7 @@ use Rattle.jh_cellcfg.specs.Lives.{id_of, has_id}
 use Rattle.jh_cellcfg.specs.Faults.{header_fault, header_size}
 use Rattle.jh_cellcfg.specs.Reading.{config_of}
 use Rattle.jh_check.specs.Refusals.{any_below, refusal_of}
-use Rattle.jh_check.proofs.RefusalLemmas.{accepted-to}
+use Rattle.jh_check.proofs.RefusalLemmas.{accepted_to}
 use Rattle.jh_shape.specs.Pages.{pages_of}
 use Rattle.jh_comm.specs.declared.words.TheConstants.{STATE_RUNNING_LOCKED}
 use Rattle.jh_call.specs.declared.call.Call.{Call}
@@ -34,15 +34,15 @@ use Rattle.jh_history.specs.Configs.{ReadCell, bytes_at, read_whole, read_behind
 use Rattle.jh_history.specs.History.{facts}
 use Rattle.jh_history.specs.Phases.{phase_act, keeps_decide, state_word, may_give, configs_of, is_locked, is_other_locked, unless_refused, creation_by, creation_of, refused_by, id_refusal, first_refusal, decision}
 use Rattle.jh_history.specs.Due.{due_at, is_idle_but, IsLegal}
-use Rattle.jh_history.proofs.LegalLemmas.{due-split, IsLegal-begin}
+use Rattle.jh_history.proofs.LegalLemmas.{due_split, IsLegal_begin}
 use Rattle.jh_history.specs.Sound.{AreSoundCells}
 use Rattle.jh_laws.specs.Ways.{is_phase, is_decide, call_begun, begun}
 use Rattle.jh_laws.specs.Decisions.{IsLockedBy, NoneIsLocked, NoOtherIsLocked, LivesNot, IsIdDecision, IsDestroyDecision, IsUnreadDecision, IsRefusedOf, IsCreateDecision, IsDecision}
-use Rattle.jh_history.proofs.SoundCpusLemmas.{other-root}
-use Rattle.jh_history.proofs.SoundLemmas.{legal-sound}
-use Rattle.jh_laws.proofs.CallLemmas.{phase-expects, phase-of_due, sound-open, begun-of, not_same}
-use Rattle.jh_laws.proofs.HeldLemmas.{live-cell}
-use Rattle.jh_laws.proofs.HvcLemmas.{none-live}
+use Rattle.jh_history.proofs.SoundCpusLemmas.{other_root}
+use Rattle.jh_history.proofs.SoundLemmas.{legal_sound}
+use Rattle.jh_laws.proofs.CallLemmas.{phase_expects, phase_of_due, sound_open, begun_of, not_same}
+use Rattle.jh_laws.proofs.HeldLemmas.{live_cell}
+use Rattle.jh_laws.proofs.HvcLemmas.{none_live}
 
 -- ---- by the id
 
@@ -52,14 +52,14 @@ id_root image f id is = let e : eqb id image.system.root.id ≡ true = eq-eqb id
 id_none : (image : Image) (f : Facts) (id : ℕ) → id ≢ image.system.root.id → LivesNot f id → id_refusal image f id ≡ Some ENOENT
 id_none image f id other none =
     let e : eqb id image.system.root.id ≡ false = ne_eqb id image.system.root.id other in
-    let nothing : find (has_id id) f.cells ≡ None = none-live f.cells id (find (has_id id) f.cells) refl none in
+    let nothing : find (has_id id) f.cells ≡ None = none_live f.cells id (find (has_id id) f.cells) refl none in
     rw (e, nothing) refl
 
 id_goes : (image : Image) (f : Facts) (id : ℕ) (config : CellConfig) → AreSoundCells image.system (configs_of f.cells) → Contains (configs_of f.cells) config → config.id ≡ id → id_refusal image f id ≡ None
 id_goes image f id config sound held is =
     let P : ℕ → Type 0 = λ k. id_refusal image f k ≡ None in
-    let other : eqb config.id image.system.root.id ≡ false = ne_eqb config.id image.system.root.id (other-root image.system (configs_of f.cells) config sound held) in
-    let found : cell_in image f.cells config.id ≡ Some config = live-cell image f.cells config sound (inr held) in
+    let other : eqb config.id image.system.root.id ≡ false = ne_eqb config.id image.system.root.id (other_root image.system (configs_of f.cells) config sound held) in
+    let found : cell_in image f.cells config.id ≡ Some config = live_cell image f.cells config sound (inr held) in
     let some : is_some (cell_in image f.cells config.id) ≡ true = ap (λ (o : Option CellConfig). is_some o) found in
     subst P is (ap (λ (b : Bool). cond b (cond (eqb config.id image.system.root.id) (Some EINVAL) None) (Some ENOENT)) some ∙ ap (λ (b : Bool). cond b (Some EINVAL) None) other)
 
@@ -74,14 +74,14 @@ id_decision image f id sound = record {
 
 other_locked : (f : Facts) (id : ℕ) (live : Live) → IsLockedBy f live → id_of live ≢ id → list_any (is_other_locked f id) f.cells ≡ true
 other_locked f id live locked other =
-    list_any-from_Contains (is_other_locked f id) f.cells live locked.0
+    list_any_from_Contains (is_other_locked f id) f.cells live locked.0
     (and_from (not (has_id id live)) (is_locked f live) (not_from_false (has_id id live) (ne_eqb (id_of live) id other)) (eq-eqb (state_word f (id_of live)) STATE_RUNNING_LOCKED locked.1))
 
 none_other_locked : (f : Facts) (id : ℕ) → NoOtherIsLocked f id → list_any (is_other_locked f id) f.cells ≡ false
 none_other_locked f id none =
     false_from_ne_true (list_any (is_other_locked f id) f.cells)
     (λ some.
-    let found = IsFound-from_list_any (is_other_locked f id) f.cells some in
+    let found = IsFound_from_list_any (is_other_locked f id) f.cells some in
     let parts = and_parts (not (has_id id found.0)) (is_locked f found.0) found.1.passes in
     none found.0 found.1.held (λ e. both_ways (has_id id found.0) (not-true (has_id id found.0) parts.0) (eq-eqb (id_of found.0) id e)) (eqb-true (state_word f (id_of found.0)) STATE_RUNNING_LOCKED parts.1))
 
@@ -99,12 +99,12 @@ destroy_decision image f id sound =
 -- ---- a create
 
 some_locked : (f : Facts) (live : Live) → IsLockedBy f live → list_any (is_locked f) f.cells ≡ true
-some_locked f live locked = list_any-from_Contains (is_locked f) f.cells live locked.0 (eq-eqb (state_word f (id_of live)) STATE_RUNNING_LOCKED locked.1)
+some_locked f live locked = list_any_from_Contains (is_locked f) f.cells live locked.0 (eq-eqb (state_word f (id_of live)) STATE_RUNNING_LOCKED locked.1)
 
 none_locked : (f : Facts) → NoneIsLocked f → list_any (is_locked f) f.cells ≡ false
 none_locked f none =
     false_from_ne_true (list_any (is_locked f) f.cells)
-    (λ some. let found = IsFound-from_list_any (is_locked f) f.cells some in none found.0 found.1.held (eqb-true (state_word f (id_of found.0)) STATE_RUNNING_LOCKED found.1.passes))
+    (λ some. let found = IsFound_from_list_any (is_locked f) f.cells some in none found.0 found.1.held (eqb-true (state_word f (id_of found.0)) STATE_RUNNING_LOCKED found.1.passes))
 
 created_locked : (image : Image) (f : Facts) (caller at : ℕ) → list_any (is_locked f) f.cells ≡ true → refused_by (creation_of image f caller at) ≡ Some EPERM
 unfolding creation_of
@@ -149,7 +149,7 @@ read_whole_of image f caller at header bytes free some is all =
     let cause : refused_by (creation_of image f caller at) ≡ refusal = read ∙ refused_of config refusal in
     record {
       cause = cause;
-      goes = λ accepted. cause ∙ accepted-to image.system (configs_of f.cells) config (may_give image f caller) pages (pool_pages image.system) accepted;
+      goes = λ accepted. cause ∙ accepted_to image.system (configs_of f.cells) config (may_give image f caller) pages (pool_pages image.system) accepted;
     }
 
 create_decision : (image : Image) (f : Facts) (caller at : ℕ) → IsCreateDecision image f caller at (refused_by (creation_of image f caller at))
@@ -181,27 +181,27 @@ unless_same false made act h = sym (ap refused_in (same_Some (Decide made) act h
 
 decide_says : (image : Image) (f : Facts) (idle : Bool) (caller : ℕ) (call : Call) (phase : Phase) (act : Act) → is_decide act ≡ true → phase_act image f idle caller call phase ≡ Some act → refused_in act ≡ decision image f caller call
 decide_says image f idle caller call ToDecide act is h = unless_same (any_below (λ i. keeps_decide image caller i (f.cpu i)) 16) (decision image f caller call) act h
-decide_says image f idle caller call (ToSettle waited) act is h = let e = phase-expects image f idle caller call (ToSettle waited) act h in absurd (not_same is_decide act (Settle e.0) is refl e.1)
-decide_says image f idle caller call (ToCreate config) act is h = absurd (not_same is_decide act Commit is refl (phase-expects image f idle caller call (ToCreate config) act h))
-decide_says image f idle caller call ToCommit act is h = absurd (not_same is_decide act Commit is refl (phase-expects image f idle caller call ToCommit act h))
-decide_says image f idle caller call (ToNote id about answer) act is h = absurd (not_same is_decide act (Note id) is refl (phase-expects image f idle caller call (ToNote id about answer) act h))
+decide_says image f idle caller call (ToSettle waited) act is h = let e = phase_expects image f idle caller call (ToSettle waited) act h in absurd (not_same is_decide act (Settle e.0) is refl e.1)
+decide_says image f idle caller call (ToCreate config) act is h = absurd (not_same is_decide act Commit is refl (phase_expects image f idle caller call (ToCreate config) act h))
+decide_says image f idle caller call ToCommit act is h = absurd (not_same is_decide act Commit is refl (phase_expects image f idle caller call ToCommit act h))
+decide_says image f idle caller call (ToNote id about answer) act is h = absurd (not_same is_decide act (Note id) is refl (phase_expects image f idle caller call (ToNote id about answer) act h))
 decide_says image f idle caller call (ToNoted id about answer waited) act is h =
-    let e = phase-expects image f idle caller call (ToNoted id about answer waited) act h in absurd (not_same is_decide act (Noted id e.0) is refl e.1)
-decide_says image f idle caller call (ToFinish answer) act is h = absurd (not_same is_decide act (Finish answer) is refl (phase-expects image f idle caller call (ToFinish answer) act h))
+    let e = phase_expects image f idle caller call (ToNoted id about answer waited) act h in absurd (not_same is_decide act (Noted id e.0) is refl e.1)
+decide_says image f idle caller call (ToFinish answer) act is h = absurd (not_same is_decide act (Finish answer) is refl (phase_expects image f idle caller call (ToFinish answer) act h))
 
 pub decides : (image : Image) (before rest : List Entry) (entry first : Entry) (refused : Option ℤ) → IsAdmitted image → IsLegal image (before ++ entry ∷ rest) → entry.act ≡ Decide refused → begun before ≡ Some first
     → IsDecision image (facts image before) entry.cpu (call_begun first.act) refused
 decides image before rest entry first refused admitted legal act is =
     let f : Facts = facts image before in
-    let sound = legal-sound image before admitted (IsLegal-begin image before (entry ∷ rest) legal) in
-    let due : due_at image f entry.cpu ≡ Some entry = due-split image before rest entry legal in
-    let of = phase-of_due image f entry sound due (ap is_phase act) in
+    let sound = legal_sound image before admitted (IsLegal_begin image before (entry ∷ rest) legal) in
+    let due : due_at image f entry.cpu ≡ Some entry = due_split image before rest entry legal in
+    let of = phase_of_due image f entry sound due (ap is_phase act) in
     let o : OpenCall = of.o in
-    let begins = begun-of image before o of.opens in
+    let begins = begun_of image before o of.opens in
     let call : o.call ≡ call_begun first.act = begins.3 ∙ ap (λ (e : Entry). call_begun e.act) (same_Some begins.0 first (sym begins.1 ∙ is)) in
     let says : refused_in entry.act ≡ decision image f o.caller o.call = decide_says image f (is_idle_but image f o.caller) o.caller o.call o.phase entry.act (ap is_decide act) of.act in
     let same : decision image f o.caller o.call ≡ refused = sym says ∙ ap refused_in act in
     let P : Option ℤ → Type 0 = IsDecision image f o.caller o.call in
     let Q : Call → Type 0 = λ k. IsDecision image f o.caller k refused in
     let R : ℕ → Type 0 = λ k. IsDecision image f k (call_begun first.act) refused in
-    subst R of.caller (subst Q call (subst P same (decision_of image f o.caller o.call (sound-open image f o sound of.opens).caller.management sound.cells)))
+    subst R of.caller (subst Q call (subst P same (decision_of image f o.caller o.call (sound_open image f o sound of.opens).caller.management sound.cells)))

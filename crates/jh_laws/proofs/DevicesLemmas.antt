@@ -6,7 +6,7 @@ use Rattle.std.specs.Option.{option_map_or}
 use Rattle.std.proofs.lemmas.Bool.{both_ways, and_parts, and_from, eqb-true, eq-eqb, lt-ltb, cases_lt}
 use Rattle.std.proofs.lemmas.Option.{none-some, same_Some}
 use Rattle.std.proofs.lemmas.List.Elements.{All-contains}
-use Rattle.jh_num.proofs.Lists.{IsFound-from_find, find-None}
+use Rattle.jh_num.proofs.Lists.{IsFound_from_find, find_None}
 use Rattle.jh_cellcfg.specs.declared.config.CellConfig.{CellConfig}
 use Rattle.jh_cellcfg.specs.declared.config.PciDevice.{PciDevice}
 use Rattle.jh_cellcfg.specs.declared.live.Live.{Live}
@@ -21,7 +21,7 @@ use Rattle.jh_ivshmem.specs.declared.endpoint.Endpoint.{Endpoint}
 use Rattle.jh_ivshmem.specs.Links.{endpoint_at}
 use Rattle.jh_ivshmem.specs.Registers.{register_of}
 use Rattle.jh_ivshmem.specs.Specs.{is_device}
-use Rattle.jh_ivshmem.proofs.NamedLemmas.{named-device}
+use Rattle.jh_ivshmem.proofs.NamedLemmas.{named_device}
 use Rattle.jh_script.specs.declared.image.Image.{Image}
 use Rattle.jh_history.specs.declared.access.Access.{Access}
 use Rattle.jh_history.specs.Access.{config_told, register_told}
@@ -34,55 +34,55 @@ use Rattle.jh_history.specs.Phases.{configs_of}
 use Rattle.jh_history.specs.Sound.{IsOfDevice, IsSoundEndpoint, IsSound}
 use Rattle.jh_laws.specs.Held.{IsLive}
 use Rattle.jh_laws.specs.Ends.{IsDeviceOf, LiesInBar, IsFirstBar, IsAnsweredByRegister, HasFunction}
-use Rattle.jh_laws.proofs.HeldLemmas.{live-cell, cell-live, number-of}
-use Rattle.jh_laws.proofs.WindowLemmas.{window_at, windows-are, windows-have, IsLower, IsFirst, windows-first, spec-is, function-found, function-some}
+use Rattle.jh_laws.proofs.HeldLemmas.{live_cell, cell_live, number_of_holds}
+use Rattle.jh_laws.proofs.WindowLemmas.{window_at, windows_are, windows_have, IsLower, IsFirst, windows_first, spec_is, function_found, function_some}
 
 -- ---- devices
 
 -- the endpoint that is found is among the endpoints
-pub endpoint-held : (image : Image) (f : Facts) (id n : ℕ) (e : Endpoint) → endpoint_at id n f.endpoints ≡ Some e → Contains f.endpoints e
-endpoint-held image f id n e there = (IsFound-from_find (λ (o : Endpoint). is_device id n o.spec) f.endpoints e there).held
+pub endpoint_held : (image : Image) (f : Facts) (id n : ℕ) (e : Endpoint) → endpoint_at id n f.endpoints ≡ Some e → Contains f.endpoints e
+endpoint_held image f id n e there = (IsFound_from_find (λ (o : Endpoint). is_device id n o.spec) f.endpoints e there).held
 
-pub endpoint-sound : (image : Image) (f : Facts) (id n : ℕ) (e : Endpoint) → IsSound image f → endpoint_at id n f.endpoints ≡ Some e → IsSoundEndpoint e
-endpoint-sound image f id n e sound there = All-contains IsSoundEndpoint f.endpoints e sound.endpoints.sound (endpoint-held image f id n e there)
+pub endpoint_sound : (image : Image) (f : Facts) (id n : ℕ) (e : Endpoint) → IsSound image f → endpoint_at id n f.endpoints ≡ Some e → IsSoundEndpoint e
+endpoint_sound image f id n e sound there = All-contains IsSoundEndpoint f.endpoints e sound.endpoints.sound (endpoint_held image f id n e there)
 
 -- a device that has an endpoint has a number of 32 bits
-pub endpoint-few : (image : Image) (f : Facts) (id n : ℕ) (e : Endpoint) → IsSound image f → endpoint_at id n f.endpoints ≡ Some e → n < 2 ^ 32
-endpoint-few image f id n e sound there =
-    let own = All-contains (λ (o : Endpoint). IsOfDevice image (configs_of f.cells) o.spec) f.endpoints e sound.endpoints.own (endpoint-held image f id n e there) in
-    let few : e.spec.device < 2 ^ 32 = (spec-is own.0 e.spec own.2).few in
-    let number : e.spec.device ≡ n = named-device id n f.endpoints e there in
+pub endpoint_few : (image : Image) (f : Facts) (id n : ℕ) (e : Endpoint) → IsSound image f → endpoint_at id n f.endpoints ≡ Some e → n < 2 ^ 32
+endpoint_few image f id n e sound there =
+    let own = All-contains (λ (o : Endpoint). IsOfDevice image (configs_of f.cells) o.spec) f.endpoints e sound.endpoints.own (endpoint_held image f id n e there) in
+    let few : e.spec.device < 2 ^ 32 = (spec_is own.0 e.spec own.2).few in
+    let number : e.spec.device ≡ n = named_device id n f.endpoints e there in
     omega arith
 
 -- the devices of the live cell
 list_by : (image : Image) (cells : List Live) (id : ℕ) (cell : CellConfig) → cell_in image cells id ≡ Some cell → list_in image cells id ≡ cell.pci_devices
 list_by image cells id cell is = ap (λ (o : Option CellConfig). option_map_or (λ (c : CellConfig). c.pci_devices) o []) is
 
-pub cell-named : (image : Image) (f : Facts) (id : ℕ) (cell : CellConfig) → IsSound image f → IsLive image f.cells cell → cell.id ≡ id → cell_in image f.cells id ≡ Some cell
-cell-named image f id cell sound live named =
+pub cell_named : (image : Image) (f : Facts) (id : ℕ) (cell : CellConfig) → IsSound image f → IsLive image f.cells cell → cell.id ≡ id → cell_in image f.cells id ≡ Some cell
+cell_named image f id cell sound live named =
     let P : ℕ → Type 0 = λ i. cell_in image f.cells i ≡ Some cell in
-    subst P named (live-cell image f.cells cell sound.cells live)
+    subst P named (live_cell image f.cells cell sound.cells live)
 
 -- what an ivshmem device of a live cell is in the list of its devices
 pub record IsListed (image : Image) (f : Facts) (id n : ℕ) (device : PciDevice) : Type 0 where
   pub item : slice_get (list_in image f.cells id) n ≡ Some device
   pub passes : is_endpoint n device ≡ true
 
-pub device-listed : (image : Image) (f : Facts) (id n : ℕ) (device : PciDevice) (e : Endpoint) → IsSound image f → IsDeviceOf image f id n device e → IsListed image f id n device
-device-listed image f id n device e sound h = record {
-  item = ap (λ (devices : List PciDevice). slice_get devices n) (list_by image f.cells id h.cell (cell-named image f id h.cell sound h.live h.named)) ∙ h.item;
-  passes = and_from (nat_lt n (2 ^ 32)) (is_shmem device) (lt-ltb n (2 ^ 32) (endpoint-few image f id n e sound h.there)) (eq-eqb device.kind 3 h.kind);
+pub device_listed : (image : Image) (f : Facts) (id n : ℕ) (device : PciDevice) (e : Endpoint) → IsSound image f → IsDeviceOf image f id n device e → IsListed image f id n device
+device_listed image f id n device e sound h = record {
+  item = ap (λ (devices : List PciDevice). slice_get devices n) (list_by image f.cells id h.cell (cell_named image f id h.cell sound h.live h.named)) ∙ h.item;
+  passes = and_from (nat_lt n (2 ^ 32)) (is_shmem device) (lt-ltb n (2 ^ 32) (endpoint_few image f id n e sound h.there)) (eq-eqb device.kind 3 h.kind);
 }
 
 listed_by : (image : Image) (f : Facts) (id n : ℕ) (device : PciDevice) (e : Endpoint) (o : Option CellConfig) → cell_in image f.cells id ≡ o → slice_get (option_map_or (λ (c : CellConfig). c.pci_devices) o []) n ≡ Some device → is_endpoint n device ≡ true
     → endpoint_at id n f.endpoints ≡ Some e → IsDeviceOf image f id n device e
 listed_by image f id n device e None is item passes there = absurd (none-some device item)
 listed_by image f id n device e (Some cell) is item passes there =
-    let live = cell-live image f.cells id cell is in
+    let live = cell_live image f.cells id cell is in
     record { cell = cell; live = live.0; named = live.1; item = item; kind = eqb-true device.kind 3 (and_parts (nat_lt n (2 ^ 32)) (is_shmem device) passes).1; there = there }
 
-pub listed-device : (image : Image) (f : Facts) (id n : ℕ) (device : PciDevice) (e : Endpoint) → slice_get (list_in image f.cells id) n ≡ Some device → is_endpoint n device ≡ true → endpoint_at id n f.endpoints ≡ Some e → IsDeviceOf image f id n device e
-listed-device image f id n device e item passes there = listed_by image f id n device e (cell_in image f.cells id) refl item passes there
+pub listed_device : (image : Image) (f : Facts) (id n : ℕ) (device : PciDevice) (e : Endpoint) → slice_get (list_in image f.cells id) n ≡ Some device → is_endpoint n device ≡ true → endpoint_at id n f.endpoints ≡ Some e → IsDeviceOf image f id n device e
+listed_device image f id n device e item passes there = listed_by image f id n device e (cell_in image f.cells id) refl item passes there
 
 -- ---- windows
 
@@ -90,8 +90,8 @@ windows_listed : (image : Image) (f : Facts) (id at width : ℕ) → window_foun
 unfolding windows_of
 windows_listed image f id at width = refl
 
-pub position-single : {X : Type 0} (p : X → Bool) (x : X) → p x ≡ true → position p (x ∷ []) ≡ Some 0
-position-single p x passes = rw passes refl
+pub position_single : {X : Type 0} (p : X → Bool) (x : X) → p x ≡ true → position p (x ∷ []) ≡ Some 0
+position_single p x passes = rw passes refl
 
 -- a window begins at a multiple of 4
 window_start : (space : Space) (bar : ℕ) (ends : ℕ × ℕ) → space.bar0 / 0x1000 * 0x1000 ≡ space.bar0 → space.bar1 / 0x200 * 0x200 ≡ space.bar1 → window_of space bar ≡ Some ends → ends.0 % 4 ≡ 0
@@ -114,27 +114,27 @@ pub record IsTheWindow (image : Image) (f : Facts) (id at width : ℕ) (w : Wind
   pub rounded : at % 4 ≡ 0 → (at - w.start) / 4 * 4 ≡ at - w.start
 
 -- a window of a BAR has the access that lies in it, and is one of the cell's
-pub lies-has : (image : Image) (f : Facts) (id n bar at width : ℕ) (e : Endpoint) → IsSound image f → (h : LiesInBar image f id n bar at width e)
+pub lies_has : (image : Image) (f : Facts) (id n bar at width : ℕ) (e : Endpoint) → IsSound image f → (h : LiesInBar image f id n bar at width e)
     → Contains (windows_from id f.endpoints 0 (list_in image f.cells id)) (window_at n bar (h.start, h.end)) × (window_has at width (window_at n bar (h.start, h.end)) ≡ true)
-lies-has image f id n bar at width e sound h =
-    let listed = device-listed image f id n h.device e sound h.is in
+lies_has image f id n bar at width e sound h =
+    let listed = device_listed image f id n h.device e sound h.is in
     let first : h.start ≤ at = h.first in
     let last : at + width ≤ h.end = h.last in (
-      windows-have id f.endpoints 0 n n bar (list_in image f.cells id) h.device e (h.start, h.end) (omega arith) listed.item listed.passes h.is.there h.window,
+      windows_have id f.endpoints 0 n n bar (list_in image f.cells id) h.device e (h.start, h.end) (omega arith) listed.item listed.passes h.is.there h.window,
       lies_from h.start (h.start + (h.end - h.start)) at width first (omega arith),
     )
 
-pub window-none : (image : Image) (f : Facts) (id at width : ℕ) → IsSound image f → window_found (devices_of image f id) at width ≡ None → (n bar : ℕ) (e : Endpoint) → LiesInBar image f id n bar at width e → ⊥
-window-none image f id at width sound none n bar e h =
-    let has = lies-has image f id n bar at width e sound h in
+pub window_none : (image : Image) (f : Facts) (id at width : ℕ) → IsSound image f → window_found (devices_of image f id) at width ≡ None → (n bar : ℕ) (e : Endpoint) → LiesInBar image f id n bar at width e → ⊥
+window_none image f id at width sound none n bar e h =
+    let has = lies_has image f id n bar at width e sound h in
     let w : Window = window_at n bar (h.start, h.end) in
-    both_ways (window_has at width w) (find-None (window_has at width) (windows_from id f.endpoints 0 (list_in image f.cells id)) w (sym (windows_listed image f id at width) ∙ none) has.0) has.1
+    both_ways (window_has at width w) (find_None (window_has at width) (windows_from id f.endpoints 0 (list_in image f.cells id)) w (sym (windows_listed image f id at width) ∙ none) has.0) has.1
 
 first_lies : (image : Image) (f : Facts) (id at width : ℕ) (w : Window) → IsSound image f → 0 < width → find (window_has at width) (windows_from id f.endpoints 0 (list_in image f.cells id)) ≡ Some w → IsFirstBar image f id w.device w.bar at width
 first_lies image f id at width w sound some found m other e lower h =
-    let has = lies-has image f id m other at width e sound h in
+    let has = lies_has image f id m other at width e sound h in
     let x : Window = window_at m other (h.start, h.end) in
-    not_before lower (windows-first (window_has at width) id f.endpoints 0 (list_in image f.cells id) w x found has.0 has.1)
+    not_before lower (windows_first (window_has at width) id f.endpoints 0 (list_in image f.cells id) w x found has.0 has.1)
   where
     not_before : (m < w.device) ⊎ ((m ≡ w.device) × (other < w.bar)) → IsFirst w (window_at m other (h.start, h.end)) → ⊥
     not_before (inl less) (inl same) = (let e : w.device ≡ m = ap (λ (v : Window). v.device) same in omega arith)
@@ -144,11 +144,11 @@ first_lies image f id at width w sound some found m other e lower h =
     not_before (inr less) (inr (inl more)) = (let e : m ≡ w.device = less.0 in omega arith)
     not_before (inr less) (inr (inr both)) = (let lt : other < w.bar = less.1 in let gt : w.bar < other = both.1 in omega arith)
 
-pub window-lies : (image : Image) (f : Facts) (id at width : ℕ) (w : Window) → IsSound image f → 0 < width → window_found (devices_of image f id) at width ≡ Some w → IsTheWindow image f id at width w
-window-lies image f id at width w sound some is =
+pub window_lies : (image : Image) (f : Facts) (id at width : ℕ) (w : Window) → IsSound image f → 0 < width → window_found (devices_of image f id) at width ≡ Some w → IsTheWindow image f id at width w
+window_lies image f id at width w sound some is =
     let found : find (window_has at width) (windows_from id f.endpoints 0 (list_in image f.cells id)) ≡ Some w = sym (windows_listed image f id at width) ∙ is in
-    let got = IsFound-from_find (window_has at width) (windows_from id f.endpoints 0 (list_in image f.cells id)) w found in
-    let own = windows-are id f.endpoints 0 (list_in image f.cells id) w got.held in
+    let got = IsFound_from_find (window_has at width) (windows_from id f.endpoints 0 (list_in image f.cells id)) w found in
+    let own = windows_are id f.endpoints 0 (list_in image f.cells id) w got.held in
     let place : w.device ≡ 0 + own.index = own.place in
     let number : own.index ≡ w.device = omega arith in
     let item : slice_get (list_in image f.cells id) w.device ≡ Some own.device = ap (slice_get (list_in image f.cells id)) (sym number) ∙ own.item in
@@ -157,13 +157,13 @@ window-lies image f id at width w sound some is =
     let parts = lies_parts w.start (w.start + w.size) at width some got.passes in
     let first : w.start ≤ at = parts.0 in
     let last : at + width ≤ w.start + w.size = parts.1 in
-    let windows = (endpoint-sound image f id w.device own.endpoint sound own.there).windows in
+    let windows = (endpoint_sound image f id w.device own.endpoint sound own.there).windows in
     let aligned : own.ends.0 % 4 ≡ 0 = window_start own.endpoint.space w.bar own.ends windows.pages windows.tables own.window in
     record {
       endpoint = own.endpoint;
       lies = record {
         device = own.device;
-        is = listed-device image f id w.device own.device own.endpoint item own.passes own.there;
+        is = listed_device image f id w.device own.device own.endpoint item own.passes own.there;
         start = own.ends.0;
         end = own.ends.1;
         window = own.window;
@@ -175,25 +175,25 @@ window-lies image f id at width w sound some is =
       rounded = λ word. omega arith;
     }
 
-pub found-passes : (image : Image) (f : Facts) (id at width : ℕ) (w : Window) → window_found (devices_of image f id) at width ≡ Some w → window_has at width w ≡ true
-found-passes image f id at width w is =
-    (IsFound-from_find (window_has at width) (windows_from id f.endpoints 0 (list_in image f.cells id)) w (sym (windows_listed image f id at width) ∙ is)).passes
+pub found_passes : (image : Image) (f : Facts) (id at width : ℕ) (w : Window) → window_found (devices_of image f id) at width ≡ Some w → window_has at width w ≡ true
+found_passes image f id at width w is =
+    (IsFound_from_find (window_has at width) (windows_from id f.endpoints 0 (list_in image f.cells id)) w (sym (windows_listed image f id at width) ∙ is)).passes
 
 -- ---- functions
 
-pub function-is : (image : Image) (f : Facts) (id offset : ℕ) (e : Endpoint) → IsSound image f → HasFunction image f id offset e → function_at (devices_of image f id) offset ≡ Some e
-function-is image f id offset e sound h =
-    let listed = device-listed image f id h.number h.device e sound h.is in
+pub function_is : (image : Image) (f : Facts) (id offset : ℕ) (e : Endpoint) → IsSound image f → HasFunction image f id offset e → function_at (devices_of image f id) offset ≡ Some e
+function_is image f id offset e sound h =
+    let listed = device_listed image f id h.number h.device e sound h.is in
     let devices : List PciDevice = list_in image f.cells id in
-    let some = function-some (offset / 4096) 0 h.number h.number devices h.device (omega arith) listed.item listed.passes h.has in
-    let found = function-found (offset / 4096) 0 devices some.0 some.1 in
+    let some = function_some (offset / 4096) 0 h.number h.number devices h.device (omega arith) listed.item listed.passes h.has in
+    let found = function_found (offset / 4096) 0 devices some.0 some.1 in
     let place : some.0 ≡ 0 + found.index = found.place in
     let index : found.index ≡ some.0 = omega arith in
     let cell : CellConfig = h.is.cell in
-    let own : devices ≡ cell.pci_devices = list_by image f.cells id cell (cell-named image f id cell sound h.is.live h.is.named) in
+    let own : devices ≡ cell.pci_devices = list_by image f.cells id cell (cell_named image f id cell sound h.is.live h.is.named) in
     let item : slice_get cell.pci_devices some.0 ≡ Some found.device = ap (λ (ds : List PciDevice). slice_get ds some.0) (sym own) ∙ ap (slice_get devices) (sym index) ∙ found.item in
     let kind : found.device.kind ≡ 3 = eqb-true found.device.kind 3 (and_parts (nat_lt some.0 (2 ^ 32)) (is_shmem found.device) found.passes).1 in
-    let numbered = number-of image f.cells cell h.is.live in
+    let numbered = number_of_holds image f.cells cell h.is.live in
     let linked : AreLinked found.device h.device = record { one_kind = kind; other_kind = h.is.kind; place = found.has ∙ sym h.has } in
     let same : some.0 ≡ h.number = sound.cells.clean.single numbered.0 cell numbered.1 some.0 h.number found.device h.device item h.is.item linked in
     ap (option_and_then (λ n. endpoint_at id n f.endpoints)) (some.1 ∙ ap Some same) ∙ h.is.there
@@ -201,14 +201,14 @@ function-is image f id offset e sound h =
 function_by : (image : Image) (f : Facts) (id offset : ℕ) (e : Endpoint) (o : Option ℕ) → number_from (offset / 4096) 0 (list_in image f.cells id) ≡ o → option_and_then (λ n. endpoint_at id n f.endpoints) o ≡ Some e → HasFunction image f id offset e
 function_by image f id offset e None is there = absurd (none-some e there)
 function_by image f id offset e (Some n) is there =
-    let found = function-found (offset / 4096) 0 (list_in image f.cells id) n is in
+    let found = function_found (offset / 4096) 0 (list_in image f.cells id) n is in
     let place : n ≡ 0 + found.index = found.place in
     let index : found.index ≡ n = omega arith in
     let item : slice_get (list_in image f.cells id) n ≡ Some found.device = ap (slice_get (list_in image f.cells id)) (sym index) ∙ found.item in
-    record { number = n; device = found.device; is = listed-device image f id n found.device e item found.passes there; has = found.has }
+    record { number = n; device = found.device; is = listed_device image f id n found.device e item found.passes there; has = found.has }
 
-pub function-has : (image : Image) (f : Facts) (id offset : ℕ) (e : Endpoint) → function_at (devices_of image f id) offset ≡ Some e → HasFunction image f id offset e
-function-has image f id offset e is = function_by image f id offset e (number_from (offset / 4096) 0 (list_in image f.cells id)) refl is
+pub function_has : (image : Image) (f : Facts) (id offset : ℕ) (e : Endpoint) → function_at (devices_of image f id) offset ≡ Some e → HasFunction image f id offset e
+function_has image f id offset e is = function_by image f id offset e (number_from (offset / 4096) 0 (list_in image f.cells id)) refl is
 
 -- ---- what is told
 
@@ -216,20 +216,20 @@ function_told : (image : Image) (f : Facts) (id offset width : ℕ) (o : Option 
     → config_told (devices_of image f id) (record { at = offset; width = width }) ≡ option_map_or (λ (e : Endpoint). config_read e.space (offset % 4096) width) o (256 ^ width - 1)
 function_told image f id offset width o is = ap (λ (p : Option Endpoint). option_map_or (λ (e : Endpoint). config_read e.space (offset % 4096) width) p (256 ^ width - 1)) is
 
-pub told-function : (image : Image) (f : Facts) (id offset width : ℕ) (e : Endpoint) → IsSound image f → HasFunction image f id offset e
+pub told_function : (image : Image) (f : Facts) (id offset width : ℕ) (e : Endpoint) → IsSound image f → HasFunction image f id offset e
     → config_told (devices_of image f id) (record { at = offset; width = width }) ≡ config_read e.space (offset % 4096) width
-told-function image f id offset width e sound has = function_told image f id offset width (Some e) (function-is image f id offset e sound has)
+told_function image f id offset width e sound has = function_told image f id offset width (Some e) (function_is image f id offset e sound has)
 
 ones_by : (image : Image) (f : Facts) (id offset width : ℕ) (o : Option Endpoint) → function_at (devices_of image f id) offset ≡ o → ((e : Endpoint) → HasFunction image f id offset e → ⊥)
     → config_told (devices_of image f id) (record { at = offset; width = width }) ≡ 256 ^ width - 1
 ones_by image f id offset width None is none = function_told image f id offset width None is
-ones_by image f id offset width (Some e) is none = absurd (none e (function-has image f id offset e is))
+ones_by image f id offset width (Some e) is none = absurd (none e (function_has image f id offset e is))
 
-pub told-ones : (image : Image) (f : Facts) (id offset width : ℕ) → ((e : Endpoint) → HasFunction image f id offset e → ⊥) → config_told (devices_of image f id) (record { at = offset; width = width }) ≡ 256 ^ width - 1
-told-ones image f id offset width none = ones_by image f id offset width (function_at (devices_of image f id) offset) refl none
+pub told_ones : (image : Image) (f : Facts) (id offset width : ℕ) → ((e : Endpoint) → HasFunction image f id offset e → ⊥) → config_told (devices_of image f id) (record { at = offset; width = width }) ≡ 256 ^ width - 1
+told_ones image f id offset width none = ones_by image f id offset width (function_at (devices_of image f id) offset) refl none
 
-pub told-register : (image : Image) (f : Facts) (id n bar offset : ℕ) (e : Endpoint) → endpoint_at id n f.endpoints ≡ Some e → register_told (devices_of image f id) (record { device = n; bar = bar; at = offset }) ≡ register_of e bar offset
-told-register image f id n bar offset e there = ap (λ (o : Option Endpoint). option_map_or (λ (p : Endpoint). register_of p bar offset) o 0) there
+pub told_register : (image : Image) (f : Facts) (id n bar offset : ℕ) (e : Endpoint) → endpoint_at id n f.endpoints ≡ Some e → register_told (devices_of image f id) (record { device = n; bar = bar; at = offset }) ≡ register_of e bar offset
+told_register image f id n bar offset e there = ap (λ (o : Option Endpoint). option_map_or (λ (p : Endpoint). register_of p bar offset) o 0) there
 
 -- ---- one register answers
 
@@ -251,9 +251,9 @@ lower_or n bar m other one two = elim (cases_lt n m) [
 ]
 
 -- so what it is by these is one thing
-pub same-register : {X : Type 0} (image : Image) (f : Facts) (id : ℕ) (access : Access) (at width n bar offset m other place : ℕ) (e o : Endpoint) (g : ℕ → ℕ → ℕ → Endpoint → X) → IsAnsweredByRegister image f id access at width n bar offset e
+pub same_register : {X : Type 0} (image : Image) (f : Facts) (id : ℕ) (access : Access) (at width n bar offset m other place : ℕ) (e o : Endpoint) (g : ℕ → ℕ → ℕ → Endpoint → X) → IsAnsweredByRegister image f id access at width n bar offset e
     → IsAnsweredByRegister image f id access at width m other place o → g n bar offset e ≡ g m other place o
-same-register image f id access at width n bar offset m other place e o g one two =
+same_register image f id access at width n bar offset m other place e o g one two =
     let same = lower_or n bar m other (λ lower. two.earliest n bar e lower one.within) (λ lower. one.earliest m other o lower two.within) in
     let P : ℕ → Type 0 = λ k. endpoint_at id k f.endpoints ≡ Some e in
     let endpoint : e ≡ o = same_Some e o (sym (subst P same.0 one.within.is.there) ∙ two.within.is.there) in

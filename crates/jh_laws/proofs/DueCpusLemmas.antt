@@ -9,7 +9,7 @@ use Rattle.jh_cellcfg.specs.declared.live.Live.{Live}
 use Rattle.jh_cellcfg.specs.Lives.{has_id}
 use Rattle.jh_cellcfg.specs.Cells.{is_passive}
 use Rattle.jh_check.specs.Refusals.{any_below}
-use Rattle.jh_check.proofs.RefusalLemmas.{below-at, below-of}
+use Rattle.jh_check.proofs.RefusalLemmas.{below_at, below_of}
 use Rattle.jh_comm.specs.declared.words.TheConstants.{REPLY_REQUEST_APPROVED, REPLY_RECEIVED}
 use Rattle.jh_cpu.specs.declared.cpu.Cpu.{Cpu}
 use Rattle.jh_ivshmem.specs.Links.{pending_of}
@@ -18,7 +18,7 @@ use Rattle.jh_call.specs.declared.call.Call.TheVariants.{Create, Start, Loadable
 use Rattle.jh_script.specs.declared.image.Image.{Image}
 use Rattle.jh_script.specs.declared.op.Op.{Op}
 use Rattle.jh_script.specs.declared.op.Op.TheVariants.{Read as ReadOp, Write as WriteOp, Fetch as FetchOp, Await as AwaitOp, Irq as IrqOp, Hvc as HvcOp}
-use Rattle.jh_script.specs.Operations.{IsPlain}
+use Rattle.jh_script.specs.Operations.{IsWellFormed}
 use Rattle.jh_history.specs.declared.place.Place.{Place}
 use Rattle.jh_history.specs.declared.place.Place.TheVariants.{Physical}
 use Rattle.jh_history.specs.declared.access.Access.TheVariants.{Read as ToRead}
@@ -44,14 +44,14 @@ use Rattle.jh_history.specs.Admitted.{IsAdmitted}
 use Rattle.jh_history.specs.Sound.{AreSoundCells, IsHalted, IsAsked, IsHalting, IsCaller, IsOpen, IsSound}
 use Rattle.jh_laws.specs.Ends.{IsAnswered, IsReadBy, IsGotBy}
 use Rattle.jh_laws.specs.Ready.{IsDueIn, NothingElse, HasHeard, RootHasStopped, IsPhaseDue, IsReadyCaller, IsReadyProgram, IsReadyAt}
-use Rattle.jh_history.proofs.SoundCpusLemmas.{calm-goes, goes-calm, goes-running, running-mode, root-unnamed}
-use Rattle.jh_history.proofs.SoundDecideLemmas.{board-few, halted-to_decide, found-live}
-use Rattle.jh_history.proofs.SoundCommitLemmas.{halted-to_commit, named-board}
-use Rattle.jh_history.proofs.SoundDueLemmas.{IsOfProgram, state-parts}
-use Rattle.jh_laws.proofs.CallLemmas.{sound-open}
-use Rattle.jh_laws.proofs.HeldLemmas.{found-by_id}
-use Rattle.jh_laws.proofs.PendingLemmas.{next-some, next-is}
-use Rattle.jh_laws.proofs.EndsLemmas.{got-of_cell, one-value, width-some, ops-plain}
+use Rattle.jh_history.proofs.SoundCpusLemmas.{calm_goes, goes_calm, goes_running, running_mode, root_unnamed}
+use Rattle.jh_history.proofs.SoundDecideLemmas.{board_few, halted_to_decide, found_live}
+use Rattle.jh_history.proofs.SoundCommitLemmas.{halted_to_commit, named_board}
+use Rattle.jh_history.proofs.SoundDueLemmas.{IsOfProgram, state_parts}
+use Rattle.jh_laws.proofs.CallLemmas.{sound_open}
+use Rattle.jh_laws.proofs.HeldLemmas.{found_by_id}
+use Rattle.jh_laws.proofs.PendingLemmas.{next_some_holds, next_is}
+use Rattle.jh_laws.proofs.EndsLemmas.{got_of_cell, one_value, width_some, ops_plain}
 
 -- ---- what an operation comes to
 
@@ -72,27 +72,27 @@ due_await : (image : Image) (f : Facts) (id width at value : ℕ) (o : Option �
 due_await image f id width at value None sound got due = refl
 due_await image f id width at value (Some n) sound got due =
     let answered = got.answered.0 refl in
-    let same : n ≡ value = one-value image f id ToRead at width n value sound answered (got.reads n refl) (due answered) in
+    let same : n ≡ value = one_value image f id ToRead at width n value sound answered (got.reads n refl) (due answered) in
     ap (λ (b : Bool). is_some (cond b (Some (Await width at value true)) None)) (eq-eqb n value same)
 
 irq_due : (image : Image) (f : Facts) (id : ℕ) (o : Option (ℕ × ℕ)) → IsSound image f → pending_of id f.endpoints ≡ o → is_some (option_map (λ (next : ℕ × ℕ). Irq next.0 next.1) o) ≡ true → IsDueIn image f id IrqOp
 irq_due image f id None sound is due = absurd (false≢true due)
-irq_due image f id (Some next) sound is due = (next.0, next.1, (next-is image f id next.0 next.1 sound is).pending)
+irq_due image f id (Some next) sound is due = (next.0, next.1, (next_is image f id next.0 next.1 sound is).pending)
 
-op_due : (image : Image) (f : Facts) (id : ℕ) (op : Op) → IsSound image f → IsPlain op → is_some (act_of image f id op) ≡ true → IsDueIn image f id op
+op_due : (image : Image) (f : Facts) (id : ℕ) (op : Op) → IsSound image f → IsWellFormed op → is_some (act_of image f id op) ≡ true → IsDueIn image f id op
 op_due image f id (ReadOp width at) sound plain due = tt
 op_due image f id (WriteOp width at value) sound plain due = tt
 op_due image f id (FetchOp at) sound plain due = tt
-op_due image f id (AwaitOp width at value) sound plain due = await_due image f id width at value (got_by image f id ToRead at width) (got-of_cell image f id ToRead at width sound (width-some width plain.0)) due
+op_due image f id (AwaitOp width at value) sound plain due = await_due image f id width at value (got_by image f id ToRead at width) (got_of_cell image f id ToRead at width sound (width_some width plain.0)) due
 op_due image f id IrqOp sound plain due = irq_due image f id (pending_of id f.endpoints) sound refl due
 op_due image f id (HvcOp code a b) sound plain due = tt
 
-due_op : (image : Image) (f : Facts) (id : ℕ) (op : Op) → IsSound image f → IsPlain op → IsDueIn image f id op → is_some (act_of image f id op) ≡ true
+due_op : (image : Image) (f : Facts) (id : ℕ) (op : Op) → IsSound image f → IsWellFormed op → IsDueIn image f id op → is_some (act_of image f id op) ≡ true
 due_op image f id (ReadOp width at) sound plain due = refl
 due_op image f id (WriteOp width at value) sound plain due = refl
 due_op image f id (FetchOp at) sound plain due = refl
-due_op image f id (AwaitOp width at value) sound plain due = due_await image f id width at value (got_by image f id ToRead at width) sound (got-of_cell image f id ToRead at width sound (width-some width plain.0)) due
-due_op image f id IrqOp sound plain due = (let next = next-some f id due.0 due.1 due.2 in ap (λ (o : Option (ℕ × ℕ)). is_some (option_map (λ (n : ℕ × ℕ). Irq n.0 n.1) o)) next.1)
+due_op image f id (AwaitOp width at value) sound plain due = due_await image f id width at value (got_by image f id ToRead at width) sound (got_of_cell image f id ToRead at width sound (width_some width plain.0)) due
+due_op image f id IrqOp sound plain due = (let next = next_some_holds f id due.0 due.1 due.2 in ap (λ (o : Option (ℕ × ℕ)). is_some (option_map (λ (n : ℕ × ℕ). Irq n.0 n.1) o)) next.1)
 due_op image f id (HvcOp code a b) sound plain due = refl
 
 -- ---- what is due, by the act
@@ -124,8 +124,8 @@ some_of : {X : Type 0} (o : Option X) → is_some o ≡ true → (x : X) × (o �
 some_of None h = absurd (false≢true h)
 some_of (Some x) h = (x, refl)
 
-plain_at : (image : Image) (f : Facts) (cpu : ℕ) (op : Op) → IsAdmitted image → op_at image f (f.cpu cpu) cpu ≡ Some op → IsPlain op
-plain_at image f cpu op admitted at = ops-plain image cpu (cell_in image f.cells (f.cpu cpu).owner) (f.cpu cpu).position op admitted at
+plain_at : (image : Image) (f : Facts) (cpu : ℕ) (op : Op) → IsAdmitted image → op_at image f (f.cpu cpu) cpu ≡ Some op → IsWellFormed op
+plain_at image f cpu op admitted at = ops_plain image cpu (cell_in image f.cells (f.cpu cpu).owner) (f.cpu cpu).position op admitted at
 
 -- what the state alone makes due
 state_ready : (image : Image) (f : Facts) (cpu : ℕ) → IsAdmitted image → IsSound image f → ((o : OpenCall) → f.call ≡ Some o → o.caller ≢ cpu) → is_some (state_act image f (f.cpu cpu) cpu) ≡ true
@@ -137,13 +137,13 @@ state_ready image f cpu admitted sound none due =
     (λ (program : IsOfProgram image f (f.cpu cpu) cpu act.0).
     inr (record {
       none = none;
-      running = running-mode (f.cpu cpu) (goes-running (f.cpu cpu) program.goes);
-      calm = goes-calm (f.cpu cpu) program.goes;
+      running = running_mode (f.cpu cpu) (goes_running (f.cpu cpu) program.goes);
+      calm = goes_calm (f.cpu cpu) program.goes;
       op = program.op;
       at = program.at;
       due = op_due image f (f.cpu cpu).owner program.op sound (plain_at image f cpu program.op admitted program.at) (ap (λ (o : Option Act). is_some o) program.is);
     }))
-    (state-parts image f (f.cpu cpu) cpu act.0 act.1)
+    (state_parts image f (f.cpu cpu) cpu act.0 act.1)
 
 asked_state : (image : Image) (f : Facts) (cpu : ℕ) → (f.cpu cpu).asked ≡ true → is_some (state_act image f (f.cpu cpu) cpu) ≡ true
 asked_state image f cpu asked = ap (λ (b : Bool). is_some (cond b (Some Stop) (option_and_then (act_of image f (f.cpu cpu).owner) (pending_op image f (f.cpu cpu) cpu)))) asked
@@ -151,7 +151,7 @@ asked_state image f cpu asked = ap (λ (b : Bool). is_some (cond b (Some Stop) (
 program_state : (image : Image) (f : Facts) (cpu : ℕ) → IsAdmitted image → IsSound image f → IsReadyProgram image f cpu → is_some (state_act image f (f.cpu cpu) cpu) ≡ true
 program_state image f cpu admitted sound ready =
     let state : Cpu = f.cpu cpu in
-    let goes : goes_on state ≡ true = calm-goes state ready.calm ready.running in
+    let goes : goes_on state ≡ true = calm_goes state ready.calm ready.running in
     ap (λ (b : Bool). is_some (cond b (Some Stop) (option_and_then (act_of image f state.owner) (pending_op image f state cpu)))) ready.calm.asked
     ∙ ap (λ (b : Bool). is_some (option_and_then (act_of image f state.owner) (cond b (op_at image f state cpu) None))) goes
     ∙ ap (λ (o : Option Op). is_some (option_and_then (act_of image f state.owner) o)) ready.at
@@ -170,8 +170,8 @@ none_of (Some x) h = absurd (false≢true (sym h))
 abbrev waits_for : Image → Facts → ℕ → ℕ → Bool
 waits_for image f caller i = is_on_board image i && not (eqb i caller) && is_some (state_act image f (f.cpu i) i)
 
-pub idle-nothing : (image : Image) (f : Facts) (o : OpenCall) → AreSoundCells image.system (configs_of f.cells) → f.call ≡ Some o → is_idle_but image f o.caller ≡ true → NothingElse image f o.caller
-idle-nothing image f o sound is idle cpu other =
+pub idle_nothing : (image : Image) (f : Facts) (o : OpenCall) → AreSoundCells image.system (configs_of f.cells) → f.call ≡ Some o → is_idle_but image f o.caller ≡ true → NothingElse image f o.caller
+idle_nothing image f o sound is idle cpu other =
     ⊎_elim
     (λ (on : is_on_board image cpu ≡ true).
     none_of (due_at image f cpu)
@@ -181,7 +181,7 @@ idle-nothing image f o sound is idle cpu other =
     let fails : any_below (waits_for image f o.caller) 16 ≡ false = not-true (any_below (waits_for image f o.caller) 16) idle in
     let waits : waits_for image f o.caller cpu ≡ true =
     and_from (is_on_board image cpu && not (eqb cpu o.caller)) (is_some (state_act image f (f.cpu cpu) cpu)) (and_from (is_on_board image cpu) (not (eqb cpu o.caller)) on (not_from_false (eqb cpu o.caller) (ne_eqb cpu o.caller other))) some in
-    both_ways (any_below (waits_for image f o.caller) 16) fails (below-at (waits_for image f o.caller) 16 cpu (board-few image (configs_of f.cells) sound.clean cpu on) waits))))
+    both_ways (any_below (waits_for image f o.caller) 16) fails (below_at (waits_for image f o.caller) 16 cpu (board_few image (configs_of f.cells) sound.clean cpu on) waits))))
     (λ (off : is_on_board image cpu ≡ false). none_of (due_at image f cpu) (due_off image f cpu off))
     (cases_Bool (is_on_board image cpu))
 
@@ -190,7 +190,7 @@ nothing_idle image f o is nothing =
     not_from_false (any_below (waits_for image f o.caller) 16)
     (false_from_ne_true (any_below (waits_for image f o.caller) 16)
     (λ some.
-    let found = below-of (waits_for image f o.caller) 16 some in
+    let found = below_of (waits_for image f o.caller) 16 some in
     let i : ℕ = found.0 in
     let parts = and_parts (is_on_board image i && not (eqb i o.caller)) (is_some (state_act image f (f.cpu i) i)) found.2 in
     let first = and_parts (is_on_board image i) (not (eqb i o.caller)) parts.0 in
@@ -212,7 +212,7 @@ stays_halted cpu h fails = ⊎_elim (λ (asked : IsAsked cpu). absurd (both_ways
 decide_due : (image : Image) (f : Facts) (o : OpenCall) → AreSoundCells image.system (configs_of f.cells)
     → ((i : ℕ) → is_on_board image i ≡ true → i ≢ o.caller → (f.cpu i).owner ≡ image.system.root.id → IsHalting (f.cpu i))
     → any_below (λ i. keeps_decide image o.caller i (f.cpu i)) 16 ≡ false → RootHasStopped image f o.caller
-decide_due image f o sound come none i on other root = (halted-to_decide image o.caller i f.cpu (board-few image (configs_of f.cells) sound.clean i on) none on other root (come i on other root)).asked
+decide_due image f o sound come none i on other root = (halted_to_decide image o.caller i f.cpu (board_few image (configs_of f.cells) sound.clean i on) none on other root (come i on other root)).asked
 
 due_decide : (image : Image) (f : Facts) (o : OpenCall)
     → ((i : ℕ) → is_on_board image i ≡ true → i ≢ o.caller → (f.cpu i).owner ≡ image.system.root.id → IsHalting (f.cpu i))
@@ -220,7 +220,7 @@ due_decide : (image : Image) (f : Facts) (o : OpenCall)
 due_decide image f o come stopped =
     false_from_ne_true (any_below (λ i. keeps_decide image o.caller i (f.cpu i)) 16)
     (λ some.
-    let found = below-of (λ i. keeps_decide image o.caller i (f.cpu i)) 16 some in
+    let found = below_of (λ i. keeps_decide image o.caller i (f.cpu i)) 16 some in
     let i : ℕ = found.0 in
     let cpu : Cpu = f.cpu i in
     let root : ℕ = image.system.root.id in
@@ -236,23 +236,23 @@ due_decide image f o come stopped =
 commit_due : (image : Image) (f : Facts) (caller : ℕ) (call : Call) → AreSoundCells image.system (configs_of f.cells) → IsSound image f → IsOpen image (configs_of f.cells) f.cpu (record { caller = caller; call = call; phase = ToCommit })
     → any_below (λ i. keeps_commit image call i (f.cpu i)) 16 ≡ false → (i : ℕ) → is_named call (f.cpu i).owner ≡ true → (f.cpu i).asked ≡ false
 commit_due image f caller call cells sound opens none i named =
-    let on = named-board image (configs_of f.cells) f.cpu call i sound.cpus opens.phase named in
-    let unnamed = root-unnamed image.system (configs_of f.cells) call cells opens.phase in
+    let on = named_board image (configs_of f.cells) f.cpu call i sound.cpus opens.phase named in
+    let unnamed = root_unnamed image.system (configs_of f.cells) call cells opens.phase in
     let apart : (f.cpu i).owner ≢ image.system.root.id = λ e. both_ways (is_named call (f.cpu i).owner) (ap (is_named call) e ∙ unnamed) named in
-    (halted-to_commit image call i f.cpu (board-few image (configs_of f.cells) cells.clean i on) none on named ((opens.cells i apart).0 named)).asked
+    (halted_to_commit image call i f.cpu (board_few image (configs_of f.cells) cells.clean i on) none on named ((opens.cells i apart).0 named)).asked
 
 due_commit : (image : Image) (f : Facts) (caller : ℕ) (call : Call) → AreSoundCells image.system (configs_of f.cells) → IsOpen image (configs_of f.cells) f.cpu (record { caller = caller; call = call; phase = ToCommit })
     → ((i : ℕ) → is_named call (f.cpu i).owner ≡ true → (f.cpu i).asked ≡ false) → any_below (λ i. keeps_commit image call i (f.cpu i)) 16 ≡ false
 due_commit image f caller call cells opens stopped =
     false_from_ne_true (any_below (λ i. keeps_commit image call i (f.cpu i)) 16)
     (λ some.
-    let found = below-of (λ i. keeps_commit image call i (f.cpu i)) 16 some in
+    let found = below_of (λ i. keeps_commit image call i (f.cpu i)) 16 some in
     let i : ℕ = found.0 in
     let cpu : Cpu = f.cpu i in
     let a = and_parts (is_on_board image i && is_named call cpu.owner && is_running cpu.mode) (not cpu.stopped) found.2 in
     let b = and_parts (is_on_board image i && is_named call cpu.owner) (is_running cpu.mode) a.0 in
     let c = and_parts (is_on_board image i) (is_named call cpu.owner) b.0 in
-    let unnamed = root-unnamed image.system (configs_of f.cells) call cells opens.phase in
+    let unnamed = root_unnamed image.system (configs_of f.cells) call cells opens.phase in
     let apart : cpu.owner ≢ image.system.root.id = λ e. both_ways (is_named call cpu.owner) (ap (is_named call) e ∙ unnamed) c.1 in
     let halted = stays_halted cpu ((opens.cells i apart).0 c.1) (stopped i c.1) in
     both_ways cpu.stopped (not-true cpu.stopped a.1) (halted.stopped ∙ b.1))
@@ -266,7 +266,7 @@ some_else false x o h = inr h
 some_first : {X : Type 0} (b : Bool) (x : X) (o : Option X) → b ≡ true → is_some (cond b (Some x) o) ≡ true
 some_first b x o h = ap (λ (c : Bool). is_some (cond c (Some x) o)) h
 
-some_later : {X : Type 0} (b : Bool) (x : X) (o : Option X) → is_some o ≡ true → is_some (cond b (Some x) o) ≡ true
+pub some_later : {X : Type 0} (b : Bool) (x : X) (o : Option X) → is_some o ≡ true → is_some (cond b (Some x) o) ≡ true
 some_later true x o h = refl
 some_later false x o h = h
 
@@ -282,8 +282,8 @@ replied reply approved over some h =
     (λ rest. ⊎_elim (λ (other : not (eqb reply 0) ≡ true). inl (λ e. both_ways (eqb reply 0) (not-true (eqb reply 0) other) (eq-eqb reply 0 e))) (λ (is : over ≡ true). inr is) rest)
     h
 
-pub over-parts : (timeout waited : ℕ) (idle : Bool) → is_over timeout waited idle ≡ true → ((timeout ≢ 0) × (timeout ≤ waited)) ⊎ (idle ≡ true)
-over-parts timeout waited idle h =
+pub over_parts : (timeout waited : ℕ) (idle : Bool) → is_over timeout waited idle ≡ true → ((timeout ≢ 0) × (timeout ≤ waited)) ⊎ (idle ≡ true)
+over_parts timeout waited idle h =
     ⊎_elim
     (λ (first : (not (eqb timeout 0) && nat_le timeout waited) ≡ true).
     let parts = and_parts (not (eqb timeout 0)) (nat_le timeout waited) first in
@@ -310,8 +310,8 @@ heard_from image f o config waited sound is h =
     (λ over.
     ⊎_elim
     (λ time. inr (inr (inl time)))
-    (λ idle. inr (inr (inr (idle-nothing image f o sound is idle))))
-    (over-parts config.msg_reply_timeout waited (is_idle_but image f o.caller) over))
+    (λ idle. inr (inr (inr (idle_nothing image f o sound is idle))))
+    (over_parts config.msg_reply_timeout waited (is_idle_but image f o.caller) over))
     rest)
     h
 
@@ -401,24 +401,24 @@ tells_heard state reply over h =
     h
 
 -- the cell that is waited for
-pub live-of : (cells : List Live) (id : ℕ) (o : Option Live) (config : CellConfig) → find (has_id id) cells ≡ o → option_map (λ (l : Live). l.config) o ≡ Some config → Contains (configs_of cells) config × (config.id ≡ id)
-live-of cells id None config is h = absurd (none-some config h)
-live-of cells id (Some live) config is h =
+pub live_of : (cells : List Live) (id : ℕ) (o : Option Live) (config : CellConfig) → find (has_id id) cells ≡ o → option_map (λ (l : Live). l.config) o ≡ Some config → Contains (configs_of cells) config × (config.id ≡ id)
+live_of cells id None config is h = absurd (none-some config h)
+live_of cells id (Some live) config is h =
     let P : CellConfig → Type 0 = λ c. Contains (configs_of cells) c × (c.id ≡ id) in
-    subst P (same_Some live.config config h) (found-live cells id live is)
+    subst P (same_Some live.config config h) (found_live cells id live is)
 
-pub named-of : (cells : List Live) (call : Call) (config : CellConfig) → named_cell cells call ≡ Some config → Contains (configs_of cells) config × (is_named call config.id ≡ true)
-named-of cells (Create at) config h = absurd (none-some config h)
-named-of cells (Start id) config h = let live = live-of cells id (find (has_id id) cells) config refl h in (live.0, eq-eqb id config.id (sym live.1))
-named-of cells (Loadable id) config h = let live = live-of cells id (find (has_id id) cells) config refl h in (live.0, eq-eqb id config.id (sym live.1))
-named-of cells (Destroy id) config h = let live = live-of cells id (find (has_id id) cells) config refl h in (live.0, eq-eqb id config.id (sym live.1))
-named-of cells (Info kind) config h = absurd (none-some config h)
-named-of cells (State id) config h = absurd (none-some config h)
-named-of cells (CpuInfo cpu kind) config h = absurd (none-some config h)
-named-of cells Unknown config h = absurd (none-some config h)
+pub named_of : (cells : List Live) (call : Call) (config : CellConfig) → named_cell cells call ≡ Some config → Contains (configs_of cells) config × (is_named call config.id ≡ true)
+named_of cells (Create at) config h = absurd (none-some config h)
+named_of cells (Start id) config h = let live = live_of cells id (find (has_id id) cells) config refl h in (live.0, eq-eqb id config.id (sym live.1))
+named_of cells (Loadable id) config h = let live = live_of cells id (find (has_id id) cells) config refl h in (live.0, eq-eqb id config.id (sym live.1))
+named_of cells (Destroy id) config h = let live = live_of cells id (find (has_id id) cells) config refl h in (live.0, eq-eqb id config.id (sym live.1))
+named_of cells (Info kind) config h = absurd (none-some config h)
+named_of cells (State id) config h = absurd (none-some config h)
+named_of cells (CpuInfo cpu kind) config h = absurd (none-some config h)
+named_of cells Unknown config h = absurd (none-some config h)
 
 live_by_id : (image : Image) (cells : List Live) (config : CellConfig) (id : ℕ) → AreSoundCells image.system (configs_of cells) → Contains (configs_of cells) config → config.id ≡ id → live_in cells id ≡ Some config
-live_by_id image cells config id sound held is = let P : ℕ → Type 0 = λ k. live_in cells k ≡ Some config in subst P is (found-by_id image cells config sound held)
+live_by_id image cells config id sound held is = let P : ℕ → Type 0 = λ k. live_in cells k ≡ Some config in subst P is (found_by_id image cells config sound held)
 
 of_named : (image : Image) (cells : List Live) (call : Call) (config : CellConfig) → AreSoundCells image.system (configs_of cells) → Contains (configs_of cells) config → is_named call config.id ≡ true → named_cell cells call ≡ Some config
 of_named image cells (Create at) config sound held named = absurd (false≢true named)
@@ -434,9 +434,9 @@ some_map : {X Y : Type 0} (g : X → Y) (o : Option X) → is_some (option_map g
 some_map g None = refl
 some_map g (Some x) = refl
 
-pub some-then : {X Y : Type 0} (g : X → Option Y) (o : Option X) → is_some (option_and_then g o) ≡ true → (x : X) × (o ≡ Some x) × (is_some (g x) ≡ true)
-some-then g None h = absurd (false≢true h)
-some-then g (Some x) h = (x, refl, h)
+pub some_then : {X Y : Type 0} (g : X → Option Y) (o : Option X) → is_some (option_and_then g o) ≡ true → (x : X) × (o ≡ Some x) × (is_some (g x) ≡ true)
+some_then g None h = absurd (false≢true h)
+some_then g (Some x) h = (x, refl, h)
 
 abbrev pub settled_with : Facts → Bool → ℕ → CellConfig → Option Settled
 settled_with f idle waited c = settled_by (is_passive c) (state_word f c.id) (reply_word f c.id) (is_over c.msg_reply_timeout waited idle)
@@ -446,9 +446,9 @@ heard_with f idle id waited c = heard_by (state_word f id) (reply_word f id) (is
 
 settle_due : (image : Image) (f : Facts) (o : OpenCall) (waited : ℕ) → AreSoundCells image.system (configs_of f.cells) → f.call ≡ Some o → is_some (settled_of f (is_idle_but image f o.caller) o.call waited) ≡ true → IsPhaseDue image f o (ToSettle waited)
 settle_due image f o waited sound is h =
-    let found = some-then (settled_with f (is_idle_but image f o.caller) waited) (named_cell f.cells o.call) h in
+    let found = some_then (settled_with f (is_idle_but image f o.caller) waited) (named_cell f.cells o.call) h in
     let c : CellConfig = found.0 in
-    let live = named-of f.cells o.call c found.1 in (
+    let live = named_of f.cells o.call c found.1 in (
       c,
       live.0,
       live.1,
@@ -467,9 +467,9 @@ due_settle image f o waited sound is h =
 note_due : (image : Image) (f : Facts) (o : OpenCall) (id about waited : ℕ) (answer : ℤ) → AreSoundCells image.system (configs_of f.cells) → f.call ≡ Some o → is_some (heard_of f (is_idle_but image f o.caller) id waited) ≡ true → IsPhaseDue image f o (ToNoted id about answer waited)
 note_due image f o id about waited answer sound is h =
     let idle : Bool = is_idle_but image f o.caller in
-    let found = some-then (heard_with f idle id waited) (live_in f.cells id) h in
+    let found = some_then (heard_with f idle id waited) (live_in f.cells id) h in
     let c : CellConfig = found.0 in
-    let live = live-of f.cells id (find (has_id id) f.cells) c refl found.1 in
+    let live = live_of f.cells id (find (has_id id) f.cells) c refl found.1 in
     let P : ℕ → Type 0 = λ k. (is_down (state_word f k) ≡ true) ⊎ ((reply_word f k ≢ 0) ⊎ (is_over c.msg_reply_timeout waited idle ≡ true)) in
     (c, live.0, live.1, heard_from image f o c waited sound is (subst P (sym live.1) (heard_tells (state_word f id) (reply_word f id) (is_over c.msg_reply_timeout waited idle) found.2)))
 
@@ -525,7 +525,7 @@ ready_by image f cpu None admitted sound is h =
     ⊎_elim (λ asked. inl asked) (λ program. inr (inr program))
     (state_ready image f cpu admitted sound (λ o opens. absurd (none-some o (sym is ∙ opens))) (sym (ap (λ (a : Option Act). is_some a) (next_none image f cpu is)) ∙ h))
 ready_by image f cpu (Some o) admitted sound is h =
-    let opens = sound-open image f o sound is in
+    let opens = sound_open image f o sound is in
     ⊎_elim
     (λ (own : eqb o.caller cpu ≡ true).
     let same : o.caller ≡ cpu = eqb-true o.caller cpu own in
@@ -537,8 +537,8 @@ ready_by image f cpu (Some o) admitted sound is h =
     (sym (ap (λ (a : Option Act). is_some a) (next_some image f cpu o false is other)) ∙ h)))
     (cases_Bool (eqb o.caller cpu))
 
-pub ready-from_due : (image : Image) (f : Facts) (cpu : ℕ) → IsAdmitted image → IsSound image f → is_some (due_at image f cpu) ≡ true → IsReadyAt image f cpu
-ready-from_due image f cpu admitted sound h =
+pub ready_from_due : (image : Image) (f : Facts) (cpu : ℕ) → IsAdmitted image → IsSound image f → is_some (due_at image f cpu) ≡ true → IsReadyAt image f cpu
+ready_from_due image f cpu admitted sound h =
     ⊎_elim
     (λ (on : is_on_board image cpu ≡ true). record { board = on; what = ready_by image f cpu f.call admitted sound refl (sym (due_on image f cpu on) ∙ h) })
     (λ (off : is_on_board image cpu ≡ false). absurd (both_ways (is_some (due_at image f cpu)) (due_off image f cpu off) h))
@@ -552,12 +552,12 @@ state_next image f cpu (Some o) is none = next_some image f cpu o false is (ne_e
 -- a CPU that is asked made no call
 asked_none : (image : Image) (f : Facts) (cpu : ℕ) → IsSound image f → (f.cpu cpu).asked ≡ true → (o : OpenCall) → f.call ≡ Some o → o.caller ≢ cpu
 asked_none image f cpu sound asked o is own =
-    let caller = (sound-open image f o sound is).caller in
+    let caller = (sound_open image f o sound is).caller in
     let P : ℕ → Type 0 = λ k. (f.cpu k).asked ≡ false in
     both_ways (f.cpu cpu).asked (subst P own caller.calm.asked) asked
 
-pub due-from_ready : (image : Image) (f : Facts) (cpu : ℕ) → IsAdmitted image → IsSound image f → IsReadyAt image f cpu → is_some (due_at image f cpu) ≡ true
-due-from_ready image f cpu admitted sound ready =
+pub due_from_ready : (image : Image) (f : Facts) (cpu : ℕ) → IsAdmitted image → IsSound image f → IsReadyAt image f cpu → is_some (due_at image f cpu) ≡ true
+due_from_ready image f cpu admitted sound ready =
     due_on image f cpu ready.board
     ∙ ⊎_elim
     (λ (asked : (f.cpu cpu).asked ≡ true). ap (λ (a : Option Act). is_some a) (state_next image f cpu f.call refl (asked_none image f cpu sound asked)) ∙ asked_state image f cpu asked)
@@ -565,7 +565,7 @@ due-from_ready image f cpu admitted sound ready =
     ⊎_elim
     (λ (caller : IsReadyCaller image f cpu).
     let o : OpenCall = caller.0 in
-    let opens = sound-open image f o sound caller.1 in
+    let opens = sound_open image f o sound caller.1 in
     ap (λ (a : Option Act). is_some a) (own_next image f o cpu caller.1 caller.2 opens.caller) ∙ ready_phase image f o.caller o.call o.phase sound caller.1 opens caller.3)
     (λ (program : IsReadyProgram image f cpu). ap (λ (a : Option Act). is_some a) (state_next image f cpu f.call refl program.none) ∙ program_state image f cpu admitted sound program)
     rest)

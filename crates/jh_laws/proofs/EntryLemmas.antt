@@ -23,17 +23,17 @@ use Rattle.jh_history.specs.Hypercalls.{seen_of}
 use Rattle.jh_history.specs.History.{facts}
 use Rattle.jh_history.specs.Due.{due_at, act_of, await_of, got_by, IsLegal}
 use Rattle.jh_history.specs.Admitted.{IsAdmitted}
-use Rattle.jh_history.proofs.LegalLemmas.{due-split, IsLegal-begin}
+use Rattle.jh_history.proofs.LegalLemmas.{due_split, IsLegal_begin}
 use Rattle.jh_history.specs.Sound.{IsCalm, IsSound}
 use Rattle.jh_laws.specs.Ways.{is_phase}
 use Rattle.jh_laws.specs.Held.{IsLive}
 use Rattle.jh_laws.specs.Operations.{op_of}
 use Rattle.jh_laws.specs.States.{is_stop}
-use Rattle.jh_history.proofs.SoundCpusLemmas.{goes-calm, goes-running, running-mode}
-use Rattle.jh_history.proofs.SoundDueLemmas.{next-from_due}
-use Rattle.jh_history.proofs.SoundLemmas.{legal-sound}
-use Rattle.jh_laws.proofs.CallLemmas.{IsMadeBy, Stopping, Running as Runs, Calling, made-by, phase-of_due, sound-open}
-use Rattle.jh_laws.proofs.HeldLemmas.{cell-live}
+use Rattle.jh_history.proofs.SoundCpusLemmas.{goes_calm, goes_running, running_mode}
+use Rattle.jh_history.proofs.SoundDueLemmas.{next_from_due}
+use Rattle.jh_history.proofs.SoundLemmas.{legal_sound}
+use Rattle.jh_laws.proofs.CallLemmas.{IsMadeBy, Stopping, Running as Runs, Calling, made_by, phase_of_due, sound_open}
+use Rattle.jh_laws.proofs.HeldLemmas.{cell_live}
 
 -- ---- the operation
 
@@ -84,7 +84,7 @@ IsOperationOf image f id cpu op =
 
 cell_of_op : (image : Image) (f : Facts) (id cpu : ℕ) (op : Op) (o : Option CellConfig) → cell_in image f.cells id ≡ o → slice_get (option_map_or (λ (c : CellConfig). program_of image (name_of c) cpu) o []) (f.cpu cpu).position ≡ Some op → IsOperationOf image f id cpu op
 cell_of_op image f id cpu op None is h = absurd (none-some op h)
-cell_of_op image f id cpu op (Some cell) is h = let live = cell-live image f.cells id cell is in (cell, live.0, live.1, h)
+cell_of_op image f id cpu op (Some cell) is h = let live = cell_live image f.cells id cell is in (cell, live.0, live.1, h)
 
 operation_by : (image : Image) (f : Facts) (entry : Entry) (op : Op) → op_of entry.act ≡ Some op → IsMadeBy image f entry → IsOperationOf image f (f.cpu entry.cpu).owner entry.cpu op
 operation_by image f entry op is (Stopping stops) = absurd (none-some op (ap op_of stops ∙ is))
@@ -94,31 +94,31 @@ operation_by image f entry op is (Runs program) =
     let same : program.op ≡ op = same_Some program.op op (sym (op_by program.op entry.act (act_of image f owner program.op) (act_of_op image f owner program.op) program.is) ∙ is) in
     cell_of_op image f owner entry.cpu op (cell_in image f.cells owner) refl (program.at ∙ ap Some same)
 
-pub operation-at : (image : Image) (before rest : List Entry) (entry : Entry) (op : Op) → IsAdmitted image → IsLegal image (before ++ entry ∷ rest) → op_of entry.act ≡ Some op → IsOperationOf image (facts image before) entry.cell entry.cpu op
-operation-at image before rest entry op admitted legal is =
+pub operation_at : (image : Image) (before rest : List Entry) (entry : Entry) (op : Op) → IsAdmitted image → IsLegal image (before ++ entry ∷ rest) → op_of entry.act ≡ Some op → IsOperationOf image (facts image before) entry.cell entry.cpu op
+operation_at image before rest entry op admitted legal is =
     let f : Facts = facts image before in
-    let sound = legal-sound image before admitted (IsLegal-begin image before (entry ∷ rest) legal) in
-    let due : due_at image f entry.cpu ≡ Some entry = due-split image before rest entry legal in
+    let sound = legal_sound image before admitted (IsLegal_begin image before (entry ∷ rest) legal) in
+    let due : due_at image f entry.cpu ≡ Some entry = due_split image before rest entry legal in
     let P : ℕ → Type 0 = λ id. IsOperationOf image f id entry.cpu op in
-    subst P (sym (next-from_due image f entry due).cell) (operation_by image f entry op is (made-by image f entry sound due))
+    subst P (sym (next_from_due image f entry due).cell) (operation_by image f entry op is (made_by image f entry sound due))
 
-pub cell-at : (image : Image) (before rest : List Entry) (entry : Entry) → IsLegal image (before ++ entry ∷ rest) → (is_on_board image entry.cpu ≡ true) × (entry.cell ≡ ((facts image before).cpu entry.cpu).owner)
-cell-at image before rest entry legal = let next = next-from_due image (facts image before) entry (due-split image before rest entry legal) in (next.board, next.cell)
+pub cell_at : (image : Image) (before rest : List Entry) (entry : Entry) → IsLegal image (before ++ entry ∷ rest) → (is_on_board image entry.cpu ≡ true) × (entry.cell ≡ ((facts image before).cpu entry.cpu).owner)
+cell_at image before rest entry legal = let next = next_from_due image (facts image before) entry (due_split image before rest entry legal) in (next.board, next.cell)
 
 -- ---- whether it runs
 
 runs_by : (image : Image) (f : Facts) (entry : Entry) → IsSound image f → due_at image f entry.cpu ≡ Some entry → is_stop entry.act ≡ false → IsMadeBy image f entry → IsCalm (f.cpu entry.cpu) × ((f.cpu entry.cpu).mode ≡ Running)
 runs_by image f entry sound due other (Stopping stops) = absurd (both_ways (is_stop entry.act) other (ap is_stop (sym stops)))
-runs_by image f entry sound due other (Runs program) = (goes-calm (f.cpu entry.cpu) program.goes, running-mode (f.cpu entry.cpu) (goes-running (f.cpu entry.cpu) program.goes))
+runs_by image f entry sound due other (Runs program) = (goes_calm (f.cpu entry.cpu) program.goes, running_mode (f.cpu entry.cpu) (goes_running (f.cpu entry.cpu) program.goes))
 runs_by image f entry sound due other (Calling phase) =
-    let of = phase-of_due image f entry sound due phase in
-    let caller = (sound-open image f of.o sound of.opens).caller in
+    let of = phase_of_due image f entry sound due phase in
+    let caller = (sound_open image f of.o sound of.opens).caller in
     let P : ℕ → Type 0 = λ k. IsCalm (f.cpu k) × ((f.cpu k).mode ≡ Running) in
     subst P of.caller (caller.calm, caller.running)
 
-pub runs-at : (image : Image) (before rest : List Entry) (entry : Entry) → IsAdmitted image → IsLegal image (before ++ entry ∷ rest) → is_stop entry.act ≡ false → IsCalm ((facts image before).cpu entry.cpu) × (((facts image before).cpu entry.cpu).mode ≡ Running)
-runs-at image before rest entry admitted legal other =
+pub runs_at : (image : Image) (before rest : List Entry) (entry : Entry) → IsAdmitted image → IsLegal image (before ++ entry ∷ rest) → is_stop entry.act ≡ false → IsCalm ((facts image before).cpu entry.cpu) × (((facts image before).cpu entry.cpu).mode ≡ Running)
+runs_at image before rest entry admitted legal other =
     let f : Facts = facts image before in
-    let sound = legal-sound image before admitted (IsLegal-begin image before (entry ∷ rest) legal) in
-    let due : due_at image f entry.cpu ≡ Some entry = due-split image before rest entry legal in
-    runs_by image f entry sound due other (made-by image f entry sound due)
+    let sound = legal_sound image before admitted (IsLegal_begin image before (entry ∷ rest) legal) in
+    let due : due_at image f entry.cpu ≡ Some entry = due_split image before rest entry legal in
+    runs_by image f entry sound due other (made_by image f entry sound due)

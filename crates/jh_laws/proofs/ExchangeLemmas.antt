@@ -24,9 +24,9 @@ use Rattle.jh_history.specs.History.{after}
 use Rattle.jh_history.specs.Due.{is_idle_but, IsLegalFrom}
 use Rattle.jh_history.specs.Sound.{AreSoundCells, IsSound}
 use Rattle.jh_laws.specs.Exchanges.{how_many, IsTimeOver, IsSettledBy, IsHeardBy}
-use Rattle.jh_history.proofs.SoundLemmas.{sound-after}
-use Rattle.jh_laws.proofs.CallLemmas.{IsBeside, entry-of_call, call-counted}
-use Rattle.jh_laws.proofs.DueCpusLemmas.{idle-nothing, over-parts}
+use Rattle.jh_history.proofs.SoundLemmas.{sound_after}
+use Rattle.jh_laws.proofs.CallLemmas.{IsBeside, entry_of_call, call_counted}
+use Rattle.jh_laws.proofs.DueCpusLemmas.{idle_nothing, over_parts}
 
 -- ---- waiting
 
@@ -36,17 +36,17 @@ counted_over call phase [] = phase
 counted_over call phase (entry ∷ entries) = counted_over call (counted entry.cell call phase) entries
 
 -- over entries of other CPUs a call stays open, and counts
-pub waits-over : (image : Image) (caller : ℕ) (call : Call) (phase : Phase) (f : Facts) (entries : List Entry) → IsSound image f → f.call ≡ Some (record { caller = caller; call = call; phase = phase }) → IsLegalFrom image f entries → All (λ (e : Entry). e.cpu ≢ caller) entries
+pub waits_over : (image : Image) (caller : ℕ) (call : Call) (phase : Phase) (f : Facts) (entries : List Entry) → IsSound image f → f.call ≡ Some (record { caller = caller; call = call; phase = phase }) → IsLegalFrom image f entries → All (λ (e : Entry). e.cpu ≢ caller) entries
     → IsSound image (fold (after image) f entries) × ((fold (after image) f entries).call ≡ Some (record { caller = caller; call = call; phase = counted_over call phase entries }))
-waits-over image caller call phase f [] sound is legal others = (sound, is)
-waits-over image caller call phase f (entry ∷ entries) sound is legal others =
+waits_over image caller call phase f [] sound is legal others = (sound, is)
+waits_over image caller call phase f (entry ∷ entries) sound is legal others =
     let o : OpenCall = record { caller = caller; call = call; phase = phase } in
     let next : (after image f entry).call ≡ Some (record { caller = caller; call = call; phase = counted entry.cell call phase }) =
     ⊎_elim
     (λ made. absurd (All-head (λ (e : Entry). e.cpu ≢ caller) entry entries others (sym made.0)))
-    (λ (beside : IsBeside image f o entry). call-counted image f o entry is beside.act)
-    (entry-of_call image f o entry sound is legal.0) in
-    waits-over image caller call (counted entry.cell call phase) (after image f entry) entries (sound-after image f entry sound legal.0) next legal.1 (All-tail (λ (e : Entry). e.cpu ≢ caller) entry entries others)
+    (λ (beside : IsBeside image f o entry). call_counted image f o entry is beside.act)
+    (entry_of_call image f o entry sound is legal.0) in
+    waits_over image caller call (counted entry.cell call phase) (after image f entry) entries (sound_after image f entry sound legal.0) next legal.1 (All-tail (λ (e : Entry). e.cpu ≢ caller) entry entries others)
 
 -- one more of those that pass
 abbrev last_number : ℕ
@@ -66,12 +66,12 @@ settle_next cell call n =
     let P : Bool → Type 0 = λ b. cond b (ToSettle (one_more n)) (ToSettle n) ≡ ToSettle (cond b (one_more n) n) in
     elim (is_named call cell) as P [ true ↦ refl | false ↦ refl ]
 
-pub settle-counts : (call : Call) (n : ℕ) (entries : List Entry) → n ≤ last_number → counted_over call (ToSettle n) entries ≡ ToSettle (min (n + how_many (λ (e : Entry). is_named call e.cell) entries) last_number)
-settle-counts call n [] le = let e : n ≡ min (n + 0) last_number = omega arith in ap ToSettle e
-settle-counts call n (entry ∷ entries) le =
+pub settle_counts : (call : Call) (n : ℕ) (entries : List Entry) → n ≤ last_number → counted_over call (ToSettle n) entries ≡ ToSettle (min (n + how_many (λ (e : Entry). is_named call e.cell) entries) last_number)
+settle_counts call n [] le = let e : n ≡ min (n + 0) last_number = omega arith in ap ToSettle e
+settle_counts call n (entry ∷ entries) le =
     let b : Bool = is_named call entry.cell in
     ap (λ (p : Phase). counted_over call p entries) (settle_next entry.cell call n)
-    ∙ settle-counts call (cond b (one_more n) n) entries (next_small b n le)
+    ∙ settle_counts call (cond b (one_more n) n) entries (next_small b n le)
     ∙ ap ToSettle (count_step b (how_many (λ (e : Entry). is_named call e.cell) entries) n le)
 
 -- a wait for the cell that was told
@@ -80,12 +80,12 @@ noted_next cell call id about n answer =
     let P : Bool → Type 0 = λ b. cond b (ToNoted id about answer (one_more n)) (ToNoted id about answer n) ≡ ToNoted id about answer (cond b (one_more n) n) in
     elim (eqb cell id) as P [ true ↦ refl | false ↦ refl ]
 
-pub noted-counts : (call : Call) (id about n : ℕ) (answer : ℤ) (entries : List Entry) → n ≤ last_number → counted_over call (ToNoted id about answer n) entries ≡ ToNoted id about answer (min (n + how_many (λ (e : Entry). eqb e.cell id) entries) last_number)
-noted-counts call id about n answer [] le = let e : n ≡ min (n + 0) last_number = omega arith in ap (ToNoted id about answer) e
-noted-counts call id about n answer (entry ∷ entries) le =
+pub noted_counts : (call : Call) (id about n : ℕ) (answer : ℤ) (entries : List Entry) → n ≤ last_number → counted_over call (ToNoted id about answer n) entries ≡ ToNoted id about answer (min (n + how_many (λ (e : Entry). eqb e.cell id) entries) last_number)
+noted_counts call id about n answer [] le = let e : n ≡ min (n + 0) last_number = omega arith in ap (ToNoted id about answer) e
+noted_counts call id about n answer (entry ∷ entries) le =
     let b : Bool = eqb entry.cell id in
     ap (λ (p : Phase). counted_over call p entries) (noted_next entry.cell call id about n answer)
-    ∙ noted-counts call id about (cond b (one_more n) n) answer entries (next_small b n le)
+    ∙ noted_counts call id about (cond b (one_more n) n) answer entries (next_small b n le)
     ∙ ap (ToNoted id about answer) (count_step b (how_many (λ (e : Entry). eqb e.cell id) entries) n le)
 
 -- ---- what was answered
@@ -113,11 +113,11 @@ over_some false late how h = absurd (none-some how h)
 
 time_over : (image : Image) (f : Facts) (o : OpenCall) (config : CellConfig) (waited : ℕ) → AreSoundCells image.system (configs_of f.cells) → f.call ≡ Some o → is_over config.msg_reply_timeout waited (is_idle_but image f o.caller) ≡ true → IsTimeOver image f o.caller config waited
 time_over image f o config waited sound is over =
-    ⊎_elim (λ time. inl time) (λ idle. inr (idle-nothing image f o sound is idle)) (over-parts config.msg_reply_timeout waited (is_idle_but image f o.caller) over)
+    ⊎_elim (λ time. inl time) (λ idle. inr (idle_nothing image f o sound is idle)) (over_parts config.msg_reply_timeout waited (is_idle_but image f o.caller) over)
 
-pub settled-as : (image : Image) (f : Facts) (o : OpenCall) (config : CellConfig) (waited : ℕ) (how : Settled) → AreSoundCells image.system (configs_of f.cells) → f.call ≡ Some o
+pub settled_as : (image : Image) (f : Facts) (o : OpenCall) (config : CellConfig) (waited : ℕ) (how : Settled) → AreSoundCells image.system (configs_of f.cells) → f.call ≡ Some o
     → settled_by (is_passive config) (state_word f config.id) (reply_word f config.id) (is_over config.msg_reply_timeout waited (is_idle_but image f o.caller)) ≡ Some how → IsSettledBy image f o.caller config waited how
-settled-as image f o config waited how sound is h =
+settled_as image f o config waited how sound is h =
     let state : ℕ = state_word f config.id in
     let reply : ℕ = reply_word f config.id in
     let over : Bool = is_over config.msg_reply_timeout waited (is_idle_but image f o.caller) in
@@ -148,9 +148,9 @@ heard_rest state reply over how h up =
 heard_other : (reply : ℕ) (over : Bool) (how : Heard) → cond (eqb reply REPLY_RECEIVED) (Some Received) (cond (not (eqb reply 0)) (Some Other) (cond over (Some Silent) None)) ≡ Some how → reply ≢ REPLY_RECEIVED → cond (not (eqb reply 0)) (Some Other) (cond over (Some Silent) None) ≡ Some how
 heard_other reply over how h other = sym (ap (λ (b : Bool). cond b (Some Received) (cond (not (eqb reply 0)) (Some Other) (cond over (Some Silent) None))) (ne_eqb reply REPLY_RECEIVED other)) ∙ h
 
-pub heard-as : (image : Image) (f : Facts) (o : OpenCall) (config : CellConfig) (waited : ℕ) (how : Heard) → AreSoundCells image.system (configs_of f.cells) → f.call ≡ Some o
+pub heard_as : (image : Image) (f : Facts) (o : OpenCall) (config : CellConfig) (waited : ℕ) (how : Heard) → AreSoundCells image.system (configs_of f.cells) → f.call ≡ Some o
     → heard_by (state_word f config.id) (reply_word f config.id) (is_over config.msg_reply_timeout waited (is_idle_but image f o.caller)) ≡ Some how → IsHeardBy image f o.caller config waited how
-heard-as image f o config waited how sound is h =
+heard_as image f o config waited how sound is h =
     let state : ℕ = state_word f config.id in
     let reply : ℕ = reply_word f config.id in
     let over : Bool = is_over config.msg_reply_timeout waited (is_idle_but image f o.caller) in

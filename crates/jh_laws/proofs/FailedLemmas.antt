@@ -24,42 +24,42 @@ use Rattle.jh_history.specs.Endpoints.{specs_changing, with_words}
 use Rattle.jh_history.specs.History.{after, facts}
 use Rattle.jh_history.specs.Due.{due_at, IsLegal}
 use Rattle.jh_history.specs.Admitted.{IsAdmitted}
-use Rattle.jh_history.proofs.FactsLemmas.{facts-push, cpu-after}
+use Rattle.jh_history.proofs.FactsLemmas.{facts_push, cpu_after_holds}
 use Rattle.jh_history.specs.Sound.{IsSound}
 use Rattle.jh_laws.specs.Ways.{is_commit}
 use Rattle.jh_laws.specs.Moves.{ended}
 use Rattle.jh_laws.specs.Outcomes.{is_violation}
 use Rattle.jh_laws.specs.Ready.{IsReadyAt, IsReadyCaller, IsReadyProgram}
-use Rattle.jh_history.proofs.SoundLemmas.{sound-after}
-use Rattle.jh_laws.proofs.CallLemmas.{along, stretch, sound-open}
-use Rattle.jh_laws.proofs.StatesLemmas.{others-by, begins, own-ends, violation-own}
-use Rattle.jh_laws.proofs.PlacesHeldLemmas.{byte-behind, commit-or, physical-kept}
-use Rattle.jh_laws.proofs.WordLemmas.{specs-none}
-use Rattle.jh_laws.proofs.EntryLemmas.{runs-at}
-use Rattle.jh_laws.proofs.DueCpusLemmas.{ready-from_due}
+use Rattle.jh_history.proofs.SoundLemmas.{sound_after}
+use Rattle.jh_laws.proofs.CallLemmas.{along, stretch, sound_open}
+use Rattle.jh_laws.proofs.StatesLemmas.{others_by, begins, own_ends, violation_own}
+use Rattle.jh_laws.proofs.PlacesHeldLemmas.{byte_behind, commit_or, physical_kept}
+use Rattle.jh_laws.proofs.WordLemmas.{specs_none}
+use Rattle.jh_laws.proofs.EntryLemmas.{runs_at}
+use Rattle.jh_laws.proofs.DueCpusLemmas.{ready_from_due}
 
 -- ---- what it writes
 
 -- a violation is no write that succeeds
-pub failing-of : (image : Image) (f : Facts) (entry : Entry) (act : Act) → is_violation act ≡ true → page_write_by image f entry act ≡ failing image f entry
-failing-of image f entry (Read width at None) h = refl
-failing-of image f entry (Read width at (Some got)) h = absurd (false≢true h)
-failing-of image f entry (Fetch at None) h = refl
-failing-of image f entry (Fetch at (Some got)) h = absurd (false≢true h)
-failing-of image f entry (Write width at value true) h = absurd (false≢true h)
-failing-of image f entry (Write width at value false) h = refl
-failing-of image f entry (Await width at value true) h = absurd (false≢true h)
-failing-of image f entry (Await width at value false) h = refl
-failing-of image f entry (Irq device vector) h = absurd (false≢true h)
-failing-of image f entry (Hvc code a b answer) h = absurd (false≢true h)
-failing-of image f entry (Begin code a b) h = absurd (false≢true h)
-failing-of image f entry Stop h = absurd (false≢true h)
-failing-of image f entry (Decide refused) h = absurd (false≢true h)
-failing-of image f entry (Settle how) h = absurd (false≢true h)
-failing-of image f entry Commit h = absurd (false≢true h)
-failing-of image f entry (Note id) h = absurd (false≢true h)
-failing-of image f entry (Noted id how) h = absurd (false≢true h)
-failing-of image f entry (Finish answer) h = absurd (false≢true h)
+pub failing_of : (image : Image) (f : Facts) (entry : Entry) (act : Act) → is_violation act ≡ true → page_write_by image f entry act ≡ failing image f entry
+failing_of image f entry (Read width at None) h = refl
+failing_of image f entry (Read width at (Some got)) h = absurd (false≢true h)
+failing_of image f entry (Fetch at None) h = refl
+failing_of image f entry (Fetch at (Some got)) h = absurd (false≢true h)
+failing_of image f entry (Write width at value true) h = absurd (false≢true h)
+failing_of image f entry (Write width at value false) h = refl
+failing_of image f entry (Await width at value true) h = absurd (false≢true h)
+failing_of image f entry (Await width at value false) h = refl
+failing_of image f entry (Irq device vector) h = absurd (false≢true h)
+failing_of image f entry (Hvc code a b answer) h = absurd (false≢true h)
+failing_of image f entry (Begin code a b) h = absurd (false≢true h)
+failing_of image f entry Stop h = absurd (false≢true h)
+failing_of image f entry (Decide refused) h = absurd (false≢true h)
+failing_of image f entry (Settle how) h = absurd (false≢true h)
+failing_of image f entry Commit h = absurd (false≢true h)
+failing_of image f entry (Note id) h = absurd (false≢true h)
+failing_of image f entry (Noted id how) h = absurd (false≢true h)
+failing_of image f entry (Finish answer) h = absurd (false≢true h)
 
 -- ---- that it ends its CPU
 
@@ -77,7 +77,7 @@ not_ready image f cpu sound failed ready =
     (λ rest.
     ⊎_elim
     (λ (caller : IsReadyCaller image f cpu).
-    let made = (sound-open image f caller.0 sound caller.1).caller in
+    let made = (sound_open image f caller.0 sound caller.1).caller in
     let P : ℕ → Type 0 = λ k. (f.cpu k).mode ≡ Running in
     failed_runs (f.cpu cpu) failed.0 (subst P caller.2 made.running))
     (λ (program : IsReadyProgram image f cpu). failed_runs (f.cpu cpu) failed.0 program.running)
@@ -87,7 +87,7 @@ not_ready image f cpu sound failed ready =
 not_made : (image : Image) (f : Facts) (cpu : ℕ) (entry : Entry) → IsAdmitted image → IsSound image f → IsFailed cpu f → due_at image f entry.cpu ≡ Some entry → entry.cpu ≢ cpu
 not_made image f cpu entry admitted sound failed due own =
     let P : ℕ → Type 0 = λ k. is_some (due_at image f k) ≡ true in
-    not_ready image f cpu sound failed (ready-from_due image f cpu admitted sound (subst P own (ap (λ (o : Option Entry). is_some o) due)))
+    not_ready image f cpu sound failed (ready_from_due image f cpu admitted sound (subst P own (ap (λ (o : Option Entry). is_some o) due)))
 
 -- an entry of another CPU than this, but a Commit, leaves it so
 settled_failed : (how : Settled) (call : Option OpenCall) (cpu : Cpu) → cpu.mode ≡ Failed → option_map_or (λ (o : OpenCall). settled (is_agreed how) o.call cpu) call cpu ≡ cpu
@@ -113,36 +113,36 @@ acted_rest image call (Settle how) own i cpu other apart mode =
     let e = settled_failed how call cpu mode in (ap (λ (c : Cpu). c.mode) e, ap (λ (c : Cpu). c.asked) e)
 acted_rest image call (Finish answer) own i cpu other apart mode = finished_rest image own i cpu
 acted_rest image call Commit own i cpu other apart mode = absurd (false≢true (sym other))
-acted_rest image call (Read width at got) own i cpu other apart mode = let e = others-by image call (Read width at got) own i cpu refl apart in (ap (λ (c : Cpu). c.mode) e, ap (λ (c : Cpu). c.asked) e)
-acted_rest image call (Write width at value ok) own i cpu other apart mode = let e = others-by image call (Write width at value ok) own i cpu refl apart in (ap (λ (c : Cpu). c.mode) e, ap (λ (c : Cpu). c.asked) e)
-acted_rest image call (Fetch at got) own i cpu other apart mode = let e = others-by image call (Fetch at got) own i cpu refl apart in (ap (λ (c : Cpu). c.mode) e, ap (λ (c : Cpu). c.asked) e)
-acted_rest image call (Await width at value ok) own i cpu other apart mode = let e = others-by image call (Await width at value ok) own i cpu refl apart in (ap (λ (c : Cpu). c.mode) e, ap (λ (c : Cpu). c.asked) e)
-acted_rest image call (Irq device vector) own i cpu other apart mode = let e = others-by image call (Irq device vector) own i cpu refl apart in (ap (λ (c : Cpu). c.mode) e, ap (λ (c : Cpu). c.asked) e)
-acted_rest image call (Hvc code a b answer) own i cpu other apart mode = let e = others-by image call (Hvc code a b answer) own i cpu refl apart in (ap (λ (c : Cpu). c.mode) e, ap (λ (c : Cpu). c.asked) e)
-acted_rest image call Stop own i cpu other apart mode = let e = others-by image call Stop own i cpu refl apart in (ap (λ (c : Cpu). c.mode) e, ap (λ (c : Cpu). c.asked) e)
-acted_rest image call (Decide refused) own i cpu other apart mode = let e = others-by image call (Decide refused) own i cpu refl apart in (ap (λ (c : Cpu). c.mode) e, ap (λ (c : Cpu). c.asked) e)
-acted_rest image call (Note id) own i cpu other apart mode = let e = others-by image call (Note id) own i cpu refl apart in (ap (λ (c : Cpu). c.mode) e, ap (λ (c : Cpu). c.asked) e)
-acted_rest image call (Noted id how) own i cpu other apart mode = let e = others-by image call (Noted id how) own i cpu refl apart in (ap (λ (c : Cpu). c.mode) e, ap (λ (c : Cpu). c.asked) e)
+acted_rest image call (Read width at got) own i cpu other apart mode = let e = others_by image call (Read width at got) own i cpu refl apart in (ap (λ (c : Cpu). c.mode) e, ap (λ (c : Cpu). c.asked) e)
+acted_rest image call (Write width at value ok) own i cpu other apart mode = let e = others_by image call (Write width at value ok) own i cpu refl apart in (ap (λ (c : Cpu). c.mode) e, ap (λ (c : Cpu). c.asked) e)
+acted_rest image call (Fetch at got) own i cpu other apart mode = let e = others_by image call (Fetch at got) own i cpu refl apart in (ap (λ (c : Cpu). c.mode) e, ap (λ (c : Cpu). c.asked) e)
+acted_rest image call (Await width at value ok) own i cpu other apart mode = let e = others_by image call (Await width at value ok) own i cpu refl apart in (ap (λ (c : Cpu). c.mode) e, ap (λ (c : Cpu). c.asked) e)
+acted_rest image call (Irq device vector) own i cpu other apart mode = let e = others_by image call (Irq device vector) own i cpu refl apart in (ap (λ (c : Cpu). c.mode) e, ap (λ (c : Cpu). c.asked) e)
+acted_rest image call (Hvc code a b answer) own i cpu other apart mode = let e = others_by image call (Hvc code a b answer) own i cpu refl apart in (ap (λ (c : Cpu). c.mode) e, ap (λ (c : Cpu). c.asked) e)
+acted_rest image call Stop own i cpu other apart mode = let e = others_by image call Stop own i cpu refl apart in (ap (λ (c : Cpu). c.mode) e, ap (λ (c : Cpu). c.asked) e)
+acted_rest image call (Decide refused) own i cpu other apart mode = let e = others_by image call (Decide refused) own i cpu refl apart in (ap (λ (c : Cpu). c.mode) e, ap (λ (c : Cpu). c.asked) e)
+acted_rest image call (Note id) own i cpu other apart mode = let e = others_by image call (Note id) own i cpu refl apart in (ap (λ (c : Cpu). c.mode) e, ap (λ (c : Cpu). c.asked) e)
+acted_rest image call (Noted id how) own i cpu other apart mode = let e = others_by image call (Noted id how) own i cpu refl apart in (ap (λ (c : Cpu). c.mode) e, ap (λ (c : Cpu). c.asked) e)
 
 failed_kept : (image : Image) (cpu : ℕ) → IsAdmitted image → (f : Facts) (entry : Entry) → IsSound image f → IsFailed cpu f → due_at image f entry.cpu ≡ Some entry → is_commit entry.act ≡ false → IsFailed cpu (after image f entry)
 failed_kept image cpu admitted f entry sound failed due other =
     let apart : cpu ≢ entry.cpu = λ e. not_made image f cpu entry admitted sound failed due (sym e) in
-    let same : (after image f entry).cpu cpu ≡ acted image f.call entry.act entry.cpu cpu (f.cpu cpu) = ap (λ (c : ℕ → Cpu). c cpu) (cpu-after image f entry) in
+    let same : (after image f entry).cpu cpu ≡ acted image f.call entry.act entry.cpu cpu (f.cpu cpu) = ap (λ (c : ℕ → Cpu). c cpu) (cpu_after_holds image f entry) in
     let rest = acted_rest image f.call entry.act entry.cpu cpu (f.cpu cpu) other apart failed.0 in
     (ap (λ (c : Cpu). c.mode) same ∙ rest.0 ∙ failed.0, ap (λ (c : Cpu). c.asked) same ∙ rest.1 ∙ failed.1)
 
 -- until a Commit it makes no entry
-pub failed-rests : (image : Image) (before middle rest : List Entry) (first last : Entry) → IsAdmitted image → IsLegal image (before ++ first ∷ (middle ++ last ∷ rest)) → is_violation first.act ≡ true
+pub failed_rests : (image : Image) (before middle rest : List Entry) (first last : Entry) → IsAdmitted image → IsLegal image (before ++ first ∷ (middle ++ last ∷ rest)) → is_violation first.act ≡ true
     → All (λ (e : Entry). is_commit e.act ≡ false) middle → last.cpu ≢ first.cpu
-failed-rests image before middle rest first last admitted legal violates others =
+failed_rests image before middle rest first last admitted legal violates others =
     let s = stretch image before middle rest first last admitted legal in
     let f0 : Facts = facts image before in
     let f1 : Facts = after image f0 first in
-    let own = own-ends image before (middle ++ last ∷ rest) first admitted legal violates in
-    let behind : f1.cpu first.cpu ≡ ended (f0.cpu first.cpu) = ap (λ (f : Facts). f.cpu first.cpu) (sym (facts-push image before first)) ∙ own in
-    let calm = (runs-at image before (middle ++ last ∷ rest) first admitted legal (violation-own first.act violates).1).0 in
+    let own = own_ends image before (middle ++ last ∷ rest) first admitted legal violates in
+    let behind : f1.cpu first.cpu ≡ ended (f0.cpu first.cpu) = ap (λ (f : Facts). f.cpu first.cpu) (sym (facts_push image before first)) ∙ own in
+    let calm = (runs_at image before (middle ++ last ∷ rest) first admitted legal (violation_own first.act violates).1).0 in
     let failed : IsFailed first.cpu f1 = (ap (λ (c : Cpu). c.mode) behind, ap (λ (c : Cpu). c.asked) behind ∙ calm.asked) in
-    let end = along image (IsFailed first.cpu) (λ (e : Entry). is_commit e.act ≡ false) (failed_kept image first.cpu admitted) f1 middle (sound-after image f0 first s.sound s.first_due) failed s.between others in
+    let end = along image (IsFailed first.cpu) (λ (e : Entry). is_commit e.act ≡ false) (failed_kept image first.cpu admitted) f1 middle (sound_after image f0 first s.sound s.first_due) failed s.between others in
     not_made image (fold (after image) f1 middle) first.cpu last admitted end.0 end.1 s.last_due
 
 -- it writes no memory
@@ -167,12 +167,12 @@ fails_quiet image f cell (Finish answer) h = refl
 fails_commits : (act : Act) → is_violation act ≡ true → is_commit act ≡ false
 fails_commits act violates =
     let P : Act → Type 0 = λ a. is_violation a ≡ true in
-    ⊎_elim (λ (commits : act ≡ Commit). absurd (false≢true (subst P commits violates))) (λ (other : is_commit act ≡ false). other) (commit-or act)
+    ⊎_elim (λ (commits : act ≡ Commit). absurd (false≢true (subst P commits violates))) (λ (other : is_commit act ≡ false). other) (commit_or act)
 
-pub memory-kept : (image : Image) (before : List Entry) (entry : Entry) (place : ℕ) → is_violation entry.act ≡ true → (facts image (before ++ entry ∷ [])).byte (Physical place) ≡ (facts image before).byte (Physical place)
-memory-kept image before entry place violates =
+pub memory_kept : (image : Image) (before : List Entry) (entry : Entry) (place : ℕ) → is_violation entry.act ≡ true → (facts image (before ++ entry ∷ [])).byte (Physical place) ≡ (facts image before).byte (Physical place)
+memory_kept image before entry place violates =
     let f : Facts = facts image before in
-    byte-behind image before entry (Physical place)
-    ∙ physical-kept (page_write_by image f entry entry.act) (with_words (specs_changing f entry.act) (byte_written image f entry.cell entry.act)) place
-    ∙ ap (λ (specs : List EndpointSpec). with_words specs (byte_written image f entry.cell entry.act) (Physical place)) (specs-none f entry.act (fails_commits entry.act violates))
+    byte_behind image before entry (Physical place)
+    ∙ physical_kept (page_write_by image f entry entry.act) (with_words (specs_changing f entry.act) (byte_written image f entry.cell entry.act)) place
+    ∙ ap (λ (specs : List EndpointSpec). with_words specs (byte_written image f entry.cell entry.act) (Physical place)) (specs_none f entry.act (fails_commits entry.act violates))
     ∙ ap (λ (b : Place → ℕ). b (Physical place)) (fails_quiet image f entry.cell entry.act violates)

@@ -8,7 +8,7 @@ use Rattle.std.specs.Option.{option_map_or}
 use Rattle.std.proofs.lemmas.Bool.{both_ways, cond_both}
 use Rattle.std.proofs.lemmas.List.Elements.{Contains-push_cases}
 use Rattle.std.proofs.lemmas.Option.{none-some, same_Some, slice_get-get_or, get_or_from_slice_get}
-use Rattle.jh_num.proofs.Lists.{Contains-cases, IsFound-from_filter}
+use Rattle.jh_num.proofs.Lists.{Contains_cases, IsFound_from_filter}
 use Rattle.jh_cellcfg.specs.declared.config.CellConfig.{CellConfig}
 use Rattle.jh_cellcfg.specs.declared.live.Live.{Live}
 use Rattle.jh_cellcfg.specs.declared.fault.ConfigFault.{ConfigFault}
@@ -17,7 +17,7 @@ use Rattle.jh_cellcfg.specs.Lives.{has_id}
 use Rattle.jh_cellcfg.specs.Faults.{header_fault, header_size}
 use Rattle.jh_cellcfg.specs.Reading.{config_of}
 use Rattle.jh_check.specs.Refusals.{any_below}
-use Rattle.jh_check.proofs.GivenLemmas.{sound-set}
+use Rattle.jh_check.proofs.GivenLemmas.{sound_set}
 use Rattle.jh_comm.specs.declared.words.TheConstants.{STATE_RUNNING, STATE_SHUT_DOWN, STATE_FAILED, MESSAGE_SHUTDOWN_REQUEST}
 use Rattle.jh_cpu.specs.declared.cpu.Cpu.{Cpu}
 use Rattle.jh_call.specs.declared.call.Call.{Call}
@@ -52,16 +52,17 @@ use Rattle.jh_history.specs.Due.{due_at, IsLegal, IsLegalFrom}
 use Rattle.jh_history.specs.Admitted.{IsAdmitted}
 use Rattle.jh_history.specs.Sound.{AreTwo, HasBytes, IsSound}
 use Rattle.jh_laws.specs.Ways.{is_commit}
-use Rattle.jh_history.proofs.SoundCommitLemmas.{configs-joined, configs-marked, configs-others, is_other_config}
-use Rattle.jh_history.proofs.SoundCpusLemmas.{changed-owner}
-use Rattle.jh_history.proofs.SoundDecideLemmas.{board-few, found-live, settled-owner}
-use Rattle.jh_laws.proofs.HeldLemmas.{two-ids}
-use Rattle.jh_history.proofs.SoundStepLemmas.{begun-owner, finished-owner}
-use Rattle.jh_history.proofs.SoundLemmas.{sound-start, sound-after, legal-sound}
-use Rattle.jh_laws.proofs.CallLemmas.{call-after, sound-open}
-use Rattle.jh_laws.proofs.FewLemmas.{IsTyped, ArePreloadsBytes, MayWriteBytes, page-write-small, write-small, words-small, opening-small, config-typed, read-bytes, picked, picked-few, index-small, length-map, get-map}
-use Rattle.jh_laws.proofs.RegisterLemmas.{HaveRegisters, registers-after, registers-open}
-use Rattle.jh_laws.proofs.RefusalLemmas.{FitsRefusal, refusal-fits}
+use Rattle.jh_history.proofs.SoundCommitLemmas.{configs_joined, configs_marked, configs_others, is_other_config}
+use Rattle.jh_history.proofs.SoundCpusLemmas.{changed_owner}
+use Rattle.jh_history.proofs.SoundDecideLemmas.{board_few, found_live, settled_owner}
+use Rattle.jh_laws.proofs.HeldLemmas.{two_ids}
+use Rattle.jh_history.proofs.SoundStepLemmas.{begun_owner, finished_owner}
+use Rattle.jh_history.proofs.SoundLemmas.{sound_start, sound_after, legal_sound}
+use Rattle.jh_history.proofs.PlainStepLemmas.{after_call}
+use Rattle.jh_laws.proofs.CallLemmas.{sound_open}
+use Rattle.jh_laws.proofs.FewLemmas.{IsTyped, ArePreloadsBytes, MayWriteBytes, page_write_small_holds, write_small, words_small, opening_small, config_typed, read_bytes, picked, picked_few, index_small, length_map, get_map}
+use Rattle.jh_laws.proofs.RegisterLemmas.{HaveRegisters, registers_after, registers_open}
+use Rattle.jh_laws.proofs.RefusalLemmas.{FitsRefusal, refusal_fits}
 
 abbrev pub AreTyped : List CellConfig → Type 0
 AreTyped configs = (config : CellConfig) → Contains configs config → IsTyped config
@@ -94,7 +95,7 @@ whole_typed : (image : Image) (f : Facts) (o : Option (List Place)) (config : Ce
 whole_typed image f None config small h = absurd (none-some config h)
 whole_typed image f (Some places) config small h =
     let P : CellConfig → Type 0 = IsTyped in
-    subst P (same_Some (config_of (map f.byte places)) config h) (config-typed (map f.byte places) (read-bytes f.byte places small))
+    subst P (same_Some (config_of (map f.byte places)) config h) (config_typed (map f.byte places) (read_bytes f.byte places small))
 
 behind_typed : (image : Image) (f : Facts) (at : ℕ) (header : List ℕ) (fault : Option ConfigFault) (config : CellConfig) → ((q : Place) → f.byte q < 256) → config_read (read_behind image f at header fault) ≡ Some config → IsTyped config
 behind_typed image f at header None config small h = whole_typed image f (places_from (granted image f image.system.root.id ToRead) at (header_size header)) config small h
@@ -247,7 +248,7 @@ joined_typed configs new h typed config held =
 added_typed : (at : ℕ) (phase : Phase) (cells : List Live) → IsTypedPhase phase → AreTyped (configs_of cells) → AreTyped (configs_of (committed_cells (Create at) phase cells))
 added_typed at ToDecide cells typed h = h
 added_typed at (ToSettle waited) cells typed h = h
-added_typed at (ToCreate config) cells typed h = same_typed (configs_of (cells ++ (record { config = config; loadable = false }) ∷ [])) (configs_of cells ++ config ∷ []) (configs-joined cells config) (joined_typed (configs_of cells) config h typed)
+added_typed at (ToCreate config) cells typed h = same_typed (configs_of (cells ++ (record { config = config; loadable = false }) ∷ [])) (configs_of cells ++ config ∷ []) (configs_joined cells config) (joined_typed (configs_of cells) config h typed)
 added_typed at ToCommit cells typed h = h
 added_typed at (ToNote id about answer) cells typed h = h
 added_typed at (ToNoted id about answer waited) cells typed h = h
@@ -255,11 +256,11 @@ added_typed at (ToFinish answer) cells typed h = h
 
 committed_typed : (call : Call) (phase : Phase) (cells : List Live) → IsTypedPhase phase → AreTyped (configs_of cells) → AreTyped (configs_of (committed_cells call phase cells))
 committed_typed (Create at) phase cells typed h = added_typed at phase cells typed h
-committed_typed (Start id) phase cells typed h = same_typed (configs_of (map (marked id false) cells)) (configs_of cells) (configs-marked id false cells) h
-committed_typed (Loadable id) phase cells typed h = same_typed (configs_of (map (marked id true) cells)) (configs_of cells) (configs-marked id true cells) h
+committed_typed (Start id) phase cells typed h = same_typed (configs_of (map (marked id false) cells)) (configs_of cells) (configs_marked id false cells) h
+committed_typed (Loadable id) phase cells typed h = same_typed (configs_of (map (marked id true) cells)) (configs_of cells) (configs_marked id true cells) h
 committed_typed (Destroy id) phase cells typed h =
-    same_typed (configs_of (filter (is_other id) cells)) (filter (is_other_config id) (configs_of cells)) (configs-others id cells)
-    (λ config held. h config (IsFound-from_filter (is_other_config id) (configs_of cells) config held).held)
+    same_typed (configs_of (filter (is_other id) cells)) (filter (is_other_config id) (configs_of cells)) (configs_others id cells)
+    (λ config held. h config (IsFound_from_filter (is_other_config id) (configs_of cells) config held).held)
 committed_typed (Info kind) phase cells typed h = h
 committed_typed (State id) phase cells typed h = h
 committed_typed (CpuInfo cpu kind) phase cells typed h = h
@@ -288,7 +289,7 @@ cells_typed call cells (Finish answer) typed h = h
 -- ---- bytes
 
 written_small : (image : Image) (f : Facts) (cell : ℕ) (act : Act) (q : Place) → ((p : Place) → f.byte p < 256) → byte_written image f cell act q < 256
-written_small image f cell (Write width at value true) q small = write-small f.byte (devices_of image f cell) (reach image f cell ToWrite at width) value q small
+written_small image f cell (Write width at value true) q small = write_small f.byte (devices_of image f cell) (reach image f cell ToWrite at width) value q small
 written_small image f cell (Write width at value false) q small = small q
 written_small image f cell (Read width at got) q small = small q
 written_small image f cell (Fetch at got) q small = small q
@@ -329,7 +330,7 @@ timeout_small cells (Some o) = timeout_one (named_cell cells o.call)
 fresh_one : (window : ℕ) (cells : List Live) (id : ℕ) (o : Option Live) → find (has_id id) cells ≡ o → AreTyped (configs_of cells)
     → MayWriteBytes (option_map (λ (c : CellConfig). on_page (Fresh STATE_RUNNING c.console window) c) (option_map (λ (l : Live). l.config) o))
 fresh_one window cells id None is h = tt
-fresh_one window cells id (Some live) is h = (h live.config (found-live cells id live is).0).console
+fresh_one window cells id (Some live) is h = (h live.config (found_live cells id live is).0).console
 
 down_one : (o : Option CellConfig) → MayWriteBytes (option_map (on_page (NewState STATE_SHUT_DOWN)) o)
 down_one None = tt
@@ -383,26 +384,26 @@ page_write_small image f entry (Finish answer) typed h = tt
 byte_small : (image : Image) (f : Facts) (entry : Entry) (q : Place) → IsTypedBoard f → byte_after image f entry q < 256
 byte_small image f entry q typed =
     let own : Place → ℕ = byte_written image f entry.cell entry.act in
-    page-write-small (page_write_by image f entry entry.act) (with_words (specs_changing f entry.act) own) q
+    page_write_small_holds (page_write_by image f entry entry.act) (with_words (specs_changing f entry.act) own) q
     (page_write_small image f entry entry.act typed.call typed.cells)
-    (λ p. words-small (specs_changing f entry.act) own p (λ k. written_small image f entry.cell entry.act k typed.bytes))
+    (λ p. words_small (specs_changing f entry.act) own p (λ k. written_small image f entry.cell entry.act k typed.bytes))
 
 -- ---- root's CPU
 
 one_owner : (change : Act) (own i : ℕ) (cpu : Cpu) → (cond (eqb i own) (changed (change_of change) cpu) cpu).owner ≡ cpu.owner
 one_owner change own i cpu =
     let same : Cpu → Type 0 = λ c. c.owner ≡ cpu.owner in
-    cond_both (eqb i own) (changed (change_of change) cpu) cpu same (λ _. changed-owner (change_of change) cpu) (λ _. refl)
+    cond_both (eqb i own) (changed (change_of change) cpu) cpu same (λ _. changed_owner (change_of change) cpu) (λ _. refl)
 
 settle_owner : (call : Option OpenCall) (how : Settled) (cpu : Cpu) → (option_map_or (λ (o : OpenCall). settled (is_agreed how) o.call cpu) call cpu).owner ≡ cpu.owner
 settle_owner None how cpu = refl
-settle_owner (Some o) how cpu = settled-owner (is_agreed how) o.call cpu
+settle_owner (Some o) how cpu = settled_owner (is_agreed how) o.call cpu
 
 acted_owner : (image : Image) (call : Option OpenCall) (act : Act) (own i : ℕ) (cpu : Cpu) → is_commit act ≡ false → (acted image call act own i cpu).owner ≡ cpu.owner
-acted_owner image call (Begin code a b) own i cpu other = begun-owner image own i cpu
+acted_owner image call (Begin code a b) own i cpu other = begun_owner image own i cpu
 acted_owner image call (Settle how) own i cpu other = settle_owner call how cpu
 acted_owner image call Commit own i cpu other = absurd (both_ways true other refl)
-acted_owner image call (Finish answer) own i cpu other = finished-owner image own i cpu
+acted_owner image call (Finish answer) own i cpu other = finished_owner image own i cpu
 acted_owner image call (Read width at got) own i cpu other = one_owner (Read width at got) own i cpu
 acted_owner image call (Write width at value ok) own i cpu other = one_owner (Write width at value ok) own i cpu
 acted_owner image call (Fetch at got) own i cpu other = one_owner (Fetch at got) own i cpu
@@ -429,10 +430,10 @@ root_commit image f entry None is act sound has =
 root_commit image f entry (Some o) is act sound has =
     let next : OpenCall = record { caller = o.caller; call = o.call; phase = after_commit o.call o.phase f.cells } in
     let opens : (after image f entry).call ≡ Some next =
-    call-after image f entry
+    after_call image f entry
     ∙ ap (λ (c : Option OpenCall). call_by f.cells (coming_of image f) c entry entry.act) is
     ∙ ap (call_by f.cells (coming_of image f) (Some o) entry) act in
-    let caller = (sound-open image (after image f entry) next sound opens).caller in
+    let caller = (sound_open image (after image f entry) next sound opens).caller in
     (o.caller, caller.board, caller.owner)
 
 root_kept : (image : Image) (f : Facts) (entry : Entry) → is_commit entry.act ≡ false → HasCpu image f.cpu → HasCpu image (after image f entry).cpu
@@ -456,46 +457,46 @@ root_by image f entry (Finish answer) is sound has = root_kept image f entry (ap
 
 -- ---- entry by entry
 
-pub typed-after : (image : Image) (f : Facts) (entry : Entry) → IsSound image f → due_at image f entry.cpu ≡ Some entry → IsTypedBoard f → IsTypedBoard (after image f entry)
+pub typed_after : (image : Image) (f : Facts) (entry : Entry) → IsSound image f → due_at image f entry.cpu ≡ Some entry → IsTypedBoard f → IsTypedBoard (after image f entry)
 unfolding after
-typed-after image f entry sound due typed = record {
+typed_after image f entry sound due typed = record {
   bytes = λ q. byte_small image f entry q typed;
   cells = cells_typed f.call f.cells entry.act typed.call typed.cells;
-  call = call_typed f.cells (coming_of image f) f.call entry entry.act (λ config is. coming_of_typed image f f.call config typed.bytes is) (refusal-fits image f entry sound due) typed.call;
-  endpoints = registers-after image f entry typed.endpoints;
+  call = call_typed f.cells (coming_of image f) f.call entry entry.act (λ config is. coming_of_typed image f f.call config typed.bytes is) (refusal_fits image f entry sound due) typed.call;
+  endpoints = registers_after image f entry typed.endpoints;
 }
 
-pub typed-start : (image : Image) → ArePreloadsBytes image → IsTypedBoard (start image)
-typed-start image bytes = record {
-  bytes = λ q. opening-small image q bytes;
+pub typed_start : (image : Image) → ArePreloadsBytes image → IsTypedBoard (start image)
+typed_start image bytes = record {
+  bytes = λ q. opening_small image q bytes;
   cells = λ config held. let below : held.0 < 0 = held.1 in absurd (omega arith);
   call = tt;
-  endpoints = registers-open image;
+  endpoints = registers_open image;
 }
 
 typed_from : (image : Image) (f : Facts) (entries : List Entry) → IsSound image f → IsTypedBoard f → IsLegalFrom image f entries → IsTypedBoard (fold (after image) f entries)
 typed_from image f [] sound typed legal = typed
-typed_from image f (entry ∷ entries) sound typed legal = typed_from image (after image f entry) entries (sound-after image f entry sound legal.0) (typed-after image f entry sound legal.0 typed) legal.1
+typed_from image f (entry ∷ entries) sound typed legal = typed_from image (after image f entry) entries (sound_after image f entry sound legal.0) (typed_after image f entry sound legal.0 typed) legal.1
 
-pub legal-typed : (image : Image) (entries : List Entry) → IsAdmitted image → ArePreloadsBytes image → IsLegal image entries → IsTypedBoard (facts image entries)
+pub legal_typed : (image : Image) (entries : List Entry) → IsAdmitted image → ArePreloadsBytes image → IsLegal image entries → IsTypedBoard (facts image entries)
 unfolding IsLegal facts
-legal-typed image entries admitted bytes legal = typed_from image (start image) entries (sound-start image admitted) (typed-start image bytes) legal
+legal_typed image entries admitted bytes legal = typed_from image (start image) entries (sound_start image admitted) (typed_start image bytes) legal
 
 root_start : (image : Image) → IsAdmitted image → HasBytes image → HasCpu image (start image).cpu
 root_start image admitted bytes =
-    let sound = sound-start image admitted in
-    let set = sound-set image.system.root.cpu_set (λ i. index-small image.system.root.cpu_set i bytes.set) (sound.cells.clean.cpus 0 image.system.root refl) in
+    let sound = sound_start image admitted in
+    let set = sound_set image.system.root.cpu_set (λ i. index_small image.system.root.cpu_set i bytes.set) (sound.cells.clean.cpus 0 image.system.root refl) in
     (set.some.0, set.some.1, refl)
 
 root_from : (image : Image) (f : Facts) (entries : List Entry) → IsSound image f → HasCpu image f.cpu → IsLegalFrom image f entries → HasCpu image (fold (after image) f entries).cpu
 root_from image f [] sound has legal = has
 root_from image f (entry ∷ entries) sound has legal =
-    let next = sound-after image f entry sound legal.0 in
+    let next = sound_after image f entry sound legal.0 in
     root_from image (after image f entry) entries next (root_by image f entry entry.act refl next has) legal.1
 
 legal_root : (image : Image) (entries : List Entry) → IsAdmitted image → HasBytes image → IsLegal image entries → HasCpu image (facts image entries).cpu
 unfolding IsLegal facts
-legal_root image entries admitted bytes legal = root_from image (start image) entries (sound-start image admitted) (root_start image admitted bytes) legal
+legal_root image entries admitted bytes legal = root_from image (start image) entries (sound_start image admitted) (root_start image admitted bytes) legal
 
 -- ---- counting
 
@@ -503,7 +504,7 @@ legal_root image entries admitted bytes legal = root_from image (start image) en
 cell_cpu : (image : Image) (f : Facts) (config : CellConfig) → IsSound image f → IsTypedBoard f → Contains (configs_of f.cells) config → (cpu : ℕ) × ((f.cpu cpu).owner ≡ config.id) × (cpu < 16)
 cell_cpu image f config sound typed held =
     let numbered = slice_get-get_or (configs_of f.cells) held.0 config held.1 ∙ ap Some held.2 in
-    let set = sound-set config.cpu_set (λ i. index-small config.cpu_set i (typed.cells config held).set) (sound.cells.clean.cpus (suc held.0) config numbered) in
+    let set = sound_set config.cpu_set (λ i. index_small config.cpu_set i (typed.cells config held).set) (sound.cells.clean.cpus (suc held.0) config numbered) in
     (set.some.0, (sound.cpus.cells config held).owned set.some.0 set.some.1, set.few set.some.0 set.some.1)
 
 -- and so has root
@@ -512,35 +513,35 @@ each_cpu image f config sound typed root held =
     let configs : List CellConfig = configs_of f.cells in
     let P : CellConfig → Type 0 = λ c. (cpu : ℕ) × ((f.cpu cpu).owner ≡ c.id) × (cpu < 16) in
     ⊎_elim
-    (λ (is : image.system.root ≡ config). subst P is (root.0, root.2, board-few image configs sound.cells.clean root.0 root.1))
+    (λ (is : image.system.root ≡ config). subst P is (root.0, root.2, board_few image configs sound.cells.clean root.0 root.1))
     (λ (there : Contains configs config). cell_cpu image f config sound typed there)
-    (Contains-cases image.system.root configs config held)
+    (Contains_cases image.system.root configs config held)
 
 -- two of these have different ids
 each_apart : (all : List CellConfig) (x : CellConfig) → AllPairs AreTwo all
     → (i j d : ℕ) → i < j → j < length (map (λ (c : CellConfig). c.id) all) → get_or (map (λ (c : CellConfig). c.id) all) i d ≢ get_or (map (λ (c : CellConfig). c.id) all) j d
 each_apart all x differ i j d lt within same =
-    let long : length (map (λ (c : CellConfig). c.id) all) ≡ length all = length-map (λ (c : CellConfig). c.id) all in
+    let long : length (map (λ (c : CellConfig). c.id) all) ≡ length all = length_map (λ (c : CellConfig). c.id) all in
     let below : j < length all = omega (arith, long) in
     let two : AreTwo (get_or all i x) (get_or all j x) = differ i j x lt below in
     let at : (k : ℕ) → k < length all → get_or (map (λ (c : CellConfig). c.id) all) k d ≡ (get_or all k x).id =
     λ k l. get_or_from_slice_get (map (λ (c : CellConfig). c.id) all) k (get_or (map (λ (c : CellConfig). c.id) all) k x.id) d (slice_get-get_or (map (λ (c : CellConfig). c.id) all) k x.id (omega (arith, l, long)))
-    ∙ get-map (λ (c : CellConfig). c.id) all k x in
-    two-ids (get_or all i x) (get_or all j x) two (sym (at i (omega arith)) ∙ same ∙ at j below)
+    ∙ get_map (λ (c : CellConfig). c.id) all k x in
+    two_ids (get_or all i x) (get_or all j x) two (sym (at i (omega arith)) ∙ same ∙ at j below)
 
 -- where what is read keeps to its types, cells that each have one of 16 CPUs are few
-pub few-typed : (image : Image) (f : Facts) → IsSound image f → IsTypedBoard f → length (configs_of f.cells) ≤ 16
-few-typed image f sound typed =
+pub few_typed : (image : Image) (f : Facts) → IsSound image f → IsTypedBoard f → length (configs_of f.cells) ≤ 16
+few_typed image f sound typed =
     let configs : List CellConfig = configs_of f.cells in
     let apart : AllPairs AreTwo configs = λ i j d lt within. sound.cells.differ (suc i) (suc j) d (omega (arith, lt)) (omega (arith, within)) in
-    picked-few (λ i. (f.cpu i).owner) configs (picked (λ i. (f.cpu i).owner) configs (λ config held. cell_cpu image f config sound typed held)) (each_apart configs image.system.root apart)
+    picked_few (λ i. (f.cpu i).owner) configs (picked (λ i. (f.cpu i).owner) configs (λ config held. cell_cpu image f config sound typed held)) (each_apart configs image.system.root apart)
 
-pub few-cells : (image : Image) (entries : List Entry) → IsAdmitted image → HasBytes image → IsLegal image entries → length (configs_of (facts image entries).cells) ≤ 15
-few-cells image entries admitted bytes legal =
+pub few_cells : (image : Image) (entries : List Entry) → IsAdmitted image → HasBytes image → IsLegal image entries → length (configs_of (facts image entries).cells) ≤ 15
+few_cells image entries admitted bytes legal =
     let f : Facts = facts image entries in
-    let sound = legal-sound image entries admitted legal in
-    let typed = legal-typed image entries admitted bytes.preloads legal in
+    let sound = legal_sound image entries admitted legal in
+    let typed = legal_typed image entries admitted bytes.preloads legal in
     let root = legal_root image entries admitted bytes legal in
     let all : List CellConfig = image.system.root ∷ configs_of f.cells in
-    let at_most : length all ≤ 16 = picked-few (λ i. (f.cpu i).owner) all (picked (λ i. (f.cpu i).owner) all (λ config held. each_cpu image f config sound typed root held)) (each_apart all image.system.root sound.cells.differ) in
+    let at_most : length all ≤ 16 = picked_few (λ i. (f.cpu i).owner) all (picked (λ i. (f.cpu i).owner) all (λ config held. each_cpu image f config sound typed root held)) (each_apart all image.system.root sound.cells.differ) in
     omega (arith, at_most)

@@ -8,7 +8,7 @@ use Rattle.std.proofs.lemmas.List.Elements.{All-nil, All-cons, All-head, All-tai
 use Rattle.std.proofs.lemmas.Map.Made.{IsDistinct-from_AllPairs}
 use Rattle.std.proofs.lemmas.Map.Steps.{length-le_from_distinct_below}
 use Rattle.jh_num.specs.Memory.{stored}
-use Rattle.jh_num.proofs.Lists.{Contains-head, Contains-tail, IsFound-from_list_any}
+use Rattle.jh_num.proofs.Lists.{Contains_head, Contains_tail, IsFound_from_list_any}
 use Rattle.jh_cellcfg.specs.declared.config.CellConfig.{CellConfig}
 use Rattle.jh_cellcfg.specs.Reading.{config_of, config_of_body}
 use Rattle.jh_comm.specs.Page.{with_state, sent, fresh_page, signature}
@@ -43,15 +43,15 @@ low_bytes i zero n = All-nil (λ (b : ℕ). b < 256)
 low_bytes i (suc k) n = All-cons (λ (b : ℕ). b < 256) (byte_at i n) (bytes_low_first (suc i) k n) (byte_small i n) (low_bytes (suc i) k n)
 
 -- what a list of bytes says of an index
-pub index-small : (xs : List ℕ) (i : ℕ) → AreBytes xs → get_or xs i 0 < 256
-index-small [] i all = omega arith
-index-small (x ∷ xs) zero all = All-head (λ (b : ℕ). b < 256) x xs all
-index-small (x ∷ xs) (suc i) all = index-small xs i (All-tail (λ (b : ℕ). b < 256) x xs all)
+pub index_small : (xs : List ℕ) (i : ℕ) → AreBytes xs → get_or xs i 0 < 256
+index_small [] i all = omega arith
+index_small (x ∷ xs) zero all = All-head (λ (b : ℕ). b < 256) x xs all
+index_small (x ∷ xs) (suc i) all = index_small xs i (All-tail (λ (b : ℕ). b < 256) x xs all)
 
 stored_small : (byte : ℕ → ℕ) (at : ℕ) (bytes : List ℕ) (q : ℕ) → ((k : ℕ) → byte k < 256) → AreBytes bytes → stored byte at bytes q < 256
 stored_small byte at bytes q small all =
     let P : ℕ → Type 0 = λ b. b < 256 in
-    cond_both (nat_le at q && nat_lt q (at + length bytes)) (get_or bytes (q - at) 0) (byte q) P (λ _. index-small bytes (q - at) all) (λ _. small q)
+    cond_both (nat_le at q && nat_lt q (at + length bytes)) (get_or bytes (q - at) 0) (byte q) P (λ _. index_small bytes (q - at) all) (λ _. small q)
 
 -- ---- pages
 
@@ -109,9 +109,9 @@ abbrev pub MayWriteBytes : Option PageWrite → Type 0
 MayWriteBytes None = Unit {0}
 MayWriteBytes (Some write) = WritesBytes write.change
 
-pub page-write-small : (write : Option PageWrite) (byte : Place → ℕ) (q : Place) → MayWriteBytes write → ((p : Place) → byte p < 256) → with_page_write write byte q < 256
-page-write-small None byte q all small = small q
-page-write-small (Some write) byte q all small = with_page_small write byte q all small
+pub page_write_small_holds : (write : Option PageWrite) (byte : Place → ℕ) (q : Place) → MayWriteBytes write → ((p : Place) → byte p < 256) → with_page_write write byte q < 256
+page_write_small_holds None byte q all small = small q
+page_write_small_holds (Some write) byte q all small = with_page_small write byte q all small
 
 -- ---- writes
 
@@ -126,16 +126,16 @@ slot_small : (o : Option Slot) (byte : Place → ℕ) (q : Place) → ((p : Plac
 slot_small None byte q small = small q
 slot_small (Some slot) byte q small = written_small byte (places_in_row (Physical slot.place) 4) slot.value q small
 
-pub write-small : (byte : Place → ℕ) (devices : Devices) (reach : Reach) (value : ℕ) (q : Place) → ((p : Place) → byte p < 256) → write_of byte devices reach value q < 256
-write-small byte devices (Memory places) value q small = written_small byte places value q small
-write-small byte devices (Subpage places) value q small = written_small byte places value q small
-write-small byte devices (Config bytes) value q small = small q
-write-small byte devices (Window register) value q small = slot_small (slot_put devices register value) byte q small
-write-small byte devices Nothing value q small = small q
+pub write_small : (byte : Place → ℕ) (devices : Devices) (reach : Reach) (value : ℕ) (q : Place) → ((p : Place) → byte p < 256) → write_of byte devices reach value q < 256
+write_small byte devices (Memory places) value q small = written_small byte places value q small
+write_small byte devices (Subpage places) value q small = written_small byte places value q small
+write_small byte devices (Config bytes) value q small = small q
+write_small byte devices (Window register) value q small = slot_small (slot_put devices register value) byte q small
+write_small byte devices Nothing value q small = small q
 
-pub words-small : (specs : List EndpointSpec) (byte : Place → ℕ) (q : Place) → ((p : Place) → byte p < 256) → with_words specs byte q < 256
-words-small [] byte q small = small q
-words-small (s ∷ specs) byte q small = words-small specs (with_slot (slot_of s 0) byte) q (λ p. slot_small (Some (slot_of s 0)) byte p small)
+pub words_small : (specs : List EndpointSpec) (byte : Place → ℕ) (q : Place) → ((p : Place) → byte p < 256) → with_words specs byte q < 256
+words_small [] byte q small = small q
+words_small (s ∷ specs) byte q small = words_small specs (with_slot (slot_of s 0) byte) q (λ p. slot_small (Some (slot_of s 0)) byte p small)
 
 -- ---- opening
 
@@ -154,8 +154,8 @@ loaded_small : (image : Image) (q : Place) → ArePreloadsBytes image → loaded
 loaded_small image (Physical p) bytes = preloads_small (λ _. 0) image.preloads p (λ _. omega arith) bytes
 loaded_small image (Page cell offset) bytes = omega arith
 
-pub opening-small : (image : Image) (q : Place) → ArePreloadsBytes image → opening_byte image q < 256
-opening-small image q bytes = words-small (specs_of image.system.root) (loaded_byte image) q (λ p. loaded_small image p bytes)
+pub opening_small : (image : Image) (q : Place) → ArePreloadsBytes image → opening_byte image q < 256
+opening_small image q bytes = words_small (specs_of image.system.root) (loaded_byte image) q (λ p. loaded_small image p bytes)
 
 -- ---- configurations
 
@@ -167,10 +167,10 @@ pub record IsTyped (config : CellConfig) : Type 0 where
 
 word_small : (bytes : List ℕ) → AreBytes bytes → from_le_bytes w32 bytes < 2 ^ 32
 word_small bytes all =
-    let a = index-small bytes 0 all in
-    let b = index-small bytes 1 all in
-    let c = index-small bytes 2 all in
-    let d = index-small bytes 3 all in
+    let a = index_small bytes 0 all in
+    let b = index_small bytes 1 all in
+    let c = index_small bytes 2 all in
+    let d = index_small bytes 3 all in
     omega (arith, a, b, c, d)
 
 body_typed : (body : List ℕ) → AreBytes body → IsTyped (config_of_body body)
@@ -183,32 +183,32 @@ body_typed body all =
       console = All-take P 32 (drop 92 body) (All-drop P 92 body all);
     }
 
-pub config-typed : (bytes : List ℕ) → AreBytes bytes → IsTyped (config_of bytes)
+pub config_typed : (bytes : List ℕ) → AreBytes bytes → IsTyped (config_of bytes)
 unfolding config_of
-config-typed bytes all = let P : ℕ → Type 0 = λ b. b < 256 in body_typed (drop 8 bytes) (All-drop P 8 bytes all)
+config_typed bytes all = let P : ℕ → Type 0 = λ b. b < 256 in body_typed (drop 8 bytes) (All-drop P 8 bytes all)
 
-pub read-bytes : (byte : Place → ℕ) (places : List Place) → ((p : Place) → byte p < 256) → AreBytes (map byte places)
-read-bytes byte [] small = All-nil (λ (b : ℕ). b < 256)
-read-bytes byte (place ∷ places) small = All-cons (λ (b : ℕ). b < 256) (byte place) (map byte places) (small place) (read-bytes byte places small)
+pub read_bytes : (byte : Place → ℕ) (places : List Place) → ((p : Place) → byte p < 256) → AreBytes (map byte places)
+read_bytes byte [] small = All-nil (λ (b : ℕ). b < 256)
+read_bytes byte (place ∷ places) small = All-cons (λ (b : ℕ). b < 256) (byte place) (map byte places) (small place) (read_bytes byte places small)
 
 -- ---- counting
 
 -- a function of the elements that differs on each two
-pub get-map : {X Y : Type 0} (f : X → Y) (xs : List X) (i : ℕ) (d : X) → get_or (map f xs) i (f d) ≡ f (get_or xs i d)
-get-map f [] i d = refl
-get-map f (x ∷ xs) zero d = refl
-get-map f (x ∷ xs) (suc i) d = get-map f xs i d
+pub get_map : {X Y : Type 0} (f : X → Y) (xs : List X) (i : ℕ) (d : X) → get_or (map f xs) i (f d) ≡ f (get_or xs i d)
+get_map f [] i d = refl
+get_map f (x ∷ xs) zero d = refl
+get_map f (x ∷ xs) (suc i) d = get_map f xs i d
 
-pub length-map : {X Y : Type 0} (f : X → Y) (xs : List X) → length (map f xs) ≡ length xs
-length-map f [] = refl
-length-map f (x ∷ xs) = ap suc (length-map f xs)
+pub length_map : {X Y : Type 0} (f : X → Y) (xs : List X) → length (map f xs) ≡ length xs
+length_map f [] = refl
+length_map f (x ∷ xs) = ap suc (length_map f xs)
 
 apart_by : (f : ℕ → ℕ) (xs ids : List ℕ) → map f xs ≡ ids → ((i j d : ℕ) → i < j → j < length ids → get_or ids i d ≢ get_or ids j d) → AllPairs (λ x y. x ≢ y) xs
 apart_by f xs ids is apart i j d lt within same =
     let P : List ℕ → Type 0 = λ l. (a b c : ℕ) → a < b → b < length l → get_or l a c ≢ get_or l b c in
     let there : (a b c : ℕ) → a < b → b < length (map f xs) → get_or (map f xs) a c ≢ get_or (map f xs) b c = subst P (sym is) apart in
-    let long : length (map f xs) ≡ length xs = length-map f xs in
-    there i j (f d) lt (omega (arith, long)) (get-map f xs i d ∙ ap f same ∙ sym (get-map f xs j d))
+    let long : length (map f xs) ≡ length xs = length_map f xs in
+    there i j (f d) lt (omega (arith, long)) (get_map f xs i d ∙ ap f same ∙ sym (get_map f xs j d))
 
 -- numbers below 16 of which no two are equal
 few_numbers : (xs : List ℕ) → AllPairs (λ x y. x ≢ y) xs → All (λ (x : ℕ). x < 16) xs → length xs ≤ 16
@@ -216,7 +216,7 @@ few_numbers xs apart small =
     length-le_from_distinct_below xs 16
     (IsDistinct-from_AllPairs (λ a b. (eqb-true a b, eq-eqb a b)) xs apart)
     (λ q h.
-    let found = IsFound-from_list_any (eqb q) xs h in
+    let found = IsFound_from_list_any (eqb q) xs h in
     let P : ℕ → Type 0 = λ x. x < 16 in
     subst P (sym (eqb-true q found.0 found.1.passes)) (All-contains P xs found.0 small found.1.held))
 
@@ -229,19 +229,19 @@ pub record ArePicked (owner : ℕ → ℕ) (configs : List CellConfig) : Type 0 
 pub picked : (owner : ℕ → ℕ) (configs : List CellConfig) → ((config : CellConfig) → Contains configs config → (cpu : ℕ) × (owner cpu ≡ config.id) × (cpu < 16)) → ArePicked owner configs
 picked owner [] each = record { cpus = []; owners = refl; small = All-nil (λ (x : ℕ). x < 16) }
 picked owner (config ∷ configs) each =
-    let one = each config (Contains-head config configs) in
-    let rest = picked owner configs (λ c held. each c (Contains-tail config configs c held)) in
+    let one = each config (Contains_head config configs) in
+    let rest = picked owner configs (λ c held. each c (Contains_tail config configs c held)) in
     record {
       cpus = one.0 ∷ rest.cpus;
       owners = ap (λ (n : ℕ). n ∷ map owner rest.cpus) one.1 ∙ ap (λ (ns : List ℕ). config.id ∷ ns) rest.owners;
       small = All-cons (λ (x : ℕ). x < 16) one.0 rest.cpus one.2 rest.small;
     }
 
-pub picked-few : (owner : ℕ → ℕ) (configs : List CellConfig) → ArePicked owner configs
+pub picked_few : (owner : ℕ → ℕ) (configs : List CellConfig) → ArePicked owner configs
     → ((i j d : ℕ) → i < j → j < length (map (λ (c : CellConfig). c.id) configs) → get_or (map (λ (c : CellConfig). c.id) configs) i d ≢ get_or (map (λ (c : CellConfig). c.id) configs) j d)
     → length configs ≤ 16
-picked-few owner configs p apart =
+picked_few owner configs p apart =
     let ids : List ℕ = map (λ (c : CellConfig). c.id) configs in
     let few : length p.cpus ≤ 16 = few_numbers p.cpus (apart_by owner p.cpus ids p.owners apart) p.small in
-    let same : length p.cpus ≡ length configs = sym (length-map owner p.cpus) ∙ ap (λ (l : List ℕ). length l) p.owners ∙ length-map (λ (c : CellConfig). c.id) configs in
+    let same : length p.cpus ≡ length configs = sym (length_map owner p.cpus) ∙ ap (λ (l : List ℕ). length l) p.owners ∙ length_map (λ (c : CellConfig). c.id) configs in
     omega (arith, few, same)

@@ -6,7 +6,7 @@ use Rattle.std.specs.Cmp.Lexicographic.{pointwise}
 use Rattle.std.proofs.lemmas.Bool.{both_ways, or_parts, and_parts, and_from, eqb-true, eq-eqb, ne_eqb, cases_lt, false_from_ne_true}
 use Rattle.std.proofs.lemmas.Option.{none-some, same_Some, slice_get-get_or, get_or_from_slice_get}
 use Rattle.jh_num.specs.declared.address.TheConstants.{ADDRESS_END}
-use Rattle.jh_num.proofs.Lists.{IsOnly, IsFound-from_find, find-only, find-some, Contains-from_map}
+use Rattle.jh_num.proofs.Lists.{IsOnly, IsFound_from_find, find_only, find_some, Contains_from_map}
 use Rattle.jh_cellcfg.specs.declared.config.CellConfig.{CellConfig}
 use Rattle.jh_cellcfg.specs.declared.config.SystemConfig.{SystemConfig}
 use Rattle.jh_cellcfg.specs.declared.live.Live.{Live}
@@ -31,19 +31,19 @@ use Rattle.jh_history.specs.Phases.{configs_of}
 use Rattle.jh_history.specs.Sound.{AreTwo, AreSoundCells}
 use Rattle.jh_laws.specs.Grants.{may, IsGranted}
 use Rattle.jh_laws.specs.Held.{IsLive, IsLeft, IsGrantedTo}
-use Rattle.jh_laws.proofs.RootLemmas.{has_address-first, has_address-last, has_address-from, gives-address, gives-pages, gives-right, gives-from}
-use Rattle.jh_history.proofs.SoundCpusLemmas.{other-root}
-use Rattle.jh_history.proofs.SoundDecideLemmas.{found-live}
+use Rattle.jh_laws.proofs.RootLemmas.{has_address_first, has_address_last, has_address_from, gives_address, gives_pages, gives_right, gives_from}
+use Rattle.jh_history.proofs.SoundCpusLemmas.{other_root}
+use Rattle.jh_history.proofs.SoundDecideLemmas.{found_live}
 
 -- ---- live cells by their ids
 
 -- two cells at different places of the list differ
-pub two-ids : (earlier later : CellConfig) → AreTwo earlier later → earlier.id ≢ later.id
-two-ids earlier later two is =
+pub two_ids : (earlier later : CellConfig) → AreTwo earlier later → earlier.id ≢ later.id
+two_ids earlier later two is =
     both_ways (eqb earlier.id later.id) (or_parts (eqb earlier.id later.id) (pointwise nat_eq (name_of earlier) (name_of later)) two).0 (eq-eqb earlier.id later.id is)
 
-pub at-same : (xs : List CellConfig) (i : ℕ) (a b : CellConfig) → i < length xs → get_or xs i a ≡ a → get_or xs i b ≡ b → a ≡ b
-at-same xs i a b lt is_a is_b = sym is_a ∙ get_or_from_slice_get xs i (get_or xs i b) a (slice_get-get_or xs i b lt) ∙ is_b
+pub at_same : (xs : List CellConfig) (i : ℕ) (a b : CellConfig) → i < length xs → get_or xs i a ≡ a → get_or xs i b ≡ b → a ≡ b
+at_same xs i a b lt is_a is_b = sym is_a ∙ get_or_from_slice_get xs i (get_or xs i b) a (slice_get-get_or xs i b lt) ∙ is_b
 
 apart_at : (system : SystemConfig) (configs : List CellConfig) (j k : ℕ) (a b : CellConfig) → AreSoundCells system configs → j < k → k < length configs → get_or configs j a ≡ a → get_or configs k b ≡ b → a.id ≢ b.id
 apart_at system configs j k a b sound lt within is_a is_b =
@@ -51,10 +51,10 @@ apart_at system configs j k a b sound lt within is_a is_b =
     let there : get_or configs k a ≡ b = get_or_from_slice_get configs k (get_or configs k b) a (slice_get-get_or configs k b within) ∙ is_b in
     let P : CellConfig → Type 0 = λ c. AreTwo c (get_or configs k a) in
     let Q : CellConfig → Type 0 = λ c. AreTwo a c in
-    two-ids a b (subst Q there (subst P is_a two))
+    two_ids a b (subst Q there (subst P is_a two))
 
-pub same-id : (system : SystemConfig) (configs : List CellConfig) (a b : CellConfig) → AreSoundCells system configs → Contains configs a → Contains configs b → a.id ≡ b.id → a ≡ b
-same-id system configs a b sound (j, j_lt, is_a) (k, k_lt, is_b) same =
+pub same_id : (system : SystemConfig) (configs : List CellConfig) (a b : CellConfig) → AreSoundCells system configs → Contains configs a → Contains configs b → a.id ≡ b.id → a ≡ b
+same_id system configs a b sound (j, j_lt, is_a) (k, k_lt, is_b) same =
     ⊎_elim
     (λ (lt : j < k). absurd (apart_at system configs j k a b sound lt k_lt is_a is_b same))
     (λ (le : k ≤ j).
@@ -63,36 +63,36 @@ same-id system configs a b sound (j, j_lt, is_a) (k, k_lt, is_b) same =
     (λ (ge : j ≤ k).
     let e : k ≡ j = omega arith in
     let P : ℕ → Type 0 = λ n. get_or configs n b ≡ b in
-    at-same configs j a b j_lt is_a (subst P e is_b))
+    at_same configs j a b j_lt is_a (subst P e is_b))
     (cases_lt k j))
     (cases_lt j k)
 
 -- a cell that lives is found by its id
-pub found-by_id : (image : Image) (cells : List Live) (cell : CellConfig) → AreSoundCells image.system (configs_of cells) → Contains (configs_of cells) cell → live_in cells cell.id ≡ Some cell
-found-by_id image cells cell sound held =
-    let live = Contains-from_map (λ (l : Live). l.config) cells cell held in
-    let some = find-some (has_id cell.id) cells live.0 live.1 (eq-eqb live.0.config.id cell.id (ap (λ (c : CellConfig). c.id) live.2)) in
-    let found = found-live cells cell.id some.0 some.1 in
-    ap (option_map (λ (l : Live). l.config)) some.1 ∙ ap Some (same-id image.system (configs_of cells) some.0.config cell sound found.0 held found.1)
+pub found_by_id : (image : Image) (cells : List Live) (cell : CellConfig) → AreSoundCells image.system (configs_of cells) → Contains (configs_of cells) cell → live_in cells cell.id ≡ Some cell
+found_by_id image cells cell sound held =
+    let live = Contains_from_map (λ (l : Live). l.config) cells cell held in
+    let some = find_some (has_id cell.id) cells live.0 live.1 (eq-eqb live.0.config.id cell.id (ap (λ (c : CellConfig). c.id) live.2)) in
+    let found = found_live cells cell.id some.0 some.1 in
+    ap (option_map (λ (l : Live). l.config)) some.1 ∙ ap Some (same_id image.system (configs_of cells) some.0.config cell sound found.0 held found.1)
 
-pub live-cell : (image : Image) (cells : List Live) (cell : CellConfig) → AreSoundCells image.system (configs_of cells) → IsLive image cells cell → cell_in image cells cell.id ≡ Some cell
-live-cell image cells cell sound live =
+pub live_cell : (image : Image) (cells : List Live) (cell : CellConfig) → AreSoundCells image.system (configs_of cells) → IsLive image cells cell → cell_in image cells cell.id ≡ Some cell
+live_cell image cells cell sound live =
     ⊎_elim
     (λ (is : cell ≡ image.system.root).
     let root : eqb cell.id image.system.root.id ≡ true = eq-eqb cell.id image.system.root.id (ap (λ (c : CellConfig). c.id) is) in
     let e : cell_in image cells cell.id ≡ Some image.system.root = rw root refl in
     e ∙ ap Some (sym is))
     (λ (held : Contains (configs_of cells) cell).
-    let other : eqb cell.id image.system.root.id ≡ false = ne_eqb cell.id image.system.root.id (other-root image.system (configs_of cells) cell sound held) in
+    let other : eqb cell.id image.system.root.id ≡ false = ne_eqb cell.id image.system.root.id (other_root image.system (configs_of cells) cell sound held) in
     let e : cell_in image cells cell.id ≡ live_in cells cell.id = rw other refl in
-    e ∙ found-by_id image cells cell sound held)
+    e ∙ found_by_id image cells cell sound held)
     live
 
 live_found : (cells : List Live) (id : ℕ) (o : Option Live) (cell : CellConfig) → find (has_id id) cells ≡ o → option_map (λ (l : Live). l.config) o ≡ Some cell → Contains (configs_of cells) cell × (cell.id ≡ id)
 live_found cells id None cell is h = absurd (none-some cell h)
 live_found cells id (Some live) cell is h =
     let P : CellConfig → Type 0 = λ c. Contains (configs_of cells) c × (c.id ≡ id) in
-    subst P (same_Some live.config cell h) (found-live cells id live is)
+    subst P (same_Some live.config cell h) (found_live cells id live is)
 
 cell_by : (image : Image) (cells : List Live) (id : ℕ) (cell : CellConfig) (b : Bool) → eqb id image.system.root.id ≡ b → cond b (Some image.system.root) (live_in cells id) ≡ Some cell → IsLive image cells cell × (cell.id ≡ id)
 cell_by image cells id cell true is h =
@@ -100,14 +100,14 @@ cell_by image cells id cell true is h =
     (inl (sym e), sym (ap (λ (c : CellConfig). c.id) e) ∙ sym (eqb-true id image.system.root.id is))
 cell_by image cells id cell false is h = let found = live_found cells id (find (has_id id) cells) cell refl h in (inr found.0, found.1)
 
-pub cell-live : (image : Image) (cells : List Live) (id : ℕ) (cell : CellConfig) → cell_in image cells id ≡ Some cell → IsLive image cells cell × (cell.id ≡ id)
-cell-live image cells id cell h = cell_by image cells id cell (eqb id image.system.root.id) refl h
+pub cell_live : (image : Image) (cells : List Live) (id : ℕ) (cell : CellConfig) → cell_in image cells id ≡ Some cell → IsLive image cells cell × (cell.id ≡ id)
+cell_live image cells id cell h = cell_by image cells id cell (eqb id image.system.root.id) refl h
 
 -- ---- regions of a live cell
 
 -- the number of a live cell
-pub number-of : (image : Image) (cells : List Live) (cell : CellConfig) → IsLive image cells cell → (a : ℕ) × IsNumbered image.system (configs_of cells) a cell
-number-of image cells cell live =
+pub number_of_holds : (image : Image) (cells : List Live) (cell : CellConfig) → IsLive image cells cell → (a : ℕ) × IsNumbered image.system (configs_of cells) a cell
+number_of_holds image cells cell live =
     ⊎_elim
     (λ (is : cell ≡ image.system.root). (0, ap Some (sym is)))
     (λ (held : Contains (configs_of cells) cell). (suc held.0, slice_get-get_or (configs_of cells) held.0 cell held.1 ∙ ap Some held.2))
@@ -116,19 +116,19 @@ number-of image cells cell live =
 -- at most one of its regions gives an address
 only_region : (image : Image) (cells : List Live) (cell : CellConfig) (access : Access) (at : ℕ) → AreSoundCells image.system (configs_of cells) → IsLive image cells cell → IsOnly (gives access at) cell.memory_regions
 only_region image cells cell access at sound live j k d lt within at_j at_k =
-    let number = number-of image cells cell live in
+    let number = number_of_holds image cells cell live in
     let regions : List Region = cell.memory_regions in
     let same : j ≡ k = sound.clean.addresses number.0 cell number.1 j k (get_or regions j d) (get_or regions k d)
     (slice_get-get_or regions j d (omega arith)) (slice_get-get_or regions k d within) at
-    (gives-address access at (get_or regions j d) at_j) (gives-address access at (get_or regions k d) at_k) in
+    (gives_address access at (get_or regions j d) at_j) (gives_address access at (get_or regions k d) at_k) in
     omega arith
 
 -- a region that has an address ends within the addresses
 region_within : (image : Image) (cells : List Live) (cell : CellConfig) (r : Region) (at : ℕ) → AreSoundCells image.system (configs_of cells) → IsLive image cells cell → Contains cell.memory_regions r → has_address r at ≡ true → virt_end r ≤ ADDRESS_END
 region_within image cells cell r at sound live held has =
-    let number = number-of image cells cell live in
-    let first : r.virt_start ≤ at = has_address-first r at has in
-    let last : at < virt_end r = has_address-last r at has in
+    let number = number_of_holds image cells cell live in
+    let first : r.virt_start ≤ at = has_address_first r at has in
+    let last : at < virt_end r = has_address_last r at has in
     let some : 0 < r.size = omega arith in
     let item : slice_get cell.memory_regions held.0 ≡ Some r = slice_get-get_or cell.memory_regions held.0 r held.1 ∙ ap Some held.2 in
     (sound.clean.within number.0 cell number.1 held.0 r item some).virt
@@ -139,42 +139,42 @@ may_right ToWrite r = refl
 may_right ToFetch r = refl
 
 -- what the cell's regions give an address
-pub given-place : (image : Image) (cells : List Live) (cell : CellConfig) (access : Access) (at : ℕ) (place : Place) → AreSoundCells image.system (configs_of cells) → IsLive image cells cell → IsGranted cell access at place
+pub given_place : (image : Image) (cells : List Live) (cell : CellConfig) (access : Access) (at : ℕ) (place : Place) → AreSoundCells image.system (configs_of cells) → IsLive image cells cell → IsGranted cell access at place
     → place_of cell.id cell.memory_regions access at ≡ Some place
 unfolding place_of
-given-place image cells cell access at place sound live given =
+given_place image cells cell access at place sound live given =
     let r = given.region in
     let i = given.held.0 in
     let regions : List Region = cell.memory_regions in
     let same : get_or regions i r ≡ r = given.held.2 in
-    let has : has_address r at ≡ true = has_address-from r at given.first given.last in
-    let there : gives access at (get_or regions i r) ≡ true = ap (gives access at) same ∙ gives-from access at r has given.pages (sym (may_right access r) ∙ given.right) in
-    let found : find (gives access at) regions ≡ Some r = find-only (gives access at) regions i r given.held.1 there (only_region image cells cell access at sound live) ∙ ap Some same in
+    let has : has_address r at ≡ true = has_address_from r at given.first given.last in
+    let there : gives access at (get_or regions i r) ≡ true = ap (gives access at) same ∙ gives_from access at r has given.pages (sym (may_right access r) ∙ given.right) in
+    let found : find (gives access at) regions ≡ Some r = find_only (gives access at) regions i r given.held.1 there (only_region image cells cell access at sound live) ∙ ap Some same in
     ap (option_map (λ (s : Region). place_in_cell cell.id s at)) found ∙ ap Some (sym given.given)
 
 place_by : (image : Image) (cells : List Live) (cell : CellConfig) (access : Access) (at : ℕ) (place : Place) (o : Option Region) → AreSoundCells image.system (configs_of cells) → IsLive image cells cell → region_of cell.memory_regions access at ≡ o
     → option_map (λ (s : Region). place_in_cell cell.id s at) o ≡ Some place → IsGranted cell access at place
 place_by image cells cell access at place None sound live is e = absurd (none-some place e)
 place_by image cells cell access at place (Some r) sound live is e =
-    let found = IsFound-from_find (gives access at) cell.memory_regions r is in
-    let has : has_address r at ≡ true = gives-address access at r found.passes in
+    let found = IsFound_from_find (gives access at) cell.memory_regions r is in
+    let has : has_address r at ≡ true = gives_address access at r found.passes in
     let within : virt_end r ≤ ADDRESS_END = region_within image cells cell r at sound live found.held has in
-    let last : at < virt_end r = has_address-last r at has in
+    let last : at < virt_end r = has_address_last r at has in
     record {
       below = omega arith;
       region = r;
       held = found.held;
-      pages = gives-pages access at r found.passes;
-      right = may_right access r ∙ gives-right access at r found.passes;
-      first = has_address-first r at has;
+      pages = gives_pages access at r found.passes;
+      right = may_right access r ∙ gives_right access at r found.passes;
+      first = has_address_first r at has;
       last = last;
       given = sym (same_Some (place_in_cell cell.id r at) place e);
     }
 
-pub place-given : (image : Image) (cells : List Live) (cell : CellConfig) (access : Access) (at : ℕ) (place : Place) → AreSoundCells image.system (configs_of cells) → IsLive image cells cell → place_of cell.id cell.memory_regions access at ≡ Some place
+pub place_given : (image : Image) (cells : List Live) (cell : CellConfig) (access : Access) (at : ℕ) (place : Place) → AreSoundCells image.system (configs_of cells) → IsLive image cells cell → place_of cell.id cell.memory_regions access at ≡ Some place
     → IsGranted cell access at place
 unfolding place_of
-place-given image cells cell access at place sound live e = place_by image cells cell access at place (region_of cell.memory_regions access at) sound live refl e
+place_given image cells cell access at place sound live e = place_by image cells cell access at place (region_of cell.memory_regions access at) sound live refl e
 
 -- ---- what is left to it
 
@@ -195,19 +195,19 @@ free_left image cells cell (Physical p) free = λ root taken.
 -- ---- what is granted
 
 pub regions_of_live : (image : Image) (cells : List Live) (cell : CellConfig) → AreSoundCells image.system (configs_of cells) → IsLive image cells cell → regions_in image cells cell.id ≡ cell.memory_regions
-regions_of_live image cells cell sound live = ap (λ (o : Option CellConfig). option_map_or (λ (c : CellConfig). c.memory_regions) o []) (live-cell image cells cell sound live)
+regions_of_live image cells cell sound live = ap (λ (o : Option CellConfig). option_map_or (λ (c : CellConfig). c.memory_regions) o []) (live_cell image cells cell sound live)
 
 granted_live : (image : Image) (cells : List Live) (cell : CellConfig) (access : Access) (at : ℕ) (place : Place) → AreSoundCells image.system (configs_of cells) → IsLive image cells cell → IsGranted cell access at place → IsLeft image cells cell place
     → granted_in image cells cell.id access at ≡ Some place
 granted_live image cells cell access at place sound live given left =
     let free : is_kept image cells cell.id place ≡ false = left_free image cells cell place left in
     ap (λ (rs : List Region). granted_by cell.id rs (is_kept image cells cell.id) access at) (regions_of_live image cells cell sound live)
-    ∙ ap (option_and_then (unless (is_kept image cells cell.id))) (given-place image cells cell access at place sound live given)
+    ∙ ap (option_and_then (unless (is_kept image cells cell.id))) (given_place image cells cell access at place sound live given)
     ∙ ap (λ (b : Bool). cond b None (Some place)) free
 
 -- what the cell is granted is granted to it by the definition
-pub granted-to : (image : Image) (f : Facts) (id : ℕ) (access : Access) (at : ℕ) (place : Place) → AreSoundCells image.system (configs_of f.cells) → IsGrantedTo image f.cells id access at place → granted image f id access at ≡ Some place
-granted-to image f id access at place sound h =
+pub granted_to : (image : Image) (f : Facts) (id : ℕ) (access : Access) (at : ℕ) (place : Place) → AreSoundCells image.system (configs_of f.cells) → IsGrantedTo image f.cells id access at place → granted image f id access at ≡ Some place
+granted_to image f id access at place sound h =
     let P : ℕ → Type 0 = λ k. granted_in image f.cells k access at ≡ Some place in
     subst P h.named (granted_live image f.cells h.cell access at place sound h.live h.given h.left)
 
@@ -230,7 +230,7 @@ granted_at image cells cell access at place (Some p) sound live is h =
       cell = cell;
       live = live;
       named = refl;
-      given = place-given image cells cell access at place sound live (is ∙ ap Some same.0);
+      given = place_given image cells cell access at place sound live (is ∙ ap Some same.0);
       left = free_left image cells cell place same.1;
     }
 
@@ -243,18 +243,18 @@ to_granted : (image : Image) (cells : List Live) (id : ℕ) (access : Access) (a
 to_granted image cells id access at place None sound is h =
     absurd (none-some place (sym (ap (option_and_then (unless (is_kept image cells id))) (no_regions id access at)) ∙ h))
 to_granted image cells id access at place (Some cell) sound is h =
-    let live = cell-live image cells id cell is in
+    let live = cell_live image cells id cell is in
     let P : ℕ → Type 0 = λ k. granted_by k cell.memory_regions (is_kept image cells k) access at ≡ Some place → IsGrantedTo image cells k access at place in
     subst P live.1 (granted_at image cells cell access at place (place_of cell.id cell.memory_regions access at) sound live.0 refl) h
 
-pub to-granted : (image : Image) (f : Facts) (id : ℕ) (access : Access) (at : ℕ) (place : Place) → AreSoundCells image.system (configs_of f.cells) → granted image f id access at ≡ Some place → IsGrantedTo image f.cells id access at place
-to-granted image f id access at place sound h = to_granted image f.cells id access at place (cell_in image f.cells id) sound refl h
+pub to_granted_holds : (image : Image) (f : Facts) (id : ℕ) (access : Access) (at : ℕ) (place : Place) → AreSoundCells image.system (configs_of f.cells) → granted image f id access at ≡ Some place → IsGrantedTo image f.cells id access at place
+to_granted_holds image f id access at place sound h = to_granted image f.cells id access at place (cell_in image f.cells id) sound refl h
 
 -- ---- root
 
 -- what root is granted is the place of its address
-pub root-address : (image : Image) (cells : List Live) (access : Access) (at : ℕ) (place : Place) → AreSoundCells image.system (configs_of cells) → IsGranted image.system.root access at place → place ≡ Physical at
-root-address image cells access at place sound given =
+pub root_address : (image : Image) (cells : List Live) (access : Access) (at : ℕ) (place : Place) → AreSoundCells image.system (configs_of cells) → IsGranted image.system.root access at place → place ≡ Physical at
+root_address image cells access at place sound given =
     let r = given.region in
     let held : Contains image.system.root.memory_regions r = given.held in
     let item : slice_get image.system.root.memory_regions held.0 ≡ Some r = slice_get-get_or image.system.root.memory_regions held.0 r held.1 ∙ ap Some held.2 in
@@ -267,36 +267,36 @@ root-address image cells access at place sound given =
     given.given ∙ ap (λ (b : Bool). cond b (Page image.system.root.id (at - r.virt_start)) (Physical (r.phys_start + (at - r.virt_start)))) memory ∙ ap Physical same
 
 -- it is granted what its regions give, but for what another cell holds
-pub root-rest : (image : Image) (cells : List Live) (access : Access) (at : ℕ) (place : Place) → AreSoundCells image.system (configs_of cells) → IsGrantedTo image cells image.system.root.id access at place
+pub root_rest : (image : Image) (cells : List Live) (access : Access) (at : ℕ) (place : Place) → AreSoundCells image.system (configs_of cells) → IsGrantedTo image cells image.system.root.id access at place
     → IsGranted image.system.root access at place × (IsTaken cells at → ⊥) × (place ≡ Physical at)
-root-rest image cells access at place sound h =
-    let same : h.cell ≡ image.system.root = ⊎_elim (λ (is : h.cell ≡ image.system.root). is) (λ (held : Contains (configs_of cells) h.cell). absurd (other-root image.system (configs_of cells) h.cell sound held h.named)) h.live in
+root_rest image cells access at place sound h =
+    let same : h.cell ≡ image.system.root = ⊎_elim (λ (is : h.cell ≡ image.system.root). is) (λ (held : Contains (configs_of cells) h.cell). absurd (other_root image.system (configs_of cells) h.cell sound held h.named)) h.live in
     let P : CellConfig → Type 0 = λ c. IsGranted c access at place in
     let given : IsGranted image.system.root access at place = subst P same h.given in
-    let address : place ≡ Physical at = root-address image cells access at place sound given in
+    let address : place ≡ Physical at = root_address image cells access at place sound given in
     let Q : Place → Type 0 = IsLeft image cells h.cell in
     let left : IsLeft image cells h.cell (Physical at) = subst Q address h.left in
     (given, left h.named, address)
 
-pub rest-root : (image : Image) (cells : List Live) (access : Access) (at : ℕ) → AreSoundCells image.system (configs_of cells) → IsGranted image.system.root access at (Physical at) → (IsTaken cells at → ⊥) → IsGrantedTo image cells image.system.root.id access at (Physical at)
-rest-root image cells access at sound given free = record { cell = image.system.root; live = inl refl; named = refl; given = given; left = λ _. free }
+pub rest_root : (image : Image) (cells : List Live) (access : Access) (at : ℕ) → AreSoundCells image.system (configs_of cells) → IsGranted image.system.root access at (Physical at) → (IsTaken cells at → ⊥) → IsGrantedTo image cells image.system.root.id access at (Physical at)
+rest_root image cells access at sound given free = record { cell = image.system.root; live = inl refl; named = refl; given = given; left = λ _. free }
 
 -- another cell is granted what its regions give
-pub other-granted : (image : Image) (cells : List Live) (cell : CellConfig) (access : Access) (at : ℕ) (place : Place) → AreSoundCells image.system (configs_of cells) → Contains (configs_of cells) cell → IsGranted cell access at place
+pub other_granted : (image : Image) (cells : List Live) (cell : CellConfig) (access : Access) (at : ℕ) (place : Place) → AreSoundCells image.system (configs_of cells) → Contains (configs_of cells) cell → IsGranted cell access at place
     → IsGrantedTo image cells cell.id access at place
-other-granted image cells cell access at place sound held given = record { cell = cell; live = inr held; named = refl; given = given; left = left_by place }
+other_granted image cells cell access at place sound held given = record { cell = cell; live = inr held; named = refl; given = given; left = left_by place }
   where
     left_by : (p : Place) → IsLeft image cells cell p
-    left_by (Physical p) = λ is _. other-root image.system (configs_of cells) cell sound held is
+    left_by (Physical p) = λ is _. other_root image.system (configs_of cells) cell sound held is
     left_by (Page id offset) = tt
 
-pub granted-other : (image : Image) (cells : List Live) (cell : CellConfig) (access : Access) (at : ℕ) (place : Place) → AreSoundCells image.system (configs_of cells) → Contains (configs_of cells) cell → IsGrantedTo image cells cell.id access at place
+pub granted_other : (image : Image) (cells : List Live) (cell : CellConfig) (access : Access) (at : ℕ) (place : Place) → AreSoundCells image.system (configs_of cells) → Contains (configs_of cells) cell → IsGrantedTo image cells cell.id access at place
     → IsGranted cell access at place
-granted-other image cells cell access at place sound held h =
+granted_other image cells cell access at place sound held h =
     let P : CellConfig → Type 0 = λ c. IsGranted c access at place in
     let same : h.cell ≡ cell =
     ⊎_elim
-    (λ (is : h.cell ≡ image.system.root). absurd (other-root image.system (configs_of cells) cell sound held (sym h.named ∙ ap (λ (c : CellConfig). c.id) is)))
-    (λ (there : Contains (configs_of cells) h.cell). same-id image.system (configs_of cells) h.cell cell sound there held h.named)
+    (λ (is : h.cell ≡ image.system.root). absurd (other_root image.system (configs_of cells) cell sound held (sym h.named ∙ ap (λ (c : CellConfig). c.id) is)))
+    (λ (there : Contains (configs_of cells) h.cell). same_id image.system (configs_of cells) h.cell cell sound there held h.named)
     h.live in
     subst P same h.given

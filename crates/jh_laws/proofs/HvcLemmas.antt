@@ -30,16 +30,16 @@ use Rattle.jh_history.specs.Hypercalls.{state_told, mode_seen, cpu_told, seen_of
 use Rattle.jh_history.specs.Phases.{configs_of, state_word}
 use Rattle.jh_history.specs.Due.{due_at, act_of, await_of, got_by, IsLegal}
 use Rattle.jh_history.specs.Admitted.{IsAdmitted}
-use Rattle.jh_history.proofs.LegalLemmas.{due-split, IsLegal-begin}
+use Rattle.jh_history.proofs.LegalLemmas.{due_split, IsLegal_begin}
 use Rattle.jh_history.specs.Sound.{AreSoundCells}
 use Rattle.jh_laws.specs.Ways.{is_phase}
 use Rattle.jh_laws.specs.Hypercalls.{IsInfo, IsStateTold, IsCpuTold, IsAnswer}
-use Rattle.jh_history.proofs.SoundCpusLemmas.{other-root}
-use Rattle.jh_history.proofs.SoundDecideLemmas.{found-live}
-use Rattle.jh_history.proofs.SoundDueLemmas.{next-from_due}
-use Rattle.jh_history.proofs.SoundLemmas.{legal-sound}
-use Rattle.jh_laws.proofs.CallLemmas.{IsMadeBy, Stopping, Running as Runs, Calling, made-by}
-use Rattle.jh_laws.proofs.HeldLemmas.{live-cell}
+use Rattle.jh_history.proofs.SoundCpusLemmas.{other_root}
+use Rattle.jh_history.proofs.SoundDecideLemmas.{found_live}
+use Rattle.jh_history.proofs.SoundDueLemmas.{next_from_due}
+use Rattle.jh_history.proofs.SoundLemmas.{legal_sound}
+use Rattle.jh_laws.proofs.CallLemmas.{IsMadeBy, Stopping, Running as Runs, Calling, made_by}
+use Rattle.jh_laws.proofs.HeldLemmas.{live_cell}
 
 -- ---- the answers
 
@@ -54,15 +54,15 @@ info_by image f cell kind call = record {
 -- the state of a live cell
 told_live : (image : Image) (f : Facts) (id : ℕ) (config : CellConfig) → AreSoundCells image.system (configs_of f.cells) → Contains (configs_of f.cells) config → config.id ≡ id → state_told image f id ≡ Some (state_word f id)
 told_live image f id config sound held is =
-    let other : id ≢ image.system.root.id = λ e. other-root image.system (configs_of f.cells) config sound held (is ∙ e) in
+    let other : id ≢ image.system.root.id = λ e. other_root image.system (configs_of f.cells) config sound held (is ∙ e) in
     let apart : state_told image f id ≡ option_map (λ (c : CellConfig). state_word f c.id) (live_in f.cells id) = rw (ne_eqb id image.system.root.id other) refl in
     let P : ℕ → Type 0 = λ k. k ≢ image.system.root.id → cond (eqb k image.system.root.id) (Some image.system.root) (live_in f.cells k) ≡ Some config → live_in f.cells k ≡ Some config in
-    let found : live_in f.cells id ≡ Some config = subst P is (λ o h. let e : cond (eqb config.id image.system.root.id) (Some image.system.root) (live_in f.cells config.id) ≡ live_in f.cells config.id = rw (ne_eqb config.id image.system.root.id o) refl in sym e ∙ h) other (rw (← is) (live-cell image f.cells config sound (inr held))) in
+    let found : live_in f.cells id ≡ Some config = subst P is (λ o h. let e : cond (eqb config.id image.system.root.id) (Some image.system.root) (live_in f.cells config.id) ≡ live_in f.cells config.id = rw (ne_eqb config.id image.system.root.id o) refl in sym e ∙ h) other (rw (← is) (live_cell image f.cells config sound (inr held))) in
     apart ∙ ap (option_map (λ (c : CellConfig). state_word f c.id)) found ∙ ap (λ (k : ℕ). Some (state_word f k)) is
 
-pub none-live : (cells : List Live) (id : ℕ) (o : Option Live) → find (has_id id) cells ≡ o → ((config : CellConfig) → Contains (configs_of cells) config → config.id ≢ id) → o ≡ None
-none-live cells id None e none = refl
-none-live cells id (Some live) e none = let found = found-live cells id live e in absurd (none live.config found.0 found.1)
+pub none_live : (cells : List Live) (id : ℕ) (o : Option Live) → find (has_id id) cells ≡ o → ((config : CellConfig) → Contains (configs_of cells) config → config.id ≢ id) → o ≡ None
+none_live cells id None e none = refl
+none_live cells id (Some live) e none = let found = found_live cells id live e in absurd (none live.config found.0 found.1)
 
 state_by : (image : Image) (f : Facts) (cell id : ℕ) → AreSoundCells image.system (configs_of f.cells) → IsStateTold image f cell id (answer_of (State id) (seen_of image f cell (State id)))
 state_by image f cell id sound = record {
@@ -73,7 +73,7 @@ state_by image f cell id sound = record {
       let fails : nat_le (state_word f id) 4 ≡ false = false_from_ne_true (nat_le (state_word f id) 4) (λ yes. let le : state_word f id ≤ 4 = leb-true (state_word f id) 4 yes in omega arith) in
       rw (eq-eqb cell image.system.root.id own, told_live image f id config sound held is, fails) refl;
   none = λ own other none.
-      let nothing : find (has_id id) f.cells ≡ None = none-live f.cells id (find (has_id id) f.cells) refl none in
+      let nothing : find (has_id id) f.cells ≡ None = none_live f.cells id (find (has_id id) f.cells) refl none in
       rw (eq-eqb cell image.system.root.id own, ne_eqb id image.system.root.id other, nothing) refl;
 }
 
@@ -177,16 +177,16 @@ answered_made image f entry sound (Calling phase) = phase_answered image f (f.cp
 answered_made image f entry sound (Runs program) =
     answered_by image f (f.cpu entry.cpu).owner entry.act (act_of image f (f.cpu entry.cpu).owner program.op) (op_answered image f (f.cpu entry.cpu).owner program.op sound) program.is
 
-pub answered-at : (image : Image) (before rest : List Entry) (entry : Entry) → IsAdmitted image → IsLegal image (before ++ entry ∷ rest) → IsAnswered image (facts image before) entry.cell entry.act
-answered-at image before rest entry admitted legal =
+pub answered_at : (image : Image) (before rest : List Entry) (entry : Entry) → IsAdmitted image → IsLegal image (before ++ entry ∷ rest) → IsAnswered image (facts image before) entry.cell entry.act
+answered_at image before rest entry admitted legal =
     let f : Facts = facts image before in
-    let sound = legal-sound image before admitted (IsLegal-begin image before (entry ∷ rest) legal) in
-    let due : due_at image f entry.cpu ≡ Some entry = due-split image before rest entry legal in
+    let sound = legal_sound image before admitted (IsLegal_begin image before (entry ∷ rest) legal) in
+    let due : due_at image f entry.cpu ≡ Some entry = due_split image before rest entry legal in
     let P : ℕ → Type 0 = λ id. IsAnswered image f id entry.act in
-    subst P (sym (next-from_due image f entry due).cell) (answered_made image f entry sound.cells (made-by image f entry sound due))
+    subst P (sym (next_from_due image f entry due).cell) (answered_made image f entry sound.cells (made_by image f entry sound due))
 
-pub hvc-answered : (image : Image) (f : Facts) (cell : ℕ) (act : Act) (code a b : ℕ) (answer : ℤ) → act ≡ Hvc code a b answer → IsAnswered image f cell act → IsAnswer image f cell (decoded code a b) answer
-hvc-answered image f cell act code a b answer is h = let P : Act → Type 0 = IsAnswered image f cell in subst P is h
+pub hvc_answered : (image : Image) (f : Facts) (cell : ℕ) (act : Act) (code a b : ℕ) (answer : ℤ) → act ≡ Hvc code a b answer → IsAnswered image f cell act → IsAnswer image f cell (decoded code a b) answer
+hvc_answered image f cell act code a b answer is h = let P : Act → Type 0 = IsAnswered image f cell in subst P is h
 
-pub begin-roots : (image : Image) (f : Facts) (cell : ℕ) (act : Act) (code a b : ℕ) → act ≡ Begin code a b → IsAnswered image f cell act → (cell ≡ image.system.root.id) × (is_management (decoded code a b) ≡ true)
-begin-roots image f cell act code a b is h = let P : Act → Type 0 = IsAnswered image f cell in subst P is h
+pub begin_roots : (image : Image) (f : Facts) (cell : ℕ) (act : Act) (code a b : ℕ) → act ≡ Begin code a b → IsAnswered image f cell act → (cell ≡ image.system.root.id) × (is_management (decoded code a b) ≡ true)
+begin_roots image f cell act code a b is h = let P : Act → Type 0 = IsAnswered image f cell in subst P is h

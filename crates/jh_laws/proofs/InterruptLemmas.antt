@@ -17,12 +17,12 @@ use Rattle.jh_history.specs.Facts.{Facts}
 use Rattle.jh_history.specs.History.{facts}
 use Rattle.jh_history.specs.Lives.{is_on_board, op_at}
 use Rattle.jh_history.specs.Sound.{IsCalm}
-use Rattle.jh_history.proofs.DueDevicesLemmas.{interrupt-next}
-use Rattle.jh_history.proofs.LegalLemmas.{due-split, IsLegal-begin}
-use Rattle.jh_history.proofs.SoundLemmas.{legal-sound}
+use Rattle.jh_history.proofs.DueDevicesLemmas.{interrupt_next}
+use Rattle.jh_history.proofs.LegalLemmas.{due_split, IsLegal_begin}
+use Rattle.jh_history.proofs.SoundLemmas.{legal_sound}
 use Rattle.jh_laws.specs.Ready.{IsDueIn, IsReadyCaller, IsReadyProgram, IsReadyAt}
 use Rattle.jh_laws.specs.Vectors.{IsPendingIn, IsNext}
-use Rattle.jh_laws.proofs.PendingLemmas.{next-is}
+use Rattle.jh_laws.proofs.PendingLemmas.{next_is}
 
 abbrev pub HasPending : Facts → ℕ → Type 0
 HasPending f id = (n : ℕ) × (v : ℕ) × IsPendingIn f id n v
@@ -33,8 +33,8 @@ program_pending image f cpu at ready =
     let P : Op → Type 0 = IsDueIn image f (f.cpu cpu).owner in
     subst P (same_Some ready.op IrqOp (sym ready.at ∙ at)) ready.due
 
-pub ready-pending : (image : Image) (f : Facts) (cpu : ℕ) → ((o : OpenCall) → f.call ≡ Some o → o.caller ≢ cpu) → IsCalm (f.cpu cpu) → op_at image f (f.cpu cpu) cpu ≡ Some IrqOp → IsReadyAt image f cpu → HasPending f (f.cpu cpu).owner
-ready-pending image f cpu none calm at ready =
+pub ready_pending : (image : Image) (f : Facts) (cpu : ℕ) → ((o : OpenCall) → f.call ≡ Some o → o.caller ≢ cpu) → IsCalm (f.cpu cpu) → op_at image f (f.cpu cpu) cpu ≡ Some IrqOp → IsReadyAt image f cpu → HasPending f (f.cpu cpu).owner
+ready_pending image f cpu none calm at ready =
     ⊎_elim
     (λ (asked : (f.cpu cpu).asked ≡ true). absurd (both_ways (f.cpu cpu).asked calm.asked asked))
     (λ more. ⊎_elim
@@ -43,17 +43,17 @@ ready-pending image f cpu none calm at ready =
     more)
     ready.what
 
-pub pending-ready : (image : Image) (f : Facts) (cpu : ℕ) → is_on_board image cpu ≡ true → ((o : OpenCall) → f.call ≡ Some o → o.caller ≢ cpu) → (f.cpu cpu).mode ≡ Running → IsCalm (f.cpu cpu) → op_at image f (f.cpu cpu) cpu ≡ Some IrqOp
+pub pending_ready : (image : Image) (f : Facts) (cpu : ℕ) → is_on_board image cpu ≡ true → ((o : OpenCall) → f.call ≡ Some o → o.caller ≢ cpu) → (f.cpu cpu).mode ≡ Running → IsCalm (f.cpu cpu) → op_at image f (f.cpu cpu) cpu ≡ Some IrqOp
     → HasPending f (f.cpu cpu).owner → IsReadyAt image f cpu
-pending-ready image f cpu board none running calm at pending = record {
+pending_ready image f cpu board none running calm at pending = record {
   board = board;
   what = inr (inr (record { none = none; running = running; calm = calm; op = IrqOp; at = at; due = pending }));
 }
 
 -- an interrupt takes the next
-pub interrupt-is : (image : Image) (before rest : List Entry) (entry : Entry) (n v : ℕ) → IsAdmitted image → IsLegal image (before ++ entry ∷ rest) → entry.act ≡ Irq n v → IsNext (facts image before) entry.cell n v
-interrupt-is image before rest entry n v admitted legal is =
+pub interrupt_is : (image : Image) (before rest : List Entry) (entry : Entry) (n v : ℕ) → IsAdmitted image → IsLegal image (before ++ entry ∷ rest) → entry.act ≡ Irq n v → IsNext (facts image before) entry.cell n v
+interrupt_is image before rest entry n v admitted legal is =
     let f : Facts = facts image before in
-    let sound = legal-sound image before admitted (IsLegal-begin image before (entry ∷ rest) legal) in
+    let sound = legal_sound image before admitted (IsLegal_begin image before (entry ∷ rest) legal) in
     let P : Act → Type 0 = IsNextOf entry.cell f.endpoints in
-    next-is image f entry.cell n v sound (subst P is (interrupt-next image f entry sound (due-split image before rest entry legal)))
+    next_is image f entry.cell n v sound (subst P is (interrupt_next image f entry sound (due_split image before rest entry legal)))

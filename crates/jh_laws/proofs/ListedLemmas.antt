@@ -12,11 +12,11 @@ use Rattle.jh_history.specs.Places.{is_same, over}
 use Rattle.jh_history.specs.Access.{places_from}
 
 -- where each address has its place, these are the places
-pub places_from-listed : (f : ℕ → Option Place) (place : ℕ → Place) (at count : ℕ) → ((k : ℕ) → k < count → f (at + k) ≡ Some (place k)) → places_from f at count ≡ Some (listed place count)
-places_from-listed f place at zero each = refl
-places_from-listed f place at (suc count) each =
+pub places_from_listed : (f : ℕ → Option Place) (place : ℕ → Place) (at count : ℕ) → ((k : ℕ) → k < count → f (at + k) ≡ Some (place k)) → places_from f at count ≡ Some (listed place count)
+places_from_listed f place at zero each = refl
+places_from_listed f place at (suc count) each =
     let here : f at ≡ Some (place 0) = (let e : at ≡ at + 0 = omega arith in ap f e) ∙ each 0 (omega arith) in
-    let rest : places_from f (at + 1) count ≡ Some (listed (λ k. place (k + 1)) count) = places_from-listed f (λ k. place (k + 1)) (at + 1) count
+    let rest : places_from f (at + 1) count ≡ Some (listed (λ k. place (k + 1)) count) = places_from_listed f (λ k. place (k + 1)) (at + 1) count
     (λ k lt. (let e : (at + 1) + k ≡ at + (k + 1) = omega arith in ap f e) ∙ each (k + 1) (omega arith)) in
     rw (here, rest) refl
 
@@ -31,26 +31,26 @@ one_of f at count ps (Some p) (Some qs) is_o is_os rest e (suc k) lt =
     let found = rest qs is_os k (omega arith) in
     (found.0, (let same : at + suc k ≡ (at + 1) + k = omega arith in ap f same) ∙ found.1)
 
-pub places_from-each : (f : ℕ → Option Place) (at count : ℕ) (ps : List Place) → places_from f at count ≡ Some ps → (k : ℕ) → k < count → (p : Place) × (f (at + k) ≡ Some p)
-places_from-each f at zero ps e k lt = absurd (omega arith)
-places_from-each f at (suc count) ps e k lt = one_of f at count ps (f at) (places_from f (at + 1) count) refl refl (λ qs h i below. places_from-each f (at + 1) count qs h i below) e k lt
+pub places_from_each : (f : ℕ → Option Place) (at count : ℕ) (ps : List Place) → places_from f at count ≡ Some ps → (k : ℕ) → k < count → (p : Place) × (f (at + k) ≡ Some p)
+places_from_each f at zero ps e k lt = absurd (omega arith)
+places_from_each f at (suc count) ps e k lt = one_of f at count ps (f at) (places_from f (at + 1) count) refl refl (λ qs h i below. places_from_each f (at + 1) count qs h i below) e k lt
 
 -- where each address has a place, there are places
-pub places_from-some : (f : ℕ → Option Place) (at count : ℕ) → ((k : ℕ) → k < count → (p : Place) × (f (at + k) ≡ Some p)) → (ps : List Place) × (places_from f at count ≡ Some ps)
-places_from-some f at zero each = ([], refl)
-places_from-some f at (suc count) each =
+pub places_from_some : (f : ℕ → Option Place) (at count : ℕ) → ((k : ℕ) → k < count → (p : Place) × (f (at + k) ≡ Some p)) → (ps : List Place) × (places_from f at count ≡ Some ps)
+places_from_some f at zero each = ([], refl)
+places_from_some f at (suc count) each =
     let first = each 0 (omega arith) in
     let here : f at ≡ Some first.0 = (let e : at ≡ at + 0 = omega arith in ap f e) ∙ first.1 in
-    let rest = places_from-some f (at + 1) count (λ k lt. ((each (k + 1) (omega arith)).0, (let e : (at + 1) + k ≡ at + (k + 1) = omega arith in ap f e) ∙ (each (k + 1) (omega arith)).1)) in
+    let rest = places_from_some f (at + 1) count (λ k lt. ((each (k + 1) (omega arith)).0, (let e : (at + 1) + k ≡ at + (k + 1) = omega arith in ap f e) ∙ (each (k + 1) (omega arith)).1)) in
     let others : places_from f (at + 1) count ≡ Some rest.0 = rest.1 in
     (first.0 ∷ rest.0, rw (here, others) refl)
 
 -- a test for one place
-pub same-place : (p q : Place) → is_same p q ≡ true → p ≡ q
-same-place (Physical p) (Physical q) h = ap Physical (eqb-true p q h)
-same-place (Physical p) (Page cell offset) h = absurd (false≢true h)
-same-place (Page cell offset) (Physical q) h = absurd (false≢true h)
-same-place (Page cell offset) (Page other at) h =
+pub same_place : (p q : Place) → is_same p q ≡ true → p ≡ q
+same_place (Physical p) (Physical q) h = ap Physical (eqb-true p q h)
+same_place (Physical p) (Page cell offset) h = absurd (false≢true h)
+same_place (Page cell offset) (Physical q) h = absurd (false≢true h)
+same_place (Page cell offset) (Page other at) h =
     let parts = and_parts (eqb cell other) (eqb offset at) h in
     ap (λ (c : ℕ). Page c offset) (eqb-true cell other parts.0) ∙ ap (Page other) (eqb-true offset at parts.1)
 
@@ -58,12 +58,12 @@ is_same_self : (p : Place) → is_same p p ≡ true
 is_same_self (Physical p) = same_number p
 is_same_self (Page cell offset) = and_from (eqb cell cell) (eqb offset offset) (same_number cell) (same_number offset)
 
-is_same-eq : (p q : Place) → p ≡ q → is_same p q ≡ true
-is_same-eq p q e = ap (is_same p) (sym e) ∙ is_same_self p
+is_same_eq : (p q : Place) → p ≡ q → is_same p q ≡ true
+is_same_eq p q e = ap (is_same p) (sym e) ∙ is_same_self p
 
-is_same-ne : (p q : Place) → p ≢ q → is_same p q ≡ false
-is_same-ne p q ne = elim (cases_Bool (is_same p q)) [
-  | inl alike ↦ absurd (ne (same-place p q alike))
+is_same_ne : (p q : Place) → p ≢ q → is_same p q ≡ false
+is_same_ne p q ne = elim (cases_Bool (is_same p q)) [
+  | inl alike ↦ absurd (ne (same_place p q alike))
   | inr unlike ↦ unlike
 ]
 
@@ -73,24 +73,24 @@ one_over : (place : ℕ → Place) (count value : ℕ) (q : Place) (b : ℕ) (t 
 one_over place count value q b t e = ap (λ (t' : Bool). over (listed (λ k. place (k + 1)) count) (value / 256) q (cond t' (value % 256) b)) e
 
 -- a place that isn't one of those written keeps its byte
-pub over-other : (place : ℕ → Place) (count value : ℕ) (q : Place) (b : ℕ) → ((k : ℕ) → k < count → q ≢ place k) → over (listed place count) value q b ≡ b
-over-other place zero value q b other = refl
-over-other place (suc count) value q b other =
-    one_over place count value q b false (is_same-ne q (place 0) (other 0 (omega arith)))
-    ∙ over-other (λ k. place (k + 1)) count (value / 256) q b (λ k lt. other (k + 1) (omega arith))
+pub over_other : (place : ℕ → Place) (count value : ℕ) (q : Place) (b : ℕ) → ((k : ℕ) → k < count → q ≢ place k) → over (listed place count) value q b ≡ b
+over_other place zero value q b other = refl
+over_other place (suc count) value q b other =
+    one_over place count value q b false (is_same_ne q (place 0) (other 0 (omega arith)))
+    ∙ over_other (λ k. place (k + 1)) count (value / 256) q b (λ k lt. other (k + 1) (omega arith))
 
 -- the place of index k gets byte k of the value
-pub over-at : (place : ℕ → Place) (count value : ℕ) (q : Place) (b k : ℕ) → k < count → q ≡ place k → ((j : ℕ) → j < count → q ≡ place j → j ≡ k) → over (listed place count) value q b ≡ value / 256 ^ k % 256
-over-at place zero value q b k lt same only = absurd (omega arith)
-over-at place (suc count) value q b zero lt same only =
+pub over_at : (place : ℕ → Place) (count value : ℕ) (q : Place) (b k : ℕ) → k < count → q ≡ place k → ((j : ℕ) → j < count → q ≡ place j → j ≡ k) → over (listed place count) value q b ≡ value / 256 ^ k % 256
+over_at place zero value q b k lt same only = absurd (omega arith)
+over_at place (suc count) value q b zero lt same only =
     let whole : value / 256 ^ zero ≡ value = div-one value in
-    one_over place count value q b true (is_same-eq q (place 0) same)
-    ∙ over-other (λ k. place (k + 1)) count (value / 256) q (value % 256) (λ k lt' h. let e : k + 1 ≡ zero = only (k + 1) (omega arith) h in absurd (omega arith))
+    one_over place count value q b true (is_same_eq q (place 0) same)
+    ∙ over_other (λ k. place (k + 1)) count (value / 256) q (value % 256) (λ k lt' h. let e : k + 1 ≡ zero = only (k + 1) (omega arith) h in absurd (omega arith))
     ∙ ap (λ (n : ℕ). n % 256) (sym whole)
-over-at place (suc count) value q b (suc k) lt same only =
-    let ne : is_same q (place 0) ≡ false = is_same-ne q (place 0) (λ h. let e : 0 ≡ suc k = only 0 (omega arith) h in absurd (omega arith)) in
+over_at place (suc count) value q b (suc k) lt same only =
+    let ne : is_same q (place 0) ≡ false = is_same_ne q (place 0) (λ h. let e : 0 ≡ suc k = only 0 (omega arith) h in absurd (omega arith)) in
     let part : value / 256 / 256 ^ k ≡ value / 256 ^ suc k = div-div-eq-div-mul value 256 (256 ^ k) ∙ ap (λ (n : ℕ). value / n) (sym (pow-succ' 256 k)) in
     let next : q ≡ place (k + 1) = same ∙ ap place (sym (add-one k)) in
-    let rest : over (listed (λ k. place (k + 1)) count) (value / 256) q b ≡ value / 256 / 256 ^ k % 256 = over-at (λ k. place (k + 1)) count (value / 256) q b k (omega arith) next
+    let rest : over (listed (λ k. place (k + 1)) count) (value / 256) q b ≡ value / 256 / 256 ^ k % 256 = over_at (λ k. place (k + 1)) count (value / 256) q b k (omega arith) next
     (λ j below h. let e : j + 1 ≡ suc k = only (j + 1) (omega arith) h in omega arith) in
     one_over place count value q b false ne ∙ rest ∙ ap (λ (n : ℕ). n % 256) part

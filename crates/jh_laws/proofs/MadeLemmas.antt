@@ -22,7 +22,7 @@ use Rattle.jh_ivshmem.specs.Specs.{is_device}
 use Rattle.jh_script.specs.declared.image.Image.{Image}
 use Rattle.jh_script.specs.declared.op.Op.{Op}
 use Rattle.jh_script.specs.declared.op.Op.TheVariants.{Read as ReadOp, Write as WriteOp, Fetch as FetchOp, Await as AwaitOp, Irq as IrqOp, Hvc as HvcOp}
-use Rattle.jh_script.specs.Operations.{IsPlain, is_width}
+use Rattle.jh_script.specs.Operations.{IsWellFormed, is_width}
 use Rattle.jh_history.specs.declared.access.Access.TheVariants.{Read as ToRead, Write as ToWrite, Fetch as ToFetch}
 use Rattle.jh_history.specs.declared.entry.Entry.{Entry}
 use Rattle.jh_history.specs.declared.entry.Act.{Act}
@@ -42,18 +42,18 @@ use Rattle.jh_history.specs.Alone.{IsAlone, IsByRoot, is_phase}
 use Rattle.jh_history.specs.History.{start, after, facts}
 use Rattle.jh_history.specs.Due.{due_at, act_of, await_of, irq_of, got_by, entry_by, IsLegal, IsLegalFrom}
 use Rattle.jh_history.specs.Admitted.{IsAdmitted, IsNoCall, HasNoCall}
-use Rattle.jh_history.proofs.DueLemmas.{due_at-absent, due_at-present}
-use Rattle.jh_history.proofs.FactsLemmas.{cpu-after}
-use Rattle.jh_history.proofs.AloneLemmas.{acted-own, alone-start, alone-after}
-use Rattle.jh_history.proofs.LegalLemmas.{due-split, IsLegal-begin}
+use Rattle.jh_history.proofs.DueLemmas.{due_at_absent, due_at_present}
+use Rattle.jh_history.proofs.FactsLemmas.{cpu_after_holds}
+use Rattle.jh_history.proofs.AloneLemmas.{acted_own, alone_start, alone_after}
+use Rattle.jh_history.proofs.LegalLemmas.{due_split, IsLegal_begin}
 use Rattle.std.specs.List.{AllByRecursion}
 use Rattle.std.proofs.lemmas.List.Elements.{recursion_from_All}
-use Rattle.jh_history.proofs.AdmittedLemmas.{program_of-all}
+use Rattle.jh_history.proofs.AdmittedLemmas.{program_of_all}
 use Rattle.jh_laws.specs.Journals.{HasNoDevice}
 use Rattle.jh_laws.specs.Moves.{stepped, ended}
 use Rattle.jh_laws.specs.Outcomes.{is_violation}
 use Rattle.jh_laws.specs.Operations.{op_of, program_in}
-use Rattle.jh_laws.proofs.RootLemmas.{program_of-few, op-plain}
+use Rattle.jh_laws.proofs.RootLemmas.{program_of_few, op_plain}
 
 -- the image may be opened, root has no ivshmem device, and no program has a hypercall
 pub record IsSilent (image : Image) : Type 0 where
@@ -67,8 +67,8 @@ no_call_at [] i op all e = absurd (none-some op e)
 no_call_at (first ∷ ops) zero op all e = let P : Op → Type 0 = IsNoCall in subst P (same_Some first op e) all.0
 no_call_at (first ∷ ops) (suc i) op all e = no_call_at ops i op all.1 e
 
-pub op-silent : (image : Image) (name : List ℕ) (cpu i : ℕ) (op : Op) → IsSilent image → slice_get (program_of image name cpu) i ≡ Some op → IsNoCall op
-op-silent image name cpu i op admitted e = no_call_at (program_of image name cpu) i op (recursion_from_All IsNoCall (program_of image name cpu) (program_of-all IsNoCall image name cpu admitted.silent)) e
+pub op_silent : (image : Image) (name : List ℕ) (cpu i : ℕ) (op : Op) → IsSilent image → slice_get (program_of image name cpu) i ≡ Some op → IsNoCall op
+op_silent image name cpu i op admitted e = no_call_at (program_of image name cpu) i op (recursion_from_All IsNoCall (program_of image name cpu) (program_of_all IsNoCall image name cpu admitted.silent)) e
 
 -- the CPU is root's, and is neither asked to stop nor stopped
 pub record IsRoots (image : Image) (state : Cpu) : Type 0 where
@@ -77,16 +77,16 @@ pub record IsRoots (image : Image) (state : Cpu) : Type 0 where
   pub stopped : state.stopped ≡ false
 
 -- the operation that a CPU of root's is at
-pub op_at-root : (image : Image) (f : Facts) (state : Cpu) (cpu : ℕ) → IsRoots image state → op_at image f state cpu ≡ slice_get (program_in image image.system.root cpu) state.position
-op_at-root image f state cpu roots = let e : eqb state.owner image.system.root.id ≡ true = eq-eqb state.owner image.system.root.id roots.owner in rw e refl
+pub op_at_root : (image : Image) (f : Facts) (state : Cpu) (cpu : ℕ) → IsRoots image state → op_at image f state cpu ≡ slice_get (program_in image image.system.root cpu) state.position
+op_at_root image f state cpu roots = let e : eqb state.owner image.system.root.id ≡ true = eq-eqb state.owner image.system.root.id roots.owner in rw e refl
 
 -- what is due to a CPU of the board that is root's
 abbrev act_in : Image → Facts → Cpu → ℕ → Mode → Option Op → Option Entry
 act_in image f state cpu mode op = option_map (entry_by cpu state.owner) (option_and_then (act_of image f state.owner) (cond (is_running mode) op None))
 
-pub due_at-root : (image : Image) (f : Facts) (cpu : ℕ) → f.call ≡ None → is_on_board image cpu ≡ true → IsRoots image (f.cpu cpu)
+pub due_at_root : (image : Image) (f : Facts) (cpu : ℕ) → f.call ≡ None → is_on_board image cpu ≡ true → IsRoots image (f.cpu cpu)
     → due_at image f cpu ≡ option_map (entry_by cpu (f.cpu cpu).owner) (option_and_then (act_of image f (f.cpu cpu).owner) (cond (is_running (f.cpu cpu).mode) (op_at image f (f.cpu cpu) cpu) None))
-due_at-root image f cpu closed e roots = due_at-present image f cpu e ∙ rw (closed, roots.asked, roots.stopped) refl
+due_at_root image f cpu closed e roots = due_at_present image f cpu e ∙ rw (closed, roots.asked, roots.stopped) refl
 
 -- the entry is that of a running CPU of the board: its act is what the operation at its position comes to; no device has an
 -- endpoint
@@ -111,7 +111,7 @@ made_act image f cpu entry op (Some act) bare board roots running at is h =
       cpu_is = refl;
       cell_is = refl;
       op = op;
-      at = sym (op_at-root image f (f.cpu cpu) cpu roots) ∙ at;
+      at = sym (op_at_root image f (f.cpu cpu) cpu roots) ∙ at;
       act = ap (λ (c : ℕ). act_of image f c op) (sym roots.owner) ∙ is;
       bare = bare;
     })
@@ -124,29 +124,29 @@ made_op image f cpu entry Parked o bare board roots is at h = absurd (none-some 
 made_op image f cpu entry Failed o bare board roots is at h = absurd (none-some entry h)
 
 made_board : (image : Image) (f : Facts) (cpu : ℕ) (entry : Entry) (b : Bool) → f.endpoints ≡ [] → f.call ≡ None → is_on_board image cpu ≡ b → IsRoots image (f.cpu cpu) → due_at image f cpu ≡ Some entry → IsMade image f cpu entry
-made_board image f cpu entry true bare closed e roots h = made_op image f cpu entry (f.cpu cpu).mode (op_at image f (f.cpu cpu) cpu) bare e roots refl refl (sym (due_at-root image f cpu closed e roots) ∙ h)
-made_board image f cpu entry false bare closed e roots h = absurd (none-some entry (sym (due_at-absent image f cpu e) ∙ h))
+made_board image f cpu entry true bare closed e roots h = made_op image f cpu entry (f.cpu cpu).mode (op_at image f (f.cpu cpu) cpu) bare e roots refl refl (sym (due_at_root image f cpu closed e roots) ∙ h)
+made_board image f cpu entry false bare closed e roots h = absurd (none-some entry (sym (due_at_absent image f cpu e) ∙ h))
 
 -- what is due to a CPU of root's
-pub due_at-made : (image : Image) (f : Facts) (cpu : ℕ) (entry : Entry) → f.endpoints ≡ [] → f.call ≡ None → IsRoots image (f.cpu cpu) → due_at image f cpu ≡ Some entry → IsMade image f cpu entry
-due_at-made image f cpu entry bare closed roots h = made_board image f cpu entry (is_on_board image cpu) bare closed refl roots h
+pub due_at_made : (image : Image) (f : Facts) (cpu : ℕ) (entry : Entry) → f.endpoints ≡ [] → f.call ≡ None → IsRoots image (f.cpu cpu) → due_at image f cpu ≡ Some entry → IsMade image f cpu entry
+due_at_made image f cpu entry bare closed roots h = made_board image f cpu entry (is_on_board image cpu) bare closed refl roots h
 
 -- and what is, where it runs and is at an operation
-pub due_at-running : (image : Image) (f : Facts) (cpu : ℕ) (op : Op) → f.call ≡ None → is_on_board image cpu ≡ true → IsRoots image (f.cpu cpu) → (f.cpu cpu).mode ≡ Running
+pub due_at_running : (image : Image) (f : Facts) (cpu : ℕ) (op : Op) → f.call ≡ None → is_on_board image cpu ≡ true → IsRoots image (f.cpu cpu) → (f.cpu cpu).mode ≡ Running
     → slice_get (program_in image image.system.root cpu) (f.cpu cpu).position ≡ Some op → due_at image f cpu ≡ option_map (entry_by cpu (f.cpu cpu).owner) (act_of image f image.system.root.id op)
-due_at-running image f cpu op closed board roots running at =
-    due_at-root image f cpu closed board roots
+due_at_running image f cpu op closed board roots running at =
+    due_at_root image f cpu closed board roots
     ∙ ap (λ (m : Mode). act_in image f (f.cpu cpu) cpu m (op_at image f (f.cpu cpu) cpu)) running
-    ∙ ap (λ (o : Option Op). act_in image f (f.cpu cpu) cpu Running o) (op_at-root image f (f.cpu cpu) cpu roots ∙ at)
+    ∙ ap (λ (o : Option Op). act_in image f (f.cpu cpu) cpu Running o) (op_at_root image f (f.cpu cpu) cpu roots ∙ at)
     ∙ ap (λ (c : ℕ). option_map (entry_by cpu (f.cpu cpu).owner) (act_of image f c op)) roots.owner
 
 -- nothing is due to a failed CPU of root's
 failed_on : (image : Image) (f : Facts) (cpu : ℕ) (b : Bool) → f.call ≡ None → is_on_board image cpu ≡ b → IsRoots image (f.cpu cpu) → (f.cpu cpu).mode ≡ Failed → due_at image f cpu ≡ None
-failed_on image f cpu false closed e roots failed = due_at-absent image f cpu e
-failed_on image f cpu true closed e roots failed = due_at-root image f cpu closed e roots ∙ ap (λ (m : Mode). act_in image f (f.cpu cpu) cpu m (op_at image f (f.cpu cpu) cpu)) failed
+failed_on image f cpu false closed e roots failed = due_at_absent image f cpu e
+failed_on image f cpu true closed e roots failed = due_at_root image f cpu closed e roots ∙ ap (λ (m : Mode). act_in image f (f.cpu cpu) cpu m (op_at image f (f.cpu cpu) cpu)) failed
 
-pub due_at-failed : (image : Image) (f : Facts) (cpu : ℕ) → f.call ≡ None → IsRoots image (f.cpu cpu) → (f.cpu cpu).mode ≡ Failed → due_at image f cpu ≡ None
-due_at-failed image f cpu closed roots failed = failed_on image f cpu (is_on_board image cpu) closed refl roots failed
+pub due_at_failed : (image : Image) (f : Facts) (cpu : ℕ) → f.call ≡ None → IsRoots image (f.cpu cpu) → (f.cpu cpu).mode ≡ Failed → due_at image f cpu ≡ None
+due_at_failed image f cpu closed roots failed = failed_on image f cpu (is_on_board image cpu) closed refl roots failed
 
 -- how an await that read this ends
 abbrev pub AwaitOf : Option ℕ → ℕ → Bool → Type 0
@@ -185,7 +185,7 @@ await_access image f cell width at value act (Some got) plain e h = await_equal 
 no_irq : (image : Image) (f : Facts) (cell : ℕ) → f.endpoints ≡ [] → act_of image f cell IrqOp ≡ None
 no_irq image f cell bare = ap (irq_of cell) bare
 
-pub act_access : (image : Image) (f : Facts) (cell : ℕ) (op : Op) (act : Act) → f.endpoints ≡ [] → IsPlain op → IsNoCall op → act_of image f cell op ≡ Some act → IsAccessOf image f cell op act
+pub act_access : (image : Image) (f : Facts) (cell : ℕ) (op : Op) (act : Act) → f.endpoints ≡ [] → IsWellFormed op → IsNoCall op → act_of image f cell op ≡ Some act → IsAccessOf image f cell op act
 act_access image f cell (ReadOp width at) act bare plain silent h =
     let P : Act → Type 0 = IsAccessOf image f cell (ReadOp width at) in
     subst P (same_Some (Read width at (got_by image f cell ToRead at width)) act h) (record { access = (plain, refl); operation = refl })
@@ -200,52 +200,52 @@ act_access image f cell IrqOp act bare plain silent h = absurd (none-some act (s
 act_access image f cell (HvcOp code a b) act bare plain silent h = absurd silent
 
 -- the act of an entry is such an access
-pub made-access : (image : Image) (f : Facts) (cpu : ℕ) (entry : Entry) (made : IsMade image f cpu entry) → IsSilent image → IsAccessOf image f image.system.root.id made.op entry.act
-made-access image f cpu entry made admitted =
-    act_access image f image.system.root.id made.op entry.act made.bare (op-plain image (name_of image.system.root) cpu (f.cpu cpu).position made.op admitted.admitted made.at)
-    (op-silent image (name_of image.system.root) cpu (f.cpu cpu).position made.op admitted made.at) made.act
+pub made_access : (image : Image) (f : Facts) (cpu : ℕ) (entry : Entry) (made : IsMade image f cpu entry) → IsSilent image → IsAccessOf image f image.system.root.id made.op entry.act
+made_access image f cpu entry made admitted =
+    act_access image f image.system.root.id made.op entry.act made.bare (op_plain image (name_of image.system.root) cpu (f.cpu cpu).position made.op admitted.admitted made.at)
+    (op_silent image (name_of image.system.root) cpu (f.cpu cpu).position made.op admitted made.at) made.act
 
 -- an access moves its CPU on, and fails it where it is a violation
 abbrev pub done_by : Bool → Cpu → Cpu
 done_by true state = failed (moved state)
 done_by false state = moved state
 
-pub changed-access : (image : Image) (f : Facts) (cell : ℕ) (act : Act) (state : Cpu) → IsAccess image f cell act → changed (change_of act) state ≡ done_by (is_violation act) state
-changed-access image f cell (Read width at None) state access = refl
-changed-access image f cell (Read width at (Some got)) state access = refl
-changed-access image f cell (Write width at value true) state access = refl
-changed-access image f cell (Write width at value false) state access = refl
-changed-access image f cell (Fetch at None) state access = refl
-changed-access image f cell (Fetch at (Some got)) state access = refl
-changed-access image f cell (Await width at value true) state access = refl
-changed-access image f cell (Await width at value false) state access = refl
-changed-access image f cell (Irq device vector) state access = absurd access
-changed-access image f cell (Hvc code a b answer) state access = absurd access
-changed-access image f cell (Begin code a b) state access = absurd access
-changed-access image f cell Stop state access = absurd access
-changed-access image f cell (Decide refused) state access = absurd access
-changed-access image f cell (Settle how) state access = absurd access
-changed-access image f cell Commit state access = absurd access
-changed-access image f cell (Note id) state access = absurd access
-changed-access image f cell (Noted id how) state access = absurd access
-changed-access image f cell (Finish answer) state access = absurd access
+pub changed_access : (image : Image) (f : Facts) (cell : ℕ) (act : Act) (state : Cpu) → IsAccess image f cell act → changed (change_of act) state ≡ done_by (is_violation act) state
+changed_access image f cell (Read width at None) state access = refl
+changed_access image f cell (Read width at (Some got)) state access = refl
+changed_access image f cell (Write width at value true) state access = refl
+changed_access image f cell (Write width at value false) state access = refl
+changed_access image f cell (Fetch at None) state access = refl
+changed_access image f cell (Fetch at (Some got)) state access = refl
+changed_access image f cell (Await width at value true) state access = refl
+changed_access image f cell (Await width at value false) state access = refl
+changed_access image f cell (Irq device vector) state access = absurd access
+changed_access image f cell (Hvc code a b answer) state access = absurd access
+changed_access image f cell (Begin code a b) state access = absurd access
+changed_access image f cell Stop state access = absurd access
+changed_access image f cell (Decide refused) state access = absurd access
+changed_access image f cell (Settle how) state access = absurd access
+changed_access image f cell Commit state access = absurd access
+changed_access image f cell (Note id) state access = absurd access
+changed_access image f cell (Noted id how) state access = absurd access
+changed_access image f cell (Finish answer) state access = absurd access
 
 -- so it is no phase of a call
-pub access-own : (image : Image) (f : Facts) (cell : ℕ) (act : Act) → IsAccess image f cell act → is_phase act ≡ false
-access-own image f cell (Read width at got) access = refl
-access-own image f cell (Write width at value ok) access = refl
-access-own image f cell (Fetch at got) access = refl
-access-own image f cell (Await width at value ok) access = refl
-access-own image f cell (Irq device vector) access = absurd access
-access-own image f cell (Hvc code a b answer) access = absurd access
-access-own image f cell (Begin code a b) access = absurd access
-access-own image f cell Stop access = absurd access
-access-own image f cell (Decide refused) access = absurd access
-access-own image f cell (Settle how) access = absurd access
-access-own image f cell Commit access = absurd access
-access-own image f cell (Note id) access = absurd access
-access-own image f cell (Noted id how) access = absurd access
-access-own image f cell (Finish answer) access = absurd access
+pub access_own : (image : Image) (f : Facts) (cell : ℕ) (act : Act) → IsAccess image f cell act → is_phase act ≡ false
+access_own image f cell (Read width at got) access = refl
+access_own image f cell (Write width at value ok) access = refl
+access_own image f cell (Fetch at got) access = refl
+access_own image f cell (Await width at value ok) access = refl
+access_own image f cell (Irq device vector) access = absurd access
+access_own image f cell (Hvc code a b answer) access = absurd access
+access_own image f cell (Begin code a b) access = absurd access
+access_own image f cell Stop access = absurd access
+access_own image f cell (Decide refused) access = absurd access
+access_own image f cell (Settle how) access = absurd access
+access_own image f cell Commit access = absurd access
+access_own image f cell (Note id) access = absurd access
+access_own image f cell (Noted id how) access = absurd access
+access_own image f cell (Finish answer) access = absurd access
 
 roots_done : (image : Image) (b : Bool) (state : Cpu) → IsRoots image state → IsRoots image (done_by b state)
 roots_done image true state roots = record { owner = roots.owner; asked = roots.asked; stopped = roots.stopped }
@@ -265,21 +265,21 @@ IsNext image f entry = IsMade image f entry.cpu entry
 pub by_root : (image : Image) (f : Facts) (entry : Entry) → IsSilent image → AllRoots image f → IsNext image f entry → IsByRoot image entry
 by_root image f entry admitted roots made = record {
   cell = made.cell_is ∙ roots.alone.owners entry.cpu;
-  act = access-own image f image.system.root.id entry.act (made-access image f entry.cpu entry made admitted).access;
+  act = access_own image f image.system.root.id entry.act (made_access image f entry.cpu entry made admitted).access;
 }
 
 -- what it leaves of each CPU
 cpu_is : (image : Image) (f : Facts) (entry : Entry) (cpu : ℕ) → IsSilent image → IsNext image f entry → (after image f entry).cpu cpu ≡ cond (eqb cpu entry.cpu) (changed (change_of entry.act) (f.cpu cpu)) (f.cpu cpu)
 cpu_is image f entry cpu admitted made =
-    ap (λ (g : ℕ → Cpu). g cpu) (cpu-after image f entry)
-    ∙ acted-own image f.call entry.act entry.cpu cpu (f.cpu cpu) (access-own image f image.system.root.id entry.act (made-access image f entry.cpu entry made admitted).access)
+    ap (λ (g : ℕ → Cpu). g cpu) (cpu_after_holds image f entry)
+    ∙ acted_own image f.call entry.act entry.cpu cpu (f.cpu cpu) (access_own image f image.system.root.id entry.act (made_access image f entry.cpu entry made admitted).access)
 
 -- its CPU after it, and the others
 pub own_after : (image : Image) (f : Facts) (entry : Entry) → IsSilent image → IsNext image f entry → (after image f entry).cpu entry.cpu ≡ done_by (is_violation entry.act) (f.cpu entry.cpu)
 own_after image f entry admitted made =
     cpu_is image f entry entry.cpu admitted made
     ∙ ap (λ (b : Bool). cond b (changed (change_of entry.act) (f.cpu entry.cpu)) (f.cpu entry.cpu)) (same_number entry.cpu)
-    ∙ changed-access image f image.system.root.id entry.act (f.cpu entry.cpu) (made-access image f entry.cpu entry made admitted).access
+    ∙ changed_access image f image.system.root.id entry.act (f.cpu entry.cpu) (made_access image f entry.cpu entry made admitted).access
 
 pub other_after : (image : Image) (f : Facts) (entry : Entry) (cpu : ℕ) → IsSilent image → IsNext image f entry → cpu ≢ entry.cpu → (after image f entry).cpu cpu ≡ f.cpu cpu
 other_after image f entry cpu admitted made ne =
@@ -289,7 +289,7 @@ other_after image f entry cpu admitted made ne =
 cpus_after : (image : Image) (f : Facts) (entry : Entry) → IsSilent image → IsNext image f entry → AllRoots image f → (cpu : ℕ) → IsRoots image ((after image f entry).cpu cpu)
 cpus_after image f entry admitted made roots cpu =
     let own : changed (change_of entry.act) (f.cpu cpu) ≡ done_by (is_violation entry.act) (f.cpu cpu)
-    = changed-access image f image.system.root.id entry.act (f.cpu cpu) (made-access image f entry.cpu entry made admitted).access in
+    = changed_access image f image.system.root.id entry.act (f.cpu cpu) (made_access image f entry.cpu entry made admitted).access in
     let P : Cpu → Type 0 = IsRoots image in
     subst P (sym (cpu_is image f entry cpu admitted made))
     (cond_both (eqb cpu entry.cpu) (changed (change_of entry.act) (f.cpu cpu)) (f.cpu cpu) P
@@ -336,18 +336,18 @@ none_after image f entry closed bare =
 pub roots_after : (image : Image) (f : Facts) (entry : Entry) → IsSilent image → IsNext image f entry → AllRoots image f → AllRoots image (after image f entry)
 roots_after image f entry admitted made roots = record {
   cpus = cpus_after image f entry admitted made roots;
-  alone = alone-after image f entry roots.alone (by_root image f entry admitted roots made);
+  alone = alone_after image f entry roots.alone (by_root image f entry admitted roots made);
   endpoints = none_after image f entry roots.alone.call roots.endpoints;
 }
 
 -- the first of legal entries is made, where each CPU is root's
-pub next-made : (image : Image) (f : Facts) (entry : Entry) (entries : List Entry) → AllRoots image f → IsLegalFrom image f (entry ∷ entries) → IsNext image f entry
-next-made image f entry entries roots legal = due_at-made image f entry.cpu entry roots.endpoints roots.alone.call (roots.cpus entry.cpu) legal.0
+pub next_made : (image : Image) (f : Facts) (entry : Entry) (entries : List Entry) → AllRoots image f → IsLegalFrom image f (entry ∷ entries) → IsNext image f entry
+next_made image f entry entries roots legal = due_at_made image f entry.cpu entry roots.endpoints roots.alone.call (roots.cpus entry.cpu) legal.0
 
 roots_from : (image : Image) (f : Facts) (entries : List Entry) → IsSilent image → AllRoots image f → IsLegalFrom image f entries → AllRoots image (fold (after image) f entries)
 roots_from image f [] admitted roots legal = roots
 roots_from image f (entry ∷ entries) admitted roots legal =
-    roots_from image (after image f entry) entries admitted (roots_after image f entry admitted (next-made image f entry entries roots legal) roots) legal.1
+    roots_from image (after image f entry) entries admitted (roots_after image f entry admitted (next_made image f entry entries roots legal) roots) legal.1
 
 -- root without devices has none at opening
 no_specs : (config : CellConfig) (n : ℕ) (devices : List PciDevice) → AllByRecursion (λ (d : PciDevice). d.kind ≢ 3) devices → specs_from config n devices ≡ []
@@ -356,27 +356,27 @@ no_specs config n (device ∷ devices) none =
     let other : is_endpoint n device ≡ false = and_right (nat_lt n (2 ^ 32)) (eqb device.kind 3) (ne_eqb device.kind 3 none.0) in
     ap (λ (b : Bool). cond b (spec_of config n device ∷ specs_from config (n + 1) devices) (specs_from config (n + 1) devices)) other ∙ no_specs config (n + 1) devices none.1
 
-pub no-specs_of_root : (image : Image) → HasNoDevice image → specs_of image.system.root ≡ []
+pub no_specs_of_root : (image : Image) → HasNoDevice image → specs_of image.system.root ≡ []
 unfolding specs_of
-no-specs_of_root image bare = no_specs image.system.root 0 image.system.root.pci_devices (recursion_from_All (λ (d : PciDevice). d.kind ≢ 3) image.system.root.pci_devices bare.devices)
+no_specs_of_root image bare = no_specs image.system.root 0 image.system.root.pci_devices (recursion_from_All (λ (d : PciDevice). d.kind ≢ 3) image.system.root.pci_devices bare.devices)
 
-pub roots-start : (image : Image) → HasNoDevice image → AllRoots image (start image)
-roots-start image bare = record {
+pub roots_start : (image : Image) → HasNoDevice image → AllRoots image (start image)
+roots_start image bare = record {
   cpus = λ cpu. record { owner = refl; asked = refl; stopped = refl };
-  alone = alone-start image;
-  endpoints = ap (λ (specs : List EndpointSpec). endpoints_changed Join specs []) (no-specs_of_root image bare);
+  alone = alone_start image;
+  endpoints = ap (λ (specs : List EndpointSpec). endpoints_changed Join specs []) (no_specs_of_root image bare);
 }
 
 -- after a legal journal each CPU is root's
-pub roots-at : (image : Image) (entries : List Entry) → IsSilent image → IsLegal image entries → AllRoots image (facts image entries)
+pub roots_at : (image : Image) (entries : List Entry) → IsSilent image → IsLegal image entries → AllRoots image (facts image entries)
 unfolding facts IsLegal
-roots-at image entries admitted legal = roots_from image (start image) entries admitted (roots-start image admitted.bare) legal
+roots_at image entries admitted legal = roots_from image (start image) entries admitted (roots_start image admitted.bare) legal
 
 -- each entry of a legal journal is made by its CPU
-pub made-at : (image : Image) (before rest : List Entry) (entry : Entry) → IsSilent image → IsLegal image (before ++ entry ∷ rest) → IsNext image (facts image before) entry
-made-at image before rest entry admitted legal =
-    let roots = roots-at image before admitted (IsLegal-begin image before (entry ∷ rest) legal) in
-    due_at-made image (facts image before) entry.cpu entry roots.endpoints roots.alone.call (roots.cpus entry.cpu) (due-split image before rest entry legal)
+pub made_at : (image : Image) (before rest : List Entry) (entry : Entry) → IsSilent image → IsLegal image (before ++ entry ∷ rest) → IsNext image (facts image before) entry
+made_at image before rest entry admitted legal =
+    let roots = roots_at image before admitted (IsLegal_begin image before (entry ∷ rest) legal) in
+    due_at_made image (facts image before) entry.cpu entry roots.endpoints roots.alone.call (roots.cpus entry.cpu) (due_split image before rest entry legal)
 
 -- what an access does to its CPU, where the position isn't at the end of its numbers
 abbrev pub moved_by : Bool → Cpu → Cpu
@@ -388,9 +388,9 @@ by_violation true state e = ap (λ (n : ℕ). record state { position = n; mode 
 by_violation false state e = ap (λ (n : ℕ). record state { position = n }) e
 
 -- as it isn't in a program
-pub done_by-moved : (image : Image) (b : Bool) (state : Cpu) (cpu : ℕ) (op : Op) → IsSilent image → slice_get (program_in image image.system.root cpu) state.position ≡ Some op → done_by b state ≡ moved_by b state
-done_by-moved image b state cpu op admitted at =
+pub done_by_moved : (image : Image) (b : Bool) (state : Cpu) (cpu : ℕ) (op : Op) → IsSilent image → slice_get (program_in image image.system.root cpu) state.position ≡ Some op → done_by b state ≡ moved_by b state
+done_by_moved image b state cpu op admitted at =
     let within : state.position < length (program_in image image.system.root cpu) = slice_get_within (program_in image image.system.root cpu) state.position op at in
-    let few : length (program_in image image.system.root cpu) ≤ 4096 = program_of-few image (name_of image.system.root) cpu admitted.admitted in
+    let few : length (program_in image image.system.root cpu) ≤ 4096 = program_of_few image (name_of image.system.root) cpu admitted.admitted in
     let one : min (state.position + 1) (2 ^ 32 - 1) ≡ state.position + 1 = omega arith in
     by_violation b state one

@@ -8,17 +8,17 @@ use Rattle.std.proofs.lemmas.Option.{none-some, same_Some}
 use Rattle.std.proofs.lemmas.List.{get_or_past}
 use Rattle.std.proofs.lemmas.List.Quantifiers.{position-Some}
 use Rattle.std.proofs.lemmas.List.Sums.{fails_before_first}
-use Rattle.jh_num.proofs.Lists.{Contains-cases, Contains-head, Contains-tail, IsFound-from_find, find-unique}
+use Rattle.jh_num.proofs.Lists.{Contains_cases, Contains_head, Contains_tail, IsFound_from_find, find_unique}
 use Rattle.jh_ivshmem.specs.declared.endpoint.Endpoint.{Endpoint}
 use Rattle.jh_ivshmem.specs.declared.vector.Vector.{Vector}
 use Rattle.jh_ivshmem.specs.Endpoint.{fresh_vector, vector_at, pending_in}
 use Rattle.jh_ivshmem.specs.Links.{endpoint_at, earlier, pending_at, pending_of}
-use Rattle.jh_ivshmem.specs.Specs.{is_device, is_peer, AreApart}
-use Rattle.jh_ivshmem.proofs.NamedLemmas.{named-cell, named-device}
+use Rattle.jh_ivshmem.specs.Specs.{is_device, AreApart}
+use Rattle.jh_ivshmem.proofs.NamedLemmas.{named_cell, named_device}
 use Rattle.jh_ivshmem.proofs.OrderLemmas.{pairs_of}
 use Rattle.jh_history.specs.Facts.{Facts}
 use Rattle.jh_history.specs.Sound.{IsSound}
-use Rattle.jh_history.proofs.LinkLemmas.{one-of_pairs}
+use Rattle.jh_history.proofs.LinkLemmas.{one_of_pairs}
 use Rattle.jh_script.specs.declared.image.Image.{Image}
 use Rattle.jh_laws.specs.Vectors.{IsPendingIn, IsNext}
 
@@ -27,8 +27,8 @@ use Rattle.jh_laws.specs.Vectors.{IsPendingIn, IsNext}
 abbrev ApartAs : Endpoint → Endpoint → Type 0
 ApartAs a b = AreApart a.spec b.spec
 
-pub endpoints-apart : (image : Image) (f : Facts) → IsSound image f → AllPairs ApartAs f.endpoints
-endpoints-apart image f sound = pairs_of (λ (e : Endpoint). e.spec) AreApart f.endpoints sound.endpoints.apart
+pub endpoints_apart : (image : Image) (f : Facts) → IsSound image f → AllPairs ApartAs f.endpoints
+endpoints_apart image f sound = pairs_of (λ (e : Endpoint). e.spec) AreApart f.endpoints sound.endpoints.apart
 
 -- two endpoints of one device of one cell are one
 abbrev IsOneDevice : Endpoint → Endpoint → Type 0
@@ -39,29 +39,17 @@ not_both a b apart same =
     both_ways (is_device a.spec.cell a.spec.device b.spec) apart.devices
     (and_from (eqb b.spec.cell a.spec.cell) (eqb b.spec.device a.spec.device) (eq-eqb b.spec.cell a.spec.cell (sym same.0)) (eq-eqb b.spec.device a.spec.device (sym same.1)))
 
-pub one-endpoint : (image : Image) (f : Facts) (a b : Endpoint) → IsSound image f → Contains f.endpoints a → Contains f.endpoints b → a.spec.cell ≡ b.spec.cell → a.spec.device ≡ b.spec.device → a ≡ b
-one-endpoint image f a b sound in_a in_b cell device = one-of_pairs ApartAs IsOneDevice not_both (λ x y h. (sym h.0, sym h.1)) f.endpoints a b (endpoints-apart image f sound) in_a in_b (cell, device)
-
--- and so are two with one number of one link
-abbrev IsOnePeer : Endpoint → Endpoint → Type 0
-IsOnePeer a b = (a.spec.bdf ≡ b.spec.bdf) × (a.spec.id ≡ b.spec.id)
-
-not_peers : (a b : Endpoint) → ApartAs a b → IsOnePeer a b → ⊥
-not_peers a b apart same =
-    both_ways (is_peer a.spec.bdf a.spec.id b.spec) apart.peers
-    (and_from (eqb b.spec.bdf a.spec.bdf) (eqb b.spec.id a.spec.id) (eq-eqb b.spec.bdf a.spec.bdf (sym same.0)) (eq-eqb b.spec.id a.spec.id (sym same.1)))
-
-pub one-peer : (image : Image) (f : Facts) (a b : Endpoint) → IsSound image f → Contains f.endpoints a → Contains f.endpoints b → a.spec.bdf ≡ b.spec.bdf → a.spec.id ≡ b.spec.id → a ≡ b
-one-peer image f a b sound in_a in_b bdf id = one-of_pairs ApartAs IsOnePeer not_peers (λ x y h. (sym h.0, sym h.1)) f.endpoints a b (endpoints-apart image f sound) in_a in_b (bdf, id)
+pub one_endpoint : (image : Image) (f : Facts) (a b : Endpoint) → IsSound image f → Contains f.endpoints a → Contains f.endpoints b → a.spec.cell ≡ b.spec.cell → a.spec.device ≡ b.spec.device → a ≡ b
+one_endpoint image f a b sound in_a in_b cell device = one_of_pairs ApartAs IsOneDevice not_both (λ x y h. (sym h.0, sym h.1)) f.endpoints a b (endpoints_apart image f sound) in_a in_b (cell, device)
 
 -- an endpoint is the one that is found by its cell and its device
-pub endpoint-found : (image : Image) (f : Facts) (e : Endpoint) → IsSound image f → Contains f.endpoints e → endpoint_at e.spec.cell e.spec.device f.endpoints ≡ Some e
-endpoint-found image f e sound held =
-    find-unique (λ (o : Endpoint). is_device e.spec.cell e.spec.device o.spec) f.endpoints e held
+pub endpoint_found : (image : Image) (f : Facts) (e : Endpoint) → IsSound image f → Contains f.endpoints e → endpoint_at e.spec.cell e.spec.device f.endpoints ≡ Some e
+endpoint_found image f e sound held =
+    find_unique (λ (o : Endpoint). is_device e.spec.cell e.spec.device o.spec) f.endpoints e held
     (and_from (eqb e.spec.cell e.spec.cell) (eqb e.spec.device e.spec.device) (eq-eqb e.spec.cell e.spec.cell refl) (eq-eqb e.spec.device e.spec.device refl))
     (λ o there passes.
     let parts = and_parts (eqb o.spec.cell e.spec.cell) (eqb o.spec.device e.spec.device) passes in
-    one-endpoint image f o e sound there held (eqb-true o.spec.cell e.spec.cell parts.0) (eqb-true o.spec.device e.spec.device parts.1))
+    one_endpoint image f o e sound there held (eqb-true o.spec.cell e.spec.cell parts.0) (eqb-true o.spec.device e.spec.device parts.1))
 
 -- ---- the lowest pending vector of an endpoint
 
@@ -70,8 +58,8 @@ pub record IsLowest (e : Endpoint) (v : ℕ) : Type 0 where
   pub pending : (vector_at e v).pending ≡ true
   pub lowest : (k : ℕ) → (vector_at e k).pending ≡ true → v ≤ k
 
-lowest-of : (e : Endpoint) (v : ℕ) → pending_in e ≡ Some v → IsLowest e v
-lowest-of e v is =
+lowest_of : (e : Endpoint) (v : ℕ) → pending_in e ≡ Some v → IsLowest e v
+lowest_of e v is =
     let h = position-Some (λ (x : Vector). x.pending) e.vectors v fresh_vector is in
     record {
       within = h.0;
@@ -152,15 +140,15 @@ best_of cell (e ∷ list) best =
     record {
       from = λ p is.
           ⊎_elim
-          (λ (was : earlier best own ≡ Some p). ⊎_elim (λ (old : best ≡ Some p). inl old) (λ (new : own ≡ Some p). inr (e, Contains-head e list, new)) (step.from p was))
-          (λ (later : (o : Endpoint) × Contains list o × (pending_at cell o ≡ Some p)). inr (later.0, Contains-tail e list later.0 later.1, later.2))
+          (λ (was : earlier best own ≡ Some p). ⊎_elim (λ (old : best ≡ Some p). inl old) (λ (new : own ≡ Some p). inr (e, Contains_head e list, new)) (step.from p was))
+          (λ (later : (o : Endpoint) × Contains list o × (pending_at cell o ≡ Some p)). inr (later.0, Contains_tail e list later.0 later.1, later.2))
           (rest.from p is);
       low = λ q is. (let first = step.first q is in lower q first.0 first.1 first.2);
       each = λ o q held is.
           ⊎_elim
           (λ (same : e ≡ o). (let second = step.second q (ap (pending_at cell) same ∙ is) in lower q second.0 second.1 second.2))
           (λ (later : Contains list o). rest.each o q later is)
-          (Contains-cases e list o held);
+          (Contains_cases e list o held);
     }
 
 -- the endpoint's device is the cell's, with its lowest vector
@@ -173,42 +161,42 @@ pending_by : (cell : ℕ) (e : Endpoint) (p : ℕ × ℕ) (own : Bool) (o : Opti
 pending_by cell e p true None own is h = absurd (none-some p h)
 pending_by cell e p true (Some v) own is h =
     let P : ℕ × ℕ → Type 0 = IsPendingAt cell e in
-    subst P (same_Some (e.spec.device, v) p h) (record { owner = eqb-true e.spec.cell cell own; device = refl; lowest = lowest-of e v is })
+    subst P (same_Some (e.spec.device, v) p h) (record { owner = eqb-true e.spec.cell cell own; device = refl; lowest = lowest_of e v is })
 pending_by cell e p false o own is h = absurd (none-some p h)
 
 -- ---- what is next
 
-pending-endpoint : (f : Facts) (id n v : ℕ) (o : Option Endpoint) → endpoint_at id n f.endpoints ≡ o → option_map_or (λ (e : Endpoint). (vector_at e v).pending) o false ≡ true → (e : Endpoint) × (endpoint_at id n f.endpoints ≡ Some e) × ((vector_at e v).pending ≡ true)
-pending-endpoint f id n v None is h = absurd (false≢true h)
-pending-endpoint f id n v (Some e) is h = (e, is, h)
+pending_endpoint : (f : Facts) (id n v : ℕ) (o : Option Endpoint) → endpoint_at id n f.endpoints ≡ o → option_map_or (λ (e : Endpoint). (vector_at e v).pending) o false ≡ true → (e : Endpoint) × (endpoint_at id n f.endpoints ≡ Some e) × ((vector_at e v).pending ≡ true)
+pending_endpoint f id n v None is h = absurd (false≢true h)
+pending_endpoint f id n v (Some e) is h = (e, is, h)
 
 -- a pending vector is that of an endpoint
-pub endpoint-of_pending : (f : Facts) (id n v : ℕ) → IsPendingIn f id n v → (e : Endpoint) × (endpoint_at id n f.endpoints ≡ Some e) × ((vector_at e v).pending ≡ true)
-endpoint-of_pending f id n v h = pending-endpoint f id n v (endpoint_at id n f.endpoints) refl h
+pub endpoint_of_pending : (f : Facts) (id n v : ℕ) → IsPendingIn f id n v → (e : Endpoint) × (endpoint_at id n f.endpoints ≡ Some e) × ((vector_at e v).pending ≡ true)
+endpoint_of_pending f id n v h = pending_endpoint f id n v (endpoint_at id n f.endpoints) refl h
 
-pub pending-of_endpoint : (f : Facts) (id n v : ℕ) (e : Endpoint) → endpoint_at id n f.endpoints ≡ Some e → (vector_at e v).pending ≡ true → IsPendingIn f id n v
-pending-of_endpoint f id n v e there h = ap (λ (o : Option Endpoint). option_map_or (λ (p : Endpoint). (vector_at p v).pending) o false) there ∙ h
+pub pending_of_endpoint : (f : Facts) (id n v : ℕ) (e : Endpoint) → endpoint_at id n f.endpoints ≡ Some e → (vector_at e v).pending ≡ true → IsPendingIn f id n v
+pending_of_endpoint f id n v e there h = ap (λ (o : Option Endpoint). option_map_or (λ (p : Endpoint). (vector_at p v).pending) o false) there ∙ h
 
 -- where a vector of the cell is pending, one is next, of no higher device
-pub next-some : (f : Facts) (id n v : ℕ) → IsPendingIn f id n v → (p : ℕ × ℕ) × (pending_of id f.endpoints ≡ Some p) × (p.0 ≤ n)
-next-some f id n v h =
-    let at = endpoint-of_pending f id n v h in
+pub next_some_holds : (f : Facts) (id n v : ℕ) → IsPendingIn f id n v → (p : ℕ × ℕ) × (pending_of id f.endpoints ≡ Some p) × (p.0 ≤ n)
+next_some_holds f id n v h =
+    let at = endpoint_of_pending f id n v h in
     let e : Endpoint = at.0 in
     let there = at.1 in
     let some = some_pending e v at.2 in
-    let own : eqb e.spec.cell id ≡ true = eq-eqb e.spec.cell id (named-cell id n f.endpoints e there) in
+    let own : eqb e.spec.cell id ≡ true = eq-eqb e.spec.cell id (named_cell id n f.endpoints e there) in
     let here : pending_at id e ≡ Some (e.spec.device, some.0) = ap (λ (b : Bool). cond b (option_map (λ u. (e.spec.device, u)) (pending_in e)) None) own ∙ ap (option_map (λ u. (e.spec.device, u))) some.1 in
     let best = (best_of id f.endpoints None).each e (e.spec.device, some.0) (endpoint_held f id n e there) here in
     let le : best.0.0 ≤ e.spec.device = best.2 in
-    let number : e.spec.device ≡ n = named-device id n f.endpoints e there in
+    let number : e.spec.device ≡ n = named_device id n f.endpoints e there in
     (best.0, best.1, omega arith)
   where
     endpoint_held : (g : Facts) (cell m : ℕ) (o : Endpoint) → endpoint_at cell m g.endpoints ≡ Some o → Contains g.endpoints o
-    endpoint_held g cell m o is = (IsFound-from_find (λ (q : Endpoint). is_device cell m q.spec) g.endpoints o is).held
+    endpoint_held g cell m o is = (IsFound_from_find (λ (q : Endpoint). is_device cell m q.spec) g.endpoints o is).held
 
 -- what is next is pending, and lowest
-pub next-is : (image : Image) (f : Facts) (id n v : ℕ) → IsSound image f → pending_of id f.endpoints ≡ Some (n, v) → IsNext f id n v
-next-is image f id n v sound is =
+pub next_is : (image : Image) (f : Facts) (id n v : ℕ) → IsSound image f → pending_of id f.endpoints ≡ Some (n, v) → IsNext f id n v
+next_is image f id n v sound is =
     ⊎_elim
     (λ (none : None ≡ Some (n, v)). absurd (none-some (n, v) none))
     (λ (found : (e : Endpoint) × Contains f.endpoints e × (pending_at id e ≡ Some (n, v))).
@@ -216,12 +204,12 @@ next-is image f id n v sound is =
     let at = pending_by id e (n, v) (eqb e.spec.cell id) (pending_in e) refl refl found.2 in
     let C : ℕ → Type 0 = λ c. endpoint_at c n f.endpoints ≡ Some e in
     let D : ℕ → Type 0 = λ d. endpoint_at e.spec.cell d f.endpoints ≡ Some e in
-    let there : endpoint_at id n f.endpoints ≡ Some e = subst C at.owner (subst D at.device (endpoint-found image f e sound found.1)) in
+    let there : endpoint_at id n f.endpoints ≡ Some e = subst C at.owner (subst D at.device (endpoint_found image f e sound found.1)) in
     record {
-      pending = pending-of_endpoint f id n v e there at.lowest.pending;
-      device = λ m u pending. (let other = next-some f id m u pending in let same : other.0.0 ≡ n = ap (λ (x : ℕ × ℕ). x.0) (same_Some other.0 (n, v) (sym other.1 ∙ is)) in let le : other.0.0 ≤ m = other.2 in omega arith);
+      pending = pending_of_endpoint f id n v e there at.lowest.pending;
+      device = λ m u pending. (let other = next_some_holds f id m u pending in let same : other.0.0 ≡ n = ap (λ (x : ℕ × ℕ). x.0) (same_Some other.0 (n, v) (sym other.1 ∙ is)) in let le : other.0.0 ≤ m = other.2 in omega arith);
       vector = λ u pending.
-          let other = endpoint-of_pending f id n u pending in
+          let other = endpoint_of_pending f id n u pending in
           let P : Endpoint → Type 0 = λ o. (vector_at o u).pending ≡ true in
           at.lowest.lowest u (subst P (same_Some other.0 e (sym other.1 ∙ there)) other.2);
     })

@@ -6,7 +6,7 @@ use Rattle.std.proofs.lemmas.Bool.{both_ways, or_parts, and_parts, and_from, and
 use Rattle.std.proofs.lemmas.Option.{same_Some, slice_get-get_or, get_or_from_slice_get, slice_get_within}
 use Rattle.std.specs.Option.{option_map_or}
 use Rattle.std.proofs.lemmas.List.Elements.{All-contains, Contains-append_left, Contains-push}
-use Rattle.jh_num.proofs.Lists.{IsFound-from_list_any, Contains-cases, Contains-map, Contains-tail}
+use Rattle.jh_num.proofs.Lists.{IsFound_from_list_any, Contains_cases, Contains_map, Contains_tail}
 use Rattle.jh_cellcfg.specs.declared.config.CellConfig.{CellConfig}
 use Rattle.jh_cellcfg.specs.declared.config.PciDevice.{PciDevice}
 use Rattle.jh_cellcfg.specs.declared.live.Live.{Live}
@@ -15,7 +15,7 @@ use Rattle.jh_cellcfg.specs.Lives.{has_id}
 use Rattle.jh_cellcfg.specs.Regions.{has_flags, has_place, phys_end, is_comm, is_unshared}
 use Rattle.jh_check.specs.Regions.{both_shared}
 use Rattle.jh_check.specs.Clean.{IsClean, IsSection, IsGoodDevice, IsSameSection}
-use Rattle.jh_check.proofs.GivenLemmas.{may-join}
+use Rattle.jh_check.proofs.GivenLemmas.{may_join}
 use Rattle.jh_shape.specs.Laws.{IsTaken}
 use Rattle.jh_call.specs.declared.call.Call.{Call}
 use Rattle.jh_call.specs.declared.call.Call.TheVariants.{Create, Start, Loadable, Destroy, Info, State, CpuInfo, Unknown}
@@ -40,42 +40,34 @@ use Rattle.jh_history.specs.Commits.{cells_by}
 use Rattle.jh_history.specs.Devices.{place_of_section, specs_of}
 use Rattle.jh_history.specs.Endpoints.{changing, changing_by, specs_changing, with_words}
 use Rattle.jh_history.specs.Facts.{Facts}
-use Rattle.jh_history.specs.Places.{is_same, with_byte, written}
+use Rattle.jh_history.specs.Places.{is_same, with_byte, written, is_physical, number_of}
 use Rattle.jh_history.specs.Pages.{page_after, with_page_write, page_write_by}
 use Rattle.jh_history.specs.Bytes.{byte_written, byte_after}
 use Rattle.jh_history.specs.History.{cells_after, facts}
 use Rattle.jh_history.specs.Phases.{configs_of}
 use Rattle.jh_history.specs.Due.{IsLegal}
 use Rattle.jh_history.specs.Admitted.{IsAdmitted}
-use Rattle.jh_history.proofs.FactsLemmas.{facts-push, byte-after}
-use Rattle.jh_history.proofs.LegalLemmas.{IsLegal-begin}
+use Rattle.jh_history.proofs.FactsLemmas.{facts_push, byte_after_holds}
+use Rattle.jh_history.proofs.LegalLemmas.{IsLegal_begin}
 use Rattle.jh_history.specs.Sound.{AreSoundCells, IsOfDevice, IsInPhase, IsSoundCall, IsSound}
-use Rattle.jh_history.proofs.SoundCommitLemmas.{configs-joined}
-use Rattle.jh_history.proofs.SoundDecideLemmas.{found-live}
+use Rattle.jh_history.proofs.SoundCommitLemmas.{configs_joined}
+use Rattle.jh_history.proofs.SoundDecideLemmas.{found_live}
 use Rattle.jh_laws.specs.Held.{IsHeld, AreLinkedSections, IsOwnOrLinked}
 use Rattle.jh_laws.specs.Vectors.{PutsRegister}
 use Rattle.jh_laws.specs.Ways.{is_commit}
 use Rattle.jh_laws.specs.Written.{WritesWordThere}
-use Rattle.jh_laws.proofs.ListedLemmas.{same-place}
+use Rattle.jh_laws.proofs.ListedLemmas.{same_place}
 use Rattle.jh_num.proofs.MemoryLemmas.{listed}
 use Rattle.jh_laws.specs.Ends.{AreItsPlaces, IsAnsweredByRegister}
-use Rattle.jh_laws.proofs.WindowLemmas.{spec-is}
-use Rattle.jh_laws.proofs.DevicesLemmas.{endpoint-held}
-use Rattle.jh_laws.proofs.EndsLemmas.{IsSmallAct, small-at}
-use Rattle.jh_laws.proofs.WordLemmas.{IsByteAt, IsApart, slot-cases, slot-other, value-fits, state-put, IsInWords, AreApart, words-kept, words-or, words-page, specs-none}
-use Rattle.jh_laws.proofs.HeldLemmas.{at-same}
-use Rattle.jh_laws.proofs.StoredLemmas.{IsGivenTo, listed-at, byte_put, IsStored, IsWord, placed, places-given}
-use Rattle.jh_history.proofs.SoundLemmas.{legal-sound}
+use Rattle.jh_laws.proofs.WindowLemmas.{spec_is}
+use Rattle.jh_laws.proofs.DevicesLemmas.{endpoint_held}
+use Rattle.jh_laws.proofs.EndsLemmas.{IsSmallAct, small_at}
+use Rattle.jh_laws.proofs.WordLemmas.{IsByteAt, IsApart, slot_cases, slot_other, value_fits, state_put, IsInWords, AreApart, words_kept, words_or, words_page, specs_none}
+use Rattle.jh_laws.proofs.HeldLemmas.{at_same}
+use Rattle.jh_laws.proofs.StoredLemmas.{IsGivenTo, listed_at, byte_put, IsStored, IsWord, placed, places_given}
+use Rattle.jh_history.proofs.SoundLemmas.{legal_sound}
 
 -- ---- places
-
-abbrev pub is_memory : Place → Bool
-is_memory (Physical p) = true
-is_memory (Page cell offset) = false
-
-abbrev pub number_in : Place → ℕ
-number_in (Physical p) = p
-number_in (Page cell offset) = offset
 
 abbrev cell_in_place : Place → ℕ
 cell_in_place (Physical p) = p
@@ -84,11 +76,11 @@ cell_in_place (Page cell offset) = cell
 -- ---- what a write changes
 
 -- a place that isn't written keeps its byte
-pub written-other : (byte : Place → ℕ) (places : List Place) (value : ℕ) (q : Place) → list_any (is_same q) places ≡ false → written byte places value q ≡ byte q
-written-other byte [] value q none = refl
-written-other byte (place ∷ places) value q none =
+pub written_other : (byte : Place → ℕ) (places : List Place) (value : ℕ) (q : Place) → list_any (is_same q) places ≡ false → written byte places value q ≡ byte q
+written_other byte [] value q none = refl
+written_other byte (place ∷ places) value q none =
     let parts = or_parts (is_same q place) (list_any (is_same q) places) none in
-    written-other (with_byte byte place (value % 256)) places (value / 256) q parts.1 ∙ ap (λ (b : Bool). cond b (value % 256) (byte q)) parts.0
+    written_other (with_byte byte place (value % 256)) places (value / 256) q parts.1 ∙ ap (λ (b : Bool). cond b (value % 256) (byte q)) parts.0
 
 -- a region of the cell gives it the place
 abbrev MayWrite : Image → Facts → ℕ → Place → Type 0
@@ -98,12 +90,12 @@ changed_at : (image : Image) (f : Facts) (id at width value : ℕ) (q : Place) (
 changed_at image f id at width value q place are changed =
     ⊎_elim
     (λ (some : list_any (is_same q) (listed place width) ≡ true).
-    let found = IsFound-from_list_any (is_same q) (listed place width) some in
+    let found = IsFound_from_list_any (is_same q) (listed place width) some in
     let P : Place → Type 0 = λ p. Contains (listed place width) p in
-    let k = listed-at place width q (subst P (sym (same-place q found.0 found.1.passes)) found.1.held) in
+    let k = listed_at place width q (subst P (sym (same_place q found.0 found.1.passes)) found.1.held) in
     let G : Place → Type 0 = IsGivenTo image f.cells id (at + k.0) in
-    (at + k.0, subst G (sym k.2) (places-given image f.cells id at width place are k.0 k.1)))
-    (λ (none : list_any (is_same q) (listed place width) ≡ false). absurd (changed (written-other f.byte (listed place width) value q none)))
+    (at + k.0, subst G (sym k.2) (places_given image f.cells id at width place are k.0 k.1)))
+    (λ (none : list_any (is_same q) (listed place width) ≡ false). absurd (changed (written_other f.byte (listed place width) value q none)))
     (cases_Bool (list_any (is_same q) (listed place width)))
 
 -- the act puts a word of a state table there, which is that of the register of a device of the cell
@@ -122,7 +114,7 @@ MayWriteBy image f id act q = MayWrite image f id q ⊎ PutsWordAt image f id ac
 word_at : (image : Image) (f : Facts) (id at width value : ℕ) (q : Place) (h : IsWord image f id at width) (o : Option Slot) → slot_written h.endpoint h.bar h.offset value ≡ o → with_slot_if o f.byte q ≢ f.byte q → PutsWordAt image f id (Write width at value true) q
 word_at image f id at width value q h None is changed = absurd (changed refl)
 word_at image f id at width value q h (Some slot) is changed =
-    let put = state-put h.endpoint h.bar h.offset value slot is in
+    let put = state_put h.endpoint h.bar h.offset value slot is in
     let R : ℕ → ℕ → Type 0 = λ b o. IsAnsweredByRegister image f id ToWrite at width h.number b o h.endpoint in
     let B : ℕ → Type 0 = λ b. R b h.offset in
     ⊎_elim
@@ -136,8 +128,8 @@ word_at image f id at width value q h (Some slot) is changed =
       index = there.0;
       there = subst S put.is there.1;
     })
-    (λ (apart : IsApart slot q). absurd (changed (slot-other slot f.byte q apart)))
-    (slot-cases slot q)
+    (λ (apart : IsApart slot q). absurd (changed (slot_other slot f.byte q apart)))
+    (slot_cases slot q)
 
 write_of_reach : (image : Image) (f : Facts) (id at width value : ℕ) (q : Place) → IsSound image f → value < 256 ^ width → byte_put image f id at width value q ≢ f.byte q → MayWriteBy image f id (Write width at value true) q
 write_of_reach image f id at width value q sound small changed =
@@ -145,7 +137,7 @@ write_of_reach image f id at width value q sound small changed =
     (λ (h : IsStored image f id at width). inl (changed_at image f id at width value q h.place h.are (λ same. changed (ap (λ (b : Place → ℕ). b q) (h.stored value) ∙ same))))
     (λ more. ⊎_elim
     (λ (h : IsWord image f id at width).
-    let same : value % 2 ^ 32 ≡ value = value-fits width value h.by.wide small in
+    let same : value % 2 ^ 32 ≡ value = value_fits width value h.by.wide small in
     let stored : byte_put image f id at width value q ≡ with_slot_if (slot_written h.endpoint h.bar h.offset value) f.byte q =
     ap (λ (b : Place → ℕ). b q) (h.stored value) ∙ ap (λ (v : ℕ). with_slot_if (slot_written h.endpoint h.bar h.offset v) f.byte q) same in
     inr (word_at image f id at width value q h (slot_written h.endpoint h.bar h.offset value) refl (λ e. changed (stored ∙ e))))
@@ -171,9 +163,9 @@ written_by image f id (Noted who how) q sound small changed = absurd (changed re
 written_by image f id (Finish answer) q sound small changed = absurd (changed refl)
 
 -- the hypervisor writes into pages alone
-pub physical-kept : (write : Option PageWrite) (byte : Place → ℕ) (p : ℕ) → with_page_write write byte (Physical p) ≡ byte (Physical p)
-physical-kept None byte p = refl
-physical-kept (Some write) byte p = refl
+pub physical_kept : (write : Option PageWrite) (byte : Place → ℕ) (p : ℕ) → with_page_write write byte (Physical p) ≡ byte (Physical p)
+physical_kept None byte p = refl
+physical_kept (Some write) byte p = refl
 
 -- and into that of the cell whose page it is
 page_kept : (write : Option PageWrite) (byte : Place → ℕ) (cell offset : ℕ) → ((w : PageWrite) → write ≡ Some w → w.cell ≢ cell) → with_page_write write byte (Page cell offset) ≡ byte (Page cell offset)
@@ -192,9 +184,9 @@ given_place image cells id at p h =
     given_by (is_comm r) refl h.given
   where
     given_by : (b : Bool) → is_comm h.region ≡ b → Physical p ≡ cond b (Page h.cell.id (at - h.region.virt_start)) (Physical (h.region.phys_start + (at - h.region.virt_start))) → (is_comm h.region ≡ false) × (has_place h.region p ≡ true)
-    given_by true is e = absurd (true≢false (ap is_memory e))
+    given_by true is e = absurd (true≢false (ap is_physical e))
     given_by false is e =
-        let same : p ≡ h.region.phys_start + (at - h.region.virt_start) = ap number_in e in
+        let same : p ≡ h.region.phys_start + (at - h.region.virt_start) = ap number_of e in
         let first : h.region.virt_start ≤ at = h.first in
         let last : at < h.region.virt_start + h.region.size = h.last in
         (is, and_from (nat_le h.region.phys_start p) (nat_lt p (phys_end h.region)) (le-leb h.region.phys_start p (omega arith)) (lt-ltb p (phys_end h.region) (omega arith)))
@@ -251,7 +243,7 @@ two_cells image configs holder other number region place clean own there item al
     (λ (ge : own.0 ≤ there.0).
     let e : there.0 ≡ own.0 = omega arith in
     let P : ℕ → Type 0 = λ k. get_or configs k other ≡ other in
-    let same : other ≡ holder = at-same configs own.0 other holder own.1 (subst P e there.2) own.2 in
+    let same : other ≡ holder = at_same configs own.0 other holder own.1 (subst P e there.2) own.2 in
     inl (ap (λ (c : CellConfig). c.id) same))
     (cases_lt there.0 own.0))
     (cases_lt own.0 there.0)
@@ -260,7 +252,7 @@ two_cells image configs holder other number region place clean own there item al
 live_has : (image : Image) (cells : List Live) (live : Live) (number : ℕ) (region : Region) (place : ℕ) (other : CellConfig) → IsClean image.system (configs_of cells) → IsHeld cells live number region place → Contains (configs_of cells) other → HasPlace other place
     → IsOwnOrLinked cells live.config number other.id
 live_has image cells live number region place other clean held there h =
-    let own : Contains (configs_of cells) live.config = Contains-map (λ (l : Live). l.config) cells live held.lives in
+    let own : Contains (configs_of cells) live.config = Contains_map (λ (l : Live). l.config) cells live held.lives in
     ⊎_elim
     (λ (same : other.id ≡ live.config.id). inl same)
     (λ (linked : AreLinkedSections live.config number other h.number). inr (other, there, refl, h.number, linked))
@@ -288,9 +280,9 @@ own_name image cells id at place h = record {
 }
 
 -- so such a place is written by its cell, or by one with a linked device
-pub held-writes : (image : Image) (f : Facts) (live : Live) (number : ℕ) (region : Region) (place id at : ℕ) → AreSoundCells image.system (configs_of f.cells) → IsHeld f.cells live number region place → IsGivenTo image f.cells id at (Physical place)
+pub held_writes : (image : Image) (f : Facts) (live : Live) (number : ℕ) (region : Region) (place id at : ℕ) → AreSoundCells image.system (configs_of f.cells) → IsHeld f.cells live number region place → IsGivenTo image f.cells id at (Physical place)
     → IsOwnOrLinked f.cells live.config number id
-held-writes image f live number region place id at sound held h =
+held_writes image f live number region place id at sound held h =
     let P : ℕ → Type 0 = IsOwnOrLinked f.cells live.config number in
     ⊎_elim
     (λ (root : h.cell ≡ image.system.root). absurd (h.left (ap (λ (c : CellConfig). c.id) root) (held_taken f.cells live number region place held)))
@@ -303,12 +295,12 @@ held-writes image f live number region place id at sound held h =
 table_has : (image : Image) (configs : List CellConfig) (config : CellConfig) (spec : EndpointSpec) (value k place : ℕ) → IsClean image.system configs → (held : Contains (image.system.root ∷ configs) config) → Contains (specs_of config) spec
     → IsByteAt (slot_of spec value) (Physical place) k → HasPlace config place
 table_has image configs config spec value k place clean held own there =
-    let s = spec-is config spec own in
+    let s = spec_is config spec own in
     let device : PciDevice = s.device in
     let numbered_config = numbered (image.system.root ∷ configs) config held in
     let good : IsGoodDevice config device = clean.devices held.0 config numbered_config spec.device device s.item s.kind in
     let at : ℕ = device.shmem_regions_start + 0 in
-    let join = may-join image.system configs clean held.0 config numbered_config spec.device device s.item s.kind in
+    let join = may_join image.system configs clean held.0 config numbered_config spec.device device s.item s.kind in
     let table : Region = join.table.0 in
     let here : at ≡ device.shmem_regions_start = omega arith in
     let item : slice_get config.memory_regions at ≡ Some table = ap (slice_get config.memory_regions) here ∙ join.table.1 in
@@ -319,7 +311,7 @@ table_has image configs config spec value k place clean held own there =
     let own_id : device.shmem_dev_id < device.shmem_peers = good.own in
     let few : device.shmem_peers ≤ 16 = good.few in
     let below : k < 4 = there.0 in
-    let is : place ≡ spec.table + 4 * spec.id + k = ap number_in there.1 in
+    let is : place ≡ spec.table + 4 * spec.id + k = ap number_of there.1 in
     record {
       number = at;
       region = table;
@@ -339,7 +331,7 @@ nothing_in spec held = let below : held.0 < 0 = held.1 in let no : ⊥ = omega a
 
 live_changing : (image : Image) (f : Facts) (entry : Entry) (spec : EndpointSpec) (id : ℕ) (o : Option Live) → find (has_id id) f.cells ≡ o → Contains (option_map_or specs_of (option_map (λ (l : Live). l.config) o) []) spec → IsChanging image f entry spec
 live_changing image f entry spec id None is held = absurd (nothing_in spec held)
-live_changing image f entry spec id (Some live) is held = record { config = live.config; held = held; lives = inl (found-live f.cells id live is).0 }
+live_changing image f entry spec id (Some live) is held = record { config = live.config; held = held; lives = inl (found_live f.cells id live is).0 }
 
 call_changing : (image : Image) (f : Facts) (entry : Entry) (spec : EndpointSpec) (caller : ℕ) (call : Call) (phase : Phase) → f.call ≡ Some (record { caller = caller; call = call; phase = phase }) → entry.act ≡ Commit
     → IsInPhase image (configs_of f.cells) f.cpu caller call phase → Contains (option_map_or specs_of (changing f.cells call phase) []) spec → IsChanging image f entry spec
@@ -350,7 +342,7 @@ call_changing image f entry spec caller (Create at) (ToCreate config) is commits
     phase.1.clean,
     ap (λ (o : Option OpenCall). configs_of (cells_by o f.cells entry.act)) is
         ∙ ap (λ (act : Act). configs_of (cells_by (Some (record { caller = caller; call = Create at; phase = ToCreate config })) f.cells act)) commits
-        ∙ configs-joined f.cells config,
+        ∙ configs_joined f.cells config,
   );
 }
 call_changing image f entry spec caller (Create at) ToDecide is commits phase held = absurd (nothing_in spec held)
@@ -373,30 +365,30 @@ changing_on image f entry spec None is commits sound held = absurd (nothing_in s
 changing_on image f entry spec (Some o) is commits sound held = call_changing image f entry spec o.caller o.call o.phase is commits sound.phase held
 
 -- an act is a Commit or none
-pub commit-or : (act : Act) → (act ≡ Commit) ⊎ (is_commit act ≡ false)
-commit-or Commit = inl refl
-commit-or (Read width at got) = inr refl
-commit-or (Write width at value ok) = inr refl
-commit-or (Fetch at got) = inr refl
-commit-or (Await width at value ok) = inr refl
-commit-or (Irq device vector) = inr refl
-commit-or (Hvc code a b answer) = inr refl
-commit-or (Begin code a b) = inr refl
-commit-or Stop = inr refl
-commit-or (Decide refused) = inr refl
-commit-or (Settle how) = inr refl
-commit-or (Note who) = inr refl
-commit-or (Noted who how) = inr refl
-commit-or (Finish answer) = inr refl
+pub commit_or : (act : Act) → (act ≡ Commit) ⊎ (is_commit act ≡ false)
+commit_or Commit = inl refl
+commit_or (Read width at got) = inr refl
+commit_or (Write width at value ok) = inr refl
+commit_or (Fetch at got) = inr refl
+commit_or (Await width at value ok) = inr refl
+commit_or (Irq device vector) = inr refl
+commit_or (Hvc code a b answer) = inr refl
+commit_or (Begin code a b) = inr refl
+commit_or Stop = inr refl
+commit_or (Decide refused) = inr refl
+commit_or (Settle how) = inr refl
+commit_or (Note who) = inr refl
+commit_or (Noted who how) = inr refl
+commit_or (Finish answer) = inr refl
 
-pub changing-is : (image : Image) (f : Facts) (entry : Entry) (spec : EndpointSpec) → IsSound image f → Contains (specs_changing f entry.act) spec → IsChanging image f entry spec
-changing-is image f entry spec sound held =
+pub changing_is : (image : Image) (f : Facts) (entry : Entry) (spec : EndpointSpec) → IsSound image f → Contains (specs_changing f entry.act) spec → IsChanging image f entry spec
+changing_is image f entry spec sound held =
     let P : Act → Type 0 = λ act. Contains (option_map_or specs_of (changing_by f.cells f.call act) []) spec in
     let Q : List EndpointSpec → Type 0 = λ specs. Contains specs spec in
     ⊎_elim
     (λ (commits : entry.act ≡ Commit). changing_on image f entry spec f.call refl commits sound.call (subst P commits held))
-    (λ (other : is_commit entry.act ≡ false). absurd (nothing_in spec (subst Q (specs-none f entry.act other) held)))
-    (commit-or entry.act)
+    (λ (other : is_commit entry.act ≡ false). absurd (nothing_in spec (subst Q (specs_none f entry.act other) held)))
+    (commit_or entry.act)
 
 -- whose such a word is
 abbrev pub IsOwnerOf : Image → Facts → Entry → CellConfig → ℕ → ℕ → Type 0
@@ -404,13 +396,13 @@ IsOwnerOf image f entry holder number id =
     IsOwnOrLinked f.cells holder number id ⊎ IsOwnOrLinked (cells_after f entry) holder number id ⊎ (id ≡ image.system.root.id)
 
 spec_cell : (config : CellConfig) (spec : EndpointSpec) → Contains (specs_of config) spec → spec.cell ≡ config.id
-spec_cell config spec own = ap (λ (t : EndpointSpec). t.cell) (spec-is config spec own).is
+spec_cell config spec own = ap (λ (t : EndpointSpec). t.cell) (spec_is config spec own).is
 
 coming_owner : (image : Image) (f : Facts) (entry : Entry) (live : Live) (number : ℕ) (region : Region) (place : ℕ) (config : CellConfig) → IsHeld f.cells live number region place → IsClean image.system (configs_of f.cells ++ config ∷ [])
     → configs_of (cells_after f entry) ≡ configs_of f.cells ++ config ∷ [] → HasPlace config place → IsOwnerOf image f entry live.config number config.id
 coming_owner image f entry live number region place config held clean behind h =
     let all : List CellConfig = configs_of f.cells ++ config ∷ [] in
-    let own : Contains all live.config = Contains-append_left (configs_of f.cells) (config ∷ []) live.config (Contains-map (λ (l : Live). l.config) f.cells live held.lives) in
+    let own : Contains all live.config = Contains-append_left (configs_of f.cells) (config ∷ []) live.config (Contains_map (λ (l : Live). l.config) f.cells live held.lives) in
     let there : Contains all config = Contains-push (configs_of f.cells) config in
     let P : List CellConfig → Type 0 = λ configs. Contains configs config in
     ⊎_elim
@@ -427,10 +419,10 @@ changing_owner image f entry live number region place spec value k sound held h 
     (⊎_elim
     (λ (lives : Contains (configs_of f.cells) h.config).
     inl (live_has image f.cells live number region place h.config sound.cells.clean held lives
-    (table_has image (configs_of f.cells) h.config spec value k place sound.cells.clean (Contains-tail image.system.root (configs_of f.cells) h.config lives) h.held there)))
+    (table_has image (configs_of f.cells) h.config spec value k place sound.cells.clean (Contains_tail image.system.root (configs_of f.cells) h.config lives) h.held there)))
     (λ comes.
     coming_owner image f entry live number region place h.config held comes.0 comes.1
-    (table_has image all h.config spec value k place comes.0 (Contains-tail image.system.root all h.config (Contains-push (configs_of f.cells) h.config)) h.held there))
+    (table_has image all h.config spec value k place comes.0 (Contains_tail image.system.root all h.config (Contains-push (configs_of f.cells) h.config)) h.held there))
     h.lives)
 
 endpoint_owner : (image : Image) (f : Facts) (entry : Entry) (live : Live) (number : ℕ) (region : Region) (place : ℕ) (e : Endpoint) (value k : ℕ) → IsSound image f → IsHeld f.cells live number region place → Contains f.endpoints e
@@ -444,24 +436,24 @@ endpoint_owner image f entry live number region place e value k sound held there
     (λ (root : image.system.root ≡ config). inr (inr (ap (λ (c : CellConfig). c.id) (sym root))))
     (λ (lives : Contains (configs_of f.cells) config).
     inl (live_has image f.cells live number region place config sound.cells.clean held lives (table_has image (configs_of f.cells) config e.spec value k place sound.cells.clean own.1 own.2 there)))
-    (Contains-cases image.system.root (configs_of f.cells) config own.1))
+    (Contains_cases image.system.root (configs_of f.cells) config own.1))
 
 -- the endpoint of a register that an act writes is there
-register-held : (image : Image) (f : Facts) (id : ℕ) (act : Act) (offset value : ℕ) (e : Endpoint) → PutsRegister image f id act offset value e → Contains f.endpoints e
-register-held image f id (Write width at value ok) offset put e puts = endpoint-held image f id puts.2.0 e puts.2.1.within.is.there
-register-held image f id (Read width at got) offset put e puts = absurd puts
-register-held image f id (Fetch at got) offset put e puts = absurd puts
-register-held image f id (Await width at value ok) offset put e puts = absurd puts
-register-held image f id (Irq device vector) offset put e puts = absurd puts
-register-held image f id (Hvc code a b answer) offset put e puts = absurd puts
-register-held image f id (Begin code a b) offset put e puts = absurd puts
-register-held image f id Stop offset put e puts = absurd puts
-register-held image f id (Decide refused) offset put e puts = absurd puts
-register-held image f id (Settle how) offset put e puts = absurd puts
-register-held image f id Commit offset put e puts = absurd puts
-register-held image f id (Note who) offset put e puts = absurd puts
-register-held image f id (Noted who how) offset put e puts = absurd puts
-register-held image f id (Finish answer) offset put e puts = absurd puts
+register_held : (image : Image) (f : Facts) (id : ℕ) (act : Act) (offset value : ℕ) (e : Endpoint) → PutsRegister image f id act offset value e → Contains f.endpoints e
+register_held image f id (Write width at value ok) offset put e puts = endpoint_held image f id puts.2.0 e puts.2.1.within.is.there
+register_held image f id (Read width at got) offset put e puts = absurd puts
+register_held image f id (Fetch at got) offset put e puts = absurd puts
+register_held image f id (Await width at value ok) offset put e puts = absurd puts
+register_held image f id (Irq device vector) offset put e puts = absurd puts
+register_held image f id (Hvc code a b answer) offset put e puts = absurd puts
+register_held image f id (Begin code a b) offset put e puts = absurd puts
+register_held image f id Stop offset put e puts = absurd puts
+register_held image f id (Decide refused) offset put e puts = absurd puts
+register_held image f id (Settle how) offset put e puts = absurd puts
+register_held image f id Commit offset put e puts = absurd puts
+register_held image f id (Note who) offset put e puts = absurd puts
+register_held image f id (Noted who how) offset put e puts = absurd puts
+register_held image f id (Finish answer) offset put e puts = absurd puts
 
 cleared_there : (image : Image) (f : Facts) (entry : Entry) (live : Live) (number : ℕ) (region : Region) (place : ℕ) → IsSound image f → IsHeld f.cells live number region place → IsInWords (specs_changing f entry.act) (Physical place)
     → WritesWordThere image f entry live.config number place
@@ -471,8 +463,8 @@ cleared_there image f entry live number region place sound held h = record {
   writes = inr (h.held, refl);
   index = h.index;
   within = h.there.0;
-  there = ap number_in h.there.1;
-  owner = changing_owner image f entry live number region place h.spec 0 h.index sound held (changing-is image f entry h.spec sound h.held) h.there;
+  there = ap number_of h.there.1;
+  owner = changing_owner image f entry live number region place h.spec 0 h.index sound held (changing_is image f entry h.spec sound h.held) h.there;
 }
 
 put_there : (image : Image) (f : Facts) (entry : Entry) (live : Live) (number : ℕ) (region : Region) (place : ℕ) → IsSound image f → IsHeld f.cells live number region place → PutsWordAt image f entry.cell entry.act (Physical place)
@@ -483,24 +475,24 @@ put_there image f entry live number region place sound held h = record {
   writes = inl (h.endpoint, refl, h.puts, h.other);
   index = h.index;
   within = h.there.0;
-  there = ap number_in h.there.1;
-  owner = endpoint_owner image f entry live number region place h.endpoint h.value h.index sound held (register-held image f entry.cell entry.act 0x10 h.value h.endpoint h.puts) h.there;
+  there = ap number_of h.there.1;
+  owner = endpoint_owner image f entry live number region place h.endpoint h.value h.index sound held (register_held image f entry.cell entry.act 0x10 h.value h.endpoint h.puts) h.there;
 }
 
-pub held-changes : (image : Image) (f : Facts) (entry : Entry) (live : Live) (number : ℕ) (region : Region) (place : ℕ) → IsSound image f → IsSmallAct entry.act → IsHeld f.cells live number region place
+pub held_changes : (image : Image) (f : Facts) (entry : Entry) (live : Live) (number : ℕ) (region : Region) (place : ℕ) → IsSound image f → IsSmallAct entry.act → IsHeld f.cells live number region place
     → byte_after image f entry (Physical place) ≢ f.byte (Physical place) → IsOwnOrLinked f.cells live.config number entry.cell ⊎ WritesWordThere image f entry live.config number place
-held-changes image f entry live number region place sound small held changed =
+held_changes image f entry live number region place sound small held changed =
     let specs : List EndpointSpec = specs_changing f entry.act in
     let own : Place → ℕ = byte_written image f entry.cell entry.act in
-    let kept = physical-kept (page_write_by image f entry entry.act) (with_words specs own) place in
+    let kept = physical_kept (page_write_by image f entry entry.act) (with_words specs own) place in
     ⊎_elim
     (λ (word : IsInWords specs (Physical place)). inr (cleared_there image f entry live number region place sound held word))
     (λ (apart : AreApart specs (Physical place)).
     ⊎_elim
-    (λ (write : MayWrite image f entry.cell (Physical place)). inl (held-writes image f live number region place entry.cell write.0 sound.cells held write.1))
+    (λ (write : MayWrite image f entry.cell (Physical place)). inl (held_writes image f live number region place entry.cell write.0 sound.cells held write.1))
     (λ (word : PutsWordAt image f entry.cell entry.act (Physical place)). inr (put_there image f entry live number region place sound held word))
-    (written_by image f entry.cell entry.act (Physical place) sound small (λ e. changed (kept ∙ words-kept specs own (Physical place) apart ∙ e))))
-    (words-or specs (Physical place))
+    (written_by image f entry.cell entry.act (Physical place) sound small (λ e. changed (kept ∙ words_kept specs own (Physical place) apart ∙ e))))
+    (words_or specs (Physical place))
 
 -- a page is written by its own cell
 page_owner : (image : Image) (cells : List Live) (id at cell offset : ℕ) → IsGivenTo image cells id at (Page cell offset) → id ≡ cell
@@ -508,14 +500,14 @@ page_owner image cells id at cell offset h = sym h.named ∙ owner_by (is_comm h
   where
     owner_by : (b : Bool) → Page cell offset ≡ cond b (Page h.cell.id (at - h.region.virt_start)) (Physical (h.region.phys_start + (at - h.region.virt_start))) → h.cell.id ≡ cell
     owner_by true e = sym (ap cell_in_place e)
-    owner_by false e = absurd (false≢true (ap is_memory e))
+    owner_by false e = absurd (false≢true (ap is_physical e))
 
 page_writes : (image : Image) (f : Facts) (entry : Entry) (cell offset : ℕ) → IsSound image f → IsSmallAct entry.act → with_words (specs_changing f entry.act) (byte_written image f entry.cell entry.act) (Page cell offset) ≢ f.byte (Page cell offset) → entry.cell ≡ cell
 page_writes image f entry cell offset sound small changed =
     ⊎_elim
     (λ (write : MayWrite image f entry.cell (Page cell offset)). page_owner image f.cells entry.cell write.0 cell offset write.1)
-    (λ (word : PutsWordAt image f entry.cell entry.act (Page cell offset)). absurd (false≢true (ap is_memory word.there.1)))
-    (written_by image f entry.cell entry.act (Page cell offset) sound small (λ e. changed (words-page (specs_changing f entry.act) (byte_written image f entry.cell entry.act) cell offset ∙ e)))
+    (λ (word : PutsWordAt image f entry.cell entry.act (Page cell offset)). absurd (false≢true (ap is_physical word.there.1)))
+    (written_by image f entry.cell entry.act (Page cell offset) sound small (λ e. changed (words_page (specs_changing f entry.act) (byte_written image f entry.cell entry.act) cell offset ∙ e)))
 
 page_by : (image : Image) (f : Facts) (entry : Entry) (cell offset : ℕ) (write : Option PageWrite) → page_write_by image f entry entry.act ≡ write → IsSound image f → IsSmallAct entry.act
     → with_page_write write (with_words (specs_changing f entry.act) (byte_written image f entry.cell entry.act)) (Page cell offset) ≢ f.byte (Page cell offset)
@@ -530,24 +522,24 @@ page_by image f entry cell offset (Some w) is sound small changed =
     inl (page_writes image f entry cell offset sound small (λ e. changed (kept ∙ e))))
     (cases_Bool (eqb w.cell cell))
 
-pub page-changes : (image : Image) (f : Facts) (entry : Entry) (cell offset : ℕ) → IsSound image f → IsSmallAct entry.act → byte_after image f entry (Page cell offset) ≢ f.byte (Page cell offset)
+pub page_changes : (image : Image) (f : Facts) (entry : Entry) (cell offset : ℕ) → IsSound image f → IsSmallAct entry.act → byte_after image f entry (Page cell offset) ≢ f.byte (Page cell offset)
     → (entry.cell ≡ cell) ⊎ ((w : PageWrite) × (page_write_by image f entry entry.act ≡ Some w) × (w.cell ≡ cell))
-page-changes image f entry cell offset sound small changed = page_by image f entry cell offset (page_write_by image f entry entry.act) refl sound small changed
+page_changes image f entry cell offset sound small changed = page_by image f entry cell offset (page_write_by image f entry entry.act) refl sound small changed
 
 -- ---- over an entry of a journal
 
-pub byte-behind : (image : Image) (before : List Entry) (entry : Entry) (q : Place) → (facts image (before ++ entry ∷ [])).byte q ≡ byte_after image (facts image before) entry q
-byte-behind image before entry q = ap (λ (f : Facts). f.byte q) (facts-push image before entry) ∙ ap (λ (b : Place → ℕ). b q) (byte-after image (facts image before) entry)
+pub byte_behind : (image : Image) (before : List Entry) (entry : Entry) (q : Place) → (facts image (before ++ entry ∷ [])).byte q ≡ byte_after image (facts image before) entry q
+byte_behind image before entry q = ap (λ (f : Facts). f.byte q) (facts_push image before entry) ∙ ap (λ (b : Place → ℕ). b q) (byte_after_holds image (facts image before) entry)
 
-pub held-at : (image : Image) (before rest : List Entry) (entry : Entry) (live : Live) (number : ℕ) (region : Region) (place : ℕ) → IsAdmitted image → IsLegal image (before ++ entry ∷ rest) → IsHeld (facts image before).cells live number region place
+pub held_at : (image : Image) (before rest : List Entry) (entry : Entry) (live : Live) (number : ℕ) (region : Region) (place : ℕ) → IsAdmitted image → IsLegal image (before ++ entry ∷ rest) → IsHeld (facts image before).cells live number region place
     → (facts image (before ++ entry ∷ [])).byte (Physical place) ≢ (facts image before).byte (Physical place) → IsOwnOrLinked (facts image before).cells live.config number entry.cell ⊎ WritesWordThere image (facts image before) entry live.config number place
-held-at image before rest entry live number region place admitted legal held changed =
-    held-changes image (facts image before) entry live number region place (legal-sound image before admitted (IsLegal-begin image before (entry ∷ rest) legal)) (small-at image before rest entry admitted legal) held
-    (λ e. changed (byte-behind image before entry (Physical place) ∙ e))
+held_at image before rest entry live number region place admitted legal held changed =
+    held_changes image (facts image before) entry live number region place (legal_sound image before admitted (IsLegal_begin image before (entry ∷ rest) legal)) (small_at image before rest entry admitted legal) held
+    (λ e. changed (byte_behind image before entry (Physical place) ∙ e))
 
-pub page-at : (image : Image) (before rest : List Entry) (entry : Entry) (cell offset : ℕ) → IsAdmitted image → IsLegal image (before ++ entry ∷ rest)
+pub page_at : (image : Image) (before rest : List Entry) (entry : Entry) (cell offset : ℕ) → IsAdmitted image → IsLegal image (before ++ entry ∷ rest)
     → (facts image (before ++ entry ∷ [])).byte (Page cell offset) ≢ (facts image before).byte (Page cell offset)
     → (entry.cell ≡ cell) ⊎ ((w : PageWrite) × (page_write_by image (facts image before) entry entry.act ≡ Some w) × (w.cell ≡ cell))
-page-at image before rest entry cell offset admitted legal changed =
-    page-changes image (facts image before) entry cell offset (legal-sound image before admitted (IsLegal-begin image before (entry ∷ rest) legal)) (small-at image before rest entry admitted legal)
-    (λ e. changed (byte-behind image before entry (Page cell offset) ∙ e))
+page_at image before rest entry cell offset admitted legal changed =
+    page_changes image (facts image before) entry cell offset (legal_sound image before admitted (IsLegal_begin image before (entry ∷ rest) legal)) (small_at image before rest entry admitted legal)
+    (λ e. changed (byte_behind image before entry (Page cell offset) ∙ e))

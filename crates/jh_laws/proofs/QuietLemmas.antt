@@ -4,13 +4,13 @@ use Rattle.std.specs.Prelude.{Contains, option_map, option_and_then, nat_le}
 use Rattle.std.proofs.lemmas.Bool.{both_ways, and_parts, eq-eqb, eqb-true, ne_eqb, not-true, false_from_ne_true, or_right}
 use Rattle.std.proofs.lemmas.Option.{none-some}
 use Rattle.jh_num.proofs.Booleans.{same_number}
-use Rattle.jh_num.proofs.Lists.{find-some, Contains-from_map}
+use Rattle.jh_num.proofs.Lists.{find_some, Contains_from_map}
 use Rattle.jh_cellcfg.specs.declared.config.CellConfig.{CellConfig}
 use Rattle.jh_cellcfg.specs.declared.live.Live.{Live}
 use Rattle.jh_cellcfg.specs.Lives.{has_id}
 use Rattle.jh_cellcfg.specs.Cells.{is_passive}
 use Rattle.jh_check.specs.Refusals.{any_below}
-use Rattle.jh_check.proofs.RefusalLemmas.{below-of}
+use Rattle.jh_check.proofs.RefusalLemmas.{below_of}
 use Rattle.jh_comm.specs.declared.words.TheConstants.{REPLY_REQUEST_APPROVED, REPLY_RECEIVED}
 use Rattle.jh_cpu.specs.declared.cpu.Cpu.{Cpu}
 use Rattle.jh_call.specs.declared.call.Call.{Call}
@@ -36,8 +36,9 @@ use Rattle.jh_history.specs.Phases.{phase_act, keeps_decide, keeps_commit, confi
 use Rattle.jh_history.specs.Due.{due_at, entry_of, entry_by, next_act, state_act, caller_act, is_idle_but, IsLegal, IsQuiet}
 use Rattle.jh_history.specs.Admitted.{IsAdmitted}
 use Rattle.jh_history.specs.Sound.{IsHalted, IsAsked, IsHalting, IsAboutLive, IsTold, IsCaller, IsOpen, IsSound}
-use Rattle.jh_history.proofs.SoundCpusLemmas.{root-unnamed}
-use Rattle.jh_history.proofs.SoundLemmas.{legal-sound}
+use Rattle.jh_history.proofs.SoundCpusLemmas.{root_unnamed}
+use Rattle.jh_history.proofs.SoundLemmas.{legal_sound}
+use Rattle.jh_laws.proofs.DueCpusLemmas.{some_later}
 
 -- nothing is due to a CPU
 not_made : (cpu cell : ℕ) (o : Option Act) → option_map (entry_by cpu cell) o ≡ None → o ≡ None
@@ -93,7 +94,7 @@ idle_but image f o none =
     let fails : any_below waits 16 ≡ false =
     false_from_ne_true (any_below waits 16)
     (λ some.
-    let found = below-of waits 16 some in
+    let found = below_of waits 16 some in
     let i : ℕ = found.0 in
     let parts = and_parts (is_on_board image i && not (eqb i o.caller)) (is_some (state_act image g (f.cpu i) i)) found.2 in
     let first = and_parts (is_on_board image i) (not (eqb i o.caller)) parts.0 in
@@ -105,27 +106,23 @@ idle_but image f o none =
 over_idle : (timeout waited : ℕ) → is_over timeout waited true ≡ true
 over_idle timeout waited = or_right (not (eqb timeout 0) && nat_le timeout waited) true refl
 
-some_cond : {X : Type 0} (b : Bool) (x : X) (o : Option X) → is_some o ≡ true → is_some (cond b (Some x) o) ≡ true
-some_cond true x o h = refl
-some_cond false x o h = h
-
 settled_idle : (passive : Bool) (state reply : ℕ) → is_some (settled_by passive state reply true) ≡ true
 settled_idle passive state reply =
-    some_cond (passive || is_down state) Agreed (cond (eqb reply REPLY_REQUEST_APPROVED) (Some Agreed) (cond (not (eqb reply 0)) (Some Denied) (Some Timeout)))
-    (some_cond (eqb reply REPLY_REQUEST_APPROVED) Agreed (cond (not (eqb reply 0)) (Some Denied) (Some Timeout))
-    (some_cond (not (eqb reply 0)) Denied (Some Timeout) refl))
+    some_later (passive || is_down state) Agreed (cond (eqb reply REPLY_REQUEST_APPROVED) (Some Agreed) (cond (not (eqb reply 0)) (Some Denied) (Some Timeout)))
+    (some_later (eqb reply REPLY_REQUEST_APPROVED) Agreed (cond (not (eqb reply 0)) (Some Denied) (Some Timeout))
+    (some_later (not (eqb reply 0)) Denied (Some Timeout) refl))
 
 heard_idle : (state reply : ℕ) → is_some (heard_by state reply true) ≡ true
 heard_idle state reply =
-    some_cond (is_down state) Down (cond (eqb reply REPLY_RECEIVED) (Some Received) (cond (not (eqb reply 0)) (Some Other) (Some Silent)))
-    (some_cond (eqb reply REPLY_RECEIVED) Received (cond (not (eqb reply 0)) (Some Other) (Some Silent))
-    (some_cond (not (eqb reply 0)) Other (Some Silent) refl))
+    some_later (is_down state) Down (cond (eqb reply REPLY_RECEIVED) (Some Received) (cond (not (eqb reply 0)) (Some Other) (Some Silent)))
+    (some_later (eqb reply REPLY_RECEIVED) Received (cond (not (eqb reply 0)) (Some Other) (Some Silent))
+    (some_later (not (eqb reply 0)) Other (Some Silent) refl))
 
 -- the cell that lives is found
 live_some : (cells : List Live) (config : CellConfig) (id : ℕ) → Contains (configs_of cells) config → config.id ≡ id → (c : CellConfig) × (live_in cells id ≡ Some c)
 live_some cells config id held is =
-    let live = Contains-from_map (λ (l : Live). l.config) cells config held in
-    let some = find-some (has_id id) cells live.0 live.1 (eq-eqb live.0.config.id id (ap (λ (c : CellConfig). c.id) live.2 ∙ is)) in
+    let live = Contains_from_map (λ (l : Live). l.config) cells config held in
+    let some = find_some (has_id id) cells live.0 live.1 (eq-eqb live.0.config.id id (ap (λ (c : CellConfig). c.id) live.2 ∙ is)) in
     (some.0.config, ap (option_map (λ (l : Live). l.config)) some.1)
 
 named_some : (cells : List Live) (call : Call) → IsAboutLive (configs_of cells) call → (c : CellConfig) × (named_cell cells call ≡ Some c)
@@ -165,7 +162,7 @@ decide_waits : (image : Image) (f : Facts) (o : OpenCall) → ((cpu : ℕ) → d
     → ((i : ℕ) → is_on_board image i ≡ true → i ≢ o.caller → (f.cpu i).owner ≡ image.system.root.id → IsHalting (f.cpu i))
     → any_below (λ i. keeps_decide image o.caller i (f.cpu i)) 16 ≡ true → ⊥
 decide_waits image f o none come some =
-    let found = below-of (λ i. keeps_decide image o.caller i (f.cpu i)) 16 some in
+    let found = below_of (λ i. keeps_decide image o.caller i (f.cpu i)) 16 some in
     let i : ℕ = found.0 in
     let cpu : Cpu = f.cpu i in
     let root : ℕ = image.system.root.id in
@@ -182,14 +179,14 @@ commit_waits : (image : Image) (f : Facts) (caller : ℕ) (call : Call) → ((cp
 commit_waits image f caller call none sound some =
     let o : OpenCall = record { caller = caller; call = call; phase = ToCommit } in
     let opens : IsOpen image (configs_of f.cells) f.cpu o = sound.call in
-    let found = below-of (λ i. keeps_commit image call i (f.cpu i)) 16 some in
+    let found = below_of (λ i. keeps_commit image call i (f.cpu i)) 16 some in
     let i : ℕ = found.0 in
     let cpu : Cpu = f.cpu i in
     let root : ℕ = image.system.root.id in
     let a = and_parts (is_on_board image i && is_named call cpu.owner && is_running cpu.mode) (not cpu.stopped) found.2 in
     let b = and_parts (is_on_board image i && is_named call cpu.owner) (is_running cpu.mode) a.0 in
     let c = and_parts (is_on_board image i) (is_named call cpu.owner) b.0 in
-    let unnamed = root-unnamed image.system (configs_of f.cells) call sound.cells opens.phase in
+    let unnamed = root_unnamed image.system (configs_of f.cells) call sound.cells opens.phase in
     let apart : cpu.owner ≢ root = λ e. both_ways (is_named call cpu.owner) (ap (is_named call) e ∙ unnamed) c.1 in
     let P : ℕ → Type 0 = λ k. (f.cpu k).owner ≡ root in
     let other : i ≢ caller = λ e. apart (subst P (sym e) opens.caller.owner) in
@@ -230,5 +227,5 @@ none_open image f (Some o) is sound none =
     absurd (subst P (sym is) (open_waits image f o) sound none)
 
 -- where nothing is due no call is open
-pub quiet-closed : (image : Image) (entries : List Entry) → IsAdmitted image → IsLegal image entries → IsQuiet image entries → (facts image entries).call ≡ None
-quiet-closed image entries admitted legal quiet = none_open image (facts image entries) (facts image entries).call refl (legal-sound image entries admitted legal) quiet
+pub quiet_closed : (image : Image) (entries : List Entry) → IsAdmitted image → IsLegal image entries → IsQuiet image entries → (facts image entries).call ≡ None
+quiet_closed image entries admitted legal quiet = none_open image (facts image entries) (facts image entries).call refl (legal_sound image entries admitted legal) quiet

@@ -13,9 +13,9 @@ use Rattle.jh_ivshmem.specs.Changes.{changed}
 use Rattle.jh_ivshmem.specs.Endpoint.{is_open, raised, taken, vector_at, fresh_vector}
 use Rattle.jh_ivshmem.specs.Registers.{register_written, with_word, is_in_table}
 use Rattle.jh_ivshmem.specs.Links.{endpoint_at, rung, state_written, told_of, written}
-use Rattle.jh_ivshmem.proofs.ChangeLemmas.{raised-spec, taken-spec, register_written-spec}
-use Rattle.jh_ivshmem.proofs.LawLemmas.{closed, raised-pending, raised-others, raised-keeps_pending}
-use Rattle.jh_ivshmem.proofs.NamedLemmas.{named-cell}
+use Rattle.jh_ivshmem.proofs.ChangeLemmas.{raised_spec, taken_spec, register_written_spec}
+use Rattle.jh_ivshmem.proofs.LawLemmas.{closed, raised_pending, raised_others, raised_keeps_pending}
+use Rattle.jh_ivshmem.proofs.NamedLemmas.{named_cell}
 use Rattle.jh_script.specs.declared.image.Image.{Image}
 use Rattle.jh_history.specs.declared.access.Access.TheVariants.{Write as ToWrite}
 use Rattle.jh_history.specs.declared.access.Reach.{Reach}
@@ -30,12 +30,12 @@ use Rattle.jh_history.specs.Sound.{IsSoundEndpoint, IsSound}
 use Rattle.jh_laws.specs.Ends.{IsAnsweredByRegister}
 use Rattle.jh_laws.specs.Vectors.{PutsRegister, Rings, Clears, NotifiesPeer, Drops}
 use Rattle.jh_laws.specs.Ways.{is_commit}
-use Rattle.jh_laws.proofs.DevicesLemmas.{endpoint-held, endpoint-sound, same-register}
+use Rattle.jh_laws.proofs.DevicesLemmas.{endpoint_held, endpoint_sound, same_register}
 use Rattle.jh_laws.proofs.EndsLemmas.{IsSmallAct}
-use Rattle.jh_laws.proofs.LinkedLemmas.{found-changed, found-told, is_told}
+use Rattle.jh_laws.proofs.LinkedLemmas.{found_changed, found_told, is_told, told_spec}
 use Rattle.jh_laws.proofs.ReachedLemmas.{Way, OnMemory, OnRegion, OnWindow, OnRegister, OnNothing, way}
-use Rattle.jh_laws.proofs.WordLemmas.{value-fits}
-use Rattle.jh_laws.proofs.WrittenLemmas.{IsWrite, register-write}
+use Rattle.jh_laws.proofs.WordLemmas.{value_fits}
+use Rattle.jh_laws.proofs.WrittenLemmas.{IsWrite, register_write}
 
 -- the entry calls the vector of the endpoint: a doorbell does, or for vector 0 the state of a peer
 abbrev pub Calls : Image → Facts → Entry → Endpoint → ℕ → Type 0
@@ -87,17 +87,17 @@ open_within e v sound opened =
     count_few false = omega arith
 
 raised_other : (e : Endpoint) (u v : ℕ) → v ≢ u → (vector_at (raised u e) v).pending ≡ (vector_at e v).pending
-raised_other e u v other = ap (λ (x : Vector). x.pending) (raised-others u v e other)
+raised_other e u v other = ap (λ (x : Vector). x.pending) (raised_others u v e other)
 
-pub become-raised : (image : Image) (f : Facts) (entry : Entry) (e b : Endpoint) (u : ℕ) → IsSoundEndpoint e → b.spec ≡ e.spec → SamePending (raised u e) b → Calls image f entry e u → ((v : ℕ) → Calls image f entry e v → v ≡ u) → NoDrop f entry e
+pub become_raised : (image : Image) (f : Facts) (entry : Entry) (e b : Endpoint) (u : ℕ) → IsSoundEndpoint e → b.spec ≡ e.spec → SamePending (raised u e) b → Calls image f entry e u → ((v : ℕ) → Calls image f entry e v → v ≡ u) → NoDrop f entry e
     → (entry.cell ≢ e.spec.cell → b ≡ raised u e) → HasBecome image f entry e b
-become-raised image f entry e b u sound spec same called single stays own = record {
+become_raised image f entry e b u sound spec same called single stays own = record {
   spec = spec;
   calls = λ v opened call.
       let is : u ≡ v = sym (single v call) in
       let P : ℕ → Type 0 = λ w. is_open e w ≡ true → (vector_at (raised u e) w).pending ≡ true in
-      same v ∙ subst P is (λ open_u. raised-pending u e (open_within e u sound open_u) open_u) opened;
-  keeps = λ v pending kept. same v ∙ raised-keeps_pending u v e pending;
+      same v ∙ subst P is (λ open_u. raised_pending u e (open_within e u sound open_u) open_u) opened;
+  keeps = λ v pending kept. same v ∙ raised_keeps_pending u v e pending;
   only = λ v pending. only_by v (is_open e u) refl (sym (same v) ∙ pending);
   others = λ other. others_by (is_open e u) refl (own other);
 }
@@ -165,14 +165,14 @@ pub record IsNow (image : Image) (f : Facts) (entry : Entry) (id n : ℕ) (e : E
   pub there : endpoint_at id n new ≡ Some endpoint
   pub become : HasBecome image f entry e endpoint
 
-pub stays-so : (image : Image) (f : Facts) (entry : Entry) (e : Endpoint) → NoCall image f entry e → NoDrop f entry e → HasBecome image f entry e e
-stays-so image f entry e quiet stays = become_same image f entry e e refl (λ v. refl) quiet stays (λ other. refl)
+pub stays_so : (image : Image) (f : Facts) (entry : Entry) (e : Endpoint) → NoCall image f entry e → NoDrop f entry e → HasBecome image f entry e e
+stays_so image f entry e quiet stays = become_same image f entry e e refl (λ v. refl) quiet stays (λ other. refl)
 
 still_now : (image : Image) (f : Facts) (entry : Entry) (id n : ℕ) (e : Endpoint) → endpoint_at id n f.endpoints ≡ Some e → IsStill entry.act → IsNow image f entry id n e (endpoints_acted image f entry.cell entry.act)
 still_now image f entry id n e there still = record {
   endpoint = e;
   there = ap (endpoint_at id n) (still.acted image f entry.cell) ∙ there;
-  become = stays-so image f entry e (no_call image f entry e still.commits (λ offset value bell. still.puts image f entry.cell offset value bell)) (no_drop f entry e still.commits still.irq);
+  become = stays_so image f entry e (no_call image f entry e still.commits (λ offset value bell. still.puts image f entry.cell offset value bell)) (no_drop f entry e still.commits still.irq);
 }
 
 -- ---- an interrupt
@@ -211,7 +211,7 @@ taken_drop f entry e d m v is (inr clears) = absurd (both_ways (is_commit entry.
 
 taken_become : (image : Image) (f : Facts) (entry : Entry) (e : Endpoint) (d m : ℕ) (own : Bool) → entry.act ≡ Irq d m → is_device entry.cell d e.spec ≡ own → HasBecome image f entry e (cond own (taken m e) e)
 taken_become image f entry e d m false is own =
-    stays-so image f entry e (no_call image f entry e (irq_commits entry.act d m is) (irq_puts image f entry.cell entry.act d m is))
+    stays_so image f entry e (no_call image f entry e (irq_commits entry.act d m is) (irq_puts image f entry.cell entry.act d m is))
     (λ v dropped.
     let drop = taken_drop f entry e d m v is dropped in
     both_ways (is_device entry.cell d e.spec) own (and_from (eqb e.spec.cell entry.cell) (eqb e.spec.device d) (eq-eqb e.spec.cell entry.cell (sym drop.0)) (eq-eqb e.spec.device d (sym drop.1))))
@@ -222,7 +222,7 @@ taken_become image f entry e d m true is own =
     let device : e.spec.device ≡ d = eqb-true e.spec.device d parts.1 in
     let drop : IsDropped f entry e m = inl (sym cell, is ∙ ap (λ (k : ℕ). Irq k m) (sym device)) in
     record {
-      spec = taken-spec m e;
+      spec = taken_spec m e;
       calls = λ v opened call. absurd (quiet v call);
       keeps = λ v pending kept.
           let other : v ≢ m = λ same. (let P : ℕ → Type 0 = λ u. IsDropped f entry e u in kept (subst P (sym same) drop)) in
@@ -236,7 +236,7 @@ taken_become image f entry e d m true is own =
 irq_now : (image : Image) (f : Facts) (entry : Entry) (id n : ℕ) (e : Endpoint) (d m : ℕ) → endpoint_at id n f.endpoints ≡ Some e → entry.act ≡ Irq d m → IsNow image f entry id n e (endpoints_acted image f entry.cell entry.act)
 irq_now image f entry id n e d m there is = record {
   endpoint = cond (is_device entry.cell d e.spec) (taken m e) e;
-  there = ap (λ (act : Act). endpoint_at id n (endpoints_acted image f entry.cell act)) is ∙ found-changed id n (is_device entry.cell d) (taken m) f.endpoints e (taken-spec m) there;
+  there = ap (λ (act : Act). endpoint_at id n (endpoints_acted image f entry.cell act)) is ∙ found_changed id n (is_device entry.cell d) (taken m) f.endpoints e (taken_spec m) there;
   become = taken_become image f entry e d m (is_device entry.cell d e.spec) is refl;
 }
 
@@ -271,7 +271,7 @@ same_write act one other g =
 puts_by : (image : Image) (f : Facts) (entry : Entry) (w : IsWrite entry.act) (offset value : ℕ) (bell : Endpoint) → PutsRegister image f entry.cell entry.act offset value bell
     → (value ≡ w.value) × ((n : ℕ) × IsAnsweredByRegister image f entry.cell ToWrite w.at w.width n 0 offset bell)
 puts_by image f entry w offset value bell puts =
-    let h = register-write image f entry.cell entry.act offset value bell puts in
+    let h = register_write image f entry.cell entry.act offset value bell puts in
     let P : Type 0 → Type 0 = λ t. t in
     let same : IsAnsweredByRegister image f entry.cell ToWrite h.write.at h.write.width h.number 0 offset bell ≡ IsAnsweredByRegister image f entry.cell ToWrite w.at w.width h.number 0 offset bell =
     same_type (λ width at value. IsAnsweredByRegister image f entry.cell ToWrite at width h.number 0 offset bell) h.write w in
@@ -287,7 +287,7 @@ plain_now : (image : Image) (f : Facts) (entry : Entry) (id n : ℕ) (e : Endpoi
 plain_now image f entry id n e w there same none = record {
   endpoint = e;
   there = ap (endpoint_at id n) same ∙ there;
-  become = stays-so image f entry e (no_call image f entry e (write_commits entry.act w) (λ offset value bell puts. let by = puts_by image f entry w offset value bell puts in none by.1.0 0 offset bell by.1.1)) (no_drop f entry e (write_commits entry.act w) (write_irq entry.act w));
+  become = stays_so image f entry e (no_call image f entry e (write_commits entry.act w) (λ offset value bell puts. let by = puts_by image f entry w offset value bell puts in none by.1.0 0 offset bell by.1.1)) (no_drop f entry e (write_commits entry.act w) (write_irq entry.act w));
 }
 
 -- ---- configuration space
@@ -296,12 +296,12 @@ config_become : (image : Image) (f : Facts) (entry : Entry) (e : Endpoint) (m : 
 config_become image f entry e m space true quiet stays own =
     become_same image f entry e (record e { space = space }) refl (λ v. refl) quiet stays
     (λ other. absurd (other (sym (eqb-true e.spec.cell entry.cell (and_parts (eqb e.spec.cell entry.cell) (eqb e.spec.device m) own).0))))
-config_become image f entry e m space false quiet stays own = stays-so image f entry e quiet stays
+config_become image f entry e m space false quiet stays own = stays_so image f entry e quiet stays
 
 function_now : (image : Image) (f : Facts) (entry : Entry) (id n : ℕ) (e : Endpoint) (m : ℕ) (space : Space) → NoCall image f entry e → NoDrop f entry e → endpoint_at id n f.endpoints ≡ Some e → IsNow image f entry id n e (space_put entry.cell m space f.endpoints)
 function_now image f entry id n e m space quiet stays there = record {
   endpoint = cond (is_device entry.cell m e.spec) (record e { space = space }) e;
-  there = found-changed id n (is_device entry.cell m) (λ (o : Endpoint). record o { space = space }) f.endpoints e (λ o. refl) there;
+  there = found_changed id n (is_device entry.cell m) (λ (o : Endpoint). record o { space = space }) f.endpoints e (λ o. refl) there;
   become = config_become image f entry e m space (is_device entry.cell m e.spec) quiet stays refl;
 }
 
@@ -310,7 +310,7 @@ config_now : (image : Image) (f : Facts) (entry : Entry) (id n : ℕ) (e : Endpo
 config_now image f entry id n e at width value quiet stays there = by_number (number_at (devices_of image f entry.cell) at)
   where
     unchanged : IsNow image f entry id n e f.endpoints
-    unchanged = record { endpoint = e; there = there; become = stays-so image f entry e quiet stays }
+    unchanged = record { endpoint = e; there = there; become = stays_so image f entry e quiet stays }
 
     by_endpoint : (m : ℕ) (q : Option Endpoint) → IsNow image f entry id n e (option_map_or (λ (o : Endpoint). space_put entry.cell m (config_written o.space (at % 4096) width (value % 2 ^ 32)) f.endpoints) q f.endpoints)
     by_endpoint m None = unchanged
@@ -327,7 +327,7 @@ record IsPut (image : Image) (f : Facts) (entry : Entry) (w : IsWrite entry.act)
   by : IsAnsweredByRegister image f entry.cell ToWrite w.at w.width m bar offset x
 
 put_cell : (image : Image) (f : Facts) (entry : Entry) (w : IsWrite entry.act) (m bar offset : ℕ) (x : Endpoint) → IsPut image f entry w m bar offset x → x.spec.cell ≡ entry.cell
-put_cell image f entry w m bar offset x put = named-cell entry.cell m f.endpoints x put.by.within.is.there
+put_cell image f entry w m bar offset x put = named_cell entry.cell m f.endpoints x put.by.within.is.there
 
 puts_from : (image : Image) (f : Facts) (entry : Entry) (w : IsWrite entry.act) (m bar offset place : ℕ) (x : Endpoint) → IsPut image f entry w m bar offset x → bar ≡ 0 → offset ≡ place → PutsRegister image f entry.cell entry.act place w.value x
 puts_from image f entry w m bar offset place x put zero_is place_is =
@@ -341,7 +341,7 @@ same_put : {X : Type 0} (image : Image) (f : Facts) (entry : Entry) (w : IsWrite
     → g 0 place bell ≡ g bar offset x
 same_put image f entry w m bar offset place value x bell g put puts =
     let by = puts_by image f entry w place value bell puts in
-    same-register image f entry.cell ToWrite w.at w.width by.1.0 0 place m bar offset bell x (λ k b o y. g b o y) by.1.1 put.by
+    same_register image f entry.cell ToWrite w.at w.width by.1.0 0 place m bar offset bell x (λ k b o y. g b o y) by.1.1 put.by
 
 put_value : (image : Image) (f : Facts) (entry : Entry) (w : IsWrite entry.act) (place value : ℕ) (bell : Endpoint) → PutsRegister image f entry.cell entry.act place value bell → value ≡ w.value
 put_value image f entry w place value bell puts = (puts_by image f entry w place value bell puts).0
@@ -379,10 +379,10 @@ rung_become image f entry w m bar offset x e true sound put zero_is place is =
       target = sym (eqb-true e.spec.id (w.value / 2 ^ 16) parts.1);
       vector = refl;
     }) in
-    become-raised image f entry e (raised (w.value % 2 ^ 16) e) (w.value % 2 ^ 16) sound (raised-spec (w.value % 2 ^ 16) e) (λ v. refl) call (λ v other. (rung_calls image f entry w m bar offset x e v put place other).0)
+    become_raised image f entry e (raised (w.value % 2 ^ 16) e) (w.value % 2 ^ 16) sound (raised_spec (w.value % 2 ^ 16) e) (λ v. refl) call (λ v other. (rung_calls image f entry w m bar offset x e v put place other).0)
     (no_drop f entry e (write_commits entry.act w) (write_irq entry.act w)) (λ other. refl)
 rung_become image f entry w m bar offset x e false sound put zero_is place is =
-    stays-so image f entry e (λ v call. both_ways (is_peer x.spec.bdf (w.value / 2 ^ 16) e.spec) is (rung_calls image f entry w m bar offset x e v put place call).1) (no_drop f entry e (write_commits entry.act w) (write_irq entry.act w))
+    stays_so image f entry e (λ v call. both_ways (is_peer x.spec.bdf (w.value / 2 ^ 16) e.spec) is (rung_calls image f entry w m bar offset x e v put place call).1) (no_drop f entry e (write_commits entry.act w) (write_irq entry.act w))
 
 -- ---- the state register
 
@@ -422,13 +422,13 @@ state_become image f entry w m bar offset x e true own sound put zero_is place i
       refl,
       record {
         one = x;
-        there = endpoint-held image f entry.cell m x put.by.within.is.there;
+        there = endpoint_held image f entry.cell m x put.by.within.is.there;
         changes = inl (w.value, puts_from image f entry w m bar offset 0x10 x put zero_is place, λ same. both_ways (eqb x.state w.value) (not-true (eqb x.state w.value) parts.0) (eq-eqb x.state w.value (sym same)));
         link = sym (eqb-true e.spec.bdf x.spec.bdf link.0);
         other = λ same. both_ways (eqb e.spec.id x.spec.id) (not-true (eqb e.spec.id x.spec.id) link.1) (eq-eqb e.spec.id x.spec.id (sym same));
       },
     ) in
-    become-raised image f entry e (cond own (record (raised 0 e) { state = w.value }) (raised 0 e)) 0 sound (state_spec own w.value (raised 0 e) ∙ raised-spec 0 e) (state_pending own w.value (raised 0 e)) call
+    become_raised image f entry e (cond own (record (raised 0 e) { state = w.value }) (raised 0 e)) 0 sound (state_spec own w.value (raised 0 e) ∙ raised_spec 0 e) (state_pending own w.value (raised 0 e)) call
     (λ v c. (state_calls image f entry w m bar offset x e v put place c).0) (no_drop f entry e (write_commits entry.act w) (write_irq entry.act w))
     (λ foreign. ap (λ (b : Bool). cond b (record (raised 0 e) { state = w.value }) (raised 0 e)) (other foreign))
 state_become image f entry w m bar offset x e false own sound put zero_is place is other =
@@ -476,8 +476,8 @@ register_pending bar at value e u = register_by (eqb bar 0) (eqb at 0x08) (is_in
 
 register_become : (image : Image) (f : Facts) (entry : Entry) (w : IsWrite entry.act) (bar offset : ℕ) (e : Endpoint) (own : Bool) → NoCall image f entry e → (entry.cell ≢ e.spec.cell → own ≡ false) → HasBecome image f entry e (cond own (register_written bar offset w.value e) e)
 register_become image f entry w bar offset e true quiet other =
-    become_same image f entry e (register_written bar offset w.value e) (register_written-spec bar offset w.value e) (register_pending bar offset w.value e) quiet (no_drop f entry e (write_commits entry.act w) (write_irq entry.act w)) (λ foreign. absurd (false≢true (sym (other foreign))))
-register_become image f entry w bar offset e false quiet other = stays-so image f entry e quiet (no_drop f entry e (write_commits entry.act w) (write_irq entry.act w))
+    become_same image f entry e (register_written bar offset w.value e) (register_written_spec bar offset w.value e) (register_pending bar offset w.value e) quiet (no_drop f entry e (write_commits entry.act w) (write_irq entry.act w)) (λ foreign. absurd (false≢true (sym (other foreign))))
+register_become image f entry w bar offset e false quiet other = stays_so image f entry e quiet (no_drop f entry e (write_commits entry.act w) (write_irq entry.act w))
 
 -- ---- what a write leaves
 
@@ -504,10 +504,6 @@ foreign_device image f entry w m bar offset x o e put same foreign =
     ap (is_device x.spec.cell x.spec.device) same
     ∙ and_left (eqb e.spec.cell x.spec.cell) (eqb e.spec.device x.spec.device) (ne_eqb e.spec.cell x.spec.cell (λ is. foreign (sym (put_cell image f entry w m bar offset x put) ∙ sym is)))
 
-told_spec : (b : Bool) (o : Endpoint) → (cond b (raised 0 o) o).spec ≡ o.spec
-told_spec true o = raised-spec 0 o
-told_spec false o = refl
-
 -- a register that is neither calls nothing
 same_place : (image : Image) (f : Facts) (entry : Entry) (w : IsWrite entry.act) (m bar offset place value : ℕ) (x bell : Endpoint) → IsPut image f entry w m bar offset x → PutsRegister image f entry.cell entry.act place value bell → (eqb bar 0 && eqb offset place) ≡ true
 same_place image f entry w m bar offset place value x bell put puts =
@@ -531,7 +527,7 @@ written_now image f entry w m bar offset id n x e true state sound put there is_
     record {
       endpoint = cond peer (raised (w.value % 2 ^ 16) e) e;
       there = ap (endpoint_at id n) (written_rung x bar offset w.value f.endpoints is_bell)
-          ∙ found-changed id n (is_peer x.spec.bdf (w.value / 2 ^ 16)) (raised (w.value % 2 ^ 16)) f.endpoints e (raised-spec (w.value % 2 ^ 16)) there;
+          ∙ found_changed id n (is_peer x.spec.bdf (w.value / 2 ^ 16)) (raised (w.value % 2 ^ 16)) f.endpoints e (raised_spec (w.value % 2 ^ 16)) there;
       become = rung_become image f entry w m bar offset x e peer sound put (eqb-true bar 0 parts.0) (eqb-true offset 0x0c parts.1) refl;
     }
 written_now image f entry w m bar offset id n x e false true sound put there is_bell is_state =
@@ -542,7 +538,7 @@ written_now image f entry w m bar offset id n x e false true sound put there is_
     record {
       endpoint = cond own (record o { state = w.value }) o;
       there = ap (endpoint_at id n) (written_state x bar offset w.value f.endpoints is_bell is_state)
-          ∙ found-changed id n (is_device x.spec.cell x.spec.device) (λ (y : Endpoint). record y { state = w.value }) (told_of x w.value f.endpoints) o (λ y. refl) (found-told x e w.value f.endpoints id n there);
+          ∙ found_changed id n (is_device x.spec.cell x.spec.device) (λ (y : Endpoint). record y { state = w.value }) (told_of x w.value f.endpoints) o (λ y. refl) (found_told x e w.value f.endpoints id n there);
       become = state_become image f entry w m bar offset x e told own sound put (eqb-true bar 0 parts.0) (eqb-true offset 0x10 parts.1) refl (λ foreign. foreign_device image f entry w m bar offset x o e put (told_spec told e) foreign);
     }
 written_now image f entry w m bar offset id n x e false false sound put there is_bell is_state =
@@ -550,7 +546,7 @@ written_now image f entry w m bar offset id n x e false false sound put there is
     record {
       endpoint = cond own (register_written bar offset w.value e) e;
       there = ap (endpoint_at id n) (written_other x bar offset w.value f.endpoints is_bell is_state)
-          ∙ found-changed id n (is_device x.spec.cell x.spec.device) (register_written bar offset w.value) f.endpoints e (register_written-spec bar offset w.value) there;
+          ∙ found_changed id n (is_device x.spec.cell x.spec.device) (register_written bar offset w.value) f.endpoints e (register_written_spec bar offset w.value) there;
       become = register_become image f entry w bar offset e own
           (other_quiet image f entry w m bar offset x e put is_bell is_state)
           (λ foreign. foreign_device image f entry w m bar offset x e e put refl foreign);
@@ -578,16 +574,16 @@ reached_now image f entry id n e w sound small there acted (OnWindow window is) 
     (acted ∙ ap (λ (q : Reach). endpoints_put (devices_of image f entry.cell) q w.value) is)
     (config_now image f entry id n e at w.width w.value (write_quiet image f entry e w (λ m bar offset o by. by.outside window.within)) (no_drop f entry e (write_commits entry.act w) (write_irq entry.act w)) there)
 reached_now image f entry id n e w sound small there acted (OnRegister m bar offset x register is) =
-    let same : w.value % 2 ^ 32 ≡ w.value = value-fits w.width w.value register.wide small in
+    let same : w.value % 2 ^ 32 ≡ w.value = value_fits w.width w.value register.wide small in
     now_by image f entry id n e (endpoints_acted image f entry.cell entry.act) (written x bar offset w.value f.endpoints)
     (acted ∙ ap (λ (q : Reach). endpoints_put (devices_of image f entry.cell) q w.value) is
     ∙ ap (λ (o : Option Endpoint). option_map_or (λ (y : Endpoint). written y bar offset (w.value % 2 ^ 32) f.endpoints) o f.endpoints) register.within.is.there
     ∙ ap (λ (v : ℕ). written x bar offset v f.endpoints) same)
-    (written_now image f entry w m bar offset id n x e (eqb bar 0 && eqb offset 0x0c) (eqb bar 0 && eqb offset 0x10) (endpoint-sound image f id n e sound there) (record { by = register }) there refl refl)
+    (written_now image f entry w m bar offset id n x e (eqb bar 0 && eqb offset 0x0c) (eqb bar 0 && eqb offset 0x10) (endpoint_sound image f id n e sound there) (record { by = register }) there refl refl)
 
 -- behind an entry that is no Commit
-pub acted-now : (image : Image) (f : Facts) (entry : Entry) (id n : ℕ) (e : Endpoint) → IsSound image f → IsSmallAct entry.act → is_commit entry.act ≡ false → endpoint_at id n f.endpoints ≡ Some e → IsNow image f entry id n e (endpoints_acted image f entry.cell entry.act)
-acted-now image f entry id n e sound small other there =
+pub acted_now : (image : Image) (f : Facts) (entry : Entry) (id n : ℕ) (e : Endpoint) → IsSound image f → IsSmallAct entry.act → is_commit entry.act ≡ false → endpoint_at id n f.endpoints ≡ Some e → IsNow image f entry id n e (endpoints_acted image f entry.cell entry.act)
+acted_now image f entry id n e sound small other there =
     ⊎_elim
     (λ (still : IsStill entry.act). still_now image f entry id n e there still)
     (λ more. ⊎_elim

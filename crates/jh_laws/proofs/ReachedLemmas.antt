@@ -7,7 +7,7 @@ use Rattle.std.specs.Option.{option_map_or}
 use Rattle.std.proofs.lemmas.Bool.{both_ways, or_parts, or_cases, and_parts, and_from, not-true, eqb-true, eq-eqb, cases_lt, cases_Bool, false≢true, lt-ltb}
 use Rattle.std.proofs.lemmas.Option.{same_Some, slice_get-get_or}
 use Rattle.jh_num.specs.declared.address.TheConstants.{ADDRESS_END}
-use Rattle.jh_num.proofs.Lists.{IsFound-from_find, find-None}
+use Rattle.jh_num.proofs.Lists.{IsFound_from_find, find_None}
 use Rattle.jh_num.proofs.MemoryLemmas.{listed}
 use Rattle.jh_cellcfg.specs.declared.config.CellConfig.{CellConfig}
 use Rattle.jh_cellcfg.specs.declared.config.SystemConfig.{SystemConfig}
@@ -34,17 +34,17 @@ use Rattle.jh_history.specs.Grants.{is_kept, granted, behind_in, reach, devices_
 use Rattle.jh_history.specs.Lives.{cell_in, regions_in}
 use Rattle.jh_history.specs.Phases.{configs_of}
 use Rattle.jh_history.specs.Sound.{AreSoundCells, IsSound}
-use Rattle.jh_history.proofs.AccessLemmas.{reach_by-within, reach_by-beyond, places_from-row}
-use Rattle.jh_history.proofs.PlaceLemmas.{further-none, further-next}
-use Rattle.jh_history.proofs.GrantLemmas.{place_in_cell-further}
-use Rattle.jh_history.proofs.BehindLemmas.{takes_all-subpage, kept-row, answer-within, answer-beyond}
+use Rattle.jh_history.proofs.AccessLemmas.{reach_by_within, reach_by_beyond, places_from_row}
+use Rattle.jh_history.proofs.PlaceLemmas.{further_none, further_next}
+use Rattle.jh_history.proofs.GrantLemmas.{place_in_cell_further}
+use Rattle.jh_history.proofs.BehindLemmas.{takes_all_subpage, kept_row, answer_within, answer_beyond}
 use Rattle.jh_laws.specs.Grants.{may}
 use Rattle.jh_laws.specs.Held.{IsLive, IsGrantedTo, AreGrantedTo}
 use Rattle.jh_laws.specs.Ends.{HasAccess, LetsThrough, IsBehindMemory, IsAnsweredBy, IsInWindow, IsAnsweredByWindow, IsAnsweredByRegister, IsAnswered, GivesPlaces, AreItsPlaces}
-use Rattle.jh_laws.proofs.RootLemmas.{has_address-from}
-use Rattle.jh_laws.proofs.DevicesLemmas.{position-single, window-lies, window-none, found-passes}
-use Rattle.jh_laws.proofs.ListedLemmas.{places_from-listed, places_from-each, places_from-some}
-use Rattle.jh_laws.proofs.HeldLemmas.{live-cell, cell-live, number-of, granted-to, to-granted, regions_of_live, left_free, free_left}
+use Rattle.jh_laws.proofs.RootLemmas.{has_address_from}
+use Rattle.jh_laws.proofs.DevicesLemmas.{position_single, window_lies, window_none, found_passes}
+use Rattle.jh_laws.proofs.ListedLemmas.{places_from_listed, places_from_each, places_from_some}
+use Rattle.jh_laws.proofs.HeldLemmas.{live_cell, cell_live, number_of_holds, granted_to, to_granted_holds, regions_of_live, left_free, free_left}
 
 -- ---- memory
 
@@ -59,8 +59,8 @@ memory_granted image f id access at width sound some each =
     let end = (each (width - 1) (omega arith)).1.given in
     let below : at + (width - 1) < ADDRESS_END = end.below in
     let within : at + width ≤ ADDRESS_END = omega arith in
-    let found = places_from-some g at width (λ k lt. ((each k lt).0, granted-to image f id access (at + k) (each k lt).0 sound (each k lt).1)) in
-    (found.0, reach_by-within g at width within ∙ ap memory_or_nothing found.1)
+    let found = places_from_some g at width (λ k lt. ((each k lt).0, granted_to image f id access (at + k) (each k lt).0 sound (each k lt).1)) in
+    (found.0, reach_by_within g at width within ∙ ap memory_or_nothing found.1)
 
 -- and it reaches the places that are granted
 memory_listed : (image : Image) (f : Facts) (id : ℕ) (access : Access) (at width : ℕ) (place : ℕ → Place) → AreSoundCells image.system (configs_of f.cells) → 0 < width → ((k : ℕ) → k < width → IsGrantedTo image f.cells id access (at + k) (place k))
@@ -69,20 +69,20 @@ memory_listed image f id access at width place sound some each =
     let g : ℕ → Option Place = granted image f id access in
     let below : at + (width - 1) < ADDRESS_END = (each (width - 1) (omega arith)).given.below in
     let within : at + width ≤ ADDRESS_END = omega arith in
-    reach_by-within g at width within ∙ ap memory_or_nothing (places_from-listed g place at width (λ k lt. granted-to image f id access (at + k) (place k) sound (each k lt)))
+    reach_by_within g at width within ∙ ap memory_or_nothing (places_from_listed g place at width (λ k lt. granted_to image f id access (at + k) (place k) sound (each k lt)))
 
 granted_of : (image : Image) (f : Facts) (id : ℕ) (access : Access) (at width : ℕ) (o : Option (List Place)) (ps : List Place) → AreSoundCells image.system (configs_of f.cells) → places_from (granted image f id access) at width ≡ o → memory_or_nothing o ≡ Memory ps
     → AreGrantedTo image f.cells id access at width
 granted_of image f id access at width None ps sound is e = absurd (nothing_memory ps e)
 granted_of image f id access at width (Some qs) ps sound is e = λ k lt.
-    let found = places_from-each (granted image f id access) at width qs is k lt in
-    (found.0, to-granted image f id access (at + k) found.0 sound found.1)
+    let found = places_from_each (granted image f id access) at width qs is k lt in
+    (found.0, to_granted_holds image f id access (at + k) found.0 sound found.1)
 
 -- where an access reaches memory, each byte is granted
 pub granted_memory : (image : Image) (f : Facts) (id : ℕ) (access : Access) (at width : ℕ) (ps : List Place) → AreSoundCells image.system (configs_of f.cells) → reach_by (granted image f id access) at width ≡ Memory ps → AreGrantedTo image f.cells id access at width
 granted_memory image f id access at width ps sound e = elim (cases_lt ADDRESS_END (at + width)) [
-  | inl beyond ↦ absurd (nothing_memory ps (sym (reach_by-beyond (granted image f id access) at width beyond) ∙ e))
-  | inr within ↦ granted_of image f id access at width (places_from (granted image f id access) at width) ps sound refl (sym (reach_by-within (granted image f id access) at width within) ∙ e)
+  | inl beyond ↦ absurd (nothing_memory ps (sym (reach_by_beyond (granted image f id access) at width beyond) ∙ e))
+  | inr within ↦ granted_of image f id access at width (places_from (granted image f id access) at width) ps sound refl (sym (reach_by_within (granted image f id access) at width within) ∙ e)
 ]
 
 -- memory is reached, or nothing of it
@@ -92,8 +92,8 @@ memory_by (Some ps) = inl (ps, refl)
 
 memory_cases : (g : ℕ → Option Place) (at width : ℕ) → ((ps : List Place) × (reach_by g at width ≡ Memory ps)) ⊎ (reach_by g at width ≡ Nothing)
 memory_cases g at width = elim (cases_lt ADDRESS_END (at + width)) [
-  | inl beyond ↦ inr (reach_by-beyond g at width beyond)
-  | inr within ↦ ⊎_elim (λ found. inl (found.0, reach_by-within g at width within ∙ found.1)) (λ none. inr (reach_by-within g at width within ∙ none)) (memory_by (places_from g at width))
+  | inl beyond ↦ inr (reach_by_beyond g at width beyond)
+  | inr within ↦ ⊎_elim (λ found. inl (found.0, reach_by_within g at width within ∙ found.1)) (λ none. inr (reach_by_within g at width within ∙ none)) (memory_by (places_from g at width))
 ]
 
 -- ---- a subpage region that has the access
@@ -104,20 +104,20 @@ kept_of image cells id p = is_kept image cells id (Physical p)
 row_free : (kept : Place → Bool) (p : Place) (n : ℕ) → ((k : ℕ) → k < n → kept (further p k) ≡ false) → list_any kept (places_in_row p n) ≡ false
 row_free kept p zero each = refl
 row_free kept p (suc n) each =
-    ap (λ (b : Bool). b || list_any kept (places_in_row (further p 1) n)) (ap kept (sym (further-none p)) ∙ each 0 (omega arith))
-    ∙ row_free kept (further p 1) n (λ k lt. ap kept (further-next p k) ∙ each (k + 1) (omega arith))
+    ap (λ (b : Bool). b || list_any kept (places_in_row (further p 1) n)) (ap kept (sym (further_none p)) ∙ each 0 (omega arith))
+    ∙ row_free kept (further p 1) n (λ k lt. ap kept (further_next p k) ∙ each (k + 1) (omega arith))
 
 free_row : (kept : Place → Bool) (p : Place) (n k : ℕ) → k < n → list_any kept (places_in_row p n) ≡ false → kept (further p k) ≡ false
 free_row kept p zero k lt none = absurd (omega arith)
-free_row kept p (suc n) zero lt none = ap kept (further-none p) ∙ (or_parts (kept p) (list_any kept (places_in_row (further p 1) n)) none).0
+free_row kept p (suc n) zero lt none = ap kept (further_none p) ∙ (or_parts (kept p) (list_any kept (places_in_row (further p 1) n)) none).0
 free_row kept p (suc n) (suc k) lt none =
     let e : k + 1 ≡ suc k = omega arith in
-    ap kept (ap (further p) (sym e) ∙ sym (further-next p k)) ∙ free_row kept (further p 1) n k (omega arith) (or_parts (kept p) (list_any kept (places_in_row (further p 1) n)) none).1
+    ap kept (ap (further p) (sym e) ∙ sym (further_next p k)) ∙ free_row kept (further p 1) n k (omega arith) (or_parts (kept p) (list_any kept (places_in_row (further p 1) n)) none).1
 
 -- by the definition it takes the access
-pub has-takes : (image : Image) (cells : List Live) (id at width : ℕ) (r : Region) → AreSoundCells image.system (configs_of cells) → 0 < width → HasAccess image cells id at width r
+pub has_takes : (image : Image) (cells : List Live) (id at width : ℕ) (r : Region) → AreSoundCells image.system (configs_of cells) → 0 < width → HasAccess image cells id at width r
     → Contains (regions_in image cells id) r × (takes_all (kept_of image cells id) at width r ≡ true)
-has-takes image cells id at width r sound some h =
+has_takes image cells id at width r sound some h =
     let kept : Place → Bool = is_kept image cells id in
     let low : r.virt_start ≤ at = h.first in
     let high : at + width ≤ r.virt_start + r.size = h.last in
@@ -126,8 +126,8 @@ has-takes image cells id at width r sound some h =
     let free : list_any kept (places_in_row (place_in_cell id r at) width) ≡ false = row_free kept (place_in_cell id r at) width
     (λ k lt.
     let P : ℕ → Type 0 = λ i. is_kept image cells i (place_in_cell i r (at + k)) ≡ false in
-    ap kept (sym (place_in_cell-further id r at k low)) ∙ subst P h.named (left_free image cells h.cell (place_in_cell h.cell.id r (at + k)) (h.left k lt))) in
-    let open_is : is_at_closed (kept_of image cells id) at width r ≡ false = sym (kept-row image cells id at width r low) ∙ free in
+    ap kept (sym (place_in_cell_further id r at k low)) ∙ subst P h.named (left_free image cells h.cell (place_in_cell h.cell.id r (at + k)) (h.left k lt))) in
+    let open_is : is_at_closed (kept_of image cells id) at width r ≡ false = sym (kept_row image cells id at width r low) ∙ free in
     let C : List Region → Type 0 = λ rs. Contains rs r in
     let R : ℕ → Type 0 = λ i. regions_in image cells i ≡ h.cell.memory_regions in (
       subst C (sym (subst R h.named (regions_of_live image cells h.cell sound h.live))) h.held,
@@ -141,34 +141,34 @@ has_of_cell : (image : Image) (cells : List Live) (id at width : ℕ) (r : Regio
 has_of_cell image cells id at width r None some is held takes = let lt : held.0 < 0 = held.1 in absurd (omega arith)
 has_of_cell image cells id at width r (Some cell) some is held takes =
     let kept : Place → Bool = is_kept image cells id in
-    let live = cell-live image cells id cell is in
+    let live = cell_live image cells id cell is in
     let whole = and_parts (has_size r && not (is_page_mapped r)) (lies_between r.virt_start (virt_end r) at width && not (is_at_closed (kept_of image cells id) at width r)) takes in
     let lies = and_parts (lies_between r.virt_start (virt_end r) at width) (not (is_at_closed (kept_of image cells id) at width r)) whole.1 in
     let parts = lies_parts r.virt_start (virt_end r) at width some lies.0 in
-    let free : list_any kept (places_in_row (place_in_cell id r at) width) ≡ false = kept-row image cells id at width r parts.0 ∙ not-true (is_at_closed (kept_of image cells id) at width r) lies.1 in
+    let free : list_any kept (places_in_row (place_in_cell id r at) width) ≡ false = kept_row image cells id at width r parts.0 ∙ not-true (is_at_closed (kept_of image cells id) at width r) lies.1 in
     record {
       cell = cell;
       live = live.0;
       named = live.1;
       held = held;
-      part = takes_all-subpage (kept_of image cells id) at width r takes;
+      part = takes_all_subpage (kept_of image cells id) at width r takes;
       first = parts.0;
       last = parts.1;
       left = λ k lt.
           let P : ℕ → Type 0 = λ i. is_kept image cells i (place_in_cell i r (at + k)) ≡ false in
           free_left image cells cell (place_in_cell cell.id r (at + k))
-          (subst P (sym live.1) (ap kept (place_in_cell-further id r at k parts.0) ∙ free_row kept (place_in_cell id r at) width k lt free));
+          (subst P (sym live.1) (ap kept (place_in_cell_further id r at k parts.0) ∙ free_row kept (place_in_cell id r at) width k lt free));
     }
 
 -- and what takes it has the access
-pub takes-has : (image : Image) (cells : List Live) (id at width : ℕ) (r : Region) → 0 < width → Contains (regions_in image cells id) r → takes_all (kept_of image cells id) at width r ≡ true → HasAccess image cells id at width r
-takes-has image cells id at width r some held takes = has_of_cell image cells id at width r (cell_in image cells id) some refl held takes
+pub takes_has : (image : Image) (cells : List Live) (id at width : ℕ) (r : Region) → 0 < width → Contains (regions_in image cells id) r → takes_all (kept_of image cells id) at width r ≡ true → HasAccess image cells id at width r
+takes_has image cells id at width r some held takes = has_of_cell image cells id at width r (cell_in image cells id) some refl held takes
 
 -- one region has it at most
 same_at : (image : Image) (cells : List Live) (cell : CellConfig) (r s : Region) (at : ℕ) → AreSoundCells image.system (configs_of cells) → IsLive image cells cell → Contains cell.memory_regions r → Contains cell.memory_regions s
     → has_address r at ≡ true → has_address s at ≡ true → r ≡ s
 same_at image cells cell r s at sound live in_r in_s has_r has_s =
-    let number = number-of image cells cell live in
+    let number = number_of_holds image cells cell live in
     let regions : List Region = cell.memory_regions in
     let item_r : slice_get regions in_r.0 ≡ Some r = slice_get-get_or regions in_r.0 r in_r.1 ∙ ap Some in_r.2 in
     let item_s : slice_get regions in_s.0 ≡ Some s = slice_get-get_or regions in_s.0 s in_s.1 ∙ ap Some in_s.2 in
@@ -176,13 +176,13 @@ same_at image cells cell r s at sound live in_r in_s has_r has_s =
     same_Some r s (sym item_r ∙ ap (slice_get regions) same ∙ item_s)
 
 has_first : (image : Image) (cells : List Live) (id at width : ℕ) (r : Region) → 0 < width → HasAccess image cells id at width r → has_address r at ≡ true
-has_first image cells id at width r some h = let last = h.last in has_address-from r at h.first (omega arith)
+has_first image cells id at width r some h = let last = h.last in has_address_from r at h.first (omega arith)
 
-pub one-region : (image : Image) (cells : List Live) (id at width : ℕ) (r s : Region) → AreSoundCells image.system (configs_of cells) → 0 < width → (h : HasAccess image cells id at width r) (k : HasAccess image cells id at width s) → r ≡ s
-one-region image cells id at width r s sound some h k =
+pub one_region : (image : Image) (cells : List Live) (id at width : ℕ) (r s : Region) → AreSoundCells image.system (configs_of cells) → 0 < width → (h : HasAccess image cells id at width r) (k : HasAccess image cells id at width s) → r ≡ s
+one_region image cells id at width r s sound some h k =
     let P : ℕ → Type 0 = λ i. cell_in image cells i ≡ Some h.cell in
     let Q : ℕ → Type 0 = λ i. cell_in image cells i ≡ Some k.cell in
-    let same : k.cell ≡ h.cell = same_Some k.cell h.cell (sym (subst Q k.named (live-cell image cells k.cell sound k.live)) ∙ subst P h.named (live-cell image cells h.cell sound h.live)) in
+    let same : k.cell ≡ h.cell = same_Some k.cell h.cell (sym (subst Q k.named (live_cell image cells k.cell sound k.live)) ∙ subst P h.named (live_cell image cells h.cell sound h.live)) in
     let C : CellConfig → Type 0 = λ c. Contains c.memory_regions s in
     same_at image cells h.cell r s at sound h.live h.held (subst C same k.held) (has_first image cells id at width r some h) (has_first image cells id at width s some k)
 
@@ -198,8 +198,8 @@ may_by ToRead r other = refl
 may_by ToWrite r other = refl
 may_by ToFetch r other = absurd (other refl)
 
-through-lets : (access : Access) (at width : ℕ) (r : Region) → access ≢ ToFetch → LetsThrough access at width r → lets_through at width (is_write access) r ≡ true
-through-lets access at width r other h =
+through_lets : (access : Access) (at width : ℕ) (r : Region) → access ≢ ToFetch → LetsThrough access at width r → lets_through at width (is_write access) r ≡ true
+through_lets access at width r other h =
     let aligned : (allows_unaligned r || eqb (at % width) 0) ≡ true = ⊎_elim
     (λ (e : at % width ≡ 0). ap (λ (b : Bool). allows_unaligned r || b) (eq-eqb (at % width) 0 e) ∙ or_true (allows_unaligned r))
     (λ (e : IsTrue (allows_unaligned r)). ap (λ (b : Bool). b || eqb (at % width) 0) e)
@@ -211,8 +211,8 @@ through-lets access at width r other h =
     or_true true = refl
     or_true false = refl
 
-lets-through : (access : Access) (at width : ℕ) (r : Region) → access ≢ ToFetch → lets_through at width (is_write access) r ≡ true → LetsThrough access at width r
-lets-through access at width r other h =
+lets_through_holds : (access : Access) (at width : ℕ) (r : Region) → access ≢ ToFetch → lets_through at width (is_write access) r ≡ true → LetsThrough access at width r
+lets_through_holds access at width r other h =
     let right = and_parts (has_right (is_write access) r) (allows_width width r && (allows_unaligned r || eqb (at % width) 0)) h in
     let wide = and_parts (allows_width width r) (allows_unaligned r || eqb (at % width) 0) right.1 in
     record {
@@ -236,11 +236,11 @@ window_parts base end_bus at width false is some lies =
     let last : at + width ≤ min (base + (end_bus + 1) * 0x100000) 0xffffffffffffffff = parts.1 in
     (λ zero. both_ways (eqb base 0) is (eq-eqb base 0 zero), parts.0, omega arith)
 
-in-window : (system : SystemConfig) (at width : ℕ) → at + width ≤ ADDRESS_END → IsInWindow system at width → lies_between (ecam_start system) (ecam_end system) at width ≡ true
-in-window system at width below h = window_from system.pci_mmconfig_base system.pci_mmconfig_end_bus at width (eqb system.pci_mmconfig_base 0) refl below h.some h.first h.last
+in_window : (system : SystemConfig) (at width : ℕ) → at + width ≤ ADDRESS_END → IsInWindow system at width → lies_between (ecam_start system) (ecam_end system) at width ≡ true
+in_window system at width below h = window_from system.pci_mmconfig_base system.pci_mmconfig_end_bus at width (eqb system.pci_mmconfig_base 0) refl below h.some h.first h.last
 
-window-in : (system : SystemConfig) (at width : ℕ) → 0 < width → lies_between (ecam_start system) (ecam_end system) at width ≡ true → IsInWindow system at width
-window-in system at width some lies =
+window_in : (system : SystemConfig) (at width : ℕ) → 0 < width → lies_between (ecam_start system) (ecam_end system) at width ≡ true → IsInWindow system at width
+window_in system at width some lies =
     let parts = window_parts system.pci_mmconfig_base system.pci_mmconfig_end_bus at width (eqb system.pci_mmconfig_base 0) refl some lies in
     record { some = parts.0; first = parts.1; last = parts.2 }
 
@@ -262,9 +262,6 @@ true_wide width h = elim (cases_Bool (eqb width 1)) [
 abbrev is_wide : ℕ → Bool
 is_wide width = eqb width 1 || eqb width 2 || eqb width 4
 
-ecam_hit : (start at width : ℕ) → IsWide width → (at - start) % width ≡ 0 → by_ecam_at start at width ≡ Ecam
-ecam_hit start at width wide aligned = ap (λ (b : Bool). cond b Ecam HitsNothing) (and_from (is_wide width) (eqb ((at - start) % width) 0) (wide_true width wide) (eq-eqb ((at - start) % width) 0 aligned))
-
 -- ---- the ways in which an access ends
 
 pub data Way (image : Image) (f : Facts) (id : ℕ) (access : Access) (at width : ℕ) : Type 0 where
@@ -275,7 +272,7 @@ pub data Way (image : Image) (f : Facts) (id : ℕ) (access : Access) (at width 
   OnNothing : (IsAnswered image f id access at width → ⊥) → reach image f id access at width ≡ Nothing → Way image f id access at width
 
 -- some register answers
-abbrev ByRegister : Image → Facts → ℕ → Access → ℕ → ℕ → Type 0
+abbrev pub ByRegister : Image → Facts → ℕ → Access → ℕ → ℕ → Type 0
 ByRegister image f id access at width = (n : ℕ) × (bar : ℕ) × (offset : ℕ) × (e : Endpoint) × IsAnsweredByRegister image f id access at width n bar offset e
 
 -- nothing answers where memory doesn't, and neither a region nor the window nor a register does
@@ -295,13 +292,13 @@ Behind image f id access at width = IsBehindMemory image f.cells id access at wi
 -- a region has the access, and lets it through or not
 region_way : (image : Image) (f : Facts) (id : ℕ) (access : Access) (at width : ℕ) (r : Region) (b : Bool) → AreSoundCells image.system (configs_of f.cells) → 0 < width → Behind image f id access at width → HasAccess image f.cells id at width r
     → lets_through at width (is_write access) r ≡ b → reach image f id access at width ≡ cond b (Subpage (places_in_row (place_in_cell id r at) width)) Nothing → Way image f id access at width
-region_way image f id access at width r true sound some behind has is e = OnRegion r (record { behind = behind; has = has; through = lets-through access at width r behind.no_fetch is }) e
+region_way image f id access at width r true sound some behind has is e = OnRegion r (record { behind = behind; has = has; through = lets_through_holds access at width r behind.no_fetch is }) e
 region_way image f id access at width r false sound some behind has is e =
     OnNothing
     (unanswered image f id access at width behind.lacks
     (λ s by.
     let P : Region → Type 0 = LetsThrough access at width in
-    both_ways (lets_through at width (is_write access) r) is (through-lets access at width r behind.no_fetch (subst P (one-region image f.cells id at width s r sound some by.has has) by.through)))
+    both_ways (lets_through at width (is_write access) r) is (through_lets access at width r behind.no_fetch (subst P (one_region image f.cells id at width s r sound some by.has has) by.through)))
     (λ by. by.none r has)
     (λ n bar offset o by. by.none r has))
     e
@@ -337,7 +334,7 @@ word_way : (image : Image) (f : Facts) (id : ℕ) (access : Access) (at width : 
     → Way image f id access at width
 word_way image f id access at width w true sound some behind none outside found is e =
     let parts = and_parts (eqb width 4) (eqb (at % 4) 0) is in
-    let own = window-lies image f id at width w sound some found in
+    let own = window_lies image f id at width w sound some found in
     let aligned : at % 4 ≡ 0 = eqb-true (at % 4) 0 parts.1 in
     OnRegister w.device w.bar (at - w.start) own.endpoint
     (record {
@@ -362,11 +359,11 @@ bar_way : (image : Image) (f : Facts) (id : ℕ) (access : Access) (at width : �
     → reach image f id access at width ≡ by_device image.system.pci_mmconfig_base o at width (option_map_or (by_window at width) (position (window_has at width) (asked_windows o)) HitsNothing) → Way image f id access at width
 bar_way image f id access at width None sound some behind none outside found e =
     OnNothing
-    (unanswered image f id access at width behind.lacks (λ r by. none r by.has) (λ by. outside by.within) (λ n bar offset o by. window-none image f id at width sound found n bar o by.within))
+    (unanswered image f id access at width behind.lacks (λ r by. none r by.has) (λ by. outside by.within) (λ n bar offset o by. window_none image f id at width sound found n bar o by.within))
     e
 bar_way image f id access at width (Some w) sound some behind none outside found e =
     word_way image f id access at width w (is_word at width) sound some behind none outside found refl
-    (e ∙ ap (λ (p : Option ℕ). by_device image.system.pci_mmconfig_base (Some w) at width (option_map_or (by_window at width) p HitsNothing)) (position-single (window_has at width) w (found-passes image f id at width w found)))
+    (e ∙ ap (λ (p : Option ℕ). by_device image.system.pci_mmconfig_base (Some w) at width (option_map_or (by_window at width) p HitsNothing)) (position_single (window_has at width) w (found_passes image f id at width w found)))
 
 window_way : (image : Image) (f : Facts) (id : ℕ) (access : Access) (at width : ℕ) (o : Option TheWindow) (b : Bool) → IsSound image f → 0 < width → Behind image f id access at width → NoRegion image f id at width
     → window_found (devices_of image f id) at width ≡ o → lies_between (ecam_start image.system) (ecam_end image.system) at width ≡ b
@@ -374,10 +371,10 @@ window_way : (image : Image) (f : Facts) (id : ℕ) (access : Access) (at width 
     ≡ by_device image.system.pci_mmconfig_base o at width (cond b (by_ecam_at image.system.pci_mmconfig_base at width) (option_map_or (by_window at width) (position (window_has at width) (asked_windows o)) HitsNothing))
     → Way image f id access at width
 window_way image f id access at width o true sound some behind none found is e =
-    config_way image f id access at width o (is_wide width && eqb ((at - image.system.pci_mmconfig_base) % width) 0) behind none (window-in image.system at width some is) refl e
+    config_way image f id access at width o (is_wide width && eqb ((at - image.system.pci_mmconfig_base) % width) 0) behind none (window_in image.system at width some is) refl e
 window_way image f id access at width o false sound some behind none found is e =
     bar_way image f id access at width o sound some behind none
-    (λ within. both_ways (lies_between (ecam_start image.system) (ecam_end image.system) at width) is (in-window image.system at width behind.below within))
+    (λ within. both_ways (lies_between (ecam_start image.system) (ecam_end image.system) at width) is (in_window image.system at width behind.below within))
     found e
 
 abbrev answer_with : Image → Facts → ℕ → Option Region → Option TheWindow → Bool → ℕ → ℕ → Reach
@@ -386,13 +383,13 @@ answer_with image f id o window write at width = answer_by id o (ecam_start imag
 found_way : (image : Image) (f : Facts) (id : ℕ) (access : Access) (at width : ℕ) (o : Option Region) → IsSound image f → 0 < width → Behind image f id access at width
     → find (takes_all (kept_of image f.cells id) at width) (regions_in image f.cells id) ≡ o → reach image f id access at width ≡ answer_with image f id o (window_found (devices_of image f id) at width) (is_write access) at width → Way image f id access at width
 found_way image f id access at width (Some r) sound some behind is e =
-    let found = IsFound-from_find (takes_all (kept_of image f.cells id) at width) (regions_in image f.cells id) r is in
-    region_way image f id access at width r (lets_through at width (is_write access) r) sound.cells some behind (takes-has image f.cells id at width r some found.held found.passes) refl e
+    let found = IsFound_from_find (takes_all (kept_of image f.cells id) at width) (regions_in image f.cells id) r is in
+    region_way image f id access at width r (lets_through at width (is_write access) r) sound.cells some behind (takes_has image f.cells id at width r some found.held found.passes) refl e
 found_way image f id access at width None sound some behind is e =
     window_way image f id access at width (window_found (devices_of image f id) at width) (lies_between (ecam_start image.system) (ecam_end image.system) at width) sound some behind
     (λ r has.
-    let takes = has-takes image f.cells id at width r sound.cells some has in
-    both_ways (takes_all (kept_of image f.cells id) at width r) (find-None (takes_all (kept_of image f.cells id) at width) (regions_in image f.cells id) r is takes.0) takes.1)
+    let takes = has_takes image f.cells id at width r sound.cells some has in
+    both_ways (takes_all (kept_of image f.cells id) at width r) (find_None (takes_all (kept_of image f.cells id) at width) (regions_in image f.cells id) r is takes.0) takes.1)
     refl refl e
 
 -- an access that is no fetch
@@ -403,10 +400,10 @@ register_way image f id access at width sound some other lacks by e = elim (case
   | inl beyond ↦
       OnNothing
       (unanswered image f id access at width lacks (λ r h. let low = h.behind.below in absurd (omega arith)) (λ h. let low = h.behind.below in absurd (omega arith)) (λ n bar offset o h. let low = h.behind.below in absurd (omega arith)))
-      (e ∙ answer-beyond (regions_in image f.cells id) (devices_of image f id) (is_kept image f.cells id) image.system access at width beyond)
+      (e ∙ answer_beyond (regions_in image f.cells id) (devices_of image f id) (is_kept image f.cells id) image.system access at width beyond)
   | inr within ↦
       found_way image f id access at width (find (takes_all (kept_of image f.cells id) at width) (regions_in image f.cells id)) sound some (record { no_fetch = other; below = within; lacks = lacks }) refl
-      (e ∙ answer-within (regions_in image f.cells id) (devices_of image f id) (is_kept image f.cells id) image.system access at width within
+      (e ∙ answer_within (regions_in image f.cells id) (devices_of image f id) (is_kept image f.cells id) image.system access at width within
       ∙ by (find (takes_all (kept_of image f.cells id) at width) (regions_in image f.cells id)) (window_found (devices_of image f id) at width))
 ]
 
@@ -415,8 +412,8 @@ fetch_way image f id at width lacks e =
     OnNothing
     (unanswered image f id ToFetch at width lacks (λ r h. h.behind.no_fetch refl) (λ h. h.behind.no_fetch refl) (λ n bar offset o h. h.behind.no_fetch refl))
     (e ∙ elim (cases_lt ADDRESS_END (at + width)) [
-      | inl beyond ↦ answer-beyond (regions_in image f.cells id) (devices_of image f id) (is_kept image f.cells id) image.system ToFetch at width beyond
-      | inr within ↦ answer-within (regions_in image f.cells id) (devices_of image f id) (is_kept image f.cells id) image.system ToFetch at width within
+      | inl beyond ↦ answer_beyond (regions_in image f.cells id) (devices_of image f id) (is_kept image f.cells id) image.system ToFetch at width beyond
+      | inr within ↦ answer_within (regions_in image f.cells id) (devices_of image f id) (is_kept image f.cells id) image.system ToFetch at width within
     ])
 
 abbrev access_number : Access → ℕ
@@ -443,17 +440,17 @@ way image f id access at width sound some =
 
 -- ---- the places of an access
 
-row-listed : (id : ℕ) (r : Region) (at width : ℕ) (place : ℕ → Place) → r.virt_start ≤ at → ((k : ℕ) → k < width → place k ≡ place_in_cell id r (at + k)) → places_in_row (place_in_cell id r at) width ≡ listed place width
-row-listed id r at width place low each =
+row_listed : (id : ℕ) (r : Region) (at width : ℕ) (place : ℕ → Place) → r.virt_start ≤ at → ((k : ℕ) → k < width → place k ≡ place_in_cell id r (at + k)) → places_in_row (place_in_cell id r at) width ≡ listed place width
+row_listed id r at width place low each =
     let g : ℕ → Option Place = λ a. Some (place_in_cell id r a) in
     same_Some (places_in_row (place_in_cell id r at) width) (listed place width)
-    (sym (places_from-row g (place_in_cell id r at) at width (λ k lt. ap Some (place_in_cell-further id r at k low)))
-    ∙ places_from-listed g place at width (λ k lt. ap Some (sym (each k lt))))
+    (sym (places_from_row g (place_in_cell id r at) at width (λ k lt. ap Some (place_in_cell_further id r at k low)))
+    ∙ places_from_listed g place at width (λ k lt. ap Some (sym (each k lt))))
 
 -- those of memory
-pub places-of_memory : (image : Image) (f : Facts) (id : ℕ) (access : Access) (at width : ℕ) (ps : List Place) (place : ℕ → Place) → AreSoundCells image.system (configs_of f.cells) → 0 < width → AreGrantedTo image f.cells id access at width
+pub places_of_memory : (image : Image) (f : Facts) (id : ℕ) (access : Access) (at width : ℕ) (ps : List Place) (place : ℕ → Place) → AreSoundCells image.system (configs_of f.cells) → 0 < width → AreGrantedTo image f.cells id access at width
     → reach image f id access at width ≡ Memory ps → AreItsPlaces image f.cells id access at width place → ps ≡ listed place width
-places-of_memory image f id access at width ps place sound some granted is are =
+places_of_memory image f id access at width ps place sound some granted is are =
     ⊎_elim
     (λ (each : (k : ℕ) → k < width → IsGrantedTo image f.cells id access (at + k) (place k)).
     same_memory ps (listed place width) (sym is ∙ ap (λ (r : Reach). or_behind r (behind_in image f.cells f.endpoints id access at width)) (memory_listed image f id access at width place sound some each)))
@@ -468,20 +465,20 @@ places-of_memory image f id access at width ps place sound some granted is are =
     same_memory qs rs e = ap memory_of e
 
 -- those of a subpage region
-pub places-of_region : (image : Image) (f : Facts) (id : ℕ) (access : Access) (at width : ℕ) (r : Region) (place : ℕ → Place) → AreSoundCells image.system (configs_of f.cells) → 0 < width → IsAnsweredBy image f.cells id access at width r
+pub places_of_region : (image : Image) (f : Facts) (id : ℕ) (access : Access) (at width : ℕ) (r : Region) (place : ℕ → Place) → AreSoundCells image.system (configs_of f.cells) → 0 < width → IsAnsweredBy image f.cells id access at width r
     → AreItsPlaces image f.cells id access at width place → places_in_row (place_in_cell id r at) width ≡ listed place width
-places-of_region image f id access at width r place sound some answers are =
+places_of_region image f id access at width r place sound some answers are =
     ⊎_elim
     (λ (each : (k : ℕ) → k < width → IsGrantedTo image f.cells id access (at + k) (place k)). absurd (answers.behind.lacks (λ k lt. (place k, each k lt))))
     (λ (by : GivesPlaces image f.cells id access at width place).
-    let same : by.region ≡ r = one-region image f.cells id at width by.region r sound some by.answers.has answers.has in
+    let same : by.region ≡ r = one_region image f.cells id at width by.region r sound some by.answers.has answers.has in
     let P : Region → Type 0 = λ s. places_in_row (place_in_cell id s at) width ≡ listed place width in
     subst P same
-    (row-listed id by.region at width place by.answers.has.first (λ k lt.
+    (row_listed id by.region at width place by.answers.has.first (λ k lt.
     by.given k lt ∙ ap (λ (i : ℕ). place_in_cell i by.region (at + k)) by.answers.has.named)))
     are
 
 -- and each access that a region answers has them
-pub region-places : (image : Image) (cells : List Live) (id : ℕ) (access : Access) (at width : ℕ) (r : Region) → IsAnsweredBy image cells id access at width r → AreItsPlaces image cells id access at width (λ k. place_in_cell id r (at + k))
-region-places image cells id access at width r answers =
+pub region_places : (image : Image) (cells : List Live) (id : ℕ) (access : Access) (at width : ℕ) (r : Region) → IsAnsweredBy image cells id access at width r → AreItsPlaces image cells id access at width (λ k. place_in_cell id r (at + k))
+region_places image cells id access at width r answers =
     inr (record { region = r; answers = answers; given = λ k lt. ap (λ (i : ℕ). place_in_cell i r (at + k)) (sym answers.has.named) })

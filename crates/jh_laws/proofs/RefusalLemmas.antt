@@ -9,8 +9,8 @@ use Rattle.jh_cellcfg.specs.declared.config.CellConfig.{CellConfig}
 use Rattle.jh_cellcfg.specs.declared.config.SystemConfig.{SystemConfig}
 use Rattle.jh_cellcfg.specs.declared.fault.ConfigFault.{ConfigFault}
 use Rattle.jh_cellcfg.specs.declared.fault.ConfigFault.TheVariants.{Short, Signature, Revision, Name, Count, Trailing, NoMemory}
-use Rattle.jh_cellcfg.specs.declared.fault.Which.{Which}
-use Rattle.jh_cellcfg.specs.declared.fault.Which.TheVariants.{CpuSet, MemoryRegions, CacheRegions, Irqchips, PioRegions, PciDevices, PciCaps, StreamIds, Total}
+use Rattle.jh_cellcfg.specs.declared.fault.Part.{Part}
+use Rattle.jh_cellcfg.specs.declared.fault.Part.TheVariants.{CpuSet, MemoryRegions, CacheRegions, Irqchips, PioRegions, PciDevices, PciCaps, StreamIds, Total}
 use Rattle.jh_cellcfg.specs.Faults.{header_fault, header_size}
 use Rattle.jh_check.specs.Refusals.{is_known, names_beyond, by_check, refusal_of}
 use Rattle.jh_check.specs.declared.verdict.NewCell.{NewCell}
@@ -34,7 +34,7 @@ use Rattle.jh_history.specs.Configs.{ReadCell, Reads, Refuses, bytes_at, refused
 use Rattle.jh_history.specs.Phases.{configs_of, is_locked, is_other_locked, may_give, unless_refused, creation_by, creation_of, refused_by, id_refusal, first_refusal, decision}
 use Rattle.jh_history.specs.Due.{due_at}
 use Rattle.jh_history.specs.Sound.{IsSound}
-use Rattle.jh_history.proofs.DuePhaseLemmas.{IsActIn, IsLater, later-open}
+use Rattle.jh_history.proofs.DuePhaseLemmas.{IsActIn, IsLater, later_open}
 
 -- each is one of the error numbers
 abbrev Fits : Option ℤ → Type 0
@@ -67,7 +67,7 @@ abbrev FitsRead : ReadCell → Type 0
 FitsRead (Reads config) = Unit {0}
 FitsRead (Refuses number) = FitsSigned w64 number
 
-count_fits : (which : Which) (found : ℕ) → FitsSigned w64 (refused_for (Count which found))
+count_fits : (part : Part) (found : ℕ) → FitsSigned w64 (refused_for (Count part found))
 count_fits Total found = long_fits
 count_fits CpuSet found = invalid_fits
 count_fits MemoryRegions found = invalid_fits
@@ -79,7 +79,7 @@ count_fits PciCaps found = invalid_fits
 count_fits StreamIds found = invalid_fits
 
 fault_fits : (fault : ConfigFault) → FitsSigned w64 (refused_for fault)
-fault_fits (Count which found) = count_fits which found
+fault_fits (Count part found) = count_fits part found
 fault_fits (Short need) = invalid_fits
 fault_fits Signature = invalid_fits
 fault_fits (Revision found) = invalid_fits
@@ -178,7 +178,7 @@ in_phase image f caller call (ToFinish answer) act is = subst FitsRefusal (sym i
 
 by_act : (image : Image) (f : Facts) (entry : Entry) (act : Act) → entry.act ≡ act → IsSound image f → due_at image f entry.cpu ≡ Some entry → FitsRefusal entry.act
 by_act image f entry (Decide refused) is sound due =
-    let of = later-open image f entry sound due (subst (λ (a : Act). IsLater a) (sym is) tt) in
+    let of = later_open image f entry sound due (subst (λ (a : Act). IsLater a) (sym is) tt) in
     in_phase image f of.call.caller of.call.call of.call.phase entry.act of.phase
 by_act image f entry (Read width at got) is sound due = subst FitsRefusal (sym is) tt
 by_act image f entry (Write width at value ok) is sound due = subst FitsRefusal (sym is) tt
@@ -194,5 +194,5 @@ by_act image f entry (Note id) is sound due = subst FitsRefusal (sym is) tt
 by_act image f entry (Noted id how) is sound due = subst FitsRefusal (sym is) tt
 by_act image f entry (Finish answer) is sound due = subst FitsRefusal (sym is) tt
 
-pub refusal-fits : (image : Image) (f : Facts) (entry : Entry) → IsSound image f → due_at image f entry.cpu ≡ Some entry → FitsRefusal entry.act
-refusal-fits image f entry sound due = by_act image f entry entry.act refl sound due
+pub refusal_fits : (image : Image) (f : Facts) (entry : Entry) → IsSound image f → due_at image f entry.cpu ≡ Some entry → FitsRefusal entry.act
+refusal_fits image f entry sound due = by_act image f entry entry.act refl sound due

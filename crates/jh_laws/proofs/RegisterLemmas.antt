@@ -10,7 +10,7 @@ use Rattle.jh_ivshmem.specs.Specs.{IsWithin, is_device, is_peer, is_other, is_be
 use Rattle.jh_ivshmem.specs.Endpoint.{raised, taken, cleared, fresh, fresh_vector, vector_at, is_open}
 use Rattle.jh_ivshmem.specs.Registers.{word_of, with_word, register_of, register_written, is_in_table}
 use Rattle.jh_ivshmem.specs.Changes.{changed}
-use Rattle.jh_ivshmem.specs.Links.{endpoint_at, joined, rung, told, told_of, state_written, written, reset_of, left_by}
+use Rattle.jh_ivshmem.specs.Links.{endpoint_at, joined, rung, others_raised, told_of, state_written, written, reset_of, left_by}
 use Rattle.jh_vpci.specs.Writes.{written as config_written}
 use Rattle.jh_script.specs.declared.image.Image.{Image}
 use Rattle.jh_history.specs.declared.access.Access.TheVariants.{Write as ToWrite}
@@ -99,9 +99,9 @@ word_small vector n h =
     (λ _. cond_both (n == 2) _ _ P (λ _. h.message)
     (λ _. cond_both vector.masked 1 0 P (λ _. omega arith) (λ _. omega arith))))
 
-pub register-small : (e : Endpoint) (bar at : ℕ) → IsWithin e.spec → HasRegisters e → register_of e bar at < 2 ^ 32
+pub register_small : (e : Endpoint) (bar at : ℕ) → IsWithin e.spec → HasRegisters e → register_of e bar at < 2 ^ 32
 unfolding register_of
-register-small e bar at within h =
+register_small e bar at within h =
     let P : ℕ → Type 0 = λ k. k < 2 ^ 32 in
     cond_both (bar == 0) _ _ P
     (λ _. cond_both (at == 0x00) _ _ P (λ _. omega (arith, within.id, within.peers))
@@ -130,7 +130,7 @@ changed_fit t f keeps (e ∷ list) h =
     (changed_fit t f keeps list (All-tail HasRegisters e list h))
 
 told_fit : (e : Endpoint) (value : ℕ) (list : List Endpoint) → HaveRegisters list → HaveRegisters (told_of e value list)
-told_fit e value list h = either (e.state == value) list (told e.spec list) h (changed_fit (is_other e.spec.bdf e.spec.id) (raised 0) (raised_fit 0) list h)
+told_fit e value list h = either (e.state == value) list (others_raised e.spec list) h (changed_fit (is_other e.spec.bdf e.spec.id) (raised 0) (raised_fit 0) list h)
 
 state_fit : (e : Endpoint) (value : ℕ) (list : List Endpoint) → value < 2 ^ 32 → HaveRegisters list → HaveRegisters (state_written e value list)
 state_fit e value list small h =
@@ -205,8 +205,8 @@ acted_fit image f cell (Note id) h = h
 acted_fit image f cell (Noted id how) h = h
 acted_fit image f cell (Finish answer) h = h
 
-pub registers-after : (image : Image) (f : Facts) (entry : Entry) → HaveRegisters f.endpoints → HaveRegisters (endpoints_after image f entry)
-registers-after image f entry h = all_fit (change_by f.call) (specs_changing f entry.act) (endpoints_acted image f entry.cell entry.act) (acted_fit image f entry.cell entry.act h)
+pub registers_after : (image : Image) (f : Facts) (entry : Entry) → HaveRegisters f.endpoints → HaveRegisters (endpoints_after image f entry)
+registers_after image f entry h = all_fit (change_by f.call) (specs_changing f entry.act) (endpoints_acted image f entry.cell entry.act) (acted_fit image f entry.cell entry.act h)
 
-pub registers-open : (image : Image) → HaveRegisters (endpoints_changed Join (specs_of image.system.root) [])
-registers-open image = all_fit Join (specs_of image.system.root) [] (All-nil HasRegisters)
+pub registers_open : (image : Image) → HaveRegisters (endpoints_changed Join (specs_of image.system.root) [])
+registers_open image = all_fit Join (specs_of image.system.root) [] (All-nil HasRegisters)

@@ -7,47 +7,47 @@ use Rattle.std.proofs.lemmas.Bool.{and_parts, and_from, eqb-true, leb-true, ltb-
 use Rattle.std.proofs.lemmas.Slice.Eq.{bytes_eq-Decides}
 use Rattle.std.proofs.lemmas.Option.{slice_get_within, get_or_from_slice_get}
 use Rattle.jh_num.specs.declared.address.TheConstants.{ADDRESS_END}
-use Rattle.jh_num.proofs.Lists.{IsOnly, All-from_find, find-only, find-nothing}
+use Rattle.jh_num.proofs.Lists.{IsOnly, All_from_find, find_only, find_nothing}
 use Rattle.jh_num.proofs.Booleans.{same_number}
 use Rattle.jh_cellcfg.specs.declared.region.Region.{Region}
 use Rattle.jh_cellcfg.specs.Regions.{has_flags, has_address, is_page_mapped, is_comm, virt_end}
-use Rattle.jh_check.proofs.JoinLemmas.{clean-from_nothing}
-use Rattle.jh_check.proofs.GivenLemmas.{zero-names}
+use Rattle.jh_check.proofs.JoinLemmas.{clean_from_nothing}
+use Rattle.jh_check.proofs.GivenLemmas.{zero_names}
 use Rattle.jh_script.specs.declared.image.Image.{Image}
 use Rattle.jh_script.specs.declared.image.Program.{Program}
 use Rattle.jh_script.specs.declared.op.Op.{Op}
-use Rattle.jh_script.specs.Operations.{IsPlain}
+use Rattle.jh_script.specs.Operations.{IsWellFormed}
 use Rattle.jh_history.specs.declared.access.Access.{Access}
 use Rattle.jh_history.specs.Access.{gives, right_of}
 use Rattle.jh_history.specs.Admitted.{IsAdmitted, IsSoundProgram}
 use Rattle.jh_history.specs.Lives.{is_program_of, program_of, is_on_board}
-use Rattle.jh_history.proofs.AdmittedLemmas.{sound_root, program_of-plain}
+use Rattle.jh_history.proofs.AdmittedLemmas.{sound_root, program_of_plain}
 
 abbrev pub regions : Image → List Region
 regions image = image.system.root.memory_regions
 
 -- the address is one of the region's
-pub has_address-first : (r : Region) (at : ℕ) → has_address r at ≡ true → r.virt_start ≤ at
-has_address-first r at h = leb-true r.virt_start at (and_parts _ _ h).0
+pub has_address_first : (r : Region) (at : ℕ) → has_address r at ≡ true → r.virt_start ≤ at
+has_address_first r at h = leb-true r.virt_start at (and_parts _ _ h).0
 
-pub has_address-last : (r : Region) (at : ℕ) → has_address r at ≡ true → at < virt_end r
-has_address-last r at h = ltb-true at (virt_end r) (and_parts _ _ h).1
+pub has_address_last : (r : Region) (at : ℕ) → has_address r at ≡ true → at < virt_end r
+has_address_last r at h = ltb-true at (virt_end r) (and_parts _ _ h).1
 
-pub has_address-from : (r : Region) (at : ℕ) → r.virt_start ≤ at → at < virt_end r → has_address r at ≡ true
-has_address-from r at first last = and_from _ _ (le-leb r.virt_start at first) (lt-ltb at (virt_end r) last)
+pub has_address_from : (r : Region) (at : ℕ) → r.virt_start ≤ at → at < virt_end r → has_address r at ≡ true
+has_address_from r at first last = and_from _ _ (le-leb r.virt_start at first) (lt-ltb at (virt_end r) last)
 
 -- the parts of a region that gives an address
-pub gives-address : (access : Access) (at : ℕ) (r : Region) → gives access at r ≡ true → has_address r at ≡ true
-gives-address access at r h = (and_parts (has_address r at) (is_page_mapped r) (and_parts (has_address r at && is_page_mapped r) (has_flags (right_of access) r) h).0).0
+pub gives_address : (access : Access) (at : ℕ) (r : Region) → gives access at r ≡ true → has_address r at ≡ true
+gives_address access at r h = (and_parts (has_address r at) (is_page_mapped r) (and_parts (has_address r at && is_page_mapped r) (has_flags (right_of access) r) h).0).0
 
-pub gives-pages : (access : Access) (at : ℕ) (r : Region) → gives access at r ≡ true → is_page_mapped r ≡ true
-gives-pages access at r h = (and_parts (has_address r at) (is_page_mapped r) (and_parts (has_address r at && is_page_mapped r) (has_flags (right_of access) r) h).0).1
+pub gives_pages : (access : Access) (at : ℕ) (r : Region) → gives access at r ≡ true → is_page_mapped r ≡ true
+gives_pages access at r h = (and_parts (has_address r at) (is_page_mapped r) (and_parts (has_address r at && is_page_mapped r) (has_flags (right_of access) r) h).0).1
 
-pub gives-right : (access : Access) (at : ℕ) (r : Region) → gives access at r ≡ true → has_flags (right_of access) r ≡ true
-gives-right access at r h = (and_parts (has_address r at && is_page_mapped r) (has_flags (right_of access) r) h).1
+pub gives_right : (access : Access) (at : ℕ) (r : Region) → gives access at r ≡ true → has_flags (right_of access) r ≡ true
+gives_right access at r h = (and_parts (has_address r at && is_page_mapped r) (has_flags (right_of access) r) h).1
 
-pub gives-from : (access : Access) (at : ℕ) (r : Region) → has_address r at ≡ true → is_page_mapped r ≡ true → has_flags (right_of access) r ≡ true → gives access at r ≡ true
-gives-from access at r has pages right = and_from (has_address r at && is_page_mapped r) (has_flags (right_of access) r) (and_from (has_address r at) (is_page_mapped r) has pages) right
+pub gives_from : (access : Access) (at : ℕ) (r : Region) → has_address r at ≡ true → is_page_mapped r ≡ true → has_flags (right_of access) r ≡ true → gives access at r ≡ true
+gives_from access at r has pages right = and_from (has_address r at && is_page_mapped r) (has_flags (right_of access) r) (and_from (has_address r at) (is_page_mapped r) has pages) right
 
 -- a region of root that has an address: it ends within the addresses, lies at its own place, and is
 -- no communication region
@@ -58,45 +58,40 @@ pub record IsRootRegion (r : Region) : Type 0 where
 
 pub root_region : (image : Image) (r : Region) (at : ℕ) → IsAdmitted image → Contains (regions image) r → has_address r at ≡ true → IsRootRegion r
 root_region image r at admitted held has =
-    let first : r.virt_start ≤ at = has_address-first r at has in
-    let last : at < virt_end r = has_address-last r at has in
+    let first : r.virt_start ≤ at = has_address_first r at has in
+    let last : at < virt_end r = has_address_last r at has in
     let some : 0 < r.size = omega arith in
     let P : Region → Type 0 = λ s. 0 < s.size → IsRootRegion s in
     subst P held.2
     (λ lt. let sound = (sound_root image admitted).regions held.0 r held.1 lt in record { within = sound.within.virt; identity = sound.identity; memory = sound.no_comm })
     some
 
--- at most one region of root gives an address
-pub only_one : (image : Image) (access : Access) (at : ℕ) → IsAdmitted image → IsOnly (gives access at) (regions image)
-only_one image access at admitted j k d lt within at_j at_k =
-    (sound_root image admitted).addresses j k d lt within at (gives-address access at (get_or (regions image) j d) at_j) (gives-address access at (get_or (regions image) k d) at_k)
-
 -- a board has at most the CPUs below 16
 pub few_cpus : (image : Image) → IsAdmitted image → (cpu : ℕ) → IsTrue (is_on_board image cpu) → cpu < 16
 few_cpus image admitted cpu on =
-    let bitmap = (clean-from_nothing image.system [] admitted.system.clean).cpus 0 image.system.root refl in
+    let bitmap = (clean_from_nothing image.system [] admitted.system.clean).cpus 0 image.system.root refl in
     elim (cases_lt cpu 16) [
       | inl lt ↦ lt
-      | inr le ↦ absurd (both_ways (is_on_board image cpu) (zero-names image.system.root.cpu_set cpu (bitmap.few (cpu / 8) (omega arith))) on)
+      | inr le ↦ absurd (both_ways (is_on_board image cpu) (zero_names image.system.root.cpu_set cpu (bitmap.few (cpu / 8) (omega arith))) on)
     ]
 
 -- a program is of so many operations at most, each within its limits
 few_ops : (image : Image) (name : List ℕ) (cpu : ℕ) (o : Option Program) → IsAdmitted image → find (is_program_of name cpu) image.programs ≡ o → length (option_map_or (λ (p : Program). p.ops) o []) ≤ 4096
 few_ops image name cpu None admitted e = omega arith
-few_ops image name cpu (Some p) admitted e = (All-from_find (is_program_of name cpu) IsSoundProgram image.programs p e admitted.programs).few
+few_ops image name cpu (Some p) admitted e = (All_from_find (is_program_of name cpu) IsSoundProgram image.programs p e admitted.programs).few
 
-pub program_of-few : (image : Image) (name : List ℕ) (cpu : ℕ) → IsAdmitted image → length (program_of image name cpu) ≤ 4096
+pub program_of_few : (image : Image) (name : List ℕ) (cpu : ℕ) → IsAdmitted image → length (program_of image name cpu) ≤ 4096
 unfolding program_of
-program_of-few image name cpu admitted = few_ops image name cpu (find (is_program_of name cpu) image.programs) admitted refl
+program_of_few image name cpu admitted = few_ops image name cpu (find (is_program_of name cpu) image.programs) admitted refl
 
-at_op : (ops : List Op) (i : ℕ) (op : Op) → All IsPlain ops → slice_get ops i ≡ Some op → IsPlain op
+at_op : (ops : List Op) (i : ℕ) (op : Op) → All IsWellFormed ops → slice_get ops i ≡ Some op → IsWellFormed op
 at_op ops i op all e =
     let within : i < length ops = slice_get_within ops i op e in
-    let P : Op → Type 0 = IsPlain in
+    let P : Op → Type 0 = IsWellFormed in
     subst P (get_or_from_slice_get ops i op op e) (all i op within)
 
-pub op-plain : (image : Image) (name : List ℕ) (cpu i : ℕ) (op : Op) → IsAdmitted image → slice_get (program_of image name cpu) i ≡ Some op → IsPlain op
-op-plain image name cpu i op admitted e = at_op (program_of image name cpu) i op (program_of-plain image name cpu admitted) e
+pub op_plain : (image : Image) (name : List ℕ) (cpu i : ℕ) (op : Op) → IsAdmitted image → slice_get (program_of image name cpu) i ≡ Some op → IsWellFormed op
+op_plain image name cpu i op admitted e = at_op (program_of image name cpu) i op (program_of_plain image name cpu admitted) e
 
 -- the program is that of the name and CPU which it has
 named : (name : List ℕ) (cpu : ℕ) (p : Program) → is_program_of name cpu p ≡ true → (p.cell ≡ name) × (p.cpu ≡ cpu)
@@ -115,17 +110,17 @@ only_program image name cpu admitted j k d lt within at_j at_k =
     let by_name : is_program_of one.cell cpu other ≡ true = ap (λ (n : List ℕ). is_program_of n cpu other) is.0 ∙ at_k in
     admitted.owned j k d lt within (ap (λ (c : ℕ). is_program_of one.cell c other) is.1 ∙ by_name)
 
-pub program_of-found : (image : Image) (p : Program) → IsAdmitted image → Contains image.programs p → program_of image p.cell p.cpu ≡ p.ops
+pub program_of_found : (image : Image) (p : Program) → IsAdmitted image → Contains image.programs p → program_of image p.cell p.cpu ≡ p.ops
 unfolding program_of
-program_of-found image p admitted held =
+program_of_found image p admitted held =
     let same : get_or image.programs held.0 p ≡ p = held.2 in
     let passes : is_program_of p.cell p.cpu (get_or image.programs held.0 p) ≡ true = ap (is_program_of p.cell p.cpu) same ∙ own_name p in
-    let found : find (is_program_of p.cell p.cpu) image.programs ≡ Some p = find-only (is_program_of p.cell p.cpu) image.programs held.0 p held.1 passes (only_program image p.cell p.cpu admitted) ∙ ap Some same in
+    let found : find (is_program_of p.cell p.cpu) image.programs ≡ Some p = find_only (is_program_of p.cell p.cpu) image.programs held.0 p held.1 passes (only_program image p.cell p.cpu admitted) ∙ ap Some same in
     ap (λ (o : Option Program). option_map_or (λ (q : Program). q.ops) o []) found
 
-pub program_of-none : (image : Image) (name : List ℕ) (cpu : ℕ) → ((p : Program) → Contains image.programs p → p.cell ≡ name → p.cpu ≡ cpu → ⊥) → program_of image name cpu ≡ []
+pub program_of_none : (image : Image) (name : List ℕ) (cpu : ℕ) → ((p : Program) → Contains image.programs p → p.cell ≡ name → p.cpu ≡ cpu → ⊥) → program_of image name cpu ≡ []
 unfolding program_of
-program_of-none image name cpu none =
-    let found : find (is_program_of name cpu) image.programs ≡ None = find-nothing (is_program_of name cpu) image.programs
+program_of_none image name cpu none =
+    let found : find (is_program_of name cpu) image.programs ≡ None = find_nothing (is_program_of name cpu) image.programs
     (λ p held. false_from_ne_true (is_program_of name cpu p) (λ yes. let is = named name cpu p yes in none p held is.0 is.1)) in
     ap (λ (o : Option Program). option_map_or (λ (q : Program). q.ops) o []) found

@@ -6,61 +6,58 @@ use Rattle.std.proofs.lemmas.Bool.{false≢true, cases_lt, lt-ltb, le-ltb}
 use Rattle.std.proofs.lemmas.List.{length_push, get_or_append_left, get_or_push}
 use Rattle.std.proofs.lemmas.List.Elements.{Contains-append_left, Contains-append_right}
 use Rattle.std.proofs.lemmas.List.Kept.{IsStrictlyIncreasing-filter}
-use Rattle.jh_num.proofs.Lists.{Contains-head, Contains-filter, IsFound-from_filter}
+use Rattle.jh_num.proofs.Lists.{Contains_head, Contains_filter, IsFound_from_filter}
 use Rattle.jh_script.specs.declared.image.Image.{Image}
 use Rattle.jh_history.specs.declared.entry.Entry.{Entry}
 use Rattle.jh_history.specs.Lives.{is_on_board}
 use Rattle.jh_history.specs.Due.{due, IsLegal, IsQuiet}
 use Rattle.jh_history.specs.Items.{Reached, with_due, items, played, below, rounds, cpus_of}
 use Rattle.jh_history.specs.Admitted.{IsAdmitted}
-use Rattle.jh_history.proofs.DueLemmas.{IsLegal-made}
-use Rattle.jh_history.proofs.FactsLemmas.{IsLegal-nil}
-use Rattle.jh_history.proofs.ItemsLemmas.{items-append, items-append_full, items-nil, items-one, items-quiet, rounds-append, Grows, items-grows, IsQuiet-from_cpus}
+use Rattle.jh_history.proofs.DueLemmas.{IsLegal_made}
+use Rattle.jh_history.proofs.FactsLemmas.{IsLegal_nil}
+use Rattle.jh_history.proofs.ItemsLemmas.{items_append, items_append_full, items_nil, items_one, items_quiet, rounds_append, Grows, items_grows, IsQuiet_from_cpus, reached}
 use Rattle.jh_laws.specs.Runs.{IsRun, IsCutShort}
 use Rattle.jh_laws.proofs.RootLemmas.{few_cpus}
-
-abbrev reached : List Entry → Bool → Reached
-reached entries full = record { entries = entries; full = full }
 
 never_both : (es fs : List Entry) → reached es false ≡ reached fs true → ⊥
 never_both es fs e = false≢true (ap (λ (r : Reached). r.full) e)
 
 -- the first item, by what is due to its CPU
-item-none : (image : Image) (limit cpu : ℕ) (cpus : List ℕ) (es : List Entry) → due image es cpu ≡ None → items image limit (cpu ∷ cpus) es ≡ items image limit cpus es
-item-none image limit cpu cpus es none = items-append image limit (cpu ∷ []) cpus es es (items-one image limit cpu es ∙ ap (with_due limit es) none)
+item_none : (image : Image) (limit cpu : ℕ) (cpus : List ℕ) (es : List Entry) → due image es cpu ≡ None → items image limit (cpu ∷ cpus) es ≡ items image limit cpus es
+item_none image limit cpu cpus es none = items_append image limit (cpu ∷ []) cpus es es (items_one image limit cpu es ∙ ap (with_due limit es) none)
 
-item-made : (image : Image) (limit cpu : ℕ) (cpus : List ℕ) (es : List Entry) (entry : Entry) → due image es cpu ≡ Some entry → length es < limit → items image limit (cpu ∷ cpus) es ≡ items image limit cpus (es ++ entry ∷ [])
-item-made image limit cpu cpus es entry is lt =
+item_made : (image : Image) (limit cpu : ℕ) (cpus : List ℕ) (es : List Entry) (entry : Entry) → due image es cpu ≡ Some entry → length es < limit → items image limit (cpu ∷ cpus) es ≡ items image limit cpus (es ++ entry ∷ [])
+item_made image limit cpu cpus es entry is lt =
     let one : items image limit (cpu ∷ []) es ≡ reached (es ++ entry ∷ []) false
-    = items-one image limit cpu es ∙ ap (with_due limit es) is ∙ ap (λ (b : Bool). cond b (reached (es ++ entry ∷ []) false) (reached es true)) (lt-ltb (length es) limit lt) in
-    items-append image limit (cpu ∷ []) cpus es (es ++ entry ∷ []) one
+    = items_one image limit cpu es ∙ ap (with_due limit es) is ∙ ap (λ (b : Bool). cond b (reached (es ++ entry ∷ []) false) (reached es true)) (lt-ltb (length es) limit lt) in
+    items_append image limit (cpu ∷ []) cpus es (es ++ entry ∷ []) one
 
-item-full : (image : Image) (limit cpu : ℕ) (cpus : List ℕ) (es : List Entry) (entry : Entry) → due image es cpu ≡ Some entry → limit ≤ length es → items image limit (cpu ∷ cpus) es ≡ reached es true
-item-full image limit cpu cpus es entry is le =
+item_full : (image : Image) (limit cpu : ℕ) (cpus : List ℕ) (es : List Entry) (entry : Entry) → due image es cpu ≡ Some entry → limit ≤ length es → items image limit (cpu ∷ cpus) es ≡ reached es true
+item_full image limit cpu cpus es entry is le =
     let one : items image limit (cpu ∷ []) es ≡ reached es true
-    = items-one image limit cpu es ∙ ap (with_due limit es) is ∙ ap (λ (b : Bool). cond b (reached (es ++ entry ∷ []) false) (reached es true)) (le-ltb (length es) limit le) in
-    items-append_full image limit (cpu ∷ []) cpus es es one
+    = items_one image limit cpu es ∙ ap (with_due limit es) is ∙ ap (λ (b : Bool). cond b (reached (es ++ entry ∷ []) false) (reached es true)) (le-ltb (length es) limit le) in
+    items_append_full image limit (cpu ∷ []) cpus es es one
 
 -- items that don't end full are a run
 run_item : (image : Image) (limit cpu : ℕ) (cpus : List ℕ) (es fs : List Entry) (o : Option Entry)
     → ((gs : List Entry) → items image limit cpus gs ≡ reached fs false → IsRun image limit cpus gs fs)
     → due image es cpu ≡ o → items image limit (cpu ∷ cpus) es ≡ reached fs false → IsRun image limit (cpu ∷ cpus) es fs
-run_item image limit cpu cpus es fs None rest is h = inl (is, rest es (sym (item-none image limit cpu cpus es is) ∙ h))
+run_item image limit cpu cpus es fs None rest is h = inl (is, rest es (sym (item_none image limit cpu cpus es is) ∙ h))
 run_item image limit cpu cpus es fs (Some entry) rest is h = elim (cases_lt (length es) limit) [
-  | inl lt ↦ inr (entry, is, lt, rest (es ++ entry ∷ []) (sym (item-made image limit cpu cpus es entry is lt) ∙ h))
-  | inr le ↦ absurd (never_both fs es (sym h ∙ item-full image limit cpu cpus es entry is le))
+  | inl lt ↦ inr (entry, is, lt, rest (es ++ entry ∷ []) (sym (item_made image limit cpu cpus es entry is lt) ∙ h))
+  | inr le ↦ absurd (never_both fs es (sym h ∙ item_full image limit cpu cpus es entry is le))
 ]
 
-pub run-from_items : (image : Image) (limit : ℕ) (cpus : List ℕ) (es fs : List Entry) → items image limit cpus es ≡ reached fs false → IsRun image limit cpus es fs
-run-from_items image limit [] es fs h = sym (ap (λ (r : Reached). r.entries) (sym (items-nil image limit es) ∙ h))
-run-from_items image limit (cpu ∷ cpus) es fs h = run_item image limit cpu cpus es fs (due image es cpu) (λ gs. run-from_items image limit cpus gs fs) refl h
+pub run_from_items : (image : Image) (limit : ℕ) (cpus : List ℕ) (es fs : List Entry) → items image limit cpus es ≡ reached fs false → IsRun image limit cpus es fs
+run_from_items image limit [] es fs h = sym (ap (λ (r : Reached). r.entries) (sym (items_nil image limit es) ∙ h))
+run_from_items image limit (cpu ∷ cpus) es fs h = run_item image limit cpu cpus es fs (due image es cpu) (λ gs. run_from_items image limit cpus gs fs) refl h
 
 -- and a run is what they do
-pub items-from_run : (image : Image) (limit : ℕ) (cpus : List ℕ) (es fs : List Entry) → IsRun image limit cpus es fs → items image limit cpus es ≡ reached fs false
-items-from_run image limit [] es fs run = items-nil image limit es ∙ ap (λ (gs : List Entry). reached gs false) (sym run)
-items-from_run image limit (cpu ∷ cpus) es fs run = elim run [
-  | inl same ↦ item-none image limit cpu cpus es same.0 ∙ items-from_run image limit cpus es fs same.1
-  | inr more ↦ item-made image limit cpu cpus es more.0 more.1 more.2 ∙ items-from_run image limit cpus (es ++ more.0 ∷ []) fs more.3
+pub items_from_run : (image : Image) (limit : ℕ) (cpus : List ℕ) (es fs : List Entry) → IsRun image limit cpus es fs → items image limit cpus es ≡ reached fs false
+items_from_run image limit [] es fs run = items_nil image limit es ∙ ap (λ (gs : List Entry). reached gs false) (sym run)
+items_from_run image limit (cpu ∷ cpus) es fs run = elim run [
+  | inl same ↦ item_none image limit cpu cpus es same.0 ∙ items_from_run image limit cpus es fs same.1
+  | inr more ↦ item_made image limit cpu cpus es more.0 more.1 more.2 ∙ items_from_run image limit cpus (es ++ more.0 ∷ []) fs more.3
 ]
 
 -- items that end full are cut short
@@ -85,61 +82,61 @@ cut_item : (image : Image) (limit cpu : ℕ) (cpus : List ℕ) (es fs : List Ent
     → ((gs : List Entry) → items image limit cpus gs ≡ reached fs true → IsCutShort image limit cpus gs fs)
     → due image es cpu ≡ o → items image limit (cpu ∷ cpus) es ≡ reached fs true → IsCutShort image limit (cpu ∷ cpus) es fs
 cut_item image limit cpu cpus es fs None rest is h =
-    cut_behind image limit cpu cpus es es fs (λ done run. inl (is, run)) (rest es (sym (item-none image limit cpu cpus es is) ∙ h))
+    cut_behind image limit cpu cpus es es fs (λ done run. inl (is, run)) (rest es (sym (item_none image limit cpu cpus es is) ∙ h))
 cut_item image limit cpu cpus es fs (Some entry) rest is h = elim (cases_lt (length es) limit) [
-  | inl lt ↦ cut_behind image limit cpu cpus es (es ++ entry ∷ []) fs (λ done run. inr (entry, is, lt, run)) (rest (es ++ entry ∷ []) (sym (item-made image limit cpu cpus es entry is lt) ∙ h))
-  | inr le ↦ cut_here image limit cpu cpus es fs entry is le (ap (λ (r : Reached). r.entries) (sym h ∙ item-full image limit cpu cpus es entry is le))
+  | inl lt ↦ cut_behind image limit cpu cpus es (es ++ entry ∷ []) fs (λ done run. inr (entry, is, lt, run)) (rest (es ++ entry ∷ []) (sym (item_made image limit cpu cpus es entry is lt) ∙ h))
+  | inr le ↦ cut_here image limit cpu cpus es fs entry is le (ap (λ (r : Reached). r.entries) (sym h ∙ item_full image limit cpu cpus es entry is le))
 ]
 
-pub cut-from_items : (image : Image) (limit : ℕ) (cpus : List ℕ) (es fs : List Entry) → items image limit cpus es ≡ reached fs true → IsCutShort image limit cpus es fs
-cut-from_items image limit [] es fs h = absurd (never_both es fs (sym (items-nil image limit es) ∙ h))
-cut-from_items image limit (cpu ∷ cpus) es fs h = cut_item image limit cpu cpus es fs (due image es cpu) (λ gs. cut-from_items image limit cpus gs fs) refl h
+pub cut_from_items : (image : Image) (limit : ℕ) (cpus : List ℕ) (es fs : List Entry) → items image limit cpus es ≡ reached fs true → IsCutShort image limit cpus es fs
+cut_from_items image limit [] es fs h = absurd (never_both es fs (sym (items_nil image limit es) ∙ h))
+cut_from_items image limit (cpu ∷ cpus) es fs h = cut_item image limit cpu cpus es fs (due image es cpu) (λ gs. cut_from_items image limit cpus gs fs) refl h
 
 -- and what is cut short is what they do
 cut_by : (image : Image) (limit : ℕ) (fs : List Entry) (next : ℕ) (left : List ℕ) (o : Option Entry) → due image fs next ≡ o → IsSome o → limit ≤ length fs → items image limit (next ∷ left) fs ≡ reached fs true
 cut_by image limit fs next left None is some le = absurd (false≢true some)
-cut_by image limit fs next left (Some entry) is some le = item-full image limit next left fs entry is le
+cut_by image limit fs next left (Some entry) is some le = item_full image limit next left fs entry is le
 
-pub items-from_cut : (image : Image) (limit : ℕ) (cpus : List ℕ) (es fs : List Entry) → IsCutShort image limit cpus es fs → items image limit cpus es ≡ reached fs true
-items-from_cut image limit cpus es fs cut =
+pub items_from_cut : (image : Image) (limit : ℕ) (cpus : List ℕ) (es fs : List Entry) → IsCutShort image limit cpus es fs → items image limit cpus es ≡ reached fs true
+items_from_cut image limit cpus es fs cut =
     ap (λ (xs : List ℕ). items image limit xs es) cut.split
-    ∙ items-append image limit cut.done (cut.next ∷ cut.left) es fs (items-from_run image limit cut.done es fs cut.run)
+    ∙ items_append image limit cut.done (cut.next ∷ cut.left) es fs (items_from_run image limit cut.done es fs cut.run)
     ∙ cut_by image limit fs cut.next cut.left (due image fs cut.next) refl cut.is_due cut.reached
 
 -- a run stays within the limit
-pub run-few : (image : Image) (limit : ℕ) (cpus : List ℕ) (es fs : List Entry) → IsRun image limit cpus es fs → length es ≤ limit → length fs ≤ limit
-run-few image limit [] es fs run few = let same : length fs ≡ length es = ap length run in omega arith
-run-few image limit (cpu ∷ cpus) es fs run few = elim run [
-  | inl same ↦ run-few image limit cpus es fs same.1 few
-  | inr more ↦ run-few image limit cpus (es ++ more.0 ∷ []) fs more.3 (let one : length (es ++ more.0 ∷ []) ≡ length es + 1 = length_push es more.0 in let lt : length es < limit = more.2 in omega arith)
+pub run_few : (image : Image) (limit : ℕ) (cpus : List ℕ) (es fs : List Entry) → IsRun image limit cpus es fs → length es ≤ limit → length fs ≤ limit
+run_few image limit [] es fs run few = let same : length fs ≡ length es = ap length run in omega arith
+run_few image limit (cpu ∷ cpus) es fs run few = elim run [
+  | inl same ↦ run_few image limit cpus es fs same.1 few
+  | inr more ↦ run_few image limit cpus (es ++ more.0 ∷ []) fs more.3 (let one : length (es ++ more.0 ∷ []) ≡ length es + 1 = length_push es more.0 in let lt : length es < limit = more.2 in omega arith)
 ]
 
 -- and leaves a legal journal legal
-pub run-legal : (image : Image) (limit : ℕ) (cpus : List ℕ) (es fs : List Entry) → IsRun image limit cpus es fs → IsLegal image es → IsLegal image fs
-run-legal image limit [] es fs run legal = let P : List Entry → Type 0 = IsLegal image in subst P (sym run) legal
-run-legal image limit (cpu ∷ cpus) es fs run legal = elim run [
-  | inl same ↦ run-legal image limit cpus es fs same.1 legal
-  | inr more ↦ run-legal image limit cpus (es ++ more.0 ∷ []) fs more.3 (IsLegal-made image es (es ++ more.0 ∷ []) cpu more.0 legal more.1 refl)
+pub run_legal : (image : Image) (limit : ℕ) (cpus : List ℕ) (es fs : List Entry) → IsRun image limit cpus es fs → IsLegal image es → IsLegal image fs
+run_legal image limit [] es fs run legal = let P : List Entry → Type 0 = IsLegal image in subst P (sym run) legal
+run_legal image limit (cpu ∷ cpus) es fs run legal = elim run [
+  | inl same ↦ run_legal image limit cpus es fs same.1 legal
+  | inr more ↦ run_legal image limit cpus (es ++ more.0 ∷ []) fs more.3 (IsLegal_made image es (es ++ more.0 ∷ []) cpu more.0 legal more.1 refl)
 ]
 
 -- both, however the items end
 few_by : (image : Image) (limit : ℕ) (cpus : List ℕ) (es fs : List Entry) (b : Bool) → items image limit cpus es ≡ reached fs b → length es ≤ limit → length fs ≤ limit
-few_by image limit cpus es fs false h few = run-few image limit cpus es fs (run-from_items image limit cpus es fs h) few
-few_by image limit cpus es fs true h few = let cut = cut-from_items image limit cpus es fs h in run-few image limit cut.done es fs cut.run few
+few_by image limit cpus es fs false h few = run_few image limit cpus es fs (run_from_items image limit cpus es fs h) few
+few_by image limit cpus es fs true h few = let cut = cut_from_items image limit cpus es fs h in run_few image limit cut.done es fs cut.run few
 
-pub items-few : (image : Image) (limit : ℕ) (cpus : List ℕ) (es : List Entry) → length es ≤ limit → length (items image limit cpus es).entries ≤ limit
-items-few image limit cpus es few = few_by image limit cpus es (items image limit cpus es).entries (items image limit cpus es).full refl few
+pub items_few : (image : Image) (limit : ℕ) (cpus : List ℕ) (es : List Entry) → length es ≤ limit → length (items image limit cpus es).entries ≤ limit
+items_few image limit cpus es few = few_by image limit cpus es (items image limit cpus es).entries (items image limit cpus es).full refl few
 
 legal_by : (image : Image) (limit : ℕ) (cpus : List ℕ) (es fs : List Entry) (b : Bool) → items image limit cpus es ≡ reached fs b → IsLegal image es → IsLegal image fs
-legal_by image limit cpus es fs false h legal = run-legal image limit cpus es fs (run-from_items image limit cpus es fs h) legal
-legal_by image limit cpus es fs true h legal = let cut = cut-from_items image limit cpus es fs h in run-legal image limit cut.done es fs cut.run legal
+legal_by image limit cpus es fs false h legal = run_legal image limit cpus es fs (run_from_items image limit cpus es fs h) legal
+legal_by image limit cpus es fs true h legal = let cut = cut_from_items image limit cpus es fs h in run_legal image limit cut.done es fs cut.run legal
 
-pub items-legal : (image : Image) (limit : ℕ) (cpus : List ℕ) (es : List Entry) → IsLegal image es → IsLegal image (items image limit cpus es).entries
-items-legal image limit cpus es legal = legal_by image limit cpus es (items image limit cpus es).entries (items image limit cpus es).full refl legal
+pub items_legal : (image : Image) (limit : ℕ) (cpus : List ℕ) (es : List Entry) → IsLegal image es → IsLegal image (items image limit cpus es).entries
+items_legal image limit cpus es legal = legal_by image limit cpus es (items image limit cpus es).entries (items image limit cpus es).full refl legal
 
-pub played-legal : (image : Image) (limit : ℕ) (schedule : List ℕ) → IsLegal image (played image limit schedule).entries
+pub played_legal : (image : Image) (limit : ℕ) (schedule : List ℕ) → IsLegal image (played image limit schedule).entries
 unfolding played
-played-legal image limit schedule = items-legal image limit (schedule ++ rounds (limit + 1) (cpus_of image)) [] (IsLegal-nil image)
+played_legal image limit schedule = items_legal image limit (schedule ++ rounds (limit + 1) (cpus_of image)) [] (IsLegal_nil image)
 
 -- items that don't end full, in two parts
 pub record IsSplit (image : Image) (limit : ℕ) (xs ys : List ℕ) (es fs : List Entry) : Type 0 where
@@ -148,30 +145,30 @@ pub record IsSplit (image : Image) (limit : ℕ) (xs ys : List ℕ) (es fs : Lis
   pub second : items image limit ys middle ≡ reached fs false
 
 split_by : (image : Image) (limit : ℕ) (xs ys : List ℕ) (es gs fs : List Entry) (b : Bool) → items image limit xs es ≡ reached gs b → items image limit (xs ++ ys) es ≡ reached fs false → IsSplit image limit xs ys es fs
-split_by image limit xs ys es gs fs false is h = record { middle = gs; first = is; second = sym (items-append image limit xs ys es gs is) ∙ h }
-split_by image limit xs ys es gs fs true is h = absurd (never_both fs gs (sym h ∙ items-append_full image limit xs ys es gs is))
+split_by image limit xs ys es gs fs false is h = record { middle = gs; first = is; second = sym (items_append image limit xs ys es gs is) ∙ h }
+split_by image limit xs ys es gs fs true is h = absurd (never_both fs gs (sym h ∙ items_append_full image limit xs ys es gs is))
 
-items-split : (image : Image) (limit : ℕ) (xs ys : List ℕ) (es fs : List Entry) → items image limit (xs ++ ys) es ≡ reached fs false → IsSplit image limit xs ys es fs
-items-split image limit xs ys es fs h = split_by image limit xs ys es (items image limit xs es).entries fs (items image limit xs es).full refl h
+items_split : (image : Image) (limit : ℕ) (xs ys : List ℕ) (es fs : List Entry) → items image limit (xs ++ ys) es ≡ reached fs false → IsSplit image limit xs ys es fs
+items_split image limit xs ys es fs h = split_by image limit xs ys es (items image limit xs es).entries fs (items image limit xs es).full refl h
 
 -- a round leaves a quiet journal, or makes it longer
 round_end : (image : Image) (es fs : List Entry) → ((cpu : ℕ) → IsTrue (is_on_board image cpu) → cpu < 16) → Grows image (cpus_of image) es fs → IsQuiet image fs ⊎ (length es < length fs)
-round_end image es fs few (inl same) = let P : List Entry → Type 0 = IsQuiet image in inl (subst P (sym same.0) (IsQuiet-from_cpus image es few same.1))
+round_end image es fs few (inl same) = let P : List Entry → Type 0 = IsQuiet image in inl (subst P (sym same.0) (IsQuiet_from_cpus image es few same.1))
 round_end image es fs few (inr more) = inr more
 
 quiet_stays : (image : Image) (limit : ℕ) (cpus : List ℕ) (es fs : List Entry) → IsQuiet image es → items image limit cpus es ≡ reached fs false → IsQuiet image fs
 quiet_stays image limit cpus es fs quiet h =
     let P : List Entry → Type 0 = IsQuiet image in
-    subst P (ap (λ (r : Reached). r.entries) (sym (items-quiet image limit cpus es quiet) ∙ h)) quiet
+    subst P (ap (λ (r : Reached). r.entries) (sym (items_quiet image limit cpus es quiet) ∙ h)) quiet
 
 rounds_end : (image : Image) (limit n : ℕ) (es fs : List Entry) → ((cpu : ℕ) → IsTrue (is_on_board image cpu) → cpu < 16) → items image limit (rounds n (cpus_of image)) es ≡ reached fs false → IsQuiet image fs ⊎ (length es + n ≤ length fs)
-rounds_end image limit zero es fs few h = let same : length es ≡ length fs = ap (λ (r : Reached). length r.entries) (sym (items-nil image limit es) ∙ h) in inr (omega arith)
+rounds_end image limit zero es fs few h = let same : length es ≡ length fs = ap (λ (r : Reached). length r.entries) (sym (items_nil image limit es) ∙ h) in inr (omega arith)
 rounds_end image limit (suc n) es fs few h =
     let cpus = cpus_of image in
-    let split : IsSplit image limit (rounds n cpus) cpus es fs = items-split image limit (rounds n cpus) cpus es fs h in
+    let split : IsSplit image limit (rounds n cpus) cpus es fs = items_split image limit (rounds n cpus) cpus es fs h in
     elim (rounds_end image limit n es split.middle few split.first) [
       | inl quiet ↦ inl (quiet_stays image limit cpus split.middle fs quiet split.second)
-      | inr longer ↦ elim (round_end image split.middle fs few (items-grows image limit cpus split.middle fs split.second)) [
+      | inr longer ↦ elim (round_end image split.middle fs few (items_grows image limit cpus split.middle fs split.second)) [
         | inl quiet ↦ inl quiet
         | inr more ↦ inr (omega arith)
       ]
@@ -181,35 +178,35 @@ rounds_end image limit (suc n) es fs few h =
 played_by : (image : Image) (limit : ℕ) (schedule : List ℕ) (fs : List Entry) → IsAdmitted image → items image limit (schedule ++ rounds (limit + 1) (cpus_of image)) [] ≡ reached fs false → IsQuiet image fs
 played_by image limit schedule fs admitted h =
     let all = rounds (limit + 1) (cpus_of image) in
-    let split : IsSplit image limit schedule all [] fs = items-split image limit schedule all [] fs h in
+    let split : IsSplit image limit schedule all [] fs = items_split image limit schedule all [] fs h in
     let few : length fs ≤ limit = few_by image limit (schedule ++ all) [] fs false h (omega arith) in
     elim (rounds_end image limit (limit + 1) split.middle fs (few_cpus image admitted) split.second) [
       | inl quiet ↦ quiet
       | inr longer ↦ absurd (omega arith)
     ]
 
-pub played-quiet : (image : Image) (limit : ℕ) (schedule : List ℕ) → IsAdmitted image → (played image limit schedule).full ≡ false → IsQuiet image (played image limit schedule).entries
+pub played_quiet : (image : Image) (limit : ℕ) (schedule : List ℕ) → IsAdmitted image → (played image limit schedule).full ≡ false → IsQuiet image (played image limit schedule).entries
 unfolding played
-played-quiet image limit schedule admitted h =
+played_quiet image limit schedule admitted h =
     let r = items image limit (schedule ++ rounds (limit + 1) (cpus_of image)) [] in
     played_by image limit schedule r.entries admitted (ap (λ (b : Bool). reached r.entries b) h)
 
 -- and where it does
-pub played-full : (image : Image) (limit : ℕ) (schedule : List ℕ) → (played image limit schedule).full ≡ true → (cpu : ℕ) × IsSome (due image (played image limit schedule).entries cpu)
+pub played_full : (image : Image) (limit : ℕ) (schedule : List ℕ) → (played image limit schedule).full ≡ true → (cpu : ℕ) × IsSome (due image (played image limit schedule).entries cpu)
 unfolding played
-played-full image limit schedule h =
+played_full image limit schedule h =
     let all = schedule ++ rounds (limit + 1) (cpus_of image) in
     let r = items image limit all [] in
-    let cut : IsCutShort image limit all [] r.entries = cut-from_items image limit all [] r.entries (ap (λ (b : Bool). reached r.entries b) h) in
+    let cut : IsCutShort image limit all [] r.entries = cut_from_items image limit all [] r.entries (ap (λ (b : Bool). reached r.entries b) h) in
     (cut.next, cut.is_due)
 
-pub played-limit : (image : Image) (limit : ℕ) (schedule : List ℕ) → (played image limit schedule).full ≡ true → length (played image limit schedule).entries ≡ limit
+pub played_limit : (image : Image) (limit : ℕ) (schedule : List ℕ) → (played image limit schedule).full ≡ true → length (played image limit schedule).entries ≡ limit
 unfolding played
-played-limit image limit schedule h =
+played_limit image limit schedule h =
     let all = schedule ++ rounds (limit + 1) (cpus_of image) in
     let r = items image limit all [] in
-    let cut : IsCutShort image limit all [] r.entries = cut-from_items image limit all [] r.entries (ap (λ (b : Bool). reached r.entries b) h) in
-    let few : length r.entries ≤ limit = items-few image limit all [] (omega arith) in
+    let cut : IsCutShort image limit all [] r.entries = cut_from_items image limit all [] r.entries (ap (λ (b : Bool). reached r.entries b) h) in
+    let few : length r.entries ≤ limit = items_few image limit all [] (omega arith) in
     let enough : limit ≤ length r.entries = cut.reached in
     omega arith
 
@@ -217,60 +214,60 @@ played-limit image limit schedule h =
 more_by : (image : Image) (limit k : ℕ) (schedule : List ℕ) (fs : List Entry) (b : Bool) → IsAdmitted image → items image limit (schedule ++ rounds (limit + 1) (cpus_of image)) [] ≡ reached fs b
     → items image limit ((schedule ++ rounds (limit + 1) (cpus_of image)) ++ rounds k (cpus_of image)) [] ≡ reached fs b
 more_by image limit k schedule fs false admitted h =
-    items-append image limit (schedule ++ rounds (limit + 1) (cpus_of image)) (rounds k (cpus_of image)) [] fs h
-    ∙ items-quiet image limit (rounds k (cpus_of image)) fs (played_by image limit schedule fs admitted h)
-more_by image limit k schedule fs true admitted h = items-append_full image limit (schedule ++ rounds (limit + 1) (cpus_of image)) (rounds k (cpus_of image)) [] fs h
+    items_append image limit (schedule ++ rounds (limit + 1) (cpus_of image)) (rounds k (cpus_of image)) [] fs h
+    ∙ items_quiet image limit (rounds k (cpus_of image)) fs (played_by image limit schedule fs admitted h)
+more_by image limit k schedule fs true admitted h = items_append_full image limit (schedule ++ rounds (limit + 1) (cpus_of image)) (rounds k (cpus_of image)) [] fs h
 
-pub played-enough : (image : Image) (limit n : ℕ) (schedule : List ℕ) → IsAdmitted image → limit < n → items image limit (schedule ++ rounds n (cpus_of image)) [] ≡ played image limit schedule
+pub played_enough : (image : Image) (limit n : ℕ) (schedule : List ℕ) → IsAdmitted image → limit < n → items image limit (schedule ++ rounds n (cpus_of image)) [] ≡ played image limit schedule
 unfolding played
-played-enough image limit n schedule admitted lt =
+played_enough image limit n schedule admitted lt =
     let cpus = cpus_of image in
     let k = n - (limit + 1) in
     let count : n ≡ (limit + 1) + k = omega arith in
     let r = items image limit (schedule ++ rounds (limit + 1) cpus) [] in
     ap (λ (m : ℕ). items image limit (schedule ++ rounds m cpus) []) count
-    ∙ ap (λ (xs : List ℕ). items image limit (schedule ++ xs) []) (rounds-append (limit + 1) k cpus)
+    ∙ ap (λ (xs : List ℕ). items image limit (schedule ++ xs) []) (rounds_append (limit + 1) k cpus)
     ∙ ap (λ (xs : List ℕ). items image limit xs []) (sym (append_assoc schedule (rounds (limit + 1) cpus) (rounds k cpus)))
     ∙ more_by image limit k schedule r.entries r.full admitted refl
 
 -- the numbers below n, in order
-below-length : (n : ℕ) → length (below n) ≡ n
-below-length zero = refl
-below-length (suc n) = let rest : length (below n) ≡ n = below-length n in length_push (below n) n ∙ (let e : length (below n) + 1 ≡ suc n = omega arith in e)
+below_length : (n : ℕ) → length (below n) ≡ n
+below_length zero = refl
+below_length (suc n) = let rest : length (below n) ≡ n = below_length n in length_push (below n) n ∙ (let e : length (below n) + 1 ≡ suc n = omega arith in e)
 
-Contains-below : (n k : ℕ) → k < n → Contains (below n) k
-Contains-below zero k lt = absurd (omega arith)
-Contains-below (suc n) k lt = elim (cases_lt k n) [
-  | inl less ↦ Contains-append_left (below n) (n ∷ []) k (Contains-below n k less)
-  | inr le ↦ (let same : n ≡ k = omega arith in let P : ℕ → Type 0 = Contains (below n ++ n ∷ []) in subst P same (Contains-append_right (below n) (n ∷ []) n (Contains-head n [])))
+Contains_below : (n k : ℕ) → k < n → Contains (below n) k
+Contains_below zero k lt = absurd (omega arith)
+Contains_below (suc n) k lt = elim (cases_lt k n) [
+  | inl less ↦ Contains-append_left (below n) (n ∷ []) k (Contains_below n k less)
+  | inr le ↦ (let same : n ≡ k = omega arith in let P : ℕ → Type 0 = Contains (below n ++ n ∷ []) in subst P same (Contains-append_right (below n) (n ∷ []) n (Contains_head n [])))
 ]
 
 -- the CPUs of a round are the board's
-pub cpus_of-each : (image : Image) (cpu : ℕ) → IsAdmitted image → IsTrue (is_on_board image cpu) → Contains (cpus_of image) cpu
+pub cpus_of_each : (image : Image) (cpu : ℕ) → IsAdmitted image → IsTrue (is_on_board image cpu) → Contains (cpus_of image) cpu
 unfolding cpus_of
-cpus_of-each image cpu admitted on = Contains-filter (is_on_board image) (below 16) cpu (Contains-below 16 cpu (few_cpus image admitted cpu on)) on
+cpus_of_each image cpu admitted on = Contains_filter (is_on_board image) (below 16) cpu (Contains_below 16 cpu (few_cpus image admitted cpu on)) on
 
-pub cpus_of-board : (image : Image) (cpu : ℕ) → Contains (cpus_of image) cpu → IsTrue (is_on_board image cpu)
+pub cpus_of_board : (image : Image) (cpu : ℕ) → Contains (cpus_of image) cpu → IsTrue (is_on_board image cpu)
 unfolding cpus_of
-cpus_of-board image cpu held = (IsFound-from_filter (is_on_board image) (below 16) cpu held).passes
+cpus_of_board image cpu held = (IsFound_from_filter (is_on_board image) (below 16) cpu held).passes
 
-below-at : (n k : ℕ) → k < n → get_or (below n) k 0 ≡ k
-below-at zero k lt = absurd (omega arith)
-below-at (suc n) k lt =
-    let count : length (below n) ≡ n = below-length n in
+below_at : (n k : ℕ) → k < n → get_or (below n) k 0 ≡ k
+below_at zero k lt = absurd (omega arith)
+below_at (suc n) k lt =
+    let count : length (below n) ≡ n = below_length n in
     elim (cases_lt k n) [
-      | inl less ↦ get_or_append_left (below n) (n ∷ []) 0 k (omega arith) ∙ below-at n k less
+      | inl less ↦ get_or_append_left (below n) (n ∷ []) 0 k (omega arith) ∙ below_at n k less
       | inr le ↦ get_or_push (below n) n 0 k (omega arith) ∙ omega arith
     ]
 
-below-rising : (n : ℕ) → IsStrictlyIncreasing (below n)
-below-rising n = λ k lt.
-    let count : length (below n) ≡ n = below-length n in
-    let here : get_or (below n) k 0 ≡ k = below-at n k (omega arith) in
-    let next : get_or (below n) (k + 1) 0 ≡ k + 1 = below-at n (k + 1) (omega arith) in
+below_rising : (n : ℕ) → IsStrictlyIncreasing (below n)
+below_rising n = λ k lt.
+    let count : length (below n) ≡ n = below_length n in
+    let here : get_or (below n) k 0 ≡ k = below_at n k (omega arith) in
+    let next : get_or (below n) (k + 1) 0 ≡ k + 1 = below_at n (k + 1) (omega arith) in
     omega arith
 
 -- in rising order
-pub cpus_of-rising : (image : Image) → IsStrictlyIncreasing (cpus_of image)
+pub cpus_of_rising : (image : Image) → IsStrictlyIncreasing (cpus_of image)
 unfolding cpus_of
-cpus_of-rising image = IsStrictlyIncreasing-filter (is_on_board image) (below 16) (below-rising 16)
+cpus_of_rising image = IsStrictlyIncreasing-filter (is_on_board image) (below 16) (below_rising 16)

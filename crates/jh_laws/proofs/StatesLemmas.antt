@@ -35,22 +35,22 @@ use Rattle.jh_history.specs.Cpus.{acted, changed, change_if, begun as begun_cpu,
 use Rattle.jh_history.specs.History.{facts}
 use Rattle.jh_history.specs.Phases.{configs_of}
 use Rattle.jh_history.specs.Due.{is_idle_but, IsLegal}
-use Rattle.jh_history.proofs.FactsLemmas.{facts-push, cpu-after}
-use Rattle.jh_history.proofs.LegalLemmas.{due-split, IsLegal-begin}
+use Rattle.jh_history.proofs.FactsLemmas.{facts_push, cpu_after_holds}
+use Rattle.jh_history.proofs.LegalLemmas.{due_split, IsLegal_begin}
 use Rattle.jh_history.specs.Sound.{IsCaller, IsInPhase}
 use Rattle.jh_laws.specs.Ways.{is_phase, is_call, is_commit, is_agreement, call_begun, begun}
 use Rattle.jh_laws.specs.Moves.{stepped, ended}
 use Rattle.jh_laws.specs.Outcomes.{is_violation}
 use Rattle.jh_laws.specs.States.{changes_others, is_stop, HasBegun, HasAgreed, HasCommitted, HasFinished}
-use Rattle.jh_laws.proofs.RootLemmas.{program_of-few}
-use Rattle.jh_history.proofs.SoundCommitLemmas.{configs-joined}
-use Rattle.jh_history.proofs.SoundLemmas.{legal-sound}
-use Rattle.jh_laws.proofs.CommitLemmas.{cells-after}
-use Rattle.jh_laws.proofs.CallLemmas.{Expects, phase-expects, phase-of_due, sound-open, begun-of, not_same, IsMadeBy, Stopping, Running as Runs, Calling, made-by, phase_call}
+use Rattle.jh_laws.proofs.RootLemmas.{program_of_few}
+use Rattle.jh_history.proofs.SoundCommitLemmas.{configs_joined}
+use Rattle.jh_history.proofs.SoundLemmas.{legal_sound}
+use Rattle.jh_history.proofs.PlainStepLemmas.{after_cells}
+use Rattle.jh_laws.proofs.CallLemmas.{Expects, phase_expects, phase_of_due, sound_open, begun_of, not_same, IsMadeBy, Stopping, Running as Runs, Calling, made_by, phase_call}
 
 -- CPU i behind an entry
-pub behind-cpu : (image : Image) (before : List Entry) (entry : Entry) (i : ℕ) → (facts image (before ++ entry ∷ [])).cpu i ≡ acted image (facts image before).call entry.act entry.cpu i ((facts image before).cpu i)
-behind-cpu image before entry i = ap (λ (f : Facts). f.cpu i) (facts-push image before entry) ∙ ap (λ (c : ℕ → Cpu). c i) (cpu-after image (facts image before) entry)
+pub behind_cpu : (image : Image) (before : List Entry) (entry : Entry) (i : ℕ) → (facts image (before ++ entry ∷ [])).cpu i ≡ acted image (facts image before).call entry.act entry.cpu i ((facts image before).cpu i)
+behind_cpu image before entry i = ap (λ (f : Facts). f.cpu i) (facts_push image before entry) ∙ ap (λ (c : ℕ → Cpu). c i) (cpu_after_holds image (facts image before) entry)
 
 -- ---- a CPU's own entry
 
@@ -58,7 +58,7 @@ behind-cpu image before entry i = ap (λ (f : Facts). f.cpu i) (facts-push image
 within_ops : (image : Image) (cpu : ℕ) (o : Option CellConfig) (i : ℕ) (op : Op) → IsAdmitted image → slice_get (option_map_or (λ (c : CellConfig). program_of image (name_of c) cpu) o []) i ≡ Some op → i < 4096
 within_ops image cpu None i op admitted h = absurd (none-some op h)
 within_ops image cpu (Some c) i op admitted h =
-    let few : length (program_of image (name_of c) cpu) ≤ 4096 = program_of-few image (name_of c) cpu admitted in
+    let few : length (program_of image (name_of c) cpu) ≤ 4096 = program_of_few image (name_of c) cpu admitted in
     let within : i < length (program_of image (name_of c) cpu) = slice_get_within (program_of image (name_of c) cpu) i op h in
     omega (arith, few, within)
 
@@ -114,21 +114,21 @@ fails_by image call (Note id) own cpu few c = absurd (false≢true c)
 fails_by image call (Noted id how) own cpu few c = absurd (false≢true c)
 fails_by image call (Finish answer) own cpu few c = absurd (false≢true c)
 
-pub violation-own : (act : Act) → is_violation act ≡ true → (is_call act ≡ false) × (is_stop act ≡ false)
-violation-own (Read width at got) c = (refl, refl)
-violation-own (Fetch at got) c = (refl, refl)
-violation-own (Write width at value ok) c = (refl, refl)
-violation-own (Await width at value ok) c = (refl, refl)
-violation-own (Irq device vector) c = absurd (false≢true c)
-violation-own (Hvc code x y answer) c = absurd (false≢true c)
-violation-own Stop c = absurd (false≢true c)
-violation-own (Begin code x y) c = absurd (false≢true c)
-violation-own (Decide refused) c = absurd (false≢true c)
-violation-own (Settle how) c = absurd (false≢true c)
-violation-own Commit c = absurd (false≢true c)
-violation-own (Note id) c = absurd (false≢true c)
-violation-own (Noted id how) c = absurd (false≢true c)
-violation-own (Finish answer) c = absurd (false≢true c)
+pub violation_own : (act : Act) → is_violation act ≡ true → (is_call act ≡ false) × (is_stop act ≡ false)
+violation_own (Read width at got) c = (refl, refl)
+violation_own (Fetch at got) c = (refl, refl)
+violation_own (Write width at value ok) c = (refl, refl)
+violation_own (Await width at value ok) c = (refl, refl)
+violation_own (Irq device vector) c = absurd (false≢true c)
+violation_own (Hvc code x y answer) c = absurd (false≢true c)
+violation_own Stop c = absurd (false≢true c)
+violation_own (Begin code x y) c = absurd (false≢true c)
+violation_own (Decide refused) c = absurd (false≢true c)
+violation_own (Settle how) c = absurd (false≢true c)
+violation_own Commit c = absurd (false≢true c)
+violation_own (Note id) c = absurd (false≢true c)
+violation_own (Noted id how) c = absurd (false≢true c)
+violation_own (Finish answer) c = absurd (false≢true c)
 
 -- the operation that the CPU was at
 position_by : (image : Image) (f : Facts) (entry : Entry) → IsAdmitted image → is_call entry.act ≡ false → is_stop entry.act ≡ false → IsMadeBy image f entry → (f.cpu entry.cpu).position < 4096
@@ -136,52 +136,52 @@ position_by image f entry admitted a b (Stopping is) = absurd (both_ways (is_sto
 position_by image f entry admitted a b (Calling phase) = absurd (both_ways (is_call entry.act) a (phase_call entry.act phase))
 position_by image f entry admitted a b (Runs program) = within_ops image entry.cpu (cell_in image f.cells (f.cpu entry.cpu).owner) (f.cpu entry.cpu).position program.op admitted program.at
 
-position-few : (image : Image) (before rest : List Entry) (entry : Entry) → IsAdmitted image → IsLegal image (before ++ entry ∷ rest) → is_call entry.act ≡ false → is_stop entry.act ≡ false → ((facts image before).cpu entry.cpu).position < 4096
-position-few image before rest entry admitted legal a b =
+position_few : (image : Image) (before rest : List Entry) (entry : Entry) → IsAdmitted image → IsLegal image (before ++ entry ∷ rest) → is_call entry.act ≡ false → is_stop entry.act ≡ false → ((facts image before).cpu entry.cpu).position < 4096
+position_few image before rest entry admitted legal a b =
     let f : Facts = facts image before in
-    let sound = legal-sound image before admitted (IsLegal-begin image before (entry ∷ rest) legal) in
-    position_by image f entry admitted a b (made-by image f entry sound (due-split image before rest entry legal))
+    let sound = legal_sound image before admitted (IsLegal_begin image before (entry ∷ rest) legal) in
+    position_by image f entry admitted a b (made_by image f entry sound (due_split image before rest entry legal))
 
-pub own-steps : (image : Image) (before rest : List Entry) (entry : Entry) → IsAdmitted image → IsLegal image (before ++ entry ∷ rest) → is_call entry.act ≡ false → is_stop entry.act ≡ false → is_violation entry.act ≡ false
+pub own_steps : (image : Image) (before rest : List Entry) (entry : Entry) → IsAdmitted image → IsLegal image (before ++ entry ∷ rest) → is_call entry.act ≡ false → is_stop entry.act ≡ false → is_violation entry.act ≡ false
     → (facts image (before ++ entry ∷ [])).cpu entry.cpu ≡ stepped ((facts image before).cpu entry.cpu)
-own-steps image before rest entry admitted legal a b c =
+own_steps image before rest entry admitted legal a b c =
     let f : Facts = facts image before in
-    behind-cpu image before entry entry.cpu ∙ own_by image f.call entry.act entry.cpu (f.cpu entry.cpu) (position-few image before rest entry admitted legal a b) a b c
+    behind_cpu image before entry entry.cpu ∙ own_by image f.call entry.act entry.cpu (f.cpu entry.cpu) (position_few image before rest entry admitted legal a b) a b c
 
-pub own-ends : (image : Image) (before rest : List Entry) (entry : Entry) → IsAdmitted image → IsLegal image (before ++ entry ∷ rest) → is_violation entry.act ≡ true → (facts image (before ++ entry ∷ [])).cpu entry.cpu ≡ ended ((facts image before).cpu entry.cpu)
-own-ends image before rest entry admitted legal c =
+pub own_ends : (image : Image) (before rest : List Entry) (entry : Entry) → IsAdmitted image → IsLegal image (before ++ entry ∷ rest) → is_violation entry.act ≡ true → (facts image (before ++ entry ∷ [])).cpu entry.cpu ≡ ended ((facts image before).cpu entry.cpu)
+own_ends image before rest entry admitted legal c =
     let f : Facts = facts image before in
-    let kind = violation-own entry.act c in
-    behind-cpu image before entry entry.cpu ∙ fails_by image f.call entry.act entry.cpu (f.cpu entry.cpu) (position-few image before rest entry admitted legal kind.0 kind.1) c
+    let kind = violation_own entry.act c in
+    behind_cpu image before entry entry.cpu ∙ fails_by image f.call entry.act entry.cpu (f.cpu entry.cpu) (position_few image before rest entry admitted legal kind.0 kind.1) c
 
-pub own-stops : (image : Image) (before : List Entry) (entry : Entry) → entry.act ≡ Stop → (facts image (before ++ entry ∷ [])).cpu entry.cpu ≡ stopped_of ((facts image before).cpu entry.cpu)
-own-stops image before entry act =
+pub own_stops : (image : Image) (before : List Entry) (entry : Entry) → entry.act ≡ Stop → (facts image (before ++ entry ∷ [])).cpu entry.cpu ≡ stopped_of ((facts image before).cpu entry.cpu)
+own_stops image before entry act =
     let f : Facts = facts image before in
-    behind-cpu image before entry entry.cpu ∙ ap (λ (x : Act). acted image f.call x entry.cpu entry.cpu (f.cpu entry.cpu)) act ∙ own_cpu Halt entry.cpu (f.cpu entry.cpu)
+    behind_cpu image before entry entry.cpu ∙ ap (λ (x : Act). acted image f.call x entry.cpu entry.cpu (f.cpu entry.cpu)) act ∙ own_cpu Halt entry.cpu (f.cpu entry.cpu)
 
 -- ---- other CPUs
 
 other_cpu : (change : Change) (own i : ℕ) (cpu : Cpu) → i ≢ own → cond (eqb i own) (changed change cpu) cpu ≡ cpu
 other_cpu change own i cpu other = ap (λ (b : Bool). cond b (changed change cpu) cpu) (ne_eqb i own other)
 
-pub others-by : (image : Image) (call : Option OpenCall) (act : Act) (own i : ℕ) (cpu : Cpu) → changes_others act ≡ false → i ≢ own → acted image call act own i cpu ≡ cpu
-others-by image call (Read width at got) own i cpu a other = other_cpu (change_if (is_some got)) own i cpu other
-others-by image call (Fetch at got) own i cpu a other = other_cpu (change_if (is_some got)) own i cpu other
-others-by image call (Write width at value ok) own i cpu a other = other_cpu (change_if ok) own i cpu other
-others-by image call (Await width at value ok) own i cpu a other = other_cpu (change_if ok) own i cpu other
-others-by image call (Irq device vector) own i cpu a other = other_cpu Step own i cpu other
-others-by image call (Hvc code x y answer) own i cpu a other = other_cpu Step own i cpu other
-others-by image call Stop own i cpu a other = other_cpu Halt own i cpu other
-others-by image call (Decide refused) own i cpu a other = other_cpu Stay own i cpu other
-others-by image call (Note id) own i cpu a other = other_cpu Stay own i cpu other
-others-by image call (Noted id how) own i cpu a other = other_cpu Stay own i cpu other
-others-by image call (Begin code x y) own i cpu a other = absurd (false≢true (sym a))
-others-by image call (Settle how) own i cpu a other = absurd (false≢true (sym a))
-others-by image call Commit own i cpu a other = absurd (false≢true (sym a))
-others-by image call (Finish answer) own i cpu a other = absurd (false≢true (sym a))
+pub others_by : (image : Image) (call : Option OpenCall) (act : Act) (own i : ℕ) (cpu : Cpu) → changes_others act ≡ false → i ≢ own → acted image call act own i cpu ≡ cpu
+others_by image call (Read width at got) own i cpu a other = other_cpu (change_if (is_some got)) own i cpu other
+others_by image call (Fetch at got) own i cpu a other = other_cpu (change_if (is_some got)) own i cpu other
+others_by image call (Write width at value ok) own i cpu a other = other_cpu (change_if ok) own i cpu other
+others_by image call (Await width at value ok) own i cpu a other = other_cpu (change_if ok) own i cpu other
+others_by image call (Irq device vector) own i cpu a other = other_cpu Step own i cpu other
+others_by image call (Hvc code x y answer) own i cpu a other = other_cpu Step own i cpu other
+others_by image call Stop own i cpu a other = other_cpu Halt own i cpu other
+others_by image call (Decide refused) own i cpu a other = other_cpu Stay own i cpu other
+others_by image call (Note id) own i cpu a other = other_cpu Stay own i cpu other
+others_by image call (Noted id how) own i cpu a other = other_cpu Stay own i cpu other
+others_by image call (Begin code x y) own i cpu a other = absurd (false≢true (sym a))
+others_by image call (Settle how) own i cpu a other = absurd (false≢true (sym a))
+others_by image call Commit own i cpu a other = absurd (false≢true (sym a))
+others_by image call (Finish answer) own i cpu a other = absurd (false≢true (sym a))
 
-pub others-kept : (image : Image) (before : List Entry) (entry : Entry) (i : ℕ) → changes_others entry.act ≡ false → i ≢ entry.cpu → (facts image (before ++ entry ∷ [])).cpu i ≡ (facts image before).cpu i
-others-kept image before entry i a other = behind-cpu image before entry i ∙ others-by image (facts image before).call entry.act entry.cpu i ((facts image before).cpu i) a other
+pub others_kept : (image : Image) (before : List Entry) (entry : Entry) (i : ℕ) → changes_others entry.act ≡ false → i ≢ entry.cpu → (facts image (before ++ entry ∷ [])).cpu i ≡ (facts image before).cpu i
+others_kept image before entry i a other = behind_cpu image before entry i ∙ others_by image (facts image before).call entry.act entry.cpu i ((facts image before).cpu i) a other
 
 -- ---- the beginning and the end of a call
 
@@ -207,11 +207,11 @@ begins image own i cpu =
       rests = λ other. asked_if (a && b && c && d) cpu (and_right (a && b && c) d (not_running cpu.mode other));
     }
 
-pub begin-cpus : (image : Image) (before : List Entry) (entry : Entry) (code x y i : ℕ) → entry.act ≡ Begin code x y → HasBegun image entry.cpu i ((facts image before).cpu i) ((facts image (before ++ entry ∷ [])).cpu i)
-begin-cpus image before entry code x y i act =
+pub begin_cpus : (image : Image) (before : List Entry) (entry : Entry) (code x y i : ℕ) → entry.act ≡ Begin code x y → HasBegun image entry.cpu i ((facts image before).cpu i) ((facts image (before ++ entry ∷ [])).cpu i)
+begin_cpus image before entry code x y i act =
     let f : Facts = facts image before in
     let P : Cpu → Type 0 = HasBegun image entry.cpu i (f.cpu i) in
-    let same = behind-cpu image before entry i ∙ ap (λ (a : Act). acted image f.call a entry.cpu i (f.cpu i)) act in
+    let same = behind_cpu image before entry i ∙ ap (λ (a : Act). acted image f.call a entry.cpu i (f.cpu i)) act in
     subst P (sym same) (begins image entry.cpu i (f.cpu i))
 
 finishes : (image : Image) (own i : ℕ) (cpu : Cpu) → (i ≡ own → (cpu.position < 4096) × (cpu.stopped ≡ false) × (cpu.owner ≡ image.system.root.id)) → HasFinished image own i cpu (finished image own i cpu)
@@ -235,19 +235,19 @@ finishes image own i cpu caller =
           e ∙ ap (λ (b : Bool). cond b (resumed cpu) cpu) (ne_eqb cpu.owner root other);
     }
 
-pub finish-cpus : (image : Image) (before rest : List Entry) (entry : Entry) (answer : ℤ) (i : ℕ) → IsAdmitted image → IsLegal image (before ++ entry ∷ rest) → entry.act ≡ Finish answer → HasFinished image entry.cpu i ((facts image before).cpu i) ((facts image (before ++ entry ∷ [])).cpu i)
-finish-cpus image before rest entry answer i admitted legal act =
+pub finish_cpus : (image : Image) (before rest : List Entry) (entry : Entry) (answer : ℤ) (i : ℕ) → IsAdmitted image → IsLegal image (before ++ entry ∷ rest) → entry.act ≡ Finish answer → HasFinished image entry.cpu i ((facts image before).cpu i) ((facts image (before ++ entry ∷ [])).cpu i)
+finish_cpus image before rest entry answer i admitted legal act =
     let f : Facts = facts image before in
-    let sound = legal-sound image before admitted (IsLegal-begin image before (entry ∷ rest) legal) in
-    let of = phase-of_due image f entry sound (due-split image before rest entry legal) (ap is_phase act) in
+    let sound = legal_sound image before admitted (IsLegal_begin image before (entry ∷ rest) legal) in
+    let of = phase_of_due image f entry sound (due_split image before rest entry legal) (ap is_phase act) in
     let Q : ℕ → Type 0 = λ k. IsCaller image k of.o.call (f.cpu k) in
-    let made : IsCaller image entry.cpu of.o.call (f.cpu entry.cpu) = subst Q of.caller (sound-open image f of.o sound of.opens).caller in
-    let few : length (program_of image (name_of image.system.root) entry.cpu) ≤ 4096 = program_of-few image (name_of image.system.root) entry.cpu admitted in
+    let made : IsCaller image entry.cpu of.o.call (f.cpu entry.cpu) = subst Q of.caller (sound_open image f of.o sound of.opens).caller in
+    let few : length (program_of image (name_of image.system.root) entry.cpu) ≤ 4096 = program_of_few image (name_of image.system.root) entry.cpu admitted in
     let within = slice_get_within (program_of image (name_of image.system.root) entry.cpu) (f.cpu entry.cpu).position (HvcOp made.code made.a made.b) made.at in
     let R : ℕ → Type 0 = λ k. ((f.cpu k).position < 4096) × ((f.cpu k).stopped ≡ false) × ((f.cpu k).owner ≡ image.system.root.id) in
     let own : R entry.cpu = (omega (arith, few, within), made.calm.stopped, made.owner) in
     let P : Cpu → Type 0 = HasFinished image entry.cpu i (f.cpu i) in
-    let same = behind-cpu image before entry i ∙ ap (λ (a : Act). acted image f.call a entry.cpu i (f.cpu i)) act in
+    let same = behind_cpu image before entry i ∙ ap (λ (a : Act). acted image f.call a entry.cpu i (f.cpu i)) act in
     subst P (sym same) (finishes image entry.cpu i (f.cpu i) (λ is. subst R (sym is) own))
 
 -- ---- the Settle and the Commit
@@ -267,14 +267,14 @@ pub record IsPhaseBegun (image : Image) (before : List Entry) (entry : Entry) (c
   pub holds : IsInPhase image (configs_of (facts image before).cells) (facts image before).cpu entry.cpu call phase
   pub manages : is_management call ≡ true
 
-phase-begun : (image : Image) (before rest : List Entry) (entry first : Entry) → IsAdmitted image → IsLegal image (before ++ entry ∷ rest) → is_phase entry.act ≡ true → begun before ≡ Some first → IsPhaseBegun image before entry (call_begun first.act)
-phase-begun image before rest entry first admitted legal phase is =
+phase_begun : (image : Image) (before rest : List Entry) (entry first : Entry) → IsAdmitted image → IsLegal image (before ++ entry ∷ rest) → is_phase entry.act ≡ true → begun before ≡ Some first → IsPhaseBegun image before entry (call_begun first.act)
+phase_begun image before rest entry first admitted legal phase is =
     let f : Facts = facts image before in
-    let sound = legal-sound image before admitted (IsLegal-begin image before (entry ∷ rest) legal) in
-    let of = phase-of_due image f entry sound (due-split image before rest entry legal) phase in
+    let sound = legal_sound image before admitted (IsLegal_begin image before (entry ∷ rest) legal) in
+    let of = phase_of_due image f entry sound (due_split image before rest entry legal) phase in
     let o : OpenCall = of.o in
-    let opens = sound-open image f o sound of.opens in
-    let begins_at = begun-of image before o of.opens in
+    let opens = sound_open image f o sound of.opens in
+    let begins_at = begun_of image before o of.opens in
     let call : o.call ≡ call_begun first.act = begins_at.3 ∙ ap (λ (e : Entry). call_begun e.act) (same_Some begins_at.0 first (sym begins_at.1 ∙ is)) in
     let whole : record { caller = o.caller; call = o.call; phase = o.phase } ≡ record { caller = entry.cpu; call = call_begun first.act; phase = o.phase } =
     ap (λ (k : ℕ). record { caller = k; call = o.call; phase = o.phase }) of.caller ∙ ap (λ (c : Call). record { caller = entry.cpu; call = c; phase = o.phase }) call in
@@ -284,7 +284,7 @@ phase-begun image before rest entry first admitted legal phase is =
     record {
       phase = o.phase;
       opens = of.opens ∙ ap Some whole;
-      expects = phase-expects image f (is_idle_but image f o.caller) o.caller o.call o.phase entry.act of.act;
+      expects = phase_expects image f (is_idle_but image f o.caller) o.caller o.call o.phase entry.act of.act;
       holds = subst P call (subst Q of.caller opens.phase);
       manages = subst M call opens.caller.management;
     }
@@ -323,13 +323,13 @@ agreement_phase (Irq device vector) h = h
 agreement_phase (Hvc code x y answer) h = h
 agreement_phase Stop h = h
 
-pub settle-cpus : (image : Image) (before rest : List Entry) (entry first : Entry) (i : ℕ) → IsAdmitted image → IsLegal image (before ++ entry ∷ rest) → is_agreement entry.act ≡ true → begun before ≡ Some first
+pub settle_cpus : (image : Image) (before rest : List Entry) (entry first : Entry) (i : ℕ) → IsAdmitted image → IsLegal image (before ++ entry ∷ rest) → is_agreement entry.act ≡ true → begun before ≡ Some first
     → HasAgreed (call_begun first.act) ((facts image before).cpu i) ((facts image (before ++ entry ∷ [])).cpu i)
-settle-cpus image before rest entry first i admitted legal agreed is =
+settle_cpus image before rest entry first i admitted legal agreed is =
     let f : Facts = facts image before in
-    let of = phase-begun image before rest entry first admitted legal (agreement_phase entry.act agreed) is in
+    let of = phase_begun image before rest entry first admitted legal (agreement_phase entry.act agreed) is in
     let P : Cpu → Type 0 = HasAgreed (call_begun first.act) (f.cpu i) in
-    subst P (sym (behind-cpu image before entry i)) (settle_by image f.call (record { caller = entry.cpu; call = call_begun first.act; phase = of.phase }) entry.act entry.cpu i (f.cpu i) of.opens agreed)
+    subst P (sym (behind_cpu image before entry i)) (settle_by image f.call (record { caller = entry.cpu; call = call_begun first.act; phase = of.phase }) entry.act entry.cpu i (f.cpu i) of.opens agreed)
 
 created_cpus : (image : Image) (cells made : List Live) (cpu : ℕ → Cpu) (caller at i : ℕ) (phase : Phase) → Expects phase Commit → IsInPhase image (configs_of cells) cpu caller (Create at) phase → made ≡ committed_cells (Create at) phase cells
     → HasCommitted image (configs_of cells) (configs_of made) (Create at) i (cpu i) (committed image (Create at) phase i (cpu i))
@@ -337,7 +337,7 @@ created_cpus image cells made cpu caller at i ToDecide e h is = absurd (not_same
 created_cpus image cells made cpu caller at i (ToSettle waited) e h is = absurd (not_same is_commit Commit (Settle e.0) refl refl e.1)
 created_cpus image cells made cpu caller at i (ToCreate config) e h is = (
   config,
-  ap configs_of is ∙ configs-joined cells config,
+  ap configs_of is ∙ configs_joined cells config,
   λ set. ap (λ (b : Bool). cond b (lent config.id (cpu i)) (cpu i)) set,
   λ none. ap (λ (b : Bool). cond b (lent config.id (cpu i)) (cpu i)) none,
 )
@@ -364,22 +364,22 @@ commit_by image cells made cpu caller i (State id) phase manages e h is = both_w
 commit_by image cells made cpu caller i (CpuInfo n kind) phase manages e h is = both_ways false refl manages
 commit_by image cells made cpu caller i Unknown phase manages e h is = both_ways false refl manages
 
-pub commit-cpus : (image : Image) (before rest : List Entry) (entry first : Entry) (i : ℕ) → IsAdmitted image → IsLegal image (before ++ entry ∷ rest) → entry.act ≡ Commit → begun before ≡ Some first
+pub commit_cpus : (image : Image) (before rest : List Entry) (entry first : Entry) (i : ℕ) → IsAdmitted image → IsLegal image (before ++ entry ∷ rest) → entry.act ≡ Commit → begun before ≡ Some first
     → HasCommitted image (configs_of (facts image before).cells) (configs_of (facts image (before ++ entry ∷ [])).cells) (call_begun first.act) i ((facts image before).cpu i) ((facts image (before ++ entry ∷ [])).cpu i)
-commit-cpus image before rest entry first i admitted legal act is =
+commit_cpus image before rest entry first i admitted legal act is =
     let f : Facts = facts image before in
-    let of = phase-begun image before rest entry first admitted legal (ap is_phase act) is in
+    let of = phase_begun image before rest entry first admitted legal (ap is_phase act) is in
     let call : Call = call_begun first.act in
     let o : OpenCall = record { caller = entry.cpu; call = call; phase = of.phase } in
     let made : List Live = (facts image (before ++ entry ∷ [])).cells in
     let E : Act → Type 0 = Expects of.phase in
     let cells : made ≡ committed_cells call of.phase f.cells =
-    ap (λ (g : Facts). g.cells) (facts-push image before entry)
-    ∙ cells-after image f entry
+    ap (λ (g : Facts). g.cells) (facts_push image before entry)
+    ∙ after_cells image f entry
     ∙ ap (λ (c : Option OpenCall). cells_by c f.cells entry.act) of.opens
     ∙ ap (cells_by (Some o) f.cells) act in
     let same : (facts image (before ++ entry ∷ [])).cpu i ≡ committed image call of.phase i (f.cpu i) =
-    behind-cpu image before entry i
+    behind_cpu image before entry i
     ∙ ap (λ (c : Option OpenCall). acted image c entry.act entry.cpu i (f.cpu i)) of.opens
     ∙ ap (λ (a : Act). acted image (Some o) a entry.cpu i (f.cpu i)) act in
     let P : Cpu → Type 0 = HasCommitted image (configs_of f.cells) (configs_of made) call i (f.cpu i) in

@@ -21,16 +21,16 @@ use Rattle.jh_history.specs.Access.{place_in_cell, write_of, or_behind, with_slo
 use Rattle.jh_history.specs.Facts.{Facts}
 use Rattle.jh_history.specs.Grants.{is_kept, granted, behind_in, reach, devices_of}
 use Rattle.jh_history.specs.Lives.{regions_in}
-use Rattle.jh_history.proofs.AccessLemmas.{reach_by-within, reach_by-beyond}
-use Rattle.jh_history.proofs.BehindLemmas.{answer-beyond}
+use Rattle.jh_history.proofs.AccessLemmas.{reach_by_within, reach_by_beyond}
+use Rattle.jh_history.proofs.BehindLemmas.{answer_beyond}
 use Rattle.jh_history.specs.Phases.{configs_of}
 use Rattle.jh_history.specs.Sound.{AreSoundCells, IsSound}
 use Rattle.jh_laws.specs.Grants.{place_behind}
 use Rattle.jh_laws.specs.Held.{IsLive, IsLeft, IsGrantedTo}
 use Rattle.jh_laws.specs.Ends.{IsAnsweredByRegister, IsAnswered, AreItsPlaces, GivesPlaces}
-use Rattle.jh_laws.proofs.DevicesLemmas.{same-register}
-use Rattle.jh_laws.proofs.ReachedLemmas.{Way, OnMemory, OnRegion, OnWindow, OnRegister, OnNothing, way, places-of_memory, places-of_region, region-places}
-use Rattle.jh_laws.proofs.EndsLemmas.{granted_places, picked_place, window-places, register-places}
+use Rattle.jh_laws.proofs.DevicesLemmas.{same_register}
+use Rattle.jh_laws.proofs.ReachedLemmas.{Way, OnMemory, OnRegion, OnWindow, OnRegister, OnNothing, way, places_of_memory, places_of_region, region_places}
+use Rattle.jh_laws.proofs.EndsLemmas.{granted_places, picked_place, window_places, register_places}
 
 -- ---- a list of places by their index
 
@@ -43,8 +43,8 @@ get_listed place zero k d lt = absurd (omega arith)
 get_listed place (suc n) zero d lt = refl
 get_listed place (suc n) (suc k) d lt = let e : k + 1 ≡ suc k = omega arith in get_listed (λ i. place (i + 1)) n k d (omega arith) ∙ ap place e
 
-pub listed-at : (place : ℕ → Place) (n : ℕ) (q : Place) → Contains (listed place n) q → (k : ℕ) × (k < n) × (q ≡ place k)
-listed-at place n q held =
+pub listed_at : (place : ℕ → Place) (n : ℕ) (q : Place) → Contains (listed place n) q → (k : ℕ) × (k < n) × (q ≡ place k)
+listed_at place n q held =
     let long : length (listed place n) ≡ n = length_listed place n in
     let within : held.0 < length (listed place n) = held.1 in
     let lt : held.0 < n = omega arith in
@@ -57,45 +57,45 @@ abbrev pub byte_put : Image → Facts → ℕ → ℕ → ℕ → ℕ → Place 
 byte_put image f id at width value = write_of f.byte (devices_of image f id) (reach image f id ToWrite at width) value
 
 -- where an access has places, something answers it
-pub places-answered : (image : Image) (f : Facts) (id at width : ℕ) (place : ℕ → Place) → AreItsPlaces image f.cells id ToWrite at width place → IsAnswered image f id ToWrite at width
-places-answered image f id at width place are =
+pub places_answered : (image : Image) (f : Facts) (id at width : ℕ) (place : ℕ → Place) → AreItsPlaces image f.cells id ToWrite at width place → IsAnswered image f id ToWrite at width
+places_answered image f id at width place are =
     ⊎_elim (λ each. inl (λ k lt. (place k, each k lt))) (λ (by : GivesPlaces image f.cells id ToWrite at width place). inr (inl (by.region, by.answers))) are
 
 stored_on : (image : Image) (f : Facts) (id at width : ℕ) (place : ℕ → Place) (value : ℕ) → AreSoundCells image.system (configs_of f.cells) → 0 < width → Way image f id ToWrite at width → AreItsPlaces image f.cells id ToWrite at width place
     → byte_put image f id at width value ≡ written f.byte (listed place width) value
 stored_on image f id at width place value sound some (OnMemory ps granted is) are =
-    ap (λ (r : Reach). write_of f.byte (devices_of image f id) r value) is ∙ ap (λ (qs : List Place). written f.byte qs value) (places-of_memory image f id ToWrite at width ps place sound some granted is are)
+    ap (λ (r : Reach). write_of f.byte (devices_of image f id) r value) is ∙ ap (λ (qs : List Place). written f.byte qs value) (places_of_memory image f id ToWrite at width ps place sound some granted is are)
 stored_on image f id at width place value sound some (OnRegion r answers is) are =
-    ap (λ (r : Reach). write_of f.byte (devices_of image f id) r value) is ∙ ap (λ (qs : List Place). written f.byte qs value) (places-of_region image f id ToWrite at width r place sound some answers are)
-stored_on image f id at width place value sound some (OnWindow window is) are = absurd (window-places image f.cells id ToWrite at width place window are)
-stored_on image f id at width place value sound some (OnRegister n bar offset e register is) are = absurd (register-places image f id ToWrite at width n bar offset e place register are)
-stored_on image f id at width place value sound some (OnNothing none is) are = absurd (none (places-answered image f id at width place are))
+    ap (λ (r : Reach). write_of f.byte (devices_of image f id) r value) is ∙ ap (λ (qs : List Place). written f.byte qs value) (places_of_region image f id ToWrite at width r place sound some answers are)
+stored_on image f id at width place value sound some (OnWindow window is) are = absurd (window_places image f.cells id ToWrite at width place window are)
+stored_on image f id at width place value sound some (OnRegister n bar offset e register is) are = absurd (register_places image f id ToWrite at width n bar offset e place register are)
+stored_on image f id at width place value sound some (OnNothing none is) are = absurd (none (places_answered image f id at width place are))
 
 -- a write stores its value at the places of the access
-pub write-stored : (image : Image) (f : Facts) (id at width : ℕ) (place : ℕ → Place) (value : ℕ) → IsSound image f → 0 < width → AreItsPlaces image f.cells id ToWrite at width place
+pub write_stored : (image : Image) (f : Facts) (id at width : ℕ) (place : ℕ → Place) (value : ℕ) → IsSound image f → 0 < width → AreItsPlaces image f.cells id ToWrite at width place
     → byte_put image f id at width value ≡ written f.byte (listed place width) value
-write-stored image f id at width place value sound some are = stored_on image f id at width place value sound.cells some (way image f id ToWrite at width sound some) are
+write_stored image f id at width place value sound some are = stored_on image f id at width place value sound.cells some (way image f id ToWrite at width sound some) are
 
 -- the word that a register gets by it
-pub word-of_register : (image : Image) (f : Facts) (id n bar offset value : ℕ) (e : Endpoint) → endpoint_at id n f.endpoints ≡ Some e → slot_put (devices_of image f id) (record { device = n; bar = bar; at = offset }) value ≡ slot_written e bar offset (value % 2 ^ 32)
-word-of_register image f id n bar offset value e there = ap (option_and_then (λ (o : Endpoint). slot_written o bar offset (value % 2 ^ 32))) there
+pub word_of_register : (image : Image) (f : Facts) (id n bar offset value : ℕ) (e : Endpoint) → endpoint_at id n f.endpoints ≡ Some e → slot_put (devices_of image f id) (record { device = n; bar = bar; at = offset }) value ≡ slot_written e bar offset (value % 2 ^ 32)
+word_of_register image f id n bar offset value e there = ap (option_and_then (λ (o : Endpoint). slot_written o bar offset (value % 2 ^ 32))) there
 
 -- a write of a register reaches it
-pub register-reached : (image : Image) (f : Facts) (id : ℕ) (access : Access) (at width n bar offset : ℕ) (e : Endpoint) → Way image f id access at width → IsAnsweredByRegister image f id access at width n bar offset e
+pub register_reached : (image : Image) (f : Facts) (id : ℕ) (access : Access) (at width n bar offset : ℕ) (e : Endpoint) → Way image f id access at width → IsAnsweredByRegister image f id access at width n bar offset e
     → reach image f id access at width ≡ Window (record { device = n; bar = bar; at = offset })
-register-reached image f id access at width n bar offset e (OnMemory ps granted is) by = absurd (by.behind.lacks granted)
-register-reached image f id access at width n bar offset e (OnRegion r answers is) by = absurd (by.none r answers.has)
-register-reached image f id access at width n bar offset e (OnWindow window is) by = absurd (by.outside window.within)
-register-reached image f id access at width n bar offset e (OnRegister m other place o register is) by =
-    is ∙ same-register image f id access at width m other place n bar offset o e (λ k b a _. Window (record { device = k; bar = b; at = a })) register by
-register-reached image f id access at width n bar offset e (OnNothing none is) by = absurd (none (inr (inr (inr (n, bar, offset, e, by)))))
+register_reached image f id access at width n bar offset e (OnMemory ps granted is) by = absurd (by.behind.lacks granted)
+register_reached image f id access at width n bar offset e (OnRegion r answers is) by = absurd (by.none r answers.has)
+register_reached image f id access at width n bar offset e (OnWindow window is) by = absurd (by.outside window.within)
+register_reached image f id access at width n bar offset e (OnRegister m other place o register is) by =
+    is ∙ same_register image f id access at width m other place n bar offset o e (λ k b a _. Window (record { device = k; bar = b; at = a })) register by
+register_reached image f id access at width n bar offset e (OnNothing none is) by = absurd (none (inr (inr (inr (n, bar, offset, e, by)))))
 
 -- and puts that word
-pub register-stored : (image : Image) (f : Facts) (id at width n bar offset value : ℕ) (e : Endpoint) → IsSound image f → 0 < width → IsAnsweredByRegister image f id ToWrite at width n bar offset e
+pub register_stored : (image : Image) (f : Facts) (id at width n bar offset value : ℕ) (e : Endpoint) → IsSound image f → 0 < width → IsAnsweredByRegister image f id ToWrite at width n bar offset e
     → byte_put image f id at width value ≡ with_slot_if (slot_written e bar offset (value % 2 ^ 32)) f.byte
-register-stored image f id at width n bar offset value e sound some by =
-    ap (λ (r : Reach). write_of f.byte (devices_of image f id) r value) (register-reached image f id ToWrite at width n bar offset e (way image f id ToWrite at width sound some) by)
-    ∙ ap (λ (o : Option Slot). with_slot_if o f.byte) (word-of_register image f id n bar offset value e by.within.is.there)
+register_stored image f id at width n bar offset value e sound some by =
+    ap (λ (r : Reach). write_of f.byte (devices_of image f id) r value) (register_reached image f id ToWrite at width n bar offset e (way image f id ToWrite at width sound some) by)
+    ∙ ap (λ (o : Option Slot). with_slot_if o f.byte) (word_of_register image f id n bar offset value e by.within.is.there)
 
 -- the access has places, at which the value is stored
 pub record IsStored (image : Image) (f : Facts) (id at width : ℕ) : Type 0 where
@@ -116,23 +116,23 @@ abbrev pub Placed : Image → Facts → ℕ → ℕ → ℕ → Type 0
 Placed image f id at width = IsStored image f id at width ⊎ IsWord image f id at width ⊎ ((value : ℕ) → byte_put image f id at width value ≡ f.byte)
 
 stored_at : (image : Image) (f : Facts) (id at width : ℕ) (place : ℕ → Place) → IsSound image f → 0 < width → AreItsPlaces image f.cells id ToWrite at width place → Placed image f id at width
-stored_at image f id at width place sound some are = inl (record { place = place; are = are; stored = λ value. write-stored image f id at width place value sound some are })
+stored_at image f id at width place sound some are = inl (record { place = place; are = are; stored = λ value. write_stored image f id at width place value sound some are })
 
 placed_on : (image : Image) (f : Facts) (id at width : ℕ) → IsSound image f → 0 < width → Way image f id ToWrite at width → Placed image f id at width
 placed_on image f id at width sound some (OnMemory ps granted_all is) = stored_at image f id at width (λ k. picked_place (granted image f id ToWrite (at + k))) sound some (inl (granted_places image f id ToWrite at width sound.cells granted_all))
-placed_on image f id at width sound some (OnRegion r answers is) = stored_at image f id at width (λ k. place_in_cell id r (at + k)) sound some (region-places image f.cells id ToWrite at width r answers)
+placed_on image f id at width sound some (OnRegion r answers is) = stored_at image f id at width (λ k. place_in_cell id r (at + k)) sound some (region_places image f.cells id ToWrite at width r answers)
 placed_on image f id at width sound some (OnWindow window is) = inr (inr (λ value. ap (λ (r : Reach). write_of f.byte (devices_of image f id) r value) is))
 placed_on image f id at width sound some (OnRegister n bar offset e register is) =
-    inr (inl (record { number = n; bar = bar; offset = offset; endpoint = e; by = register; stored = λ value. register-stored image f id at width n bar offset value e sound some register }))
+    inr (inl (record { number = n; bar = bar; offset = offset; endpoint = e; by = register; stored = λ value. register_stored image f id at width n bar offset value e sound some register }))
 placed_on image f id at width sound some (OnNothing none is) = inr (inr (λ value. ap (λ (r : Reach). write_of f.byte (devices_of image f id) r value) is))
 
 -- a write of no bytes stores nothing
 no_bytes : (image : Image) (f : Facts) (id at value : ℕ) → byte_put image f id at 0 value ≡ f.byte
 no_bytes image f id at value = elim (cases_lt ADDRESS_END (at + 0)) [
   | inl beyond ↦
-      ap (λ (r : Reach). write_of f.byte (devices_of image f id) (or_behind r (behind_in image f.cells f.endpoints id ToWrite at 0)) value) (reach_by-beyond (granted image f id ToWrite) at 0 beyond)
-      ∙ ap (λ (r : Reach). write_of f.byte (devices_of image f id) r value) (answer-beyond (regions_in image f.cells id) (devices_of image f id) (is_kept image f.cells id) image.system ToWrite at 0 beyond)
-  | inr within ↦ ap (λ (r : Reach). write_of f.byte (devices_of image f id) (or_behind r (behind_in image f.cells f.endpoints id ToWrite at 0)) value) (reach_by-within (granted image f id ToWrite) at 0 within)
+      ap (λ (r : Reach). write_of f.byte (devices_of image f id) (or_behind r (behind_in image f.cells f.endpoints id ToWrite at 0)) value) (reach_by_beyond (granted image f id ToWrite) at 0 beyond)
+      ∙ ap (λ (r : Reach). write_of f.byte (devices_of image f id) r value) (answer_beyond (regions_in image f.cells id) (devices_of image f id) (is_kept image f.cells id) image.system ToWrite at 0 beyond)
+  | inr within ↦ ap (λ (r : Reach). write_of f.byte (devices_of image f id) (or_behind r (behind_in image f.cells f.endpoints id ToWrite at 0)) value) (reach_by_within (granted image f id ToWrite) at 0 within)
 ]
 
 -- the access has places, at which the value is stored, or a register answers it, or nothing is stored
@@ -154,8 +154,8 @@ pub record IsGivenTo (image : Image) (cells : List Live) (id at : ℕ) (place : 
   pub given : place ≡ place_behind cell region (at - region.virt_start)
   pub left : IsLeft image cells cell place
 
-pub granted-given : (image : Image) (cells : List Live) (id at : ℕ) (place : Place) → IsGrantedTo image cells id ToWrite at place → IsGivenTo image cells id at place
-granted-given image cells id at place h = record {
+pub granted_given : (image : Image) (cells : List Live) (id at : ℕ) (place : Place) → IsGrantedTo image cells id ToWrite at place → IsGivenTo image cells id at place
+granted_given image cells id at place h = record {
   cell = h.cell;
   live = h.live;
   named = h.named;
@@ -185,5 +185,5 @@ region_given image cells id at width place k lt by =
       left = subst P (sym (by.given k lt)) (has.left k lt);
     }
 
-pub places-given : (image : Image) (cells : List Live) (id at width : ℕ) (place : ℕ → Place) → AreItsPlaces image cells id ToWrite at width place → (k : ℕ) → k < width → IsGivenTo image cells id (at + k) (place k)
-places-given image cells id at width place are k lt = ⊎_elim (λ each. granted-given image cells id (at + k) (place k) (each k lt)) (λ by. region_given image cells id at width place k lt by) are
+pub places_given : (image : Image) (cells : List Live) (id at width : ℕ) (place : ℕ → Place) → AreItsPlaces image cells id ToWrite at width place → (k : ℕ) → k < width → IsGivenTo image cells id (at + k) (place k)
+places_given image cells id at width place are k lt = ⊎_elim (λ each. granted_given image cells id (at + k) (place k) (each k lt)) (λ by. region_given image cells id at width place k lt by) are

@@ -23,11 +23,11 @@ use Rattle.jh_ivshmem.specs.declared.vector.Vector.{Vector}
 use Rattle.jh_ivshmem.specs.declared.spec.EndpointSpec.{EndpointSpec}
 use Rattle.jh_ivshmem.specs.Endpoint.{fresh_vector}
 use Rattle.jh_ivshmem.specs.Links.{pending_of}
-use Rattle.jh_ivshmem.proofs.NamedLemmas.{named-device}
+use Rattle.jh_ivshmem.proofs.NamedLemmas.{named_device}
 use Rattle.jh_script.specs.declared.image.Image.{Image}
 use Rattle.jh_script.specs.declared.op.Op.{Op}
 use Rattle.jh_script.specs.declared.op.Op.TheVariants.{Read as ReadOp, Write as WriteOp, Fetch as FetchOp, Await as AwaitOp, Irq as IrqOp, Hvc as HvcOp}
-use Rattle.jh_script.specs.Operations.{IsPlain}
+use Rattle.jh_script.specs.Operations.{IsWellFormed}
 use Rattle.jh_history.specs.declared.place.Place.{Place}
 use Rattle.jh_history.specs.declared.place.Place.TheVariants.{Physical}
 use Rattle.jh_history.specs.declared.access.Access.{Access}
@@ -45,24 +45,24 @@ use Rattle.jh_history.specs.Hypercalls.{seen_of}
 use Rattle.jh_history.specs.Lives.{cell_in}
 use Rattle.jh_history.specs.Phases.{configs_of}
 use Rattle.jh_history.specs.Sound.{IsInPhase, IsOfDevice, IsSoundEndpoint, IsSound}
-use Rattle.jh_history.proofs.DuePhaseLemmas.{IsActIn, phase-act}
-use Rattle.jh_history.proofs.LegalLemmas.{due-split, IsLegal-begin}
-use Rattle.jh_history.proofs.SoundDecideLemmas.{board-few}
-use Rattle.jh_history.proofs.SoundDueLemmas.{next-from_due}
-use Rattle.jh_history.proofs.SoundLemmas.{legal-sound}
-use Rattle.jh_history.proofs.SpecsLemmas.{specs-device}
+use Rattle.jh_history.proofs.DuePhaseLemmas.{IsActIn, phase_act_holds}
+use Rattle.jh_history.proofs.LegalLemmas.{due_split, IsLegal_begin}
+use Rattle.jh_history.proofs.SoundDecideLemmas.{board_few}
+use Rattle.jh_history.proofs.SoundDueLemmas.{next_from_due}
+use Rattle.jh_history.proofs.SoundLemmas.{legal_sound}
+use Rattle.jh_history.proofs.SpecsLemmas.{specs_device}
 use Rattle.jh_laws.specs.Grants.{place_behind}
 use Rattle.jh_laws.specs.Held.{IsGrantedTo}
 use Rattle.jh_laws.specs.Ends.{IsAnswered, IsAnsweredByWindow, IsReadBy, IsGotBy}
 use Rattle.jh_laws.specs.Typed.{OpensTyped, TellsTyped}
-use Rattle.jh_laws.proofs.CallLemmas.{IsMadeBy, Stopping, Running, Calling, made-by, phase-of_due, sound-open}
-use Rattle.jh_laws.proofs.DevicesLemmas.{endpoint-held}
-use Rattle.jh_laws.proofs.EndsLemmas.{got-of_cell, ops-plain, width-some}
-use Rattle.jh_laws.proofs.FewCellsLemmas.{AreTyped, IsTypedPhase, IsTypedBoard, few-typed, legal-typed, typed_phase}
-use Rattle.jh_laws.proofs.FewLemmas.{length-map}
-use Rattle.jh_laws.proofs.PendingLemmas.{endpoint-of_pending, next-is}
-use Rattle.jh_laws.proofs.RefusalLemmas.{FitsRefusal, refusal-fits}
-use Rattle.jh_laws.proofs.RegisterLemmas.{HasRegisters, register-small}
+use Rattle.jh_laws.proofs.CallLemmas.{IsMadeBy, Stopping, Running, Calling, made_by, phase_of_due, sound_open}
+use Rattle.jh_laws.proofs.DevicesLemmas.{endpoint_held}
+use Rattle.jh_laws.proofs.EndsLemmas.{got_of_cell, ops_plain, width_some}
+use Rattle.jh_laws.proofs.FewCellsLemmas.{AreTyped, IsTypedPhase, IsTypedBoard, few_typed, legal_typed, typed_phase}
+use Rattle.jh_laws.proofs.FewLemmas.{length_map}
+use Rattle.jh_laws.proofs.PendingLemmas.{endpoint_of_pending, next_is}
+use Rattle.jh_laws.proofs.RefusalLemmas.{FitsRefusal, refusal_fits}
+use Rattle.jh_laws.proofs.RegisterLemmas.{HasRegisters, register_small}
 
 -- ---- the value of an access
 
@@ -118,9 +118,9 @@ read_fits image f id access at width value sound typed (inr (inr (inl window))) 
 read_fits image f id access at width value sound typed (inr (inr (inr register))) read =
     let e : Endpoint = register.3 in
     let answered = register.4 in
-    let held = endpoint-held image f id register.0 e answered.within.is.there in
+    let held = endpoint_held image f id register.0 e answered.within.is.there in
     let whole = All-contains IsSoundEndpoint f.endpoints e sound.endpoints.sound held in
-    let small = register-small e register.1 register.2 whole.within (All-contains HasRegisters f.endpoints e typed.endpoints held) in
+    let small = register_small e register.1 register.2 whole.within (All-contains HasRegisters f.endpoints e typed.endpoints held) in
     let is = read.register register.0 register.1 register.2 e answered in
     subst (λ w. value < 256 ^ w) (sym answered.wide) (subst (λ v. v < 2 ^ 32) (sym is) small)
 
@@ -184,8 +184,8 @@ few_seen : (image : Image) (f : Facts) (cell : ℕ) (call : Call) → IsSound im
 few_seen image f cell call sound typed =
     let memory = sound.cells.clean.memory.few in
     let size : pool_pages image.system < 2 ^ 63 = omega (arith, memory) in
-    let few = few-typed image f sound typed in
-    let long = length-map (λ (live : Live). live.config) f.cells in
+    let few = few_typed image f sound typed in
+    let long = length_map (λ (live : Live). live.config) f.cells in
     record { size = size; used = omega (arith, sound.cells.room, size); cells = omega (arith, few, long) }
 
 -- ---- interrupts
@@ -197,34 +197,34 @@ pending_within (x ∷ xs) (suc v) h = omega (arith, pending_within xs v h)
 
 pending_fits : (image : Image) (f : Facts) (id n v : ℕ) → IsSound image f → pending_of id f.endpoints ≡ Some (n, v) → (n < 2 ^ 32) × (v < 256)
 pending_fits image f id n v sound is =
-    let at = endpoint-of_pending f id n v (next-is image f id n v sound is).pending in
+    let at = endpoint_of_pending f id n v (next_is image f id n v sound is).pending in
     let e : Endpoint = at.0 in
-    let held = endpoint-held image f id n e at.1 in
+    let held = endpoint_held image f id n e at.1 in
     let whole = All-contains IsSoundEndpoint f.endpoints e sound.endpoints.sound held in
     let within : v < length e.vectors = pending_within e.vectors v at.2 in
     let own = All-contains (λ (o : Endpoint). IsOfDevice image (configs_of f.cells) o.spec) f.endpoints e sound.endpoints.own held in
-    let h = specs-device own.0 e.spec own.2 in
+    let h = specs_device own.0 e.spec own.2 in
     let passes : nat_lt h.number (2 ^ 32) ≡ true = (and_parts (nat_lt h.number (2 ^ 32)) (is_shmem h.device) h.passes).0 in
-    let number : n ≡ h.number = sym (named-device id n f.endpoints e at.1) ∙ ap (λ (s : EndpointSpec). s.device) h.is in
+    let number : n ≡ h.number = sym (named_device id n f.endpoints e at.1) ∙ ap (λ (s : EndpointSpec). s.device) h.is in
     (subst (λ k. k < 2 ^ 32) (sym number) (ltb-true h.number (2 ^ 32) passes), omega (arith, within, whole.vectors))
 
 -- ---- operations
 
-abbrev Told : Option Act → Type 0
-Told o = IfSome o TellsTyped
+abbrev IsTypedAct : Option Act → Type 0
+IsTypedAct o = IfSome o TellsTyped
 
-await_told : (width at value : ℕ) (o : Option ℕ) → Told (await_of width at value o)
+await_told : (width at value : ℕ) (o : Option ℕ) → IsTypedAct (await_of width at value o)
 await_told width at value None = tt
-await_told width at value (Some got) = cond_both (eqb got value) (Some (Await width at value true)) None Told (λ _. tt) (λ _. tt)
+await_told width at value (Some got) = cond_both (eqb got value) (Some (Await width at value true)) None IsTypedAct (λ _. tt) (λ _. tt)
 
-irq_told : (o : Option (ℕ × ℕ)) → ((n v : ℕ) → o ≡ Some (n, v) → (n < 2 ^ 32) × (v < 256)) → Told (option_map (λ (next : ℕ × ℕ). Irq next.0 next.1) o)
+irq_told : (o : Option (ℕ × ℕ)) → ((n v : ℕ) → o ≡ Some (n, v) → (n < 2 ^ 32) × (v < 256)) → IsTypedAct (option_map (λ (next : ℕ × ℕ). Irq next.0 next.1) o)
 irq_told None h = tt
 irq_told (Some next) h = h next.0 next.1 refl
 
-op_told : (image : Image) (f : Facts) (id : ℕ) (op : Op) → IsSound image f → IsTypedBoard f → IsPlain op → Told (act_of image f id op)
-op_told image f id (ReadOp width at) sound typed plain = got_fits image f id ToRead at width (got_by image f id ToRead at width) sound typed (got-of_cell image f id ToRead at width sound (width-some width plain))
+op_told : (image : Image) (f : Facts) (id : ℕ) (op : Op) → IsSound image f → IsTypedBoard f → IsWellFormed op → IsTypedAct (act_of image f id op)
+op_told image f id (ReadOp width at) sound typed plain = got_fits image f id ToRead at width (got_by image f id ToRead at width) sound typed (got_of_cell image f id ToRead at width sound (width_some width plain))
 op_told image f id (WriteOp width at value) sound typed plain = tt
-op_told image f id (FetchOp at) sound typed plain = got_fits image f id ToFetch at 4 (got_by image f id ToFetch at 4) sound typed (got-of_cell image f id ToFetch at 4 sound (omega arith))
+op_told image f id (FetchOp at) sound typed plain = got_fits image f id ToFetch at 4 (got_by image f id ToFetch at 4) sound typed (got_of_cell image f id ToFetch at 4 sound (omega arith))
 op_told image f id (AwaitOp width at value) sound typed plain = await_told width at value (got_by image f id ToRead at width)
 op_told image f id IrqOp sound typed plain = irq_told (pending_of id f.endpoints) (λ n v is. pending_fits image f id n v sound is)
 op_told image f id (HvcOp code a b) sound typed plain =
@@ -232,7 +232,7 @@ op_told image f id (HvcOp code a b) sound typed plain =
     cond_both (eqb id image.system.root.id && is_management call) (Begin code a b) (Hvc code a b (answer_of call (seen_of image f id call))) TellsTyped
     (λ _. tt) (λ _. answer_fits call (seen_of image f id call) (few_seen image f id call sound typed))
 
-told_by : (act : Act) (o : Option Act) → Told o → o ≡ Some act → TellsTyped act
+told_by : (act : Act) (o : Option Act) → IsTypedAct o → o ≡ Some act → TellsTyped act
 told_by act None h is = absurd (none-some act is)
 told_by act (Some other) h is = subst TellsTyped (same_Some other act is) h
 
@@ -257,36 +257,36 @@ in_phase image f caller call (ToFinish answer) act is holds cells typed refusal 
 made_told : (image : Image) (f : Facts) (entry : Entry) → IsAdmitted image → IsSound image f → IsTypedBoard f → due_at image f entry.cpu ≡ Some entry → IsMadeBy image f entry → TellsTyped entry.act
 made_told image f entry admitted sound typed due (Stopping is) = subst TellsTyped is tt
 made_told image f entry admitted sound typed due (Calling phase) =
-    let of = phase-of_due image f entry sound due phase in
+    let of = phase_of_due image f entry sound due phase in
     let o = of.o in
-    let act = phase-act image f (is_idle_but image f o.caller) o.caller o.call o.phase entry.act of.act in
-    in_phase image f o.caller o.call o.phase entry.act act (sound-open image f o sound of.opens).phase typed.cells (typed_phase f.call o of.opens typed.call) (refusal-fits image f entry sound due)
+    let act = phase_act_holds image f (is_idle_but image f o.caller) o.caller o.call o.phase entry.act of.act in
+    in_phase image f o.caller o.call o.phase entry.act act (sound_open image f o sound of.opens).phase typed.cells (typed_phase f.call o of.opens typed.call) (refusal_fits image f entry sound due)
 made_told image f entry admitted sound typed due (Running program) =
     let state : Cpu = f.cpu entry.cpu in
-    let plain = ops-plain image entry.cpu (cell_in image f.cells state.owner) state.position program.op admitted program.at in
+    let plain = ops_plain image entry.cpu (cell_in image f.cells state.owner) state.position program.op admitted program.at in
     told_by entry.act (act_of image f state.owner program.op) (op_told image f state.owner program.op sound typed plain) program.is
 
-pub told-at : (image : Image) (before rest : List Entry) (entry : Entry) → IsAdmitted image → OpensTyped image → IsLegal image (before ++ entry ∷ rest) → TellsTyped entry.act
-told-at image before rest entry admitted opens legal =
+pub told_at : (image : Image) (before rest : List Entry) (entry : Entry) → IsAdmitted image → OpensTyped image → IsLegal image (before ++ entry ∷ rest) → TellsTyped entry.act
+told_at image before rest entry admitted opens legal =
     let f : Facts = facts image before in
-    let early : IsLegal image before = IsLegal-begin image before (entry ∷ rest) legal in
-    let sound = legal-sound image before admitted early in
-    let due : due_at image f entry.cpu ≡ Some entry = due-split image before rest entry legal in
-    made_told image f entry admitted sound (legal-typed image before admitted opens.bytes early) due (made-by image f entry sound due)
+    let early : IsLegal image before = IsLegal_begin image before (entry ∷ rest) legal in
+    let sound = legal_sound image before admitted early in
+    let due : due_at image f entry.cpu ≡ Some entry = due_split image before rest entry legal in
+    made_told image f entry admitted sound (legal_typed image before admitted opens.bytes early) due (made_by image f entry sound due)
 
-pub cell-small : (image : Image) (before rest : List Entry) (entry : Entry) → IsAdmitted image → OpensTyped image → IsLegal image (before ++ entry ∷ rest) → entry.cell < 2 ^ 32
-cell-small image before rest entry admitted opens legal =
+pub cell_small : (image : Image) (before rest : List Entry) (entry : Entry) → IsAdmitted image → OpensTyped image → IsLegal image (before ++ entry ∷ rest) → entry.cell < 2 ^ 32
+cell_small image before rest entry admitted opens legal =
     let f : Facts = facts image before in
-    let early : IsLegal image before = IsLegal-begin image before (entry ∷ rest) legal in
-    let sound = legal-sound image before admitted early in
-    let typed = legal-typed image before admitted opens.bytes early in
-    let next = next-from_due image f entry (due-split image before rest entry legal) in
+    let early : IsLegal image before = IsLegal_begin image before (entry ∷ rest) legal in
+    let sound = legal_sound image before admitted early in
+    let typed = legal_typed image before admitted opens.bytes early in
+    let next = next_from_due image f entry (due_split image before rest entry legal) in
     let P : ℕ → Type 0 = λ id. id < 2 ^ 32 in
     subst P (sym next.cell)
     (⊎_elim (λ root. subst P (sym root) opens.root) (λ cell. subst P (sym cell.2) (typed.cells cell.0 cell.1).id) (sound.cpus.others entry.cpu))
 
-pub cpu-small : (image : Image) (before rest : List Entry) (entry : Entry) → IsAdmitted image → IsLegal image (before ++ entry ∷ rest) → entry.cpu < 16
-cpu-small image before rest entry admitted legal =
+pub cpu_small : (image : Image) (before rest : List Entry) (entry : Entry) → IsAdmitted image → IsLegal image (before ++ entry ∷ rest) → entry.cpu < 16
+cpu_small image before rest entry admitted legal =
     let f : Facts = facts image before in
-    let sound = legal-sound image before admitted (IsLegal-begin image before (entry ∷ rest) legal) in
-    board-few image (configs_of f.cells) sound.cells.clean entry.cpu (next-from_due image f entry (due-split image before rest entry legal)).board
+    let sound = legal_sound image before admitted (IsLegal_begin image before (entry ∷ rest) legal) in
+    board_few image (configs_of f.cells) sound.cells.clean entry.cpu (next_from_due image f entry (due_split image before rest entry legal)).board

@@ -11,8 +11,8 @@ use Rattle.jh_ivshmem.specs.Endpoint.{is_open, raised, taken, vector_at}
 use Rattle.jh_ivshmem.specs.Registers.{register_written}
 use Rattle.jh_ivshmem.specs.Specs.{is_device, is_peer}
 use Rattle.jh_ivshmem.specs.Links.{endpoint_at, is_pending, rung, state_written, told_of, written}
-use Rattle.jh_ivshmem.proofs.ChangeLemmas.{raised-spec, taken-spec, register_written-spec}
-use Rattle.jh_ivshmem.proofs.NamedLemmas.{named-cell, named-device}
+use Rattle.jh_ivshmem.proofs.ChangeLemmas.{raised_spec, taken_spec, register_written_spec}
+use Rattle.jh_ivshmem.proofs.NamedLemmas.{named_cell, named_device}
 use Rattle.jh_vpci.specs.Writes.{written as config_written}
 use Rattle.jh_script.specs.declared.image.Image.{Image}
 use Rattle.jh_history.specs.declared.access.Access.TheVariants.{Write as ToWrite}
@@ -30,18 +30,18 @@ use Rattle.jh_history.specs.Facts.{Facts}
 use Rattle.jh_history.specs.Grants.{reach, devices_of}
 use Rattle.jh_history.specs.History.{after, facts}
 use Rattle.jh_history.specs.Sound.{IsSound}
-use Rattle.jh_history.proofs.FactsLemmas.{facts-push, facts-nil}
-use Rattle.jh_history.proofs.LegalLemmas.{due-split, IsLegal-begin}
-use Rattle.jh_history.proofs.SoundLemmas.{legal-sound}
+use Rattle.jh_history.proofs.FactsLemmas.{facts_push, facts_nil}
+use Rattle.jh_history.proofs.LegalLemmas.{due_split, IsLegal_begin}
+use Rattle.jh_history.proofs.SoundLemmas.{legal_sound}
 use Rattle.jh_laws.specs.Vectors.{IsPendingIn, Raises, Clears, Drops, IsKeptByOthers}
 use Rattle.jh_laws.specs.Ways.{is_commit}
-use Rattle.jh_laws.proofs.ClearLemmas.{IsClear, IsJoin, IsIdle, commit-cases, IsCleared, commit-now}
-use Rattle.jh_laws.proofs.EndsLemmas.{IsSmallAct, small-at}
-use Rattle.jh_laws.proofs.LinkedLemmas.{none-changed, none-told, IsQuietAt, quiet-all, joined-quiet_all}
-use Rattle.jh_laws.proofs.PendingLemmas.{endpoint-found, endpoint-of_pending, pending-of_endpoint}
-use Rattle.jh_laws.proofs.PlacesHeldLemmas.{commit-or}
-use Rattle.jh_laws.proofs.RaiseLemmas.{Calls, IsDropped, HasBecome, IsNow, acted-now}
-use Rattle.jh_laws.proofs.WordLemmas.{specs-none}
+use Rattle.jh_laws.proofs.ClearLemmas.{IsClear, IsJoin, IsIdle, commit_cases, IsCleared, commit_now}
+use Rattle.jh_laws.proofs.EndsLemmas.{IsSmallAct, small_at}
+use Rattle.jh_laws.proofs.LinkedLemmas.{none_changed, none_told, IsQuietAt, quiet_all, joined_quiet_all}
+use Rattle.jh_laws.proofs.PendingLemmas.{endpoint_found, endpoint_of_pending, pending_of_endpoint}
+use Rattle.jh_laws.proofs.PlacesHeldLemmas.{commit_or}
+use Rattle.jh_laws.proofs.RaiseLemmas.{Calls, IsDropped, HasBecome, IsNow, acted_now}
+use Rattle.jh_laws.proofs.WordLemmas.{specs_none}
 
 -- ---- where there was no endpoint
 
@@ -53,9 +53,9 @@ none_written x bar at value list id n bell state is_bell is_state none =
     ∙ none_by bell state
   where
     none_by : (a b : Bool) → endpoint_at id n (cond a (rung x.spec.bdf (value / 2 ^ 16) (value % 2 ^ 16) list) (cond b (state_written x value list) (changed (is_device x.spec.cell x.spec.device) (register_written bar at value) list))) ≡ None
-    none_by true b = none-changed id n (is_peer x.spec.bdf (value / 2 ^ 16)) (raised (value % 2 ^ 16)) list (raised-spec (value % 2 ^ 16)) none
-    none_by false true = none-changed id n (is_device x.spec.cell x.spec.device) (λ (o : Endpoint). record o { state = value }) (told_of x value list) (λ o. refl) (none-told x value list id n none)
-    none_by false false = none-changed id n (is_device x.spec.cell x.spec.device) (register_written bar at value) list (register_written-spec bar at value) none
+    none_by true b = none_changed id n (is_peer x.spec.bdf (value / 2 ^ 16)) (raised (value % 2 ^ 16)) list (raised_spec (value % 2 ^ 16)) none
+    none_by false true = none_changed id n (is_device x.spec.cell x.spec.device) (λ (o : Endpoint). record o { state = value }) (told_of x value list) (λ o. refl) (none_told x value list id n none)
+    none_by false false = none_changed id n (is_device x.spec.cell x.spec.device) (register_written bar at value) list (register_written_spec bar at value) none
 
 none_put : (devices : Devices) (found : Reach) (value id n : ℕ) → endpoint_at id n devices.endpoints ≡ None → endpoint_at id n (endpoints_put devices found value) ≡ None
 none_put devices (Memory places) value id n none = none
@@ -65,7 +65,7 @@ none_put devices (Config bytes) value id n none = by_number (number_at devices b
   where
     by_endpoint : (m : ℕ) (q : Option Endpoint) → endpoint_at id n (option_map_or (λ (o : Endpoint). space_put devices.cell m (config_written o.space (bytes.at % 4096) bytes.width (value % 2 ^ 32)) devices.endpoints) q devices.endpoints) ≡ None
     by_endpoint m None = none
-    by_endpoint m (Some o) = none-changed id n (is_device devices.cell m) (λ (e : Endpoint). record e { space = config_written o.space (bytes.at % 4096) bytes.width (value % 2 ^ 32) }) devices.endpoints (λ e. refl) none
+    by_endpoint m (Some o) = none_changed id n (is_device devices.cell m) (λ (e : Endpoint). record e { space = config_written o.space (bytes.at % 4096) bytes.width (value % 2 ^ 32) }) devices.endpoints (λ e. refl) none
 
     by_number : (o : Option ℕ) → endpoint_at id n (option_map_or (function_put devices bytes value) o devices.endpoints) ≡ None
     by_number None = none
@@ -79,7 +79,7 @@ none_put devices (Window register) value id n none = by_endpoint (endpoint_at de
 none_acted : (image : Image) (f : Facts) (cell : ℕ) (act : Act) (id n : ℕ) → endpoint_at id n f.endpoints ≡ None → endpoint_at id n (endpoints_acted image f cell act) ≡ None
 none_acted image f cell (Write width at value true) id n none = none_put (devices_of image f cell) (reach image f cell ToWrite at width) value id n none
 none_acted image f cell (Write width at value false) id n none = none
-none_acted image f cell (Irq device vector) id n none = none-changed id n (is_device cell device) (taken vector) f.endpoints (taken-spec vector) none
+none_acted image f cell (Irq device vector) id n none = none_changed id n (is_device cell device) (taken vector) f.endpoints (taken_spec vector) none
 none_acted image f cell (Read width at got) id n none = none
 none_acted image f cell (Fetch at got) id n none = none
 none_acted image f cell (Await width at value ok) id n none = none
@@ -95,7 +95,7 @@ none_acted image f cell (Finish answer) id n none = none
 
 -- behind an entry that is no Commit stands what its act leaves
 after_acted : (image : Image) (f : Facts) (entry : Entry) → is_commit entry.act ≡ false → endpoints_after image f entry ≡ endpoints_acted image f entry.cell entry.act
-after_acted image f entry other = ap (λ (specs : List EndpointSpec). endpoints_changed (change_by f.call) specs (endpoints_acted image f entry.cell entry.act)) (specs-none f entry.act other)
+after_acted image f entry other = ap (λ (specs : List EndpointSpec). endpoints_changed (change_by f.call) specs (endpoints_acted image f entry.cell entry.act)) (specs_none f entry.act other)
 
 quiet_none : (id n : ℕ) (list : List Endpoint) → endpoint_at id n list ≡ None → IsQuietAt id n list
 quiet_none id n list none o there = absurd (none-some o (sym none ∙ there))
@@ -106,42 +106,33 @@ none_quiet image f entry id n sound due none =
     ⊎_elim
     (λ (commits : entry.act ≡ Commit).
     ⊎_elim
-    (λ (h : IsClear image f entry). subst P (sym h.after) (quiet-all h.change (specs_of h.config) f.endpoints id n h.clearing (inr (quiet_none id n f.endpoints none))))
+    (λ (h : IsClear image f entry). subst P (sym h.after) (quiet_all h.change (specs_of h.config) f.endpoints id n h.clearing (inr (quiet_none id n f.endpoints none))))
     (λ more. ⊎_elim
-    (λ (h : IsJoin image f entry). subst P (sym h.after) (joined-quiet_all (specs_of h.config) f.endpoints id n (quiet_none id n f.endpoints none)))
+    (λ (h : IsJoin image f entry). subst P (sym h.after) (joined_quiet_all (specs_of h.config) f.endpoints id n (quiet_none id n f.endpoints none)))
     (λ (h : IsIdle image f entry). subst P (sym h.after) (quiet_none id n f.endpoints none))
     more)
-    (commit-cases image f entry sound due commits))
+    (commit_cases image f entry sound due commits))
     (λ (other : is_commit entry.act ≡ false). subst P (sym (after_acted image f entry other)) (quiet_none id n (endpoints_acted image f entry.cell entry.act) (none_acted image f entry.cell entry.act id n none)))
-    (commit-or entry.act)
+    (commit_or entry.act)
 
 -- ---- behind any entry
 
-pub entry-now : (image : Image) (f : Facts) (entry : Entry) (id n : ℕ) (e : Endpoint) → IsSound image f → due_at image f entry.cpu ≡ Some entry → IsSmallAct entry.act → endpoint_at id n f.endpoints ≡ Some e
+pub entry_now : (image : Image) (f : Facts) (entry : Entry) (id n : ℕ) (e : Endpoint) → IsSound image f → due_at image f entry.cpu ≡ Some entry → IsSmallAct entry.act → endpoint_at id n f.endpoints ≡ Some e
     → IsNow image f entry id n e (endpoints_after image f entry) ⊎ IsCleared image f entry id n e
-entry-now image f entry id n e sound due small there =
+entry_now image f entry id n e sound due small there =
     ⊎_elim
-    (λ (commits : entry.act ≡ Commit). commit-now image f entry id n e sound due commits there)
+    (λ (commits : entry.act ≡ Commit). commit_now image f entry id n e sound due commits there)
     (λ (other : is_commit entry.act ≡ false).
-    let now = acted-now image f entry id n e sound small other there in
+    let now = acted_now image f entry id n e sound small other there in
     inl (record { endpoint = now.endpoint; there = ap (endpoint_at id n) (after_acted image f entry other) ∙ now.there; become = now.become }))
-    (commit-or entry.act)
-
--- the facts behind the entry
-abbrev Behind : Image → List Entry → Entry → Facts
-Behind image before entry = facts image (before ++ entry ∷ [])
+    (commit_or entry.act)
 
 endpoints_behind : (image : Image) (before : List Entry) (entry : Entry) → (facts image (before ++ entry ∷ [])).endpoints ≡ endpoints_after image (facts image before) entry
 unfolding after
-endpoints_behind image before entry = ap (λ (f : Facts). f.endpoints) (facts-push image before entry)
+endpoints_behind image before entry = ap (λ (f : Facts). f.endpoints) (facts_push image before entry)
 
 abbrev Kept : Image → List Entry → Entry → ℕ → ℕ → ℕ → Type 0
 Kept image before entry id n v = IsPendingIn (facts image before) id n v × (Drops (facts image before) entry id n v → ⊥)
-
-raises_of : (image : Image) (f : Facts) (entry : Entry) (id n v : ℕ) (e : Endpoint) → endpoint_at id n f.endpoints ≡ Some e → Raises image f entry id n v → (is_open e v ≡ true) × Calls image f entry e v
-raises_of image f entry id n v e there h =
-    let P : Endpoint → Type 0 = λ o. (is_open o v ≡ true) × Calls image f entry o v in
-    subst P (same_Some h.peer e (sym h.there ∙ there)) (h.let_through, h.by)
 
 drops_of : (f : Facts) (entry : Entry) (id n v : ℕ) (e : Endpoint) → e.spec.cell ≡ id → e.spec.device ≡ n → IsDropped f entry e v → Drops f entry id n v
 drops_of f entry id n v e cell device drop =
@@ -155,13 +146,13 @@ of_drops f entry id n v e cell device drop =
     let Q : ℕ → Type 0 = λ d. Drops f entry id d v in
     subst P (sym cell) (subst Q (sym device) drop)
 
-pub pending-behind : (image : Image) (before rest : List Entry) (entry : Entry) (id n v : ℕ) → IsAdmitted image → IsLegal image (before ++ entry ∷ rest) → IsPendingIn (facts image (before ++ entry ∷ [])) id n v
+pub pending_behind : (image : Image) (before rest : List Entry) (entry : Entry) (id n v : ℕ) → IsAdmitted image → IsLegal image (before ++ entry ∷ rest) → IsPendingIn (facts image (before ++ entry ∷ [])) id n v
     → Raises image (facts image before) entry id n v ⊎ Kept image before entry id n v
-pending-behind image before rest entry id n v admitted legal pending =
+pending_behind image before rest entry id n v admitted legal pending =
     let f : Facts = facts image before in
-    let sound = legal-sound image before admitted (IsLegal-begin image before (entry ∷ rest) legal) in
-    let due = due-split image before rest entry legal in
-    let at = endpoint-of_pending (facts image (before ++ entry ∷ [])) id n v pending in
+    let sound = legal_sound image before admitted (IsLegal_begin image before (entry ∷ rest) legal) in
+    let due = due_split image before rest entry legal in
+    let at = endpoint_of_pending (facts image (before ++ entry ∷ [])) id n v pending in
     let there : endpoint_at id n (endpoints_after image f entry) ≡ Some at.0 = ap (endpoint_at id n) (sym (endpoints_behind image before entry)) ∙ at.1 in
     before_by (endpoint_at id n f.endpoints) refl sound due at.0 there at.2
   where
@@ -169,52 +160,52 @@ pending-behind image before rest entry id n v admitted legal pending =
         → Raises image (facts image before) entry id n v ⊎ Kept image before entry id n v
     before_by None is sound due b there pends = absurd (both_ways (vector_at b v).pending ((none_quiet image (facts image before) entry id n sound due is b there).pending v) pends)
     before_by (Some e) is sound due b there pends =
-        let cell = named-cell id n (facts image before).endpoints e is in
-        let device = named-device id n (facts image before).endpoints e is in
+        let cell = named_cell id n (facts image before).endpoints e is in
+        let device = named_device id n (facts image before).endpoints e is in
         ⊎_elim
         (λ (now : IsNow image (facts image before) entry id n e (endpoints_after image (facts image before) entry)).
         let P : Endpoint → Type 0 = λ o. (vector_at o v).pending ≡ true in
         ⊎_elim
         (λ (called : (is_open e v ≡ true) × Calls image (facts image before) entry e v). inl (record { peer = e; there = is; let_through = called.0; by = called.1 }))
         (λ (kept : ((vector_at e v).pending ≡ true) × (IsDropped (facts image before) entry e v → ⊥)).
-        inr (pending-of_endpoint (facts image before) id n v e is kept.0, λ drop. kept.1 (of_drops (facts image before) entry id n v e cell device drop)))
+        inr (pending_of_endpoint (facts image before) id n v e is kept.0, λ drop. kept.1 (of_drops (facts image before) entry id n v e cell device drop)))
         (now.become.only v (subst P (same_Some b now.endpoint (sym there ∙ now.there)) pends)))
         (λ (cleared : IsCleared image (facts image before) entry id n e). absurd (both_ways (vector_at b v).pending ((cleared.quiet b there).pending v) pends))
-        (entry-now image (facts image before) entry id n e sound due (small-at image before rest entry admitted legal) is)
+        (entry_now image (facts image before) entry id n e sound due (small_at image before rest entry admitted legal) is)
 
 pending_now : (image : Image) (before : List Entry) (entry : Entry) (id n v : ℕ) (b : Endpoint) → endpoint_at id n (endpoints_after image (facts image before) entry) ≡ Some b → (vector_at b v).pending ≡ true → IsPendingIn (facts image (before ++ entry ∷ [])) id n v
-pending_now image before entry id n v b there pends = pending-of_endpoint (facts image (before ++ entry ∷ [])) id n v b (ap (endpoint_at id n) (endpoints_behind image before entry) ∙ there) pends
+pending_now image before entry id n v b there pends = pending_of_endpoint (facts image (before ++ entry ∷ [])) id n v b (ap (endpoint_at id n) (endpoints_behind image before entry) ∙ there) pends
 
-pub raised-behind : (image : Image) (before rest : List Entry) (entry : Entry) (id n v : ℕ) → IsAdmitted image → IsLegal image (before ++ entry ∷ rest) → Raises image (facts image before) entry id n v → IsPendingIn (facts image (before ++ entry ∷ [])) id n v
-raised-behind image before rest entry id n v admitted legal h =
+pub raised_behind : (image : Image) (before rest : List Entry) (entry : Entry) (id n v : ℕ) → IsAdmitted image → IsLegal image (before ++ entry ∷ rest) → Raises image (facts image before) entry id n v → IsPendingIn (facts image (before ++ entry ∷ [])) id n v
+raised_behind image before rest entry id n v admitted legal h =
     let f : Facts = facts image before in
-    let sound = legal-sound image before admitted (IsLegal-begin image before (entry ∷ rest) legal) in
-    let due = due-split image before rest entry legal in
+    let sound = legal_sound image before admitted (IsLegal_begin image before (entry ∷ rest) legal) in
+    let due = due_split image before rest entry legal in
     ⊎_elim
     (λ (now : IsNow image f entry id n h.peer (endpoints_after image f entry)). pending_now image before entry id n v now.endpoint now.there (now.become.calls v h.let_through h.by))
     (λ (cleared : IsCleared image f entry id n h.peer). absurd (cleared.uncalled_is v h.by))
-    (entry-now image f entry id n h.peer sound due (small-at image before rest entry admitted legal) h.there)
+    (entry_now image f entry id n h.peer sound due (small_at image before rest entry admitted legal) h.there)
 
-pub kept-behind : (image : Image) (before rest : List Entry) (entry : Entry) (id n v : ℕ) → IsAdmitted image → IsLegal image (before ++ entry ∷ rest) → Kept image before entry id n v → IsPendingIn (facts image (before ++ entry ∷ [])) id n v
-kept-behind image before rest entry id n v admitted legal h =
+pub kept_behind : (image : Image) (before rest : List Entry) (entry : Entry) (id n v : ℕ) → IsAdmitted image → IsLegal image (before ++ entry ∷ rest) → Kept image before entry id n v → IsPendingIn (facts image (before ++ entry ∷ [])) id n v
+kept_behind image before rest entry id n v admitted legal h =
     let f : Facts = facts image before in
-    let sound = legal-sound image before admitted (IsLegal-begin image before (entry ∷ rest) legal) in
-    let due = due-split image before rest entry legal in
-    let at = endpoint-of_pending f id n v h.0 in
+    let sound = legal_sound image before admitted (IsLegal_begin image before (entry ∷ rest) legal) in
+    let due = due_split image before rest entry legal in
+    let at = endpoint_of_pending f id n v h.0 in
     let e : Endpoint = at.0 in
-    let cell = named-cell id n f.endpoints e at.1 in
-    let device = named-device id n f.endpoints e at.1 in
+    let cell = named_cell id n f.endpoints e at.1 in
+    let device = named_device id n f.endpoints e at.1 in
     ⊎_elim
     (λ (now : IsNow image f entry id n e (endpoints_after image f entry)). pending_now image before entry id n v now.endpoint now.there (now.become.keeps v at.2 (λ drop. h.1 (drops_of f entry id n v e cell device drop))))
     (λ (cleared : IsCleared image f entry id n e). absurd (h.1 (drops_of f entry id n v e cell device (inr cleared.clears))))
-    (entry-now image f entry id n e sound due (small-at image before rest entry admitted legal) at.1)
+    (entry_now image f entry id n e sound due (small_at image before rest entry admitted legal) at.1)
 
 -- at opening
-pub opening-none : (image : Image) (id n v : ℕ) → IsPendingIn (facts image []) id n v → ⊥
-opening-none image id n v pending =
-    let at = endpoint-of_pending (facts image []) id n v pending in
-    let there : endpoint_at id n (endpoints_changed Join (specs_of image.system.root) []) ≡ Some at.0 = ap (λ (f : Facts). endpoint_at id n f.endpoints) (sym (facts-nil image)) ∙ at.1 in
-    both_ways (vector_at at.0 v).pending ((joined-quiet_all (specs_of image.system.root) [] id n (quiet_none id n [] refl) at.0 there).pending v) at.2
+pub opening_none : (image : Image) (id n v : ℕ) → IsPendingIn (facts image []) id n v → ⊥
+opening_none image id n v pending =
+    let at = endpoint_of_pending (facts image []) id n v pending in
+    let there : endpoint_at id n (endpoints_changed Join (specs_of image.system.root) []) ≡ Some at.0 = ap (λ (f : Facts). endpoint_at id n f.endpoints) (sym (facts_nil image)) ∙ at.1 in
+    both_ways (vector_at at.0 v).pending ((joined_quiet_all (specs_of image.system.root) [] id n (quiet_none id n [] refl) at.0 there).pending v) at.2
 
 -- ---- devices of other cells
 
@@ -252,22 +243,22 @@ kept_others image f entry e b there unclear foreign become =
           (λ (raise : (u : ℕ) × (is_open e u ≡ true) × Calls image f entry e u × (b ≡ raised u e)). (raise.0, record { peer = e; there = there; let_through = raise.1; by = raise.2 }))
           or_raised;
       vectors = λ v pending.
-          let at = endpoint-of_pending f e.spec.cell e.spec.device v pending in
+          let at = endpoint_of_pending f e.spec.cell e.spec.device v pending in
           let P : Endpoint → Type 0 = λ o. (vector_at o v).pending ≡ true in
           let was : (vector_at e v).pending ≡ true = subst P (same_Some at.0 e (sym at.1 ∙ there)) at.2 in
           let kept = become.keeps v was (λ drop. ⊎_elim (λ taken_is. foreign taken_is.0) unclear drop) in
           pending_alone b e.spec.cell e.spec.device v (ap (λ (s : EndpointSpec). s.cell) become.spec) (ap (λ (s : EndpointSpec). s.device) become.spec) kept;
     }
 
-pub other-stays : (image : Image) (before rest : List Entry) (entry : Entry) (e : Endpoint) → IsAdmitted image → IsLegal image (before ++ entry ∷ rest) → Contains (facts image before).endpoints e → entry.cell ≢ e.spec.cell → (Clears (facts image before) entry e.spec.cell → ⊥)
+pub other_stays : (image : Image) (before rest : List Entry) (entry : Entry) (e : Endpoint) → IsAdmitted image → IsLegal image (before ++ entry ∷ rest) → Contains (facts image before).endpoints e → entry.cell ≢ e.spec.cell → (Clears (facts image before) entry e.spec.cell → ⊥)
     → (b : Endpoint) × (endpoint_at e.spec.cell e.spec.device (facts image (before ++ entry ∷ [])).endpoints ≡ Some b) × IsKeptByOthers image (facts image before) entry e b
-other-stays image before rest entry e admitted legal held foreign unclear =
+other_stays image before rest entry e admitted legal held foreign unclear =
     let f : Facts = facts image before in
-    let sound = legal-sound image before admitted (IsLegal-begin image before (entry ∷ rest) legal) in
-    let due = due-split image before rest entry legal in
-    let there = endpoint-found image f e sound held in
+    let sound = legal_sound image before admitted (IsLegal_begin image before (entry ∷ rest) legal) in
+    let due = due_split image before rest entry legal in
+    let there = endpoint_found image f e sound held in
     ⊎_elim
     (λ (now : IsNow image f entry e.spec.cell e.spec.device e (endpoints_after image f entry)).
     (now.endpoint, ap (endpoint_at e.spec.cell e.spec.device) (endpoints_behind image before entry) ∙ now.there, kept_others image f entry e now.endpoint there unclear foreign now.become))
     (λ (cleared : IsCleared image f entry e.spec.cell e.spec.device e). absurd (unclear cleared.clears))
-    (entry-now image f entry e.spec.cell e.spec.device e sound due (small-at image before rest entry admitted legal) there)
+    (entry_now image f entry e.spec.cell e.spec.device e sound due (small_at image before rest entry admitted legal) there)

@@ -7,7 +7,7 @@ use Rattle.std.proofs.lemmas.Bool.{both_ways, and_parts, and_from, eqb-true, eq-
 use Rattle.std.proofs.lemmas.Option.{none-some, same_Some}
 use Rattle.std.proofs.lemmas.List.Folds.{find-append}
 use Rattle.std.proofs.lemmas.List.Elements.{Contains-append_left, Contains-append_right, Contains-append_cases}
-use Rattle.jh_num.proofs.Lists.{Contains-head, Contains-cases, IsFound-from_find, find-None}
+use Rattle.jh_num.proofs.Lists.{Contains_head, Contains_cases, IsFound_from_find, find_None}
 use Rattle.jh_cellcfg.specs.declared.config.CellConfig.{CellConfig}
 use Rattle.jh_cellcfg.specs.declared.config.PciDevice.{PciDevice}
 use Rattle.jh_check.specs.Devices.{is_shmem}
@@ -23,7 +23,7 @@ in_none x held = let below : held.0 < 0 = held.1 in let no : ⊥ = omega arith i
 
 -- the only element of a list
 only : {X : Type 0} (a x : X) → Contains (a ∷ []) x → a ≡ x
-only a x held = ⊎_elim (λ (same : a ≡ x). same) (λ (later : Contains [] x). absurd (in_none x later)) (Contains-cases a [] x held)
+only a x held = ⊎_elim (λ (same : a ≡ x). same) (λ (later : Contains [] x). absurd (in_none x later)) (Contains_cases a [] x held)
 
 -- ---- windows of a function
 
@@ -32,8 +32,8 @@ none_else : (memory vectors : Bool) (one other : Option (ℕ × ℕ)) → cond (
 none_else true vectors one other = refl
 none_else false vectors one other = refl
 
-pub bar-of_window : (space : Space) (bar : ℕ) (ends : ℕ × ℕ) → window_of space bar ≡ Some ends → (bar ≡ 0) ⊎ (bar ≡ 1)
-bar-of_window space bar ends is = elim (cases_Bool (eqb bar 0)) [
+pub bar_of_window : (space : Space) (bar : ℕ) (ends : ℕ × ℕ) → window_of space bar ≡ Some ends → (bar ≡ 0) ⊎ (bar ≡ 1)
+bar_of_window space bar ends is = elim (cases_Bool (eqb bar 0)) [
   | inl first ↦ inl (eqb-true bar 0 first)
   | inr some ↦ elim (cases_Bool (eqb bar 1)) [
     | inl second ↦ inr (eqb-true bar 1 second)
@@ -121,19 +121,19 @@ first_window cell endpoints n device devices w h =
       is = h.is;
     }
 
-pub windows-are : (cell : ℕ) (endpoints : List Endpoint) (n : ℕ) (devices : List PciDevice) (w : Window) → Contains (windows_from cell endpoints n devices) w → IsWindowOf cell endpoints n devices w
-windows-are cell endpoints n [] w held = absurd (in_none w held)
-windows-are cell endpoints n (device ∷ devices) w held =
+pub windows_are : (cell : ℕ) (endpoints : List Endpoint) (n : ℕ) (devices : List PciDevice) (w : Window) → Contains (windows_from cell endpoints n devices) w → IsWindowOf cell endpoints n devices w
+windows_are cell endpoints n [] w held = absurd (in_none w held)
+windows_are cell endpoints n (device ∷ devices) w held =
     ⊎_elim
     (λ (here : Contains (device_windows cell endpoints n device) w). first_window cell endpoints n device devices w (windows_at cell endpoints n device w (is_endpoint n device) refl here))
-    (λ (later : Contains (windows_from cell endpoints (n + 1) devices) w). later_window cell endpoints n device devices w (windows-are cell endpoints (n + 1) devices w later))
+    (λ (later : Contains (windows_from cell endpoints (n + 1) devices) w). later_window cell endpoints n device devices w (windows_are cell endpoints (n + 1) devices w later))
     (Contains-append_cases (device_windows cell endpoints n device) (windows_from cell endpoints (n + 1) devices) w held)
 
 -- each enabled window is one of them
 own_window : (space : Space) (n bar : ℕ) (ends : ℕ × ℕ) → window_of space bar ≡ Some ends → Contains (space_window space n bar) (window_at n bar ends)
 own_window space n bar ends is =
     let P : Option (ℕ × ℕ) → Type 0 = λ o. Contains (windows_by n bar o) (window_at n bar ends) in
-    subst P (sym is) (Contains-head (window_at n bar ends) [])
+    subst P (sym is) (Contains_head (window_at n bar ends) [])
 
 both_windows : (space : Space) (n bar : ℕ) (ends : ℕ × ℕ) → window_of space bar ≡ Some ends → Contains (space_window space n 0 ++ space_window space n 1) (window_at n bar ends)
 both_windows space n bar ends is =
@@ -142,7 +142,7 @@ both_windows space n bar ends is =
     ⊎_elim
     (λ (first : bar ≡ 0). Contains-append_left (space_window space n 0) (space_window space n 1) (window_at n bar ends) (subst P first own))
     (λ (second : bar ≡ 1). Contains-append_right (space_window space n 0) (space_window space n 1) (window_at n bar ends) (subst P second own))
-    (bar-of_window space bar ends is)
+    (bar_of_window space bar ends is)
 
 device_window : (cell : ℕ) (endpoints : List Endpoint) (n bar : ℕ) (device : PciDevice) (e : Endpoint) (ends : ℕ × ℕ) → is_endpoint n device ≡ true → endpoint_at cell n endpoints ≡ Some e → window_of e.space bar ≡ Some ends
     → Contains (device_windows cell endpoints n device) (window_at n bar ends)
@@ -151,19 +151,19 @@ device_window cell endpoints n bar device e ends passes there is =
     let Q : Option Endpoint → Type 0 = λ o. Contains (option_map_or (λ (p : Endpoint). space_window p.space n 0 ++ space_window p.space n 1) o []) (window_at n bar ends) in
     subst P (sym passes) (subst Q (sym there) (both_windows e.space n bar ends is))
 
-pub windows-have : (cell : ℕ) (endpoints : List Endpoint) (n index number bar : ℕ) (devices : List PciDevice) (device : PciDevice) (e : Endpoint) (ends : ℕ × ℕ) → number ≡ n + index → slice_get devices index ≡ Some device → is_endpoint number device ≡ true
+pub windows_have : (cell : ℕ) (endpoints : List Endpoint) (n index number bar : ℕ) (devices : List PciDevice) (device : PciDevice) (e : Endpoint) (ends : ℕ × ℕ) → number ≡ n + index → slice_get devices index ≡ Some device → is_endpoint number device ≡ true
     → endpoint_at cell number endpoints ≡ Some e → window_of e.space bar ≡ Some ends → Contains (windows_from cell endpoints n devices) (window_at number bar ends)
-windows-have cell endpoints n index number bar [] device e ends place item passes there is = absurd (none-some device item)
-windows-have cell endpoints n zero number bar (first ∷ devices) device e ends place item passes there is =
+windows_have cell endpoints n index number bar [] device e ends place item passes there is = absurd (none-some device item)
+windows_have cell endpoints n zero number bar (first ∷ devices) device e ends place item passes there is =
     let same : n ≡ number = omega arith in
     let own : first ≡ device = same_Some first device item in
     let P : ℕ → Type 0 = λ k. Contains (device_windows cell endpoints k first) (window_at number bar ends) in
     let Q : PciDevice → Type 0 = λ d. Contains (device_windows cell endpoints number d) (window_at number bar ends) in
     Contains-append_left (device_windows cell endpoints n first) (windows_from cell endpoints (n + 1) devices) (window_at number bar ends)
     (subst P (sym same) (subst Q (sym own) (device_window cell endpoints number bar device e ends passes there is)))
-windows-have cell endpoints n (suc index) number bar (first ∷ devices) device e ends place item passes there is =
+windows_have cell endpoints n (suc index) number bar (first ∷ devices) device e ends place item passes there is =
     Contains-append_right (device_windows cell endpoints n first) (windows_from cell endpoints (n + 1) devices) (window_at number bar ends)
-    (windows-have cell endpoints (n + 1) index number bar devices device e ends (omega arith) item passes there is)
+    (windows_have cell endpoints (n + 1) index number bar devices device e ends (omega arith) item passes there is)
 
 -- ---- the first that passes
 
@@ -175,7 +175,7 @@ abbrev pub IsFirst : Window → Window → Type 0
 IsFirst w x = (w ≡ x) ⊎ IsLower w.device w.bar x.device x.bar
 
 single_first : (p : Window → Bool) (a w x : Window) → find p (a ∷ []) ≡ Some w → Contains (a ∷ []) x → IsFirst w x
-single_first p a w x found held = inl (sym (only a w (IsFound-from_find p (a ∷ []) w found).held) ∙ only a x held)
+single_first p a w x found held = inl (sym (only a w (IsFound_from_find p (a ∷ []) w found).held) ∙ only a x held)
 
 two_first : (p : Window → Bool) (n : ℕ) (a b : ℕ × ℕ) (w x : Window) (passes : Bool) → p (window_at n 0 a) ≡ passes
     → cond passes (Some (window_at n 0 a)) (find p (window_at n 1 b ∷ [])) ≡ Some w → (window_at n 0 a ≡ x) ⊎ Contains (window_at n 1 b ∷ []) x → p x ≡ true → IsFirst w x
@@ -200,7 +200,7 @@ space_first p n w x None None found held passed = absurd (none-some w found)
 space_first p n w x None (Some b) found held passed = single_first p (window_at n 1 b) w x found held
 space_first p n w x (Some a) None found held passed = single_first p (window_at n 0 a) w x found held
 space_first p n w x (Some a) (Some b) found held passed =
-    two_first p n a b w x (p (window_at n 0 a)) refl found (Contains-cases (window_at n 0 a) (window_at n 1 b ∷ []) x held) passed
+    two_first p n a b w x (p (window_at n 0 a)) refl found (Contains_cases (window_at n 0 a) (window_at n 1 b ∷ []) x held) passed
 
 endpoint_first : (p : Window → Bool) (n : ℕ) (w x : Window) (o : Option Endpoint) → find p (option_map_or (λ (e : Endpoint). space_window e.space n 0 ++ space_window e.space n 1) o []) ≡ Some w
     → Contains (option_map_or (λ (e : Endpoint). space_window e.space n 0 ++ space_window e.space n 1) o []) x → p x ≡ true → IsFirst w x
@@ -222,25 +222,25 @@ first_by p cell endpoints n device devices w x (Some v) is found held passed res
     ⊎_elim
     (λ (here : Contains (device_windows cell endpoints n device) x). device_first p cell endpoints n w x (is_endpoint n device) own here passed)
     (λ (later : Contains (windows_from cell endpoints (n + 1) devices) x).
-    let first = windows_at cell endpoints n device w (is_endpoint n device) refl (IsFound-from_find p (device_windows cell endpoints n device) w own).held in
+    let first = windows_at cell endpoints n device w (is_endpoint n device) refl (IsFound_from_find p (device_windows cell endpoints n device) w own).held in
     let number : w.device ≡ n = first.number in
-    let second = windows-are cell endpoints (n + 1) devices x later in
+    let second = windows_are cell endpoints (n + 1) devices x later in
     let place : x.device ≡ (n + 1) + second.index = second.place in
     inr (inl (omega arith)))
     held
 first_by p cell endpoints n device devices w x None is found held passed rest =
     ⊎_elim
-    (λ (here : Contains (device_windows cell endpoints n device) x). absurd (both_ways (p x) (find-None p (device_windows cell endpoints n device) x is here) passed))
+    (λ (here : Contains (device_windows cell endpoints n device) x). absurd (both_ways (p x) (find_None p (device_windows cell endpoints n device) x is here) passed))
     (λ (later : Contains (windows_from cell endpoints (n + 1) devices) x). rest found later)
     held
 
-pub windows-first : (p : Window → Bool) (cell : ℕ) (endpoints : List Endpoint) (n : ℕ) (devices : List PciDevice) (w x : Window) → find p (windows_from cell endpoints n devices) ≡ Some w → Contains (windows_from cell endpoints n devices) x → p x ≡ true → IsFirst w x
-windows-first p cell endpoints n [] w x found held passed = absurd (none-some w found)
-windows-first p cell endpoints n (device ∷ devices) w x found held passed =
+pub windows_first : (p : Window → Bool) (cell : ℕ) (endpoints : List Endpoint) (n : ℕ) (devices : List PciDevice) (w x : Window) → find p (windows_from cell endpoints n devices) ≡ Some w → Contains (windows_from cell endpoints n devices) x → p x ≡ true → IsFirst w x
+windows_first p cell endpoints n [] w x found held passed = absurd (none-some w found)
+windows_first p cell endpoints n (device ∷ devices) w x found held passed =
     first_by p cell endpoints n device devices w x (find p (device_windows cell endpoints n device)) refl
     (sym (find-append p (device_windows cell endpoints n device) (windows_from cell endpoints (n + 1) devices)) ∙ found)
     (Contains-append_cases (device_windows cell endpoints n device) (windows_from cell endpoints (n + 1) devices) x held) passed
-    (λ later there. windows-first p cell endpoints (n + 1) devices w x later there passed)
+    (λ later there. windows_first p cell endpoints (n + 1) devices w x later there passed)
 
 -- ---- devices that have endpoints
 
@@ -266,7 +266,7 @@ spec_by config n device devices spec true is later held =
     let P : EndpointSpec → Type 0 = IsSpecAt config n (device ∷ devices) in
     subst P same (record { index = 0; place = omega arith; device = device; item = refl; passes = is; is = refl }))
     (λ (there : Contains (specs_from config (n + 1) devices) spec). later_spec config n device devices spec (later there))
-    (Contains-cases (spec_of config n device) (specs_from config (n + 1) devices) spec held)
+    (Contains_cases (spec_of config n device) (specs_from config (n + 1) devices) spec held)
 spec_by config n device devices spec false is later held = later_spec config n device devices spec (later held)
 
 spec_from : (config : CellConfig) (n : ℕ) (devices : List PciDevice) (spec : EndpointSpec) → Contains (specs_from config n devices) spec → IsSpecAt config n devices spec
@@ -281,9 +281,9 @@ pub record IsSpecOf (config : CellConfig) (spec : EndpointSpec) : Type 0 where
   pub few : spec.device < 2 ^ 32
   pub is : spec ≡ spec_of config spec.device device
 
-pub spec-is : (config : CellConfig) (spec : EndpointSpec) → Contains (specs_of config) spec → IsSpecOf config spec
+pub spec_is : (config : CellConfig) (spec : EndpointSpec) → Contains (specs_of config) spec → IsSpecOf config spec
 unfolding specs_of
-spec-is config spec held =
+spec_is config spec held =
     let h = spec_from config 0 config.pci_devices spec held in
     let place : spec.device ≡ 0 + h.index = h.place in
     let index : h.index ≡ spec.device = omega arith in
@@ -320,23 +320,23 @@ function_by bdf n device devices number true is found rest =
     subst P (same_Some n number found) (record { index = 0; place = omega arith; device = device; item = refl; passes = parts.0; has = eqb-true device.bdf bdf parts.1 })
 function_by bdf n device devices number false is found rest = later_function bdf n device devices number (rest found)
 
-pub function-found : (bdf n : ℕ) (devices : List PciDevice) (number : ℕ) → number_from bdf n devices ≡ Some number → IsFunction bdf n devices number
-function-found bdf n [] number found = absurd (none-some number found)
-function-found bdf n (device ∷ devices) number found =
-    function_by bdf n device devices number (is_endpoint n device && eqb device.bdf bdf) refl found (λ later. function-found bdf (n + 1) devices number later)
+pub function_found : (bdf n : ℕ) (devices : List PciDevice) (number : ℕ) → number_from bdf n devices ≡ Some number → IsFunction bdf n devices number
+function_found bdf n [] number found = absurd (none-some number found)
+function_found bdf n (device ∷ devices) number found =
+    function_by bdf n device devices number (is_endpoint n device && eqb device.bdf bdf) refl found (λ later. function_found bdf (n + 1) devices number later)
 
 some_by : (n : ℕ) (b : Bool) (o : Option ℕ) → ((m : ℕ) × (o ≡ Some m)) → (m : ℕ) × (cond b (Some n) o ≡ Some m)
 some_by n true o later = (n, refl)
 some_by n false o later = later
 
-pub function-some : (bdf n index number : ℕ) (devices : List PciDevice) (device : PciDevice) → number ≡ n + index → slice_get devices index ≡ Some device → is_endpoint number device ≡ true → device.bdf ≡ bdf → (m : ℕ) × (number_from bdf n devices ≡ Some m)
-function-some bdf n index number [] device place item passes has = absurd (none-some device item)
-function-some bdf n zero number (first ∷ devices) device place item passes has =
+pub function_some : (bdf n index number : ℕ) (devices : List PciDevice) (device : PciDevice) → number ≡ n + index → slice_get devices index ≡ Some device → is_endpoint number device ≡ true → device.bdf ≡ bdf → (m : ℕ) × (number_from bdf n devices ≡ Some m)
+function_some bdf n index number [] device place item passes has = absurd (none-some device item)
+function_some bdf n zero number (first ∷ devices) device place item passes has =
     let same : n ≡ number = omega arith in
     let own : first ≡ device = same_Some first device item in
     let here : (is_endpoint n first && eqb first.bdf bdf) ≡ true =
     ap (λ (d : PciDevice). is_endpoint n d && eqb d.bdf bdf) own ∙ ap (λ (k : ℕ). is_endpoint k device && eqb device.bdf bdf) same
     ∙ and_from (is_endpoint number device) (eqb device.bdf bdf) passes (eq-eqb device.bdf bdf has) in
     (n, ap (λ (b : Bool). cond b (Some n) (number_from bdf (n + 1) devices)) here)
-function-some bdf n (suc index) number (first ∷ devices) device place item passes has =
-    some_by n (is_endpoint n first && eqb first.bdf bdf) (number_from bdf (n + 1) devices) (function-some bdf (n + 1) index number devices device (omega arith) item passes has)
+function_some bdf n (suc index) number (first ∷ devices) device place item passes has =
+    some_by n (is_endpoint n first && eqb first.bdf bdf) (number_from bdf (n + 1) devices) (function_some bdf (n + 1) index number devices device (omega arith) item passes has)

@@ -4,7 +4,7 @@ use Rattle.std.specs.Prelude.{◌⊎◌, Contains}
 use Rattle.std.specs.Option.{option_map_or}
 use Rattle.std.proofs.lemmas.Bool.{both_ways, and_parts, cases_lt, eqb-true, eq-eqb, ne_eqb, not-true, false≢true}
 use Rattle.std.proofs.lemmas.Option.{none-some, same_Some}
-use Rattle.jh_num.proofs.Lists.{Contains-head, Contains-tail, Contains-cases}
+use Rattle.jh_num.proofs.Lists.{Contains_head, Contains_tail, Contains_cases}
 use Rattle.jh_num.proofs.MemoryLemmas.{listed}
 use Rattle.jh_cellcfg.specs.declared.config.CellConfig.{CellConfig}
 use Rattle.jh_cellcfg.specs.declared.live.Live.{Live}
@@ -24,9 +24,9 @@ use Rattle.jh_history.specs.Places.{is_physical, number_of, places_in_row, writt
 use Rattle.jh_history.specs.Access.{with_slot}
 use Rattle.jh_history.specs.Endpoints.{changing_at, changing_by, specs_changing, with_words}
 use Rattle.jh_history.proofs.FactsLemmas.{same_function}
-use Rattle.jh_history.proofs.PlaceLemmas.{written-over}
+use Rattle.jh_history.proofs.PlaceLemmas.{written_over}
 use Rattle.jh_laws.specs.Ways.{is_commit}
-use Rattle.jh_laws.proofs.ListedLemmas.{over-at, over-other}
+use Rattle.jh_laws.proofs.ListedLemmas.{over_at, over_other}
 
 -- ---- one word
 
@@ -48,9 +48,9 @@ IsByteAt slot q k = (k < 4) × (q ≡ Physical (slot.place + k))
 abbrev pub IsApart : Slot → Place → Type 0
 IsApart slot q = (k : ℕ) → k < 4 → q ≢ Physical (slot.place + k)
 
-pub slot-cases : (slot : Slot) (q : Place) → ((k : ℕ) × IsByteAt slot q k) ⊎ IsApart slot q
-slot-cases slot (Page cell offset) = inr (λ k lt e. false≢true (ap is_physical e))
-slot-cases slot (Physical p) = elim (cases_lt p slot.place) [
+pub slot_cases : (slot : Slot) (q : Place) → ((k : ℕ) × IsByteAt slot q k) ⊎ IsApart slot q
+slot_cases slot (Page cell offset) = inr (λ k lt e. false≢true (ap is_physical e))
+slot_cases slot (Physical p) = elim (cases_lt p slot.place) [
   | inl below ↦ inr (λ k lt e. let same : p ≡ slot.place + k = ap number_of e in omega arith)
   | inr low ↦ elim (cases_lt p (slot.place + 4)) [
     | inl within ↦ (let same : p ≡ slot.place + (p - slot.place) = omega arith in inl (p - slot.place, (omega arith, ap Physical same)))
@@ -58,62 +58,62 @@ slot-cases slot (Physical p) = elim (cases_lt p slot.place) [
   ]
 ]
 
-pub slot-at : (slot : Slot) (byte : Place → ℕ) (q : Place) (k : ℕ) → IsByteAt slot q k → with_slot slot byte q ≡ slot.value / 256 ^ k % 256
-slot-at slot byte q k h =
+pub slot_at : (slot : Slot) (byte : Place → ℕ) (q : Place) (k : ℕ) → IsByteAt slot q k → with_slot slot byte q ≡ slot.value / 256 ^ k % 256
+slot_at slot byte q k h =
     let place : ℕ → Place = λ i. Physical (slot.place + i) in
     ap (λ (ps : List Place). written byte ps slot.value q) (row_words slot.place 4)
-    ∙ written-over byte (listed place 4) slot.value q
-    ∙ over-at place 4 slot.value q (byte q) k h.0 h.1 (λ j lt is. let e : slot.place + j ≡ slot.place + k = ap number_of (sym is ∙ h.1) in omega arith)
+    ∙ written_over byte (listed place 4) slot.value q
+    ∙ over_at place 4 slot.value q (byte q) k h.0 h.1 (λ j lt is. let e : slot.place + j ≡ slot.place + k = ap number_of (sym is ∙ h.1) in omega arith)
 
-pub slot-other : (slot : Slot) (byte : Place → ℕ) (q : Place) → IsApart slot q → with_slot slot byte q ≡ byte q
-slot-other slot byte q none =
+pub slot_other : (slot : Slot) (byte : Place → ℕ) (q : Place) → IsApart slot q → with_slot slot byte q ≡ byte q
+slot_other slot byte q none =
     let place : ℕ → Place = λ i. Physical (slot.place + i) in
     ap (λ (ps : List Place). written byte ps slot.value q) (row_words slot.place 4)
-    ∙ written-over byte (listed place 4) slot.value q
-    ∙ over-other place 4 slot.value q (byte q) none
+    ∙ written_over byte (listed place 4) slot.value q
+    ∙ over_other place 4 slot.value q (byte q) none
 
 -- ---- words that become 0
 
-pub zero-byte : (k : ℕ) → k < 4 → 0 / 256 ^ k % 256 ≡ 0
-zero-byte zero lt = refl
-zero-byte (suc zero) lt = refl
-zero-byte (suc (suc zero)) lt = refl
-zero-byte (suc (suc (suc zero))) lt = refl
-zero-byte (suc (suc (suc (suc k)))) lt = absurd (omega arith)
+pub zero_byte : (k : ℕ) → k < 4 → 0 / 256 ^ k % 256 ≡ 0
+zero_byte zero lt = refl
+zero_byte (suc zero) lt = refl
+zero_byte (suc (suc zero)) lt = refl
+zero_byte (suc (suc (suc zero))) lt = refl
+zero_byte (suc (suc (suc (suc k)))) lt = absurd (omega arith)
 
 slot_zero : (s : EndpointSpec) (byte : Place → ℕ) (q : Place) (k : ℕ) → IsByteAt (slot_of s 0) q k → with_slot (slot_of s 0) byte q ≡ 0
-slot_zero s byte q k h = slot-at (slot_of s 0) byte q k h ∙ zero-byte k h.0
+slot_zero s byte q k h = slot_at (slot_of s 0) byte q k h ∙ zero_byte k h.0
 
 zero_over : (s : EndpointSpec) (byte : Place → ℕ) (q : Place) → byte q ≡ 0 → with_slot (slot_of s 0) byte q ≡ 0
 zero_over s byte q is =
     ⊎_elim
     (λ (there : (k : ℕ) × IsByteAt (slot_of s 0) q k). slot_zero s byte q there.0 there.1)
-    (λ (apart : IsApart (slot_of s 0) q). slot-other (slot_of s 0) byte q apart ∙ is)
-    (slot-cases (slot_of s 0) q)
+    (λ (apart : IsApart (slot_of s 0) q). slot_other (slot_of s 0) byte q apart ∙ is)
+    (slot_cases (slot_of s 0) q)
 
 words_zero : (specs : List EndpointSpec) (byte : Place → ℕ) (q : Place) → byte q ≡ 0 → with_words specs byte q ≡ 0
 words_zero [] byte q is = is
 words_zero (s ∷ specs) byte q is = words_zero specs (with_slot (slot_of s 0) byte) q (zero_over s byte q is)
 
-pub words-put : (specs : List EndpointSpec) (byte : Place → ℕ) (spec : EndpointSpec) (q : Place) (k : ℕ) → Contains specs spec → IsByteAt (slot_of spec 0) q k → with_words specs byte q ≡ 0
-words-put [] byte spec q k held there = let below : held.0 < 0 = held.1 in absurd (omega arith)
-words-put (s ∷ specs) byte spec q k held there =
+pub words_put : (specs : List EndpointSpec) (byte : Place → ℕ) (spec : EndpointSpec) (q : Place) (k : ℕ) → Contains specs spec → IsByteAt (slot_of spec 0) q k → with_words specs byte q ≡ 0
+words_put [] byte spec q k held there = let below : held.0 < 0 = held.1 in absurd (omega arith)
+words_put (s ∷ specs) byte spec q k held there =
     ⊎_elim
     (λ (same : s ≡ spec).
     let P : EndpointSpec → Type 0 = λ t. IsByteAt (slot_of t 0) q k in
     words_zero specs (with_slot (slot_of s 0) byte) q (slot_zero s byte q k (subst P (sym same) there)))
-    (λ (later : Contains specs spec). words-put specs (with_slot (slot_of s 0) byte) spec q k later there)
-    (Contains-cases s specs spec held)
+    (λ (later : Contains specs spec). words_put specs (with_slot (slot_of s 0) byte) spec q k later there)
+    (Contains_cases s specs spec held)
 
 -- none of these words has the place
 abbrev pub AreApart : List EndpointSpec → Place → Type 0
 AreApart specs q = (spec : EndpointSpec) → Contains specs spec → IsApart (slot_of spec 0) q
 
-pub words-kept : (specs : List EndpointSpec) (byte : Place → ℕ) (q : Place) → AreApart specs q → with_words specs byte q ≡ byte q
-words-kept [] byte q apart = refl
-words-kept (s ∷ specs) byte q apart =
-    words-kept specs (with_slot (slot_of s 0) byte) q (λ spec later. apart spec (Contains-tail s specs spec later))
-    ∙ slot-other (slot_of s 0) byte q (apart s (Contains-head s specs))
+pub words_kept : (specs : List EndpointSpec) (byte : Place → ℕ) (q : Place) → AreApart specs q → with_words specs byte q ≡ byte q
+words_kept [] byte q apart = refl
+words_kept (s ∷ specs) byte q apart =
+    words_kept specs (with_slot (slot_of s 0) byte) q (λ spec later. apart spec (Contains_tail s specs spec later))
+    ∙ slot_other (slot_of s 0) byte q (apart s (Contains_head s specs))
 
 -- the place is in one of them
 pub record IsInWords (specs : List EndpointSpec) (q : Place) : Type 0 where
@@ -123,35 +123,35 @@ pub record IsInWords (specs : List EndpointSpec) (q : Place) : Type 0 where
   pub there : IsByteAt (slot_of spec 0) q index
 
 -- a place is in one of them, or in none
-pub words-or : (specs : List EndpointSpec) (q : Place) → IsInWords specs q ⊎ AreApart specs q
-words-or [] q = inr (λ spec held. let below : held.0 < 0 = held.1 in absurd (omega arith))
-words-or (s ∷ specs) q =
+pub words_or : (specs : List EndpointSpec) (q : Place) → IsInWords specs q ⊎ AreApart specs q
+words_or [] q = inr (λ spec held. let below : held.0 < 0 = held.1 in absurd (omega arith))
+words_or (s ∷ specs) q =
     ⊎_elim
-    (λ (there : (k : ℕ) × IsByteAt (slot_of s 0) q k). inl (record { spec = s; held = Contains-head s specs; index = there.0; there = there.1 }))
+    (λ (there : (k : ℕ) × IsByteAt (slot_of s 0) q k). inl (record { spec = s; held = Contains_head s specs; index = there.0; there = there.1 }))
     (λ (apart : IsApart (slot_of s 0) q).
     ⊎_elim
-    (λ (rest : IsInWords specs q). inl (record { spec = rest.spec; held = Contains-tail s specs rest.spec rest.held; index = rest.index; there = rest.there }))
+    (λ (rest : IsInWords specs q). inl (record { spec = rest.spec; held = Contains_tail s specs rest.spec rest.held; index = rest.index; there = rest.there }))
     (λ (others : AreApart specs q).
     inr (λ spec held.
     let P : EndpointSpec → Type 0 = λ t. IsApart (slot_of t 0) q in
-    ⊎_elim (λ (same : s ≡ spec). subst P same apart) (λ (later : Contains specs spec). others spec later) (Contains-cases s specs spec held)))
-    (words-or specs q))
-    (slot-cases (slot_of s 0) q)
+    ⊎_elim (λ (same : s ≡ spec). subst P same apart) (λ (later : Contains specs spec). others spec later) (Contains_cases s specs spec held)))
+    (words_or specs q))
+    (slot_cases (slot_of s 0) q)
 
 -- no page has one
-pub words-page : (specs : List EndpointSpec) (byte : Place → ℕ) (cell offset : ℕ) → with_words specs byte (Page cell offset) ≡ byte (Page cell offset)
-words-page specs byte cell offset = words-kept specs byte (Page cell offset) (λ spec held k lt e. false≢true (ap is_physical e))
+pub words_page : (specs : List EndpointSpec) (byte : Place → ℕ) (cell offset : ℕ) → with_words specs byte (Page cell offset) ≡ byte (Page cell offset)
+words_page specs byte cell offset = words_kept specs byte (Page cell offset) (λ spec held k lt e. false≢true (ap is_physical e))
 
 -- ---- the state register
 
 -- the word that a write to the state register puts
-pub state-word : (e : Endpoint) (value : ℕ) → value ≢ e.state → slot_written e 0 0x10 value ≡ Some (slot_of e.spec value)
+pub state_word : (e : Endpoint) (value : ℕ) → value ≢ e.state → slot_written e 0 0x10 value ≡ Some (slot_of e.spec value)
 unfolding slot_written
-state-word e value other = ap (λ (b : Bool). cond (not b) (Some (slot_of e.spec value)) None) (ne_eqb e.state value (λ same. other (sym same)))
+state_word e value other = ap (λ (b : Bool). cond (not b) (Some (slot_of e.spec value)) None) (ne_eqb e.state value (λ same. other (sym same)))
 
 -- a value of four bytes is the number of 32 bits that it is
-pub value-fits : (width value : ℕ) → width ≡ 4 → value < 256 ^ width → value % 2 ^ 32 ≡ value
-value-fits width value four small =
+pub value_fits : (width value : ℕ) → width ≡ 4 → value < 256 ^ width → value % 2 ^ 32 ≡ value
+value_fits width value four small =
     let P : ℕ → Type 0 = λ n. value < 256 ^ n in
     let below : value < 256 ^ 4 = subst P four small in
     omega arith
@@ -163,9 +163,9 @@ pub record IsStatePut (e : Endpoint) (bar offset value : ℕ) (slot : Slot) : Ty
   pub other : value ≢ e.state
   pub is : slot ≡ slot_of e.spec value
 
-pub state-put : (e : Endpoint) (bar offset value : ℕ) (slot : Slot) → slot_written e bar offset value ≡ Some slot → IsStatePut e bar offset value slot
+pub state_put : (e : Endpoint) (bar offset value : ℕ) (slot : Slot) → slot_written e bar offset value ≡ Some slot → IsStatePut e bar offset value slot
 unfolding slot_written
-state-put e bar offset value slot is = put_with (((eqb bar 0) && (eqb offset 0x10)) && not (eqb e.state value)) refl is
+state_put e bar offset value slot is = put_with (((eqb bar 0) && (eqb offset 0x10)) && not (eqb e.state value)) refl is
   where
     put_with : (b : Bool) → (((eqb bar 0) && (eqb offset 0x10)) && not (eqb e.state value)) ≡ b → cond b (Some (slot_of e.spec value)) None ≡ Some slot → IsStatePut e bar offset value slot
     put_with true passes found =
@@ -202,5 +202,5 @@ unchanged_at : (cells : List Live) (call : Option OpenCall) (act : Act) → is_c
 unchanged_at cells None act other = refl
 unchanged_at cells (Some o) act other = unchanged_by cells o act other
 
-pub specs-none : (f : Facts) (act : Act) → is_commit act ≡ false → specs_changing f act ≡ []
-specs-none f act other = ap (λ (o : Option CellConfig). option_map_or specs_of o []) (unchanged_at f.cells f.call act other)
+pub specs_none : (f : Facts) (act : Act) → is_commit act ≡ false → specs_changing f act ≡ []
+specs_none f act other = ap (λ (o : Option CellConfig). option_map_or specs_of o []) (unchanged_at f.cells f.call act other)

@@ -27,7 +27,7 @@ use Rattle.jh_history.specs.declared.entry.Act.TheVariants.{Read, Write, Fetch, 
 use Rattle.jh_history.specs.Access.{place_in_cell, with_slot_if}
 use Rattle.jh_history.specs.Endpoints.{specs_changing, with_words}
 use Rattle.jh_history.specs.Facts.{Facts}
-use Rattle.jh_history.specs.Places.{further}
+use Rattle.jh_history.specs.Places.{further, is_physical, number_of}
 use Rattle.jh_history.specs.Lives.{cell_in}
 use Rattle.jh_history.specs.Pages.{page_after, with_page_write, page_write_by}
 use Rattle.jh_history.specs.Bytes.{byte_written, byte_after}
@@ -36,23 +36,23 @@ use Rattle.jh_history.specs.Phases.{configs_of}
 use Rattle.jh_history.specs.Due.{IsLegal}
 use Rattle.jh_history.specs.Admitted.{IsAdmitted}
 use Rattle.jh_history.proofs.FactsLemmas.{same_function}
-use Rattle.jh_history.proofs.PlaceLemmas.{written-over}
-use Rattle.jh_history.proofs.LegalLemmas.{IsLegal-begin}
+use Rattle.jh_history.proofs.PlaceLemmas.{written_over}
+use Rattle.jh_history.proofs.LegalLemmas.{IsLegal_begin}
 use Rattle.jh_history.specs.Sound.{AreSoundCells, IsSound}
 use Rattle.jh_laws.specs.Grants.{IsGranted}
 use Rattle.jh_laws.specs.Held.{IsLive, IsGrantedTo}
 use Rattle.jh_laws.specs.Written.{IsByteBy, Puts, IsByteOfPage, WritesWord, IsByteOfWord, WritesByte, NoneWrites}
 use Rattle.jh_laws.specs.Vectors.{PutsRegister}
 use Rattle.jh_laws.specs.Ways.{is_commit}
-use Rattle.jh_laws.proofs.ListedLemmas.{over-at, over-other}
+use Rattle.jh_laws.proofs.ListedLemmas.{over_at, over_other}
 use Rattle.jh_laws.specs.Ends.{AreItsPlaces, GivesPlaces, IsAnsweredByRegister}
-use Rattle.jh_laws.proofs.HeldLemmas.{live-cell, number-of}
-use Rattle.jh_laws.proofs.EndsLemmas.{IsSmallAct, small-at}
-use Rattle.jh_laws.proofs.StoredLemmas.{byte_put, write-stored, register-stored, IsStored, IsWord, placed}
-use Rattle.jh_laws.proofs.WordLemmas.{IsByteAt, IsApart, state-word, value-fits, state-put, slot-at, slot-other, zero-byte, words-put, words-kept, words-page, specs-none}
-use Rattle.jh_history.proofs.GrantLemmas.{place_in_cell-further}
-use Rattle.jh_laws.proofs.PlacesHeldLemmas.{is_memory, physical-kept, byte-behind}
-use Rattle.jh_history.proofs.SoundLemmas.{legal-sound}
+use Rattle.jh_laws.proofs.HeldLemmas.{live_cell, number_of_holds}
+use Rattle.jh_laws.proofs.EndsLemmas.{IsSmallAct, small_at}
+use Rattle.jh_laws.proofs.StoredLemmas.{byte_put, write_stored, register_stored, IsStored, IsWord, placed}
+use Rattle.jh_laws.proofs.WordLemmas.{IsByteAt, IsApart, state_word, value_fits, state_put, slot_at, slot_other, zero_byte, words_put, words_kept, words_page, specs_none}
+use Rattle.jh_history.proofs.GrantLemmas.{place_in_cell_further}
+use Rattle.jh_laws.proofs.PlacesHeldLemmas.{physical_kept, byte_behind}
+use Rattle.jh_history.proofs.SoundLemmas.{legal_sound}
 
 -- ---- no two addresses of a cell have one place
 
@@ -85,16 +85,12 @@ comm_only image configs zero cell r s x y sound is item_x item_y some_x some_y c
 comm_only image configs (suc a) cell r s x y sound is item_x item_y some_x some_y comm_x comm_y =
     sym ((sound.clean.comms (suc a) cell (omega arith) is r x item_x some_x comm_x).only s y item_y some_y comm_y)
 
-abbrev offset_in : Place → ℕ
-offset_in (Physical p) = p
-offset_in (Page cell offset) = offset
-
 single_by : (image : Image) (cells : List Live) (cell : CellConfig) (access : Access) (a b : ℕ) (q : Place) (g : IsGranted cell access a q) (h : IsGranted cell access b q) (one other : Bool) → AreSoundCells image.system (configs_of cells) → IsLive image cells cell
     → is_comm g.region ≡ one → is_comm h.region ≡ other
     → q ≡ cond one (Page cell.id (a - g.region.virt_start)) (Physical (g.region.phys_start + (a - g.region.virt_start)))
     → q ≡ cond other (Page cell.id (b - h.region.virt_start)) (Physical (h.region.phys_start + (b - h.region.virt_start))) → a ≡ b
 single_by image cells cell access a b q g h true true sound live comm_x comm_y at_a at_b =
-    let number = number-of image cells cell live in
+    let number = number_of_holds image cells cell live in
     let x : Region = g.region in
     let y : Region = h.region in
     let first_a : x.virt_start ≤ a = g.first in
@@ -102,13 +98,13 @@ single_by image cells cell access a b q g h true true sound live comm_x comm_y a
     let first_b : y.virt_start ≤ b = h.first in
     let last_b : b < y.virt_start + y.size = h.last in
     let same = comm_only image (configs_of cells) number.0 cell g.held.0 h.held.0 x y sound number.1 (item_of cell x g.held) (item_of cell y h.held) (omega arith) (omega arith) comm_x comm_y in
-    same_offset x y a b (same_item cell g.held.0 h.held.0 x y same (item_of cell x g.held) (item_of cell y h.held)) first_a first_b (ap offset_in (sym at_a ∙ at_b))
+    same_offset x y a b (same_item cell g.held.0 h.held.0 x y same (item_of cell x g.held) (item_of cell y h.held)) first_a first_b (ap number_of (sym at_a ∙ at_b))
 single_by image cells cell access a b q g h false false sound live comm_x comm_y at_a at_b =
-    let number = number-of image cells cell live in
+    let number = number_of_holds image cells cell live in
     let x : Region = g.region in
     let y : Region = h.region in
     let p : ℕ = x.phys_start + (a - x.virt_start) in
-    let same_place : p ≡ y.phys_start + (b - y.virt_start) = ap offset_in (sym at_a ∙ at_b) in
+    let same_place : p ≡ y.phys_start + (b - y.virt_start) = ap number_of (sym at_a ∙ at_b) in
     let same : g.held.0 ≡ h.held.0 = sound.clean.places number.0 cell number.1 g.held.0 h.held.0 x y (item_of cell x g.held) (item_of cell y h.held) comm_x comm_y p (in_place x a p g.first g.last refl) (in_place y b p h.first h.last same_place) in
     let one : x ≡ y = same_item cell g.held.0 h.held.0 x y same (item_of cell x g.held) (item_of cell y h.held) in
     let P : Region → Type 0 = λ r. p ≡ r.phys_start + (b - r.virt_start) in
@@ -117,14 +113,14 @@ single_by image cells cell access a b q g h false false sound live comm_x comm_y
     let first_a : x.virt_start ≤ a = g.first in
     let first_b : x.virt_start ≤ b = subst Q (sym one) h.first in
     omega arith
-single_by image cells cell access a b q g h true false sound live comm_x comm_y at_a at_b = absurd (false≢true (ap is_memory (sym at_a ∙ at_b)))
-single_by image cells cell access a b q g h false true sound live comm_x comm_y at_a at_b = absurd (true≢false (ap is_memory (sym at_a ∙ at_b)))
+single_by image cells cell access a b q g h true false sound live comm_x comm_y at_a at_b = absurd (false≢true (ap is_physical (sym at_a ∙ at_b)))
+single_by image cells cell access a b q g h false true sound live comm_x comm_y at_a at_b = absurd (true≢false (ap is_physical (sym at_a ∙ at_b)))
 
-pub single-address : (image : Image) (cells : List Live) (id : ℕ) (access : Access) (a b : ℕ) (q : Place) → AreSoundCells image.system (configs_of cells) → IsGrantedTo image cells id access a q → IsGrantedTo image cells id access b q → a ≡ b
-single-address image cells id access a b q sound g h =
+pub single_address : (image : Image) (cells : List Live) (id : ℕ) (access : Access) (a b : ℕ) (q : Place) → AreSoundCells image.system (configs_of cells) → IsGrantedTo image cells id access a q → IsGrantedTo image cells id access b q → a ≡ b
+single_address image cells id access a b q sound g h =
     let P : ℕ → CellConfig → Type 0 = λ k c. cell_in image cells k ≡ Some c in
-    let one : cell_in image cells id ≡ Some g.cell = (let Q : ℕ → Type 0 = λ k. cell_in image cells k ≡ Some g.cell in subst Q g.named (live-cell image cells g.cell sound g.live)) in
-    let other : cell_in image cells id ≡ Some h.cell = (let Q : ℕ → Type 0 = λ k. cell_in image cells k ≡ Some h.cell in subst Q h.named (live-cell image cells h.cell sound h.live)) in
+    let one : cell_in image cells id ≡ Some g.cell = (let Q : ℕ → Type 0 = λ k. cell_in image cells k ≡ Some g.cell in subst Q g.named (live_cell image cells g.cell sound g.live)) in
+    let other : cell_in image cells id ≡ Some h.cell = (let Q : ℕ → Type 0 = λ k. cell_in image cells k ≡ Some h.cell in subst Q h.named (live_cell image cells h.cell sound h.live)) in
     let same : h.cell ≡ g.cell = same_Some h.cell g.cell (sym other ∙ one) in
     let R : CellConfig → Type 0 = λ c. IsGranted c access b q in
     let there : IsGranted g.cell access b q = subst R same h.given in
@@ -133,8 +129,8 @@ single-address image cells id access a b q sound g h =
 -- ---- a write that succeeds
 
 further_index : (p : Place) (j k : ℕ) → further p j ≡ further p k → j ≡ k
-further_index (Physical p) j k e = let same : p + j ≡ p + k = ap offset_in e in omega arith
-further_index (Page cell offset) j k e = let same : offset + j ≡ offset + k = ap offset_in e in omega arith
+further_index (Physical p) j k e = let same : p + j ≡ p + k = ap number_of e in omega arith
+further_index (Page cell offset) j k e = let same : offset + j ≡ offset + k = ap number_of e in omega arith
 
 -- no two bytes of an access have one place
 one_index : (image : Image) (f : Facts) (id at width : ℕ) (place : ℕ → Place) (j k : ℕ) → AreSoundCells image.system (configs_of f.cells) → AreItsPlaces image f.cells id ToWrite at width place → j < width → k < width → place j ≡ place k → j ≡ k
@@ -142,35 +138,35 @@ one_index image f id at width place j k sound are lt_j lt_k same =
     ⊎_elim
     (λ (each : (i : ℕ) → i < width → IsGrantedTo image f.cells id ToWrite (at + i) (place i)).
     let Q : Place → Type 0 = IsGrantedTo image f.cells id ToWrite (at + j) in
-    let e : at + j ≡ at + k = single-address image f.cells id ToWrite (at + j) (at + k) (place k) sound (subst Q same (each j lt_j)) (each k lt_k) in
+    let e : at + j ≡ at + k = single_address image f.cells id ToWrite (at + j) (at + k) (place k) sound (subst Q same (each j lt_j)) (each k lt_k) in
     omega arith)
     (λ (by : GivesPlaces image f.cells id ToWrite at width place).
     let first = place_in_cell by.answers.has.cell.id by.region at in
     let low = by.answers.has.first in
     further_index first j k
-    (sym (place_in_cell-further by.answers.has.cell.id by.region at j low) ∙ sym (by.given j lt_j) ∙ same ∙ by.given k lt_k ∙ place_in_cell-further by.answers.has.cell.id by.region at k low))
+    (sym (place_in_cell_further by.answers.has.cell.id by.region at j low) ∙ sym (by.given j lt_j) ∙ same ∙ by.given k lt_k ∙ place_in_cell_further by.answers.has.cell.id by.region at k low))
     are
 
-pub write-puts : (image : Image) (f : Facts) (id at width value : ℕ) (place : Place) (byte : ℕ) → IsSound image f → IsByteBy image f.cells id at width value place byte
+pub write_puts : (image : Image) (f : Facts) (id at width value : ℕ) (place : Place) (byte : ℕ) → IsSound image f → IsByteBy image f.cells id at width value place byte
     → byte_put image f id at width value place ≡ byte
-write-puts image f id at width value place byte sound h =
+write_puts image f id at width value place byte sound h =
     let k : ℕ = h.index in
     let below : k < width = h.within in
     let some : 0 < width = omega arith in
-    ap (λ (b : Place → ℕ). b place) (write-stored image f id at width h.places value sound some h.are)
-    ∙ written-over f.byte (listed h.places width) value place
-    ∙ over-at h.places width value place (f.byte place) k below h.there (λ j lt is. one_index image f id at width h.places j k sound.cells h.are lt below (sym is ∙ h.there))
+    ap (λ (b : Place → ℕ). b place) (write_stored image f id at width h.places value sound some h.are)
+    ∙ written_over f.byte (listed h.places width) value place
+    ∙ over_at h.places width value place (f.byte place) k below h.there (λ j lt is. one_index image f id at width h.places j k sound.cells h.are lt below (sym is ∙ h.there))
     ∙ sym h.is
 
-pub word-puts : (image : Image) (f : Facts) (id at width value n : ℕ) (place : Place) (e : Endpoint) (k : ℕ) → IsSound image f → value < 256 ^ width → IsAnsweredByRegister image f id ToWrite at width n 0 0x10 e → value ≢ e.state
+pub word_puts : (image : Image) (f : Facts) (id at width value n : ℕ) (place : Place) (e : Endpoint) (k : ℕ) → IsSound image f → value < 256 ^ width → IsAnsweredByRegister image f id ToWrite at width n 0 0x10 e → value ≢ e.state
     → IsByteAt (slot_of e.spec value) place k → byte_put image f id at width value place ≡ value / 256 ^ k % 256
-word-puts image f id at width value n place e k sound small by other there =
+word_puts image f id at width value n place e k sound small by other there =
     let four : width ≡ 4 = by.wide in
-    let same : value % 2 ^ 32 ≡ value = value-fits width value four small in
-    ap (λ (b : Place → ℕ). b place) (register-stored image f id at width n 0 0x10 value e sound (omega arith) by)
+    let same : value % 2 ^ 32 ≡ value = value_fits width value four small in
+    ap (λ (b : Place → ℕ). b place) (register_stored image f id at width n 0 0x10 value e sound (omega arith) by)
     ∙ ap (λ (v : ℕ). with_slot_if (slot_written e 0 0x10 v) f.byte place) same
-    ∙ ap (λ (o : Option Slot). with_slot_if o f.byte place) (state-word e value other)
-    ∙ slot-at (slot_of e.spec value) f.byte place k there
+    ∙ ap (λ (o : Option Slot). with_slot_if o f.byte place) (state_word e value other)
+    ∙ slot_at (slot_of e.spec value) f.byte place k there
 
 -- ---- the entry
 
@@ -178,7 +174,7 @@ word-puts image f id at width value n place e k sound small by other there =
 own_byte : (image : Image) (f : Facts) (entry : Entry) (place : Place) → is_commit entry.act ≡ false → page_write_by image f entry entry.act ≡ None → byte_after image f entry place ≡ byte_written image f entry.cell entry.act place
 own_byte image f entry place other none =
     ap (λ (w : Option PageWrite). with_page_write w (with_words (specs_changing f entry.act) (byte_written image f entry.cell entry.act)) place) none
-    ∙ ap (λ (specs : List EndpointSpec). with_words specs (byte_written image f entry.cell entry.act) place) (specs-none f entry.act other)
+    ∙ ap (λ (specs : List EndpointSpec). with_words specs (byte_written image f entry.cell entry.act) place) (specs_none f entry.act other)
 
 -- an act that puts a byte is a write that succeeds
 pub record IsWrite (act : Act) : Type 0 where
@@ -216,7 +212,7 @@ put_by image f entry place byte sound puts =
     let quiet = write_quiet image f entry entry.act w in
     own_byte image f entry place quiet.0 quiet.1
     ∙ ap (λ (act : Act). byte_written image f entry.cell act place) w.is
-    ∙ write-puts image f entry.cell w.at w.width w.value place byte sound found.1
+    ∙ write_puts image f entry.cell w.at w.width w.value place byte sound found.1
 
 -- so is one that writes a register
 pub record PutsBy (image : Image) (f : Facts) (id : ℕ) (act : Act) (offset put : ℕ) (e : Endpoint) : Type 0 where
@@ -225,27 +221,27 @@ pub record PutsBy (image : Image) (f : Facts) (id : ℕ) (act : Act) (offset put
   pub number : ℕ
   pub by : IsAnsweredByRegister image f id ToWrite write.at write.width number 0 offset e
 
-pub register-write : (image : Image) (f : Facts) (id : ℕ) (act : Act) (offset put : ℕ) (e : Endpoint) → PutsRegister image f id act offset put e → PutsBy image f id act offset put e
-register-write image f id (Write width at value true) offset put e puts = record { write = record { width = width; at = at; value = value; is = refl }; value = puts.1; number = puts.2.0; by = puts.2.1 }
-register-write image f id (Write width at value false) offset put e puts = absurd (false≢true puts.0)
-register-write image f id (Read width at got) offset put e puts = absurd puts
-register-write image f id (Fetch at got) offset put e puts = absurd puts
-register-write image f id (Await width at value ok) offset put e puts = absurd puts
-register-write image f id (Irq device vector) offset put e puts = absurd puts
-register-write image f id (Hvc code a b answer) offset put e puts = absurd puts
-register-write image f id (Begin code a b) offset put e puts = absurd puts
-register-write image f id Stop offset put e puts = absurd puts
-register-write image f id (Decide refused) offset put e puts = absurd puts
-register-write image f id (Settle how) offset put e puts = absurd puts
-register-write image f id Commit offset put e puts = absurd puts
-register-write image f id (Note who) offset put e puts = absurd puts
-register-write image f id (Noted who how) offset put e puts = absurd puts
-register-write image f id (Finish answer) offset put e puts = absurd puts
+pub register_write : (image : Image) (f : Facts) (id : ℕ) (act : Act) (offset put : ℕ) (e : Endpoint) → PutsRegister image f id act offset put e → PutsBy image f id act offset put e
+register_write image f id (Write width at value true) offset put e puts = record { write = record { width = width; at = at; value = value; is = refl }; value = puts.1; number = puts.2.0; by = puts.2.1 }
+register_write image f id (Write width at value false) offset put e puts = absurd (false≢true puts.0)
+register_write image f id (Read width at got) offset put e puts = absurd puts
+register_write image f id (Fetch at got) offset put e puts = absurd puts
+register_write image f id (Await width at value ok) offset put e puts = absurd puts
+register_write image f id (Irq device vector) offset put e puts = absurd puts
+register_write image f id (Hvc code a b answer) offset put e puts = absurd puts
+register_write image f id (Begin code a b) offset put e puts = absurd puts
+register_write image f id Stop offset put e puts = absurd puts
+register_write image f id (Decide refused) offset put e puts = absurd puts
+register_write image f id (Settle how) offset put e puts = absurd puts
+register_write image f id Commit offset put e puts = absurd puts
+register_write image f id (Note who) offset put e puts = absurd puts
+register_write image f id (Noted who how) offset put e puts = absurd puts
+register_write image f id (Finish answer) offset put e puts = absurd puts
 
 put_word : (image : Image) (f : Facts) (entry : Entry) (spec : EndpointSpec) (value k : ℕ) (place : Place) (e : Endpoint) → IsSound image f → IsSmallAct entry.act → e.spec ≡ spec → PutsRegister image f entry.cell entry.act 0x10 value e → value ≢ e.state
     → IsByteAt (slot_of spec value) place k → byte_after image f entry place ≡ value / 256 ^ k % 256
 put_word image f entry spec value k place e sound small is puts other there =
-    let h = register-write image f entry.cell entry.act 0x10 value e puts in
+    let h = register_write image f entry.cell entry.act 0x10 value e puts in
     let w : IsWrite entry.act = h.write in
     let quiet = write_quiet image f entry entry.act w in
     let P : ℕ → Type 0 = λ v. v ≢ e.state in
@@ -254,14 +250,14 @@ put_word image f entry spec value k place e sound small is puts other there =
     let V : ℕ → Type 0 = λ v. IsByteAt (slot_of spec v) place k in
     own_byte image f entry place quiet.0 quiet.1
     ∙ ap (λ (act : Act). byte_written image f entry.cell act place) w.is
-    ∙ word-puts image f entry.cell w.at w.width w.value h.number place e k sound (subst IsSmallAct w.is small).1 h.by (subst P h.value other) (subst R (sym is) (subst V h.value there))
+    ∙ word_puts image f entry.cell w.at w.width w.value h.number place e k sound (subst IsSmallAct w.is small).1 h.by (subst P h.value other) (subst R (sym is) (subst V h.value there))
     ∙ ap (λ (v : ℕ). v / 256 ^ k % 256) (sym h.value)
 
 -- a word that becomes 0
 cleared_word : (image : Image) (f : Facts) (entry : Entry) (spec : EndpointSpec) (k p : ℕ) → Contains (specs_changing f entry.act) spec → IsByteAt (slot_of spec 0) (Physical p) k → byte_after image f entry (Physical p) ≡ 0
 cleared_word image f entry spec k p held there =
-    physical-kept (page_write_by image f entry entry.act) (with_words (specs_changing f entry.act) (byte_written image f entry.cell entry.act)) p
-    ∙ words-put (specs_changing f entry.act) (byte_written image f entry.cell entry.act) spec (Physical p) k held there
+    physical_kept (page_write_by image f entry entry.act) (with_words (specs_changing f entry.act) (byte_written image f entry.cell entry.act)) p
+    ∙ words_put (specs_changing f entry.act) (byte_written image f entry.cell entry.act) spec (Physical p) k held there
 
 word_by : (image : Image) (f : Facts) (entry : Entry) (place : Place) (byte : ℕ) → IsSound image f → IsSmallAct entry.act → IsByteOfWord image f entry place byte → byte_after image f entry place ≡ byte
 word_by image f entry place byte sound small h =
@@ -272,7 +268,7 @@ word_by image f entry place byte sound small h =
     let p : ℕ = h.spec.table + 4 * h.spec.id + h.index in
     ap (byte_after image f entry) h.there
     ∙ cleared_word image f entry h.spec h.index p cleared.0 (h.within, refl)
-    ∙ sym (zero-byte h.index h.within)
+    ∙ sym (zero_byte h.index h.within)
     ∙ ap (λ (v : ℕ). v / 256 ^ h.index % 256) (sym cleared.1)
     ∙ sym h.is)
     h.writes
@@ -308,19 +304,19 @@ paged_by image f entry place byte write is h =
     ∙ ap (with_page_write (Some write) words) h.place_is
     ∙ page_puts words write h.offset h.within
     ∙ ap (λ (page : ℕ → ℕ). page_after write.change page h.offset)
-    (same_function (λ k. words (Page write.cell k)) (λ k. f.byte (Page write.cell k)) (λ k. words-page (specs_changing f entry.act) f.byte write.cell k))
+    (same_function (λ k. words (Page write.cell k)) (λ k. f.byte (Page write.cell k)) (λ k. words_page (specs_changing f entry.act) f.byte write.cell k))
     ∙ sym h.is
 
-pub entry-writes : (image : Image) (before rest : List Entry) (entry : Entry) (place : Place) (byte : ℕ) → IsAdmitted image → IsLegal image (before ++ entry ∷ rest) → WritesByte image (facts image before) entry place byte
+pub entry_writes : (image : Image) (before rest : List Entry) (entry : Entry) (place : Place) (byte : ℕ) → IsAdmitted image → IsLegal image (before ++ entry ∷ rest) → WritesByte image (facts image before) entry place byte
     → (facts image (before ++ entry ∷ [])).byte place ≡ byte
-entry-writes image before rest entry place byte admitted legal h =
+entry_writes image before rest entry place byte admitted legal h =
     let f : Facts = facts image before in
-    let sound = legal-sound image before admitted (IsLegal-begin image before (entry ∷ rest) legal) in
-    byte-behind image before entry place
+    let sound = legal_sound image before admitted (IsLegal_begin image before (entry ∷ rest) legal) in
+    byte_behind image before entry place
     ∙ ⊎_elim
     (λ (puts : Puts image f.cells entry.cell entry.act place byte). put_by image f entry place byte sound puts)
     (λ more. ⊎_elim
-    (λ (word : IsByteOfWord image f entry place byte). word_by image f entry place byte sound (small-at image before rest entry admitted legal) word)
+    (λ (word : IsByteOfWord image f entry place byte). word_by image f entry place byte sound (small_at image before rest entry admitted legal) word)
     (λ paged. paged_by image f entry place byte paged.0 paged.1 paged.2)
     more)
     h
@@ -329,7 +325,7 @@ entry-writes image before rest entry place byte admitted legal h =
 
 slot_kept : (byte : Place → ℕ) (place : Place) (o : Option Slot) → ((slot : Slot) → o ≡ Some slot → IsApart slot place) → with_slot_if o byte place ≡ byte place
 slot_kept byte place None apart = refl
-slot_kept byte place (Some slot) apart = slot-other slot byte place (apart slot refl)
+slot_kept byte place (Some slot) apart = slot_other slot byte place (apart slot refl)
 
 -- no byte of the value is put there, and no byte of a word
 abbrev NoByte : Image → Facts → ℕ → ℕ → ℕ → ℕ → Place → Type 0
@@ -338,25 +334,25 @@ NoByte image f id at width value place = (byte : ℕ) → IsByteBy image f.cells
 abbrev NoWord : Image → Facts → ℕ → ℕ → ℕ → ℕ → Place → Type 0
 NoWord image f id at width value place = (n : ℕ) (e : Endpoint) → IsAnsweredByRegister image f id ToWrite at width n 0 0x10 e → value ≢ e.state → IsApart (slot_of e.spec value) place
 
-pub write-kept : (image : Image) (f : Facts) (id at width value : ℕ) (place : Place) → IsSound image f → value < 256 ^ width → NoByte image f id at width value place → NoWord image f id at width value place
+pub write_kept : (image : Image) (f : Facts) (id at width value : ℕ) (place : Place) → IsSound image f → value < 256 ^ width → NoByte image f id at width value place → NoWord image f id at width value place
     → byte_put image f id at width value place ≡ f.byte place
-write-kept image f id at width value place sound small none apart =
+write_kept image f id at width value place sound small none apart =
     ⊎_elim
     (λ (h : IsStored image f id at width).
     ap (λ (b : Place → ℕ). b place) (h.stored value)
-    ∙ written-over f.byte (listed h.place width) value place
-    ∙ over-other h.place width value place (f.byte place)
+    ∙ written_over f.byte (listed h.place width) value place
+    ∙ over_other h.place width value place (f.byte place)
     (λ k lt is. none (value / 256 ^ k % 256) (record { index = k; within = lt; places = h.place; are = h.are; there = is; is = refl })))
     (λ more. ⊎_elim
     (λ (h : IsWord image f id at width).
-    let same : value % 2 ^ 32 ≡ value = value-fits width value h.by.wide small in
+    let same : value % 2 ^ 32 ≡ value = value_fits width value h.by.wide small in
     let R : ℕ → ℕ → Type 0 = λ b o. IsAnsweredByRegister image f id ToWrite at width h.number b o h.endpoint in
     let B : ℕ → Type 0 = λ b. R b h.offset in
     ap (λ (b : Place → ℕ). b place) (h.stored value)
     ∙ ap (λ (v : ℕ). with_slot_if (slot_written h.endpoint h.bar h.offset v) f.byte place) same
     ∙ slot_kept f.byte place (slot_written h.endpoint h.bar h.offset value)
     (λ slot is.
-    let put = state-put h.endpoint h.bar h.offset value slot is in
+    let put = state_put h.endpoint h.bar h.offset value slot is in
     let S : Slot → Type 0 = λ s. IsApart s place in
     subst S (sym put.is) (apart h.number h.endpoint (subst (R 0) put.offset_is (subst B put.bar_is h.by)) put.other)))
     (λ (nowhere : (v : ℕ) → byte_put image f id at width v ≡ f.byte). ap (λ (b : Place → ℕ). b place) (nowhere value))
@@ -369,7 +365,7 @@ NoRegisterWord image f id act place = (value : ℕ) (e : Endpoint) → PutsRegis
 
 kept_act : (image : Image) (f : Facts) (id : ℕ) (act : Act) (place : Place) → IsSound image f → IsSmallAct act → ((byte : ℕ) → Puts image f.cells id act place byte → ⊥) → NoRegisterWord image f id act place → byte_written image f id act place ≡ f.byte place
 kept_act image f id (Write width at value true) place sound small none apart =
-    write-kept image f id at width value place sound small.1 (λ byte h. none byte (refl, h)) (λ n e by other. apart value e (refl, refl, (n, by)) other)
+    write_kept image f id at width value place sound small.1 (λ byte h. none byte (refl, h)) (λ n e by other. apart value e (refl, refl, (n, by)) other)
 kept_act image f id (Write width at value false) place sound small none apart = refl
 kept_act image f id (Read width at got) place sound small none apart = refl
 kept_act image f id (Fetch at got) place sound small none apart = refl
@@ -398,26 +394,26 @@ page_keeps byte (Some write) (Page cell offset) none =
 word_there : (image : Image) (f : Facts) (entry : Entry) (place : Place) (spec : EndpointSpec) (value k : ℕ) → WritesWord image f entry spec value → IsByteAt (slot_of spec value) place k → IsByteOfWord image f entry place (value / 256 ^ k % 256)
 word_there image f entry place spec value k writes there = record { spec = spec; value = value; writes = writes; index = k; within = there.0; there = there.1; is = refl }
 
-pub entry-keeps : (image : Image) (before rest : List Entry) (entry : Entry) (place : Place) → IsAdmitted image → IsLegal image (before ++ entry ∷ rest) → ((byte : ℕ) → WritesByte image (facts image before) entry place byte → ⊥)
+pub entry_keeps : (image : Image) (before rest : List Entry) (entry : Entry) (place : Place) → IsAdmitted image → IsLegal image (before ++ entry ∷ rest) → ((byte : ℕ) → WritesByte image (facts image before) entry place byte → ⊥)
     → (facts image (before ++ entry ∷ [])).byte place ≡ (facts image before).byte place
-entry-keeps image before rest entry place admitted legal none =
+entry_keeps image before rest entry place admitted legal none =
     let f : Facts = facts image before in
-    let sound = legal-sound image before admitted (IsLegal-begin image before (entry ∷ rest) legal) in
+    let sound = legal_sound image before admitted (IsLegal_begin image before (entry ∷ rest) legal) in
     let specs : List EndpointSpec = specs_changing f entry.act in
-    byte-behind image before entry place
+    byte_behind image before entry place
     ∙ page_keeps (with_words specs (byte_written image f entry.cell entry.act)) (page_write_by image f entry entry.act) place
     (λ w offset is within at. none (page_after w.change (λ k. f.byte (Page w.cell k)) offset) (inr (inr (w, is, record { offset = offset; within = within; place_is = at; is = refl }))))
-    ∙ words-kept specs (byte_written image f entry.cell entry.act) place
+    ∙ words_kept specs (byte_written image f entry.cell entry.act) place
     (λ spec held k lt there. none (0 / 256 ^ k % 256) (inr (inl (word_there image f entry place spec 0 k (inr (held, refl)) (lt, there)))))
-    ∙ kept_act image f entry.cell entry.act place sound (small-at image before rest entry admitted legal) (λ byte puts. none byte (inl puts))
+    ∙ kept_act image f entry.cell entry.act place sound (small_at image before rest entry admitted legal) (λ byte puts. none byte (inl puts))
     (λ value e puts other k lt there. none (value / 256 ^ k % 256) (inr (inl (word_there image f entry place e.spec value k (inl (e, refl, puts, other)) (lt, there)))))
 
 -- over a stretch that doesn't write it
-pub rest-keeps : (image : Image) (before rest : List Entry) (place : Place) → IsAdmitted image → IsLegal image (before ++ rest) → NoneWrites image before rest place → (facts image (before ++ rest)).byte place ≡ (facts image before).byte place
-rest-keeps image before [] place admitted legal none = ap (λ (es : List Entry). (facts image es).byte place) (append-nil before)
-rest-keeps image before (entry ∷ rest) place admitted legal none =
+pub rest_keeps : (image : Image) (before rest : List Entry) (place : Place) → IsAdmitted image → IsLegal image (before ++ rest) → NoneWrites image before rest place → (facts image (before ++ rest)).byte place ≡ (facts image before).byte place
+rest_keeps image before [] place admitted legal none = ap (λ (es : List Entry). (facts image es).byte place) (append-nil before)
+rest_keeps image before (entry ∷ rest) place admitted legal none =
     let same : (before ++ entry ∷ []) ++ rest ≡ before ++ entry ∷ rest = append_assoc before (entry ∷ []) rest in
     let P : List Entry → Type 0 = IsLegal image in
     ap (λ (es : List Entry). (facts image es).byte place) (sym same)
-    ∙ rest-keeps image (before ++ entry ∷ []) rest place admitted (subst P (sym same) legal) none.1
-    ∙ entry-keeps image before rest entry place admitted legal none.0
+    ∙ rest_keeps image (before ++ entry ∷ []) rest place admitted (subst P (sym same) legal) none.1
+    ∙ entry_keeps image before rest entry place admitted legal none.0

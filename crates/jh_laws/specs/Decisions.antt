@@ -56,13 +56,15 @@ pub record IsUnreadDecision (image : Image) (f : Facts) (at : ℕ) (refused : Op
 -- a configuration that was read: it is refused for the first cause that holds, or for none
 pub record IsRefusedOf (image : Image) (f : Facts) (caller : ℕ) (config : CellConfig) (refused : Option ℤ) : Type 0 where
   pub cause : refused ≡ refusal_of image.system (configs_of f.cells) config (may_give image f caller) (pages_of image.system.root.memory_regions (configs_of f.cells ++ config ∷ [])) (pool_pages image.system)
-  pub goes : IsAccepted image.system (configs_of f.cells) config (may_give image f caller) (pages_of image.system.root.memory_regions (configs_of f.cells ++ config ∷ [])) (pool_pages image.system) → refused ≡ None
+  pub goes : IsAccepted image.system (configs_of f.cells) config (may_give image f caller) (pages_of image.system.root.memory_regions (configs_of f.cells ++ config ∷ [])) (pool_pages image.system)
+      → refused ≡ None
 
 -- a create: refused where a cell is locked, else as it is read, and as what is read is refused
 pub record IsCreateDecision (image : Image) (f : Facts) (caller at : ℕ) (refused : Option ℤ) : Type 0 where
   pub locked : (live : Live) → IsLockedBy f live → refused ≡ Some EPERM
   pub unread : NoneIsLocked f → IsUnreadDecision image f at refused
-  pub read : NoneIsLocked f → (header bytes : List ℕ) → bytes_at image f at 132 ≡ Some header → header_fault header ≡ None → bytes_at image f at (header_size header) ≡ Some bytes → IsRefusedOf image f caller (config_of bytes) refused
+  pub read : NoneIsLocked f → (header bytes : List ℕ) → bytes_at image f at 132 ≡ Some header → header_fault header ≡ None
+      → bytes_at image f at (header_size header) ≡ Some bytes → IsRefusedOf image f caller (config_of bytes) refused
 
 abbrev pub IsDecision : Image → Facts → ℕ → Call → Option ℤ → Type 0
 IsDecision image f caller (Create at) refused = IsCreateDecision image f caller at refused

@@ -8,6 +8,7 @@ use Rattle.jh_cellcfg.specs.declared.config.SystemConfig.{SystemConfig}
 use Rattle.jh_cellcfg.specs.declared.live.Live.{Live}
 use Rattle.jh_cellcfg.specs.declared.region.Region.{Region}
 use Rattle.jh_cellcfg.specs.Regions.{is_page_mapped, allows_width, allows_unaligned}
+use Rattle.jh_check.specs.Clean.{IsShmem}
 use Rattle.jh_vpci.specs.Space.{window_of}
 use Rattle.jh_vpci.specs.Words.{read_of as config_read}
 use Rattle.jh_ivshmem.specs.declared.endpoint.Endpoint.{Endpoint}
@@ -77,7 +78,7 @@ pub record IsDeviceOf (image : Image) (f : Facts) (id n : ℕ) (device : PciDevi
   pub live : IsLive image f.cells cell
   pub named : cell.id ≡ id
   pub item : slice_get cell.pci_devices n ≡ Some device
-  pub kind : device.kind ≡ 3
+  pub kind : IsShmem device
   pub there : endpoint_at id n f.endpoints ≡ Some e
 
 -- the access lies in the window of the BAR of the cell's device, which is enabled
@@ -142,7 +143,9 @@ offset_in system at = at - system.pci_mmconfig_base
 -- bytes of the function that is there, or the number whose bits are all set where none is; or the register of the device
 pub record IsReadBy (image : Image) (f : Facts) (id : ℕ) (access : Access) (at width value : ℕ) : Type 0 where
   pub bytes : (place : ℕ → Place) → AreItsPlaces image f.cells id access at width place → value ≡ little_endian width (λ k. f.byte (place k))
-  pub function : (e : Endpoint) → IsAnsweredByWindow image f.cells id access at width → HasFunction image f id (offset_in image.system at) e → value ≡ config_read e.space (offset_in image.system at % 4096) width
+  pub function : (e : Endpoint) → IsAnsweredByWindow image f.cells id access at width
+      → HasFunction image f id (offset_in image.system at) e
+      → value ≡ config_read e.space (offset_in image.system at % 4096) width
   pub ones : IsAnsweredByWindow image f.cells id access at width → ((e : Endpoint) → HasFunction image f id (offset_in image.system at) e → ⊥) → value ≡ 256 ^ width - 1
   pub register : (n bar offset : ℕ) (e : Endpoint) → IsAnsweredByRegister image f id access at width n bar offset e → value ≡ register_of e bar offset
 

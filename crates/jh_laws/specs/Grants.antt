@@ -30,7 +30,3 @@ pub record IsGranted (cell : CellConfig) (access : Access) (at : ℕ) (place : P
   pub first : region.virt_start ≤ at
   pub last : at < region.virt_start + region.size
   pub given : place ≡ place_behind cell region (at - region.virt_start)
-
--- each of so many bytes from the address on is granted some place
-abbrev pub AreGranted : CellConfig → Access → ℕ → ℕ → Type 0
-AreGranted cell access at width = (k : ℕ) → k < width → (place : Place) × IsGranted cell access (at + k) place

@@ -55,12 +55,6 @@ owner_of j cpu = ((facts_of j).cpu cpu).owner
 abbrev pub call_of : AdmittedJournal → Option OpenCall
 call_of j = (facts_of j).call
 
-abbrev pub call_before : AdmittedMoment → Option OpenCall
-call_before m = (facts_before m).call
-
-abbrev pub call_behind : AdmittedMoment → Option OpenCall
-call_behind m = (facts_behind m).call
-
 -- the state of the CPU
 abbrev pub state_before : AdmittedMoment → ℕ → Cpu
 state_before m cpu = (facts_before m).cpu cpu

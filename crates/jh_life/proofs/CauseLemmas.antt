@@ -6,16 +6,16 @@ use Rattle.std.specs.Cmp.Lexicographic.{pointwise, same_text, other_text}
 use Rattle.std.proofs.lemmas.Bool.{false≢true, cases_lt, cases_Bool, eq-eqb, eqb-true, ltb-true, lt-ltb, and_parts, and_from, or_cases, or_left, or_right, not-true, not_from_false}
 use Rattle.std.proofs.lemmas.Option.{none-some, same_Some}
 use Rattle.jh_num.specs.declared.error.TheConstants.{EBUSY, EEXIST, EINVAL, ENOMEM, EPERM}
-use Rattle.jh_num.proofs.Lists.{IsFound-from_list_any, list_any-from_Contains}
+use Rattle.jh_num.proofs.Lists.{IsFound_from_list_any, list_any_from_Contains}
 use Rattle.jh_cellcfg.specs.declared.config.CellConfig.{CellConfig}
 use Rattle.jh_cellcfg.specs.Cells.{name_of}
 use Rattle.jh_check.specs.declared.finding.Finding.{Finding}
 use Rattle.jh_check.specs.Findings.{findings}
 use Rattle.jh_check.specs.Refusals.{is_namesake, is_known, names_beyond, by_check, refusal_of}
 use Rattle.jh_check.specs.Verdicts.{names, is_overlap, is_invalid, is_busy, verdict_by, verdict_of}
-use Rattle.jh_check.proofs.BoolLemmas.{false-from_not}
-use Rattle.jh_check.proofs.RefusalLemmas.{beyond-named, named-beyond}
-use Rattle.jh_check.proofs.RuleLemmas.{broken-from_listed, listed-from_broken}
+use Rattle.jh_check.proofs.BoolLemmas.{false_from_not}
+use Rattle.jh_check.proofs.RefusalLemmas.{beyond_named, named_beyond}
+use Rattle.jh_check.proofs.RuleLemmas.{broken_from_listed, listed_from_broken}
 use Rattle.jh_shape.specs.Claims.{has_bit}
 use Rattle.jh_shape.specs.Pages.{pages_of}
 use Rattle.jh_life.specs.Seen.{Seen}
@@ -49,28 +49,28 @@ before test n last a b c d e BrokenRule l = d l
 before test n last a b c d e Overlap l = e l
 before test n last a b c d e FewPages l = absurd (omega arith)
 
-all-fail : (test : Cause → Bool) → test Locked ≡ false → test Known ≡ false → test TakenCpu ≡ false → test BrokenRule ≡ false → test Overlap ≡ false → test FewPages ≡ false → (cause : Cause) → test cause ≡ false
-all-fail test a b c d e f Locked = a
-all-fail test a b c d e f Known = b
-all-fail test a b c d e f TakenCpu = c
-all-fail test a b c d e f BrokenRule = d
-all-fail test a b c d e f Overlap = e
-all-fail test a b c d e f FewPages = f
+all_fail : (test : Cause → Bool) → test Locked ≡ false → test Known ≡ false → test TakenCpu ≡ false → test BrokenRule ≡ false → test Overlap ≡ false → test FewPages ≡ false → (cause : Cause) → test cause ≡ false
+all_fail test a b c d e f Locked = a
+all_fail test a b c d e f Known = b
+all_fail test a b c d e f TakenCpu = c
+all_fail test a b c d e f BrokenRule = d
+all_fail test a b c d e f Overlap = e
+all_fail test a b c d e f FewPages = f
 
-told-by : (test : Cause → Bool) (locked known taken broken overlap few : Bool) → test Locked ≡ locked → test Known ≡ known → test TakenCpu ≡ taken → test BrokenRule ≡ broken → test Overlap ≡ overlap → test FewPages ≡ few → FirstTold test (first_of locked known taken broken overlap few) ⊎ NoneTold test (first_of locked known taken broken overlap few)
-told-by test true known taken broken overlap few a b c d e f =
+told_by : (test : Cause → Bool) (locked known taken broken overlap few : Bool) → test Locked ≡ locked → test Known ≡ known → test TakenCpu ≡ taken → test BrokenRule ≡ broken → test Overlap ≡ overlap → test FewPages ≡ few → FirstTold test (first_of locked known taken broken overlap few) ⊎ NoneTold test (first_of locked known taken broken overlap few)
+told_by test true known taken broken overlap few a b c d e f =
     inl (Locked, record { passes = a; none = λ other l. absurd (omega arith) }, refl)
-told-by test false true taken broken overlap few a b c d e f =
+told_by test false true taken broken overlap few a b c d e f =
     inl (Known, record { passes = b; none = before test 1 (omega arith) (λ l. a) (λ l. absurd (omega arith)) (λ l. absurd (omega arith)) (λ l. absurd (omega arith)) (λ l. absurd (omega arith)) }, refl)
-told-by test false false true broken overlap few a b c d e f =
+told_by test false false true broken overlap few a b c d e f =
     inl (TakenCpu, record { passes = c; none = before test 2 (omega arith) (λ l. a) (λ l. b) (λ l. absurd (omega arith)) (λ l. absurd (omega arith)) (λ l. absurd (omega arith)) }, refl)
-told-by test false false false true overlap few a b c d e f =
+told_by test false false false true overlap few a b c d e f =
     inl (BrokenRule, record { passes = d; none = before test 3 (omega arith) (λ l. a) (λ l. b) (λ l. c) (λ l. absurd (omega arith)) (λ l. absurd (omega arith)) }, refl)
-told-by test false false false false true few a b c d e f =
+told_by test false false false false true few a b c d e f =
     inl (Overlap, record { passes = e; none = before test 4 (omega arith) (λ l. a) (λ l. b) (λ l. c) (λ l. d) (λ l. absurd (omega arith)) }, refl)
-told-by test false false false false false true a b c d e f =
+told_by test false false false false false true a b c d e f =
     inl (FewPages, record { passes = f; none = before test 5 (omega arith) (λ l. a) (λ l. b) (λ l. c) (λ l. d) (λ l. e) }, refl)
-told-by test false false false false false false a b c d e f = inr (all-fail test a b c d e f, refl)
+told_by test false false false false false false a b c d e f = inr (all_fail test a b c d e f, refl)
 
 -- ---- there is one first cause
 
@@ -82,28 +82,28 @@ cause_at (suc (suc (suc zero))) = BrokenRule
 cause_at (suc (suc (suc (suc zero)))) = Overlap
 cause_at (suc (suc (suc (suc (suc n))))) = FewPages
 
-at-place : (cause : Cause) → cause_at (place_in_order cause) ≡ cause
+at_place : (cause : Cause) → cause_at (place_in_order cause) ≡ cause
 unfolding cause_at
-at-place Locked = refl
-at-place Known = refl
-at-place TakenCpu = refl
-at-place BrokenRule = refl
-at-place Overlap = refl
-at-place FewPages = refl
+at_place Locked = refl
+at_place Known = refl
+at_place TakenCpu = refl
+at_place BrokenRule = refl
+at_place Overlap = refl
+at_place FewPages = refl
 
-same-place : (one other : Cause) → place_in_order one ≡ place_in_order other → one ≡ other
-same-place one other e = sym (at-place one) ∙ ap cause_at e ∙ at-place other
+same_place : (one other : Cause) → place_in_order one ≡ place_in_order other → one ≡ other
+same_place one other e = sym (at_place one) ∙ ap cause_at e ∙ at_place other
 
-not-earlier : (test : Cause → Bool) (one other : Cause) → IsFirstOf test one → IsFirstOf test other → place_in_order one < place_in_order other → ⊥
-not-earlier test one other first second l = false≢true (sym (second.none one l) ∙ first.passes)
+not_earlier : (test : Cause → Bool) (one other : Cause) → IsFirstOf test one → IsFirstOf test other → place_in_order one < place_in_order other → ⊥
+not_earlier test one other first second l = false≢true (sym (second.none one l) ∙ first.passes)
 
-one-first : (test : Cause → Bool) (one other : Cause) → IsFirstOf test one → IsFirstOf test other → one ≡ other
-one-first test one other first second =
+one_first : (test : Cause → Bool) (one other : Cause) → IsFirstOf test one → IsFirstOf test other → one ≡ other
+one_first test one other first second =
     elim (cases_lt (place_in_order one) (place_in_order other)) [
-      | inl l ↦ absurd (not-earlier test one other first second l)
+      | inl l ↦ absurd (not_earlier test one other first second l)
       | inr l ↦ elim (cases_lt (place_in_order other) (place_in_order one)) [
-        | inl m ↦ absurd (not-earlier test other one second first m)
-        | inr m ↦ same-place one other (omega arith)
+        | inl m ↦ absurd (not_earlier test other one second first m)
+        | inr m ↦ same_place one other (omega arith)
       ]
     ]
 
@@ -117,34 +117,34 @@ test_of seen create BrokenRule = list_any (is_invalid (length (configs_of seen.l
 test_of seen create Overlap = list_any (is_busy (length (configs_of seen.lives) + 1)) (findings seen.system (configs_of seen.lives ++ create.new ∷ []))
 test_of seen create FewPages = nat_lt create.pool (pages_of seen.system.root.memory_regions (configs_of seen.lives ++ create.new ∷ []))
 
-namesake-words : (new cell : CellConfig) → is_namesake new cell ≡ true → (cell.id ≡ new.id) ⊎ (name_of cell ≡ name_of new)
-namesake-words new cell t =
+namesake_words : (new cell : CellConfig) → is_namesake new cell ≡ true → (cell.id ≡ new.id) ⊎ (name_of cell ≡ name_of new)
+namesake_words new cell t =
     elim (or_cases (cell.id == new.id) (pointwise nat_eq (name_of cell) (name_of new)) t) [
       | inl same ↦ inl (eqb-true cell.id new.id same)
       | inr same ↦ inr (same_text (name_of cell) (name_of new) (sym same))
     ]
 
-named-same : (xs ys : List ℕ) → xs ≡ ys → pointwise nat_eq xs ys ≡ true
-named-same xs ys e =
+named_same : (xs ys : List ℕ) → xs ≡ ys → pointwise nat_eq xs ys ≡ true
+named_same xs ys e =
     elim (cases_Bool (pointwise nat_eq xs ys)) [
       | inl same ↦ same
       | inr other ↦ absurd (other_text xs ys (sym other) e)
     ]
 
-words-namesake : (new cell : CellConfig) → (cell.id ≡ new.id) ⊎ (name_of cell ≡ name_of new) → is_namesake new cell ≡ true
-words-namesake new cell (inl same) = or_left (cell.id == new.id) (pointwise nat_eq (name_of cell) (name_of new)) (eq-eqb cell.id new.id same)
-words-namesake new cell (inr same) = or_right (cell.id == new.id) (pointwise nat_eq (name_of cell) (name_of new)) (named-same (name_of cell) (name_of new) same)
+words_namesake : (new cell : CellConfig) → (cell.id ≡ new.id) ⊎ (name_of cell ≡ name_of new) → is_namesake new cell ≡ true
+words_namesake new cell (inl same) = or_left (cell.id == new.id) (pointwise nat_eq (name_of cell) (name_of new)) (eq-eqb cell.id new.id same)
+words_namesake new cell (inr same) = or_right (cell.id == new.id) (pointwise nat_eq (name_of cell) (name_of new)) (named_same (name_of cell) (name_of new) same)
 
-known-words : (seen : Seen) (new : CellConfig) → is_known (cells_of seen) new ≡ true → IsKnownTo seen new
-known-words seen new t =
-    let r = IsFound-from_list_any (is_namesake new) (cells_of seen) t in
-    record { cell = r.0; lives = r.1.held; same = namesake-words new r.0 r.1.passes }
+known_words : (seen : Seen) (new : CellConfig) → is_known (cells_of seen) new ≡ true → IsKnownTo seen new
+known_words seen new t =
+    let r = IsFound_from_list_any (is_namesake new) (cells_of seen) t in
+    record { cell = r.0; lives = r.1.held; same = namesake_words new r.0 r.1.passes }
 
-words-known : (seen : Seen) (new : CellConfig) → IsKnownTo seen new → is_known (cells_of seen) new ≡ true
-words-known seen new h = list_any-from_Contains (is_namesake new) (cells_of seen) h.cell h.lives (words-namesake new h.cell h.same)
+words_known : (seen : Seen) (new : CellConfig) → IsKnownTo seen new → is_known (cells_of seen) new ≡ true
+words_known seen new h = list_any_from_Contains (is_namesake new) (cells_of seen) h.cell h.lives (words_namesake new h.cell h.same)
 
-taken-words : (owned caller cpu : ℕ) → may_have owned caller cpu ≡ false → (has_bit owned cpu ≡ false) ⊎ (cpu ≡ caller)
-taken-words owned caller cpu f =
+taken_words : (owned caller cpu : ℕ) → may_have owned caller cpu ≡ false → (has_bit owned cpu ≡ false) ⊎ (cpu ≡ caller)
+taken_words owned caller cpu f =
     elim (cases_Bool (has_bit owned cpu)) [
       | inl set ↦ elim (cases_Bool (cpu == caller)) [
         | inl same ↦ inr (eqb-true cpu caller same)
@@ -153,93 +153,93 @@ taken-words owned caller cpu f =
       | inr unset ↦ inl unset
     ]
 
-words-taken : (owned caller cpu : ℕ) → (has_bit owned cpu ≡ false) ⊎ (cpu ≡ caller) → may_have owned caller cpu ≡ false
-words-taken owned caller cpu (inl unset) =
-    false-from_not (may_have owned caller cpu) (λ t. false≢true (sym unset ∙ (and_parts (has_bit owned cpu) (not (cpu == caller)) t).0))
-words-taken owned caller cpu (inr same) =
-    false-from_not (may_have owned caller cpu) (λ t. false≢true (sym (not-true (cpu == caller) (and_parts (has_bit owned cpu) (not (cpu == caller)) t).1) ∙ eq-eqb cpu caller same))
+words_taken : (owned caller cpu : ℕ) → (has_bit owned cpu ≡ false) ⊎ (cpu ≡ caller) → may_have owned caller cpu ≡ false
+words_taken owned caller cpu (inl unset) =
+    false_from_not (may_have owned caller cpu) (λ t. false≢true (sym unset ∙ (and_parts (has_bit owned cpu) (not (cpu == caller)) t).0))
+words_taken owned caller cpu (inr same) =
+    false_from_not (may_have owned caller cpu) (λ t. false≢true (sym (not-true (cpu == caller) (and_parts (has_bit owned cpu) (not (cpu == caller)) t).1) ∙ eq-eqb cpu caller same))
 
-cpu-words : (seen : Seen) (create : Create) → test_of seen create TakenCpu ≡ true → NamesTakenCpu create
-cpu-words seen create t =
-    let r = beyond-named (may_have create.owned create.caller) create.new.cpu_set t in
-    record { cpu = r.0; named = r.1; taken = taken-words create.owned create.caller r.0 r.2 }
+cpu_words : (seen : Seen) (create : Create) → test_of seen create TakenCpu ≡ true → NamesTakenCpu create
+cpu_words seen create t =
+    let r = beyond_named (may_have create.owned create.caller) create.new.cpu_set t in
+    record { cpu = r.0; named = r.1; taken = taken_words create.owned create.caller r.0 r.2 }
 
-words-cpu : (seen : Seen) (create : Create) → NamesTakenCpu create → test_of seen create TakenCpu ≡ true
-words-cpu seen create h =
-    named-beyond (may_have create.owned create.caller) create.new.cpu_set h.cpu h.named (words-taken create.owned create.caller h.cpu h.taken)
+words_cpu : (seen : Seen) (create : Create) → NamesTakenCpu create → test_of seen create TakenCpu ≡ true
+words_cpu seen create h =
+    named_beyond (may_have create.owned create.caller) create.new.cpu_set h.cpu h.named (words_taken create.owned create.caller h.cpu h.taken)
 
 abbrev IsNamed : ℕ → Finding → Type 0
 IsNamed n finding = (finding.cell ≡ n) ⊎ (finding.other_cell ≡ n)
 
-names-words : (n : ℕ) (finding : Finding) → names n finding ≡ true → IsNamed n finding
-names-words n finding t =
+names_words : (n : ℕ) (finding : Finding) → names n finding ≡ true → IsNamed n finding
+names_words n finding t =
     elim (or_cases (finding.cell == n) (finding.other_cell == n) t) [
       | inl same ↦ inl (eqb-true finding.cell n same)
       | inr same ↦ inr (eqb-true finding.other_cell n same)
     ]
 
-words-names : (n : ℕ) (finding : Finding) → IsNamed n finding → names n finding ≡ true
-words-names n finding (inl same) = or_left (finding.cell == n) (finding.other_cell == n) (eq-eqb finding.cell n same)
-words-names n finding (inr same) = or_right (finding.cell == n) (finding.other_cell == n) (eq-eqb finding.other_cell n same)
+words_names : (n : ℕ) (finding : Finding) → IsNamed n finding → names n finding ≡ true
+words_names n finding (inl same) = or_left (finding.cell == n) (finding.other_cell == n) (eq-eqb finding.cell n same)
+words_names n finding (inr same) = or_right (finding.cell == n) (finding.other_cell == n) (eq-eqb finding.other_cell n same)
 
 -- what is found of the new cell, and tells of two cells or doesn't
 abbrev TestsKind : (Finding → Bool) → ℕ → Bool → Type 0
 TestsKind test n overlaps = (finding : Finding) → (test finding ≡ true) ↔ ((names n finding ≡ true) × (is_overlap finding ≡ overlaps))
 
-invalid-kind : (n : ℕ) → TestsKind (is_invalid n) n false
-invalid-kind n = λ finding. (
+invalid_kind : (n : ℕ) → TestsKind (is_invalid n) n false
+invalid_kind n = λ finding. (
   λ t. (let p = and_parts (names n finding) (not (is_overlap finding)) t in (p.0, not-true (is_overlap finding) p.1)),
   λ p. and_from (names n finding) (not (is_overlap finding)) p.0 (not_from_false (is_overlap finding) p.1),
 )
 
-busy-kind : (n : ℕ) → TestsKind (is_busy n) n true
-busy-kind n = λ finding.
+busy_kind : (n : ℕ) → TestsKind (is_busy n) n true
+busy_kind n = λ finding.
     (λ t. and_parts (names n finding) (is_overlap finding) t, λ p. and_from (names n finding) (is_overlap finding) p.0 p.1)
 
-found-words : (seen : Seen) (new : CellConfig) (overlaps : Bool) (test : Finding → Bool) → TestsKind test (length (configs_of seen.lives) + 1) overlaps → list_any test (findings seen.system (configs_of seen.lives ++ new ∷ [])) ≡ true → BreaksRule seen new overlaps
-found-words seen new overlaps test kind t =
+found_words : (seen : Seen) (new : CellConfig) (overlaps : Bool) (test : Finding → Bool) → TestsKind test (length (configs_of seen.lives) + 1) overlaps → list_any test (findings seen.system (configs_of seen.lives ++ new ∷ [])) ≡ true → BreaksRule seen new overlaps
+found_words seen new overlaps test kind t =
     let cells = configs_of seen.lives ++ new ∷ [] in
-    let r = IsFound-from_list_any test (findings seen.system cells) t in
+    let r = IsFound_from_list_any test (findings seen.system cells) t in
     let p = (kind r.0).0 r.1.passes in
     record {
       finding = r.0;
-      broken = broken-from_listed seen.system cells r.0 r.1.held;
-      named = names-words (length (configs_of seen.lives) + 1) r.0 p.0;
+      broken = broken_from_listed seen.system cells r.0 r.1.held;
+      named = names_words (length (configs_of seen.lives) + 1) r.0 p.0;
       kind = p.1;
     }
 
-words-found : (seen : Seen) (new : CellConfig) (overlaps : Bool) (test : Finding → Bool) → TestsKind test (length (configs_of seen.lives) + 1) overlaps → BreaksRule seen new overlaps → list_any test (findings seen.system (configs_of seen.lives ++ new ∷ [])) ≡ true
-words-found seen new overlaps test kind h =
+words_found : (seen : Seen) (new : CellConfig) (overlaps : Bool) (test : Finding → Bool) → TestsKind test (length (configs_of seen.lives) + 1) overlaps → BreaksRule seen new overlaps → list_any test (findings seen.system (configs_of seen.lives ++ new ∷ [])) ≡ true
+words_found seen new overlaps test kind h =
     let cells = configs_of seen.lives ++ new ∷ [] in
-    list_any-from_Contains test (findings seen.system cells) h.finding (listed-from_broken seen.system cells h.finding h.broken)
-    ((kind h.finding).1 (words-names (length (configs_of seen.lives) + 1) h.finding h.named, h.kind))
+    list_any_from_Contains test (findings seen.system cells) h.finding (listed_from_broken seen.system cells h.finding h.broken)
+    ((kind h.finding).1 (words_names (length (configs_of seen.lives) + 1) h.finding h.named, h.kind))
 
-holds-from : (seen : Seen) (create : Create) (cause : Cause) → test_of seen create cause ≡ true → Holds seen create cause
-holds-from seen create Locked t = t
-holds-from seen create Known t = known-words seen create.new t
-holds-from seen create TakenCpu t = cpu-words seen create t
-holds-from seen create BrokenRule t = found-words seen create.new false (is_invalid (length (configs_of seen.lives) + 1)) (invalid-kind (length (configs_of seen.lives) + 1)) t
-holds-from seen create Overlap t = found-words seen create.new true (is_busy (length (configs_of seen.lives) + 1)) (busy-kind (length (configs_of seen.lives) + 1)) t
-holds-from seen create FewPages t = ltb-true create.pool (pages_of seen.system.root.memory_regions (configs_of seen.lives ++ create.new ∷ [])) t
+holds_from : (seen : Seen) (create : Create) (cause : Cause) → test_of seen create cause ≡ true → Holds seen create cause
+holds_from seen create Locked t = t
+holds_from seen create Known t = known_words seen create.new t
+holds_from seen create TakenCpu t = cpu_words seen create t
+holds_from seen create BrokenRule t = found_words seen create.new false (is_invalid (length (configs_of seen.lives) + 1)) (invalid_kind (length (configs_of seen.lives) + 1)) t
+holds_from seen create Overlap t = found_words seen create.new true (is_busy (length (configs_of seen.lives) + 1)) (busy_kind (length (configs_of seen.lives) + 1)) t
+holds_from seen create FewPages t = ltb-true create.pool (pages_of seen.system.root.memory_regions (configs_of seen.lives ++ create.new ∷ [])) t
 
-holds-to : (seen : Seen) (create : Create) (cause : Cause) → Holds seen create cause → test_of seen create cause ≡ true
-holds-to seen create Locked h = h
-holds-to seen create Known h = words-known seen create.new h
-holds-to seen create TakenCpu h = words-cpu seen create h
-holds-to seen create BrokenRule h = words-found seen create.new false (is_invalid (length (configs_of seen.lives) + 1)) (invalid-kind (length (configs_of seen.lives) + 1)) h
-holds-to seen create Overlap h = words-found seen create.new true (is_busy (length (configs_of seen.lives) + 1)) (busy-kind (length (configs_of seen.lives) + 1)) h
-holds-to seen create FewPages h = lt-ltb create.pool (pages_of seen.system.root.memory_regions (configs_of seen.lives ++ create.new ∷ [])) h
+holds_to : (seen : Seen) (create : Create) (cause : Cause) → Holds seen create cause → test_of seen create cause ≡ true
+holds_to seen create Locked h = h
+holds_to seen create Known h = words_known seen create.new h
+holds_to seen create TakenCpu h = words_cpu seen create h
+holds_to seen create BrokenRule h = words_found seen create.new false (is_invalid (length (configs_of seen.lives) + 1)) (invalid_kind (length (configs_of seen.lives) + 1)) h
+holds_to seen create Overlap h = words_found seen create.new true (is_busy (length (configs_of seen.lives) + 1)) (busy_kind (length (configs_of seen.lives) + 1)) h
+holds_to seen create FewPages h = lt-ltb create.pool (pages_of seen.system.root.memory_regions (configs_of seen.lives ++ create.new ∷ [])) h
 
-first-words : (seen : Seen) (create : Create) (cause : Cause) → IsFirstOf (test_of seen create) cause → IsFirst seen create cause
-first-words seen create cause first = record {
-  holds = holds-from seen create cause first.passes;
-  none = λ other l h. false≢true (sym (first.none other l) ∙ holds-to seen create other h);
+first_words : (seen : Seen) (create : Create) (cause : Cause) → IsFirstOf (test_of seen create) cause → IsFirst seen create cause
+first_words seen create cause first = record {
+  holds = holds_from seen create cause first.passes;
+  none = λ other l h. false≢true (sym (first.none other l) ∙ holds_to seen create other h);
 }
 
-words-first : (seen : Seen) (create : Create) (cause : Cause) → IsFirst seen create cause → IsFirstOf (test_of seen create) cause
-words-first seen create cause first = record {
-  passes = holds-to seen create cause first.holds;
-  none = λ other l. false-from_not (test_of seen create other) (λ t. first.none other l (holds-from seen create other t));
+words_first : (seen : Seen) (create : Create) (cause : Cause) → IsFirst seen create cause → IsFirstOf (test_of seen create) cause
+words_first seen create cause first = record {
+  passes = holds_to seen create cause first.holds;
+  none = λ other l. false_from_not (test_of seen create other) (λ t. first.none other l (holds_from seen create other t));
 }
 
 -- ---- what is told
@@ -248,57 +248,57 @@ told : (seen : Seen) (create : Create) → FirstTold (test_of seen create) (verd
 unfolding refusal_of verdict_of
 told seen create =
     let test = test_of seen create in
-    told-by test (test Locked) (test Known) (test TakenCpu) (test BrokenRule) (test Overlap) (test FewPages) refl refl refl refl refl refl
+    told_by test (test Locked) (test Known) (test TakenCpu) (test BrokenRule) (test Overlap) (test FewPages) refl refl refl refl refl refl
 
-pub cause-from : (seen : Seen) (create : Create) (number : ℤ) → verdict_on seen create ≡ Some number → (cause : Cause) × IsFirst seen create cause × (number ≡ number_for cause)
-cause-from seen create number e =
+pub cause_from : (seen : Seen) (create : Create) (number : ℤ) → verdict_on seen create ≡ Some number → (cause : Cause) × IsFirst seen create cause × (number ≡ number_for cause)
+cause_from seen create number e =
     elim (told seen create) [
-      | inl s ↦ (s.0, first-words seen create s.0 s.1, same_Some number (number_for s.0) (sym e ∙ s.2))
+      | inl s ↦ (s.0, first_words seen create s.0 s.1, same_Some number (number_for s.0) (sym e ∙ s.2))
       | inr n ↦ absurd (none-some number (sym n.1 ∙ e))
     ]
 
-pub cause-to : (seen : Seen) (create : Create) (cause : Cause) → IsFirst seen create cause → verdict_on seen create ≡ Some (number_for cause)
-cause-to seen create cause first =
-    let is = words-first seen create cause first in
+pub cause_to : (seen : Seen) (create : Create) (cause : Cause) → IsFirst seen create cause → verdict_on seen create ≡ Some (number_for cause)
+cause_to seen create cause first =
+    let is = words_first seen create cause first in
     elim (told seen create) [
-      | inl s ↦ s.2 ∙ ap (λ c. Some (number_for c)) (one-first (test_of seen create) s.0 cause s.1 is)
+      | inl s ↦ s.2 ∙ ap (λ c. Some (number_for c)) (one_first (test_of seen create) s.0 cause s.1 is)
       | inr n ↦ absurd (false≢true (sym (n.0 cause) ∙ is.passes))
     ]
 
-pub none-from : (seen : Seen) (create : Create) → verdict_on seen create ≡ None → (cause : Cause) → Holds seen create cause → ⊥
-none-from seen create e cause h =
+pub none_from : (seen : Seen) (create : Create) → verdict_on seen create ≡ None → (cause : Cause) → Holds seen create cause → ⊥
+none_from seen create e cause h =
     elim (told seen create) [
       | inl s ↦ none-some (number_for s.0) (sym e ∙ s.2)
-      | inr n ↦ false≢true (sym (n.0 cause) ∙ holds-to seen create cause h)
+      | inr n ↦ false≢true (sym (n.0 cause) ∙ holds_to seen create cause h)
     ]
 
-pub none-to : (seen : Seen) (create : Create) → ((cause : Cause) → Holds seen create cause → ⊥) → verdict_on seen create ≡ None
-none-to seen create h =
+pub none_to : (seen : Seen) (create : Create) → ((cause : Cause) → Holds seen create cause → ⊥) → verdict_on seen create ≡ None
+none_to seen create h =
     elim (told seen create) [
-      | inl s ↦ absurd (h s.0 (holds-from seen create s.0 s.1.passes))
+      | inl s ↦ absurd (h s.0 (holds_from seen create s.0 s.1.passes))
       | inr n ↦ n.1
     ]
 
 -- ---- each number
 
-pub first-locked : (seen : Seen) (create : Create) → create.locked ≡ true → IsFirst seen create Locked
-first-locked seen create h = record { holds = h; none = λ other l. absurd (omega arith) }
+pub first_locked : (seen : Seen) (create : Create) → create.locked ≡ true → IsFirst seen create Locked
+first_locked seen create h = record { holds = h; none = λ other l. absurd (omega arith) }
 
-pub permission-cause : (cause : Cause) → EPERM ≡ number_for cause → cause ≡ Locked
-permission-cause Locked e = refl
-permission-cause Known e = cc
-permission-cause TakenCpu e = cc
-permission-cause BrokenRule e = cc
-permission-cause Overlap e = cc
-permission-cause FewPages e = cc
+pub permission_cause : (cause : Cause) → EPERM ≡ number_for cause → cause ≡ Locked
+permission_cause Locked e = refl
+permission_cause Known e = cc
+permission_cause TakenCpu e = cc
+permission_cause BrokenRule e = cc
+permission_cause Overlap e = cc
+permission_cause FewPages e = cc
 
-pub known-cause : (cause : Cause) → EEXIST ≡ number_for cause → cause ≡ Known
-known-cause Locked e = cc
-known-cause Known e = refl
-known-cause TakenCpu e = cc
-known-cause BrokenRule e = cc
-known-cause Overlap e = cc
-known-cause FewPages e = cc
+pub known_cause : (cause : Cause) → EEXIST ≡ number_for cause → cause ≡ Known
+known_cause Locked e = cc
+known_cause Known e = refl
+known_cause TakenCpu e = cc
+known_cause BrokenRule e = cc
+known_cause Overlap e = cc
+known_cause FewPages e = cc
 
 tells_busy : Cause → Bool
 tells_busy Locked = false
@@ -308,39 +308,39 @@ tells_busy BrokenRule = false
 tells_busy Overlap = true
 tells_busy FewPages = false
 
-number-busy : (cause : Cause) → EBUSY ≡ number_for cause → tells_busy cause ≡ true
+number_busy : (cause : Cause) → EBUSY ≡ number_for cause → tells_busy cause ≡ true
 unfolding tells_busy
-number-busy Locked e = cc
-number-busy Known e = cc
-number-busy TakenCpu e = refl
-number-busy BrokenRule e = cc
-number-busy Overlap e = refl
-number-busy FewPages e = cc
+number_busy Locked e = cc
+number_busy Known e = cc
+number_busy TakenCpu e = refl
+number_busy BrokenRule e = cc
+number_busy Overlap e = refl
+number_busy FewPages e = cc
 
-two-busy : (cause : Cause) → tells_busy cause ≡ true → (cause ≡ TakenCpu) ⊎ (cause ≡ Overlap)
+two_busy : (cause : Cause) → tells_busy cause ≡ true → (cause ≡ TakenCpu) ⊎ (cause ≡ Overlap)
 unfolding tells_busy
-two-busy Locked t = absurd (false≢true t)
-two-busy Known t = absurd (false≢true t)
-two-busy TakenCpu t = inl refl
-two-busy BrokenRule t = absurd (false≢true t)
-two-busy Overlap t = inr refl
-two-busy FewPages t = absurd (false≢true t)
+two_busy Locked t = absurd (false≢true t)
+two_busy Known t = absurd (false≢true t)
+two_busy TakenCpu t = inl refl
+two_busy BrokenRule t = absurd (false≢true t)
+two_busy Overlap t = inr refl
+two_busy FewPages t = absurd (false≢true t)
 
-pub busy-cause : (cause : Cause) → EBUSY ≡ number_for cause → (cause ≡ TakenCpu) ⊎ (cause ≡ Overlap)
-busy-cause cause e = two-busy cause (number-busy cause e)
+pub busy_cause : (cause : Cause) → EBUSY ≡ number_for cause → (cause ≡ TakenCpu) ⊎ (cause ≡ Overlap)
+busy_cause cause e = two_busy cause (number_busy cause e)
 
-pub invalid-cause : (cause : Cause) → EINVAL ≡ number_for cause → cause ≡ BrokenRule
-invalid-cause Locked e = cc
-invalid-cause Known e = cc
-invalid-cause TakenCpu e = cc
-invalid-cause BrokenRule e = refl
-invalid-cause Overlap e = cc
-invalid-cause FewPages e = cc
+pub invalid_cause : (cause : Cause) → EINVAL ≡ number_for cause → cause ≡ BrokenRule
+invalid_cause Locked e = cc
+invalid_cause Known e = cc
+invalid_cause TakenCpu e = cc
+invalid_cause BrokenRule e = refl
+invalid_cause Overlap e = cc
+invalid_cause FewPages e = cc
 
-pub pages-cause : (cause : Cause) → ENOMEM ≡ number_for cause → cause ≡ FewPages
-pages-cause Locked e = cc
-pages-cause Known e = cc
-pages-cause TakenCpu e = cc
-pages-cause BrokenRule e = cc
-pages-cause Overlap e = cc
-pages-cause FewPages e = refl
+pub pages_cause : (cause : Cause) → ENOMEM ≡ number_for cause → cause ≡ FewPages
+pages_cause Locked e = cc
+pages_cause Known e = cc
+pages_cause TakenCpu e = cc
+pages_cause BrokenRule e = cc
+pages_cause Overlap e = cc
+pages_cause FewPages e = refl

@@ -8,14 +8,14 @@ use Rattle.std.proofs.lemmas.Option.{none-some, same_Some}
 use Rattle.std.proofs.lemmas.List.{get_or-map, length-map}
 use Rattle.std.proofs.lemmas.List.Folds.{find-append}
 use Rattle.std.specs.Cmp.Lexicographic.{pointwise}
-use Rattle.jh_num.proofs.Lists.{find-map, IsFound-from_find}
+use Rattle.jh_num.proofs.Lists.{find_map, IsFound_from_find}
 use Rattle.jh_cellcfg.specs.declared.config.CellConfig.{CellConfig}
 use Rattle.jh_cellcfg.specs.declared.live.Live.{Live}
 use Rattle.jh_cellcfg.specs.Cells.{name_of}
 use Rattle.jh_cellcfg.specs.Lives.{has_id}
 use Rattle.jh_life.specs.Lives.{new_live, configs_of, marks_of}
-use Rattle.jh_life.specs.Stands.{AreTwo}
-use Rattle.jh_life.specs.Changes.{Change, Created, Dropped, Marked, marked, without, after, told, AreNew}
+use Rattle.jh_life.specs.SoundRecords.{AreTwo}
+use Rattle.jh_life.specs.Changes.{Change, Created, Dropped, Marked, marked, without, after, live_after, AreNew}
 
 -- ---- one cell with an id
 
@@ -49,63 +49,63 @@ single root lives id differ j k d l within at_j at_k =
     let b = eqb-true other.config.id id at_k in
     both_ways (one.config.id == other.config.id) ids (eq-eqb one.config.id other.config.id (omega arith))
 
--- ---- a place and its id
+-- ---- a cell's number and its id
 
-without-none : (id : ℕ) (xs : List Live) → ((k : ℕ) (d : Live) → k < length xs → has_id id (get_or xs k d) ≡ false) → without id xs ≡ xs
-without-none id [] h = refl
-without-none id (x ∷ xs) h =
+without_none : (id : ℕ) (xs : List Live) → ((k : ℕ) (d : Live) → k < length xs → has_id id (get_or xs k d) ≡ false) → without id xs ≡ xs
+without_none id [] h = refl
+without_none id (x ∷ xs) h =
     let first : has_id id x ≡ false = h 0 x (omega arith) in
-    rw first (ap (λ (rest : List Live). x ∷ rest) (without-none id xs (λ k d l. h (suc k) d (omega arith))))
+    rw first (ap (λ (rest : List Live). x ∷ rest) (without_none id xs (λ k d l. h (suc k) d (omega arith))))
 
-none-at : (i id : ℕ) (xs : List Live) (cell : Live) → slice_get xs i ≡ Some cell → ((k : ℕ) (d : Live) → k < length xs → has_id id (get_or xs k d) ≡ false) → has_id id cell ≡ false
-none-at i id [] cell is h = absurd (none-some cell is)
-none-at zero id (x ∷ xs) cell is h = ap (has_id id) (sym (same_Some x cell is)) ∙ h 0 x (omega arith)
-none-at (suc i) id (x ∷ xs) cell is h = none-at i id xs cell is (λ k d l. h (suc k) d (omega arith))
+none_at : (i id : ℕ) (xs : List Live) (cell : Live) → slice_get xs i ≡ Some cell → ((k : ℕ) (d : Live) → k < length xs → has_id id (get_or xs k d) ≡ false) → has_id id cell ≡ false
+none_at i id [] cell is h = absurd (none-some cell is)
+none_at zero id (x ∷ xs) cell is h = ap (has_id id) (sym (same_Some x cell is)) ∙ h 0 x (omega arith)
+none_at (suc i) id (x ∷ xs) cell is h = none_at i id xs cell is (λ k d l. h (suc k) d (omega arith))
 
-pub remove-without : (i id : ℕ) (xs : List Live) (cell : Live) → IsSingle id xs → slice_get xs i ≡ Some cell → has_id id cell ≡ true → remove xs i ≡ without id xs
-remove-without i id [] cell one is has = absurd (none-some cell is)
-remove-without zero id (x ∷ xs) cell one is has =
+pub remove_without : (i id : ℕ) (xs : List Live) (cell : Live) → IsSingle id xs → slice_get xs i ≡ Some cell → has_id id cell ≡ true → remove xs i ≡ without id xs
+remove_without i id [] cell one is has = absurd (none-some cell is)
+remove_without zero id (x ∷ xs) cell one is has =
     let here : has_id id x ≡ true = ap (has_id id) (same_Some x cell is) ∙ has in
-    rw here (sym (without-none id xs (others id x xs one here)))
-remove-without (suc i) id (x ∷ xs) cell one is has =
+    rw here (sym (without_none id xs (others id x xs one here)))
+remove_without (suc i) id (x ∷ xs) cell one is has =
     elim (cases_Bool (has_id id x)) [
-      | inl here ↦ absurd (both_ways (has_id id cell) (none-at i id xs cell is (others id x xs one here)) has)
-      | inr isnt ↦ rw isnt (ap (λ (rest : List Live). x ∷ rest) (remove-without i id xs cell (later id x xs one) is has))
+      | inl here ↦ absurd (both_ways (has_id id cell) (none_at i id xs cell is (others id x xs one here)) has)
+      | inr isnt ↦ rw isnt (ap (λ (rest : List Live). x ∷ rest) (remove_without i id xs cell (later id x xs one) is has))
     ]
 
 -- two lists of the same configurations with the same marks
-pub lives-same : (xs ys : List Live) → configs_of xs ≡ configs_of ys → marks_of xs ≡ marks_of ys → xs ≡ ys
-lives-same [] [] e f = refl
-lives-same [] (y ∷ ys) e f = cc
-lives-same (x ∷ xs) [] e f = cc
-lives-same (x ∷ xs) (y ∷ ys) e f =
+pub lives_same : (xs ys : List Live) → configs_of xs ≡ configs_of ys → marks_of xs ≡ marks_of ys → xs ≡ ys
+lives_same [] [] e f = refl
+lives_same [] (y ∷ ys) e f = cc
+lives_same (x ∷ xs) [] e f = cc
+lives_same (x ∷ xs) (y ∷ ys) e f =
     let config : x.config ≡ y.config = cc in
     let mark : x.loadable ≡ y.loadable = cc in
     let configs : configs_of xs ≡ configs_of ys = cc in
     let marks : marks_of xs ≡ marks_of ys = cc in
     let same : x ≡ y = λ i. record { config = config i; loadable = mark i } in
-    let rest = lives-same xs ys configs marks in
+    let rest = lives_same xs ys configs marks in
     λ i. same i ∷ rest i
 
-pub marked-configs : (id : ℕ) (on : Bool) (xs : List Live) → configs_of (map (marked id on) xs) ≡ configs_of xs
-marked-configs id on [] = refl
-marked-configs id on (x ∷ xs) = ap (λ (rest : List CellConfig). x.config ∷ rest) (marked-configs id on xs)
+pub marked_configs : (id : ℕ) (on : Bool) (xs : List Live) → configs_of (map (marked id on) xs) ≡ configs_of xs
+marked_configs id on [] = refl
+marked_configs id on (x ∷ xs) = ap (λ (rest : List CellConfig). x.config ∷ rest) (marked_configs id on xs)
 
-marked-none : (id : ℕ) (on : Bool) (xs : List Live) → ((k : ℕ) (d : Live) → k < length xs → has_id id (get_or xs k d) ≡ false) → marks_of (map (marked id on) xs) ≡ marks_of xs
-marked-none id on [] h = refl
-marked-none id on (x ∷ xs) h =
+marked_none : (id : ℕ) (on : Bool) (xs : List Live) → ((k : ℕ) (d : Live) → k < length xs → has_id id (get_or xs k d) ≡ false) → marks_of (map (marked id on) xs) ≡ marks_of xs
+marked_none id on [] h = refl
+marked_none id on (x ∷ xs) h =
     let first : has_id id x ≡ false = h 0 x (omega arith) in
-    rw first (ap (λ (rest : List Bool). x.loadable ∷ rest) (marked-none id on xs (λ k d l. h (suc k) d (omega arith))))
+    rw first (ap (λ (rest : List Bool). x.loadable ∷ rest) (marked_none id on xs (λ k d l. h (suc k) d (omega arith))))
 
-pub marked-marks : (i id : ℕ) (on : Bool) (xs : List Live) (cell : Live) → IsSingle id xs → slice_get xs i ≡ Some cell → has_id id cell ≡ true → marks_of (map (marked id on) xs) ≡ set (marks_of xs) i on
-marked-marks i id on [] cell one is has = absurd (none-some cell is)
-marked-marks zero id on (x ∷ xs) cell one is has =
+pub marked_marks : (i id : ℕ) (on : Bool) (xs : List Live) (cell : Live) → IsSingle id xs → slice_get xs i ≡ Some cell → has_id id cell ≡ true → marks_of (map (marked id on) xs) ≡ set (marks_of xs) i on
+marked_marks i id on [] cell one is has = absurd (none-some cell is)
+marked_marks zero id on (x ∷ xs) cell one is has =
     let here : has_id id x ≡ true = ap (has_id id) (same_Some x cell is) ∙ has in
-    rw here (ap (λ (rest : List Bool). on ∷ rest) (marked-none id on xs (others id x xs one here)))
-marked-marks (suc i) id on (x ∷ xs) cell one is has =
+    rw here (ap (λ (rest : List Bool). on ∷ rest) (marked_none id on xs (others id x xs one here)))
+marked_marks (suc i) id on (x ∷ xs) cell one is has =
     elim (cases_Bool (has_id id x)) [
-      | inl here ↦ absurd (both_ways (has_id id cell) (none-at i id xs cell is (others id x xs one here)) has)
-      | inr isnt ↦ rw isnt (ap (λ (rest : List Bool). x.loadable ∷ rest) (marked-marks i id on xs cell (later id x xs one) is has))
+      | inl here ↦ absurd (both_ways (has_id id cell) (none_at i id xs cell is (others id x xs one here)) has)
+      | inr isnt ↦ rw isnt (ap (λ (rest : List Bool). x.loadable ∷ rest) (marked_marks i id on xs cell (later id x xs one) is has))
     ]
 
 -- ---- one change
@@ -115,8 +115,8 @@ pick true known new none = ap (λ (o : Option Live). option_or o (Some new)) (no
 pick false None new none = refl
 pick false (Some x) new none = refl
 
-tell-created : (id : ℕ) (config : CellConfig) (lives : List Live) → find (has_id config.id) lives ≡ None → find (has_id id) (lives ++ new_live config ∷ []) ≡ told id (find (has_id id) lives) (Created config)
-tell-created id config lives none =
+tell_created : (id : ℕ) (config : CellConfig) (lives : List Live) → find (has_id config.id) lives ≡ None → find (has_id id) (lives ++ new_live config ∷ []) ≡ live_after id (find (has_id id) lives) (Created config)
+tell_created id config lives none =
     find-append (has_id id) lives (new_live config ∷ [])
     ∙ pick (config.id == id) (find (has_id id) lives) (new_live config) (λ e. subst (λ k. find (has_id k) lives ≡ None) (eqb-true config.id id e) none)
 
@@ -135,23 +135,23 @@ nothing : (g : Bool) → ◌≡◌ {A = Option Live} None (cond g None None)
 nothing true = refl
 nothing false = refl
 
-tell-dropped : (id gone : ℕ) (lives : List Live) → find (has_id id) (without gone lives) ≡ told id (find (has_id id) lives) (Dropped gone)
-tell-dropped id gone [] = nothing (gone == id)
-tell-dropped id gone (x ∷ xs) =
+tell_dropped : (id gone : ℕ) (lives : List Live) → find (has_id id) (without gone lives) ≡ live_after id (find (has_id id) lives) (Dropped gone)
+tell_dropped id gone [] = nothing (gone == id)
+tell_dropped id gone (x ∷ xs) =
     elim (cases_Bool (has_id gone x)) [
       | inl is ↦
           let at = eqb-true x.config.id gone is in
-          rw is (tell-dropped id gone xs ∙ skip (gone == id) (has_id id x) x (find (has_id id) xs) (λ g.
+          rw is (tell_dropped id gone xs ∙ skip (gone == id) (has_id id x) x (find (has_id id) xs) (λ g.
           ne_eqb x.config.id id (λ e. both_ways (gone == id) g (eq-eqb gone id (sym at ∙ e)))))
       | inr isnt ↦
-          rw isnt (ap (λ (o : Option Live). cond (has_id id x) (Some x) o) (tell-dropped id gone xs) ∙ keep (gone == id) (has_id id x) x (find (has_id id) xs) (λ g.
+          rw isnt (ap (λ (o : Option Live). cond (has_id id x) (Some x) o) (tell_dropped id gone xs) ∙ keep (gone == id) (has_id id x) x (find (has_id id) xs) (λ g.
           ne_eqb x.config.id id (λ e. both_ways (has_id gone x) isnt (eq-eqb x.config.id gone (e ∙ sym (eqb-true gone id g))))))
     ]
 
-mark_of : (id set : ℕ) (on : Bool) (lives : List Live) (known : Option Live) → find (has_id id) lives ≡ known → option_map (marked set on) known ≡ told id known (Marked set on)
+mark_of : (id set : ℕ) (on : Bool) (lives : List Live) (known : Option Live) → find (has_id id) lives ≡ known → option_map (marked set on) known ≡ live_after id known (Marked set on)
 mark_of id set on lives None found = nothing (set == id)
 mark_of id set on lives (Some live) found =
-    let has : has_id id live ≡ true = (IsFound-from_find (has_id id) lives live found).passes in
+    let has : has_id id live ≡ true = (IsFound_from_find (has_id id) lives live found).passes in
     let at = eqb-true live.config.id id has in
     elim (cases_Bool (set == id)) [
       | inl same ↦
@@ -162,16 +162,16 @@ mark_of id set on lives (Some live) found =
           rw (miss, other) refl
     ]
 
-tell-marked : (id set : ℕ) (on : Bool) (lives : List Live) → find (has_id id) (map (marked set on) lives) ≡ told id (find (has_id id) lives) (Marked set on)
-tell-marked id set on lives = find-map (marked set on) (has_id id) lives ∙ mark_of id set on lives (find (has_id id) lives) refl
+tell_marked : (id set : ℕ) (on : Bool) (lives : List Live) → find (has_id id) (map (marked set on) lives) ≡ live_after id (find (has_id id) lives) (Marked set on)
+tell_marked id set on lives = find_map (marked set on) (has_id id) lives ∙ mark_of id set on lives (find (has_id id) lives) refl
 
 -- ---- and all
 
-pub changes-told : (id : ℕ) (changes : List Change) (lives : List Live) → AreNew lives changes → find (has_id id) (fold after lives changes) ≡ fold (told id) (find (has_id id) lives) changes
-changes-told id [] lives new = refl
-changes-told id (Created config ∷ changes) lives new =
-    changes-told id changes (after lives (Created config)) new.1 ∙ ap (λ (o : Option Live). fold (told id) o changes) (tell-created id config lives new.0)
-changes-told id (Dropped gone ∷ changes) lives new =
-    changes-told id changes (without gone lives) new ∙ ap (λ (o : Option Live). fold (told id) o changes) (tell-dropped id gone lives)
-changes-told id (Marked set on ∷ changes) lives new =
-    changes-told id changes (map (marked set on) lives) new ∙ ap (λ (o : Option Live). fold (told id) o changes) (tell-marked id set on lives)
+pub changes_told : (id : ℕ) (changes : List Change) (lives : List Live) → AreNew lives changes → find (has_id id) (fold after lives changes) ≡ fold (live_after id) (find (has_id id) lives) changes
+changes_told id [] lives new = refl
+changes_told id (Created config ∷ changes) lives new =
+    changes_told id changes (after lives (Created config)) new.1 ∙ ap (λ (o : Option Live). fold (live_after id) o changes) (tell_created id config lives new.0)
+changes_told id (Dropped gone ∷ changes) lives new =
+    changes_told id changes (without gone lives) new ∙ ap (λ (o : Option Live). fold (live_after id) o changes) (tell_dropped id gone lives)
+changes_told id (Marked set on ∷ changes) lives new =
+    changes_told id changes (map (marked set on) lives) new ∙ ap (λ (o : Option Live). fold (live_after id) o changes) (tell_marked id set on lives)

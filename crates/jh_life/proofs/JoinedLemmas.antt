@@ -6,55 +6,55 @@ use Rattle.std.proofs.lemmas.Bool.Decides.{nat_tests}
 use Rattle.std.proofs.lemmas.List.{length_push}
 use Rattle.std.proofs.lemmas.List.Sums.{sum_by_push, sum_by-remove}
 use Rattle.std.proofs.lemmas.List.Quantifiers.{all_pairs_push, all_pairs_remove}
-use Rattle.jh_num.proofs.Lists.{list_any-false, read_again}
+use Rattle.jh_num.proofs.Lists.{list_any_false, read_again}
 use Rattle.jh_cellcfg.specs.declared.config.CellConfig.{CellConfig}
 use Rattle.jh_cellcfg.specs.declared.live.Live.{Live}
 use Rattle.jh_check.specs.Refusals.{is_namesake, is_known}
 use Rattle.jh_life.specs.Lives.{configs_of, marks_of}
-use Rattle.jh_life.specs.Stands.{joined, AreTwo, Stands}
+use Rattle.jh_life.specs.SoundRecords.{joined, AreTwo, AreSoundRecords}
 use Rattle.jh_life.proofs.PageLemmas.{own_pages}
 
 abbrev live_of : CellConfig → Bool → Live
 live_of config mark = record { config = config; loadable = mark }
 
-pub list-joined : (configs : List CellConfig) (marks : List Bool) → length marks ≡ length configs → configs_of (joined configs marks) ≡ configs
-list-joined [] marks e = refl
-list-joined (c ∷ cs) [] e = absurd (omega arith)
-list-joined (c ∷ cs) (m ∷ ms) e = ap (λ (rest : List CellConfig). c ∷ rest) (list-joined cs ms (omega arith))
+pub list_joined : (configs : List CellConfig) (marks : List Bool) → length marks ≡ length configs → configs_of (joined configs marks) ≡ configs
+list_joined [] marks e = refl
+list_joined (c ∷ cs) [] e = absurd (omega arith)
+list_joined (c ∷ cs) (m ∷ ms) e = ap (λ (rest : List CellConfig). c ∷ rest) (list_joined cs ms (omega arith))
 
-pub marks-joined : (configs : List CellConfig) (marks : List Bool) → length marks ≡ length configs → marks_of (joined configs marks) ≡ marks
-marks-joined [] [] e = refl
-marks-joined [] (m ∷ ms) e = absurd (omega arith)
-marks-joined (c ∷ cs) [] e = absurd (omega arith)
-marks-joined (c ∷ cs) (m ∷ ms) e = ap (λ (rest : List Bool). m ∷ rest) (marks-joined cs ms (omega arith))
+pub marks_joined : (configs : List CellConfig) (marks : List Bool) → length marks ≡ length configs → marks_of (joined configs marks) ≡ marks
+marks_joined [] [] e = refl
+marks_joined [] (m ∷ ms) e = absurd (omega arith)
+marks_joined (c ∷ cs) [] e = absurd (omega arith)
+marks_joined (c ∷ cs) (m ∷ ms) e = ap (λ (rest : List Bool). m ∷ rest) (marks_joined cs ms (omega arith))
 
-pub length-joined : (configs : List CellConfig) (marks : List Bool) → length marks ≡ length configs → length (joined configs marks) ≡ length configs
-length-joined [] marks e = refl
-length-joined (c ∷ cs) [] e = absurd (omega arith)
-length-joined (c ∷ cs) (m ∷ ms) e = ap (λ n. suc n) (length-joined cs ms (omega arith))
+pub length_joined : (configs : List CellConfig) (marks : List Bool) → length marks ≡ length configs → length (joined configs marks) ≡ length configs
+length_joined [] marks e = refl
+length_joined (c ∷ cs) [] e = absurd (omega arith)
+length_joined (c ∷ cs) (m ∷ ms) e = ap (λ n. suc n) (length_joined cs ms (omega arith))
 
 -- one more at the end
-pub joined-push : (configs : List CellConfig) (marks : List Bool) (config : CellConfig) (mark : Bool) → length marks ≡ length configs → joined (configs ++ config ∷ []) (marks ++ mark ∷ []) ≡ joined configs marks ++ live_of config mark ∷ []
-joined-push [] [] config mark e = refl
-joined-push [] (m ∷ ms) config mark e = absurd (omega arith)
-joined-push (c ∷ cs) [] config mark e = absurd (omega arith)
-joined-push (c ∷ cs) (m ∷ ms) config mark e = ap (λ (rest : List Live). live_of c m ∷ rest) (joined-push cs ms config mark (omega arith))
+pub joined_push : (configs : List CellConfig) (marks : List Bool) (config : CellConfig) (mark : Bool) → length marks ≡ length configs → joined (configs ++ config ∷ []) (marks ++ mark ∷ []) ≡ joined configs marks ++ live_of config mark ∷ []
+joined_push [] [] config mark e = refl
+joined_push [] (m ∷ ms) config mark e = absurd (omega arith)
+joined_push (c ∷ cs) [] config mark e = absurd (omega arith)
+joined_push (c ∷ cs) (m ∷ ms) config mark e = ap (λ (rest : List Live). live_of c m ∷ rest) (joined_push cs ms config mark (omega arith))
 
 -- one less
-pub joined-remove : (i : ℕ) (configs : List CellConfig) (marks : List Bool) → length marks ≡ length configs → i < length configs → joined (remove configs i) (remove marks i) ≡ remove (joined configs marks) i
-joined-remove i [] marks e l = absurd (omega arith)
-joined-remove i (c ∷ cs) [] e l = absurd (omega arith)
-joined-remove zero (c ∷ cs) (m ∷ ms) e l = refl
-joined-remove (suc i) (c ∷ cs) (m ∷ ms) e l = ap (λ (rest : List Live). live_of c m ∷ rest) (joined-remove i cs ms (omega arith) (omega arith))
+pub joined_remove : (i : ℕ) (configs : List CellConfig) (marks : List Bool) → length marks ≡ length configs → i < length configs → joined (remove configs i) (remove marks i) ≡ remove (joined configs marks) i
+joined_remove i [] marks e l = absurd (omega arith)
+joined_remove i (c ∷ cs) [] e l = absurd (omega arith)
+joined_remove zero (c ∷ cs) (m ∷ ms) e l = refl
+joined_remove (suc i) (c ∷ cs) (m ∷ ms) e l = ap (λ (rest : List Live). live_of c m ∷ rest) (joined_remove i cs ms (omega arith) (omega arith))
 
-pub length-removed : {X : Type 0} (i : ℕ) (xs : List X) → i < length xs → suc (length (remove xs i)) ≡ length xs
-length-removed i [] l = absurd (omega arith)
-length-removed zero (x ∷ xs) l = refl
-length-removed (suc i) (x ∷ xs) l = ap (λ n. suc n) (length-removed i xs (omega arith))
+pub length_removed : {X : Type 0} (i : ℕ) (xs : List X) → i < length xs → suc (length (remove xs i)) ≡ length xs
+length_removed i [] l = absurd (omega arith)
+length_removed zero (x ∷ xs) l = refl
+length_removed (suc i) (x ∷ xs) l = ap (λ n. suc n) (length_removed i xs (omega arith))
 
 -- the records stand at each change
-pub stands-push : (root : CellConfig) (configs : List CellConfig) (marks : List Bool) (taken : ℕ) (new : CellConfig) (more : ℕ) → Stands root configs marks taken → length configs < 15 → is_known (root ∷ configs) new ≡ false → more ≡ own_pages new → Stands root (configs ++ new ∷ []) (marks ++ false ∷ []) (taken + more)
-stands-push root configs marks taken new more h few unknown own =
+pub stands_push : (root : CellConfig) (configs : List CellConfig) (marks : List Bool) (taken : ℕ) (new : CellConfig) (more : ℕ) → AreSoundRecords root configs marks taken → length configs < 15 → is_known (root ∷ configs) new ≡ false → more ≡ own_pages new → AreSoundRecords root (configs ++ new ∷ []) (marks ++ false ∷ []) (taken + more)
+stands_push root configs marks taken new more h few unknown own =
     let even = h.even in
     let a = length_push configs new in
     let b = length_push marks false in
@@ -62,22 +62,22 @@ stands-push root configs marks taken new more h few unknown own =
       even = omega arith;
       few = omega arith;
       differ = all_pairs_push AreTwo (root ∷ configs) new h.differ (λ k d l.
-          list_any-false (is_namesake new) (root ∷ configs) (get_or (root ∷ configs) k d) unknown (k, l, sym (read_again (root ∷ configs) k d l)));
+          list_any_false (is_namesake new) (root ∷ configs) (get_or (root ∷ configs) k d) unknown (k, l, sym (read_again (root ∷ configs) k d l)));
       pages = ap (λ n. n + more) h.pages ∙ ap (λ n. sum_by own_pages configs + n) own ∙ sym (sum_by_push own_pages configs new);
     }
 
 -- those of one of them are among the pages that are taken
-pub own-among : (root : CellConfig) (configs : List CellConfig) (marks : List Bool) (taken i : ℕ) (d : CellConfig) (gone : ℕ) → Stands root configs marks taken → i < length configs → gone ≡ own_pages (get_or configs i d) → sum_by own_pages (remove configs i) + gone ≡ taken
-own-among root configs marks taken i d gone h l own =
+pub own_among : (root : CellConfig) (configs : List CellConfig) (marks : List Bool) (taken i : ℕ) (d : CellConfig) (gone : ℕ) → AreSoundRecords root configs marks taken → i < length configs → gone ≡ own_pages (get_or configs i d) → sum_by own_pages (remove configs i) + gone ≡ taken
+own_among root configs marks taken i d gone h l own =
     ap (λ n. sum_by own_pages (remove configs i) + n) own ∙ sum_by-remove own_pages configs i d l ∙ sym h.pages
 
-pub stands-remove : (root : CellConfig) (configs : List CellConfig) (marks : List Bool) (taken i : ℕ) (d : CellConfig) (gone : ℕ) → Stands root configs marks taken → i < length configs → gone ≡ own_pages (get_or configs i d) → Stands root (remove configs i) (remove marks i) (taken - gone)
-stands-remove root configs marks taken i d gone h l own =
+pub stands_remove : (root : CellConfig) (configs : List CellConfig) (marks : List Bool) (taken i : ℕ) (d : CellConfig) (gone : ℕ) → AreSoundRecords root configs marks taken → i < length configs → gone ≡ own_pages (get_or configs i d) → AreSoundRecords root (remove configs i) (remove marks i) (taken - gone)
+stands_remove root configs marks taken i d gone h l own =
     let even = h.even in
     let few = h.few in
-    let a = length-removed i configs l in
-    let b = length-removed i marks (omega arith) in
-    let among : sum_by own_pages (remove configs i) + gone ≡ taken = own-among root configs marks taken i d gone h l own in
+    let a = length_removed i configs l in
+    let b = length_removed i marks (omega arith) in
+    let among : sum_by own_pages (remove configs i) + gone ≡ taken = own_among root configs marks taken i d gone h l own in
     record {
       even = omega arith;
       few = omega arith;
@@ -94,5 +94,5 @@ behind n m =
     ∙ ap (λ (k : ℕ). cond (nat_lt n m) (Some k) None) one
     ∙ elim (nat_lt n m) as (λ b. cond b (Some (n + 1)) None ≡ option_map (λ k. k + 1) (cond b (Some n) None)) [ true ↦ refl | false ↦ refl ]
 
-pub position-behind : {X : Type 0} (p : X → Bool) (x : X) (xs : List X) → p x ≡ false → position p (x ∷ xs) ≡ option_map (λ k. k + 1) (position p xs)
-position-behind p x xs fails = rw fails (behind (position_or_len p xs) (length xs))
+pub position_behind : {X : Type 0} (p : X → Bool) (x : X) (xs : List X) → p x ≡ false → position p (x ∷ xs) ≡ option_map (λ k. k + 1) (position p xs)
+position_behind p x xs fails = rw fails (behind (position_or_len p xs) (length xs))

@@ -1,27 +1,22 @@
 -- Marks as bits.
-use Rattle.std.proofs.Common.{◌≡◌, ℕ, zero, suc, ◌+◌, ◌^◌, ◌/◌, ◌<◌, ◌≤◌, Bool, false, List, [], ◌∷◌, length, get_or, replicate, refl, subst, ⊎_elim, arith}
+use Rattle.std.proofs.Common.{◌≡◌, ℕ, zero, suc, ◌+◌, ◌^◌, ◌/◌, ◌<◌, ◌≤◌, Bool, false, List, [], ◌∷◌, length, get_or, refl, subst, ⊎_elim, arith}
 use Rattle.std.specs.Int.{bit_at}
 use Rattle.std.proofs.lemmas.Bool.{cases_lt}
 use Rattle.std.proofs.lemmas.Nat.Bits.{bit_at-zero}
 use Rattle.std.proofs.Math.Nat.{pow-le-pow_right, div-eq_of_lt}
 use Rattle.jh_shape.specs.Claims.{has_bit}
 
-pub no-bit : (k : ℕ) → has_bit 0 k ≡ false
-no-bit k = rw (bit_at-zero k) refl
+pub no_bit : (k : ℕ) → has_bit 0 k ≡ false
+no_bit k = rw (bit_at-zero k) refl
 
-pub past-end : (xs : List Bool) (i : ℕ) → length xs ≤ i → get_or xs i false ≡ false
-past-end [] i l = refl
-past-end (b ∷ xs) zero l = absurd (omega arith)
-past-end (b ∷ xs) (suc i) l = past-end xs i (omega arith)
-
-pub none-set : (n i : ℕ) → get_or (replicate n false) i false ≡ false
-none-set zero i = refl
-none-set (suc n) zero = refl
-none-set (suc n) (suc i) = none-set n i
+pub past_end : (xs : List Bool) (i : ℕ) → length xs ≤ i → get_or xs i false ≡ false
+past_end [] i l = refl
+past_end (b ∷ xs) zero l = absurd (omega arith)
+past_end (b ∷ xs) (suc i) l = past_end xs i (omega arith)
 
 -- a bit past the width
-pub high-bit : (mask k : ℕ) → mask < 2 ^ 16 → 16 ≤ k → has_bit mask k ≡ false
-high-bit mask k small high =
+pub high_bit : (mask k : ℕ) → mask < 2 ^ 16 → 16 ≤ k → has_bit mask k ≡ false
+high_bit mask k small high =
     let top : 2 ^ 16 ≤ 2 ^ k = pow-le-pow_right {n = 2} (omega arith) high in
     let low : mask < 2 ^ k = omega arith in
     let none : mask / 2 ^ k ≡ 0 = div-eq_of_lt low in
@@ -29,8 +24,8 @@ high-bit mask k small high =
     rw bit refl
 
 -- a list as far as a loop has come
-pub so-far : {A : Type 0} (f g : ℕ → A) (i : ℕ) → ((k : ℕ) → k < i → f k ≡ g k) → f i ≡ g i → (k : ℕ) → k < i + 1 → f k ≡ g k
-so-far f g i before here k l =
+pub so_far : {A : Type 0} (f g : ℕ → A) (i : ℕ) → ((k : ℕ) → k < i → f k ≡ g k) → f i ≡ g i → (k : ℕ) → k < i + 1 → f k ≡ g k
+so_far f g i before here k l =
     ⊎_elim
     (λ (low : k < i). before k low)
     (λ (high : i ≤ k). let same : i ≡ k = omega arith in subst (λ j. f j ≡ g j) same here)

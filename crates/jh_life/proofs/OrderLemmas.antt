@@ -8,11 +8,11 @@ use Rattle.jh_cellcfg.specs.declared.live.Live.{Live}
 use Rattle.jh_cellcfg.specs.Lives.{has_id}
 use Rattle.jh_life.specs.Lives.{new_live, configs_of}
 use Rattle.jh_life.specs.Changes.{Change, Created, Dropped, Marked, marked, without, after, is_kept, lasting}
-use Rattle.jh_life.proofs.ChangeLemmas.{marked-configs}
+use Rattle.jh_life.proofs.ChangeLemmas.{marked_configs}
 
-none-dropped : (configs : List CellConfig) → filter (is_kept []) configs ≡ configs
-none-dropped [] = refl
-none-dropped (x ∷ xs) = ap (λ (rest : List CellConfig). x ∷ rest) (none-dropped xs)
+none_dropped : (configs : List CellConfig) → filter (is_kept []) configs ≡ configs
+none_dropped [] = refl
+none_dropped (x ∷ xs) = ap (λ (rest : List CellConfig). x ∷ rest) (none_dropped xs)
 
 -- ---- a cell is created
 
@@ -47,9 +47,9 @@ dropped id changes (x ∷ xs) =
 -- ---- and all
 
 pub listed : (changes : List Change) (lives : List Live) → configs_of (fold after lives changes) ≡ filter (is_kept changes) (configs_of lives) ++ lasting changes
-listed [] lives = sym (append-nil (filter (is_kept []) (configs_of lives)) ∙ none-dropped (configs_of lives))
+listed [] lives = sym (append-nil (filter (is_kept []) (configs_of lives)) ∙ none_dropped (configs_of lives))
 listed (Created config ∷ changes) lives = listed changes (after lives (Created config)) ∙ created config changes lives
 listed (Dropped id ∷ changes) lives =
     listed changes (without id lives) ∙ ap (λ (configs : List CellConfig). configs ++ lasting changes) (dropped id changes lives)
 listed (Marked id on ∷ changes) lives =
-    listed changes (map (marked id on) lives) ∙ ap (λ (configs : List CellConfig). filter (is_kept changes) configs ++ lasting changes) (marked-configs id on lives)
+    listed changes (map (marked id on) lives) ∙ ap (λ (configs : List CellConfig). filter (is_kept changes) configs ++ lasting changes) (marked_configs id on lives)

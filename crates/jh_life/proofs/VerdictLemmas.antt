@@ -13,8 +13,8 @@ use Rattle.jh_shape.specs.Claims.{has_bit}
 use Rattle.jh_life.specs.Verdict.{may_have}
 
 -- other CPUs that may be given away, or another count of pages, that are the same
-pub refused-same : (system : SystemConfig) (live : List CellConfig) (new : CellConfig) (may other : ℕ → Bool) (pages more pool : ℕ) → ((cpu : ℕ) → may cpu ≡ other cpu) → pages ≡ more → refusal_of system live new may pages pool ≡ refusal_of system live new other more pool
-refused-same system live new may other pages more pool same count =
+pub refused_same : (system : SystemConfig) (live : List CellConfig) (new : CellConfig) (may other : ℕ → Bool) (pages more pool : ℕ) → ((cpu : ℕ) → may cpu ≡ other cpu) → pages ≡ more → refusal_of system live new may pages pool ≡ refusal_of system live new other more pool
+refused_same system live new may other pages more pool same count =
     ap (λ (m : ℕ → Bool). refusal_of system live new m pages pool) (λ i cpu. same cpu i)
     ∙ ap (λ n. refusal_of system live new other n pool) count
 
@@ -23,63 +23,63 @@ by_tests known busy found pages pool =
     if known then Some EEXIST else (if busy then Some EBUSY else by_check found (if nat_lt pool pages then Some ENOMEM else None))
 
 -- what isn't refused has no namesake
-tests-none : (known busy : Bool) (found : NewCell) (p q : ℕ) → by_tests known busy found p q ≡ None → known ≡ false
-tests-none true busy found p q e = cc
-tests-none false busy found p q e = refl
+tests_none : (known busy : Bool) (found : NewCell) (p q : ℕ) → by_tests known busy found p q ≡ None → known ≡ false
+tests_none true busy found p q e = cc
+tests_none false busy found p q e = refl
 
-pub accepted-none : (system : SystemConfig) (live : List CellConfig) (new : CellConfig) (may : ℕ → Bool) (p q : ℕ) → refusal_of system live new may p q ≡ None → is_known (system.root ∷ live) new ≡ false
+pub accepted_none : (system : SystemConfig) (live : List CellConfig) (new : CellConfig) (may : ℕ → Bool) (p q : ℕ) → refusal_of system live new may p q ≡ None → is_known (system.root ∷ live) new ≡ false
 unfolding refusal_of
-accepted-none system live new may p q e = tests-none (is_known (system.root ∷ live) new) (names_beyond may new.cpu_set) (verdict_of system live new) p q e
+accepted_none system live new may p q e = tests_none (is_known (system.root ∷ live) new) (names_beyond may new.cpu_set) (verdict_of system live new) p q e
 
-pub accepted-unknown : (o : Option ℤ) (system : SystemConfig) (live : List CellConfig) (new : CellConfig) (may : ℕ → Bool) (p q : ℕ) → o ≡ refusal_of system live new may p q → IfNone o (is_known (system.root ∷ live) new ≡ false)
-accepted-unknown None system live new may p q e = accepted-none system live new may p q (sym e)
-accepted-unknown (Some x) system live new may p q e = tt
+pub accepted_unknown : (o : Option ℤ) (system : SystemConfig) (live : List CellConfig) (new : CellConfig) (may : ℕ → Bool) (p q : ℕ) → o ≡ refusal_of system live new may p q → IfNone o (is_known (system.root ∷ live) new ≡ false)
+accepted_unknown None system live new may p q e = accepted_none system live new may p q (sym e)
+accepted_unknown (Some x) system live new may p q e = tt
 
-pub if_none-from : (o : Option ℤ) (P : Type 0) → P → IfNone o P
-if_none-from None P h = h
-if_none-from (Some x) P h = tt
+pub if_none_from : (o : Option ℤ) (P : Type 0) → P → IfNone o P
+if_none_from None P h = h
+if_none_from (Some x) P h = tt
 
-pub if_none-some : (o : Option ℤ) (P : Type 0) → is_some o ≡ true → IfNone o P
-if_none-some None P e = absurd (false≢true e)
-if_none-some (Some x) P e = tt
+pub if_none_some : (o : Option ℤ) (P : Type 0) → is_some o ≡ true → IfNone o P
+if_none_some None P e = absurd (false≢true e)
+if_none_some (Some x) P e = tt
 
 -- where there are no pages to be wanted: what is refused then is refused for whatever pages
-tests-before : (known busy : Bool) (found : NewCell) (p q : ℕ) (x : ℤ) → by_tests known busy found 0 0 ≡ Some x → by_tests known busy found p q ≡ Some x
-tests-before true busy found p q x e = e
-tests-before false true found p q x e = e
-tests-before false false Invalid p q x e = e
-tests-before false false Busy p q x e = e
-tests-before false false Clean p q x e = let f : None ≡ Some x = e in cc
+tests_before : (known busy : Bool) (found : NewCell) (p q : ℕ) (x : ℤ) → by_tests known busy found 0 0 ≡ Some x → by_tests known busy found p q ≡ Some x
+tests_before true busy found p q x e = e
+tests_before false true found p q x e = e
+tests_before false false Invalid p q x e = e
+tests_before false false Busy p q x e = e
+tests_before false false Clean p q x e = let f : None ≡ Some x = e in cc
 
-refused-before : (system : SystemConfig) (live : List CellConfig) (new : CellConfig) (may : ℕ → Bool) (p q : ℕ) (x : ℤ) → refusal_of system live new may 0 0 ≡ Some x → refusal_of system live new may p q ≡ Some x
+refused_before : (system : SystemConfig) (live : List CellConfig) (new : CellConfig) (may : ℕ → Bool) (p q : ℕ) (x : ℤ) → refusal_of system live new may 0 0 ≡ Some x → refusal_of system live new may p q ≡ Some x
 unfolding refusal_of
-refused-before system live new may p q x e = tests-before (is_known (system.root ∷ live) new) (names_beyond may new.cpu_set) (verdict_of system live new) p q x e
+refused_before system live new may p q x e = tests_before (is_known (system.root ∷ live) new) (names_beyond may new.cpu_set) (verdict_of system live new) p q x e
 
-pub refused-kept : {x : ℤ} (system : SystemConfig) (live : List CellConfig) (new : CellConfig) (may : ℕ → Bool) (p q : ℕ) → refusal_of system live new may 0 0 ≡ Some x → refusal_of system live new may 0 0 ≡ refusal_of system live new may p q
-refused-kept system live new may p q e = e ∙ sym (refused-before system live new may p q _ e)
+pub refused_kept : {x : ℤ} (system : SystemConfig) (live : List CellConfig) (new : CellConfig) (may : ℕ → Bool) (p q : ℕ) → refusal_of system live new may 0 0 ≡ Some x → refusal_of system live new may 0 0 ≡ refusal_of system live new may p q
+refused_kept system live new may p q e = e ∙ sym (refused_before system live new may p q _ e)
 
 -- and what isn't is left to the pages
-tests-left : (known busy : Bool) (found : NewCell) (p q : ℕ) → by_tests known busy found 0 0 ≡ None → by_tests known busy found p q ≡ (if nat_lt q p then Some ENOMEM else None)
-tests-left true busy found p q e = cc
-tests-left false true found p q e = cc
-tests-left false false Invalid p q e = cc
-tests-left false false Busy p q e = cc
-tests-left false false Clean p q e = refl
+tests_left : (known busy : Bool) (found : NewCell) (p q : ℕ) → by_tests known busy found 0 0 ≡ None → by_tests known busy found p q ≡ (if nat_lt q p then Some ENOMEM else None)
+tests_left true busy found p q e = cc
+tests_left false true found p q e = cc
+tests_left false false Invalid p q e = cc
+tests_left false false Busy p q e = cc
+tests_left false false Clean p q e = refl
 
-pub refused-left : (system : SystemConfig) (live : List CellConfig) (new : CellConfig) (may : ℕ → Bool) (p q : ℕ) → refusal_of system live new may 0 0 ≡ None → refusal_of system live new may p q ≡ (if nat_lt q p then Some ENOMEM else None)
+pub refused_left : (system : SystemConfig) (live : List CellConfig) (new : CellConfig) (may : ℕ → Bool) (p q : ℕ) → refusal_of system live new may 0 0 ≡ None → refusal_of system live new may p q ≡ (if nat_lt q p then Some ENOMEM else None)
 unfolding refusal_of
-refused-left system live new may p q e = tests-left (is_known (system.root ∷ live) new) (names_beyond may new.cpu_set) (verdict_of system live new) p q e
+refused_left system live new may p q e = tests_left (is_known (system.root ∷ live) new) (names_beyond may new.cpu_set) (verdict_of system live new) p q e
 
 -- beside the same cells
-pub same-cells : (s system : SystemConfig) (l live : List CellConfig) (new : CellConfig) (may other : ℕ → Bool) (p q : ℕ) → s ≡ system → l ≡ live → ((cpu : ℕ) → may cpu ≡ other cpu) → refusal_of s l new may p q ≡ refusal_of system live new other p q
-same-cells s system l live new may other p q e f same =
+pub same_cells : (s system : SystemConfig) (l live : List CellConfig) (new : CellConfig) (may other : ℕ → Bool) (p q : ℕ) → s ≡ system → l ≡ live → ((cpu : ℕ) → may cpu ≡ other cpu) → refusal_of s l new may p q ≡ refusal_of system live new other p q
+same_cells s system l live new may other p q e f same =
     ap (λ (x : SystemConfig). refusal_of x l new may p q) e
     ∙ ap (λ (x : List CellConfig). refusal_of system x new may p q) f
     ∙ ap (λ (m : ℕ → Bool). refusal_of system live new m p q) (λ i cpu. same cpu i)
 
 -- a CPU of the mask that is the caller's isn't given away
-pub may-none : (owned caller cpu : ℕ) → (IsTrue (has_bit owned cpu) → cpu ≡ caller) → nobody cpu ≡ may_have owned caller cpu
-may-none owned caller cpu only =
+pub may_none : (owned caller cpu : ℕ) → (IsTrue (has_bit owned cpu) → cpu ≡ caller) → nobody cpu ≡ may_have owned caller cpu
+may_none owned caller cpu only =
     elim (cases_Bool (has_bit owned cpu)) [
       | inl set ↦
           let is : cpu ≡ caller = only set in

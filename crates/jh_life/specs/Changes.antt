@@ -27,10 +27,10 @@ after lives (Dropped id) = without id lives
 after lives (Marked id on) = map (marked id on) lives
 
 -- what one change tells of the cell with the id alone, of which so much was known
-abbrev pub told : ℕ → Option Live → Change → Option Live
-told id known (Created config) = if config.id == id then Some (new_live config) else known
-told id known (Dropped gone) = if gone == id then None else known
-told id known (Marked set on) = if set == id then option_map (λ (live : Live). record { config = live.config; loadable = on }) known else known
+abbrev pub live_after : ℕ → Option Live → Change → Option Live
+live_after id known (Created config) = if config.id == id then Some (new_live config) else known
+live_after id known (Dropped gone) = if gone == id then None else known
+live_after id known (Marked set on) = if set == id then option_map (λ (live : Live). record { config = live.config; loadable = on }) known else known
 
 -- no cell is created whose id lives
 abbrev pub AreNew : List Live → List Change → Type 0

@@ -2,5 +2,5 @@ pub mod Causes
 pub mod Changes
 pub mod Lives
 pub mod Seen
-pub mod Stands
+pub mod SoundRecords
 pub mod Verdict

@@ -1,4 +1,4 @@
--- The cells that live: which they are, their places, and which of them are loadable.
+-- The cells that live: which they are, their numbers, and which of them are loadable.
 use Rattle.std.specs.Prelude.{ℕ, Bool, false, ◌==◌, List, ◌∷◌, Option, map, position, slice_index_or}
 use Rattle.jh_cellcfg.specs.declared.config.CellConfig.{CellConfig}
 use Rattle.jh_cellcfg.specs.declared.live.Live.{Live}
@@ -14,16 +14,16 @@ configs_of lives = map (λ (live : Live). live.config) lives
 abbrev pub marks_of : List Live → List Bool
 marks_of lives = map (λ (live : Live). live.loadable) lives
 
--- root and the others: a cell's place is its index here
+-- root and the others: a cell's number is its index here
 abbrev pub cells_of : Seen → List CellConfig
 cells_of seen = seen.system.root ∷ configs_of seen.lives
 
 abbrev pub has_config_id : ℕ → CellConfig → Bool
 has_config_id id config = config.id == id
 
--- the place of the cell with the id
-abbrev pub place_of : Seen → ℕ → Option ℕ
-place_of seen id = position (has_config_id id) (cells_of seen)
+-- the number of the cell with the id
+abbrev pub number_of : Seen → ℕ → Option ℕ
+number_of seen id = position (has_config_id id) (cells_of seen)
 
 -- the cell at that index of the others is loadable
 abbrev pub is_loadable_at : List Live → ℕ → Bool

@@ -5,17 +5,18 @@ ghost use Rattle.jh_cellcfg.specs.declared.live.Live.{Live};
 ghost use Rattle.jh_check.specs.Refusals.{is_known};
 ghost use Rattle.jh_shape.specs.Claims.{has_bit};
 ghost use Rattle.jh_shape.specs.Pages.{pages_of};
-ghost use Rattle.jh_life.specs.Lives.{new_live, has_config_id, configs_of, marks_of, cells_of, is_loadable_at, place_of};
-ghost use Rattle.jh_life.specs.Stands.{AreTwo};
+ghost use Rattle.jh_life.specs.Lives.{new_live, has_config_id, configs_of, marks_of, cells_of, is_loadable_at, number_of};
+ghost use Rattle.jh_life.specs.SoundRecords.{AreTwo};
 ghost use Rattle.jh_life.specs.Verdict.{verdict_of_create};
 
 use crate::copy::copy_of_system;
-use crate::counting::{cell_pages, pages_of, refusal_by_pages};
+use crate::counting::{pages_of, refusal_by_pages};
 use crate::marks::{free_cpus, mask_of};
 use jh_cellcfg::{CellConfig, SystemConfig};
 use jh_check::{refusal_of, refusal_without_cpus};
 use jh_num::NoMemory;
 use jh_num::error::EPERM;
+use jh_shape::{cell_pages, tables_are_few};
 use std::alloc::Global;
 use std::marker::Model;
 
@@ -23,7 +24,7 @@ use std::marker::Model;
 pub const MOST_CELLS: usize = 15;
 
 /// The cells that live: root, and at most 15 others in order of creation, of which each is loadable or not. No two
-/// have one name or one id. Root's place is 0, and that of the cell at index i of the others is i + 1.
+/// have one name or one id. Root's number is 0, and that of the cell at index i of the others is i + 1.
 #[derive(Drop)]
 pub struct Cells {
     system: SystemConfig,
@@ -36,7 +37,7 @@ pub struct Cells {
 impl Model for Cells {
     ghost use Rattle.std.specs.Prelude.{◌-◌, min, vec_len, vec_capacity};
     ghost use Rattle.jh_life.specs.Seen.{Seen};
-    ghost use Rattle.jh_life.specs.Stands.{Stands, joined};
+    ghost use Rattle.jh_life.specs.SoundRecords.{AreSoundRecords, joined};
 
     ghost Value = { Seen };
 
@@ -46,7 +47,7 @@ impl Model for Cells {
       spare = min (vec_capacity c.configs - vec_len c.configs) (vec_capacity c.marks - vec_len c.marks);
     } };
 
-    ghost invariant = { λ c. Stands c.system.root c.configs.items c.marks.items c.taken };
+    ghost invariant = { λ c. AreSoundRecords c.system.root c.configs.items c.marks.items c.taken };
 }
 
 /// The index of the cell with the id.
@@ -92,9 +93,9 @@ impl Cells {
         })
     }
 
-    /// The place of the cell with the id; `None` where none that lives has it.
+    /// The number of the cell with the id; `None` where none that lives has it.
     pub fn find(&self, id: u32) -> Option<u32>
-        ensures { result ≡ place_of self.now id }
+        ensures { result ≡ number_of self.now id }
     {
         if self.system.root.id == id {
             return Some(0);
@@ -193,38 +194,40 @@ impl Cells {
     {
         make_room(&mut self.configs)?;
         make_room(&mut self.marks)?;
+        tables_are_few();
         self.taken += cell_pages(&new);
         self.configs.push_reserved(new);
         self.marks.push_reserved(false);
         Ok(())
     }
 
-    /// The cell at the place, which isn't root, lives no longer.
-    pub fn drop_cell(&mut self, place: u32)
-        requires there { 0 < place }
-        requires within { place ≤ length self.old.lives }
+    /// The cell of that number, which isn't root, lives no longer.
+    pub fn drop_cell(&mut self, number: u32)
+        requires there { 0 < number }
+        requires within { number ≤ length self.old.lives }
         ensures system { self.new.system ≡ self.old.system }
-        ensures lives { self.new.lives ≡ remove self.old.lives (place - 1) }
+        ensures lives { self.new.lives ≡ remove self.old.lives (number - 1) }
         ensures spare { self.new.spare ≡ self.old.spare + 1 }
     {
-        let index = place as usize - 1;
+        let index = number as usize - 1;
         let live = self.configs.as_slice();
         let gone = cell_pages(&live[index]);
         self.taken -= gone;
+        // the configuration is dropped, and its mark with it
         let _ = self.configs.remove(index);
         let _ = self.marks.remove(index);
     }
 
-    /// The cell at the place, which isn't root, becomes loadable, or isn't so any longer.
-    pub fn set_loadable(&mut self, place: u32, on: bool)
-        requires there { 0 < place }
-        requires within { place ≤ length self.old.lives }
+    /// The cell of that number, which isn't root, becomes loadable, or isn't so any longer.
+    pub fn set_loadable(&mut self, number: u32, on: bool)
+        requires there { 0 < number }
+        requires within { number ≤ length self.old.lives }
         ensures system { self.new.system ≡ self.old.system }
         ensures list { configs_of self.new.lives ≡ configs_of self.old.lives }
-        ensures marks { marks_of self.new.lives ≡ slice_set (marks_of self.old.lives) (place - 1) on }
+        ensures marks { marks_of self.new.lives ≡ slice_set (marks_of self.old.lives) (number - 1) on }
         ensures spare { self.new.spare ≡ self.old.spare }
     {
-        self.marks[place as usize - 1] = on;
+        self.marks[number as usize - 1] = on;
     }
 }
 
@@ -233,5 +236,6 @@ pub fn live_cells_differ(cells: &Cells)
     ensures differ { AllPairs AreTwo (cells_of cells.now) }
     ensures few { length cells.now.lives ≤ 15 }
 {
+    // for the proof: the invariant of the records
     let _ = &cells.system;
 }

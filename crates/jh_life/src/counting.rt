@@ -1,51 +1,13 @@
 //! The pages that root and the live cells take.
-ghost use Rattle.std.specs.Prelude.{◌≡◌, ◌≤◌, ◌+◌, ◌*◌, ◌^◌, ◌++◌, length, sum_by, option_to_list, nat_lt, Some, None, if◌then◌else◌};
+ghost use Rattle.std.specs.Prelude.{◌≡◌, ◌≤◌, ◌+◌, ◌++◌, length, sum_by, option_to_list, nat_lt, Some, None, if◌then◌else◌};
 ghost use Rattle.std.specs.Option.{option_copied};
 ghost use Rattle.jh_cellcfg.specs.declared.config.CellConfig.{CellConfig as TheCell};
 ghost use Rattle.jh_num.specs.declared.error.TheConstants.{ENOMEM};
-ghost use Rattle.jh_shape.specs.Pages.{tables_of, root_claims, cell_claims, pages_of};
+ghost use Rattle.jh_shape.specs.Pages.{tables_of, cell_claims, pages_of};
 
 use jh_cellcfg::{CellConfig, Region};
 use jh_num::error::ENOMEM;
-use jh_shape::Target;
-
-/// All cells hold what is theirs.
-const ALL: u16 = 0xffff;
-
-/// The pages of root's tables beside the cells and one more.
-fn root_tables(root: &[Region], cells: &[CellConfig], extra: Option<&CellConfig>) -> u64
-    requires { length cells.now ≤ 15 }
-    ensures value { result ≡ tables_of (root_claims root.now (cells.now ++ option_to_list (option_copied extra.entry))) }
-    ensures bound { result ≤ 2 ^ 20 }
-{
-    let target = Target {
-        regions: root,
-        root: true,
-        cells,
-        held: ALL,
-        loadable: 0,
-        extra,
-        comm: 0,
-    };
-    target.tables()
-}
-
-/// The pages of another cell: its tables and its communication page.
-pub(crate) fn cell_pages(cell: &CellConfig) -> u64
-    ensures value { result ≡ tables_of (cell_claims cell.now) + 1 }
-    ensures bound { result ≤ 2 ^ 20 + 1 }
-{
-    let target = Target {
-        regions: cell.memory_regions.as_slice(),
-        root: false,
-        cells: &[],
-        held: 0,
-        loadable: 0,
-        extra: None,
-        comm: 0,
-    };
-    target.tables() + 1
-}
+use jh_shape::{cell_pages, root_tables, tables_are_few};
 
 /// The pages of root, the cells, which without root's take so many, and one more.
 pub(crate) fn pages_of(
@@ -58,6 +20,7 @@ pub(crate) fn pages_of(
     requires taken { taken ≡ sum_by (λ (cell : TheCell). tables_of (cell_claims cell) + 1) cells.now }
     ensures { result ≡ pages_of root.now (cells.now ++ option_to_list (option_copied extra.entry)) }
 {
+    tables_are_few();
     let pages = root_tables(root, cells, extra) + taken;
     match extra {
         Some(cell) => pages + cell_pages(cell),

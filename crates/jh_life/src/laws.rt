@@ -6,7 +6,7 @@ ghost use Rattle.jh_cellcfg.specs.declared.live.Live.{Live};
 ghost use Rattle.jh_cellcfg.specs.Lives.{has_id};
 ghost use Rattle.jh_life.specs.Seen.{Seen};
 ghost use Rattle.jh_life.specs.Lives.{configs_of, marks_of};
-ghost use Rattle.jh_life.specs.Changes.{Change, marked, without, after, told, lasting, AreNew};
+ghost use Rattle.jh_life.specs.Changes.{Change, marked, without, after, live_after, lasting, AreNew};
 ghost use Rattle.jh_check.specs.Refusals.{IsAccepted};
 ghost use Rattle.jh_shape.specs.Pages.{pages_of};
 ghost use Rattle.jh_life.specs.Verdict.{may_have, verdict_of_create};
@@ -16,16 +16,18 @@ use crate::cells::{Cells, live_cells_differ};
 use jh_cellcfg::CellConfig;
 use jh_check::nothing_is_refused_that_is_accepted;
 
-/// The cell that is dropped at a place is the one with its id, and the others stay with their marks.
-pub fn a_place_is_dropped_by_its_id(cells: &Cells)
+/// The cell that is dropped by its number is the one with its id, and the others stay with their marks.
+pub fn a_cell_is_dropped_by_its_id(cells: &Cells)
     ensures { (i : ℕ) (cell : Live) → slice_get cells.now.lives i ≡ Some cell → remove cells.now.lives i ≡ without cell.config.id cells.now.lives }
 {
     live_cells_differ(cells);
 }
 
-/// The cell whose mark is put at a place is the one with its id, and the others stay with theirs.
-pub fn a_place_is_marked_by_its_id(cells: &Cells)
-    ensures { (i : ℕ) (cell : Live) (on : Bool) (new : List Live) → slice_get cells.now.lives i ≡ Some cell → configs_of new ≡ configs_of cells.now.lives → marks_of new ≡ slice_set (marks_of cells.now.lives) i on → new ≡ map (marked cell.config.id on) cells.now.lives }
+/// The cell whose mark is put by its number is the one with its id, and the others stay with theirs.
+pub fn a_cell_is_marked_by_its_id(cells: &Cells)
+    ensures { (i : ℕ) (cell : Live) (on : Bool) (new : List Live) → slice_get cells.now.lives i ≡ Some cell
+        → configs_of new ≡ configs_of cells.now.lives → marks_of new ≡ slice_set (marks_of cells.now.lives) i on
+        → new ≡ map (marked cell.config.id on) cells.now.lives }
 {
     live_cells_differ(cells);
 }
@@ -38,18 +40,21 @@ pub fn cells_are_listed_in_order_of_creation()
 /// Which cell with an id lives, and whether it is loadable, goes by the changes of that id alone: it lives since it was
 /// last created, and is loadable as it was last set since.
 pub fn a_cell_is_as_it_was_last_set()
-    ensures { (id : ℕ) (changes : List Change) → AreNew [] changes → find (has_id id) (fold after [] changes) ≡ fold (told id) None changes }
+    ensures { (id : ℕ) (changes : List Change) → AreNew [] changes → find (has_id id) (fold after [] changes) ≡ fold (live_after id) None changes }
 {}
 
 /// Which cells are loadable, and how much room there is, changes no verdict.
 pub fn a_verdict_goes_by_the_listed_cells(_new: &CellConfig)
-    ensures { (one other : Seen) (locked : Bool) (owned caller pool : ℕ) → one.system ≡ other.system → configs_of one.lives ≡ configs_of other.lives → verdict_of_create one locked _new.now owned caller pool ≡ verdict_of_create other locked _new.now owned caller pool }
+    ensures { (one other : Seen) (locked : Bool) (owned caller pool : ℕ) → one.system ≡ other.system
+        → configs_of one.lives ≡ configs_of other.lives
+        → verdict_of_create one locked _new.now owned caller pool ≡ verdict_of_create other locked _new.now owned caller pool }
 {}
 
 /// A new cell isn't refused exactly where no cell is locked, nothing of what it would be refused for holds, and the
 /// pages of all cells with it are there.
 pub fn a_cell_is_let_in_where_nothing_holds(cells: &Cells, new: &CellConfig)
-    ensures { (locked : Bool) (owned caller pool : ℕ) → (verdict_of_create cells.now locked new.now owned caller pool ≡ None) ↔ ((locked ≡ false) × IsAccepted cells.now.system (configs_of cells.now.lives) new.now (may_have owned caller) (pages_of cells.now.system.root.memory_regions (configs_of cells.now.lives ++ new.now ∷ [])) pool) }
+    ensures { (locked : Bool) (owned caller pool : ℕ)
+        → (verdict_of_create cells.now locked new.now owned caller pool ≡ None) ↔ ((locked ≡ false) × IsAccepted cells.now.system (configs_of cells.now.lives) new.now (may_have owned caller) (pages_of cells.now.system.root.memory_regions (configs_of cells.now.lives ++ new.now ∷ [])) pool) }
 {
     nothing_is_refused_that_is_accepted(cells.system(), cells.list(), new);
 }

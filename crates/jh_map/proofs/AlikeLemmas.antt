@@ -1,15 +1,14 @@
 -- Two maps of one cell are the same list.
-use Rattle.std.proofs.Common.{◌≡◌, ℕ, zero, suc, ◌+◌, ◌-◌, ◌<◌, ◌≤◌, Bool, true, false, cond, List, [], ◌∷◌, length, get_or, refl, sym, ap, subst, ◌∙◌, ⊎_elim, arith}
-use Rattle.std.specs.Prelude.{All, AllPairs, Contains}
+use Rattle.std.proofs.Common.{◌≡◌, ℕ, suc, ◌+◌, ◌-◌, ◌<◌, ◌≤◌, Bool, true, false, cond, List, [], ◌∷◌, length, get_or, refl, sym, ap, subst, ◌∙◌, ⊎_elim, arith}
+use Rattle.std.specs.Prelude.{AllPairs, Contains}
 use Rattle.std.proofs.lemmas.Bool.{both_ways, cases_order}
 use Rattle.std.proofs.lemmas.List.{get_or_default}
 use Rattle.std.proofs.lemmas.List.Elements.{All-contains}
-use Rattle.jh_num.specs.declared.rights.Rights.{Rights}
-use Rattle.jh_num.proofs.Lists.{Contains-cases, Contains-head, Contains-tail}
+use Rattle.jh_num.proofs.Lists.{Contains_cases, Contains_head, Contains_tail}
 use Rattle.jh_cellcfg.specs.declared.region.Region.{Region}
-use Rattle.jh_cellcfg.specs.Regions.{rights_of, is_comm, is_page_mapped, place_in, byte_in}
+use Rattle.jh_cellcfg.specs.Regions.{is_comm, place_in, byte_in}
 use Rattle.jh_map.specs.declared.run.Run.{Run}
-use Rattle.jh_map.specs.Maps.{is_granted, leads_to, IsIn, IsRunOf, IsRunIn, IsTold, EndsBefore, IsMap}
+use Rattle.jh_map.specs.Maps.{is_granted, leads_to, IsIn, IsRunOf, IsRunIn, EndsBefore, IsMap}
 use Rattle.jh_map.proofs.MapLemmas.{first_granted, granted_has, has_low}
 
 -- two runs of one region that have an address in common have the same ends
@@ -83,7 +82,7 @@ In xs ys = (r : Run) → Contains xs r → Contains ys r
 
 some_tail : (x : Run) (xs : List Run) → Some (x ∷ xs) → Some xs
 unfolding Some
-some_tail x xs some r held = some r (Contains-tail x xs r held)
+some_tail x xs some r held = some r (Contains_tail x xs r held)
 
 same_head : (x : Run) (xs : List Run) (y : Run) (ys : List Run) → AllPairs EndsBefore (x ∷ xs) → AllPairs EndsBefore (y ∷ ys) → Some (x ∷ xs) → Some (y ∷ ys) → In (x ∷ xs) (y ∷ ys) → In (y ∷ ys) (x ∷ xs) → y ≡ x
 unfolding Some In
@@ -96,11 +95,11 @@ same_head x xs y ys up other_up some other_some there back =
     (λ (e : x ≡ y). sym e)
     (λ (behind : Contains xs y).
     let ge = pair_head x xs y up behind in
-    let x_some = some x (Contains-head x xs) in
-    let y_some = other_some y (Contains-head y ys) in
+    let x_some = some x (Contains_head x xs) in
+    let y_some = other_some y (Contains_head y ys) in
     absurd (omega arith))
-    (Contains-cases x xs y (back y (Contains-head y ys))))
-    (Contains-cases y ys x (there x (Contains-head x xs)))
+    (Contains_cases x xs y (back y (Contains_head y ys))))
+    (Contains_cases y ys x (there x (Contains_head x xs)))
 
 -- a member of the rest isn't the first
 in_tail : (x : Run) (xs : List Run) (y : Run) (ys : List Run) → AllPairs EndsBefore (x ∷ xs) → Some (x ∷ xs) → y ≡ x → In (x ∷ xs) (y ∷ ys) → In xs ys
@@ -109,17 +108,17 @@ in_tail x xs y ys up some same there r held =
     ⊎_elim
     (λ (e : y ≡ r).
     let le = pair_head x xs r up held in
-    let x_some = some x (Contains-head x xs) in
+    let x_some = some x (Contains_head x xs) in
     let start : x.start ≡ r.start = ap (λ (z : Run). z.start) (sym same ∙ e) in
     absurd (omega arith))
     (λ (later : Contains ys r). later)
-    (Contains-cases y ys r (there r (Contains-tail x xs r held)))
+    (Contains_cases y ys r (there r (Contains_tail x xs r held)))
 
 pub same_list : (xs ys : List Run) → AllPairs EndsBefore xs → AllPairs EndsBefore ys → Some xs → Some ys → In xs ys → In ys xs → xs ≡ ys
 unfolding In
 same_list [] [] up other_up some other_some there back = refl
-same_list [] (y ∷ ys) up other_up some other_some there back = let b = back y (Contains-head y ys) in absurd (omega (arith, b.1))
-same_list (x ∷ xs) [] up other_up some other_some there back = let b = there x (Contains-head x xs) in absurd (omega (arith, b.1))
+same_list [] (y ∷ ys) up other_up some other_some there back = let b = back y (Contains_head y ys) in absurd (omega (arith, b.1))
+same_list (x ∷ xs) [] up other_up some other_some there back = let b = there x (Contains_head x xs) in absurd (omega (arith, b.1))
 same_list (x ∷ xs) (y ∷ ys) up other_up some other_some there back =
     let head = same_head x xs y ys up other_up some other_some there back in
     let rest = same_list xs ys (pair_tail x xs up) (pair_tail y ys other_up) (some_tail x xs some) (some_tail y ys other_some) (in_tail x xs y ys up some head there) (in_tail y ys x xs other_up other_some (sym head) back) in

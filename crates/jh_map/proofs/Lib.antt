@@ -1,4 +1,4 @@
 mod ListLemmas
-mod MapLemmas
+pub mod MapLemmas
 mod RunLemmas
 mod AlikeLemmas

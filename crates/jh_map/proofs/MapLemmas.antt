@@ -1,18 +1,18 @@
 -- The map of no region, of two lists of regions, and of the same regions in another order.
-use Rattle.std.proofs.Common.{◌≡◌, ℕ, ◌+◌, ◌-◌, ◌<◌, ◌≤◌, Bool, true, false, ◌&&◌, ◌||◌, not, List, [], ◌∷◌, ◌++◌, length, get_or, take, refl, sym, ap, subst, ◌∙◌, ⊎_elim, arith}
-use Rattle.std.specs.Prelude.{All, AllPairs, Contains}
+use Rattle.std.proofs.Common.{◌≡◌, ℕ, ◌+◌, ◌-◌, ◌<◌, ◌≤◌, Bool, true, ◌||◌, not, List, [], ◌∷◌, ◌++◌, length, get_or, take, sym, subst, ◌∙◌, ⊎_elim, arith}
+use Rattle.std.specs.Prelude.{AllPairs, Contains}
 use Rattle.std.specs.List.Sorted.{IsPermutation, IsNonDecreasingBy}
 use Rattle.std.proofs.lemmas.Bool.{and_parts, cases_lt}
 use Rattle.std.proofs.lemmas.Bool.Decides.{nat_tests}
 use Rattle.std.proofs.lemmas.List.{get_or-take, get_or_default, take_more, length-take-le}
-use Rattle.std.proofs.lemmas.List.Elements.{All-nil, All-weaker, All-append, Contains-append_left, Contains-append_right, Contains-append_cases}
+use Rattle.std.proofs.lemmas.List.Elements.{All-weaker, All-append, Contains-append_left, Contains-append_right, Contains-append_cases}
 use Rattle.std.proofs.lemmas.List.Sorted.{Contains-permutation, IsPermutation-sym}
-use Rattle.jh_num.proofs.Lists.{Contains-cases}
+use Rattle.jh_num.proofs.Lists.{Contains_cases}
 use Rattle.jh_cellcfg.specs.declared.region.Region.{Region}
 use Rattle.jh_cellcfg.specs.Regions.{has_address, is_comm, place_in, virt_end}
 use Rattle.jh_check.specs.Clean.{SharesNoAddress}
 use Rattle.jh_map.specs.declared.run.Run.{Run}
-use Rattle.jh_map.specs.Maps.{is_granted, IsIn, IsRunOf, IsRunIn, IsTold, EndsBefore, IsMap}
+use Rattle.jh_map.specs.Maps.{is_granted, IsRunOf, IsRunIn, IsTold, EndsBefore, IsMap}
 use Rattle.jh_map.proofs.ListLemmas.{all_pairs_append, all_pairs_moved}
 
 -- an address between the region's ends is its own
@@ -38,15 +38,7 @@ last_granted closed r run of = let some = of.some in of.each (run.end - 1) (reco
 
 -- the regions are one
 pub alone : (r s : Region) → Contains (r ∷ []) s → r ≡ s
-alone r s held = ⊎_elim (λ (e : r ≡ s). e) (λ (later : Contains [] s). absurd (omega (arith, later.1))) (Contains-cases r [] s held)
-
--- nothing is granted by no region
-pub no_map : (closed : ℕ → Bool) → IsMap closed [] []
-no_map closed = record {
-  own = All-nil (IsRunIn closed []);
-  whole = λ r at held is. absurd (omega (arith, held.1));
-  order = λ i j d lt jl. absurd (omega arith);
-}
+alone r s held = ⊎_elim (λ (e : r ≡ s). e) (λ (later : Contains [] s). absurd (omega (arith, later.1))) (Contains_cases r [] s held)
 
 -- the addresses that the one region grants are below those of the other
 pub Precedes : (ℕ → Bool) → Region → Region → Type 0

@@ -9,12 +9,12 @@ use Rattle.jh_num.specs.declared.address.TheConstants.{ADDRESS_END}
 use Rattle.jh_num.specs.declared.range.Range.{Range}
 use Rattle.jh_num.specs.Bytes.{in_range, has_byte, AreApart}
 use Rattle.jh_num.proofs.BytesLemmas.{within_range, not_empty_at, ends_before}
-use Rattle.jh_num.proofs.Lists.{IsFound-from_list_any, list_any-from_Contains, Contains-map, Contains-head}
+use Rattle.jh_num.proofs.Lists.{IsFound_from_list_any, list_any_from_Contains, Contains_map, Contains_head}
 use Rattle.jh_cellcfg.specs.declared.region.Region.{Region}
 use Rattle.jh_cellcfg.specs.Regions.{has_address, has_place, is_comm, place_in, byte_in, virt_end, phys_end, IsInRange}
 use Rattle.jh_map.specs.declared.run.Run.{Run}
 use Rattle.jh_map.specs.Maps.{is_granted, leads_to, IsIn, IsRunOf, IsRunIn, IsTold, EndsBefore, IsMap}
-use Rattle.jh_map.specs.Places.{AreFree, run_to}
+use Rattle.jh_map.specs.Private.Places.{AreFree, run_to}
 use Rattle.jh_map.proofs.MapLemmas.{has_low, has_high, has_from, granted_has, alone}
 
 -- an empty region grants nothing
@@ -33,7 +33,7 @@ empty_map closed r none = record {
 -- one run has all that a region grants
 pub whole_map : (closed : ℕ → Bool) (r : Region) (run : Run) → IsRunOf closed r run → run.start ≡ r.virt_start → run.end ≡ virt_end r → IsMap closed (r ∷ []) (run ∷ [])
 whole_map closed r run of start end = record {
-  own = All-cons (IsRunIn closed (r ∷ [])) run [] (record { region = r; held = Contains-head r []; of = of }) (All-nil (IsRunIn closed (r ∷ [])));
+  own = All-cons (IsRunIn closed (r ∷ [])) run [] (record { region = r; held = Contains_head r []; of = of }) (All-nil (IsRunIn closed (r ∷ [])));
   whole = λ s at held granted.
       let same = alone r s held in
       let P : Region → Type 0 = λ x. is_granted closed x at ≡ true in
@@ -41,7 +41,7 @@ whole_map closed r run of start end = record {
       let has = granted_has closed r at (subst P (sym same) granted) in
       let low = has_low r at has in
       let high = has_high r at has in
-      record { run = run; held = Contains-head run []; of = subst Q same of; has = record { first = omega arith; last = omega arith } };
+      record { run = run; held = Contains_head run []; of = subst Q same of; has = record { first = omega arith; last = omega arith } };
   order = λ i j d lt jl. absurd (omega arith);
 }
 
@@ -82,7 +82,7 @@ touched ranges k j d p apart kl jl low high j_low j_high =
 -- so one that a range touches and doesn't have is in none
 not_in : (ranges : List Range) (k : ℕ) (d : Range) (p : ℕ) → AreApart ranges → k < length ranges → (get_or ranges k d).start ≤ p + 1 → p ≤ (get_or ranges k d).end → ((get_or ranges k d).start ≤ p → p < (get_or ranges k d).end → ⊥) → has_byte ranges p ≡ false
 not_in ranges k d p apart kl low high out = false_from_ne_true (has_byte ranges p) (λ h.
-    let found = IsFound-from_list_any (λ (x : Range). in_range x p) ranges h in
+    let found = IsFound_from_list_any (λ (x : Range). in_range x p) ranges h in
     let y : Range = found.0 in
     let place = found.1.held in
     let j : ℕ = place.0 in
@@ -101,7 +101,7 @@ one_of ranges k d apart kl =
     let some = not_empty_at 0 ranges k d apart kl in
     record {
       some = some.1;
-      each = λ p low high. list_any-from_Contains (λ (x : Range). in_range x p) ranges (get_or ranges k d) (Contains-get_or ranges k d kl) (within_range (get_or ranges k d) p low high);
+      each = λ p low high. list_any_from_Contains (λ (x : Range). in_range x p) ranges (get_or ranges k d) (Contains-get_or ranges k d kl) (within_range (get_or ranges k d) p low high);
       before = λ p e. not_in ranges k d p apart kl (omega arith) (omega (arith, some.1)) (λ low high. absurd (omega arith));
       behind = not_in ranges k d (get_or ranges k d).end apart kl (omega (arith, some.1)) (omega arith) (λ low high. absurd (omega arith));
     }
@@ -211,7 +211,7 @@ told_at : (closed : ℕ → Bool) (r : Region) (ranges : List Range) (at : ℕ) 
 told_at closed r ranges at left own granted =
     let has = granted_has closed r at granted in
     let low = has_low r at has in
-    let found = IsFound-from_list_any (λ (x : Range). in_range x (place_in r at)) ranges (sym (granted_is closed r ranges at left has) ∙ granted) in
+    let found = IsFound_from_list_any (λ (x : Range). in_range x (place_in r at)) ranges (sym (granted_is closed r ranges at left has) ∙ granted) in
     let x : Range = found.0 in
     let held = found.1.held in
     let first = range_low x (place_in r at) found.1.passes in
@@ -222,7 +222,7 @@ told_at closed r ranges at left own granted =
     let start : r.phys_start ≤ x.start = subst Q held.2 ends.0 in
     record {
       run = run_to r x;
-      held = Contains-map (run_to r) ranges x held;
+      held = Contains_map (run_to r) ranges x held;
       of = subst P held.2 (run_of closed r ranges (get_or ranges held.0 x) left (one_of ranges held.0 x left.apart held.1) ends.0 ends.1);
       has = record { first = omega arith; last = omega arith };
     }
@@ -231,7 +231,7 @@ told_at closed r ranges at left own granted =
 pub ranges_map : (closed : ℕ → Bool) (r : Region) (ranges : List Range) → AreLeft closed r ranges → All (λ (x : Range). (r.phys_start ≤ x.start) × (x.end ≤ phys_end r)) ranges → IsMap closed (r ∷ []) (map (run_to r) ranges)
 ranges_map closed r ranges left own = record {
   own = All-map (IsRunIn closed (r ∷ [])) (run_to r) ranges
-      (λ k d kl. record { region = r; held = Contains-head r []; of = run_of closed r ranges (get_or ranges k d) left (one_of ranges k d left.apart kl) (own k d kl).0 (own k d kl).1 });
+      (λ k d kl. record { region = r; held = Contains_head r []; of = run_of closed r ranges (get_or ranges k d) left (one_of ranges k d left.apart kl) (own k d kl).0 (own k d kl).1 });
   whole = λ s at held granted.
       let same = alone r s held in
       let P : Region → Type 0 = λ y. is_granted closed y at ≡ true in

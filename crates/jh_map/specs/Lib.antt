@@ -1,2 +1,2 @@
 pub mod Maps
-pub mod Places
+pub mod Private

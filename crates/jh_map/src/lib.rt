@@ -8,6 +8,3 @@ mod run;
 pub use laws::{maps_of_one_cell_are_equal, maps_tell_each_address};
 pub use map::map_of;
 pub use run::Run;
-
-#[cfg(test)]
-mod tests;

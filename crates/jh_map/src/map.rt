@@ -8,7 +8,7 @@ ghost use Rattle.jh_cellcfg.specs.declared.region.Region.{Region as TheRegion};
 ghost use Rattle.jh_cellcfg.specs.Regions.{has_place, is_comm, phys_end, virt_end, IsInRange};
 ghost use Rattle.jh_check.specs.Clean.{SharesNoAddress};
 ghost use Rattle.jh_map.specs.Maps.{IsRunOf, IsMap};
-ghost use Rattle.jh_map.specs.Places.{AreFree, run_to};
+ghost use Rattle.jh_map.specs.Private.Places.{AreFree, run_to};
 
 use crate::run::Run;
 use jh_cellcfg::Region;

@@ -5,7 +5,7 @@ use Rattle.std.specs.List.{list_any, range_with_len}
 use Rattle.std.proofs.lemmas.Bool.{leb-true, ltb-true, lt-ltb, le-leb, and_parts, and_from}
 use Rattle.std.proofs.lemmas.List.FromFn.{get_or-range_with_len, length-range_with_len}
 use Rattle.jh_num.proofs.Booleans.{same_test}
-use Rattle.jh_num.proofs.Lists.{list_all-at, list_all-each, IsFound-from_list_any, list_any-from_Contains}
+use Rattle.jh_num.proofs.Lists.{list_all_at, list_all_each, IsFound_from_list_any, list_any_from_Contains}
 use Rattle.jh_num.specs.declared.range.Range.{Range}
 use Rattle.jh_num.specs.Bytes.{has_byte}
 use Rattle.jh_cellcfg.specs.declared.region.Region.{Region}
@@ -36,12 +36,12 @@ between_parts start end a h = let p = and_parts (leb start a) (ltb a end) h in (
 -- all of them lie between two ends where the first and the last do
 pub lies_from : (start end at n : ℕ) → start ≤ at → at + n ≤ end → lies_between start end at n ≡ true
 lies_from start end at n low high =
-    list_all-each (is_between start end) (range_with_len at n) (λ a h. let b = byte_at at n a h in between_from start end a (omega arith) (omega arith))
+    list_all_each (is_between start end) (range_with_len at n) (λ a h. let b = byte_at at n a h in between_from start end a (omega arith) (omega arith))
 
 pub lies_parts : (start end at n : ℕ) → 0 < n → lies_between start end at n ≡ true → (start ≤ at) × (at + n ≤ end)
 lies_parts start end at n some h =
-    let first = between_parts start end at (list_all-at (is_between start end) (range_with_len at n) at h (byte_of at n at (omega arith) (omega arith))) in
-    let last = between_parts start end (at + (n - 1)) (list_all-at (is_between start end) (range_with_len at n) (at + (n - 1)) h (byte_of at n (at + (n - 1)) (omega arith) (omega arith))) in
+    let first = between_parts start end at (list_all_at (is_between start end) (range_with_len at n) at h (byte_of at n at (omega arith) (omega arith))) in
+    let last = between_parts start end (at + (n - 1)) (list_all_at (is_between start end) (range_with_len at n) (at + (n - 1)) h (byte_of at n (at + (n - 1)) (omega arith) (omega arith))) in
     (first.0, omega arith)
 
 -- the test by the bytes that are left behind the first
@@ -76,11 +76,11 @@ closed_test ranges r at n b start end comm low start_is end_is told =
         let a : ℕ = r.virt_start + (place - r.phys_start) in
         let same : place ≡ place_in r a = omega arith in
         let P : ℕ → Type 0 = λ p. has_byte ranges p ≡ true in
-        list_any-from_Contains (λ a. has_byte ranges (place_in r a)) (range_with_len at n) a (byte_of at n a (omega arith) (omega arith)) (subst P same parts.1)
+        list_any_from_Contains (λ a. has_byte ranges (place_in r a)) (range_with_len at n) a (byte_of at n a (omega arith) (omega arith)) (subst P same parts.1)
 
     back : any ≡ true → b ≡ true
     back h =
-        let found = IsFound-from_list_any (λ a. has_byte ranges (place_in r a)) (range_with_len at n) h in
+        let found = IsFound_from_list_any (λ a. has_byte ranges (place_in r a)) (range_with_len at n) h in
         let a : ℕ = found.0 in
         let within = byte_at at n a found.1.held in
         let place : ℕ = place_in r a in

@@ -6,7 +6,7 @@ use Rattle.std.specs.Option.{option_map_or}
 use Rattle.std.proofs.lemmas.Bool.{lt-ltb, le-ltb, and_parts, and_from, not-true, false_from_ne_true, both_ways}
 use Rattle.std.proofs.lemmas.Option.{none-some, same_Some, slice_get-get_or}
 use Rattle.std.proofs.lemmas.List.Sums.{position_or_len_is}
-use Rattle.jh_num.proofs.Lists.{IsFound-from_find, find-None}
+use Rattle.jh_num.proofs.Lists.{IsFound_from_find, find_None}
 use Rattle.jh_num.specs.declared.range.Range.{Range}
 use Rattle.jh_cellcfg.specs.declared.region.Region.{Region}
 use Rattle.jh_cellcfg.specs.Regions.{has_address, has_size, is_page_mapped, virt_end}
@@ -15,7 +15,7 @@ use Rattle.jh_mmio.specs.declared.hitting.Hitting.TheVariants.{Subpage, Nothing}
 use Rattle.jh_mmio.specs.Index.{IsNumberAt, IsRegionAt}
 use Rattle.jh_mmio.specs.Dispatch.{number_told, lies_between, is_at_closed, takes_all, has_whole, unless_closed, has_right, lets_through, by_subpage, by_ecam, by_window, window_has, behind_regions, hitting}
 use Rattle.jh_mmio.proofs.AccessLemmas.{lies_parts}
-use Rattle.jh_mmio.proofs.IndexLemmas.{has_address-from}
+use Rattle.jh_mmio.proofs.IndexLemmas.{has_address_from}
 
 -- the first that passes, where none before does
 pub position_here : {X : Type 0} (p : X → Bool) (xs : List X) (k : ℕ) (d : X) → k < length xs → ((j : ℕ) → j < k → p (get_or xs j d) ≡ false) → p (get_or xs k d) ≡ true → Some k ≡ position p xs
@@ -32,17 +32,17 @@ position_nowhere p xs d none =
     sym (ap (λ m. cond (ltb m (length xs)) (Some m) None) first ∙ ap (λ b. cond b (Some (length xs)) None) test)
 
 -- a region that has all bytes has the first
-pub takes_all-has : (closed : ℕ → Bool) (at n : ℕ) (r : Region) → 0 < n → takes_all closed at n r ≡ true → IsTrue (has_address r at)
-takes_all-has closed at n r some h =
+pub takes_all_has : (closed : ℕ → Bool) (at n : ℕ) (r : Region) → 0 < n → takes_all closed at n r ≡ true → IsTrue (has_address r at)
+takes_all_has closed at n r some h =
     let whole = and_parts (has_size r && not (is_page_mapped r)) (lies_between r.virt_start (virt_end r) at n && not (is_at_closed closed at n r)) h in
     let lies = and_parts (lies_between r.virt_start (virt_end r) at n) (not (is_at_closed closed at n r)) whole.1 in
     let parts = lies_parts r.virt_start (virt_end r) at n some lies.0 in
-    has_address-from r at parts.0 (omega arith)
+    has_address_from r at parts.0 (omega arith)
 
 -- so it has the number that the index tells
 pub number_taken : (regions : List Region) (closed : ℕ → Bool) (at n : ℕ) (found : Option ℕ) → 0 < n → IsNumberAt regions at found → (j : ℕ) (d : Region) → j < length regions → takes_all closed at n (get_or regions j d) ≡ true → found ≡ Some j
 number_taken regions closed at n found some is j d lt takes =
-    is.only j (get_or regions j d) (slice_get-get_or regions j d lt) (takes_all-has closed at n (get_or regions j d) some takes)
+    is.only j (get_or regions j d) (slice_get-get_or regions j d lt) (takes_all_has closed at n (get_or regions j d) some takes)
 
 pub subpage_found : (regions : List Region) (closed : ℕ → Bool) (at n k : ℕ) (d : Region) → 0 < n → IsNumberAt regions at (Some k) → takes_all closed at n (get_or regions k d) ≡ true → Some k ≡ position (takes_all closed at n) regions
 subpage_found regions closed at n k d some is takes =
@@ -76,23 +76,17 @@ whole_from closed at n r h open_is =
     and_from (has_size r && not (is_page_mapped r)) (lies_between r.virt_start (virt_end r) at n && not (is_at_closed closed at n r)) whole.0
     (and_from (lies_between r.virt_start (virt_end r) at n) (not (is_at_closed closed at n r)) whole.1 (ap not open_is))
 
-pub whole-has : (at n : ℕ) (r : Region) → 0 < n → has_whole at n r ≡ true → IsTrue (has_address r at)
-whole-has at n r some h =
-    let whole = and_parts (has_size r && not (is_page_mapped r)) (lies_between r.virt_start (virt_end r) at n) h in
-    let parts = lies_parts r.virt_start (virt_end r) at n some whole.1 in
-    has_address-from r at parts.0 (omega arith)
-
 found_is : (regions : List Region) (closed : ℕ → Bool) (at n : ℕ) (o : Option Region) (s : Region) → 0 < n → IsRegionAt regions at o → find (takes_all closed at n) regions ≡ Some s → o ≡ Some s
 found_is regions closed at n o s some is e =
-    let found = IsFound-from_find (takes_all closed at n) regions s e in
-    is.only s found.held (takes_all-has closed at n s some found.passes)
+    let found = IsFound_from_find (takes_all closed at n) regions s e in
+    is.only s found.held (takes_all_has closed at n s some found.passes)
 
 found_by : (regions : List Region) (closed : ℕ → Bool) (at n : ℕ) (r : Region) (f : Option Region) (b : Bool) → 0 < n → IsRegionAt regions at (Some r) → has_whole at n r ≡ true → find (takes_all closed at n) regions ≡ f → is_at_closed closed at n r ≡ b → f ≡ cond b None (Some r)
 found_by regions closed at n r None true some is whole e closed_is = refl
-found_by regions closed at n r None false some is whole e closed_is = absurd (both_ways (takes_all closed at n r) (find-None (takes_all closed at n) regions r e is.own) (whole_from closed at n r whole closed_is))
+found_by regions closed at n r None false some is whole e closed_is = absurd (both_ways (takes_all closed at n r) (find_None (takes_all closed at n) regions r e is.own) (whole_from closed at n r whole closed_is))
 found_by regions closed at n r (Some s) b some is whole e closed_is =
     let same : r ≡ s = same_Some r s (found_is regions closed at n (Some r) s some is e) in
-    let open_is : is_at_closed closed at n r ≡ false = ap (is_at_closed closed at n) same ∙ (whole_parts closed at n s (IsFound-from_find (takes_all closed at n) regions s e).passes).1 in
+    let open_is : is_at_closed closed at n r ≡ false = ap (is_at_closed closed at n) same ∙ (whole_parts closed at n s (IsFound_from_find (takes_all closed at n) regions s e).passes).1 in
     ap Some (sym same) ∙ sym (ap (λ c. cond c None (Some r)) (sym closed_is ∙ open_is))
 
 pub whole_found : (regions : List Region) (at n : ℕ) (r : Region) → 0 < n → IsRegionAt regions at (Some r) → has_whole at n r ≡ true
@@ -103,7 +97,7 @@ other_by : (regions : List Region) (closed : ℕ → Bool) (at n : ℕ) (r : Reg
 other_by regions closed at n r None some is lacks e = refl
 other_by regions closed at n r (Some s) some is lacks e =
     let same : r ≡ s = same_Some r s (found_is regions closed at n (Some r) s some is e) in
-    absurd (both_ways (has_whole at n r) lacks (ap (has_whole at n) same ∙ (whole_parts closed at n s (IsFound-from_find (takes_all closed at n) regions s e).passes).0))
+    absurd (both_ways (has_whole at n r) lacks (ap (has_whole at n) same ∙ (whole_parts closed at n s (IsFound_from_find (takes_all closed at n) regions s e).passes).0))
 
 pub whole_other : (regions : List Region) (at n : ℕ) (r : Region) → 0 < n → IsRegionAt regions at (Some r) → has_whole at n r ≡ false
     → (closed : ℕ → Bool) → find (takes_all closed at n) regions ≡ None

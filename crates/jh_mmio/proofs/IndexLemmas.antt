@@ -17,14 +17,14 @@ address_low r at h = grind (arith, nat_tests)
 address_high : (r : Region) (at : ℕ) → IsTrue (has_address r at) → at < r.virt_start + r.size
 address_high r at h = grind (arith, nat_tests)
 
-pub has_address-from : (r : Region) (at : ℕ) → r.virt_start ≤ at → at < r.virt_start + r.size → IsTrue (has_address r at)
-has_address-from r at low high = grind (arith, nat_tests)
+pub has_address_from : (r : Region) (at : ℕ) → r.virt_start ≤ at → at < r.virt_start + r.size → IsTrue (has_address r at)
+has_address_from r at low high = grind (arith, nat_tests)
 
-leb-at : (a b : ℕ) → leb a b ≡ true → a ≤ b
-leb-at a b h = grind (arith, nat_tests)
+leb_at : (a b : ℕ) → leb a b ≡ true → a ≤ b
+leb_at a b h = grind (arith, nat_tests)
 
-leb-not : (a b : ℕ) → leb a b ≡ false → a ≤ b → ⊥
-leb-not a b h le = grind (arith, nat_tests)
+leb_not : (a b : ℕ) → leb a b ≡ false → a ≤ b → ⊥
+leb_not a b h le = grind (arith, nat_tests)
 
 -- a number with a size is that of a region
 some_of : (o : Option Region) → 0 < option_map_or (λ (r : Region). r.size) o 0 → (r : Region) × (o ≡ Some r)
@@ -66,7 +66,7 @@ place_before regions order at n is point k r k_is has =
       | inr le ↦
           let beyond : leb (start_at regions (get_or order j 0)) at ≡ false = point.1 j 0 le j_lt in
           let P : ℕ → Type 0 = λ x. leb (start_at regions x) at ≡ false in
-          absurd (leb-not (start_at regions k) at (subst P j_is beyond) (omega arith))
+          absurd (leb_not (start_at regions k) at (subst P j_is beyond) (omega arith))
     ] in
     (j, before, j_lt, j_is)
   where
@@ -86,7 +86,7 @@ only_before regions order at n is apart point some within k r k_is has =
     let K : ℕ → Type 0 = λ x. start_at regions x ≤ start_at regions c in
     let k_first : start_at regions k ≤ start_at regions c = subst K place.3 sorted in
     let k_start : start_at regions k ≡ r.virt_start = ap (λ (o : Option Region). option_map_or (λ (x : Region). x.virt_start) o 0) k_is in
-    let c_low : start_at regions c ≤ at = leb-at (start_at regions c) at (point.0 (n - 1) 0 (omega arith) (omega arith)) in
+    let c_low : start_at regions c ≤ at = leb_at (start_at regions c) at (point.0 (n - 1) 0 (omega arith) (omega arith)) in
     let found = some_of (slice_get regions c) (is.some (n - 1) 0 last) in
     let s : Region = found.0 in
     let c_is : slice_get regions c ≡ Some s = found.1 in
@@ -94,18 +94,18 @@ only_before regions order at n is apart point some within k r k_is has =
     let c_start : start_at regions c ≡ s.virt_start = ap (λ (o : Option Region). option_map_or (λ (x : Region). x.virt_start) o 0) c_is in
     let c_some : 0 < size_at regions c = is.some (n - 1) 0 last in
     let high = address_high r at has in
-    one_number regions k c r s s.virt_start apart k_is c_is (has_address-from r s.virt_start (omega arith) (omega arith)) (has_address-from s s.virt_start (omega arith) (omega arith))
+    one_number regions k c r s s.virt_start apart k_is c_is (has_address_from r s.virt_start (omega arith) (omega arith)) (has_address_from s s.virt_start (omega arith) (omega arith))
 
-pub IsNumberAt-none : (regions : List Region) (order : List ℕ) (at n : ℕ) → IsOrder regions order → IsPartitionPoint (λ k. leb (start_at regions k) at ≡ true) (λ k. leb (start_at regions k) at ≡ false) order n
+pub IsNumberAt_none : (regions : List Region) (order : List ℕ) (at n : ℕ) → IsOrder regions order → IsPartitionPoint (λ k. leb (start_at regions k) at ≡ true) (λ k. leb (start_at regions k) at ≡ false) order n
     → n ≡ 0 → IsNumberAt regions at None
-IsNumberAt-none regions order at n is point zero = record {
+IsNumberAt_none regions order at n is point zero = record {
   own = tt;
   only = λ k r k_is has. let place = place_before regions order at n is point k r k_is has in let lt : place.0 < n = place.1 in absurd (omega arith);
 }
 
-pub IsNumberAt-some : (regions : List Region) (order : List ℕ) (at n : ℕ) → IsOrder regions order → AllPairs SharesNoAddress regions → IsPartitionPoint (λ k. leb (start_at regions k) at ≡ true) (λ k. leb (start_at regions k) at ≡ false) order n
+pub IsNumberAt_some : (regions : List Region) (order : List ℕ) (at n : ℕ) → IsOrder regions order → AllPairs SharesNoAddress regions → IsPartitionPoint (λ k. leb (start_at regions k) at ≡ true) (λ k. leb (start_at regions k) at ≡ false) order n
     → 0 < n → n ≤ length order → IsNumberAt regions at (Some (get_or order (n - 1) 0))
-IsNumberAt-some regions order at n is apart point some within =
+IsNumberAt_some regions order at n is apart point some within =
     let last : n - 1 < length order = omega arith in
     let found = some_of (slice_get regions (get_or order (n - 1) 0)) (is.some (n - 1) 0 last) in record {
       own = slice_get_within regions (get_or order (n - 1) 0) found.0 found.1;
@@ -113,8 +113,8 @@ IsNumberAt-some regions order at n is apart point some within =
     }
 
 -- the numbers in order
-pub IsOrder-sorted : (regions : List Region) (numbers order : List ℕ) → AreNumbers regions numbers → IsPermutation numbers order → IsNonDecreasingBy (start_at regions) order → IsOrder regions order
-IsOrder-sorted regions numbers order are moved sorted = record {
+pub IsOrder_sorted : (regions : List Region) (numbers order : List ℕ) → AreNumbers regions numbers → IsPermutation numbers order → IsNonDecreasingBy (start_at regions) order → IsOrder regions order
+IsOrder_sorted regions numbers order are moved sorted = record {
   some = All-permutation (λ k. 0 < size_at regions k) numbers order moved are.some;
   whole = λ k h. Contains-permutation numbers order k moved (are.whole k h);
   sorted = sorted;

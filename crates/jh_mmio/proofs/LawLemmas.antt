@@ -6,7 +6,7 @@ use Rattle.std.specs.Option.{option_map_or}
 use Rattle.std.proofs.lemmas.Bool.{ltb-true, and_parts, false_from_ne_true, both_ways}
 use Rattle.std.proofs.lemmas.Option.{none-some, same_Some, slice_get-get_or, slice_get_within, get_or_from_slice_get}
 use Rattle.std.proofs.lemmas.List.Sums.{passes_at_first}
-use Rattle.jh_num.proofs.Lists.{list_any-from_Contains}
+use Rattle.jh_num.proofs.Lists.{list_any_from_Contains}
 use Rattle.jh_num.specs.declared.range.Range.{Range}
 use Rattle.jh_cellcfg.specs.declared.region.Region.{Region}
 use Rattle.jh_cellcfg.specs.Regions.{has_address, has_size, is_page_mapped, is_comm, place_in, virt_end}
@@ -16,7 +16,7 @@ use Rattle.jh_mmio.specs.Index.{SharesNoAddress}
 use Rattle.jh_mmio.specs.Dispatch.{number_told, IsLetThrough, lies_between, is_at_closed, takes_all, lets_through, by_subpage, by_ecam, by_window, window_has, behind_regions, hitting}
 use Rattle.jh_mmio.proofs.AccessLemmas.{byte_of}
 use Rattle.jh_mmio.proofs.IndexLemmas.{one_number}
-use Rattle.jh_mmio.proofs.HittingLemmas.{position_here, takes_all-has}
+use Rattle.jh_mmio.proofs.HittingLemmas.{position_here, takes_all_has}
 
 past : Region
 past = record { phys_start = 0; virt_start = 0; size = 0; flags = 0 }
@@ -51,19 +51,19 @@ no_region_by ecam at n o true k h = no_ecam _ k h
 no_region_by ecam at n o false k h = no_windows at n o k h
 
 -- so the first region that takes the access is the one that answers, and it lets the access through
-record Answers (regions : List Region) (at n : ℕ) (write : Bool) (first : Option ℕ) (told : ℕ) : Type 0 where
+record IsAnsweredBy (regions : List Region) (at n : ℕ) (write : Bool) (first : Option ℕ) (told : ℕ) : Type 0 where
   number : ℕ
   it : first ≡ Some number
   tells : told ≡ number_told number
   lets : option_map_or (lets_through at n write) (slice_get regions number) false ≡ true
 
-let_through : (at n : ℕ) (write : Bool) (regions : List Region) (m told : ℕ) (b : Bool) → option_map_or (lets_through at n write) (slice_get regions m) false ≡ b → cond b (Subpage (number_told m)) Nothing ≡ Subpage told → Answers regions at n write (Some m) told
+let_through : (at n : ℕ) (write : Bool) (regions : List Region) (m told : ℕ) (b : Bool) → option_map_or (lets_through at n write) (slice_get regions m) false ≡ b → cond b (Subpage (number_told m)) Nothing ≡ Subpage told → IsAnsweredBy regions at n write (Some m) told
 let_through at n write regions m told true e h =
     let same : told ≡ number_told m = cc in
     record { number = m; it = refl; tells = same; lets = e }
 let_through at n write regions m told false e h = absurd (no_window false m told h)
 
-answers_by : (regions : List Region) (ecam : Range) (windows : List Window) (at n : ℕ) (write : Bool) (first : Option ℕ) (told : ℕ) → option_map_or (by_subpage regions at n write) first (behind_regions ecam windows at n) ≡ Subpage told → Answers regions at n write first told
+answers_by : (regions : List Region) (ecam : Range) (windows : List Window) (at n : ℕ) (write : Bool) (first : Option ℕ) (told : ℕ) → option_map_or (by_subpage regions at n write) first (behind_regions ecam windows at n) ≡ Subpage told → IsAnsweredBy regions at n write first told
 answers_by regions ecam windows at n write None told h = absurd (no_region_by ecam at n (position (window_has at n) windows) (lies_between ecam.start ecam.end at n) told h)
 answers_by regions ecam windows at n write (Some m) told h = let_through at n write regions m told _ refl h
 
@@ -82,7 +82,7 @@ pub only_answers : (regions : List Region) (closed : ℕ → Bool) (ecam : Range
     → (k : ℕ) (r : Region) → slice_get regions k ≡ Some r → IsTrue (has_address r at) → told ≡ number_told k
 only_answers regions closed ecam windows at n write told apart some h k r is has =
     let a = it_answers regions closed ecam windows at n write told h in
-    let same : k ≡ a.0 = one_number regions a.0 k a.1 r at apart a.3 is (takes_all-has closed at n a.1 some a.4) has in
+    let same : k ≡ a.0 = one_number regions a.0 k a.1 r at apart a.3 is (takes_all_has closed at n a.1 some a.4) has in
     a.2 ∙ sym (ap number_told same)
 
 pub refusal_ends : (regions : List Region) (closed : ℕ → Bool) (ecam : Range) (windows : List Window) (at n : ℕ) (write : Bool) (k : ℕ) (r : Region) → AllPairs SharesNoAddress regions → 0 < n
@@ -94,7 +94,7 @@ refusal_ends regions closed ecam windows at n write k r apart some is takes refu
     let first : Some k ≡ position (takes_all closed at n) regions =
     position_here (takes_all closed at n) regions k r lt
     (λ j before. false_from_ne_true (takes_all closed at n (get_or regions j r)) (λ h.
-    let same : j ≡ k = one_number regions k j r (get_or regions j r) at apart is (slice_get-get_or regions j r (omega arith)) (takes_all-has closed at n r some takes) (takes_all-has closed at n (get_or regions j r) some h) in omega arith))
+    let same : j ≡ k = one_number regions k j r (get_or regions j r) at apart is (slice_get-get_or regions j r (omega arith)) (takes_all_has closed at n r some takes) (takes_all_has closed at n (get_or regions j r) some h) in omega arith))
     (ap (takes_all closed at n) at_k ∙ takes) in
     sym (ap (λ (o : Option ℕ). option_map_or (by_subpage regions at n write) o (behind_regions ecam windows at n)) first)
     ∙ ap (λ (o : Option Region). cond (option_map_or (lets_through at n write) o false) (Subpage (number_told k)) Nothing) is
@@ -105,7 +105,7 @@ closed_lacks : (closed : ℕ → Bool) (at n : ℕ) (r : Region) (a : ℕ) → i
 closed_lacks closed at n r a comm low high shut takes =
     let whole = and_parts (has_size r && not (is_page_mapped r)) (lies_between r.virt_start (virt_end r) at n && not (is_at_closed closed at n r)) takes in
     let parts = and_parts (lies_between r.virt_start (virt_end r) at n) (not (is_at_closed closed at n r)) whole.1 in
-    let hit : list_any (λ x. closed (place_in r x)) (range_with_len at n) ≡ true = list_any-from_Contains (λ x. closed (place_in r x)) (range_with_len at n) a (byte_of at n a low high) shut in
+    let hit : list_any (λ x. closed (place_in r x)) (range_with_len at n) ≡ true = list_any_from_Contains (λ x. closed (place_in r x)) (range_with_len at n) a (byte_of at n a low high) shut in
     let shut_there : is_at_closed closed at n r ≡ true = ap (λ b. not b && list_any (λ x. closed (place_in r x)) (range_with_len at n)) comm ∙ hit in
     both_ways true (sym parts.1 ∙ ap not shut_there) refl
 
@@ -138,5 +138,5 @@ pub closed_none : (regions : List Region) (closed : ℕ → Bool) (ecam : Range)
 closed_none regions closed ecam windows at n write k r a apart is has comm low high shut told h =
     let answer = it_answers regions closed ecam windows at n write told h in
     let some : 0 < n = omega arith in
-    let number : k ≡ answer.0 = one_number regions answer.0 k answer.1 r at apart answer.3 is (takes_all-has closed at n answer.1 some answer.4) has in
+    let number : k ≡ answer.0 = one_number regions answer.0 k answer.1 r at apart answer.3 is (takes_all_has closed at n answer.1 some answer.4) has in
     closed_lacks_at regions closed at n k r a is comm low high shut answer.0 answer.1 answer.3 answer.4 (sym number)

@@ -4,7 +4,7 @@ ghost use Rattle.std.specs.Option.{option_map_or};
 ghost use Rattle.jh_num.specs.Bytes.{has_byte};
 ghost use Rattle.jh_cellcfg.specs.declared.region.Region.{Region as TheRegion};
 ghost use Rattle.jh_cellcfg.specs.Regions.{virt_end, has_address, IsInRange};
-ghost use Rattle.jh_mmio.specs.Dispatch.{lies_between, is_at_closed, takes_all as takes_all_lem, has_whole as has_whole_lem, lets_through as lets_through_lem, number_told as number_told_lem, by_subpage, by_ecam as by_ecam_lem, by_window as by_window_lem, window_has, behind_regions, hitting};
+ghost use Rattle.jh_mmio.specs.Dispatch.{lies_between, is_at_closed, takes_all, has_whole, lets_through, number_told, by_subpage, by_ecam, by_window, window_has, behind_regions, hitting};
 
 use crate::hitting::{Hitting, Window};
 use jh_cellcfg::Region;
@@ -42,7 +42,7 @@ fn meets_closed(region: &Region, closed: &ByteSet, at: u64, width: u8) -> bool
 /// Whether it is a subpage region that has all bytes of the access.
 pub fn has_whole(region: &Region, at: u64, width: u8) -> bool
     requires { 0 < width }
-    ensures whole { result ≡ has_whole_lem at width region.now }
+    ensures whole { result ≡ has_whole at width region.now }
     ensures first { IsTrue result → IsTrue (has_address region.now at) }
 {
     region.size > 0
@@ -54,7 +54,7 @@ pub fn has_whole(region: &Region, at: u64, width: u8) -> bool
 pub(crate) fn takes_all(region: &Region, closed: &ByteSet, at: u64, width: u8) -> bool
     requires some { 0 < width }
     requires range { 0 < region.now.size → IsInRange region.now }
-    ensures { result ≡ takes_all_lem (has_byte closed.now.ranges) at width region.now }
+    ensures { result ≡ takes_all (has_byte closed.now.ranges) at width region.now }
 {
     region.size > 0
         && !region.is_page_mapped()
@@ -65,7 +65,7 @@ pub(crate) fn takes_all(region: &Region, closed: &ByteSet, at: u64, width: u8) -
 /// Whether the region lets an access that is its own through.
 pub fn lets_through(region: &Region, at: u64, width: u8, write: bool) -> bool
     requires { 0 < width }
-    ensures { result ≡ lets_through_lem at width write region.now }
+    ensures { result ≡ lets_through at width write region.now }
 {
     let rights = region.rights();
     let right = if write { rights.write } else { rights.read };
@@ -74,7 +74,7 @@ pub fn lets_through(region: &Region, at: u64, width: u8, write: bool) -> bool
 
 /// The number that an answer gives: the last one of 32 bits for all that don't have 32 bits.
 fn number_told(number: usize) -> u32
-    ensures { result ≡ number_told_lem number }
+    ensures { result ≡ number_told number }
 {
     u32::try_from(number).unwrap_or(u32::MAX)
 }
@@ -95,7 +95,7 @@ fn by_number(regions: &[Region], number: usize, at: u64, width: u8, write: bool)
 /// What configuration space answers to an access that lies in the ECAM window.
 fn by_ecam(ecam: Range, at: u64, width: u8) -> Hitting
     requires { ecam.start ≤ at }
-    ensures { result ≡ by_ecam_lem ecam at width }
+    ensures { result ≡ by_ecam ecam at width }
 {
     match width {
         1 | 2 | 4 if (at - ecam.start) % u64::from(width) == 0 => Hitting::Ecam,
@@ -115,7 +115,7 @@ fn first_window(windows: &[Window], at: u64, width: u8) -> Option<usize>
 
 /// What the window of that number answers.
 fn by_window(number: usize, at: u64, width: u8) -> Hitting
-    ensures { result ≡ by_window_lem at width number }
+    ensures { result ≡ by_window at width number }
 {
     if width == 4 && at % 4 == 0 {
         Hitting::Bar {
@@ -163,7 +163,7 @@ pub(crate) fn by_first(
 fn first_subpage(regions: &[Region], closed: &ByteSet, at: u64, width: u8) -> Option<usize>
     requires some { 0 < width }
     requires ranges { All (λ (r : TheRegion). 0 < r.size → IsInRange r) regions.now }
-    ensures { result ≡ position (takes_all_lem (has_byte closed.now.ranges) at width) regions.now }
+    ensures { result ≡ position (takes_all (has_byte closed.now.ranges) at width) regions.now }
 {
     for (number, region) in regions.iter().enumerate() {
         if takes_all(region, closed, at, width) {

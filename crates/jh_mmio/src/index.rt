@@ -3,7 +3,7 @@ ghost use Rattle.std.specs.Prelude.{◌≡◌, ℕ, ◌<◌, ◌≤◌, Bool, Al
 ghost use Rattle.jh_num.specs.Bytes.{has_byte};
 ghost use Rattle.jh_cellcfg.specs.declared.region.Region.{Region as TheRegion};
 ghost use Rattle.jh_cellcfg.specs.Regions.{has_address, IsInRange};
-ghost use Rattle.jh_mmio.specs.Dispatch.{takes_all as takes_all_lem, unless_closed, hitting};
+ghost use Rattle.jh_mmio.specs.Dispatch.{takes_all, unless_closed, hitting};
 ghost use Rattle.jh_mmio.specs.Index.{SharesNoAddress, IsRegionAt, IsNumberAt, AreNumbers, IsOrder, size_at, start_at};
 
 use crate::cases::{by_first, has_whole, takes_all};
@@ -109,7 +109,7 @@ impl RegionIndex {
     /// The subpage region that has the whole access: no other region has it, whichever places are closed.
     pub fn subpage(&self, at: u64, width: u8) -> Option<Region>
         requires { 0 < width }
-        ensures found { (closed : ℕ → Bool) → find (takes_all_lem closed at width) self.now ≡ unless_closed closed at width result }
+        ensures found { (closed : ℕ → Bool) → find (takes_all closed at width) self.now ≡ unless_closed closed at width result }
         ensures own { IfSome result (Contains self.now) }
         ensures first { IfSome result (λ r. IsTrue (has_address r at)) }
     {
@@ -129,7 +129,7 @@ impl RegionIndex {
     fn subpage_at(&self, closed: &ByteSet, at: u64, width: u8) -> Option<usize>
         requires some { 0 < width }
         requires ranges { All (λ (r : TheRegion). 0 < r.size → IsInRange r) self.now }
-        ensures { result ≡ position (takes_all_lem (has_byte closed.now.ranges) at width) self.now }
+        ensures { result ≡ position (takes_all (has_byte closed.now.ranges) at width) self.now }
     {
         let regions = self.regions.as_slice();
         match number_at(regions, self.order.as_slice(), at) {

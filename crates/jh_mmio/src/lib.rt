@@ -13,6 +13,3 @@ pub use laws::{
     a_closed_byte_is_no_subpage_access, a_region_that_refuses_ends_the_search,
     the_region_that_answers_is_the_only_one,
 };
-
-#[cfg(test)]
-mod tests;

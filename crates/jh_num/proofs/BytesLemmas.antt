@@ -9,8 +9,8 @@ use Rattle.jh_num.specs.declared.range.Range.{Range}
 use Rattle.jh_num.specs.Bytes.{in_range, has_byte, pieces, AreApartFrom}
 use Rattle.jh_num.proofs.Booleans.{or_assoc}
 
-pub has_byte-append : (xs ys : List Range) (b : ℕ) → has_byte (xs ++ ys) b ≡ (has_byte xs b || has_byte ys b)
-has_byte-append xs ys b = list_any-append (λ (range : Range). in_range range b) xs ys
+pub has_byte_append : (xs ys : List Range) (b : ℕ) → has_byte (xs ++ ys) b ≡ (has_byte xs b || has_byte ys b)
+has_byte_append xs ys b = list_any-append (λ (range : Range). in_range range b) xs ys
 
 pub below_range : (r : Range) (b : ℕ) → b < r.start → in_range r b ≡ false
 below_range r b h = grind (arith, nat_tests)
@@ -22,20 +22,20 @@ pub within_range : (r : Range) (b : ℕ) → r.start ≤ b → b < r.end → in_
 within_range r b h k = grind (arith, nat_tests)
 
 -- a list that starts late starts early
-pub AreApartFrom-lower : (low to : ℕ) (xs : List Range) → to ≤ low → AreApartFrom low xs → AreApartFrom to xs
-AreApartFrom-lower low to [] h a = tt
-AreApartFrom-lower low to (x ∷ xs) h a = (omega arith, a.1, a.2)
+pub AreApartFrom_lower : (low to : ℕ) (xs : List Range) → to ≤ low → AreApartFrom low xs → AreApartFrom to xs
+AreApartFrom_lower low to [] h a = tt
+AreApartFrom_lower low to (x ∷ xs) h a = (omega arith, a.1, a.2)
 
-pub AreApartFrom-take : (low k : ℕ) (xs : List Range) → AreApartFrom low xs → AreApartFrom low (take k xs)
-AreApartFrom-take low zero xs a = tt
-AreApartFrom-take low (suc k) [] a = tt
-AreApartFrom-take low (suc k) (x ∷ xs) a = (a.0, a.1, AreApartFrom-take (x.end + 1) k xs a.2)
+pub AreApartFrom_take : (low k : ℕ) (xs : List Range) → AreApartFrom low xs → AreApartFrom low (take k xs)
+AreApartFrom_take low zero xs a = tt
+AreApartFrom_take low (suc k) [] a = tt
+AreApartFrom_take low (suc k) (x ∷ xs) a = (a.0, a.1, AreApartFrom_take (x.end + 1) k xs a.2)
 
-pub AreApartFrom-drop : (low k : ℕ) (xs : List Range) → AreApartFrom low xs → AreApartFrom low (drop k xs)
-AreApartFrom-drop low zero xs a = a
-AreApartFrom-drop low (suc k) [] a = tt
-AreApartFrom-drop low (suc k) (x ∷ xs) a =
-    AreApartFrom-drop low k xs (AreApartFrom-lower (x.end + 1) low xs (omega arith) a.2)
+pub AreApartFrom_drop : (low k : ℕ) (xs : List Range) → AreApartFrom low xs → AreApartFrom low (drop k xs)
+AreApartFrom_drop low zero xs a = a
+AreApartFrom_drop low (suc k) [] a = tt
+AreApartFrom_drop low (suc k) (x ∷ xs) a =
+    AreApartFrom_drop low k xs (AreApartFrom_lower (x.end + 1) low xs (omega arith) a.2)
 
 -- no byte below the first range
 pub absent_below : (low : ℕ) (xs : List Range) (b : ℕ) → AreApartFrom low xs → b < low → has_byte xs b ≡ false
@@ -65,48 +65,48 @@ ends_before low (x ∷ xs) zero (suc k) d a h l =
 ends_before low (x ∷ xs) (suc i) (suc k) d a h l = ends_before (x.end + 1) xs i k d a.2 (omega arith) (omega arith)
 
 -- what is left from a place on, by where the range there starts
-pub AreApartFrom-from : (low to k : ℕ) (xs : List Range) → AreApartFrom low xs → ((d : Range) → k < length xs → to ≤ (get_or xs k d).start) → AreApartFrom to (drop k xs)
-AreApartFrom-from low to k [] a h = elim k as (λ n. AreApartFrom to (drop n [])) [ zero ↦ tt | suc n ↦ tt ]
-AreApartFrom-from low to zero (x ∷ xs) a h = (h x (omega arith), a.1, a.2)
-AreApartFrom-from low to (suc k) (x ∷ xs) a h = AreApartFrom-from (x.end + 1) to k xs a.2 (λ d l. h d (omega arith))
+pub AreApartFrom_from : (low to k : ℕ) (xs : List Range) → AreApartFrom low xs → ((d : Range) → k < length xs → to ≤ (get_or xs k d).start) → AreApartFrom to (drop k xs)
+AreApartFrom_from low to k [] a h = elim k as (λ n. AreApartFrom to (drop n [])) [ zero ↦ tt | suc n ↦ tt ]
+AreApartFrom_from low to zero (x ∷ xs) a h = (h x (omega arith), a.1, a.2)
+AreApartFrom_from low to (suc k) (x ∷ xs) a h = AreApartFrom_from (x.end + 1) to k xs a.2 (λ d l. h d (omega arith))
 
 -- what is left after a range
-pub AreApartFrom-after : (low k : ℕ) (d : Range) (xs : List Range) → AreApartFrom low xs → k < length xs → AreApartFrom ((get_or xs k d).end + 1) (drop (suc k) xs)
-AreApartFrom-after low k d [] a h = absurd (omega arith)
-AreApartFrom-after low zero d (x ∷ xs) a h = a.2
-AreApartFrom-after low (suc k) d (x ∷ xs) a h = AreApartFrom-after (x.end + 1) k d xs a.2 (omega arith)
+pub AreApartFrom_after : (low k : ℕ) (d : Range) (xs : List Range) → AreApartFrom low xs → k < length xs → AreApartFrom ((get_or xs k d).end + 1) (drop (suc k) xs)
+AreApartFrom_after low k d [] a h = absurd (omega arith)
+AreApartFrom_after low zero d (x ∷ xs) a h = a.2
+AreApartFrom_after low (suc k) d (x ∷ xs) a h = AreApartFrom_after (x.end + 1) k d xs a.2 (omega arith)
 
 -- one list after another
-pub AreApartFrom-append : (low to : ℕ) (xs ys : List Range) → low ≤ to → AreApartFrom low xs → ((k : ℕ) (d : Range) → k < length xs → (get_or xs k d).end < to) → AreApartFrom to ys → AreApartFrom low (xs ++ ys)
-AreApartFrom-append low to [] ys l a h b = AreApartFrom-lower to low ys l b
-AreApartFrom-append low to (x ∷ xs) ys l a h b =
+pub AreApartFrom_append : (low to : ℕ) (xs ys : List Range) → low ≤ to → AreApartFrom low xs → ((k : ℕ) (d : Range) → k < length xs → (get_or xs k d).end < to) → AreApartFrom to ys → AreApartFrom low (xs ++ ys)
+AreApartFrom_append low to [] ys l a h b = AreApartFrom_lower to low ys l b
+AreApartFrom_append low to (x ∷ xs) ys l a h b =
     let e = h 0 x (omega arith) in
-    (a.0, a.1, AreApartFrom-append (x.end + 1) to xs ys (omega arith) a.2 (λ k d i. h (suc k) d (omega arith)) b)
+    (a.0, a.1, AreApartFrom_append (x.end + 1) to xs ys (omega arith) a.2 (λ k d i. h (suc k) d (omega arith)) b)
 
 -- a list around one of its ranges
-pub has_byte-split : (xs : List Range) (k : ℕ) (d : Range) (b : ℕ) → k < length xs → has_byte xs b ≡ (has_byte (take k xs) b || (in_range (get_or xs k d) b || has_byte (drop (suc k) xs) b))
-has_byte-split [] k d b h = absurd (omega arith)
-has_byte-split (x ∷ xs) zero d b h = refl
-has_byte-split (x ∷ xs) (suc k) d b h =
-    ap (λ v. in_range x b || v) (has_byte-split xs k d b (omega arith)) ∙ or_assoc (in_range x b) (has_byte (take k xs) b) (in_range (get_or xs k d) b || has_byte (drop (suc k) xs) b)
+pub has_byte_split : (xs : List Range) (k : ℕ) (d : Range) (b : ℕ) → k < length xs → has_byte xs b ≡ (has_byte (take k xs) b || (in_range (get_or xs k d) b || has_byte (drop (suc k) xs) b))
+has_byte_split [] k d b h = absurd (omega arith)
+has_byte_split (x ∷ xs) zero d b h = refl
+has_byte_split (x ∷ xs) (suc k) d b h =
+    ap (λ v. in_range x b || v) (has_byte_split xs k d b (omega arith)) ∙ or_assoc (in_range x b) (has_byte (take k xs) b) (in_range (get_or xs k d) b || has_byte (drop (suc k) xs) b)
 
 -- a list cut in two
-pub has_byte-cut : (xs : List Range) (k b : ℕ) → has_byte xs b ≡ (has_byte (take k xs) b || has_byte (drop k xs) b)
-has_byte-cut xs k b = ap (λ v. has_byte v b) (sym (take-append-drop k xs)) ∙ has_byte-append (take k xs) (drop k xs) b
+pub has_byte_cut : (xs : List Range) (k b : ℕ) → has_byte xs b ≡ (has_byte (take k xs) b || has_byte (drop k xs) b)
+has_byte_cut xs k b = ap (λ v. has_byte v b) (sym (take-append-drop k xs)) ∙ has_byte_append (take k xs) (drop k xs) b
 
 -- the places of the first ranges
-pub get_or-of_take : (P : Range → Type 0) (xs : List Range) (n : ℕ) → n ≤ length xs → ((k : ℕ) (d : Range) → k < n → P (get_or xs k d)) → (k : ℕ) (d : Range) → k < length (take n xs) → P (get_or (take n xs) k d)
-get_or-of_take P xs n l h k d i =
+pub get_or_of_take : (P : Range → Type 0) (xs : List Range) (n : ℕ) → n ≤ length xs → ((k : ℕ) (d : Range) → k < n → P (get_or xs k d)) → (k : ℕ) (d : Range) → k < length (take n xs) → P (get_or (take n xs) k d)
+get_or_of_take P xs n l h k d i =
     let j : k < n = omega (arith, length-take-le n xs l) in
     subst P (sym (get_or-take n xs k d j)) (h k d j)
 
 -- a list around one of its ranges, the places after it counted otherwise
-pub has_byte-split_at : (xs : List Range) (k n : ℕ) (d : Range) (b : ℕ) → n ≡ suc k → k < length xs → has_byte xs b ≡ (has_byte (take k xs) b || (in_range (get_or xs k d) b || has_byte (drop n xs) b))
-has_byte-split_at xs k n d b e h = rw e (has_byte-split xs k d b h)
+pub has_byte_split_at : (xs : List Range) (k n : ℕ) (d : Range) (b : ℕ) → n ≡ suc k → k < length xs → has_byte xs b ≡ (has_byte (take k xs) b || (in_range (get_or xs k d) b || has_byte (drop n xs) b))
+has_byte_split_at xs k n d b e h = rw e (has_byte_split xs k d b h)
 
 -- two tests of which one decides
-pub or-true_middle : (t d x : Bool) → (t || (true || d)) ≡ (x || true)
-or-true_middle t d x = elim t as (λ v. (v || (true || d)) ≡ (x || true)) [ true ↦ sym (or-true x) | false ↦ sym (or-true x) ]
+pub or_true_middle : (t d x : Bool) → (t || (true || d)) ≡ (x || true)
+or_true_middle t d x = elim t as (λ v. (v || (true || d)) ≡ (x || true)) [ true ↦ sym (or-true x) | false ↦ sym (or-true x) ]
 
 -- the bytes below a range that takes the place of others
 pub low_bytes : (t m d x a r : Bool) → d ≡ false → a ≡ false → r ≡ false → m ≡ x → (t || (m || d)) ≡ ((t || (x || a)) || r)
@@ -121,8 +121,8 @@ pub same_byte : (x y : Range) (b : ℕ) → (x.start ≤ b → y.start ≤ b) �
 same_byte x y b h i j k = grind (arith, nat_tests)
 
 -- a piece has its bytes, and an empty one none
-pub has_byte-pieces : (p : Range) (b : ℕ) → has_byte (pieces p) b ≡ in_range p b
-has_byte-pieces p b =
+pub has_byte_pieces : (p : Range) (b : ℕ) → has_byte (pieces p) b ≡ in_range p b
+has_byte_pieces p b =
     ⊎_elim
     (λ some. rw (lt-ltb p.start p.end some) (or-false (in_range p b)))
     (λ none. rw (le-ltb p.start p.end none) (no_byte p b none))
@@ -132,8 +132,8 @@ has_byte-pieces p b =
     no_byte p b h = grind (arith, nat_tests)
 
 -- a piece before what is apart from it
-pub AreApartFrom-pieces : (low : ℕ) (p : Range) (xs : List Range) → (p.start < p.end → low ≤ p.start) → (p.start < p.end → AreApartFrom (p.end + 1) xs) → AreApartFrom low xs → AreApartFrom low (pieces p ++ xs)
-AreApartFrom-pieces low p xs h k a =
+pub AreApartFrom_pieces : (low : ℕ) (p : Range) (xs : List Range) → (p.start < p.end → low ≤ p.start) → (p.start < p.end → AreApartFrom (p.end + 1) xs) → AreApartFrom low xs → AreApartFrom low (pieces p ++ xs)
+AreApartFrom_pieces low p xs h k a =
     ⊎_elim
     (λ some. rw (lt-ltb p.start p.end some) (h some, some, k some))
     (λ none. rw (le-ltb p.start p.end none) a)

@@ -4,7 +4,7 @@ use Rattle.std.proofs.lemmas.Bool.{cases_lt}
 use Rattle.std.proofs.lemmas.List.{get_or_read}
 use Rattle.jh_num.specs.declared.range.Range.{Range}
 use Rattle.jh_num.specs.Bytes.{in_range, has_byte, AreApartFrom, AreApart}
-use Rattle.jh_num.proofs.BytesLemmas.{has_byte-append, below_range, above_range, within_range, AreApartFrom-take, absent_below, absent_above, not_empty_at, ends_before, AreApartFrom-from, AreApartFrom-after, AreApartFrom-append, has_byte-split_at, has_byte-cut, get_or-of_take, or-true_middle, low_bytes, high_bytes, same_byte}
+use Rattle.jh_num.proofs.BytesLemmas.{has_byte_append, below_range, above_range, within_range, AreApartFrom_take, absent_below, absent_above, not_empty_at, ends_before, AreApartFrom_from, AreApartFrom_after, AreApartFrom_append, has_byte_split_at, has_byte_cut, get_or_of_take, or_true_middle, low_bytes, high_bytes, same_byte}
 use Rattle.jh_num.proofs.Booleans.{or_swap}
 
 -- the new list has the bytes of the old one and of the range, and is apart
@@ -34,14 +34,14 @@ pub record Covers (xs : List Range) (r m x y : Range) (at upto last : ℕ) : Typ
 
 bytes_over : (xs : List Range) (r m x y : Range) (at upto last : ℕ) → Reaches xs r at upto → Covers xs r m x y at upto last → (b : ℕ) → has_byte (take at xs ++ m ∷ drop upto xs) b ≡ (has_byte xs b || in_range r b)
 bytes_over xs r m x y at upto last h k b =
-    let tail : AreApartFrom (r.end + 1) (drop upto xs) = AreApartFrom-from 0 (r.end + 1) upto xs h.apart (λ d l. let e = h.upto_start d l in omega arith) in
+    let tail : AreApartFrom (r.end + 1) (drop upto xs) = AreApartFrom_from 0 (r.end + 1) upto xs h.apart (λ d l. let e = h.upto_start d l in omega arith) in
     let at_in : at < length xs = let e = k.some in let f = h.upto_bound in omega arith in
     let last_in : last < length xs = let e = k.last_is in let f = h.upto_bound in omega arith in
-    let front : (k' : ℕ) (d : Range) → k' < length (take at xs) → (get_or (take at xs) k' d).end < r.start = get_or-of_take (λ q. q.end < r.start) xs at h.at_bound h.before in
-    has_byte-append (take at xs) (m ∷ drop upto xs) b ∙
+    let front : (k' : ℕ) (d : Range) → k' < length (take at xs) → (get_or (take at xs) k' d).end < r.start = get_or_of_take (λ q. q.end < r.start) xs at h.at_bound h.before in
+    has_byte_append (take at xs) (m ∷ drop upto xs) b ∙
     ⊎_elim
     (λ low.
-    let after = AreApartFrom-after 0 at x xs h.apart at_in in
+    let after = AreApartFrom_after 0 at x xs h.apart at_in in
     let reach : r.start ≤ (get_or xs at x).end = h.at_end x at_in in
     let fx = k.first in
     let fs = k.start in
@@ -53,23 +53,23 @@ bytes_over xs r m x y at upto last h k b =
     (absent_below ((get_or xs at x).end + 1) (drop (suc at) xs) b after (omega arith))
     (below_range r b low)
     (rw (← fx) (same_byte m x b (λ i. omega arith) (λ i. omega arith) (λ i. omega arith) (λ i. omega arith)))
-    ∙ ap (λ v. v || in_range r b) (sym (has_byte-split_at xs at (suc at) x b refl at_in)))
+    ∙ ap (λ v. v || in_range r b) (sym (has_byte_split_at xs at (suc at) x b refl at_in)))
     (λ high. ⊎_elim
     (λ inside.
     rw (within_range m b (omega arith) (omega arith), within_range r b high inside)
-    (or-true_middle (has_byte (take at xs) b) (has_byte (drop upto xs) b) (has_byte xs b)))
+    (or_true_middle (has_byte (take at xs) b) (has_byte (drop upto xs) b) (has_byte xs b)))
     (λ past.
     let fy = k.final in
     let nonempty = not_empty_at 0 xs last y h.apart last_in in
     let start : y.start ≤ r.end = rw fy (h.by last y (let e = k.last_is in omega arith)) in
     let heads : (k' : ℕ) (d : Range) → k' < length (take last xs) → (get_or (take last xs) k' d).end ≤ b =
-    get_or-of_take (λ q. q.end ≤ b) xs last (omega arith) (λ k' d l. let e : (get_or xs k' d).end < (get_or xs last d).start = ends_before 0 xs k' last d h.apart l last_in in let f : get_or xs last d ≡ y = sym (get_or_read xs last y last_in fy d) in let g : (get_or xs k' d).end < y.start = rw (← f) e in omega arith) in
+    get_or_of_take (λ q. q.end ≤ b) xs last (omega arith) (λ k' d l. let e : (get_or xs k' d).end < (get_or xs last d).start = ends_before 0 xs k' last d h.apart l last_in in let f : get_or xs last d ≡ y = sym (get_or_read xs last y last_in fy d) in let g : (get_or xs k' d).end < y.start = rw (← f) e in omega arith) in
     high_bytes (has_byte (take at xs) b) (in_range m b) (has_byte (drop upto xs) b) (in_range (get_or xs last y) b) (has_byte (take last xs) b) (in_range r b)
     (absent_above (take at xs) b (λ k' d l. let e = front k' d l in omega arith))
     (absent_above (take last xs) b heads)
     (above_range r b past)
     (rw (← fy) (same_byte m y b (λ i. omega arith) (λ i. omega arith) (λ i. omega arith) (λ i. omega arith)))
-    ∙ ap (λ v. v || in_range r b) (sym (has_byte-split_at xs last upto y b k.last_is last_in)))
+    ∙ ap (λ v. v || in_range r b) (sym (has_byte_split_at xs last upto y b k.last_is last_in)))
     (cases_lt b r.end))
     (cases_lt b r.start)
 
@@ -81,11 +81,11 @@ apart_over xs r m x y at upto last h k =
     let fy = k.final in
     let some = h.some in
     let before : (k' : ℕ) (d : Range) → k' < length (take at xs) → (get_or (take at xs) k' d).end < m.start =
-    get_or-of_take (λ q. q.end < m.start) xs at h.at_bound (λ k' d l. let e : (get_or xs k' d).end < (get_or xs at d).start = ends_before 0 xs k' at d h.apart l at_in in let f : get_or xs at d ≡ x = sym (get_or_read xs at x at_in fx d) in let g : (get_or xs k' d).end < x.start = rw (← f) e in let b = h.before k' d l in omega arith) in
-    AreApartFrom-append 0 m.start (take at xs) (m ∷ drop upto xs) (omega arith) (AreApartFrom-take 0 at xs h.apart) before (
+    get_or_of_take (λ q. q.end < m.start) xs at h.at_bound (λ k' d l. let e : (get_or xs k' d).end < (get_or xs at d).start = ends_before 0 xs k' at d h.apart l at_in in let f : get_or xs at d ≡ x = sym (get_or_read xs at x at_in fx d) in let g : (get_or xs k' d).end < x.start = rw (← f) e in let b = h.before k' d l in omega arith) in
+    AreApartFrom_append 0 m.start (take at xs) (m ∷ drop upto xs) (omega arith) (AreApartFrom_take 0 at xs h.apart) before (
       omega arith,
       omega arith,
-      AreApartFrom-from 0 (m.end + 1) upto xs h.apart
+      AreApartFrom_from 0 (m.end + 1) upto xs h.apart
           (λ d l. let e : (get_or xs last d).end < (get_or xs upto d).start = ends_before 0 xs last upto d h.apart (omega arith) l in let f : get_or xs last d ≡ y = sym (get_or_read xs last y last_in fy d) in let g : y.end < (get_or xs upto d).start = rw (← f) e in let b = h.upto_start d l in omega arith),
     )
 
@@ -96,7 +96,7 @@ inserted_over xs r m x y at upto last h k =
 -- where no range reaches the new one
 beside : (xs : List Range) (r : Range) (at upto : ℕ) → Reaches xs r at upto → upto ≤ at → AreApartFrom (r.end + 1) (drop at xs)
 beside xs r at upto h e =
-    AreApartFrom-from 0 (r.end + 1) at xs h.apart (λ d l.
+    AreApartFrom_from 0 (r.end + 1) at xs h.apart (λ d l.
     let u = h.upto_start d (omega arith) in
     ⊎_elim
     (λ less. let b = ends_before 0 xs upto at d h.apart less l in let n = not_empty_at 0 xs upto d h.apart (omega arith) in omega arith)
@@ -105,8 +105,8 @@ beside xs r at upto h e =
 
 pub inserted_beside : (xs : List Range) (r : Range) (at upto : ℕ) → Reaches xs r at upto → upto ≤ at → Inserted xs (take at xs ++ r ∷ drop at xs) r
 inserted_beside xs r at upto h e =
-    let front : (k' : ℕ) (d : Range) → k' < length (take at xs) → (get_or (take at xs) k' d).end < r.start = get_or-of_take (λ q. q.end < r.start) xs at h.at_bound h.before in
+    let front : (k' : ℕ) (d : Range) → k' < length (take at xs) → (get_or (take at xs) k' d).end < r.start = get_or_of_take (λ q. q.end < r.start) xs at h.at_bound h.before in
     record {
-      bytes = λ b. has_byte-append (take at xs) (r ∷ drop at xs) b ∙ or_swap (has_byte (take at xs) b) (in_range r b) (has_byte (drop at xs) b) ∙ ap (λ v. v || in_range r b) (sym (has_byte-cut xs at b));
-      apart = AreApartFrom-append 0 r.start (take at xs) (r ∷ drop at xs) (omega arith) (AreApartFrom-take 0 at xs h.apart) front (omega arith, h.some, beside xs r at upto h e);
+      bytes = λ b. has_byte_append (take at xs) (r ∷ drop at xs) b ∙ or_swap (has_byte (take at xs) b) (in_range r b) (has_byte (drop at xs) b) ∙ ap (λ v. v || in_range r b) (sym (has_byte_cut xs at b));
+      apart = AreApartFrom_append 0 r.start (take at xs) (r ∷ drop at xs) (omega arith) (AreApartFrom_take 0 at xs h.apart) front (omega arith, h.some, beside xs r at upto h e);
     }

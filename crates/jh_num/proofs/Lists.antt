@@ -11,22 +11,22 @@ use Rattle.std.proofs.lemmas.List.Elements.{All-contains, Contains-append_left, 
 use Rattle.std.proofs.lemmas.List.Folds.{list_any_at, list_any_more, Any-from_list_any}
 
 -- an element is the first, or one of the rest
-pub Contains-head : {X : Type 0} (x : X) (xs : List X) → Contains (x ∷ xs) x
-Contains-head x xs = (0, omega arith, refl)
+pub Contains_head : {X : Type 0} (x : X) (xs : List X) → Contains (x ∷ xs) x
+Contains_head x xs = (0, omega arith, refl)
 
-pub Contains-tail : {X : Type 0} (y : X) (ys : List X) (x : X) → Contains ys x → Contains (y ∷ ys) x
-Contains-tail y ys x (k, below, is) = (suc k, omega arith, is)
+pub Contains_tail : {X : Type 0} (y : X) (ys : List X) (x : X) → Contains ys x → Contains (y ∷ ys) x
+Contains_tail y ys x (k, below, is) = (suc k, omega arith, is)
 
-pub Contains-cases : {X : Type 0} (y : X) (ys : List X) (x : X) → Contains (y ∷ ys) x → (y ≡ x) ⊎ Contains ys x
-Contains-cases y ys x (zero, below, is) = inl is
-Contains-cases y ys x (suc k, below, is) = inr (k, omega arith, is)
+pub Contains_cases : {X : Type 0} (y : X) (ys : List X) (x : X) → Contains (y ∷ ys) x → (y ≡ x) ⊎ Contains ys x
+Contains_cases y ys x (zero, below, is) = inl is
+Contains_cases y ys x (suc k, below, is) = inr (k, omega arith, is)
 
 -- the elements of a list around one of them
-pub Contains-without : {X : Type 0} (xs : List X) (c : X) (ys : List X) (x : X) → Contains (xs ++ ys) x → Contains (xs ++ c ∷ ys) x
-Contains-without xs c ys x h =
+pub Contains_without : {X : Type 0} (xs : List X) (c : X) (ys : List X) (x : X) → Contains (xs ++ ys) x → Contains (xs ++ c ∷ ys) x
+Contains_without xs c ys x h =
     ⊎_elim
     (λ l. Contains-append_left xs (c ∷ ys) x l)
-    (λ r. Contains-append_right xs (c ∷ ys) x (Contains-tail c ys x r))
+    (λ r. Contains-append_right xs (c ∷ ys) x (Contains_tail c ys x r))
     (Contains-append_cases xs ys x h)
 
 -- the element passes, and is one of the list
@@ -37,45 +37,45 @@ pub record IsFound {X : Type 0} (p : X → Bool) (xs : List X) (x : X) : Type 0 
 found_by : {X : Type 0} (p : X → Bool) (y : X) (ys : List X) (x : X) (b : Bool) → p y ≡ b → (find p ys ≡ Some x → IsFound p ys x) → cond b (Some y) (find p ys) ≡ Some x → IsFound p (y ∷ ys) x
 found_by {X} p y ys x true is rest e =
     let P : X → Type 0 = λ z. IsFound p (y ∷ ys) z in
-    subst P (same_Some y x e) (record { held = Contains-head y ys; passes = is })
-found_by p y ys x false is rest e = let r = rest e in record { held = Contains-tail y ys x r.held; passes = r.passes }
+    subst P (same_Some y x e) (record { held = Contains_head y ys; passes = is })
+found_by p y ys x false is rest e = let r = rest e in record { held = Contains_tail y ys x r.held; passes = r.passes }
 
 -- what is found is such an element
-pub IsFound-from_find : {X : Type 0} (p : X → Bool) (xs : List X) (x : X) → find p xs ≡ Some x → IsFound p xs x
-IsFound-from_find p [] x e = absurd (none-some x e)
-IsFound-from_find p (y ∷ ys) x e = found_by p y ys x (p y) refl (λ h. IsFound-from_find p ys x h) e
+pub IsFound_from_find : {X : Type 0} (p : X → Bool) (xs : List X) (x : X) → find p xs ≡ Some x → IsFound p xs x
+IsFound_from_find p [] x e = absurd (none-some x e)
+IsFound_from_find p (y ∷ ys) x e = found_by p y ys x (p y) refl (λ h. IsFound_from_find p ys x h) e
 
 -- and has what all elements have
-pub All-from_find : {X : Type 0} (p : X → Bool) (Q : X → Type 0) (xs : List X) (x : X) → find p xs ≡ Some x → All Q xs → Q x
-All-from_find p Q xs x e all = All-contains Q xs x all (IsFound-from_find p xs x e).held
+pub All_from_find : {X : Type 0} (p : X → Bool) (Q : X → Type 0) (xs : List X) (x : X) → find p xs ≡ Some x → All Q xs → Q x
+All_from_find p Q xs x e all = All-contains Q xs x all (IsFound_from_find p xs x e).held
 
 -- where none is found, no element passes
 none_by : {X : Type 0} (p : X → Bool) (y : X) (ys : List X) (x : X) (b : Bool) → p y ≡ b → (find p ys ≡ None → Contains ys x → p x ≡ false) → cond b (Some y) (find p ys) ≡ None → Contains (y ∷ ys) x → p x ≡ false
 none_by p y ys x true is rest e h = absurd (none-some y (sym e))
-none_by p y ys x false is rest e h = ⊎_elim (λ (same : y ≡ x). ap p (sym same) ∙ is) (λ (later : Contains ys x). rest e later) (Contains-cases y ys x h)
+none_by p y ys x false is rest e h = ⊎_elim (λ (same : y ≡ x). ap p (sym same) ∙ is) (λ (later : Contains ys x). rest e later) (Contains_cases y ys x h)
 
-pub find-None : {X : Type 0} (p : X → Bool) (xs : List X) (x : X) → find p xs ≡ None → Contains xs x → p x ≡ false
-find-None p [] x e (k, below, is) = absurd (omega arith)
-find-None p (y ∷ ys) x e h = none_by p y ys x (p y) refl (λ e' h'. find-None p ys x e' h') e h
+pub find_None : {X : Type 0} (p : X → Bool) (xs : List X) (x : X) → find p xs ≡ None → Contains xs x → p x ≡ false
+find_None p [] x e (k, below, is) = absurd (omega arith)
+find_None p (y ∷ ys) x e h = none_by p y ys x (p y) refl (λ e' h'. find_None p ys x e' h') e h
 
 -- where no element passes, none is found
-pub find-nothing : {X : Type 0} (p : X → Bool) (xs : List X) → ((x : X) → Contains xs x → p x ≡ false) → find p xs ≡ None
-find-nothing p [] h = refl
-find-nothing p (y ∷ ys) h = rw (h y (Contains-head y ys)) (find-nothing p ys (λ x k. h x (Contains-tail y ys x k)))
+pub find_nothing : {X : Type 0} (p : X → Bool) (xs : List X) → ((x : X) → Contains xs x → p x ≡ false) → find p xs ≡ None
+find_nothing p [] h = refl
+find_nothing p (y ∷ ys) h = rw (h y (Contains_head y ys)) (find_nothing p ys (λ x k. h x (Contains_tail y ys x k)))
 
 -- where an element passes, one is found
 some_by : {X : Type 0} (p : X → Bool) (xs : List X) (x : X) (o : Option X) → find p xs ≡ o → Contains xs x → p x ≡ true → (y : X) × (find p xs ≡ Some y)
-some_by p xs x None e h passes = absurd (both_ways (p x) (find-None p xs x e h) passes)
+some_by p xs x None e h passes = absurd (both_ways (p x) (find_None p xs x e h) passes)
 some_by p xs x (Some y) e h passes = (y, e)
 
-pub find-some : {X : Type 0} (p : X → Bool) (xs : List X) (x : X) → Contains xs x → p x ≡ true → (y : X) × (find p xs ≡ Some y)
-find-some p xs x h passes = some_by p xs x (find p xs) refl h passes
+pub find_some : {X : Type 0} (p : X → Bool) (xs : List X) (x : X) → Contains xs x → p x ≡ true → (y : X) × (find p xs ≡ Some y)
+find_some p xs x h passes = some_by p xs x (find p xs) refl h passes
 
 -- and where it is the only one, it is that one
-pub find-unique : {X : Type 0} (p : X → Bool) (xs : List X) (x : X) → Contains xs x → p x ≡ true → ((y : X) → Contains xs y → p y ≡ true → y ≡ x) → find p xs ≡ Some x
-find-unique p xs x h passes only =
-    let some = find-some p xs x h passes in
-    let found = IsFound-from_find p xs some.0 some.1 in
+pub find_unique : {X : Type 0} (p : X → Bool) (xs : List X) (x : X) → Contains xs x → p x ≡ true → ((y : X) → Contains xs y → p y ≡ true → y ≡ x) → find p xs ≡ Some x
+find_unique p xs x h passes only =
+    let some = find_some p xs x h passes in
+    let found = IsFound_from_find p xs some.0 some.1 in
     some.1 ∙ ap Some (only some.0 found.held found.passes)
 
 -- no two elements pass
@@ -86,177 +86,177 @@ only_later : {X : Type 0} (p : X → Bool) (y : X) (ys : List X) → IsOnly p (y
 only_later p y ys only j k d lt within at_j at_k = only (suc j) (suc k) d (omega arith) (omega arith) at_j at_k
 
 -- the one element that passes is found
-pub find-only : {X : Type 0} (p : X → Bool) (xs : List X) (i : ℕ) (d : X) → i < length xs → p (get_or xs i d) ≡ true → IsOnly p xs → find p xs ≡ Some (get_or xs i d)
-find-only p [] i d lt passes only = absurd (omega arith)
-find-only p (y ∷ ys) zero d lt passes only = rw passes refl
-find-only p (y ∷ ys) (suc i) d lt passes only = elim (cases_Bool (p y)) [
+pub find_only : {X : Type 0} (p : X → Bool) (xs : List X) (i : ℕ) (d : X) → i < length xs → p (get_or xs i d) ≡ true → IsOnly p xs → find p xs ≡ Some (get_or xs i d)
+find_only p [] i d lt passes only = absurd (omega arith)
+find_only p (y ∷ ys) zero d lt passes only = rw passes refl
+find_only p (y ∷ ys) (suc i) d lt passes only = elim (cases_Bool (p y)) [
   | inl first ↦ absurd (only 0 (suc i) d (omega arith) lt first passes)
-  | inr other ↦ rw other (find-only p ys i d (omega arith) passes (only_later p y ys only))
+  | inr other ↦ rw other (find_only p ys i d (omega arith) passes (only_later p y ys only))
 ]
 
 -- the first element that passes, where a search has come to it
-pub find-here : {X : Type 0} (p : X → Bool) (xs : List X) (k : ℕ) (x : X) → k < length xs → x ≡ get_or xs k x → p x ≡ true → find p (drop k xs) ≡ find p xs → find p xs ≡ slice_get xs k
-find-here p xs k x lt is passes rest =
+pub find_here : {X : Type 0} (p : X → Bool) (xs : List X) (k : ℕ) (x : X) → k < length xs → x ≡ get_or xs k x → p x ≡ true → find p (drop k xs) ≡ find p xs → find p xs ≡ slice_get xs k
+find_here p xs k x lt is passes rest =
     let here : find p (drop k xs) ≡ Some x = ap (find p) (drop_more xs k x lt) ∙ rw (← is, passes) refl in
     sym rest ∙ here ∙ ap Some is ∙ sym (slice_get-get_or xs k x lt)
 
 -- and none, where it has come to the end
-pub find-nowhere : {X : Type 0} (p : X → Bool) (xs : List X) → find p (drop (length xs) xs) ≡ find p xs → find p xs ≡ slice_get xs (length xs)
-find-nowhere p xs rest = sym rest ∙ ap (find p) (drop_all (length xs) xs (omega arith)) ∙ sym (slice_get_past xs (length xs) (omega arith))
+pub find_nowhere : {X : Type 0} (p : X → Bool) (xs : List X) → find p (drop (length xs) xs) ≡ find p xs → find p xs ≡ slice_get xs (length xs)
+find_nowhere p xs rest = sym rest ∙ ap (find p) (drop_all (length xs) xs (omega arith)) ∙ sym (slice_get_past xs (length xs) (omega arith))
 
 -- a search passes an element that fails
-pub find-skip : {X : Type 0} (p : X → Bool) (xs : List X) (k : ℕ) (d : X) → k < length xs → p (get_or xs k d) ≡ false → find p (drop (k + 1) xs) ≡ find p (drop k xs)
-find-skip p xs k d lt fails = sym (ap (find p) (drop_more xs k d lt) ∙ rw fails refl)
+pub find_skip : {X : Type 0} (p : X → Bool) (xs : List X) (k : ℕ) (d : X) → k < length xs → p (get_or xs k d) ≡ false → find p (drop (k + 1) xs) ≡ find p (drop k xs)
+find_skip p xs k d lt fails = sym (ap (find p) (drop_more xs k d lt) ∙ rw fails refl)
 
 -- a list without an element that fails
-pub find-without : {X : Type 0} (p : X → Bool) (xs : List X) (c : X) (ys : List X) → p c ≡ false → find p (xs ++ c ∷ ys) ≡ find p (xs ++ ys)
-find-without p [] c ys fails = rw fails refl
-find-without p (x ∷ xs) c ys fails = ap (λ o. cond (p x) (Some x) o) (find-without p xs c ys fails)
+pub find_without : {X : Type 0} (p : X → Bool) (xs : List X) (c : X) (ys : List X) → p c ≡ false → find p (xs ++ c ∷ ys) ≡ find p (xs ++ ys)
+find_without p [] c ys fails = rw fails refl
+find_without p (x ∷ xs) c ys fails = ap (λ o. cond (p x) (Some x) o) (find_without p xs c ys fails)
 
-pub list_any-without : {X : Type 0} (p : X → Bool) (xs : List X) (c : X) (ys : List X) → p c ≡ false → list_any p (xs ++ c ∷ ys) ≡ list_any p (xs ++ ys)
-list_any-without p [] c ys fails = rw fails refl
-list_any-without p (x ∷ xs) c ys fails = ap (λ b. p x || b) (list_any-without p xs c ys fails)
+pub list_any_without : {X : Type 0} (p : X → Bool) (xs : List X) (c : X) (ys : List X) → p c ≡ false → list_any p (xs ++ c ∷ ys) ≡ list_any p (xs ++ ys)
+list_any_without p [] c ys fails = rw fails refl
+list_any_without p (x ∷ xs) c ys fails = ap (λ b. p x || b) (list_any_without p xs c ys fails)
 
-pub filter-without : {X : Type 0} (p : X → Bool) (xs : List X) (c : X) (ys : List X) → p c ≡ false → filter p (xs ++ c ∷ ys) ≡ filter p (xs ++ ys)
-filter-without p [] c ys fails = rw fails refl
-filter-without p (x ∷ xs) c ys fails = ap (λ zs. cond (p x) (x ∷ zs) zs) (filter-without p xs c ys fails)
+pub filter_without : {X : Type 0} (p : X → Bool) (xs : List X) (c : X) (ys : List X) → p c ≡ false → filter p (xs ++ c ∷ ys) ≡ filter p (xs ++ ys)
+filter_without p [] c ys fails = rw fails refl
+filter_without p (x ∷ xs) c ys fails = ap (λ zs. cond (p x) (x ∷ zs) zs) (filter_without p xs c ys fails)
 
 -- whatever passes without an element passes with it
-pub list_any-fewer : {X : Type 0} (p : X → Bool) (xs : List X) (c : X) (ys : List X) → list_any p (xs ++ ys) ≡ true → list_any p (xs ++ c ∷ ys) ≡ true
-list_any-fewer p [] c ys h = or_right (p c) (list_any p ys) h
-list_any-fewer p (x ∷ xs) c ys h =
+pub list_any_fewer : {X : Type 0} (p : X → Bool) (xs : List X) (c : X) (ys : List X) → list_any p (xs ++ ys) ≡ true → list_any p (xs ++ c ∷ ys) ≡ true
+list_any_fewer p [] c ys h = or_right (p c) (list_any p ys) h
+list_any_fewer p (x ∷ xs) c ys h =
     ⊎_elim
     (λ here. or_left (p x) (list_any p (xs ++ c ∷ ys)) here)
-    (λ later. or_right (p x) (list_any p (xs ++ c ∷ ys)) (list_any-fewer p xs c ys later))
+    (λ later. or_right (p x) (list_any p (xs ++ c ∷ ys)) (list_any_fewer p xs c ys later))
     (or_cases (p x) (list_any p (xs ++ ys)) h)
 
 -- an element of the list that passes
-pub IsFound-from_list_any : {X : Type 0} (p : X → Bool) (xs : List X) → list_any p xs ≡ true → (x : X) × IsFound p xs x
-IsFound-from_list_any p xs h = let f = Any-from_list_any p xs h in (f.1, record { held = (f.0, f.2, f.3); passes = f.4 })
+pub IsFound_from_list_any : {X : Type 0} (p : X → Bool) (xs : List X) → list_any p xs ≡ true → (x : X) × IsFound p xs x
+IsFound_from_list_any p xs h = let f = Any-from_list_any p xs h in (f.1, record { held = (f.0, f.2, f.3); passes = f.4 })
 
-pub list_any-from_Contains : {X : Type 0} (p : X → Bool) (xs : List X) (x : X) → Contains xs x → p x ≡ true → list_any p xs ≡ true
-list_any-from_Contains p xs x (k, below, is) passes = list_any_at p xs k x below (ap p is ∙ passes)
+pub list_any_from_Contains : {X : Type 0} (p : X → Bool) (xs : List X) (x : X) → Contains xs x → p x ≡ true → list_any p xs ≡ true
+list_any_from_Contains p xs x (k, below, is) passes = list_any_at p xs k x below (ap p is ∙ passes)
 
 -- where none passes, no element does, and the other way round
-pub list_any-false : {X : Type 0} (p : X → Bool) (xs : List X) (x : X) → list_any p xs ≡ false → Contains xs x → p x ≡ false
-list_any-false p xs x none h =
-    ⊎_elim (λ (yes : p x ≡ true). absurd (both_ways (list_any p xs) none (list_any-from_Contains p xs x h yes))) (λ no. no) (cases_Bool (p x))
+pub list_any_false : {X : Type 0} (p : X → Bool) (xs : List X) (x : X) → list_any p xs ≡ false → Contains xs x → p x ≡ false
+list_any_false p xs x none h =
+    ⊎_elim (λ (yes : p x ≡ true). absurd (both_ways (list_any p xs) none (list_any_from_Contains p xs x h yes))) (λ no. no) (cases_Bool (p x))
 
-pub list_any-nothing : {X : Type 0} (p : X → Bool) (xs : List X) → ((x : X) → Contains xs x → p x ≡ false) → list_any p xs ≡ false
-list_any-nothing p [] h = refl
-list_any-nothing p (y ∷ ys) h = rw (h y (Contains-head y ys)) (list_any-nothing p ys (λ x k. h x (Contains-tail y ys x k)))
+pub list_any_nothing : {X : Type 0} (p : X → Bool) (xs : List X) → ((x : X) → Contains xs x → p x ≡ false) → list_any p xs ≡ false
+list_any_nothing p [] h = refl
+list_any_nothing p (y ∷ ys) h = rw (h y (Contains_head y ys)) (list_any_nothing p ys (λ x k. h x (Contains_tail y ys x k)))
 
 -- a test that fails at one element at least, or at none
-pub list_all-at : {X : Type 0} (p : X → Bool) (xs : List X) (x : X) → list_all p xs ≡ true → Contains xs x → p x ≡ true
-list_all-at p [] x h (k, below, is) = absurd (omega arith)
-list_all-at p (y ∷ ys) x h c =
+pub list_all_at : {X : Type 0} (p : X → Bool) (xs : List X) (x : X) → list_all p xs ≡ true → Contains xs x → p x ≡ true
+list_all_at p [] x h (k, below, is) = absurd (omega arith)
+list_all_at p (y ∷ ys) x h c =
     let parts = and_parts (p y) (list_all p ys) h in
-    ⊎_elim (λ (same : y ≡ x). ap p (sym same) ∙ parts.0) (λ (later : Contains ys x). list_all-at p ys x parts.1 later) (Contains-cases y ys x c)
+    ⊎_elim (λ (same : y ≡ x). ap p (sym same) ∙ parts.0) (λ (later : Contains ys x). list_all_at p ys x parts.1 later) (Contains_cases y ys x c)
 
-pub list_all-each : {X : Type 0} (p : X → Bool) (xs : List X) → ((x : X) → Contains xs x → p x ≡ true) → list_all p xs ≡ true
-list_all-each p [] h = refl
-list_all-each p (y ∷ ys) h = and_from (p y) (list_all p ys) (h y (Contains-head y ys)) (list_all-each p ys (λ x k. h x (Contains-tail y ys x k)))
+pub list_all_each : {X : Type 0} (p : X → Bool) (xs : List X) → ((x : X) → Contains xs x → p x ≡ true) → list_all p xs ≡ true
+list_all_each p [] h = refl
+list_all_each p (y ∷ ys) h = and_from (p y) (list_all p ys) (h y (Contains_head y ys)) (list_all_each p ys (λ x k. h x (Contains_tail y ys x k)))
 
 -- two tests that agree on the elements
-pub find-agree : {X : Type 0} (p q : X → Bool) (xs : List X) → ((x : X) → Contains xs x → p x ≡ q x) → find p xs ≡ find q xs
-find-agree p q [] h = refl
-find-agree p q (y ∷ ys) h =
-    ap (λ b. cond b (Some y) (find p ys)) (h y (Contains-head y ys))
-    ∙ ap (λ o. cond (q y) (Some y) o) (find-agree p q ys (λ x k. h x (Contains-tail y ys x k)))
+pub find_agree : {X : Type 0} (p q : X → Bool) (xs : List X) → ((x : X) → Contains xs x → p x ≡ q x) → find p xs ≡ find q xs
+find_agree p q [] h = refl
+find_agree p q (y ∷ ys) h =
+    ap (λ b. cond b (Some y) (find p ys)) (h y (Contains_head y ys))
+    ∙ ap (λ o. cond (q y) (Some y) o) (find_agree p q ys (λ x k. h x (Contains_tail y ys x k)))
 
-pub list_any-agree : {X : Type 0} (p q : X → Bool) (xs : List X) → ((x : X) → Contains xs x → p x ≡ q x) → list_any p xs ≡ list_any q xs
-list_any-agree p q [] h = refl
-list_any-agree p q (y ∷ ys) h =
-    ap (λ b. b || list_any p ys) (h y (Contains-head y ys))
-    ∙ ap (λ b. q y || b) (list_any-agree p q ys (λ x k. h x (Contains-tail y ys x k)))
+pub list_any_agree : {X : Type 0} (p q : X → Bool) (xs : List X) → ((x : X) → Contains xs x → p x ≡ q x) → list_any p xs ≡ list_any q xs
+list_any_agree p q [] h = refl
+list_any_agree p q (y ∷ ys) h =
+    ap (λ b. b || list_any p ys) (h y (Contains_head y ys))
+    ∙ ap (λ b. q y || b) (list_any_agree p q ys (λ x k. h x (Contains_tail y ys x k)))
 
-pub filter-agree : {X : Type 0} (p q : X → Bool) (xs : List X) → ((x : X) → Contains xs x → p x ≡ q x) → filter p xs ≡ filter q xs
-filter-agree p q [] h = refl
-filter-agree p q (y ∷ ys) h =
-    ap (λ b. cond b (y ∷ filter p ys) (filter p ys)) (h y (Contains-head y ys))
-    ∙ ap (λ zs. cond (q y) (y ∷ zs) zs) (filter-agree p q ys (λ x k. h x (Contains-tail y ys x k)))
+pub filter_agree : {X : Type 0} (p q : X → Bool) (xs : List X) → ((x : X) → Contains xs x → p x ≡ q x) → filter p xs ≡ filter q xs
+filter_agree p q [] h = refl
+filter_agree p q (y ∷ ys) h =
+    ap (λ b. cond b (y ∷ filter p ys) (filter p ys)) (h y (Contains_head y ys))
+    ∙ ap (λ zs. cond (q y) (y ∷ zs) zs) (filter_agree p q ys (λ x k. h x (Contains_tail y ys x k)))
 
 -- two tests that agree as far as a loop has come
-pub list_any-agree_more : {X : Type 0} (p q : X → Bool) (xs : List X) (i : ℕ) (d : X) → i < length xs → list_any p (take i xs) ≡ list_any q (take i xs) → p (get_or xs i d) ≡ q (get_or xs i d) → list_any p (take (i + 1) xs) ≡ list_any q (take (i + 1) xs)
-list_any-agree_more p q xs i d h e f =
+pub list_any_agree_more : {X : Type 0} (p q : X → Bool) (xs : List X) (i : ℕ) (d : X) → i < length xs → list_any p (take i xs) ≡ list_any q (take i xs) → p (get_or xs i d) ≡ q (get_or xs i d) → list_any p (take (i + 1) xs) ≡ list_any q (take (i + 1) xs)
+list_any_agree_more p q xs i d h e f =
     list_any_more p xs i d h
     ∙ ap (λ v. v || p (get_or xs i d)) e
     ∙ ap (λ v. list_any q (take i xs) || v) f
     ∙ sym (list_any_more q xs i d h)
 
 -- a test that passes wherever another does
-pub list_any-weaker : {X : Type 0} (p q : X → Bool) → ((x : X) → p x ≡ true → q x ≡ true) → (xs : List X) → list_any p xs ≡ true → list_any q xs ≡ true
-list_any-weaker p q h [] e = e
-list_any-weaker p q h (x ∷ xs) e =
+pub list_any_weaker : {X : Type 0} (p q : X → Bool) → ((x : X) → p x ≡ true → q x ≡ true) → (xs : List X) → list_any p xs ≡ true → list_any q xs ≡ true
+list_any_weaker p q h [] e = e
+list_any_weaker p q h (x ∷ xs) e =
     ⊎_elim
     (λ yes. or_left (q x) (list_any q xs) (h x yes))
-    (λ rest. or_right (q x) (list_any q xs) (list_any-weaker p q h xs rest))
+    (λ rest. or_right (q x) (list_any q xs) (list_any_weaker p q h xs rest))
     (or_cases (p x) (list_any p xs) e)
 
 -- `find` finds exactly where some element passes
-pub is_none-find : {X : Type 0} (p : X → Bool) (xs : List X) → is_none (find p xs) ≡ not (list_any p xs)
-is_none-find p [] = refl
-is_none-find p (x ∷ xs) =
-    elim (p x) as (λ b. is_none (cond b (Some x) (find p xs)) ≡ not (b || list_any p xs)) [ true ↦ refl | false ↦ is_none-find p xs ]
+pub is_none_find : {X : Type 0} (p : X → Bool) (xs : List X) → is_none (find p xs) ≡ not (list_any p xs)
+is_none_find p [] = refl
+is_none_find p (x ∷ xs) =
+    elim (p x) as (λ b. is_none (cond b (Some x) (find p xs)) ≡ not (b || list_any p xs)) [ true ↦ refl | false ↦ is_none_find p xs ]
 
-pub is_some-find : {X : Type 0} (p : X → Bool) (xs : List X) → is_some (find p xs) ≡ list_any p xs
-is_some-find p [] = refl
-is_some-find p (x ∷ xs) =
-    elim (p x) as (λ b. is_some (cond b (Some x) (find p xs)) ≡ (b || list_any p xs)) [ true ↦ refl | false ↦ is_some-find p xs ]
+pub is_some_find : {X : Type 0} (p : X → Bool) (xs : List X) → is_some (find p xs) ≡ list_any p xs
+is_some_find p [] = refl
+is_some_find p (x ∷ xs) =
+    elim (p x) as (λ b. is_some (cond b (Some x) (find p xs)) ≡ (b || list_any p xs)) [ true ↦ refl | false ↦ is_some_find p xs ]
 
 -- a list whose elements are mapped
-pub list_any-map : {X Y : Type 0} (f : X → Y) (p : Y → Bool) (xs : List X) → list_any p (map f xs) ≡ list_any (λ x. p (f x)) xs
-list_any-map f p [] = refl
-list_any-map f p (x ∷ xs) = ap (λ (b : Bool). p (f x) || b) (list_any-map f p xs)
+pub list_any_map : {X Y : Type 0} (f : X → Y) (p : Y → Bool) (xs : List X) → list_any p (map f xs) ≡ list_any (λ x. p (f x)) xs
+list_any_map f p [] = refl
+list_any_map f p (x ∷ xs) = ap (λ (b : Bool). p (f x) || b) (list_any_map f p xs)
 
-pub find-map : {X Y : Type 0} (f : X → Y) (p : Y → Bool) (xs : List X) → find p (map f xs) ≡ option_map f (find (λ x. p (f x)) xs)
-find-map f p [] = refl
-find-map {X = X} f p (x ∷ xs) =
-    ap (λ o. cond (p (f x)) (Some (f x)) o) (find-map f p xs)
+pub find_map : {X Y : Type 0} (f : X → Y) (p : Y → Bool) (xs : List X) → find p (map f xs) ≡ option_map f (find (λ x. p (f x)) xs)
+find_map f p [] = refl
+find_map {X = X} f p (x ∷ xs) =
+    ap (λ o. cond (p (f x)) (Some (f x)) o) (find_map f p xs)
     ∙ elim (p (f x)) as (λ b. cond b (Some (f x)) (option_map f (find (λ (z : X). p (f z)) xs)) ≡ option_map f (cond b (Some x) (find (λ (z : X). p (f z)) xs))) [ true ↦ refl | false ↦ refl ]
 
 -- an element of the mapped list is that of an element
-pub Contains-map : {X Y : Type 0} (f : X → Y) (xs : List X) (x : X) → Contains xs x → Contains (map f xs) (f x)
-Contains-map f [] x (k, below, is) = absurd (omega arith)
-Contains-map {Y = Y} f (y ∷ ys) x h =
+pub Contains_map : {X Y : Type 0} (f : X → Y) (xs : List X) (x : X) → Contains xs x → Contains (map f xs) (f x)
+Contains_map f [] x (k, below, is) = absurd (omega arith)
+Contains_map {Y = Y} f (y ∷ ys) x h =
     let P : Y → Type 0 = λ z. Contains (f y ∷ map f ys) z in
     ⊎_elim
-    (λ (same : y ≡ x). subst P (ap f same) (Contains-head (f y) (map f ys)))
-    (λ (later : Contains ys x). Contains-tail (f y) (map f ys) (f x) (Contains-map f ys x later))
-    (Contains-cases y ys x h)
+    (λ (same : y ≡ x). subst P (ap f same) (Contains_head (f y) (map f ys)))
+    (λ (later : Contains ys x). Contains_tail (f y) (map f ys) (f x) (Contains_map f ys x later))
+    (Contains_cases y ys x h)
 
-pub Contains-from_map : {X Y : Type 0} (f : X → Y) (xs : List X) (y : Y) → Contains (map f xs) y → (x : X) × Contains xs x × (f x ≡ y)
-Contains-from_map f [] y (k, below, is) = absurd (omega arith)
-Contains-from_map f (x ∷ xs) y h =
+pub Contains_from_map : {X Y : Type 0} (f : X → Y) (xs : List X) (y : Y) → Contains (map f xs) y → (x : X) × Contains xs x × (f x ≡ y)
+Contains_from_map f [] y (k, below, is) = absurd (omega arith)
+Contains_from_map f (x ∷ xs) y h =
     ⊎_elim
-    (λ (same : f x ≡ y). (x, Contains-head x xs, same))
-    (λ (later : Contains (map f xs) y). let r = Contains-from_map f xs y later in (r.0, Contains-tail x xs r.0 r.1, r.2))
-    (Contains-cases (f x) (map f xs) y h)
+    (λ (same : f x ≡ y). (x, Contains_head x xs, same))
+    (λ (later : Contains (map f xs) y). let r = Contains_from_map f xs y later in (r.0, Contains_tail x xs r.0 r.1, r.2))
+    (Contains_cases (f x) (map f xs) y h)
 
 -- an element of the filtered list is one that passes
 filtered_by : {X : Type 0} (p : X → Bool) (y : X) (ys : List X) (x : X) (b : Bool) → p y ≡ b → (Contains (filter p ys) x → IsFound p ys x) → Contains (cond b (y ∷ filter p ys) (filter p ys)) x → IsFound p (y ∷ ys) x
 filtered_by {X} p y ys x true is rest h =
     let P : X → Type 0 = λ z. IsFound p (y ∷ ys) z in
     ⊎_elim
-    (λ (same : y ≡ x). subst P same (record { held = Contains-head y ys; passes = is }))
-    (λ (later : Contains (filter p ys) x). let r = rest later in record { held = Contains-tail y ys x r.held; passes = r.passes })
-    (Contains-cases y (filter p ys) x h)
-filtered_by p y ys x false is rest h = let r = rest h in record { held = Contains-tail y ys x r.held; passes = r.passes }
+    (λ (same : y ≡ x). subst P same (record { held = Contains_head y ys; passes = is }))
+    (λ (later : Contains (filter p ys) x). let r = rest later in record { held = Contains_tail y ys x r.held; passes = r.passes })
+    (Contains_cases y (filter p ys) x h)
+filtered_by p y ys x false is rest h = let r = rest h in record { held = Contains_tail y ys x r.held; passes = r.passes }
 
-pub IsFound-from_filter : {X : Type 0} (p : X → Bool) (xs : List X) (x : X) → Contains (filter p xs) x → IsFound p xs x
-IsFound-from_filter p [] x (k, below, is) = absurd (omega arith)
-IsFound-from_filter p (y ∷ ys) x h = filtered_by p y ys x (p y) refl (λ k. IsFound-from_filter p ys x k) h
+pub IsFound_from_filter : {X : Type 0} (p : X → Bool) (xs : List X) (x : X) → Contains (filter p xs) x → IsFound p xs x
+IsFound_from_filter p [] x (k, below, is) = absurd (omega arith)
+IsFound_from_filter p (y ∷ ys) x h = filtered_by p y ys x (p y) refl (λ k. IsFound_from_filter p ys x k) h
 
-pub Contains-filter : {X : Type 0} (p : X → Bool) (xs : List X) (x : X) → Contains xs x → p x ≡ true → Contains (filter p xs) x
-Contains-filter p [] x (k, below, is) passes = absurd (omega arith)
-Contains-filter {X} p (y ∷ ys) x h passes =
+pub Contains_filter : {X : Type 0} (p : X → Bool) (xs : List X) (x : X) → Contains xs x → p x ≡ true → Contains (filter p xs) x
+Contains_filter p [] x (k, below, is) passes = absurd (omega arith)
+Contains_filter {X} p (y ∷ ys) x h passes =
     let P : X → Type 0 = λ z. p z ≡ true → Contains (cond (p y) (y ∷ filter p ys) (filter p ys)) z in
     ⊎_elim
-    (λ (same : y ≡ x). subst P same (λ e. rw e (Contains-head y (filter p ys))) passes)
+    (λ (same : y ≡ x). subst P same (λ e. rw e (Contains_head y (filter p ys))) passes)
     (λ (later : Contains ys x).
-    let rest : Contains (filter p ys) x = Contains-filter p ys x later passes in
-    elim (p y) as (λ b. Contains (cond b (y ∷ filter p ys) (filter p ys)) x) [ true ↦ Contains-tail y (filter p ys) x rest | false ↦ rest ])
-    (Contains-cases y ys x h)
+    let rest : Contains (filter p ys) x = Contains_filter p ys x later passes in
+    elim (p y) as (λ b. Contains (cond b (y ∷ filter p ys) (filter p ys)) x) [ true ↦ Contains_tail y (filter p ys) x rest | false ↦ rest ])
+    (Contains_cases y ys x h)
 
 -- an element read by its own default
 pub read_again : {X : Type 0} (xs : List X) (i : ℕ) (d : X) → i < length xs → get_or xs i d ≡ get_or xs i (get_or xs i d)

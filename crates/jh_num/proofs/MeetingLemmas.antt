@@ -6,7 +6,7 @@ use Rattle.std.proofs.lemmas.List.{at_drop_more, get_or_read}
 use Rattle.std.proofs.lemmas.List.Elements.{All-append, All-nil, All-cons}
 use Rattle.jh_num.specs.declared.range.Range.{Range}
 use Rattle.jh_num.specs.Bytes.{in_range, has_byte, pieces, AreApartFrom, AreApart}
-use Rattle.jh_num.proofs.BytesLemmas.{has_byte-append, has_byte-pieces, below_range, above_range, within_range, AreApartFrom-append, AreApartFrom-after, absent_below, ends_before, same_byte}
+use Rattle.jh_num.proofs.BytesLemmas.{has_byte_append, has_byte_pieces, below_range, above_range, within_range, AreApartFrom_append, AreApartFrom_after, absent_below, ends_before, same_byte}
 use Rattle.jh_num.proofs.Booleans.{and_comm}
 use Rattle.std.proofs.Math.Bool.{or-false}
 
@@ -76,7 +76,7 @@ piece_ends bound p h =
 
 pub stepped : (xs ys : List Range) (i j : ℕ) (met : List Range) (x y p : Range) → AreApart xs → AreApart ys → Meets xs ys i j met → i < length xs → j < length ys → x ≡ get_or xs i x → y ≡ get_or ys j y → p.start ≡ max x.start y.start → p.end ≡ max (min x.end y.end) p.start → x.end ≤ y.end → Meets xs ys (i + 1) j (met ++ pieces p)
 stepped xs ys i j met x y p ax ay h li lj fx fy s e le =
-    let after : AreApartFrom (y.end + 1) (drop (suc j) ys) = rw (← fy) at (AreApartFrom-after 0 j y ys ay lj) in
+    let after : AreApartFrom (y.end + 1) (drop (suc j) ys) = rw (← fy) at (AreApartFrom_after 0 j y ys ay lj) in
     let one : suc j ≡ j + 1 = omega arith in
     let rest : AreApartFrom (y.end + 1) (drop (j + 1) ys) = let P : ℕ → Type 0 = λ n. AreApartFrom (y.end + 1) (drop n ys) in subst P one after in
     let ends : (k : ℕ) (d : Range) → k < length met → (get_or met k d).end < p.start =
@@ -92,9 +92,9 @@ stepped xs ys i j met x y p ax ay h li lj fx fy s e le =
           h.bytes b
           ∙ ap (λ v. has_byte met b || (v && has_byte (drop j ys) b)) dx
           ∙ taken (has_byte met b) (in_range x b) (has_byte (drop (i + 1) xs) b) (has_byte (drop j ys) b)
-          ∙ ap (λ v. (has_byte met b || v) || (has_byte (drop (i + 1) xs) b && has_byte (drop j ys) b)) (ap (λ v. in_range x b && v) dy ∙ met_here x y p (drop (j + 1) ys) b rest s e le ∙ sym (has_byte-pieces p b))
-          ∙ ap (λ v. v || (has_byte (drop (i + 1) xs) b && has_byte (drop j ys) b)) (sym (has_byte-append met (pieces p) b));
-      apart = AreApartFrom-append 0 p.start met (pieces p) (omega arith) h.apart ends (one_piece p.start p (omega arith));
+          ∙ ap (λ v. (has_byte met b || v) || (has_byte (drop (i + 1) xs) b && has_byte (drop j ys) b)) (ap (λ v. in_range x b && v) dy ∙ met_here x y p (drop (j + 1) ys) b rest s e le ∙ sym (has_byte_pieces p b))
+          ∙ ap (λ v. v || (has_byte (drop (i + 1) xs) b && has_byte (drop j ys) b)) (sym (has_byte_append met (pieces p) b));
+      apart = AreApartFrom_append 0 p.start met (pieces p) (omega arith) h.apart ends (one_piece p.start p (omega arith));
       ends = λ k d x' y' l m n.
           let next : (get_or xs i x').end < (get_or xs (i + 1) x').start = ends_before 0 xs i (i + 1) x' ax (omega arith) m in
           let here : x.end ≡ (get_or xs i x').end = ap (λ (q : Range). q.end) (get_or_read xs i x li fx x') in

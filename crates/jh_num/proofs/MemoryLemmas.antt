@@ -15,8 +15,8 @@ pub word_fits : (v m : ℕ) → m ≤ 8 → v < 256 ^ m → v < 2 ^ 64
 word_fits v m few small = let le : 256 ^ m ≤ 256 ^ 8 = pow-le-pow_right (omega arith) few in omega arith
 
 -- the places from j on spell one byte more than those behind it
-pub spelled-drop : {P : Type 0} (f : P → ℕ) (ps : List P) (j : ℕ) (d : P) (v : ℕ) → j < length ps → v ≡ spelled (map f (drop (j + 1) ps)) → v * 256 + f (get_or ps j d) ≡ spelled (map f (drop j ps))
-spelled-drop f ps j d v within e = rw (drop_more ps j d within) (grind arith)
+pub spelled_drop : {P : Type 0} (f : P → ℕ) (ps : List P) (j : ℕ) (d : P) (v : ℕ) → j < length ps → v ≡ spelled (map f (drop (j + 1) ps)) → v * 256 + f (get_or ps j d) ≡ spelled (map f (drop j ps))
+spelled_drop f ps j d v within e = rw (drop_more ps j d within) (grind arith)
 
 -- the same where the bytes are counted from the end of n places
 pub byte_fits_from : (v b n k : ℕ) → 0 < k → k ≤ n → v < 256 ^ (n - k) → b < 256 → v * 256 + b < 256 ^ (n - (k - 1))
@@ -29,12 +29,12 @@ word_fits_from v b n k above within few small byte =
     let fits : v * 256 + b < 256 ^ (n - (k - 1)) = byte_fits_from v b n k above within small byte in
     let le : n - (k - 1) ≤ 8 = omega arith in word_fits (v * 256 + b) (n - (k - 1)) le fits
 
-pub spelled-drop_from : {P : Type 0} (f : P → ℕ) (ps : List P) (k : ℕ) (d : P) (v : ℕ) → 0 < k → k ≤ length ps → v ≡ spelled (map f (drop k ps)) → v * 256 + f (get_or ps (k - 1) d) ≡ spelled (map f (drop (k - 1) ps))
-spelled-drop_from f ps k d v above within e =
+pub spelled_drop_from : {P : Type 0} (f : P → ℕ) (ps : List P) (k : ℕ) (d : P) (v : ℕ) → 0 < k → k ≤ length ps → v ≡ spelled (map f (drop k ps)) → v * 256 + f (get_or ps (k - 1) d) ≡ spelled (map f (drop (k - 1) ps))
+spelled_drop_from f ps k d v above within e =
     let next : (k - 1) + 1 ≡ k = omega arith in
     let lt : k - 1 < length ps = omega arith in
     let e' : v ≡ spelled (map f (drop ((k - 1) + 1) ps)) = rw next e in
-    spelled-drop f ps (k - 1) d v lt e'
+    spelled_drop f ps (k - 1) d v lt e'
 
 -- the first so many places
 abbrev pub listed : {P : Type 0} → (ℕ → P) → ℕ → List P
@@ -42,47 +42,47 @@ listed place zero = []
 listed place (suc count) = place 0 ∷ listed (λ k. place (k + 1)) count
 
 -- the number by its first byte
-pub little_endian-first : (count : ℕ) (byte : ℕ → ℕ) → little_endian (suc count) byte ≡ byte 0 + 256 * little_endian count (λ k. byte (k + 1))
-little_endian-first zero byte = omega arith
-little_endian-first (suc count) byte =
-    let first : little_endian (suc count) byte ≡ byte 0 + 256 * little_endian count (λ k. byte (k + 1)) = little_endian-first count byte in
+pub little_endian_first : (count : ℕ) (byte : ℕ → ℕ) → little_endian (suc count) byte ≡ byte 0 + 256 * little_endian count (λ k. byte (k + 1))
+little_endian_first zero byte = omega arith
+little_endian_first (suc count) byte =
+    let first : little_endian (suc count) byte ≡ byte 0 + 256 * little_endian count (λ k. byte (k + 1)) = little_endian_first count byte in
     let last : byte (suc count) * 256 ^ suc count ≡ byte (suc count) * 256 ^ count * 256 = ap (λ (x : ℕ). byte (suc count) * x) (pow-suc 256 count) ∙ sym (mul_assoc (byte (suc count)) (256 ^ count) 256) in
     let next : byte (count + 1) ≡ byte (suc count) = ap byte (add-one count) in
     let goal : little_endian (suc count) byte + byte (suc count) * 256 ^ suc count ≡ byte 0 + 256 * (little_endian count (λ k. byte (k + 1)) + byte (suc count) * 256 ^ count) = omega arith in
     rw next goal
 
 -- what the bytes at the places spell
-pub spelled-listed : {P : Type 0} (byte : P → ℕ) (place : ℕ → P) (count : ℕ) → spelled (map byte (listed place count)) ≡ little_endian count (λ k. byte (place k))
-spelled-listed byte place zero = refl
-spelled-listed byte place (suc count) =
-    ap (λ (n : ℕ). byte (place 0) + 256 * n) (spelled-listed byte (λ k. place (k + 1)) count) ∙ sym (little_endian-first count (λ k. byte (place k)))
+pub spelled_listed : {P : Type 0} (byte : P → ℕ) (place : ℕ → P) (count : ℕ) → spelled (map byte (listed place count)) ≡ little_endian count (λ k. byte (place k))
+spelled_listed byte place zero = refl
+spelled_listed byte place (suc count) =
+    ap (λ (n : ℕ). byte (place 0) + 256 * n) (spelled_listed byte (λ k. place (k + 1)) count) ∙ sym (little_endian_first count (λ k. byte (place k)))
 
 -- two readings of the same bytes
-pub little_endian-same : (count : ℕ) (f g : ℕ → ℕ) → ((k : ℕ) → k < count → f k ≡ g k) → little_endian count f ≡ little_endian count g
-little_endian-same zero f g same = refl
-little_endian-same (suc count) f g same =
-    let rest : little_endian count f ≡ little_endian count g = little_endian-same count f g (λ k below. same k (omega arith)) in
+pub little_endian_same : (count : ℕ) (f g : ℕ → ℕ) → ((k : ℕ) → k < count → f k ≡ g k) → little_endian count f ≡ little_endian count g
+little_endian_same zero f g same = refl
+little_endian_same (suc count) f g same =
+    let rest : little_endian count f ≡ little_endian count g = little_endian_same count f g (λ k below. same k (omega arith)) in
     let last : f count ≡ g count = same count (omega arith) in
     ap (λ (n : ℕ). n + f count * 256 ^ count) rest ∙ ap (λ (b : ℕ). little_endian count g + b * 256 ^ count) last
 
 -- the number that bytes spell is that of which byte k counts 256 ^ k
-pub spelled-little_endian : (bytes : List ℕ) → spelled bytes ≡ little_endian (length bytes) (slice_index bytes)
-spelled-little_endian [] = refl
-spelled-little_endian (b ∷ bs) =
-    ap (λ (n : ℕ). b + 256 * n) (spelled-little_endian bs)
-    ∙ ap (λ (n : ℕ). b + 256 * n) (little_endian-same (length bs) (slice_index bs) (λ k. slice_index (b ∷ bs) (k + 1)) (λ k below. let e : suc k ≡ k + 1 = omega arith in ap (slice_index (b ∷ bs)) e))
-    ∙ sym (little_endian-first (length bs) (slice_index (b ∷ bs)))
+pub spelled_little_endian : (bytes : List ℕ) → spelled bytes ≡ little_endian (length bytes) (slice_index bytes)
+spelled_little_endian [] = refl
+spelled_little_endian (b ∷ bs) =
+    ap (λ (n : ℕ). b + 256 * n) (spelled_little_endian bs)
+    ∙ ap (λ (n : ℕ). b + 256 * n) (little_endian_same (length bs) (slice_index bs) (λ k. slice_index (b ∷ bs) (k + 1)) (λ k below. let e : suc k ≡ k + 1 = omega arith in ap (slice_index (b ∷ bs)) e))
+    ∙ sym (little_endian_first (length bs) (slice_index (b ∷ bs)))
 
 -- the bytes of the list where it is stored
-pub stored-there : (byte : ℕ → ℕ) (at : ℕ) (bytes : List ℕ) (k : ℕ) → k < length bytes → stored byte at bytes (at + k) ≡ slice_index bytes k
-stored-there byte at bytes k within =
+pub stored_there : (byte : ℕ → ℕ) (at : ℕ) (bytes : List ℕ) (k : ℕ) → k < length bytes → stored byte at bytes (at + k) ≡ slice_index bytes k
+stored_there byte at bytes k within =
     let same : (at + k) - at ≡ k = omega arith in
     rw (le-leb at (at + k) (omega arith), lt-ltb (at + k) (at + length bytes) (omega arith), same) refl
 
 -- the bytes below
-pub stored-before : (byte : ℕ → ℕ) (at : ℕ) (bytes : List ℕ) (place : ℕ) → place < at → stored byte at bytes place ≡ byte place
-stored-before byte at bytes place below = rw (lt-leb at place below) refl
+pub stored_before : (byte : ℕ → ℕ) (at : ℕ) (bytes : List ℕ) (place : ℕ) → place < at → stored byte at bytes place ≡ byte place
+stored_before byte at bytes place below = rw (lt-leb at place below) refl
 
 -- and above
-pub stored-behind : (byte : ℕ → ℕ) (at : ℕ) (bytes : List ℕ) (place : ℕ) → at + length bytes ≤ place → stored byte at bytes place ≡ byte place
-stored-behind byte at bytes place above = rw (and_right (leb at place) (ltb place (at + length bytes)) (le-ltb place (at + length bytes) above)) refl
+pub stored_behind : (byte : ℕ → ℕ) (at : ℕ) (bytes : List ℕ) (place : ℕ) → at + length bytes ≤ place → stored byte at bytes place ≡ byte place
+stored_behind byte at bytes place above = rw (and_right (leb at place) (ltb place (at + length bytes)) (le-ltb place (at + length bytes) above)) refl

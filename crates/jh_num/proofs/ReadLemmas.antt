@@ -6,18 +6,18 @@ use Rattle.std.proofs.lemmas.List.{get_or_default}
 use Rattle.std.proofs.lemmas.List.Folds.{list_any_at, Any-from_list_any}
 use Rattle.jh_num.specs.declared.range.Range.{Range}
 use Rattle.jh_num.specs.Bytes.{in_range, has_byte, AreApart}
-use Rattle.jh_num.proofs.BytesLemmas.{has_byte-split, above_range, within_range, absent_below, absent_above, not_empty_at, ends_before, AreApartFrom-after, get_or-of_take}
+use Rattle.jh_num.proofs.BytesLemmas.{has_byte_split, above_range, within_range, absent_below, absent_above, not_empty_at, ends_before, AreApartFrom_after, get_or_of_take}
 
 -- the byte after a range isn't in the set
 end_absent : (xs : List Range) (k : ℕ) (d : Range) → AreApart xs → k < length xs → has_byte xs (get_or xs k d).end ≡ false
 end_absent xs k d a h =
     let x = get_or xs k d in
     let n = not_empty_at 0 xs k d a h in
-    has_byte-split xs k d x.end h
+    has_byte_split xs k d x.end h
     ∙ none (has_byte (take k xs) x.end) (in_range x x.end) (has_byte (drop (suc k) xs) x.end)
-    (absent_above (take k xs) x.end (get_or-of_take (λ q. q.end ≤ x.end) xs k (omega arith) (λ k' d' l. let e = ends_before 0 xs k' k d' a l h in let f : (get_or xs k d').start ≡ x.start = ap (λ q. q.start) (get_or_default xs k d' d h) in omega arith)))
+    (absent_above (take k xs) x.end (get_or_of_take (λ q. q.end ≤ x.end) xs k (omega arith) (λ k' d' l. let e = ends_before 0 xs k' k d' a l h in let f : (get_or xs k d').start ≡ x.start = ap (λ q. q.start) (get_or_default xs k d' d h) in omega arith)))
     (above_range x x.end (omega arith))
-    (absent_below (x.end + 1) (drop (suc k) xs) x.end (AreApartFrom-after 0 k d xs a h) (omega arith))
+    (absent_below (x.end + 1) (drop (suc k) xs) x.end (AreApartFrom_after 0 k d xs a h) (omega arith))
   where
     none : (t i d : Bool) → t ≡ false → i ≡ false → d ≡ false → (t || (i || d)) ≡ false
     none t i d ht hi hd = rw (ht, hi, hd) refl

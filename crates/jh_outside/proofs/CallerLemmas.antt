@@ -1,21 +1,7 @@
 -- What a caller cites that is generic over files and sink: counts over several calls, texts in pieces, and files that stay.
-use Rattle.std.proofs.Common.{◌≡◌, ℕ, ◌+◌, ◌≤◌, List, ◌++◌, take, drop, refl, sym, ap, subst, ◌∙◌, append_assoc, take-add, arith, Option, None, Some}
+use Rattle.std.proofs.Common.{◌≡◌, ℕ, ◌+◌, List, ◌++◌, take, drop, refl, sym, ap, ◌∙◌, append_assoc, take-add, Option, None, Some}
 use Rattle.std.specs.Io.KnownBytes.{append_known}
-use Rattle.jh_outside.specs.Count.{Rose}
-use Rattle.jh_outside.specs.Reads.{HandsOut}
 use Rattle.jh_outside.specs.Writes.{Appended}
-
--- a count that rose at the end rose from the start
-pub rose_since : (first before after : ℕ) → first ≤ before → Rose before after → Rose first after
-rose_since first before after h rose = grind (arith, h, rose)
-
--- a count that rose has risen still
-pub rose_until : (before after last : ℕ) → Rose before after → after ≤ last → Rose before last
-rose_until before after last rose h = grind (arith, rose, h)
-
--- what a later read of unchanged files hands out, the files at the start hand out
-pub handed_still : (old new : List ℕ → Option (Option (List ℕ))) (name : List ℕ) (most : ℕ) (bytes : List ℕ) → new ≡ old → HandsOut (new name) most bytes → HandsOut (old name) most bytes
-handed_still old new name most bytes same handed = subst (λ told. HandsOut (told name) most bytes) same handed
 
 -- to append one text and then another is to append both
 pub appended_both : (first next last : Option (List ℕ)) (xs ys : List ℕ) → Appended first next xs → Appended next last ys → Appended first last (xs ++ ys)

@@ -5,8 +5,8 @@ use Rattle.jh_outside.specs.declared.files.FileFault.TheVariants.{Fault, NoMemor
 use Rattle.jh_outside.specs.Trail.{ask_of, kept_name}
 
 -- What files tell of a name: nothing, that it is missing, or all the bytes that it holds.
-abbrev pub Told : Type 0
-Told = Option (Option (List ℕ))
+abbrev pub KnownFile : Type 0
+KnownFile = Option (Option (List ℕ))
 
 -- these bytes may be handed out: the first `most` that the name holds, none for a name that is missing, and any where nothing is told
 abbrev pub HandsOut : Option (Option (List ℕ)) → ℕ → List ℕ → Type 0

@@ -42,22 +42,6 @@ module _ {S : Type 0} (one : S → Ask → S → Type 0) (failed : S → List �
     asked = h.asked;
   }
 
-  -- where all were read, the last one handed out bytes, too
-  last_of : (x : List ℕ) (xs : List (List ℕ)) → (before : List (List ℕ)) × (name : List ℕ) × (x ∷ xs ≡ before ++ name ∷ [])
-  last_of x [] = ([], x, refl)
-  last_of x (y ∷ ys) = let rest = last_of y ys in (x ∷ rest.0, rest.1, ap (λ zs. x ∷ zs) rest.2)
-
-  pub until-last : (s t : S) (x : List ℕ) (xs : List (List ℕ)) → AsksAll one failed (x ∷ xs) s t → AsksUntil one failed (x ∷ xs) handed s t
-  until-last s t x xs all =
-      let closing = last_of x xs in
-      record {
-        before = closing.0;
-        name = closing.1;
-        rest = [];
-        split = closing.2;
-        asked = subst (λ asks. Asks one failed s asks t) (ap (map handed) closing.2 ∙ map-both closing.0 (closing.1 ∷ [])) all;
-      }
-
 -- ---- the loops
 
 module _ {X : Type 0} (name_of : X → List ℕ) where

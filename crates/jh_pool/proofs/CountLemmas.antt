@@ -6,8 +6,8 @@ use Rattle.std.proofs.lemmas.Bool.{cases_eq}
 use Rattle.std.proofs.lemmas.Bool.Decides.{nat_tests}
 use Rattle.std.proofs.lemmas.List.Sums.{sum_by-cons}
 use Rattle.jh_pool.specs.Pages.{IsPageIn, IsTaken}
-use Rattle.jh_pool.specs.Stands.{often, Stands}
-use Rattle.jh_pool.proofs.ListLemmas.{often-from_any, none-from_any}
+use Rattle.jh_pool.specs.SoundPool.{often, IsSoundPool}
+use Rattle.jh_pool.proofs.ListLemmas.{often_from_any, none_from_any}
 
 -- the pages of that many numbers from `a` on
 abbrev pages_from : ℕ → ℕ → ℕ → List ℕ
@@ -119,13 +119,13 @@ had_by_cases false had free a b there none not_had is_had =
     let zero' : free ≡ 0 = none refl in omega arith
 
 -- where each taken page is had once and no other page is, as many are had as aren't free
-pub had_pages : (base n capacity : ℕ) (xs : List ℕ) (had : ℕ → ℕ) → Stands base n xs capacity → ((page : ℕ) → IsPageIn base n page → had page ≤ 1) → ((page : ℕ) → IsPageIn base n page → 0 < had page ↔ IsTaken (record { base = base; size = n; free = xs }) page) → sum_by had (pages_from base 0 n) ≡ n - length xs
+pub had_pages : (base n capacity : ℕ) (xs : List ℕ) (had : ℕ → ℕ) → IsSoundPool base n xs capacity → ((page : ℕ) → IsPageIn base n page → had page ≤ 1) → ((page : ℕ) → IsPageIn base n page → 0 < had page ↔ IsTaken (record { base = base; size = n; free = xs }) page) → sum_by had (pages_from base 0 n) ≡ n - length xs
 had_pages base n capacity xs had stands most each =
     let all : sum_by (λ q. had q + often q xs) (pages_from base 0 n) ≡ n = sum_ones (λ q. had q + often q xs) base 0 n (λ k low high.
     let at : IsPageIn base n (base + 4096 * k) = page_at base n k stands.aligned (omega arith) in
     had_by_cases (list_any (λ x. eqb x (base + 4096 * k)) xs) (had (base + 4096 * k)) (often (base + 4096 * k) xs)
     (most (base + 4096 * k) at) (stands.once (base + 4096 * k))
-    (often-from_any (base + 4096 * k) xs) (none-from_any (base + 4096 * k) xs)
+    (often_from_any (base + 4096 * k) xs) (none_from_any (base + 4096 * k) xs)
     (λ some. ((each (base + 4096 * k) at).0 some).taken)
     (λ no. (each (base + 4096 * k) at).1 (record { in_range = at; taken = no }))) in
     let sum : sum_by (λ q. had q + often q xs) (pages_from base 0 n) ≡ sum_by had (pages_from base 0 n) + sum_by (λ q. often q xs) (pages_from base 0 n) = sum_plus had (λ q. often q xs) (pages_from base 0 n) in
@@ -146,7 +146,7 @@ not_some true h = cc
 not_some false h = omega arith
 
 -- the pages that aren't free are as many as `used_of` says
-pub taken_pages : (base n capacity : ℕ) (xs : List ℕ) → Stands base n xs capacity → sum_by (λ q. cond (not (list_any (λ x. eqb x q) xs)) 1 0) (pages_from base 0 n) ≡ n - length xs
+pub taken_pages : (base n capacity : ℕ) (xs : List ℕ) → IsSoundPool base n xs capacity → sum_by (λ q. cond (not (list_any (λ x. eqb x q) xs)) 1 0) (pages_from base 0 n) ≡ n - length xs
 taken_pages base n capacity xs stands =
     had_pages base n capacity xs (λ q. cond (not (list_any (λ x. eqb x q) xs)) 1 0) stands
     (λ page at. not_most (list_any (λ x. eqb x page) xs))

@@ -2,10 +2,9 @@
 use Rattle.std.proofs.Common.{◌≡◌, ℕ, ◌+◌, ◌-◌, ◌*◌, ◌/◌, ◌%◌, ◌<◌, ◌≤◌, ◌⊎◌, inl, inr, true, eqb, List, [], ◌∷◌, ◌++◌, zero, suc, length, length-append, refl, arith, subst, sym}
 use Rattle.std.specs.List.{list_any}
 use Rattle.std.proofs.lemmas.Bool.{cases_eq}
-use Rattle.jh_num.specs.declared.address.TheConstants.{ADDRESS_END}
 use Rattle.jh_pool.specs.Pages.{IsPageIn}
-use Rattle.jh_pool.specs.Stands.{often, Stands}
-use Rattle.jh_pool.proofs.ListLemmas.{often_same, often_other, any-from_often}
+use Rattle.jh_pool.specs.SoundPool.{often}
+use Rattle.jh_pool.proofs.ListLemmas.{often_same, often_other, any_from_often}
 
 -- the last k pages of n are free, each once
 pub record Opens (base n k : ℕ) (free : List ℕ) (capacity : ℕ) : Type 0 where
@@ -15,9 +14,6 @@ pub record Opens (base n k : ℕ) (free : List ℕ) (capacity : ℕ) : Type 0 wh
   pub above : (page : ℕ) → 0 < often page free → base + 4096 * n ≤ page + 4096 * k
   pub once : (page : ℕ) → often page free ≤ 1
   pub all : (j : ℕ) → j < n → n ≤ j + k → 0 < often (base + 4096 * j) free
-
-pub opens_none : (base n capacity : ℕ) → n ≤ capacity → Opens base n 0 [] capacity
-opens_none base n capacity room = record { len = refl; room = room; pages = λ page some. elim some [ ]; above = λ page some. elim some [ ]; once = λ page. omega arith; all = λ j lt none. absurd (omega arith) }
 
 pub next_by_cases : (P : ℕ → Type 0) (page next : ℕ) (free : List ℕ) → (0 < often page free → P page) → P next → (page ≡ next) ⊎ (page ≡ next → ⊥) → 0 < often page (free ++ next ∷ []) → P page
 next_by_cases P page next free old new (inl e) some = subst P (sym e) new
@@ -58,15 +54,10 @@ opens_more base n k capacity capacity' next free aligned lt more is opens =
       all = λ j small le. all_by_cases (base + 4096 * j) next free (λ ne. opens.all j small (omega arith)) (cases_eq (base + 4096 * j) next);
     }
 
-pub opened_stands : (base n k capacity : ℕ) (free : List ℕ) → base % 4096 ≡ 0 → base + 4096 * n ≤ ADDRESS_END → k ≡ n → Opens base n k free capacity → Stands base n free capacity
-opened_stands base n k capacity free aligned place e opens =
-    let len : length free ≡ k = opens.len in
-    record { aligned = aligned; place = place; pages = opens.pages; once = opens.once; few = omega arith; room = opens.room }
-
 pub opened_free : (base n k capacity page : ℕ) (free : List ℕ) → base % 4096 ≡ 0 → k ≡ n → Opens base n k free capacity → IsPageIn base n page → list_any (λ x. eqb x page) free ≡ true
 opened_free base n k capacity page free aligned e opens is =
     let at : base + 4096 * (page / 4096 - base / 4096) ≡ page = omega (arith, is.aligned, is.above, is.below) in
-    any-from_often page free (subst (λ z. 0 < often z free) at (opens.all (page / 4096 - base / 4096) (omega (arith, is.aligned, is.above, is.below)) (omega arith)))
+    any_from_often page free (subst (λ z. 0 < often z free) at (opens.all (page / 4096 - base / 4096) (omega (arith, is.aligned, is.above, is.below)) (omega arith)))
 
 pub opened_used : (base n k capacity : ℕ) (free : List ℕ) → k ≡ n → Opens base n k free capacity → n - length free ≡ 0
 opened_used base n k capacity free e opens = let len : length free ≡ k = opens.len in omega arith

@@ -1,2 +1,2 @@
 pub mod Pages
-pub mod Stands
+pub mod SoundPool

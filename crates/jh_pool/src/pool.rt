@@ -18,13 +18,13 @@ pub struct Pool {
 impl Model for Pool {
     ghost use Rattle.std.specs.Prelude.{vec_capacity};
     ghost use Rattle.jh_pool.specs.Pages.{PoolView};
-    ghost use Rattle.jh_pool.specs.Stands.{Stands};
+    ghost use Rattle.jh_pool.specs.SoundPool.{IsSoundPool};
 
     ghost Value = { PoolView };
 
     ghost view = { λ p. record { base = p.base; size = p.size; free = p.free.items } };
 
-    ghost invariant = { λ p. Stands p.base p.size p.free.items (vec_capacity p.free) };
+    ghost invariant = { λ p. IsSoundPool p.base p.size p.free.items (vec_capacity p.free) };
 }
 
 impl Pool {
@@ -72,6 +72,7 @@ impl Pool {
         ensures size { self.new.size ≡ self.old.size }
         ensures used { used_of self.new + 1 ≡ used_of self.old }
     {
+        // succeeds, since there is room for all pages
         let _ = self.free.push(page);
     }
 
@@ -94,7 +95,10 @@ impl Pool {
 /// Where each page that is taken is had once, and no other page is had, the sum over all pages of how
 /// often each is had is how many are taken.
 pub fn pages_taken_once_are_counted(pool: &Pool)
-    ensures { (had : ℕ → ℕ) → ((page : ℕ) → IsPageOf pool.now page → had page ≤ 1) → ((page : ℕ) → IsPageOf pool.now page → 0 < had page ↔ IsTaken pool.now page) → sum_by had (pages_of pool.now) ≡ used_of pool.now }
+    ensures { (had : ℕ → ℕ) → ((page : ℕ) → IsPageOf pool.now page → had page ≤ 1)
+        → ((page : ℕ) → IsPageOf pool.now page → 0 < had page ↔ IsTaken pool.now page)
+        → sum_by had (pages_of pool.now) ≡ used_of pool.now }
 {
+    // for the proof: the invariant of the pool
     let _ = &pool.free;
 }

@@ -1,5 +1,5 @@
 -- Lists of numbers that rise.
-use Rattle.std.proofs.Common.{◌≡◌, ◌≢◌, ℕ, ◌<◌, List, length, Contains, AllPairs, arith}
+use Rattle.std.proofs.Common.{◌≢◌, ℕ, ◌<◌, List, length, Contains, AllPairs, arith}
 use Rattle.std.specs.List.Sorted.{IsStrictlyIncreasing}
 use Rattle.std.proofs.lemmas.List.Elements.{at_from_Contains}
 use Rattle.std.proofs.lemmas.List.Kept.{AllPairs-from_increasing}

@@ -4,14 +4,14 @@ use Rattle.std.specs.Prelude.{All, find}
 use Rattle.std.specs.List.{AllByRecursion}
 use Rattle.std.specs.Option.{option_map_or}
 use Rattle.std.proofs.lemmas.Option.{slice_get_within, get_or_from_slice_get}
-use Rattle.jh_num.proofs.Lists.{All-from_find}
+use Rattle.jh_num.proofs.Lists.{All_from_find}
 use Rattle.jh_cellcfg.specs.declared.config.CellConfig.{CellConfig}
 use Rattle.jh_cellcfg.specs.Cells.{name_of}
 use Rattle.jh_script.specs.declared.image.Image.{Image}
 use Rattle.jh_script.specs.declared.image.Program.{Program}
 use Rattle.jh_script.specs.declared.op.Op.{Op}
 use Rattle.jh_script.specs.declared.op.Op.TheVariants.{Read as ReadOp, Write as WriteOp, Fetch as FetchOp, Await as AwaitOp, Hvc as HvcOp}
-use Rattle.jh_script.specs.Operations.{IsPlain}
+use Rattle.jh_script.specs.Operations.{IsWellFormed}
 use Rattle.jh_history.specs.declared.entry.Entry.{Entry}
 use Rattle.jh_history.specs.declared.entry.Act.{Act}
 use Rattle.jh_history.specs.declared.entry.Act.TheVariants.{Read, Write, Fetch, Await, Irq, Hvc, Begin, Stop, Decide, Settle, Commit, Note, Noted, Finish}
@@ -39,77 +39,77 @@ pub record JournalLaws : Type 0 where
 
 -- ---- the operations of programs
 
-got-all : {X : Type 0} (P : X → Type 0) (xs : List X) (i : ℕ) (x : X) → All P xs → slice_get xs i ≡ Some x → P x
-got-all P xs i x all e = subst P (get_or_from_slice_get xs i x x e) (all i x (slice_get_within xs i x e))
+got_all : {X : Type 0} (P : X → Type 0) (xs : List X) (i : ℕ) (x : X) → All P xs → slice_get xs i ≡ Some x → P x
+got_all P xs i x all e = subst P (get_or_from_slice_get xs i x x e) (all i x (slice_get_within xs i x e))
 
-found-ops : (Q : Op → Type 0) (programs : List Program) (test : Program → Bool) (o : Option Program) → find test programs ≡ o → All (λ (p : Program). All Q p.ops) programs
+found_ops : (Q : Op → Type 0) (programs : List Program) (test : Program → Bool) (o : Option Program) → find test programs ≡ o → All (λ (p : Program). All Q p.ops) programs
     → All Q (option_map_or (λ (p : Program). p.ops) o [])
-found-ops Q programs test None e all = λ k d lt. absurd (omega (arith, lt))
-found-ops Q programs test (Some p) e all = All-from_find test (λ (q : Program). All Q q.ops) programs p e all
+found_ops Q programs test None e all = λ k d lt. absurd (omega (arith, lt))
+found_ops Q programs test (Some p) e all = All_from_find test (λ (q : Program). All Q q.ops) programs p e all
 
-program-ops : (Q : Op → Type 0) (image : Image) (name : List ℕ) (cpu : ℕ) → All (λ (p : Program). All Q p.ops) image.programs → All Q (program_of image name cpu)
+program_ops : (Q : Op → Type 0) (image : Image) (name : List ℕ) (cpu : ℕ) → All (λ (p : Program). All Q p.ops) image.programs → All Q (program_of image name cpu)
 unfolding program_of
-program-ops Q image name cpu all = found-ops Q image.programs (is_program_of name cpu) (find (is_program_of name cpu) image.programs) refl all
+program_ops Q image name cpu all = found_ops Q image.programs (is_program_of name cpu) (find (is_program_of name cpu) image.programs) refl all
 
 -- the operation that the entry makes is within its limits, and its numbers are below the ends of their types
 record IsFitOp (op : Op) : Type 0 where
-  plain : IsPlain op
+  plain : IsWellFormed op
   typed : IsTypedOp op
 
-fit-op : (laws : JournalLaws) (m : AdmittedMoment) (op : Op) → HasTypedNumbers m.image → op_of m.entry.act ≡ Some op → IsFitOp op
-fit-op laws m op numbers is =
+fit_op : (laws : JournalLaws) (m : AdmittedMoment) (op : Op) → HasTypedNumbers m.image → op_of m.entry.act ≡ Some op → IsFitOp op
+fit_op laws m op numbers is =
     let own = laws.operation m op is in
     let ops = program_of m.image (name_of own.0) m.entry.cpu in
     let position = (state_before m m.entry.cpu).position in
-    let plain : All (λ (p : Program). All IsPlain p.ops) m.image.programs = λ k d lt. (m.admitted.programs k d lt).plain in
+    let plain : All (λ (p : Program). All IsWellFormed p.ops) m.image.programs = λ k d lt. (m.admitted.programs k d lt).plain in
     record {
-      plain = got-all IsPlain ops position op (program-ops IsPlain m.image (name_of own.0) m.entry.cpu plain) own.3;
-      typed = got-all IsTypedOp ops position op (program-ops IsTypedOp m.image (name_of own.0) m.entry.cpu numbers.ops) own.3;
+      plain = got_all IsWellFormed ops position op (program_ops IsWellFormed m.image (name_of own.0) m.entry.cpu plain) own.3;
+      typed = got_all IsTypedOp ops position op (program_ops IsTypedOp m.image (name_of own.0) m.entry.cpu numbers.ops) own.3;
     }
 
 -- ---- entries
 
-readable-act : (act : Act) → ((op : Op) → op_of act ≡ Some op → IsFitOp op) → TellsTyped act → IsReadableAct act
-readable-act (Read width at got) fit told = let op = fit (ReadOp width at) refl in (op.plain, op.typed, told)
-readable-act (Write width at value ok) fit told = let op = fit (WriteOp width at value) refl in (op.plain.0, op.typed, op.plain.1)
-readable-act (Fetch at got) fit told = let op = fit (FetchOp at) refl in (op.typed, told)
-readable-act (Await width at value ok) fit told = let op = fit (AwaitOp width at value) refl in (op.plain.0, op.typed, op.plain.1)
-readable-act (Irq device vector) fit told = told
-readable-act (Hvc code a b answer) fit told = let op = fit (HvcOp code a b) refl in (op.typed.0, op.typed.1, op.typed.2, told)
-readable-act (Begin code a b) fit told = (fit (HvcOp code a b) refl).typed
-readable-act Stop fit told = tt
-readable-act (Decide refused) fit told = told
-readable-act (Settle how) fit told = tt
-readable-act Commit fit told = tt
-readable-act (Note id) fit told = told
-readable-act (Noted id how) fit told = told
-readable-act (Finish answer) fit told = told
+readable_act : (act : Act) → ((op : Op) → op_of act ≡ Some op → IsFitOp op) → TellsTyped act → IsReadableAct act
+readable_act (Read width at got) fit told = let op = fit (ReadOp width at) refl in (op.plain, op.typed, told)
+readable_act (Write width at value ok) fit told = let op = fit (WriteOp width at value) refl in (op.plain.0, op.typed, op.plain.1)
+readable_act (Fetch at got) fit told = let op = fit (FetchOp at) refl in (op.typed, told)
+readable_act (Await width at value ok) fit told = let op = fit (AwaitOp width at value) refl in (op.plain.0, op.typed, op.plain.1)
+readable_act (Irq device vector) fit told = told
+readable_act (Hvc code a b answer) fit told = let op = fit (HvcOp code a b) refl in (op.typed.0, op.typed.1, op.typed.2, told)
+readable_act (Begin code a b) fit told = (fit (HvcOp code a b) refl).typed
+readable_act Stop fit told = tt
+readable_act (Decide refused) fit told = told
+readable_act (Settle how) fit told = tt
+readable_act Commit fit told = tt
+readable_act (Note id) fit told = told
+readable_act (Noted id how) fit told = told
+readable_act (Finish answer) fit told = told
 
-readable-entry : (laws : JournalLaws) (m : AdmittedMoment) → HasTypedNumbers m.image → IsReadable m.entry
-readable-entry laws m numbers =
+readable_entry : (laws : JournalLaws) (m : AdmittedMoment) → HasTypedNumbers m.image → IsReadable m.entry
+readable_entry laws m numbers =
     let opens : OpensTyped m.image = record { root = numbers.root; bytes = numbers.bytes } in
     record {
       cpu = laws.cpu m;
       cell = laws.cell m opens;
-      act = readable-act m.entry.act (λ op is. fit-op laws m op numbers is) (laws.told m opens);
+      act = readable_act m.entry.act (λ op is. fit_op laws m op numbers is) (laws.told m opens);
     }
 
-readable-from : (laws : JournalLaws) (image : Image) → IsAdmitted image → HasTypedNumbers image → (rest before : List Entry) → IsLegal image (before ++ rest) → AllByRecursion IsReadable rest
-readable-from laws image admitted numbers [] before legal = tt
-readable-from laws image admitted numbers (entry ∷ rest) before legal = (
-  readable-entry laws (record { image = image; before = before; entry = entry; rest = rest; admitted = admitted; legal = legal }) numbers,
-  readable-from laws image admitted numbers rest (before ++ entry ∷ []) (subst (IsLegal image) (sym (append_assoc before (entry ∷ []) rest)) legal),
+readable_from : (laws : JournalLaws) (image : Image) → IsAdmitted image → HasTypedNumbers image → (rest before : List Entry) → IsLegal image (before ++ rest) → AllByRecursion IsReadable rest
+readable_from laws image admitted numbers [] before legal = tt
+readable_from laws image admitted numbers (entry ∷ rest) before legal = (
+  readable_entry laws (record { image = image; before = before; entry = entry; rest = rest; admitted = admitted; legal = legal }) numbers,
+  readable_from laws image admitted numbers rest (before ++ entry ∷ []) (subst (IsLegal image) (sym (append_assoc before (entry ∷ []) rest)) legal),
 )
 
 pub readable : (laws : JournalLaws) (image : Image) → IsAdmitted image → HasTypedNumbers image → (entries : List Entry) → IsLegal image entries → AllByRecursion IsReadable entries
-readable laws image admitted numbers entries legal = readable-from laws image admitted numbers entries [] legal
+readable laws image admitted numbers entries legal = readable_from laws image admitted numbers entries [] legal
 
-pub readable-text : (laws : JournalLaws) (image : Image) → IsAdmitted image → HasTypedNumbers image → (entries : List Entry) → IsLegal image entries → length entries ≤ max_entries → IsJournalText (journal_text entries) entries
-readable-text laws image admitted numbers entries legal within = record { readable = readable laws image admitted numbers entries legal; within = within; whole = refl }
+pub readable_text : (laws : JournalLaws) (image : Image) → IsAdmitted image → HasTypedNumbers image → (entries : List Entry) → IsLegal image entries → length entries ≤ max_entries → IsJournalText (journal_text entries) entries
+readable_text laws image admitted numbers entries legal within = record { readable = readable laws image admitted numbers entries legal; within = within; whole = refl }
 
 -- a journal's text has no fault of a text
-pub no-fault : (text : List ℕ) (entries : List Entry) (fault : JournalFault) → ((number : ℕ) → IsJournalText text entries → IsFirstBadLine text number → ⊥) → (IsJournalText text entries → IsTooLong text → ⊥)
+pub no_fault : (text : List ℕ) (entries : List Entry) (fault : JournalFault) → ((number : ℕ) → IsJournalText text entries → IsFirstBadLine text number → ⊥) → (IsJournalText text entries → IsTooLong text → ⊥)
     → IsJournalText text entries → IsFault text fault → fault ≡ NoMemory
-no-fault text entries (Line number) bad long good h = absurd (bad number good h)
-no-fault text entries TooLong bad long good h = absurd (long good h)
-no-fault text entries NoMemory bad long good h = refl
+no_fault text entries (Line number) bad long good h = absurd (bad number good h)
+no_fault text entries TooLong bad long good h = absurd (long good h)
+no_fault text entries NoMemory bad long good h = refl

@@ -1,10 +1,10 @@
 -- The text of the maps of all live cells.
-use Rattle.std.proofs.Common.{◌≡◌, ℕ, Bool, true, false, cond, eqb, List, [], ◌∷◌, ◌++◌, Option, Some, None, refl, sym, ap, subst, ◌∙◌, ⊎_elim, append_assoc}
-use Rattle.std.specs.Prelude.{Contains, find, option_map, slice_get}
+use Rattle.std.proofs.Common.{◌≡◌, ℕ, Bool, true, false, cond, eqb, List, [], ◌∷◌, ◌++◌, Option, Some, None, refl, sym, ap, ◌∙◌, ⊎_elim, append_assoc}
+use Rattle.std.specs.Prelude.{Contains, find, option_map}
 use Rattle.std.proofs.lemmas.Bool.{eq-eqb, both_ways}
 use Rattle.std.proofs.lemmas.List.{append-nil}
-use Rattle.std.proofs.lemmas.Option.{none-some, slice_get_within, get_or_from_slice_get}
-use Rattle.jh_num.proofs.Lists.{Contains-cases, Contains-from_map, find-None}
+use Rattle.std.proofs.lemmas.Option.{none-some}
+use Rattle.jh_num.proofs.Lists.{Contains_cases, Contains_from_map, find_None}
 use Rattle.jh_cellcfg.specs.declared.config.CellConfig.{CellConfig}
 use Rattle.jh_cellcfg.specs.declared.live.Live.{Live}
 use Rattle.jh_cellcfg.specs.declared.region.Region.{Region}
@@ -12,19 +12,11 @@ use Rattle.jh_cellcfg.specs.Lives.{has_id}
 use Rattle.jh_map.specs.declared.run.Run.{Run}
 use Rattle.jh_map.specs.Maps.{IsMap}
 use Rattle.jh_script.specs.declared.image.Image.{Image}
-use Rattle.jh_history.specs.declared.entry.Entry.{Entry}
-use Rattle.jh_history.specs.Due.{IsLegal}
-use Rattle.jh_history.specs.Items.{items}
 use Rattle.jh_history.specs.Lives.{live_in, cell_in, regions_in}
 use Rattle.jh_history.specs.Phases.{configs_of}
 use Rattle.jh_text.specs.Maps.{map_text}
-use Rattle.jh_board.specs.BoardView.{BoardView}
 use Rattle.jh_board.specs.Maps.{all_cells, is_kept_at, IsMapIn}
-use Rattle.jh_run.specs.declared.ended.Ended.{Ended}
-use Rattle.jh_run.specs.declared.ended.Ended.TheVariants.{Quiet, Full}
-use Rattle.jh_run.specs.Ends.{is_full}
-use Rattle.jh_run.specs.Plays.{Follows, IsFullAtItem}
-use Rattle.jh_run.specs.Maps.{AreMaps, IsMapsText, Maps}
+use Rattle.jh_run.specs.Maps.{AreMaps}
 
 -- ---- a live cell is found by its id
 
@@ -34,8 +26,8 @@ none_found (Some live) e = absurd (none-some live.config (sym e))
 
 not_found : (lives : List Live) (cell : CellConfig) → Contains (configs_of lives) cell → live_in lives cell.id ≡ None → ⊥
 not_found lives cell held e =
-    let live = Contains-from_map (λ (l : Live). l.config) lives cell held in
-    both_ways (eqb live.0.config.id cell.id) (find-None (has_id cell.id) lives live.0 (none_found (find (has_id cell.id) lives) e) live.1)
+    let live = Contains_from_map (λ (l : Live). l.config) lives cell held in
+    both_ways (eqb live.0.config.id cell.id) (find_None (has_id cell.id) lives live.0 (none_found (find (has_id cell.id) lives) e) live.1)
     (eq-eqb live.0.config.id cell.id (ap (λ (c : CellConfig). c.id) live.2))
 
 not_other : (image : Image) (lives : List Live) (cell : CellConfig) (b : Bool) → eqb cell.id image.system.root.id ≡ b → Contains (all_cells image lives) cell → cond b (Some image.system.root) (live_in lives cell.id) ≡ None → ⊥
@@ -43,13 +35,10 @@ not_other image lives cell true is held e = none-some image.system.root (sym e)
 not_other image lives cell false is held e = ⊎_elim
     (λ (same : image.system.root ≡ cell). both_ways (eqb cell.id image.system.root.id) is (eq-eqb cell.id image.system.root.id (sym (ap (λ (c : CellConfig). c.id) same))))
     (λ (later : Contains (configs_of lives) cell). not_found lives cell later e)
-    (Contains-cases image.system.root (configs_of lives) cell held)
+    (Contains_cases image.system.root (configs_of lives) cell held)
 
 pub lives_on : (image : Image) (lives : List Live) (cell : CellConfig) → Contains (all_cells image lives) cell → cell_in image lives cell.id ≡ None → ⊥
 lives_on image lives cell held e = not_other image lives cell (eqb cell.id image.system.root.id) refl held e
-
-pub held_at : {X : Type 0} (xs : List X) (k : ℕ) (x : X) → slice_get xs k ≡ Some x → Contains xs x
-held_at xs k x e = (k, slice_get_within xs k x e, get_or_from_slice_get xs k x x e)
 
 -- ---- one map more
 
@@ -69,18 +58,3 @@ one_text law image lives (cell ∷ cells) one other (runs, rest, is, e, more) (r
     let same : runs ≡ runs' = law (is_kept_at image lives cell.id) (regions_in image lives cell.id) runs runs' is is' in
     let ends : rest ≡ rest' = one_text law image lives cells rest rest' more more' in
     e ∙ (λ i. map_text cell (same i) ++ ends i) ∙ sym e'
-
--- ---- after a schedule
-
-pub maps_full : (image : Image) (limit : ℕ) (schedule : List ℕ) (board : BoardView) (ended : Ended) → ended ≡ Full → Follows image limit schedule board ended → IsFullAtItem image limit schedule board.entries → Maps image limit schedule None
-maps_full image limit schedule board ended is follows full =
-    let P : List Entry → Type 0 = λ es. IsFullAtItem image limit schedule es in
-    (ap (λ r. r.full) follows.0 ∙ ap is_full is, subst P (sym (ap (λ r. r.entries) follows.0)) full)
-
-pub maps_told : (image : Image) (limit : ℕ) (schedule : List ℕ) (board : BoardView) (ended : Ended) (text : List ℕ) → ended ≡ Quiet → Follows image limit schedule board ended → IsLegal image board.entries → IsMapsText board.image board.entries text → Maps image limit schedule (Some text)
-maps_told image limit schedule board ended text is follows legal told =
-    let same : (items image limit schedule []).entries ≡ board.entries = ap (λ r. r.entries) follows.0 in
-    let P : List Entry → Type 0 = λ es. IsLegal image es in
-    let Q : List Entry → Type 0 = λ es. IsMapsText image es text in
-    let R : Image → Type 0 = λ i. IsMapsText i board.entries text in
-    (ap (λ r. r.full) follows.0 ∙ ap is_full is, subst P (sym same) legal, subst Q (sym same) (subst R (ap (λ (v : BoardView). v.image) follows.1) told))

@@ -12,8 +12,8 @@ use Rattle.jh_board.specs.Turns.{Turns, Refuses}
 use Rattle.jh_board.specs.declared.turn.Turn.{Turn}
 use Rattle.jh_board.specs.declared.turn.Turn.TheVariants.{Made, Edited, NotNow, Done}
 use Rattle.jh_board.specs.declared.turn.TurnFault.TheVariants.{Full}
-use Rattle.jh_run.specs.Ran.{Ran, IsSameBut}
-use Rattle.jh_run.proofs.RunLemmas.{run-append, cut-behind, cut-before, run-quiet}
+use Rattle.jh_run.specs.Private.Ran.{Ran, IsSameBut}
+use Rattle.jh_run.proofs.RunLemmas.{run_append, cut_behind, cut_before, run_quiet}
 
 entries_of : (old new : BoardView) → new ≡ old → new.entries ≡ old.entries
 entries_of old new e = ap (λ (v : BoardView). v.entries) e
@@ -22,22 +22,22 @@ unchanged : (old new : BoardView) → new ≡ old → IsSameBut old new
 unchanged old new e = e ∙ ap (λ (es : List Entry). let v : BoardView = record old { entries = es } in v) (sym (entries_of old new e))
 
 -- no items
-pub Ran-nil : (old : BoardView) → Ran old [] false old
-Ran-nil old = (refl, refl)
+pub Ran_nil : (old : BoardView) → Ran old [] false old
+Ran_nil old = (refl, refl)
 
 -- a turn is an item
-pub Ran-turn : (old : BoardView) (cpu : ℕ) (turn : Turn) (new : BoardView) → Turns old cpu turn new → Ran old (cpu ∷ []) false new
-Ran-turn old cpu (Made entry) new h = (
+pub Ran_turn : (old : BoardView) (cpu : ℕ) (turn : Turn) (new : BoardView) → Turns old cpu turn new → Ran old (cpu ∷ []) false new
+Ran_turn old cpu (Made entry) new h = (
   inr (entry, h.0, h.1, ap (λ (v : BoardView). v.entries) h.2),
   h.2 ∙ ap (λ (es : List Entry). let v : BoardView = record old { entries = es } in v) (sym (ap (λ (v : BoardView). v.entries) h.2)),
 )
-Ran-turn old cpu (Edited left) new h = absurd h
-Ran-turn old cpu NotNow new h = (inl (h.0, entries_of old new h.2), unchanged old new h.2)
-Ran-turn old cpu Done new h = (inl (h.0 cpu, entries_of old new h.1), unchanged old new h.1)
+Ran_turn old cpu (Edited left) new h = absurd h
+Ran_turn old cpu NotNow new h = (inl (h.0, entries_of old new h.2), unchanged old new h.2)
+Ran_turn old cpu Done new h = (inl (h.0 cpu, entries_of old new h.1), unchanged old new h.1)
 
 -- a turn that the limit refuses stops the items
-pub Ran-full : (old : BoardView) (cpu : ℕ) (new : BoardView) → Refuses old cpu Full new → Ran old (cpu ∷ []) true new
-Ran-full old cpu new h =
+pub Ran_full : (old : BoardView) (cpu : ℕ) (new : BoardView) → Refuses old cpu Full new → Ran old (cpu ∷ []) true new
+Ran_full old cpu new h =
     let same = entries_of old new h.2 in
     let Due : List Entry → Type 0 = λ es. IsSome (due old.image es cpu) in
     let Long : List Entry → Type 0 = λ es. old.limit ≤ length es in
@@ -59,54 +59,54 @@ moved image limit mid new ys true is_image is_limit h =
     (subst Q is_limit (subst P is_image h.0), refl)
 
 joined : (old mid new : BoardView) (xs ys : List ℕ) (full : Bool) → Ran old xs false mid → IsSameBut mid new → Ran (record { image = old.image; limit = old.limit; entries = mid.entries }) ys full (record { image = old.image; limit = old.limit; entries = new.entries }) → Ran old (xs ++ ys) full new
-joined old mid new xs ys false h k m = (run-append old.image old.limit xs ys old.entries mid.entries new.entries h.0 m.0, kept old mid new h.1 k)
-joined old mid new xs ys true h k m = (cut-behind old.image old.limit xs ys old.entries mid.entries new.entries h.0 m.0, kept old mid new h.1 k)
+joined old mid new xs ys false h k m = (run_append old.image old.limit xs ys old.entries mid.entries new.entries h.0 m.0, kept old mid new h.1 k)
+joined old mid new xs ys true h k m = (cut_behind old.image old.limit xs ys old.entries mid.entries new.entries h.0 m.0, kept old mid new h.1 k)
 
 same_but : (mid new : BoardView) (ys : List ℕ) (full : Bool) → Ran mid ys full new → IsSameBut mid new
 same_but mid new ys false h = h.1
 same_but mid new ys true h = h.1
 
-pub Ran-append : (old mid new : BoardView) (xs ys : List ℕ) (full : Bool) → Ran old xs false mid → Ran mid ys full new → Ran old (xs ++ ys) full new
-Ran-append old mid new xs ys full h k =
+pub Ran_append : (old mid new : BoardView) (xs ys : List ℕ) (full : Bool) → Ran old xs false mid → Ran mid ys full new → Ran old (xs ++ ys) full new
+Ran_append old mid new xs ys full h k =
     let is_image : mid.image ≡ old.image = ap (λ (v : BoardView). v.image) h.1 in
     let is_limit : mid.limit ≡ old.limit = ap (λ (v : BoardView). v.limit) h.1 in
     joined old mid new xs ys full h (same_but mid new ys full k) (moved old.image old.limit mid new ys full is_image is_limit k)
 
 -- items after a stop
-pub Ran-stopped : (old new : BoardView) (xs ys : List ℕ) → Ran old xs true new → Ran old (xs ++ ys) true new
-Ran-stopped old new xs ys h = (cut-before old.image old.limit xs ys old.entries new.entries h.0, h.1)
+pub Ran_stopped : (old new : BoardView) (xs ys : List ℕ) → Ran old xs true new → Ran old (xs ++ ys) true new
+Ran_stopped old new xs ys h = (cut_before old.image old.limit xs ys old.entries new.entries h.0, h.1)
 
 -- the item of the CPU at a place of the list
-pub Ran-next : (old mid new : BoardView) (xs : List ℕ) (i d : ℕ) (full : Bool) → i < length xs → Ran old (take i xs) false mid → Ran mid (get_or xs i d ∷ []) full new → Ran old (take (i + 1) xs) full new
-Ran-next old mid new xs i d full lt h k = rw (take_more xs i d lt) (Ran-append old mid new (take i xs) (get_or xs i d ∷ []) full h k)
+pub Ran_next : (old mid new : BoardView) (xs : List ℕ) (i d : ℕ) (full : Bool) → i < length xs → Ran old (take i xs) false mid → Ran mid (get_or xs i d ∷ []) full new → Ran old (take (i + 1) xs) full new
+Ran_next old mid new xs i d full lt h k = rw (take_more xs i d lt) (Ran_append old mid new (take i xs) (get_or xs i d ∷ []) full h k)
 
 -- a stop at that item
-pub Ran-stop : (old mid new : BoardView) (xs : List ℕ) (i d : ℕ) → i < length xs → Ran old (take i xs) false mid → Ran mid (get_or xs i d ∷ []) true new → Ran old xs true new
-Ran-stop old mid new xs i d lt h k =
+pub Ran_stop : (old mid new : BoardView) (xs : List ℕ) (i d : ℕ) → i < length xs → Ran old (take i xs) false mid → Ran mid (get_or xs i d ∷ []) true new → Ran old xs true new
+Ran_stop old mid new xs i d lt h k =
     let P : List ℕ → Type 0 = λ zs. Ran old zs true new in
-    subst P (take-append-drop (i + 1) xs) (Ran-stopped old new (take (i + 1) xs) (drop (i + 1) xs) (Ran-next old mid new xs i d true lt h k))
+    subst P (take-append-drop (i + 1) xs) (Ran_stopped old new (take (i + 1) xs) (drop (i + 1) xs) (Ran_next old mid new xs i d true lt h k))
 
 -- one round more
-pub Ran-round : (old mid new : BoardView) (n : ℕ) (cpus : List ℕ) (full : Bool) → Ran old (rounds n cpus) false mid → Ran mid cpus full new → Ran old (rounds (n + 1) cpus) full new
-Ran-round old mid new n cpus full h k = rw add-one (Ran-append old mid new (rounds n cpus) cpus full h k)
+pub Ran_round : (old mid new : BoardView) (n : ℕ) (cpus : List ℕ) (full : Bool) → Ran old (rounds n cpus) false mid → Ran mid cpus full new → Ran old (rounds (n + 1) cpus) full new
+Ran_round old mid new n cpus full h k = rw add-one (Ran_append old mid new (rounds n cpus) cpus full h k)
 
 -- the rounds that are left at a quiet board, and at a stop
 quiet_rounds : (old mid : BoardView) (n k : ℕ) (cpus : List ℕ) → Ran old (rounds n cpus) false mid → IsQuiet mid.image mid.entries → Ran old (rounds (n + k) cpus) false mid
 quiet_rounds old mid n zero cpus h quiet = rw add-zero h
-quiet_rounds old mid n (suc k) cpus h quiet = rw add-suc (Ran-append old mid mid (rounds (n + k) cpus) cpus false (quiet_rounds old mid n k cpus h quiet) (run-quiet mid.image mid.limit cpus mid.entries quiet, refl))
+quiet_rounds old mid n (suc k) cpus h quiet = rw add-suc (Ran_append old mid mid (rounds (n + k) cpus) cpus false (quiet_rounds old mid n k cpus h quiet) (run_quiet mid.image mid.limit cpus mid.entries quiet, refl))
 
 stopped_rounds : (old new : BoardView) (n k : ℕ) (cpus : List ℕ) → Ran old (rounds n cpus) true new → Ran old (rounds (n + k) cpus) true new
 stopped_rounds old new n zero cpus h = rw add-zero h
-stopped_rounds old new n (suc k) cpus h = rw add-suc (Ran-stopped old new (rounds (n + k) cpus) cpus (stopped_rounds old new n k cpus h))
+stopped_rounds old new n (suc k) cpus h = rw add-suc (Ran_stopped old new (rounds (n + k) cpus) cpus (stopped_rounds old new n k cpus h))
 
-pub Ran-rounds_quiet : (old mid : BoardView) (n m : ℕ) (cpus : List ℕ) → n ≤ m → Ran old (rounds n cpus) false mid → IsQuiet mid.image mid.entries → Ran old (rounds m cpus) false mid
-Ran-rounds_quiet old mid n m cpus le h quiet =
+pub Ran_rounds_quiet : (old mid : BoardView) (n m : ℕ) (cpus : List ℕ) → n ≤ m → Ran old (rounds n cpus) false mid → IsQuiet mid.image mid.entries → Ran old (rounds m cpus) false mid
+Ran_rounds_quiet old mid n m cpus le h quiet =
     let P : ℕ → Type 0 = λ k. Ran old (rounds k cpus) false mid in
     let all : n + (m - n) ≡ m = omega arith in
     subst P all (quiet_rounds old mid n (m - n) cpus h quiet)
 
-pub Ran-rounds_full : (old mid new : BoardView) (n m : ℕ) (cpus : List ℕ) → n + 1 ≤ m → Ran old (rounds n cpus) false mid → Ran mid cpus true new → Ran old (rounds m cpus) true new
-Ran-rounds_full old mid new n m cpus le h k =
+pub Ran_rounds_full : (old mid new : BoardView) (n m : ℕ) (cpus : List ℕ) → n + 1 ≤ m → Ran old (rounds n cpus) false mid → Ran mid cpus true new → Ran old (rounds m cpus) true new
+Ran_rounds_full old mid new n m cpus le h k =
     let P : ℕ → Type 0 = λ j. Ran old (rounds j cpus) true new in
     let all : (n + 1) + (m - (n + 1)) ≡ m = omega arith in
-    subst P all (stopped_rounds old new (n + 1) (m - (n + 1)) cpus (Ran-round old mid new n cpus true h k))
+    subst P all (stopped_rounds old new (n + 1) (m - (n + 1)) cpus (Ran_round old mid new n cpus true h k))

@@ -4,18 +4,18 @@ use Rattle.jh_history.specs.Admitted.{IsAdmittedSystem, IsAdmitted}
 use Rattle.jh_run.specs.Soak.{soak_system, soak_board}
 use Rattle.jh_run.proofs.SoakClean.{soak_clean}
 use Rattle.jh_run.proofs.SoakTables.{few_pages}
-use Rattle.jh_run.proofs.SoakPreloads.{preloads-sound, preloads-apart}
-use Rattle.jh_run.proofs.SoakPrograms.{programs-sound, programs-owned}
+use Rattle.jh_run.proofs.SoakPreloads.{preloads_sound, preloads_apart}
+use Rattle.jh_run.proofs.SoakPrograms.{programs_sound, programs_owned}
 
-system-admitted : IsAdmittedSystem soak_system
-system-admitted = record { clean = soak_clean; room = few_pages }
+system_admitted : IsAdmittedSystem soak_system
+system_admitted = record { clean = soak_clean; room = few_pages }
 
-pub soak-admitted : (n : ℕ) → n ≤ 400 → IsAdmitted (soak_board n)
+pub soak_admitted : (n : ℕ) → n ≤ 400 → IsAdmitted (soak_board n)
 unfolding soak_board
-soak-admitted n h = record {
-  system = system-admitted;
-  preloads = preloads-sound;
-  apart = preloads-apart;
-  programs = programs-sound n h;
-  owned = programs-owned n;
+soak_admitted n h = record {
+  system = system_admitted;
+  preloads = preloads_sound;
+  apart = preloads_apart;
+  programs = programs_sound n h;
+  owned = programs_owned n;
 }

@@ -1,9 +1,8 @@
 -- The pool has the pages of root's tables on the board of `soak`: no slot of 2 MB is a table.
-use Rattle.std.proofs.Common.{◌≡◌, ℕ, zero, suc, ◌+◌, ◌*◌, ◌/◌, ◌≤◌, Bool, true, false, cond, List, [], ◌∷◌, refl, arith}
+use Rattle.std.proofs.Common.{◌≡◌, ℕ, zero, suc, ◌+◌, ◌*◌, ◌≤◌, Bool, true, false, cond, [], ◌∷◌, refl, arith}
 use Rattle.std.proofs.lemmas.Bool.Decides.{nat_tests}
-use Rattle.jh_num.specs.declared.address.TheConstants.{ADDRESS_END}
 use Rattle.jh_shape.specs.Claims.{Claims}
-use Rattle.jh_shape.specs.Shapes.{is_table, slot_size}
+use Rattle.jh_shape.specs.Shapes.{is_table}
 use Rattle.jh_shape.specs.Pages.{count_below, tables_at, tables_of, root_claims}
 use Rattle.jh_history.specs.Admitted.{root_pages, pool_pages}
 use Rattle.jh_run.specs.Soak.{region, soak_system}

@@ -30,13 +30,13 @@ whole_same seen rest all e le =
     let none : rest ≡ [] = nil_from_length rest (omega (arith, length-append seen rest, ap length e)) in
     sym (append-nil seen) ∙ (ap (λ (w : List Entry). seen ++ w) (sym none) ∙ e)
 
-pub Tells-whole : QuietEnds → (origin : Origin) (stop : Stop) (seen all : List Entry) → IsPrefix seen all → IsLegal origin.image all → length all ≤ origin.limit → ExplainsStop origin stop seen → ExplainsStop origin stop all
-Tells-whole ends origin Quiet seen all p legal few h = whole_quiet ends origin.image seen p.0 all p.1 legal h
-Tells-whole ends origin (Halted Full) seen all p legal few h =
+pub Tells_whole : QuietEnds → (origin : Origin) (stop : Stop) (seen all : List Entry) → IsPrefix seen all → IsLegal origin.image all → length all ≤ origin.limit → ExplainsStop origin stop seen → ExplainsStop origin stop all
+Tells_whole ends origin Quiet seen all p legal few h = whole_quiet ends origin.image seen p.0 all p.1 legal h
+Tells_whole ends origin (Halted Full) seen all p legal few h =
     let count : length seen ≡ origin.limit = h.0 in
     let P : List Entry → Type 0 = λ es. ExplainsStop origin (Halted Full) es in
     subst P (whole_same seen p.0 all p.1 (omega arith)) h
-Tells-whole ends origin (Halted NoMemory) seen all p legal few h = tt
+Tells_whole ends origin (Halted NoMemory) seen all p legal few h = tt
 
 -- a board of that origin is one of the image with the limit
 pub board_of : (origin : Origin) (board : BoardView) → board_origin board ≡ origin → IsBoardOf origin.image origin.limit board
@@ -51,7 +51,7 @@ board_legal origin board e legal = let P : Origin → Type 0 = λ o. IsLegal o.i
 pub board_tells : QuietEnds → (origin : Origin) (board : BoardView) (stop : Stop) (seen : List Entry) → board_origin board ≡ origin → IsLegal board.image board.entries → length board.entries ≤ board.limit → IsPrefix seen board.entries → ExplainsStop origin stop seen → ExplainsStop origin stop board.entries
 board_tells ends origin board stop seen e legal within begins tells =
     let P : Origin → Type 0 = λ o. length board.entries ≤ o.limit in
-    Tells-whole ends origin stop seen board.entries begins (board_legal origin board e legal) (subst P e within) tells
+    Tells_whole ends origin stop seen board.entries begins (board_legal origin board e legal) (subst P e within) tells
 
 -- a run that ended quiet, and one that ended full
 abbrev pub QuietExactly : Ended → Image → List Entry → Type 0

@@ -1,5 +1,5 @@
 -- What ports have seen once they are driven no more.
-use Rattle.std.specs.Prelude.{◌≡◌, ℕ, List, Contains, Option, Some, None, length}
+use Rattle.std.specs.Prelude.{◌≡◌, List, Contains, Option, Some, None, length}
 use Rattle.jh_history.specs.declared.entry.Entry.{Entry}
 use Rattle.jh_history.specs.Due.{IsQuiet}
 use Rattle.jh_turn.specs.declared.turner.Turner.{Ghosts}

@@ -1,7 +1,6 @@
 pub mod Ends
 pub mod Maps
 pub mod Plays
-pub mod Ran
 pub mod Typed
 pub mod Origins
 pub mod Turns
@@ -10,3 +9,4 @@ pub mod Drives
 pub mod Workers
 pub mod Summaries
 pub mod Soak
+pub mod Private

@@ -2,7 +2,7 @@
 use Rattle.std.specs.Prelude.{ℕ, zero, suc, ◌+◌, ◌-◌, ◌*◌, List, [], ◌∷◌, ◌++◌, length, replicate, codes}
 use Rattle.jh_cellcfg.specs.declared.region.Region.{Region}
 use Rattle.jh_cellcfg.specs.declared.config.CellConfig.{CellConfig}
-use Rattle.jh_cellcfg.specs.declared.config.Console.{Console}
+use Rattle.jh_cellcfg.specs.Empty.{bare_system}
 use Rattle.jh_cellcfg.specs.declared.config.SystemConfig.{SystemConfig}
 use Rattle.jh_cellcfg.specs.Spelling.{spelling}
 use Rattle.jh_script.specs.declared.op.Op.{Op}
@@ -40,22 +40,10 @@ plain_cell name id cpus regions = record {
   stream_ids = [];
 }
 
-abbrev pub no_console : Console
-no_console = record { address = 0; size = 0; kind = 0; flags = 0; divider = 0; gate_nr = 0; clock_reg = 0 }
-
 -- root with CPUs 0 to 3
 unfoldable pub soak_system : SystemConfig
-soak_system = record {
-  flags = 0;
-  hypervisor_memory = region 0x7fc00000 0 0x400000 0;
-  debug_console = no_console;
-  pci_mmconfig_base = 0;
-  pci_mmconfig_end_bus = 0;
-  pci_is_virtual = 0;
-  pci_domain = 0;
-  root_head = replicate 8 0;
-  root = plain_cell (padded (codes "soak")) 0 0xf (region 0x40000000 0x40000000 0x3fc00000 0xf ∷ []);
-}
+soak_system =
+    bare_system (region 0x7fc00000 0 0x400000 0) (plain_cell (padded (codes "soak")) 0 0xf (region 0x40000000 0x40000000 0x3fc00000 0xf ∷ []))
 
 -- a cell with memory at address 0, which root may load, and a communication region
 abbrev pub loadable_cell : List ℕ → ℕ → ℕ → ℕ → CellConfig

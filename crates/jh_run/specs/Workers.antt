@@ -1,6 +1,5 @@
 -- Ports that workers had.
-use Rattle.std.specs.Prelude.{◌≡◌, ℕ, List, All, Contains, map}
-use Rattle.jh_history.specs.declared.entry.Entry.{Entry}
+use Rattle.std.specs.Prelude.{ℕ, List, All, Contains, map}
 use Rattle.jh_turn.specs.declared.turner.Turner.{Ghosts}
 use Rattle.jh_turn.specs.declared.shared.Shared.{Shared}
 use Rattle.jh_turn.specs.declared.shared.Port.{Port}

@@ -26,6 +26,3 @@ pub use runs::run;
 pub use schedule::{follow, play};
 pub use soak::{MAX_ROUNDS, soak_image};
 pub use summary::{Summary, summary_of};
-
-#[cfg(test)]
-mod tests;

@@ -3,7 +3,7 @@ ghost use Rattle.std.specs.Prelude.{◌≡◌, ◌++◌, ℕ, All, Contains, IsT
 ghost use Rattle.jh_map.specs.declared.run.Run.{Run as TheRun};
 ghost use Rattle.jh_history.specs.Admitted.{IsAdmitted};
 ghost use Rattle.jh_history.specs.History.{facts};
-ghost use Rattle.jh_history.specs.Lives.{is_on_board as is_on_board_lem};
+ghost use Rattle.jh_history.specs.Lives.{is_on_board};
 ghost use Rattle.jh_text.specs.Maps.{map_text};
 ghost use Rattle.jh_board.specs.Maps.{all_cells, IsMapIn};
 ghost use Rattle.jh_run.specs.Maps.{IsMapsText, Maps};
@@ -56,7 +56,7 @@ pub fn map(
     limit: u32,
 ) -> Result<Option<Seq<u8>>, NoMemory>
     requires admitted { IsAdmitted image }
-    requires schedule { All (λ cpu. IsTrue (is_on_board_lem image cpu)) schedule.now }
+    requires schedule { All (λ cpu. IsTrue (is_on_board image cpu)) schedule.now }
     ensures { IfOk result (Maps image limit schedule.now) }
 {
     let (board, ended) = follow(alloc, image, schedule, limit)?;

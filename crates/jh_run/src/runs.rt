@@ -85,6 +85,7 @@ fn end_run(shared: Shared<Running>, driven: Driven) -> Result<(Board, Ended), No
     nothing_extends_a_quiet_journal();
     let Driven { ports, halted } = driven;
     let Running { board, halted: _ } = shared.close(ports);
+    // for the proof: the entries are legal, and no more than the limit
     let _ = board.journal();
     let ended = ended_by(halted)?;
     Ok((board, ended))

@@ -1,11 +1,11 @@
 //! Schedules on one board.
 ghost use Rattle.std.specs.Prelude.{◌≡◌, ◌+◌, ◌↔◌, [], ◌∷◌, ◌++◌, All, IsTrue, IfOk, OnErr};
 ghost use Rattle.jh_history.specs.Due.{IsLegal, IsQuiet};
-ghost use Rattle.jh_history.specs.Items.{rounds, cpus_of as cpus_of_lem};
-ghost use Rattle.jh_history.specs.Lives.{is_on_board as is_on_board_lem};
+ghost use Rattle.jh_history.specs.Items.{rounds, cpus_of};
+ghost use Rattle.jh_history.specs.Lives.{is_on_board};
 ghost use Rattle.jh_history.specs.Admitted.{IsAdmitted};
 ghost use Rattle.jh_run.specs.Plays.{Follows, Plays, IsFullAtItem, IsFullAtCpu};
-ghost use Rattle.jh_run.specs.Ran.{Ran};
+ghost use Rattle.jh_run.specs.Private.Ran.{Ran};
 
 use crate::ended::{Ended, how_ended};
 use jh_board::{Board, TurnFault};
@@ -18,8 +18,8 @@ use std::alloc::Global;
 /// The board's CPUs in rising order.
 #[tactic(auto, using(crate::proofs::RunLemmas::filter_below_more, crate::proofs::RunLemmas::filter_below_skip), unfolding(jh_history::specs::Items::cpus_of))]
 pub fn cpus_of(alloc: Global, image: &Image) -> Result<Vec<u8>, NoMemory>
-    ensures cpus { IfOk result (λ cpus. cpus.items ≡ cpus_of_lem image.now) }
-    ensures present { IfOk result (λ cpus. All (λ cpu. IsTrue (is_on_board_lem image.now cpu)) cpus.items) }
+    ensures cpus { IfOk result (λ cpus. cpus.items ≡ cpus_of image.now) }
+    ensures present { IfOk result (λ cpus. All (λ cpu. IsTrue (is_on_board image.now cpu)) cpus.items) }
 {
     let mut cpus = Vec::new(alloc);
     for cpu in 0..16u8 {
@@ -43,7 +43,7 @@ pub fn opened(alloc: Global, image: Image, limit: u32) -> Result<Board, NoMemory
 
 /// One item of the CPU; tells whether the limit stopped it.
 fn item(board: &mut Board, cpu: u8) -> Result<bool, NoMemory>
-    requires { IsTrue (is_on_board_lem board.old.image cpu) }
+    requires { IsTrue (is_on_board board.old.image cpu) }
     ensures ok { IfOk result (λ full. Ran board.old (cpu ∷ []) full board.new) }
     ensures err { OnErr result (board.new ≡ board.old) }
 {
@@ -56,7 +56,7 @@ fn item(board: &mut Board, cpu: u8) -> Result<bool, NoMemory>
 
 /// The items of the CPUs, one after another; tells whether the limit stopped them.
 fn follow_on(board: &mut Board, cpus: &[u8]) -> Result<bool, NoMemory>
-    requires { All (λ cpu. IsTrue (is_on_board_lem board.old.image cpu)) cpus.now }
+    requires { All (λ cpu. IsTrue (is_on_board board.old.image cpu)) cpus.now }
     ensures ok { IfOk result (λ full. Ran board.old cpus.now full board.new) }
 {
     for cpu in cpus {
@@ -70,7 +70,7 @@ fn follow_on(board: &mut Board, cpus: &[u8]) -> Result<bool, NoMemory>
 /// Rounds of the CPUs, one more than the limit, or until nothing is due; tells whether the limit
 /// stopped them.
 fn finish(board: &mut Board, cpus: &[u8], limit: u32) -> Result<bool, NoMemory>
-    requires present { All (λ cpu. IsTrue (is_on_board_lem board.old.image cpu)) cpus.now }
+    requires present { All (λ cpu. IsTrue (is_on_board board.old.image cpu)) cpus.now }
     ensures ok { IfOk result (λ full. Ran board.old (rounds (limit + 1) cpus.now) full board.new) }
 {
     for n in 0..u64::from(limit) + 1 {
@@ -86,8 +86,8 @@ fn finish(board: &mut Board, cpus: &[u8], limit: u32) -> Result<bool, NoMemory>
 
 /// The items of the schedule, and then the rounds; tells whether the limit stopped them.
 fn play_on(board: &mut Board, schedule: &[u8], cpus: &[u8], limit: u32) -> Result<bool, NoMemory>
-    requires schedule { All (λ cpu. IsTrue (is_on_board_lem board.old.image cpu)) schedule.now }
-    requires present { All (λ cpu. IsTrue (is_on_board_lem board.old.image cpu)) cpus.now }
+    requires schedule { All (λ cpu. IsTrue (is_on_board board.old.image cpu)) schedule.now }
+    requires present { All (λ cpu. IsTrue (is_on_board board.old.image cpu)) cpus.now }
     ensures ok { IfOk result (λ full. Ran board.old (schedule.now ++ rounds (limit + 1) cpus.now) full board.new) }
 {
     if follow_on(board, schedule)? {
@@ -105,7 +105,7 @@ pub fn follow(
     limit: u32,
 ) -> Result<(Board, Ended), NoMemory>
     requires admitted { IsAdmitted image }
-    requires schedule { All (λ cpu. IsTrue (is_on_board_lem image cpu)) schedule.now }
+    requires schedule { All (λ cpu. IsTrue (is_on_board image cpu)) schedule.now }
     ensures followed { IfOk result (λ r. Follows image limit schedule.now r.0 r.1) }
     ensures legal { IfOk result (λ r. IsLegal image r.0.entries) }
     ensures full { IfOk result (λ r. (r.1 ≡ Ended.Full) ↔ IsFullAtItem image limit schedule.now r.0.entries) }
@@ -113,6 +113,7 @@ pub fn follow(
     items_run_until_one_is_cut_short();
     let mut board = opened(alloc, image, limit)?;
     let full = follow_on(&mut board, schedule)?;
+    // for the proof: the entries are legal, and no more than the limit
     let _ = board.journal();
     Ok((board, how_ended(full)))
 }
@@ -125,7 +126,7 @@ pub fn play(
     limit: u32,
 ) -> Result<(Board, Ended), NoMemory>
     requires admitted { IsAdmitted image }
-    requires schedule { All (λ cpu. IsTrue (is_on_board_lem image cpu)) schedule.now }
+    requires schedule { All (λ cpu. IsTrue (is_on_board image cpu)) schedule.now }
     ensures played { IfOk result (λ r. Plays image limit schedule.now r.0 r.1) }
     ensures legal { IfOk result (λ r. IsLegal image r.0.entries) }
     ensures quiet { IfOk result (λ r. (r.1 ≡ Ended.Quiet) ↔ IsQuiet image r.0.entries) }
@@ -136,6 +137,7 @@ pub fn play(
     let cpus = cpus_of(alloc, &image)?;
     let mut board = opened(alloc, image, limit)?;
     let full = play_on(&mut board, schedule, cpus.as_slice(), limit)?;
+    // for the proof: the entries are legal, and no more than the limit
     let _ = board.journal();
     Ok((board, how_ended(full)))
 }

@@ -2,9 +2,9 @@
 ghost use Rattle.std.specs.Prelude.{◌≡◌, ◌+◌, ◌*◌, ◌^◌, ◌<◌, ◌≤◌, ◌∷◌, [], ◌++◌, IsTrue, IfOk, OnOk};
 ghost use Rattle.jh_cellcfg.specs.Limits.{is_name};
 ghost use Rattle.jh_history.specs.Admitted.{IsAdmitted};
-ghost use Rattle.jh_run.specs.Soak.{region as region_lem, plain_cell as plain_cell_lem, loadable_cell as loadable_cell_lem, soak_system as soak_system_lem, cell_a, cell_b, number_writes, number_reads, round_ops, rounds_ops, beside_ops as beside_ops_lem, ops_a as ops_a_lem, ops_b as ops_b_lem, answer_ops, program as program_lem, programs_of, preload as preload_lem, soak_board};
+ghost use Rattle.jh_run.specs.Soak.{region, plain_cell, loadable_cell, soak_system, cell_a, cell_b, number_writes, number_reads, round_ops, rounds_ops, beside_ops, ops_a, ops_b, answer_ops, program, programs_of, preload, soak_board};
 
-use jh_cellcfg::{CellConfig, Console, Region, SystemConfig, write_cell};
+use jh_cellcfg::{CellConfig, Region, SystemConfig, write_cell};
 use jh_num::{NoMemory, Seq};
 use jh_script::{Image, Op, Preload, Program};
 use std::alloc::Global;
@@ -30,7 +30,7 @@ const MESSAGE: u64 = 0x8000_000c;
 const REPLY: u64 = 0x8000_0010;
 
 fn region(phys_start: u64, virt_start: u64, size: u64, flags: u64) -> Region
-    ensures { result ≡ region_lem phys_start virt_start size flags }
+    ensures { result ≡ region phys_start virt_start size flags }
 {
     Region {
         phys_start,
@@ -48,7 +48,7 @@ fn plain_cell(
     cpus: u8,
     regions: &[Region],
 ) -> Result<CellConfig, NoMemory>
-    ensures { IfOk result (λ cell. cell ≡ plain_cell_lem name id cpus regions.now) }
+    ensures { IfOk result (λ cell. cell ≡ plain_cell name id cpus regions.now) }
 {
     Ok(CellConfig {
         name,
@@ -61,28 +61,11 @@ fn plain_cell(
 /// Root with CPUs 0 to 3 over its memory, without devices.
 #[tactic(auto, unfolding(crate::specs::Soak::soak_system))]
 fn soak_system(alloc: Global) -> Result<SystemConfig, NoMemory>
-    ensures { IfOk result (λ system. system ≡ soak_system_lem) }
+    ensures { IfOk result (λ system. system ≡ soak_system) }
 {
     let memory = region(0x4000_0000, 0x4000_0000, 0x3fc0_0000, 0xf);
-    Ok(SystemConfig {
-        flags: 0,
-        hypervisor_memory: region(0x7fc0_0000, 0, 0x40_0000, 0),
-        debug_console: Console {
-            address: 0,
-            size: 0,
-            kind: 0,
-            flags: 0,
-            divider: 0,
-            gate_nr: 0,
-            clock_reg: 0,
-        },
-        pci_mmconfig_base: 0,
-        pci_mmconfig_end_bus: 0,
-        pci_is_virtual: 0,
-        pci_domain: 0,
-        root_head: [0; 8],
-        root: plain_cell(alloc, NAME, 0, 0xf, &[memory])?,
-    })
+    let root = plain_cell(alloc, NAME, 0, 0xf, &[memory])?;
+    Ok(SystemConfig::bare(region(0x7fc0_0000, 0, 0x40_0000, 0), root))
 }
 
 /// The configuration of a cell with memory at address 0, which root may load, and a communication region, at
@@ -96,7 +79,7 @@ fn loaded_cell(
     place: u64,
 ) -> Result<Preload, NoMemory>
     requires { IsTrue (is_name name) }
-    ensures { IfOk result (λ preload. preload ≡ preload_lem at (loadable_cell_lem name id cpus place)) }
+    ensures { IfOk result (λ loaded. loaded ≡ preload at (loadable_cell name id cpus place)) }
 {
     let memory = region(place, 0, 0x1_0000, 0x4f);
     let communication = region(0, 0x8000_0000, 0x1000, 0x23);
@@ -215,7 +198,7 @@ fn rounds(alloc: Global, n: u32) -> Result<Seq<Op>, NoMemory>
 /// What root's second CPU does beside them.
 #[tactic(auto, unfolding(crate::specs::Soak::beside_ops))]
 fn beside_ops(alloc: Global) -> Result<Seq<Op>, NoMemory>
-    ensures { IfOk result (λ ops. ops ≡ beside_ops_lem) }
+    ensures { IfOk result (λ ops. ops ≡ beside_ops) }
 {
     let mut ops = Seq::new(alloc);
     push_writes(&mut ops, 0x4000_0000, 0, 256)?;
@@ -243,7 +226,7 @@ fn push_answer(ops: &mut Seq<Op>, message: u64, reply: u64) -> Result<(), NoMemo
 /// The first cell reads what was loaded, writes numbers, and agrees to shut down.
 #[tactic(auto, unfolding(crate::specs::Soak::ops_a))]
 fn ops_a(alloc: Global) -> Result<Seq<Op>, NoMemory>
-    ensures { IfOk result (λ ops. ops ≡ ops_a_lem) }
+    ensures { IfOk result (λ ops. ops ≡ ops_a) }
 {
     let mut ops = Seq::new(alloc);
     ops.push(Op::Read { width: 8, at: 0 })?;
@@ -255,7 +238,7 @@ fn ops_a(alloc: Global) -> Result<Seq<Op>, NoMemory>
 /// The second cell does too, and hears first that the first one was destroyed.
 #[tactic(auto, unfolding(crate::specs::Soak::ops_b))]
 fn ops_b(alloc: Global) -> Result<Seq<Op>, NoMemory>
-    ensures { IfOk result (λ ops. ops ≡ ops_b_lem) }
+    ensures { IfOk result (λ ops. ops ≡ ops_b) }
 {
     let mut ops = Seq::new(alloc);
     push_writes(&mut ops, 0, 1, 16)?;
@@ -265,7 +248,7 @@ fn ops_b(alloc: Global) -> Result<Seq<Op>, NoMemory>
 }
 
 fn program(alloc: Global, cell: &[u8], cpu: u8, ops: Seq<Op>) -> Result<Program, NoMemory>
-    ensures { IfOk result (λ program. program ≡ program_lem cell.now cpu ops) }
+    ensures { IfOk result (λ made. made ≡ program cell.now cpu ops) }
 {
     let cell = Seq::from_vec(Vec::from_slice(alloc, cell)?);
     Ok(Program { cell, cpu, ops })
@@ -274,7 +257,7 @@ fn program(alloc: Global, cell: &[u8], cpu: u8, ops: Seq<Op>) -> Result<Program,
 /// Both cells' configurations in root's memory.
 #[tactic(auto, unfolding(crate::specs::Soak::cell_a, crate::specs::Soak::cell_b))]
 fn preloads(alloc: Global) -> Result<Seq<Preload>, NoMemory>
-    ensures { IfOk result (λ preloads. preloads ≡ preload_lem 0x48000000 cell_a ∷ preload_lem 0x48010000 cell_b ∷ []) }
+    ensures { IfOk result (λ preloads. preloads ≡ preload 0x48000000 cell_a ∷ preload 0x48010000 cell_b ∷ []) }
 {
     let mut preloads = Seq::new(alloc);
     preloads.push(loaded_cell(alloc, PLACE_A, NAME_A, 1, 0x4, 0x5000_0000)?)?;

@@ -1,6 +1,6 @@
 //! What a journal comes to, in numbers.
 ghost use Rattle.std.specs.Prelude.{◌≡◌, count_by, sum_by};
-ghost use Rattle.jh_run.specs.Summaries.{summary_of as summary_of_lem, is_read as is_read_lem, is_write as is_write_lem, is_stop as is_stop_lem, value_read as value_read_lem};
+ghost use Rattle.jh_run.specs.Summaries.{summary_of, is_read, is_write, is_stop, value_read};
 
 use jh_history::{Act, Entry, Journal};
 
@@ -18,26 +18,26 @@ pub struct Summary {
 }
 
 fn is_read(entry: &Entry) -> bool
-    ensures { result ≡ is_read_lem entry.now }
+    ensures { result ≡ is_read entry.now }
 {
     matches!(&entry.act, Act::Read { .. })
 }
 
 fn is_write(entry: &Entry) -> bool
-    ensures { result ≡ is_write_lem entry.now }
+    ensures { result ≡ is_write entry.now }
 {
     matches!(&entry.act, Act::Write { .. })
 }
 
 fn is_stop(entry: &Entry) -> bool
-    ensures { result ≡ is_stop_lem entry.now }
+    ensures { result ≡ is_stop entry.now }
 {
     matches!(&entry.act, Act::Stop)
 }
 
 /// The value that the entry read, 0 where it read none.
 fn value_read(entry: &Entry) -> u64
-    ensures { result ≡ value_read_lem entry.now }
+    ensures { result ≡ value_read entry.now }
 {
     match entry.act {
         Act::Read { got, .. } => got.unwrap_or(0),
@@ -47,28 +47,28 @@ fn value_read(entry: &Entry) -> u64
 
 /// How many of the entries are reads.
 fn reads_of(entries: &[Entry]) -> u64
-    ensures { result ≡ count_by is_read_lem entries.now }
+    ensures { result ≡ count_by is_read entries.now }
 {
     entries.iter().filter(|entry| is_read(entry)).count() as u64
 }
 
 /// How many of the entries are writes.
 fn writes_of(entries: &[Entry]) -> u64
-    ensures { result ≡ count_by is_write_lem entries.now }
+    ensures { result ≡ count_by is_write entries.now }
 {
     entries.iter().filter(|entry| is_write(entry)).count() as u64
 }
 
 /// How many of the entries are stops.
 fn stops_of(entries: &[Entry]) -> u64
-    ensures { result ≡ count_by is_stop_lem entries.now }
+    ensures { result ≡ count_by is_stop entries.now }
 {
     entries.iter().filter(|entry| is_stop(entry)).count() as u64
 }
 
 /// The sum of the values read.
 fn sum_of(entries: &[Entry]) -> u128
-    ensures { result ≡ sum_by value_read_lem entries.now }
+    ensures { result ≡ sum_by value_read entries.now }
 {
     let mut sum: u128 = 0;
     for entry in entries {
@@ -80,7 +80,7 @@ fn sum_of(entries: &[Entry]) -> u128
 /// The numbers of the journal.
 #[tactic(auto, unfolding(crate::specs::Summaries::summary_of))]
 pub fn summary_of(journal: &Journal) -> Summary
-    ensures { result ≡ summary_of_lem journal.now.entries }
+    ensures { result ≡ summary_of journal.now.entries }
 {
     let entries = journal.as_slice();
     Summary {

@@ -65,6 +65,7 @@ impl Turner for Running {
         ensures ran { self.old.halted ≡ None → Takes self.old.board who result self.new.board × (self.new.halted ≡ halt_of result) }
         ensures halted { (halt : Halt) → self.old.halted ≡ Some halt → (result ≡ RunTurn.Halted halt) × (self.new.board ≡ self.old.board) × (self.new.halted ≡ self.old.halted) }
     {
+        // for the proof: the entries are legal, and no more than the limit
         let _ = self.board.journal();
         if let Some(halt) = self.halted {
             return RunTurn::Halted(halt);

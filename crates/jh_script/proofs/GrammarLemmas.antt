@@ -18,7 +18,7 @@ use Rattle.jh_script.specs.declared.op.Op.TheVariants.{Read, Write, Fetch, Await
 use Rattle.jh_script.specs.declared.line.Line.TheVariants.{Blank, Operation, Syntax, Width}
 use Rattle.jh_script.specs.Numbers.{are_digits, value_of, decimal_of, hexadecimal_of, number_of}
 use Rattle.jh_script.specs.Words.{words, blanks}
-use Rattle.jh_script.specs.Operations.{none_of, one_of, two_of, three_of, op_of, is_plain, IsPlain, line_of, line_of_op, line_of_words}
+use Rattle.jh_script.specs.Operations.{none_of, one_of, two_of, three_of, op_of, is_well_formed, IsWellFormed, line_of, line_of_op, line_of_words}
 use Rattle.jh_script.specs.Grammar.{IsDecimal, IsNumber, IsCallOf0, IsCallOf1, IsCallOf2, IsCallOf3, are_ascii, IsSkipped, IsTooWide, Writes}
 use Rattle.jh_script.proofs.OperationLemmas.{both, plain, plain_from}
 
@@ -266,68 +266,68 @@ op_from ws (Hvc code a b) w = ap line_of_words w.are ∙ ap (λ o. line_of_op (o
 same_op : (o op : Op) → Operation o ≡ Operation op → o ≡ op
 same_op o op e = cc
 
-op_told : (o : Option Op) (op : Op) → line_of_op o ≡ Operation op → (o ≡ Some op) × IsPlain op
+op_told : (o : Option Op) (op : Op) → line_of_op o ≡ Operation op → (o ≡ Some op) × IsWellFormed op
 unfolding line_of_op
 op_told None op e = cc
-op_told (Some o) op e = by (is_plain o) refl e
+op_told (Some o) op e = by (is_well_formed o) refl e
   where
-    by : (t : Bool) → is_plain o ≡ t → cond t (Operation o) Width ≡ Operation op → (Some o ≡ Some op) × IsPlain op
+    by : (t : Bool) → is_well_formed o ≡ t → cond t (Operation o) Width ≡ Operation op → (Some o ≡ Some op) × IsWellFormed op
     by false h e = cc
-    by true h e = (ap Some (same_op o op e), subst IsPlain (same_op o op e) (plain o h))
+    by true h e = (ap Some (same_op o op e), subst IsWellFormed (same_op o op e) (plain o h))
 
-words_told : (ws : List (List ℕ)) (op : Op) → line_of_words ws ≡ Operation op → Writes ws op × IsPlain op
+words_told : (ws : List (List ℕ)) (op : Op) → line_of_words ws ≡ Operation op → Writes ws op × IsWellFormed op
 unfolding line_of_words
 words_told [] op e = cc
 words_told (name ∷ behind) op e = by (starts_with nat_eq name (codes "#")) e
   where
-    by : (t : Bool) → cond t Blank (line_of_op (op_of name behind)) ≡ Operation op → Writes (name ∷ behind) op × IsPlain op
+    by : (t : Bool) → cond t Blank (line_of_op (op_of name behind)) ≡ Operation op → Writes (name ∷ behind) op × IsWellFormed op
     by true e = cc
     by false e =
         let told = op_told (op_of name behind) op e in
         (op_to name behind op told.0, told.1)
 
-pub line_to : (text : List ℕ) (op : Op) → line_of text ≡ Operation op → (are_ascii text ≡ true) × Writes (words blanks text) op × IsPlain op
+pub line_to : (text : List ℕ) (op : Op) → line_of text ≡ Operation op → (are_ascii text ≡ true) × Writes (words blanks text) op × IsWellFormed op
 unfolding line_of
 line_to text op e = by (are_ascii text) refl e
   where
-    by : (t : Bool) → are_ascii text ≡ t → cond t (line_of_words (words blanks text)) Syntax ≡ Operation op → (are_ascii text ≡ true) × Writes (words blanks text) op × IsPlain op
+    by : (t : Bool) → are_ascii text ≡ t → cond t (line_of_words (words blanks text)) Syntax ≡ Operation op → (are_ascii text ≡ true) × Writes (words blanks text) op × IsWellFormed op
     by false h e = cc
     by true h e =
         let told = words_told (words blanks text) op e in
         (h, told.0, told.1)
 
-plain_line : (op : Op) → IsPlain op → line_of_op (Some op) ≡ Operation op
+plain_line : (op : Op) → IsWellFormed op → line_of_op (Some op) ≡ Operation op
 unfolding line_of_op
 plain_line op h = rw (plain_from op h) refl
 
-pub line_from : (text : List ℕ) (op : Op) → (are_ascii text ≡ true) × Writes (words blanks text) op × IsPlain op → line_of text ≡ Operation op
+pub line_from : (text : List ℕ) (op : Op) → (are_ascii text ≡ true) × Writes (words blanks text) op × IsWellFormed op → line_of text ≡ Operation op
 unfolding line_of
 line_from text op h = rw (h.0) (op_from (words blanks text) op h.1 ∙ plain_line op h.2)
 
 -- the words of an operation that isn't within its limits
-wide_line : (op : Op) → (IsPlain op → ⊥) → line_of_op (Some op) ≡ Width
+wide_line : (op : Op) → (IsWellFormed op → ⊥) → line_of_op (Some op) ≡ Width
 unfolding line_of_op
-wide_line op h = by (is_plain op) refl
+wide_line op h = by (is_well_formed op) refl
   where
-    by : (t : Bool) → is_plain op ≡ t → cond t (Operation op) Width ≡ Width
+    by : (t : Bool) → is_well_formed op ≡ t → cond t (Operation op) Width ≡ Width
     by true e = absurd (h (plain op e))
     by false e = refl
 
-op_wide : (o : Option Op) → line_of_op o ≡ Width → (op : Op) × (o ≡ Some op) × (IsPlain op → ⊥)
+op_wide : (o : Option Op) → line_of_op o ≡ Width → (op : Op) × (o ≡ Some op) × (IsWellFormed op → ⊥)
 unfolding line_of_op
 op_wide None e = cc
-op_wide (Some o) e = by (is_plain o) refl e
+op_wide (Some o) e = by (is_well_formed o) refl e
   where
-    by : (t : Bool) → is_plain o ≡ t → cond t (Operation o) Width ≡ Width → (op : Op) × (Some o ≡ Some op) × (IsPlain op → ⊥)
+    by : (t : Bool) → is_well_formed o ≡ t → cond t (Operation o) Width ≡ Width → (op : Op) × (Some o ≡ Some op) × (IsWellFormed op → ⊥)
     by true h e = cc
     by false h e = (o, refl, λ p. false≢true (sym h ∙ plain_from o p))
 
-words_wide : (ws : List (List ℕ)) → line_of_words ws ≡ Width → (op : Op) × Writes ws op × (IsPlain op → ⊥)
+words_wide : (ws : List (List ℕ)) → line_of_words ws ≡ Width → (op : Op) × Writes ws op × (IsWellFormed op → ⊥)
 unfolding line_of_words
 words_wide [] e = cc
 words_wide (name ∷ behind) e = by (starts_with nat_eq name (codes "#")) e
   where
-    by : (t : Bool) → cond t Blank (line_of_op (op_of name behind)) ≡ Width → (op : Op) × Writes (name ∷ behind) op × (IsPlain op → ⊥)
+    by : (t : Bool) → cond t Blank (line_of_op (op_of name behind)) ≡ Width → (op : Op) × Writes (name ∷ behind) op × (IsWellFormed op → ⊥)
     by true e = cc
     by false e =
         let wide = op_wide (op_of name behind) e in
@@ -350,7 +350,7 @@ width_from text w = rw (w.ascii) (op_from (words blanks text) w.op w.written ∙
 no_blank : (o : Option Op) → line_of_op o ≡ Blank → ⊥
 unfolding line_of_op
 no_blank None e = cc
-no_blank (Some o) e = by (is_plain o) e
+no_blank (Some o) e = by (is_well_formed o) e
   where
     by : (t : Bool) → cond t (Operation o) Width ≡ Blank → ⊥
     by true e = cc

@@ -5,7 +5,7 @@ use Rattle.std.specs.Str.Parse.{digits_value_after}
 use Rattle.std.proofs.lemmas.Bool.{lt-ltb, ltb-true, ltb-false, le-ltb}
 use Rattle.std.proofs.lemmas.List.{at_drop_more, at_drop_all}
 use Rattle.std.proofs.Math.Nat.{le-mul_of_pos_right}
-use Rattle.jh_script.specs.Reading.{value_after, next_value}
+use Rattle.jh_script.specs.Private.Reading.{value_after, next_value}
 use Rattle.jh_script.specs.Numbers.{are_digits, value_of}
 
 -- one more digit

@@ -4,14 +4,14 @@ use Rattle.std.proofs.lemmas.Bool.{lt-ltb, eq-eqb, ltb-true, eqb-true, false≢t
 use Rattle.jh_script.specs.declared.op.Op.{Op}
 use Rattle.jh_script.specs.declared.op.Op.TheVariants.{Read, Write, Fetch, Await, Irq, Hvc}
 use Rattle.jh_script.specs.declared.line.Line.TheVariants.{Operation, Width}
-use Rattle.jh_script.specs.Operations.{IsPlain, IsPlainLine, is_plain, is_width, line_of_op}
+use Rattle.jh_script.specs.Operations.{IsWellFormed, IsWellFormedLine, is_well_formed, is_width, line_of_op}
 
 pub both : (a b : Bool) → (a && b) ≡ true → (a ≡ true) × (b ≡ true)
 both true b h = (refl, h)
 both false b h = absurd (false≢true h)
 
-pub plain : (op : Op) → is_plain op ≡ true → IsPlain op
-unfolding is_plain
+pub plain : (op : Op) → is_well_formed op ≡ true → IsWellFormed op
+unfolding is_well_formed
 plain (Read width at) h = h
 plain (Write width at value) h =
     let parts = both (is_width width) (ltb value (256 ^ width)) h in
@@ -23,21 +23,21 @@ plain (Await width at value) h =
 plain Irq h = tt
 plain (Hvc code a b) h = tt
 
-plain_if : (op : Op) (t : Bool) → is_plain op ≡ t → IsPlainLine (cond t (Operation op) Width)
+plain_if : (op : Op) (t : Bool) → is_well_formed op ≡ t → IsWellFormedLine (cond t (Operation op) Width)
 plain_if op true h = plain op h
 plain_if op false h = tt
 
-pub op_is_plain : (o : Option Op) → IsPlainLine (line_of_op o)
+pub op_is_plain : (o : Option Op) → IsWellFormedLine (line_of_op o)
 unfolding line_of_op
 op_is_plain None = tt
-op_is_plain (Some op) = plain_if op (is_plain op) refl
+op_is_plain (Some op) = plain_if op (is_well_formed op) refl
 
 both_from : (a b : Bool) → a ≡ true → b ≡ true → (a && b) ≡ true
 both_from true b e h = h
 both_from false b e h = absurd (false≢true e)
 
-pub plain_from : (op : Op) → IsPlain op → is_plain op ≡ true
-unfolding is_plain
+pub plain_from : (op : Op) → IsWellFormed op → is_well_formed op ≡ true
+unfolding is_well_formed
 plain_from (Read width at) h = h
 plain_from (Write width at value) h = both_from (is_width width) (ltb value (256 ^ width)) h.0 (lt-ltb value (256 ^ width) h.1)
 plain_from (Fetch at) h = eq-eqb (at % 4) 0 h

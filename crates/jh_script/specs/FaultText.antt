@@ -10,9 +10,9 @@ abbrev pub script_fault_text : ScriptFault → List ℕ
 script_fault_text (Syntax line) = codes "line " ++ (decimal line ++ codes ": syntax")
 script_fault_text TooLong = codes "program too long"
 script_fault_text (Width line) = codes "line " ++ (decimal line ++ codes ": width")
-script_fault_text NoMemory = codes "out of memory"
+script_fault_text NoMemory = codes "want of memory"
 
 abbrev pub schedule_fault_text : ScheduleFault → List ℕ
 schedule_fault_text (Item number) = codes "item " ++ decimal number
 schedule_fault_text ScheduleTooLong = codes "schedule too long"
-schedule_fault_text ScheduleNoMemory = codes "out of memory"
+schedule_fault_text ScheduleNoMemory = codes "want of memory"

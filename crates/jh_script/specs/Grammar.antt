@@ -6,7 +6,7 @@ use Rattle.std.specs.Fmt.{decimal}
 use Rattle.std.specs.Str.Parse.{AllDigits, digits_value}
 use Rattle.jh_script.specs.declared.op.Op.{Op}
 use Rattle.jh_script.specs.declared.op.Op.TheVariants.{Read, Write, Fetch, Await, Irq, Hvc}
-use Rattle.jh_script.specs.Operations.{IsPlain}
+use Rattle.jh_script.specs.Operations.{IsWellFormed}
 use Rattle.jh_script.specs.Words.{blanks, words}
 
 -- the word is the number in decimal
@@ -74,4 +74,4 @@ pub record IsTooWide (text : List ℕ) : Type 0 where
   pub ascii : are_ascii text ≡ true
   pub op : Op
   pub written : Writes (words blanks text) op
-  pub wide : IsPlain op → ⊥
+  pub wide : IsWellFormed op → ⊥

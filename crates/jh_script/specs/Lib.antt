@@ -4,7 +4,7 @@ pub mod Laws
 pub mod Limits
 pub mod Numbers
 pub mod Operations
+pub mod Private
 pub mod Programs
-pub mod Reading
 pub mod Schedules
 pub mod Words

@@ -61,27 +61,27 @@ is_width width = (width == 1) || (width == 2) || (width == 4) || (width == 8)
 
 -- the operation is within its limits: its width is one that an access may have, its value fits that
 -- width, and an instruction is fetched at a multiple of 4
-unfoldable pub is_plain : Op → Bool
-is_plain (Read width at) = is_width width
-is_plain (Write width at value) = is_width width && nat_lt value (256 ^ width)
-is_plain (Fetch at) = (at % 4) == 0
-is_plain (Await width at value) = is_width width && nat_lt value (256 ^ width)
-is_plain Irq = true
-is_plain (Hvc code a b) = true
+unfoldable pub is_well_formed : Op → Bool
+is_well_formed (Read width at) = is_width width
+is_well_formed (Write width at value) = is_width width && nat_lt value (256 ^ width)
+is_well_formed (Fetch at) = (at % 4) == 0
+is_well_formed (Await width at value) = is_width width && nat_lt value (256 ^ width)
+is_well_formed Irq = true
+is_well_formed (Hvc code a b) = true
 
 -- the same as a fact
-abbrev pub IsPlain : Op → Type 0
-IsPlain (Read width at) = IsTrue (is_width width)
-IsPlain (Write width at value) = IsTrue (is_width width) × (value < 256 ^ width)
-IsPlain (Fetch at) = at % 4 ≡ 0
-IsPlain (Await width at value) = IsTrue (is_width width) × (value < 256 ^ width)
-IsPlain Irq = Unit {0}
-IsPlain (Hvc code a b) = Unit {0}
+abbrev pub IsWellFormed : Op → Type 0
+IsWellFormed (Read width at) = IsTrue (is_width width)
+IsWellFormed (Write width at value) = IsTrue (is_width width) × (value < 256 ^ width)
+IsWellFormed (Fetch at) = at % 4 ≡ 0
+IsWellFormed (Await width at value) = IsTrue (is_width width) × (value < 256 ^ width)
+IsWellFormed Irq = Unit {0}
+IsWellFormed (Hvc code a b) = Unit {0}
 
 -- what a line of an operation tells, or one of none
 unfoldable pub line_of_op : Option Op → Line
 line_of_op None = Syntax
-line_of_op (Some op) = if is_plain op then Operation op else Width
+line_of_op (Some op) = if is_well_formed op then Operation op else Width
 
 -- a word that begins with `#` begins a comment
 unfoldable pub line_of_words : List (List ℕ) → Line
@@ -93,8 +93,8 @@ unfoldable pub line_of : List ℕ → Line
 line_of line = if list_all (λ byte. nat_lt byte 128) line then line_of_words (words blanks line) else Syntax
 
 -- where the line is of an operation, that is within its limits
-abbrev pub IsPlainLine : Line → Type 0
-IsPlainLine Blank = Unit {0}
-IsPlainLine (Operation op) = IsPlain op
-IsPlainLine Syntax = Unit {0}
-IsPlainLine Width = Unit {0}
+abbrev pub IsWellFormedLine : Line → Type 0
+IsWellFormedLine Blank = Unit {0}
+IsWellFormedLine (Operation op) = IsWellFormed op
+IsWellFormedLine Syntax = Unit {0}
+IsWellFormedLine Width = Unit {0}

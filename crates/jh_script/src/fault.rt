@@ -63,7 +63,7 @@ impl fmt::Display for ScriptFault {
             ScriptFault::Syntax { line } => write!(f, "line {line}: syntax"),
             ScriptFault::TooLong => f.write_str("program too long"),
             ScriptFault::Width { line } => write!(f, "line {line}: width"),
-            ScriptFault::NoMemory => f.write_str("out of memory"),
+            ScriptFault::NoMemory => f.write_str("want of memory"),
         }
     }
 }
@@ -78,7 +78,7 @@ impl fmt::Display for ScheduleFault {
         match self {
             ScheduleFault::Item { number } => write!(f, "item {number}"),
             ScheduleFault::TooLong => f.write_str("schedule too long"),
-            ScheduleFault::NoMemory => f.write_str("out of memory"),
+            ScheduleFault::NoMemory => f.write_str("want of memory"),
         }
     }
 }

@@ -9,7 +9,7 @@ ghost use Rattle.jh_script.specs.declared.fault.ScheduleFault.TheVariants as ref
 ghost use Rattle.jh_script.specs.Laws.{IsProgram, IsFirstBad, HasTooMany, IsSchedule, IsFirstRefused, HasTooManyItems};
 ghost use Rattle.jh_script.specs.Grammar.{IsNumber, IsSkipped, IsTooWide, Writes, are_ascii};
 ghost use Rattle.jh_script.specs.Numbers.{number_of};
-ghost use Rattle.jh_script.specs.Operations.{IsPlain, line_of};
+ghost use Rattle.jh_script.specs.Operations.{IsWellFormed, line_of};
 ghost use Rattle.jh_script.specs.Programs.{lines_of, program_of};
 ghost use Rattle.jh_script.specs.Schedules.{schedule_of};
 ghost use Rattle.jh_script.specs.Words.{blanks, words};
@@ -36,7 +36,7 @@ pub fn first_fault_of_a_schedule_decides()
 /// bytes are below 128 and it has no words or begins a comment. Any other line is a fault of syntax.
 pub fn lines_are_words_of_operations()
     ensures operation { (text : List ℕ) (op : TheOp) → (line_of text ≡ lines.Operation op)
-        ↔ ((are_ascii text ≡ true) × Writes (words blanks text) op × IsPlain op) }
+        ↔ ((are_ascii text ≡ true) × Writes (words blanks text) op × IsWellFormed op) }
     ensures width { (text : List ℕ) → (line_of text ≡ lines.Width) ↔ IsTooWide text }
     ensures skipped { (text : List ℕ) → (line_of text ≡ lines.Blank)
         ↔ ((are_ascii text ≡ true) × IsSkipped (words blanks text)) }

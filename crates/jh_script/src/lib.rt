@@ -10,8 +10,6 @@ mod number;
 mod op;
 mod program;
 mod schedule;
-#[cfg(test)]
-mod tests;
 mod words;
 
 pub use fault::{MAX_ITEMS, MAX_OPS, ScheduleFault, ScriptFault};

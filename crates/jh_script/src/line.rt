@@ -3,7 +3,7 @@ ghost use Rattle.std.specs.Prelude.{◌≡◌, nat_lt, IfSome, IfNone, IsTrue};
 ghost use Rattle.std.specs.List.{list_all};
 ghost use Rattle.std.specs.Option.{option_map};
 ghost use Rattle.jh_script.specs.declared.op.Op.TheVariants as ops;
-ghost use Rattle.jh_script.specs.Operations.{IsPlainLine, is_width, line_of, line_of_op, none_of, one_of, two_of, three_of, op_of};
+ghost use Rattle.jh_script.specs.Operations.{IsWellFormedLine, is_width, line_of, line_of_op, none_of, one_of, two_of, three_of, op_of};
 ghost use Rattle.jh_script.specs.Words.{words, blanks};
 
 use crate::number::number;
@@ -26,7 +26,7 @@ pub(crate) enum Line {
 #[tactic(auto, unfolding(crate::specs::Operations::line_of, crate::specs::Operations::line_of_words))]
 pub(crate) fn read_line(text: &[u8]) -> Line
     ensures value { result ≡ line_of text.now }
-    ensures plain { IsPlainLine result }
+    ensures plain { IsWellFormedLine result }
 {
     if !is_ascii(text) {
         return Line::Syntax;
@@ -72,7 +72,7 @@ fn operation(name: &[u8], behind: &[u8]) -> Line
     Line::Syntax
 }
 
-#[tactic(auto, unfolding(crate::specs::Operations::line_of_op, crate::specs::Operations::is_plain))]
+#[tactic(auto, unfolding(crate::specs::Operations::line_of_op, crate::specs::Operations::is_well_formed))]
 fn read(behind: &[u8]) -> Line
     ensures { result ≡ line_of_op (option_map (λ n. ops.Read n.0 n.1) (two_of (words blanks behind.now))) }
 {
@@ -85,7 +85,7 @@ fn read(behind: &[u8]) -> Line
     }
 }
 
-#[tactic(auto, unfolding(crate::specs::Operations::line_of_op, crate::specs::Operations::is_plain))]
+#[tactic(auto, unfolding(crate::specs::Operations::line_of_op, crate::specs::Operations::is_well_formed))]
 fn write(behind: &[u8]) -> Line
     ensures { result ≡ line_of_op (option_map (λ n. ops.Write n.0 n.1 n.2) (three_of (words blanks behind.now))) }
 {
@@ -100,7 +100,7 @@ fn write(behind: &[u8]) -> Line
     }
 }
 
-#[tactic(auto, unfolding(crate::specs::Operations::line_of_op, crate::specs::Operations::is_plain))]
+#[tactic(auto, unfolding(crate::specs::Operations::line_of_op, crate::specs::Operations::is_well_formed))]
 fn fetch(behind: &[u8]) -> Line
     ensures { result ≡ line_of_op (option_map (λ n. ops.Fetch n) (one_of (words blanks behind.now))) }
 {
@@ -114,7 +114,7 @@ fn fetch(behind: &[u8]) -> Line
     }
 }
 
-#[tactic(auto, unfolding(crate::specs::Operations::line_of_op, crate::specs::Operations::is_plain))]
+#[tactic(auto, unfolding(crate::specs::Operations::line_of_op, crate::specs::Operations::is_well_formed))]
 fn wait(behind: &[u8]) -> Line
     ensures { result ≡ line_of_op (option_map (λ n. ops.Await n.0 n.1 n.2) (three_of (words blanks behind.now))) }
 {
@@ -129,7 +129,7 @@ fn wait(behind: &[u8]) -> Line
     }
 }
 
-#[tactic(auto, unfolding(crate::specs::Operations::line_of_op, crate::specs::Operations::is_plain, crate::specs::Operations::none_of))]
+#[tactic(auto, unfolding(crate::specs::Operations::line_of_op, crate::specs::Operations::is_well_formed, crate::specs::Operations::none_of))]
 fn interrupt(behind: &[u8]) -> Line
     ensures { result ≡ line_of_op (option_map (λ n. ops.Irq) (none_of (words blanks behind.now))) }
 {
@@ -139,7 +139,7 @@ fn interrupt(behind: &[u8]) -> Line
     }
 }
 
-#[tactic(auto, unfolding(crate::specs::Operations::line_of_op, crate::specs::Operations::is_plain))]
+#[tactic(auto, unfolding(crate::specs::Operations::line_of_op, crate::specs::Operations::is_well_formed))]
 fn call(behind: &[u8]) -> Line
     ensures { result ≡ line_of_op (option_map (λ n. ops.Hvc n.0 n.1 n.2) (three_of (words blanks behind.now))) }
 {

@@ -1,7 +1,7 @@
 //! The numbers of a text.
 ghost use Rattle.std.specs.Prelude.{◌≡◌, ◌≤◌};
 ghost use Rattle.jh_script.specs.Numbers.{decimal_of, hexadecimal_of, number_of, value_of};
-ghost use Rattle.jh_script.specs.Reading.{next_value};
+ghost use Rattle.jh_script.specs.Private.Reading.{next_value};
 
 use crate::words::behind;
 

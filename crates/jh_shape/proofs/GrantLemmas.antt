@@ -9,19 +9,19 @@ use Rattle.std.proofs.lemmas.List.{get_or_default}
 use Rattle.std.proofs.lemmas.List.Elements.{All-contains, All-contains_itself}
 use Rattle.std.proofs.lemmas.List.Folds.{list_any_at, Any-from_list_any}
 use Rattle.jh_cellcfg.specs.declared.region.Region.{Region}
-use Rattle.jh_cellcfg.specs.Regions.{virt_end, phys_end, has_address, has_place, place_in, is_comm, is_page_mapped, is_unshared, is_loadable, is_device, may_have_blocks, rights_of}
+use Rattle.jh_cellcfg.specs.Regions.{virt_end, phys_end, has_address, has_place, place_in, is_comm, is_page_mapped, is_unshared, is_loadable, is_device, rights_of}
 use Rattle.jh_shape.specs.declared.want.Want.{Want}
 use Rattle.jh_shape.specs.declared.want.Want.TheVariants.{Nothing, Leaf}
 use Rattle.jh_shape.specs.Claims.{Claims, Holder}
 use Rattle.jh_shape.specs.Intervals.{touches, spans}
-use Rattle.jh_shape.specs.Shapes.{slot_size, is_mapped, meets_in_part, are_cut, takes, is_closed, may_be_block, is_leaf_by, leaf_region, is_met, is_met_by, is_kept_from, leaf_of, out_of}
+use Rattle.jh_shape.specs.Shapes.{slot_size, is_mapped, meets_in_part, are_cut, takes, is_closed, fits_blocks, may_be_block, is_leaf_by, leaf_region, is_met, is_met_by, is_kept_from, leaf_of, out_of}
 use Rattle.jh_shape.specs.Suits.{AreDisjoint, IsFit, IsWhole, IsSound, IsSlot}
 use Rattle.jh_num.specs.declared.rights.Rights.{Rights}
-use Rattle.jh_shape.specs.Grants.{place_at, IsGranted, Tells}
+use Rattle.jh_shape.specs.Grants.{place_at, IsGranted, TellsGrants}
 use Rattle.jh_shape.proofs.WantLemmas.{LeafBy, found, leaf_parts}
 use Rattle.jh_shape.proofs.SteadyLemmas.{place_later}
 use Rattle.jh_num.proofs.Booleans.{same_test}
-use Rattle.jh_num.proofs.Lists.{is_none-find}
+use Rattle.jh_num.proofs.Lists.{is_none_find}
 
 -- two tests agree on a list where a third fails
 any_agree : {X : Type 0} (p q r : X → Bool) → ((x : X) → r x ≡ false → p x ≡ q x) → (xs : List X) → list_any r xs ≡ false → list_any p xs ≡ list_any q xs
@@ -112,12 +112,8 @@ has_later claims level start k region h l =
 block_uncut : (claims : Claims) (level start : ℕ) (region : Region) → may_be_block claims level start region ≡ true → claims.root ≡ true → are_cut claims.holders (place_in region start) (slot_size level) ≡ false
 block_uncut claims level start region e root =
     let cut = are_cut claims.holders (place_in region start) (slot_size level) in
-    let aligned = (region.phys_start % slot_size level) == (region.virt_start % slot_size level) in
-    let a = and_parts (nat_lt 0 level) (may_have_blocks region && (not (is_comm region) && (aligned && not (claims.root && cut)))) e in
-    let b = and_parts (may_have_blocks region) (not (is_comm region) && (aligned && not (claims.root && cut))) a.1 in
-    let c = and_parts (not (is_comm region)) (aligned && not (claims.root && cut)) b.1 in
-    let d = and_parts aligned (not (claims.root && cut)) c.1 in
-    let none : (claims.root && cut) ≡ false = not-true (claims.root && cut) d.1 in
+    let parts = and_parts (fits_blocks level region) (not (claims.root && cut)) e in
+    let none : (claims.root && cut) ≡ false = not-true (claims.root && cut) parts.1 in
     sym (ap (λ v. v && cut) root) ∙ none
 
 uncut : (claims : Claims) (level start : ℕ) (region : Region) → IsSlot level start → is_leaf_by claims level start region ≡ true → LeafBy claims level start region → (IsTrue claims.root → IsWhole claims region) → claims.root ≡ true → is_comm region ≡ false → are_cut claims.holders (place_in region start) (slot_size level) ≡ false
@@ -195,14 +191,14 @@ out_later claims level start k region h fit bound =
     ∙ sym (ap (λ v. cond v (claims.comm + (start + k - region.virt_start)) later) plain))
     (cases_Bool (is_comm region))
 
-pub leaf_tells : (claims : Claims) (level start : ℕ) (region : Region) → IsSound claims → IsSlot level start → leaf_region claims level start ≡ Some region → Tells claims level start (leaf_of claims region start)
+pub leaf_tells : (claims : Claims) (level start : ℕ) (region : Region) → IsSound claims → IsSlot level start → leaf_region claims level start ≡ Some region → TellsGrants claims level start (leaf_of claims region start)
 leaf_tells claims level start region sound slot e =
     let p : Region → Bool = λ (r : Region). is_leaf_by claims level start r in
     let fit = found p IsFit claims.regions region e sound.fit in
     let listed = found p (λ (r : Region). Contains claims.regions r) claims.regions region e (All-contains_itself claims.regions) in
     let h = leaf_parts claims level start region fit.0 in
     let whole : IsTrue claims.root → IsWhole claims region = λ root. (found p (IsWhole claims) claims.regions region e (sound.whole root)).1 in
-    let W : Want → Type 0 = λ w. Tells claims level start w in
+    let W : Want → Type 0 = λ w. TellsGrants claims level start w in
     let kept = is_kept_from claims region start in
     let leaf = Leaf (out_of claims region start) (rights_of region) (is_device region) in
     ⊎_elim
@@ -256,7 +252,7 @@ table_level claims level start slot none met =
     (page_spanned x start (slot_size level) size slot.begins a.0 a.1)
     (or_left (level == 3) (may_be_block claims level start x) (eq-eqb level 3 last))) in
     let any : list_any p claims.regions ≡ true = list_any_at p claims.regions f.0 x f.2 (rw f.3 leaf) in
-    let absent : true ≡ not (list_any p claims.regions) = sym (ap (λ r. is_none r) none) ∙ is_none-find p claims.regions in
+    let absent : true ≡ not (list_any p claims.regions) = sym (ap (λ r. is_none r) none) ∙ is_none_find p claims.regions in
     absurd (both_ways (list_any p claims.regions) (not-true (list_any p claims.regions) (sym absent)) any))
     (λ other. let bound = slot.last in omega arith)
     (cases_eq level 3)

@@ -4,7 +4,7 @@ use Rattle.std.specs.List.{list_any, Contains}
 use Rattle.std.specs.Option.{is_none}
 use Rattle.std.proofs.lemmas.Bool.{and_parts, and_from, or_cases, or_left, or_right, leb-true, ltb-true, le-leb, lt-ltb, lt-leb, le-ltb, eqb-true, eq-eqb, cases_lt, cases_eq, not-true, not_from_false, both_ways, false_from_ne_true}
 use Rattle.std.proofs.lemmas.Nat.{pow_pos}
-use Rattle.jh_num.proofs.Lists.{is_none-find, IsFound-from_list_any, list_any-from_Contains, list_any-map}
+use Rattle.jh_num.proofs.Lists.{is_none_find, IsFound_from_list_any, list_any_from_Contains, list_any_map}
 use Rattle.jh_cellcfg.specs.declared.live.Live.{Live}
 use Rattle.jh_cellcfg.specs.declared.region.Region.{Region}
 use Rattle.jh_cellcfg.specs.Regions.{virt_end, phys_end, has_address, has_place, place_in, is_page_mapped, is_comm, is_unshared, is_loadable, may_have_blocks}
@@ -14,7 +14,7 @@ use Rattle.jh_shape.specs.Claims.{Claims, Holder}
 use Rattle.jh_shape.specs.Intervals.{touches, spans}
 use Rattle.jh_shape.specs.Laws.{IsMet, IsCut, IsBlock, Serves, IsServed, IsTaken, is_to_table, tables_by}
 use Rattle.jh_shape.specs.Pages.{count_below, tables_at, tables_of}
-use Rattle.jh_shape.specs.Shapes.{holder_of_live, slot_size, is_mapped, meets_in_part, are_cut, takes, is_closed, may_be_block, is_leaf_by, is_leaf, is_met, is_met_by, is_table, leaf_region, is_kept_from, want_from, want_of}
+use Rattle.jh_shape.specs.Shapes.{holder_of_live, slot_size, is_mapped, meets_in_part, are_cut, takes, is_closed, is_aligned_alike, fits_blocks, may_be_block, is_leaf_by, is_leaf, is_met, is_met_by, is_table, leaf_region, is_kept_from, want_from, want_of}
 
 -- a slot has an address
 pub size_some : (level : ℕ) → 0 < slot_size level
@@ -67,7 +67,7 @@ mapped_from region at pages has =
 -- the slot is met
 pub met_there : (claims : Claims) (level start : ℕ) → is_met claims level start ≡ true → IsMet claims level start
 met_there claims level start h =
-    let f = IsFound-from_list_any (λ (region : Region). is_met_by level start region) claims.regions h in
+    let f = IsFound_from_list_any (λ (region : Region). is_met_by level start region) claims.regions h in
     let x = f.0 in
     let a = and_parts (is_mapped x) (touches x.virt_start (virt_end x) start (slot_size level)) f.1.passes in
     let m = and_parts (nat_lt 0 x.size) (is_page_mapped x) a.0 in
@@ -78,7 +78,7 @@ pub met_back : (claims : Claims) (level start : ℕ) → IsMet claims level star
 met_back claims level start h =
     let x = h.region in
     let a = in_there x.virt_start (virt_end x) h.at h.has in
-    list_any-from_Contains (λ (region : Region). is_met_by level start region) claims.regions x h.held
+    list_any_from_Contains (λ (region : Region). is_met_by level start region) claims.regions x h.held
     (and_from (is_mapped x) (touches x.virt_start (virt_end x) start (slot_size level)) (mapped_from x h.at h.pages h.has)
     (touch_back x.virt_start (virt_end x) start (slot_size level) h.at h.first h.last a.0 a.1))
 
@@ -102,8 +102,8 @@ lacks_one first end at size some h =
 
 pub cut_there : (holders : List Holder) (place size : ℕ) → 0 < size → are_cut holders place size ≡ true → IsCut holders place size
 cut_there holders place size some h =
-    let f = IsFound-from_list_any (λ (holder : Holder). list_any (λ (region : Region). meets_in_part region place size) holder.regions) holders h in
-    let g = IsFound-from_list_any (λ (region : Region). meets_in_part region place size) f.0.regions f.1.passes in
+    let f = IsFound_from_list_any (λ (holder : Holder). list_any (λ (region : Region). meets_in_part region place size) holder.regions) holders h in
+    let g = IsFound_from_list_any (λ (region : Region). meets_in_part region place size) f.0.regions f.1.passes in
     let x = g.0 in
     let a = and_parts (is_unshared x) (cut_test x place size) g.1.passes in
     let b = and_parts (touches x.phys_start (phys_end x) place size) (not (spans x.phys_start (phys_end x) place size)) a.1 in
@@ -135,48 +135,42 @@ cut_back holders place size h =
     false_from_ne_true (spans first end place size) (λ yes.
     let s = span_there first end place size h.other yes h.also in
     both_ways (has_place x (place + h.other)) h.lacks (in_back first end (place + h.other) s.0 s.1)) in
-    list_any-from_Contains (λ (holder : Holder). list_any (λ (region : Region). meets_in_part region place size) holder.regions) holders h.holder h.live
-    (list_any-from_Contains (λ (region : Region). meets_in_part region place size) h.holder.regions x h.held
+    list_any_from_Contains (λ (holder : Holder). list_any (λ (region : Region). meets_in_part region place size) holder.regions) holders h.holder h.live
+    (list_any_from_Contains (λ (region : Region). meets_in_part region place size) h.holder.regions x h.held
     (and_from (is_unshared x) (cut_test x place size) h.alone
     (and_from (touches first end place size) (not (spans first end place size))
     (touch_back first end place size (place + h.some) (omega arith) (omega arith) a.0 a.1)
     (not_from_false (spans first end place size) open_end))))
 
 -- a block may map the slot
-abbrev free : Claims → ℕ → ℕ → Region → Bool
-free claims level start region = not (claims.root && are_cut claims.holders (place_in region start) (slot_size level))
-
-abbrev aligned : ℕ → Region → Bool
-aligned level region = (region.phys_start % slot_size level) == (region.virt_start % slot_size level)
-
 pub block_there : (claims : Claims) (level start : ℕ) (region : Region) → may_be_block claims level start region ≡ true → IsBlock claims level start region
 block_there claims level start region h =
-    let f = free claims level start region in
-    let g = aligned level region in
-    let a = and_parts (nat_lt 0 level) (may_have_blocks region && (not (is_comm region) && (g && f))) h in
-    let b = and_parts (may_have_blocks region) (not (is_comm region) && (g && f)) a.1 in
-    let c = and_parts (not (is_comm region)) (g && f) b.1 in
-    let d = and_parts g f c.1 in
+    let aligned = is_aligned_alike level region in
     let cut = are_cut claims.holders (place_in region start) (slot_size level) in
+    let a = and_parts (fits_blocks level region) (not (claims.root && cut)) h in
+    let b = and_parts (nat_lt 0 level) (may_have_blocks region && (not (is_comm region) && aligned)) a.0 in
+    let c = and_parts (may_have_blocks region) (not (is_comm region) && aligned) b.1 in
+    let d = and_parts (not (is_comm region)) aligned c.1 in
     record {
-      below = ltb-true 0 level a.0;
-      huge = b.0;
-      memory = not-true (is_comm region) c.0;
-      aligned = eqb-true (region.phys_start % slot_size level) (region.virt_start % slot_size level) d.0;
-      whole = λ root is_cut. both_ways (claims.root && cut) (not-true (claims.root && cut) d.1) (and_from claims.root cut root (cut_back claims.holders (place_in region start) (slot_size level) is_cut));
+      below = ltb-true 0 level b.0;
+      huge = c.0;
+      memory = not-true (is_comm region) d.0;
+      aligned = eqb-true (region.phys_start % slot_size level) (region.virt_start % slot_size level) d.1;
+      whole = λ root is_cut. both_ways (claims.root && cut) (not-true (claims.root && cut) a.1) (and_from claims.root cut root (cut_back claims.holders (place_in region start) (slot_size level) is_cut));
     }
 
 pub block_back : (claims : Claims) (level start : ℕ) (region : Region) → IsBlock claims level start region → may_be_block claims level start region ≡ true
 block_back claims level start region h =
-    let f = free claims level start region in
-    let g = aligned level region in
+    let aligned = is_aligned_alike level region in
     let cut = are_cut claims.holders (place_in region start) (slot_size level) in
     let uncut : (claims.root && cut) ≡ false =
     false_from_ne_true (claims.root && cut) (λ yes. let p = and_parts claims.root cut yes in h.whole p.0 (cut_there claims.holders (place_in region start) (slot_size level) (size_some level) p.1)) in
-    and_from (nat_lt 0 level) (may_have_blocks region && (not (is_comm region) && (g && f))) (lt-ltb 0 level h.below)
-    (and_from (may_have_blocks region) (not (is_comm region) && (g && f)) h.huge
-    (and_from (not (is_comm region)) (g && f) (not_from_false (is_comm region) h.memory)
-    (and_from g f (eq-eqb (region.phys_start % slot_size level) (region.virt_start % slot_size level) h.aligned) (not_from_false (claims.root && cut) uncut))))
+    and_from (fits_blocks level region) (not (claims.root && cut))
+    (and_from (nat_lt 0 level) (may_have_blocks region && (not (is_comm region) && aligned)) (lt-ltb 0 level h.below)
+    (and_from (may_have_blocks region) (not (is_comm region) && aligned) h.huge
+    (and_from (not (is_comm region)) aligned (not_from_false (is_comm region) h.memory)
+    (eq-eqb (region.phys_start % slot_size level) (region.virt_start % slot_size level) h.aligned))))
+    (not_from_false (claims.root && cut) uncut)
 
 -- one descriptor serves the slot
 pub leaf_by_there : (claims : Claims) (level start : ℕ) (region : Region) → Contains claims.regions region → is_leaf_by claims level start region ≡ true → Serves claims level start region
@@ -212,12 +206,12 @@ leaf_by_back claims level start region h =
 
 pub leaf_there : (claims : Claims) (level start : ℕ) → is_leaf claims level start ≡ true → IsServed claims level start
 leaf_there claims level start h =
-    let f = IsFound-from_list_any (λ (region : Region). is_leaf_by claims level start region) claims.regions h in
+    let f = IsFound_from_list_any (λ (region : Region). is_leaf_by claims level start region) claims.regions h in
     (f.0, leaf_by_there claims level start f.0 f.1.held f.1.passes)
 
 pub leaf_back : (claims : Claims) (level start : ℕ) → IsServed claims level start → is_leaf claims level start ≡ true
 leaf_back claims level start (region, h) =
-    list_any-from_Contains (λ (region : Region). is_leaf_by claims level start region) claims.regions region h.held (leaf_by_back claims level start region h)
+    list_any_from_Contains (λ (region : Region). is_leaf_by claims level start region) claims.regions region h.held (leaf_by_back claims level start region h)
 
 -- what is wanted is a table exactly where the slot is one
 leaf_no_table : (kept : Bool) (leaf : Want) → is_to_table leaf ≡ false → is_to_table (cond kept Nothing leaf) ≡ false
@@ -226,14 +220,14 @@ leaf_no_table false leaf h = h
 
 want_by : (claims : Claims) (level start : ℕ) (o : Option Region) → leaf_region claims level start ≡ o → is_to_table (want_from claims level start o) ≡ is_table claims level start
 want_by claims level start None e =
-    let none : true ≡ not (is_leaf claims level start) = sym (ap (λ r. is_none r) e) ∙ is_none-find (λ (region : Region). is_leaf_by claims level start region) claims.regions in
+    let none : true ≡ not (is_leaf claims level start) = sym (ap (λ r. is_none r) e) ∙ is_none_find (λ (region : Region). is_leaf_by claims level start region) claims.regions in
     met_or_not (is_met claims level start) ∙ ap (λ b. is_met claims level start && b) none
   where
     met_or_not : (b : Bool) → is_to_table (cond b Table Nothing) ≡ (b && true)
     met_or_not true = refl
     met_or_not false = refl
 want_by claims level start (Some region) e =
-    let none : false ≡ not (is_leaf claims level start) = sym (ap (λ r. is_none r) e) ∙ is_none-find (λ (region : Region). is_leaf_by claims level start region) claims.regions in
+    let none : false ≡ not (is_leaf claims level start) = sym (ap (λ r. is_none r) e) ∙ is_none_find (λ (region : Region). is_leaf_by claims level start region) claims.regions in
     leaf_no_table (is_kept_from claims region start) _ refl ∙ and_false' (is_met claims level start) ∙ ap (λ b. is_met claims level start && b) none
   where
     and_false' : (b : Bool) → false ≡ (b && false)
@@ -266,16 +260,16 @@ table_back claims level start (met, unserved) =
     (not_from_false (is_leaf claims level start) (false_from_ne_true (is_leaf claims level start) (λ yes. unserved (leaf_there claims level start yes)))))
 
 -- the count of tables
-count_below-same : (p q : ℕ → Bool) → ((n : ℕ) → p n ≡ q n) → (n : ℕ) → count_below p n ≡ count_below q n
+count_below_same : (p q : ℕ → Bool) → ((n : ℕ) → p n ≡ q n) → (n : ℕ) → count_below p n ≡ count_below q n
 unfolding count_below
-count_below-same p q h zero = refl
-count_below-same p q h (suc n) = ap (λ m. m + cond (p n) 1 0) (count_below-same p q h n) ∙ ap (λ b. count_below q n + cond b 1 0) (h n)
+count_below_same p q h zero = refl
+count_below_same p q h (suc n) = ap (λ m. m + cond (p n) 1 0) (count_below_same p q h n) ∙ ap (λ b. count_below q n + cond b 1 0) (h n)
 
 pub counted_by_wants : (claims : Claims) → tables_of claims ≡ tables_by (want_of claims)
 unfolding tables_of tables_at
 counted_by_wants claims =
-    let big : count_below (λ n. is_table claims 1 (n * 2 ^ 30)) 512 ≡ count_below (λ n. is_to_table (want_of claims 1 (n * 2 ^ 30))) 512 = count_below-same (λ n. is_table claims 1 (n * 2 ^ 30)) (λ n. is_to_table (want_of claims 1 (n * 2 ^ 30))) (λ n. sym (want_is_table claims 1 (n * 2 ^ 30))) 512 in
-    let small : count_below (λ n. is_table claims 2 (n * 2 ^ 21)) (512 * 512) ≡ count_below (λ n. is_to_table (want_of claims 2 (n * 2 ^ 21))) (512 * 512) = count_below-same (λ n. is_table claims 2 (n * 2 ^ 21)) (λ n. is_to_table (want_of claims 2 (n * 2 ^ 21))) (λ n. sym (want_is_table claims 2 (n * 2 ^ 21))) (512 * 512) in
+    let big : count_below (λ n. is_table claims 1 (n * 2 ^ 30)) 512 ≡ count_below (λ n. is_to_table (want_of claims 1 (n * 2 ^ 30))) 512 = count_below_same (λ n. is_table claims 1 (n * 2 ^ 30)) (λ n. is_to_table (want_of claims 1 (n * 2 ^ 30))) (λ n. sym (want_is_table claims 1 (n * 2 ^ 30))) 512 in
+    let small : count_below (λ n. is_table claims 2 (n * 2 ^ 21)) (512 * 512) ≡ count_below (λ n. is_to_table (want_of claims 2 (n * 2 ^ 21))) (512 * 512) = count_below_same (λ n. is_table claims 2 (n * 2 ^ 21)) (λ n. is_to_table (want_of claims 2 (n * 2 ^ 21))) (λ n. sym (want_is_table claims 2 (n * 2 ^ 21))) (512 * 512) in
     ap (λ m. 1 + (m + (count_below (λ n. is_table claims 2 (n * 2 ^ 21)) (512 * 512) + 0))) big
     ∙ ap (λ m. 1 + (count_below (λ n. is_to_table (want_of claims 1 (n * 2 ^ 30))) 512 + (m + 0))) small
     ∙ (let z : count_below (λ n. is_to_table (want_of claims 2 (n * 2 ^ 21))) (512 * 512) + 0 ≡ count_below (λ n. is_to_table (want_of claims 2 (n * 2 ^ 21))) (512 * 512) = omega arith in ap (λ m. 1 + (count_below (λ n. is_to_table (want_of claims 1 (n * 2 ^ 30))) 512 + m)) z)
@@ -374,8 +368,8 @@ parent_is_table claims level start l e h =
 pub taken_there : (cells : List Live) (place : ℕ) → is_closed (map holder_of_live cells) place ≡ true → IsTaken cells place
 taken_there cells place h =
     let closes : Holder → Bool = λ (holder : Holder). list_any (λ (region : Region). takes holder.loadable region place) holder.regions in
-    let f = IsFound-from_list_any (λ (cell : Live). closes (holder_of_live cell)) cells (sym (list_any-map holder_of_live closes cells) ∙ h) in
-    let g = IsFound-from_list_any (λ (region : Region). takes f.0.loadable region place) f.0.config.memory_regions f.1.passes in
+    let f = IsFound_from_list_any (λ (cell : Live). closes (holder_of_live cell)) cells (sym (list_any_map holder_of_live closes cells) ∙ h) in
+    let g = IsFound_from_list_any (λ (region : Region). takes f.0.loadable region place) f.0.config.memory_regions f.1.passes in
     let free = not (f.0.loadable && is_loadable g.0) in
     let a = and_parts (is_unshared g.0) (free && has_place g.0 place) g.1.passes in
     let b = and_parts free (has_place g.0 place) a.1 in
@@ -394,7 +388,7 @@ taken_back cells place h =
     let closes : Holder → Bool = λ (holder : Holder). list_any (λ (region : Region). takes holder.loadable region place) holder.regions in
     let both = h.cell.loadable && is_loadable h.region in
     let free : both ≡ false = false_from_ne_true both (λ yes. let p = and_parts h.cell.loadable (is_loadable h.region) yes in h.kept p.0 p.1) in
-    list_any-map holder_of_live closes cells
-    ∙ list_any-from_Contains (λ (cell : Live). closes (holder_of_live cell)) cells h.cell h.live
-    (list_any-from_Contains (λ (region : Region). takes h.cell.loadable region place) h.cell.config.memory_regions h.region h.held
+    list_any_map holder_of_live closes cells
+    ∙ list_any_from_Contains (λ (cell : Live). closes (holder_of_live cell)) cells h.cell h.live
+    (list_any_from_Contains (λ (region : Region). takes h.cell.loadable region place) h.cell.config.memory_regions h.region h.held
     (and_from (is_unshared h.region) (not both && has_place h.region place) h.alone (and_from (not both) (has_place h.region place) (not_from_false both free) h.has)))

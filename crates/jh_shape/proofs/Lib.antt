@@ -1,8 +1,8 @@
-pub mod AnyLemmas
 pub mod HoldersLemmas
 pub mod WantLemmas
 pub mod SteadyLemmas
 pub mod CountLemmas
+pub mod PageLemmas
 pub mod OrderLemmas
 pub mod GrantLemmas
 pub mod LawLemmas

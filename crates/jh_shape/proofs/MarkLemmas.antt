@@ -12,7 +12,7 @@ use Rattle.std.proofs.Math.Nat.{add-mul, mul-le-mul_right, le-div_iff_mul-le, di
 use Rattle.jh_num.specs.declared.address.TheConstants.{ADDRESS_END}
 use Rattle.jh_num.proofs.Booleans.{same_test, or_assoc}
 use Rattle.jh_cellcfg.specs.declared.region.Region.{Region}
-use Rattle.jh_cellcfg.specs.Regions.{virt_end, is_comm, may_have_blocks, place_in}
+use Rattle.jh_cellcfg.specs.Regions.{virt_end, place_in}
 use Rattle.jh_shape.specs.Claims.{Claims}
 use Rattle.jh_shape.specs.Intervals.{touches, spans}
 use Rattle.jh_shape.specs.Marks.{is_marked, is_inside}
@@ -195,16 +195,7 @@ inside_past n size number top some h past =
 pub ends_cut : (at size start end : ℕ) → 0 < size → start < end → (is_inside at size start || is_inside at size end) ≡ (touches start end at size && not (spans start end at size))
 ends_cut at size start end some order = grind (arith, nat_tests)
 
--- a block may map a slot where the level's blocks fit the region and no other cell cuts the slot
-and_four : (a b c d u : Bool) → (a && (b && (c && (d && u)))) ≡ ((a && (b && (c && d))) && u)
-and_four true true true d u = refl
-and_four true true false d u = refl
-and_four true false c d u = refl
-and_four false b c d u = refl
-
-pub block_fits : (claims : Claims) (level start : ℕ) (region : Region) → may_be_block claims level start region ≡ (fits_blocks level region && not (claims.root && are_cut claims.holders (place_in region start) (slot_size level)))
-block_fits claims level start region = and_four (nat_lt 0 level) (may_have_blocks region) (not (is_comm region)) ((region.phys_start % slot_size level) == (region.virt_start % slot_size level)) (not (claims.root && are_cut claims.holders (place_in region start) (slot_size level)))
-
+-- below the last level a mapped region that blocks fit makes a leaf of each slot that it spans and nothing cuts
 above_pages : (level : ℕ) → level < 3 → (level == 3) ≡ false
 above_pages level h = ne_eqb level 3 (λ e. absurd (omega arith))
 
@@ -214,7 +205,7 @@ leaf_fits claims level start region h mapped fits =
     let u = not (claims.root && are_cut claims.holders (place_in region start) (slot_size level)) in
     ap (λ v. v && (s && ((level == 3) || may_be_block claims level start region))) mapped
     ∙ ap (λ v. s && (v || may_be_block claims level start region)) (above_pages level h)
-    ∙ ap (λ v. s && v) (block_fits claims level start region ∙ ap (λ v. v && u) fits)
+    ∙ ap (λ v. s && (v && u)) fits
 
 -- marks of a span but for some of its slots
 one_step : (b a u e : Bool) → (e ≡ true → u ≡ true) → ((b || (a && u)) || e) ≡ (b || ((a || e) && u))

@@ -1,5 +1,5 @@
 -- Holders that cut more leave fewer leaves and more tables.
-use Rattle.std.proofs.Common.{◌≡◌, ℕ, ◌+◌, ◌-◌, ◌*◌, ◌/◌, ◌≤◌, ◌==◌, ◌%◌, zero, suc, Bool, true, false, not, ◌&&◌, ◌||◌, cond, nat_lt, List, [], ◌∷◌, ◌++◌, map, ⊎_elim, refl, sym, ap, subst, ◌∙◌, arith}
+use Rattle.std.proofs.Common.{◌≡◌, ℕ, ◌+◌, ◌-◌, ◌*◌, ◌/◌, ◌≤◌, ◌==◌, zero, suc, Bool, true, false, not, ◌&&◌, ◌||◌, cond, List, [], ◌∷◌, ◌++◌, map, ⊎_elim, refl, sym, ap, subst, ◌∙◌, arith}
 use Rattle.std.specs.List.{list_any, sum_by}
 use Rattle.std.proofs.lemmas.Bool.{and_parts, and_from, or_cases, or_left, or_right, cases_Bool, both_ways, false_from_ne_true, not-true, not_from_false}
 use Rattle.std.proofs.lemmas.List.{map-append, append-nil}
@@ -7,16 +7,16 @@ use Rattle.std.proofs.lemmas.List.Sums.{sum_by-append}
 use Rattle.jh_num.specs.declared.address.TheConstants.{ADDRESS_END}
 use Rattle.jh_cellcfg.specs.declared.config.CellConfig.{CellConfig}
 use Rattle.jh_cellcfg.specs.declared.region.Region.{Region}
-use Rattle.jh_cellcfg.specs.Regions.{virt_end, is_comm, may_have_blocks, place_in}
+use Rattle.jh_cellcfg.specs.Regions.{virt_end, place_in}
 use Rattle.jh_shape.specs.declared.target.Target.{Target}
 use Rattle.jh_shape.specs.declared.level.TheConstants.{FIRST_LEVEL, LAST_LEVEL}
 use Rattle.jh_shape.specs.Claims.{Claims, Holder, has_bit, held_from, one_more, claims_of}
 use Rattle.jh_shape.specs.Intervals.{spans}
-use Rattle.jh_shape.specs.Shapes.{slot_size, is_mapped, meets_in_part, are_cut, may_be_block, is_leaf_by, is_leaf, is_met, is_met_by, is_table}
+use Rattle.jh_shape.specs.Shapes.{slot_size, is_mapped, meets_in_part, are_cut, fits_blocks, may_be_block, is_leaf_by, is_leaf, is_met, is_met_by, is_table}
 use Rattle.jh_shape.specs.Pages.{count_below, tables_at, tables_from, tables_of, holder_of, root_claims, cell_claims, pages_of}
 use Rattle.jh_num.proofs.Booleans.{same_test}
-use Rattle.jh_num.proofs.Lists.{list_any-weaker, list_any-fewer}
-use Rattle.jh_shape.proofs.HoldersLemmas.{are_cut-append}
+use Rattle.jh_num.proofs.Lists.{list_any_weaker, list_any_fewer}
+use Rattle.jh_shape.proofs.HoldersLemmas.{are_cut_append}
 
 -- the same cell, whose second holders cut whatever the first cut
 pub record CutsMore (few many : Claims) : Type 0 where
@@ -39,17 +39,9 @@ block_fewer few many h level start region e =
     let place = place_in region start in
     let size = slot_size level in
     let free : Claims → Bool = λ c. not (c.root && are_cut c.holders place size) in
-    let aligned = (region.phys_start % size) == (region.virt_start % size) in
-    let plain = not (is_comm region) in
-    let blocks = may_have_blocks region in
-    let a = and_parts (nat_lt 0 level) (blocks && (plain && (aligned && free many))) e in
-    let b = and_parts blocks (plain && (aligned && free many)) a.1 in
-    let c = and_parts plain (aligned && free many) b.1 in
-    let d = and_parts aligned (free many) c.1 in
-    let kept : free few ≡ true = not_both few.root many.root (are_cut few.holders place size) (are_cut many.holders place size) h.root (h.cut place size) d.1 in
-    and_from (nat_lt 0 level) (blocks && (plain && (aligned && free few))) a.0
-    (and_from blocks (plain && (aligned && free few)) b.0
-    (and_from plain (aligned && free few) c.0 (and_from aligned (free few) d.0 kept)))
+    let parts = and_parts (fits_blocks level region) (free many) e in
+    let kept : free few ≡ true = not_both few.root many.root (are_cut few.holders place size) (are_cut many.holders place size) h.root (h.cut place size) parts.1 in
+    and_from (fits_blocks level region) (free few) parts.0 kept
 
 pub leaf_fewer : (few many : Claims) → CutsMore few many → (level start : ℕ) (region : Region) → is_leaf_by many level start region ≡ true → is_leaf_by few level start region ≡ true
 leaf_fewer few many h level start region e =
@@ -68,7 +60,7 @@ leaf_fewer few many h level start region e =
 
 pub any_leaf_fewer : (few many : Claims) → CutsMore few many → (level start : ℕ) → is_leaf many level start ≡ true → is_leaf few level start ≡ true
 any_leaf_fewer few many h level start e =
-    list_any-weaker (λ (region : Region). is_leaf_by many level start region) (λ (region : Region). is_leaf_by few level start region) (leaf_fewer few many h level start) few.regions
+    list_any_weaker (λ (region : Region). is_leaf_by many level start region) (λ (region : Region). is_leaf_by few level start region) (leaf_fewer few many h level start) few.regions
     (let P : List Region → Type 0 = λ xs. list_any (λ (region : Region). is_leaf_by many level start region) xs ≡ true in subst P h.regions e)
 
 pub table_more : (few many : Claims) → CutsMore few many → (level start : ℕ) → is_table few level start ≡ true → is_table many level start ≡ true
@@ -79,10 +71,10 @@ table_more few many h level start e =
     false_from_ne_true (is_leaf many level start) (λ yes. both_ways (is_leaf few level start) (not-true (is_leaf few level start) a.1) (any_leaf_fewer few many h level start yes)) in
     and_from (is_met many level start) (not (is_leaf many level start)) met (not_from_false (is_leaf many level start) none)
 
-pub count_below-le_by : (p q : ℕ → Bool) → ((n : ℕ) → p n ≡ true → q n ≡ true) → (n : ℕ) → count_below p n ≤ count_below q n
+pub count_below_le_by : (p q : ℕ → Bool) → ((n : ℕ) → p n ≡ true → q n ≡ true) → (n : ℕ) → count_below p n ≤ count_below q n
 unfolding count_below
-count_below-le_by p q h zero = omega arith
-count_below-le_by p q h (suc n) = one (p n) (q n) (count_below p n) (count_below q n) (h n) (count_below-le_by p q h n)
+count_below_le_by p q h zero = omega arith
+count_below_le_by p q h (suc n) = one (p n) (q n) (count_below p n) (count_below q n) (h n) (count_below_le_by p q h n)
   where
     one : (a b : Bool) (m n : ℕ) → (a ≡ true → b ≡ true) → m ≤ n → m + cond a 1 0 ≤ n + cond b 1 0
     one true true m n i l = omega arith
@@ -90,19 +82,19 @@ count_below-le_by p q h (suc n) = one (p n) (q n) (count_below p n) (count_below
     one false true m n i l = omega arith
     one false false m n i l = omega arith
 
-tables_at-more : (few many : Claims) → CutsMore few many → (level : ℕ) → tables_at few level ≤ tables_at many level
+tables_at_more : (few many : Claims) → CutsMore few many → (level : ℕ) → tables_at few level ≤ tables_at many level
 unfolding tables_at
-tables_at-more few many h level =
-    count_below-le_by (λ n. is_table few level (n * slot_size level)) (λ n. is_table many level (n * slot_size level)) (λ n. table_more few many h level (n * slot_size level)) (ADDRESS_END / slot_size level)
+tables_at_more few many h level =
+    count_below_le_by (λ n. is_table few level (n * slot_size level)) (λ n. is_table many level (n * slot_size level)) (λ n. table_more few many h level (n * slot_size level)) (ADDRESS_END / slot_size level)
 
-tables_from-more : (few many : Claims) → CutsMore few many → (level more : ℕ) → tables_from few level more ≤ tables_from many level more
-tables_from-more few many h level zero = omega arith
-tables_from-more few many h level (suc more) =
-    let a = tables_at-more few many h level in let b = tables_from-more few many h (level + 1) more in omega arith
+tables_from_more : (few many : Claims) → CutsMore few many → (level more : ℕ) → tables_from few level more ≤ tables_from many level more
+tables_from_more few many h level zero = omega arith
+tables_from_more few many h level (suc more) =
+    let a = tables_at_more few many h level in let b = tables_from_more few many h (level + 1) more in omega arith
 
-pub tables_of-more : (few many : Claims) → CutsMore few many → tables_of few ≤ tables_of many
+pub tables_of_more : (few many : Claims) → CutsMore few many → tables_of few ≤ tables_of many
 unfolding tables_of
-tables_of-more few many h = let a = tables_from-more few many h FIRST_LEVEL (LAST_LEVEL - FIRST_LEVEL) in omega arith
+tables_of_more few many h = let a = tables_from_more few many h FIRST_LEVEL (LAST_LEVEL - FIRST_LEVEL) in omega arith
 
 -- the holders with one cell more, wherever it stands
 one_cell_more : (regions : List Region) (before : List CellConfig) (cell : CellConfig) (behind : List CellConfig) → CutsMore (root_claims regions (before ++ behind)) (root_claims regions (before ++ cell ∷ behind))
@@ -113,22 +105,22 @@ one_cell_more regions before cell behind =
       cut = λ place size e.
           let cuts : Holder → Bool = λ (holder : Holder). list_any (λ (region : Region). meets_in_part region place size) holder.regions in
           ap (λ hs. are_cut hs place size) (map-append holder_of before (cell ∷ behind))
-          ∙ list_any-fewer cuts (map holder_of before) (holder_of cell) (map holder_of behind) (ap (λ hs. are_cut hs place size) (sym (map-append holder_of before behind)) ∙ e);
+          ∙ list_any_fewer cuts (map holder_of before) (holder_of cell) (map holder_of behind) (ap (λ hs. are_cut hs place size) (sym (map-append holder_of before behind)) ∙ e);
     }
 
-pub pages_of-fewer : (regions : List Region) (before : List CellConfig) (gone : CellConfig) (behind : List CellConfig) → pages_of regions (before ++ behind) ≤ pages_of regions (before ++ gone ∷ behind)
-pages_of-fewer regions before gone behind =
-    let a = tables_of-more (root_claims regions (before ++ behind)) (root_claims regions (before ++ gone ∷ behind)) (one_cell_more regions before gone behind) in
+pub pages_of_fewer : (regions : List Region) (before : List CellConfig) (gone : CellConfig) (behind : List CellConfig) → pages_of regions (before ++ behind) ≤ pages_of regions (before ++ gone ∷ behind)
+pages_of_fewer regions before gone behind =
+    let a = tables_of_more (root_claims regions (before ++ behind)) (root_claims regions (before ++ gone ∷ behind)) (one_cell_more regions before gone behind) in
     let b = sum_by-append (λ (cell : CellConfig). tables_of (cell_claims cell) + 1) before behind in
     let d = sum_by-append (λ (cell : CellConfig). tables_of (cell_claims cell) + 1) before (gone ∷ behind) in
     let e : sum_by (λ (cell : CellConfig). tables_of (cell_claims cell) + 1) (gone ∷ behind) ≡ sum_by (λ (cell : CellConfig). tables_of (cell_claims cell) + 1) (gone ∷ []) + sum_by (λ (cell : CellConfig). tables_of (cell_claims cell) + 1) behind =
     sum_by-append (λ (cell : CellConfig). tables_of (cell_claims cell) + 1) (gone ∷ []) behind in
     omega arith
 
-pub pages_of-more : (regions : List Region) (cells : List CellConfig) (new : CellConfig) → pages_of regions cells ≤ pages_of regions (cells ++ new ∷ [])
-pages_of-more regions cells new =
+pub pages_of_more : (regions : List Region) (cells : List CellConfig) (new : CellConfig) → pages_of regions cells ≤ pages_of regions (cells ++ new ∷ [])
+pages_of_more regions cells new =
     let same : pages_of regions (cells ++ []) ≡ pages_of regions cells = ap (pages_of regions) (append-nil cells) in
-    let a = pages_of-fewer regions cells new [] in
+    let a = pages_of_fewer regions cells new [] in
     omega arith
 
 -- cells that hold the same regions, loadable or not
@@ -152,9 +144,9 @@ loadable_alike target one other =
       regions = refl;
       root = refl;
       cut = λ place size e.
-          are_cut-append (held_from target.held other 0 target.cells.now) (one_more target.extra) place size
+          are_cut_append (held_from target.held other 0 target.cells.now) (one_more target.extra) place size
           ∙ ap (λ v. v || are_cut (one_more target.extra) place size) (held_alike target.held other one 0 target.cells.now place size)
-          ∙ sym (are_cut-append (held_from target.held one 0 target.cells.now) (one_more target.extra) place size)
+          ∙ sym (are_cut_append (held_from target.held one 0 target.cells.now) (one_more target.extra) place size)
           ∙ e;
     }
 
@@ -172,6 +164,6 @@ tables_alike target one other level start =
 
 pub pages_alike : (target : Target) (one other : ℕ) → tables_of (with_loadable target one) ≡ tables_of (with_loadable target other)
 pages_alike target one other =
-    let a = tables_of-more (with_loadable target one) (with_loadable target other) (loadable_alike target one other) in
-    let b = tables_of-more (with_loadable target other) (with_loadable target one) (loadable_alike target other one) in
+    let a = tables_of_more (with_loadable target one) (with_loadable target other) (loadable_alike target one other) in
+    let b = tables_of_more (with_loadable target other) (with_loadable target one) (loadable_alike target other one) in
     omega arith

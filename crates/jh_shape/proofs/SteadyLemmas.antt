@@ -1,14 +1,14 @@
 -- Slots that are alike.
-use Rattle.std.proofs.Common.{◌≡◌, ℕ, ◌+◌, ◌*◌, ◌<◌, ◌≤◌, ◌==◌, ◌%◌, min, Bool, true, not, ◌&&◌, ◌||◌, nat_lt, nat_le, length, get_or, take, ⊎_elim, sym, ap, subst, ◌∙◌, arith}
+use Rattle.std.proofs.Common.{◌≡◌, ℕ, ◌+◌, ◌*◌, ◌<◌, ◌≤◌, ◌==◌, min, Bool, true, not, ◌&&◌, ◌||◌, nat_le, length, get_or, take, ⊎_elim, sym, ap, subst, ◌∙◌, arith}
 use Rattle.std.specs.List.{list_any}
 use Rattle.std.proofs.lemmas.Bool.{and_parts, leb-true, cases_Bool}
 use Rattle.std.proofs.lemmas.List.{take_all}
 use Rattle.jh_cellcfg.specs.declared.region.Region.{Region}
-use Rattle.jh_cellcfg.specs.Regions.{virt_end, is_comm, may_have_blocks, place_in}
+use Rattle.jh_cellcfg.specs.Regions.{virt_end, place_in}
 use Rattle.jh_shape.specs.Claims.{Claims}
 use Rattle.jh_shape.specs.Intervals.{touches, spans}
-use Rattle.jh_shape.specs.Shapes.{slot_size, is_mapped, are_cut, may_be_block, is_leaf_by, is_leaf, is_met, is_met_by, is_table}
-use Rattle.jh_num.proofs.Lists.{list_any-agree_more}
+use Rattle.jh_shape.specs.Shapes.{slot_size, is_mapped, are_cut, fits_blocks, may_be_block, is_leaf_by, is_leaf, is_met, is_met_by, is_table}
+use Rattle.jh_num.proofs.Lists.{list_any_agree_more}
 
 -- a region meets two slots alike
 pub same_met : (level a b : ℕ) (region : Region) (start end : ℕ) → start ≡ region.virt_start → end ≡ virt_end region → touches start end a (slot_size level) ≡ touches start end b (slot_size level) → is_met_by level a region ≡ is_met_by level b region
@@ -19,7 +19,7 @@ same_met level a b region start end es ee t =
 -- blocks may map two slots alike
 same_block : (claims : Claims) (level a b : ℕ) (region : Region) → (claims.root ≡ true → are_cut claims.holders (place_in region a) (slot_size level) ≡ are_cut claims.holders (place_in region b) (slot_size level)) → may_be_block claims level a region ≡ may_be_block claims level b region
 same_block claims level a b region cut =
-    let front : Bool → Bool = λ v. nat_lt 0 level && (may_have_blocks region && (not (is_comm region) && (((region.phys_start % slot_size level) == (region.virt_start % slot_size level)) && not v))) in
+    let front : Bool → Bool = λ v. fits_blocks level region && not v in
     let ca = are_cut claims.holders (place_in region a) (slot_size level) in
     let cb = are_cut claims.holders (place_in region b) (slot_size level) in
     ⊎_elim
@@ -52,8 +52,8 @@ pub place_later : (region : Region) (start at : ℕ) → region.virt_start ≤ s
 place_later region start at h = omega arith
 
 -- an interval starts by the slot that it spans
-pub spans-start : (start end at size : ℕ) → spans start end at size ≡ true → start ≤ at
-spans-start start end at size h = leb-true start at (and_parts (nat_le start at) (nat_le (at + size) end) h).0
+pub spans_start : (start end at size : ℕ) → spans start end at size ≡ true → start ≤ at
+spans_start start end at size h = leb-true start at (and_parts (nat_le start at) (nat_le (at + size) end) h).0
 
 -- a region makes a leaf of a slot and of a later one alike, by its addresses and by the places there
 pub later_leaf : (claims : Claims) (level start : ℕ) (region : Region) (k first end at size place : ℕ) → first ≡ region.virt_start → end ≡ virt_end region → at ≡ start → size ≡ slot_size level → place ≡ place_in region start → spans first end (at + k * size) size ≡ spans first end at size → are_cut claims.holders (place + k * size) size ≡ are_cut claims.holders place size → is_leaf_by claims level (start + k * slot_size level) region ≡ is_leaf_by claims level start region
@@ -64,7 +64,7 @@ later_leaf claims level start region k first end at size place ef ee ea es ep s 
     let c' : C (place_in region start) (slot_size level) = subst (λ p. C p (slot_size level)) ep (subst (λ z. C place z) es cut) in
     same_leaf claims level (start + k * slot_size level) start region first end ef ee s'
     (λ root spanned.
-    let low : region.virt_start ≤ start = let l = spans-start first end start (slot_size level) spanned in omega arith in
+    let low : region.virt_start ≤ start = let l = spans_start first end start (slot_size level) spanned in omega arith in
     ap (λ p. are_cut claims.holders p (slot_size level)) (place_later region start (k * slot_size level) low) ∙ c')
 
 -- how many slots the first regions treat alike
@@ -78,8 +78,8 @@ alike_more claims level start index run once none h l some met leaf =
     let first = h.some in
     record {
       some = omega arith;
-      met = λ k m. list_any-agree_more (λ (region : Region). is_met_by level (start + k * slot_size level) region) (λ (region : Region). is_met_by level start region) claims.regions index none l (h.met k (omega arith)) (met k (omega arith));
-      leaf = λ k m. list_any-agree_more (λ (region : Region). is_leaf_by claims level (start + k * slot_size level) region) (λ (region : Region). is_leaf_by claims level start region) claims.regions index none l (h.leaf k (omega arith)) (leaf k (omega arith));
+      met = λ k m. list_any_agree_more (λ (region : Region). is_met_by level (start + k * slot_size level) region) (λ (region : Region). is_met_by level start region) claims.regions index none l (h.met k (omega arith)) (met k (omega arith));
+      leaf = λ k m. list_any_agree_more (λ (region : Region). is_leaf_by claims level (start + k * slot_size level) region) (λ (region : Region). is_leaf_by claims level start region) claims.regions index none l (h.leaf k (omega arith)) (leaf k (omega arith));
     }
 
 pub alike_all : (claims : Claims) (level start index run : ℕ) → Alike claims level start index run → length claims.regions ≤ index → (k : ℕ) → k < run → is_table claims level (start + k * slot_size level) ≡ is_table claims level start

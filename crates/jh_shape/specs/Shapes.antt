@@ -39,16 +39,22 @@ holder_of_live live = record { regions = live.config.memory_regions; loadable = 
 abbrev pub is_closed : List Holder → ℕ → Bool
 is_closed holders place = list_any (λ (holder : Holder). list_any (λ (region : Region). takes holder.loadable region place) holder.regions) holders
 
--- a block may map the slot of addresses from `start` on: blocks stand at levels 1 and 2, for plain
--- memory whose places are aligned like its addresses, and, for root, none where another cell's unshared
--- region meets the slot's places in part
-abbrev pub fits_blocks : ℕ → Region → Bool
-fits_blocks level region =
-    nat_lt 0 level && (may_have_blocks region && (not (is_comm region) && ((region.phys_start % slot_size level) == (region.virt_start % slot_size level))))
+-- in slots of the level the region's places are aligned like its addresses
+abbrev pub is_aligned_alike : ℕ → Region → Bool
+is_aligned_alike level region = (region.phys_start % slot_size level) == (region.virt_start % slot_size level)
 
+-- blocks of the level may map the region, as far as other cells don't forbid it: blocks stand at levels 1
+-- and 2, for plain memory whose places are aligned like its addresses
+abbrev pub fits_blocks : ℕ → Region → Bool
+fits_blocks level region = nat_lt 0 level && (may_have_blocks region && (not (is_comm region) && is_aligned_alike level region))
+
+-- of root's slot of addresses from `start` on another cell's unshared region meets the places in part
+abbrev pub is_cut_for_root : Claims → ℕ → ℕ → Region → Bool
+is_cut_for_root claims level start region = claims.root && are_cut claims.holders (place_in region start) (slot_size level)
+
+-- a block may map the slot of addresses from `start` on: it fits the region, and nothing cuts it for root
 abbrev pub may_be_block : Claims → ℕ → ℕ → Region → Bool
-may_be_block claims level start region =
-    nat_lt 0 level && (may_have_blocks region && (not (is_comm region) && (((region.phys_start % slot_size level) == (region.virt_start % slot_size level)) && not (claims.root && are_cut claims.holders (place_in region start) (slot_size level)))))
+may_be_block claims level start region = fits_blocks level region && not (is_cut_for_root claims level start region)
 
 -- one descriptor of that level maps the whole slot, by this region
 abbrev pub is_leaf_by : Claims → ℕ → ℕ → Region → Bool

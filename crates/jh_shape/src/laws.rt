@@ -1,6 +1,6 @@
 //! What holds of shapes and pages, whatever the regions are: each law is the contract of a function that
 //! does nothing.
-ghost use Rattle.std.specs.Prelude.{◌≡◌, ℕ, ◌+◌, ◌-◌, ◌%◌, ◌<◌, ◌≤◌, List, [], ◌∷◌, ◌++◌, map, Bool, IsTrue, ◌↔◌};
+ghost use Rattle.std.specs.Prelude.{◌≡◌, ℕ, ◌+◌, ◌-◌, ◌%◌, ◌^◌, ◌<◌, ◌≤◌, List, [], ◌∷◌, ◌++◌, map, Bool, IsTrue, ◌↔◌};
 ghost use Rattle.jh_cellcfg.specs.declared.live.Live.{Live as LiveOf};
 ghost use Rattle.jh_num.specs.declared.rights.Rights.{Rights as RightsOf};
 ghost use Rattle.jh_shape.specs.Claims.{Claims, claims_of};
@@ -43,6 +43,11 @@ pub fn the_communication_page_changes_no_count(_target: &Target, _comm: u64)
     ensures pages { tables_of (claims_of (record _target.now { comm = _comm })) ≡ tables_of (claims_of _target.now) }
 {}
 
+/// A cell's tables take at most 2^20 pages.
+pub fn tables_are_few()
+    ensures { (claims : Claims) → tables_of claims ≤ 2 ^ 20 }
+{}
+
 /// Tables begin at level 1, and pages stand at level 3.
 pub fn levels_are_these()
     ensures first { FIRST_LEVEL ≡ 1 }
@@ -64,13 +69,16 @@ pub fn each_wanted_table_is_counted()
 
 /// Where a table is wanted, one is wanted in the slot of the level above that it lies in.
 pub fn tables_stand_below_tables()
-    ensures { (claims : Claims) (level start : ℕ) → level < 3 → start % slot_size (level + 1) ≡ 0 → want_of claims (level + 1) start ≡ Want.Table → want_of claims level (start - start % slot_size level) ≡ Want.Table }
+    ensures { (claims : Claims) (level start : ℕ) → level < 3 → start % slot_size (level + 1) ≡ 0
+        → want_of claims (level + 1) start ≡ Want.Table → want_of claims level (start - start % slot_size level) ≡ Want.Table }
 {}
 
 /// A page of a page-mapped region is granted wholly or not at all: what one byte of a page of addresses
 /// is granted, each is, at the places beside it.
 pub fn a_page_is_granted_wholly_or_not_at_all()
-    ensures { (claims : Claims) (page place j k : ℕ) (rights : RightsOf) (device : Bool) → IsSound claims → page % 4096 ≡ 0 → j < 4096 → k < 4096 → IsGranted claims (page + j) (place + j) rights device → IsGranted claims (page + k) (place + k) rights device }
+    ensures { (claims : Claims) (page place j k : ℕ) (rights : RightsOf) (device : Bool) → IsSound claims → page % 4096 ≡ 0
+        → j < 4096 → k < 4096 → IsGranted claims (page + j) (place + j) rights device
+        → IsGranted claims (page + k) (place + k) rights device }
 {}
 
 /// A place is closed to root exactly where a live cell holds it for itself, and doesn't leave it to root

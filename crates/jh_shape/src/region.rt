@@ -17,10 +17,9 @@ pub(crate) fn addresses(region: &Region) -> Interval
     ensures start { result.start ≡ region.now.virt_start }
     ensures end { result.end ≡ virt_end region.now }
 {
-    let start = u128::from(region.virt_start);
     Interval {
-        start,
-        end: start + u128::from(region.size),
+        start: u128::from(region.virt_start),
+        end: region.virt_end(),
     }
 }
 
@@ -29,10 +28,9 @@ pub(crate) fn places(region: &Region) -> Interval
     ensures start { result.start ≡ region.now.phys_start }
     ensures end { result.end ≡ phys_end region.now }
 {
-    let start = u128::from(region.phys_start);
     Interval {
-        start,
-        end: start + u128::from(region.size),
+        start: u128::from(region.phys_start),
+        end: region.phys_end(),
     }
 }
 

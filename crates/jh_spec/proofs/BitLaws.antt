@@ -1,22 +1,22 @@
 -- A CPU's bit in the bitmap.
-use Rattle.std.proofs.Common.{◌≡◌, ◌↔◌, ◌⊎◌, ℕ, zero, suc, ◌+◌, ◌*◌, ◌/◌, ◌%◌, ◌^◌, ◌<◌, ◌≤◌, Bool, true, false, cond, List, [], ◌∷◌, ◌++◌, ◌==◌, length, get_or, option_and_then, Option, Some, None, inl, inr, refl, sym, ap, ◌∙◌, subst, arith, IsTrue}
+use Rattle.std.proofs.Common.{◌≡◌, ◌↔◌, ℕ, zero, suc, ◌+◌, ◌*◌, ◌/◌, ◌%◌, ◌<◌, ◌≤◌, Bool, true, false, cond, List, [], ◌∷◌, ◌++◌, ◌==◌, length, get_or, option_and_then, Some, None, inl, inr, refl, sym, ap, ◌∙◌, subst, arith}
 use Rattle.std.specs.Prelude.{Contains}
 use Rattle.std.specs.Int.{bit_at}
 use Rattle.std.proofs.lemmas.Bool.{cases_lt, eqb-true, eq-eqb, false≢true}
 use Rattle.std.proofs.lemmas.List.{get_or_append_left, get_or_push}
 use Rattle.std.proofs.lemmas.Option.{same_Some, none-some}
-use Rattle.jh_num.proofs.Lists.{IsFound-from_list_any, list_any-from_Contains}
+use Rattle.jh_num.proofs.Lists.{IsFound_from_list_any, list_any_from_Contains}
 use Rattle.serde_json.specs.Data.{Data}
 use Rattle.jh_spec.specs.Json.{list_told}
-use Rattle.jh_spec.specs.Told.{u64_told}
-use Rattle.jh_spec.specs.Cpus.{names_cpu, are_new, cpu_bit, cpu_byte, bitmap, bitmap_of, cpus_told}
-use Rattle.jh_spec.proofs.Marks.{length-bitmap}
+use Rattle.jh_spec.specs.Fields.{u64_told}
+use Rattle.jh_spec.specs.Cpus.{names_cpu, are_new, cpu_byte, bitmap, bitmap_of, cpus_told}
+use Rattle.jh_spec.proofs.Marks.{length_bitmap}
 
 byte_at : (bytes : ℕ) (cpus : List ℕ) (k : ℕ) → k < bytes → get_or (bitmap bytes cpus) k 0 ≡ cpu_byte cpus (8 * k)
 unfolding bitmap
 byte_at zero cpus k lt = absurd (let no : ⊥ = omega arith in no)
 byte_at (suc bytes) cpus k lt =
-    let counted = length-bitmap bytes cpus in
+    let counted = length_bitmap bytes cpus in
     elim (cases_lt k bytes) as (λ _. get_or (bitmap bytes cpus ++ cpu_byte cpus (8 * bytes) ∷ []) k 0 ≡ cpu_byte cpus (8 * k)) [
       | inl before ↦
           let inside : k < length (bitmap bytes cpus) = omega arith in
@@ -84,9 +84,9 @@ one_of false h = absurd (false≢true h)
 named : (cpus : List ℕ) (cpu : ℕ) → (digit (names_cpu cpus cpu) ≡ 1) ↔ Contains cpus cpu
 named cpus cpu = (
   (λ h.
-      let found = IsFound-from_list_any (λ other. other == cpu) cpus (is_one (names_cpu cpus cpu) h) in
+      let found = IsFound_from_list_any (λ other. other == cpu) cpus (is_one (names_cpu cpus cpu) h) in
       subst (Contains cpus) (eqb-true found.0 cpu found.1.passes) found.1.held),
-  (λ held. one_of (names_cpu cpus cpu) (list_any-from_Contains (λ other. other == cpu) cpus cpu held (eq-eqb cpu cpu refl))),
+  (λ held. one_of (names_cpu cpus cpu) (list_any_from_Contains (λ other. other == cpu) cpus cpu held (eq-eqb cpu cpu refl))),
 )
 
 bit_of : (bytes : ℕ) (cpus : List ℕ) (cpu : ℕ) → cpu < 8 * bytes → (bit_at (get_or (bitmap bytes cpus) (cpu / 8) 0) (cpu % 8) ≡ 1) ↔ Contains cpus cpu
@@ -116,4 +116,4 @@ bitmap_law d bytes cpus set told h cpu lt =
     subst P (set_is d bytes cpus set told h) (bit_of bytes cpus cpu lt)
 
 pub size_law : (d : Data) (bytes : ℕ) (cpus set : List ℕ) → list_told u64_told d ≡ Some cpus → cpus_told bytes d ≡ Some set → length set ≡ bytes
-size_law d bytes cpus set told h = sym (ap (λ (s : List ℕ). length s) (set_is d bytes cpus set told h)) ∙ length-bitmap bytes cpus
+size_law d bytes cpus set told h = sym (ap (λ (s : List ℕ). length s) (set_is d bytes cpus set told h)) ∙ length_bitmap bytes cpus

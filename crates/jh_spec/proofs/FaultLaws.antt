@@ -5,16 +5,15 @@ use Rattle.std.proofs.lemmas.Option.{same_Some, none-some}
 use Rattle.serde_json.specs.Data.{Data}
 use Rattle.serde_json.specs.Find.{get, as_object}
 use Rattle.jh_cellcfg.specs.declared.config.CellConfig.{CellConfig}
-use Rattle.jh_cellcfg.specs.declared.config.SystemConfig.{SystemConfig}
 use Rattle.jh_spec.specs.declared.spec.SpecFault.{SpecFault}
 use Rattle.jh_spec.specs.declared.spec.SpecFault.TheVariants.{Json, Member, NoMemory}
 use Rattle.jh_spec.specs.declared.spec.Spec.{Spec}
 use Rattle.jh_spec.specs.declared.spec.Spec.TheVariants.{Cell as CellSpec, System as SystemSpec}
 use Rattle.jh_spec.specs.declared.spec.Kind.{Kind}
 use Rattle.jh_spec.specs.declared.spec.Kind.TheVariants.{Cell, System}
-use Rattle.jh_spec.specs.Faults.{◌>>=◌, member_told, no_name, all_listed}
+use Rattle.jh_spec.specs.Faults.{◌>>=◌, member_told, no_name}
 use Rattle.jh_spec.specs.Json.{list_at, unlisted}
-use Rattle.jh_spec.specs.Told.{u8_at, u16_at, u32_at, u64_at, region_told, irqchip_told, device_told}
+use Rattle.jh_spec.specs.Fields.{u8_at, u16_at, u32_at, u64_at, region_told, irqchip_told, device_told}
 use Rattle.jh_spec.specs.Cells.{cell_name, cpu_set_size, cpu_set_in, console_at, region_at, cell_names, system_names, identity_told, lists_told, settings_told, cell_told, root_of, root_in, root_told, platform_told, system_told}
 use Rattle.jh_spec.specs.Specs.{names_with_kind, kind_told, told_by, object_told, spec_told}
 use Rattle.jh_spec.specs.Laws.{blamed, identity_members, lists_members, settings_members, cell_members, platform_members, root_member, system_members, blame}
@@ -81,31 +80,31 @@ platform_blamed d =
 
 -- ---- chains of chains
 
-blamed-append : (ms ns : List (List ℕ × Bool)) (other : Option (List ℕ)) → blamed (ms ++ ns) other ≡ blamed ms (blamed ns other)
-blamed-append [] ns other = refl
-blamed-append (m ∷ ms) ns other = ap (λ rest. cond m.1 (Some m.0) rest) (blamed-append ms ns other)
+blamed_append : (ms ns : List (List ℕ × Bool)) (other : Option (List ℕ)) → blamed (ms ++ ns) other ≡ blamed ms (blamed ns other)
+blamed_append [] ns other = refl
+blamed_append (m ∷ ms) ns other = ap (λ rest. cond m.1 (Some m.0) rest) (blamed_append ms ns other)
 
 none_by : (b : Bool) (name : List ℕ) (rest more other : Option (List ℕ)) → cond b (Some name) rest ≡ None → (rest ≡ None → more ≡ other) → cond b (Some name) more ≡ other
 none_by true name rest more other h later = absurd (none-some name (sym h))
 none_by false name rest more other h later = later h
 
-blamed-none : (ms : List (List ℕ × Bool)) (other : Option (List ℕ)) → blamed ms None ≡ None → blamed ms other ≡ other
-blamed-none [] other h = refl
-blamed-none (m ∷ ms) other h = none_by m.1 m.0 (blamed ms None) (blamed ms other) other h (λ rest. blamed-none ms other rest)
+blamed_none : (ms : List (List ℕ × Bool)) (other : Option (List ℕ)) → blamed ms None ≡ None → blamed ms other ≡ other
+blamed_none [] other h = refl
+blamed_none (m ∷ ms) other h = none_by m.1 m.0 (blamed ms None) (blamed ms other) other h (λ rest. blamed_none ms other rest)
 
 some_by : (b : Bool) (name found : List ℕ) (rest more : Option (List ℕ)) → cond b (Some name) rest ≡ Some found → (rest ≡ Some found → more ≡ Some found) → cond b (Some name) more ≡ Some found
 some_by true name found rest more h later = h
 some_by false name found rest more h later = later h
 
-blamed-some : (ms : List (List ℕ × Bool)) (other : Option (List ℕ)) (found : List ℕ) → blamed ms None ≡ Some found → blamed ms other ≡ Some found
-blamed-some [] other found h = absurd (none-some found h)
-blamed-some (m ∷ ms) other found h = some_by m.1 m.0 found (blamed ms None) (blamed ms other) h (λ rest. blamed-some ms other found rest)
+blamed_some : (ms : List (List ℕ × Bool)) (other : Option (List ℕ)) (found : List ℕ) → blamed ms None ≡ Some found → blamed ms other ≡ Some found
+blamed_some [] other found h = absurd (none-some found h)
+blamed_some (m ∷ ms) other found h = some_by m.1 m.0 found (blamed ms None) (blamed ms other) h (λ rest. blamed_some ms other found rest)
 
 then_blamed : {X Y : Type 0} (r : Result X SpecFault) (next : X → Result Y SpecFault) (ms : List (List ℕ × Bool)) (other : Option (List ℕ)) → IsBlamed r (blamed ms None)
     → ((x : X) → IsBlamed (next x) other) → IsBlamed (r >>= next) (blamed ms other)
 unfolding ◌>>=◌ IsBlamed
-then_blamed (Ok x) next ms other is rest = subst (IsBlamed (next x)) (sym (blamed-none ms other is)) (rest x)
-then_blamed (Err (Member m)) next ms other is rest = blamed-some ms other m is
+then_blamed (Ok x) next ms other is rest = subst (IsBlamed (next x)) (sym (blamed_none ms other is)) (rest x)
+then_blamed (Err (Member m)) next ms other is rest = blamed_some ms other m is
 then_blamed (Err Json) next ms other is rest = absurd is
 then_blamed (Err NoMemory) next ms other is rest = absurd is
 
@@ -118,8 +117,8 @@ cell_blamed : (names : List (List ℕ)) (d : Data) → IsBlamed (cell_told names
 unfolding cell_told
 cell_blamed names d =
     subst (IsBlamed (cell_told names d))
-    (sym (blamed-append (identity_members d) (lists_members d ++ settings_members d) (unlisted names d)
-    ∙ ap (blamed (identity_members d)) (blamed-append (lists_members d) (settings_members d) (unlisted names d))))
+    (sym (blamed_append (identity_members d) (lists_members d ++ settings_members d) (unlisted names d)
+    ∙ ap (blamed (identity_members d)) (blamed_append (lists_members d) (settings_members d) (unlisted names d))))
     (then_blamed (identity_told d) _ (identity_members d) (blamed (lists_members d) (blamed (settings_members d) (unlisted names d))) (identity_blamed d) (λ identity.
     then_blamed (lists_told d) _ (lists_members d) (blamed (settings_members d) (unlisted names d)) (lists_blamed d) (λ lists.
     then_blamed (settings_told d) _ (settings_members d) (unlisted names d) (settings_blamed d) (λ settings. listed_by _ (unlisted names d)))))
@@ -136,7 +135,7 @@ root_by (Some root) = told (cell_told cell_names root)
 system_blamed : (d : Data) → IsBlamed (system_told d) (blamed (system_members d) (unlisted (codes "kind" ∷ system_names) d))
 unfolding system_told
 system_blamed d =
-    subst (IsBlamed (system_told d)) (sym (blamed-append (platform_members d) (root_member d ∷ []) (unlisted (codes "kind" ∷ system_names) d)))
+    subst (IsBlamed (system_told d)) (sym (blamed_append (platform_members d) (root_member d ∷ []) (unlisted (codes "kind" ∷ system_names) d)))
     (then_blamed (platform_told d) _ (platform_members d) (blamed (root_member d ∷ []) (unlisted (codes "kind" ∷ system_names) d)) (platform_blamed d) (λ platform.
     then_blamed (root_told d) _ (root_member d ∷ []) (unlisted (codes "kind" ∷ system_names) d) (root_by (get (codes "root") d)) (λ root. listed_by _ (unlisted (codes "kind" ∷ system_names) d))))
 

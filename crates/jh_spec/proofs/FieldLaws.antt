@@ -1,6 +1,6 @@
 -- Each field is its member's number.
-use Rattle.std.proofs.Common.{◌≡◌, ◌⊎◌, ℕ, ◌^◌, ◌<◌, Bool, true, false, ◌&&◌, ◌==◌, cond, if◌then◌else◌, nat_lt, List, [], ◌∷◌, length, codes, Option, Some, None, Result, Ok, Err, is_some, unwrap_or, replicate, inl, inr, refl, sym, ap, ◌∙◌, subst, option_and_then}
-use Rattle.std.proofs.lemmas.Bool.{and_parts, ltb-true, eqb-true, cases_Bool, false≢true}
+use Rattle.std.proofs.Common.{◌≡◌, ℕ, ◌^◌, ◌<◌, Bool, true, false, ◌==◌, cond, if◌then◌else◌, nat_lt, List, ◌∷◌, length, codes, Option, Some, None, Result, Ok, Err, replicate, inl, inr, refl, sym, ap, subst, option_and_then}
+use Rattle.std.proofs.lemmas.Bool.{ltb-true, eqb-true}
 use Rattle.std.proofs.lemmas.Option.{same_Some, none-some}
 use Rattle.serde_json.specs.Data.{Data}
 use Rattle.serde_json.specs.Find.{get}
@@ -13,13 +13,12 @@ use Rattle.jh_cellcfg.specs.declared.region.Region.{Region}
 use Rattle.jh_cellcfg.specs.Spelling.{console_bytes}
 use Rattle.jh_syscfg.specs.declared.platform.Platform.{Platform}
 use Rattle.jh_spec.specs.declared.spec.SpecFault.{SpecFault}
-use Rattle.jh_spec.specs.declared.spec.SpecFault.TheVariants.{Json, Member, NoMemory}
 use Rattle.jh_spec.specs.declared.cell.Identity.{Identity}
 use Rattle.jh_spec.specs.declared.cell.Lists.{Lists}
 use Rattle.jh_spec.specs.declared.cell.Settings.{Settings}
 use Rattle.jh_spec.specs.Faults.{◌>>=◌, member_told, all_listed}
 use Rattle.jh_spec.specs.Json.{told_or, number_told, number_below, list_told, list_at, has_only}
-use Rattle.jh_spec.specs.Told.{u8_at, u16_at, u32_at, u64_at, u32_told, words_at, words_told, where_told, region_names, irqchip_names, device_names, console_names, region_told, irqchip_told, device_told, console_told}
+use Rattle.jh_spec.specs.Fields.{u8_at, u16_at, u32_at, u64_at, u32_told, words_at, words_told, region_names, irqchip_names, device_names, console_names, region_members, irqchip_members, device_members, console_members, region_told, irqchip_told, device_told, console_told}
 use Rattle.jh_spec.specs.Cells.{cell_name, cpu_set_size, cpu_set_in, console_at, region_at, cell_names, system_names, identity_told, lists_told, settings_told, cell_of, cell_told, root_of, root_in, root_told, platform_told, system_of, system_told}
 use Rattle.jh_spec.specs.Laws.{IsNumberOf, AreWordsOf, IsRegionOf, IsIrqchipOf, IsDeviceOf, IsConsoleOf, IsCellOf, IsSystemOf}
 
@@ -45,14 +44,6 @@ number_by bits name d (Some value) is n h =
 number_is : (bits : ℕ) (name : List ℕ) (d : Data) (n : ℕ) → told_or (number_below (2 ^ bits)) 0 (get name d) ≡ Some n → IsNumberOf bits name d n
 number_is bits name d n h = number_by bits name d (get name d) refl n h
 
-is_value : {X : Type 0} (o : Option X) (z : X) → is_some o ≡ true → o ≡ Some (unwrap_or o z)
-is_value None z h = absurd (false≢true h)
-is_value (Some x) z h = refl
-
-field : (bits : ℕ) (name : List ℕ) (d : Data) → is_some (told_or (number_below (2 ^ bits)) 0 (get name d)) ≡ true
-    → IsNumberOf bits name d (unwrap_or (told_or (number_below (2 ^ bits)) 0 (get name d)) 0)
-field bits name d h = number_is bits name d _ (is_value (told_or (number_below (2 ^ bits)) 0 (get name d)) 0 h)
-
 -- ---- a list of words
 
 count_by : (count : ℕ) (ws : List ℕ) (b : Bool) → (length ws == count) ≡ b → (vs : List ℕ) → cond b (Some ws) None ≡ Some vs → (ws ≡ vs) × (length ws ≡ count)
@@ -71,100 +62,106 @@ words_by count name d (Some value) is ws h =
     let told = words_told_by count (list_told u32_told value) ws h in
     inr (value, is, told.0, told.1)
 
-words : (count : ℕ) (name : List ℕ) (d : Data) → is_some (words_at count name d) ≡ true
-    → AreWordsOf count name d (unwrap_or (words_at count name d) (replicate count 0))
-words count name d h = words_by count name d (get name d) refl _ (is_value (words_at count name d) (replicate count 0) h)
+-- the words of a member that tells them
+words_are : (count : ℕ) (name : List ℕ) (d : Data) (ws : List ℕ) → words_at count name d ≡ Some ws → AreWordsOf count name d ws
+words_are count name d ws h = words_by count name d (get name d) refl ws h
 
 -- ---- records
 
-where_by : {X : Type 0} (b : Bool) (x y : X) → cond b (Some x) None ≡ Some y → (b ≡ true) × (x ≡ y)
-where_by true x y h = (refl, same_Some x y h)
-where_by false x y h = absurd (none-some y h)
+-- what stands where the test held
+listed : {X : Type 0} (test : Bool) (o : Option X) (x : X) → cond test o None ≡ Some x → o ≡ Some x
+listed true o x h = h
+listed false o x h = absurd (none-some x h)
+
+-- the parts of a chain of members that all told something
+members : {X Y : Type 0} (o : Option X) (next : X → Option Y) (y : Y) → option_and_then next o ≡ Some y → (x : X) × (o ≡ Some x) × (next x ≡ Some y)
+members None next y h = absurd (none-some y h)
+members (Some x) next y h = (x, refl, h)
 
 pub region_fields : (d : Data) (told : Region) → region_told d ≡ Some told → IsRegionOf d told
 region_fields d told h =
-    let is = where_by (has_only region_names d && is_some (u64_at (codes "phys") d) && is_some (u64_at (codes "virt") d) && is_some (u64_at (codes "size") d) && is_some (u64_at (codes "flags") d)) _ told h in
-    let p4 = and_parts (has_only region_names d && is_some (u64_at (codes "phys") d) && is_some (u64_at (codes "virt") d) && is_some (u64_at (codes "size") d)) (is_some (u64_at (codes "flags") d)) is.0 in
-    let p3 = and_parts (has_only region_names d && is_some (u64_at (codes "phys") d) && is_some (u64_at (codes "virt") d)) (is_some (u64_at (codes "size") d)) p4.0 in
-    let p2 = and_parts (has_only region_names d && is_some (u64_at (codes "phys") d)) (is_some (u64_at (codes "virt") d)) p3.0 in
-    let p1 = and_parts (has_only region_names d) (is_some (u64_at (codes "phys") d)) p2.0 in
-    subst (IsRegionOf d) is.1 (record {
-      phys_start = field 64 (codes "phys") d p1.1;
-      virt_start = field 64 (codes "virt") d p2.1;
-      size = field 64 (codes "size") d p3.1;
-      flags = field 64 (codes "flags") d p4.1;
+    let s0 = listed (has_only region_names d) (region_members d) told h in
+    let s1 = members (u64_at (codes "phys") d) _ told s0 in
+    let s2 = members (u64_at (codes "virt") d) _ told s1.2 in
+    let s3 = members (u64_at (codes "size") d) _ told s2.2 in
+    let s4 = members (u64_at (codes "flags") d) _ told s3.2 in
+    subst (IsRegionOf d) (same_Some _ told s4.2) (record {
+      phys_start = number_is 64 (codes "phys") d s1.0 s1.1;
+      virt_start = number_is 64 (codes "virt") d s2.0 s2.1;
+      size = number_is 64 (codes "size") d s3.0 s3.1;
+      flags = number_is 64 (codes "flags") d s4.0 s4.1;
     })
 
 pub irqchip_fields : (d : Data) (told : Irqchip) → irqchip_told d ≡ Some told → IsIrqchipOf d told
 irqchip_fields d told h =
-    let is = where_by (has_only irqchip_names d && is_some (u64_at (codes "address") d) && is_some (u32_at (codes "id") d) && is_some (u32_at (codes "pin_base") d) && is_some (words_at 4 (codes "bitmap") d)) _ told h in
-    let p4 = and_parts (has_only irqchip_names d && is_some (u64_at (codes "address") d) && is_some (u32_at (codes "id") d) && is_some (u32_at (codes "pin_base") d)) (is_some (words_at 4 (codes "bitmap") d)) is.0 in
-    let p3 = and_parts (has_only irqchip_names d && is_some (u64_at (codes "address") d) && is_some (u32_at (codes "id") d)) (is_some (u32_at (codes "pin_base") d)) p4.0 in
-    let p2 = and_parts (has_only irqchip_names d && is_some (u64_at (codes "address") d)) (is_some (u32_at (codes "id") d)) p3.0 in
-    let p1 = and_parts (has_only irqchip_names d) (is_some (u64_at (codes "address") d)) p2.0 in
-    subst (IsIrqchipOf d) is.1 (record {
-      address = field 64 (codes "address") d p1.1;
-      id = field 32 (codes "id") d p2.1;
-      pin_base = field 32 (codes "pin_base") d p3.1;
-      pin_bitmap = words 4 (codes "bitmap") d p4.1;
+    let s0 = listed (has_only irqchip_names d) (irqchip_members d) told h in
+    let s1 = members (u64_at (codes "address") d) _ told s0 in
+    let s2 = members (u32_at (codes "id") d) _ told s1.2 in
+    let s3 = members (u32_at (codes "pin_base") d) _ told s2.2 in
+    let s4 = members (words_at 4 (codes "bitmap") d) _ told s3.2 in
+    subst (IsIrqchipOf d) (same_Some _ told s4.2) (record {
+      address = number_is 64 (codes "address") d s1.0 s1.1;
+      id = number_is 32 (codes "id") d s2.0 s2.1;
+      pin_base = number_is 32 (codes "pin_base") d s3.0 s3.1;
+      pin_bitmap = words_are 4 (codes "bitmap") d s4.0 s4.1;
     })
 
 pub device_fields : (d : Data) (told : PciDevice) → device_told d ≡ Some told → IsDeviceOf d told
 device_fields d told h =
-    let is = where_by (has_only device_names d && is_some (u8_at (codes "kind") d) && is_some (u8_at (codes "iommu") d) && is_some (u16_at (codes "domain") d) && is_some (u16_at (codes "bdf") d) && is_some (words_at 6 (codes "bar_mask") d) && is_some (u16_at (codes "caps_start") d) && is_some (u16_at (codes "num_caps") d) && is_some (u8_at (codes "num_msi_vectors") d) && is_some (u8_at (codes "msi_bits") d) && is_some (u16_at (codes "num_msix_vectors") d) && is_some (u16_at (codes "msix_region_size") d) && is_some (u64_at (codes "msix_address") d) && is_some (u32_at (codes "shmem_regions_start") d) && is_some (u8_at (codes "shmem_dev_id") d) && is_some (u8_at (codes "shmem_peers") d) && is_some (u16_at (codes "shmem_protocol") d)) _ told h in
-    let p16 = and_parts (has_only device_names d && is_some (u8_at (codes "kind") d) && is_some (u8_at (codes "iommu") d) && is_some (u16_at (codes "domain") d) && is_some (u16_at (codes "bdf") d) && is_some (words_at 6 (codes "bar_mask") d) && is_some (u16_at (codes "caps_start") d) && is_some (u16_at (codes "num_caps") d) && is_some (u8_at (codes "num_msi_vectors") d) && is_some (u8_at (codes "msi_bits") d) && is_some (u16_at (codes "num_msix_vectors") d) && is_some (u16_at (codes "msix_region_size") d) && is_some (u64_at (codes "msix_address") d) && is_some (u32_at (codes "shmem_regions_start") d) && is_some (u8_at (codes "shmem_dev_id") d) && is_some (u8_at (codes "shmem_peers") d)) (is_some (u16_at (codes "shmem_protocol") d)) is.0 in
-    let p15 = and_parts (has_only device_names d && is_some (u8_at (codes "kind") d) && is_some (u8_at (codes "iommu") d) && is_some (u16_at (codes "domain") d) && is_some (u16_at (codes "bdf") d) && is_some (words_at 6 (codes "bar_mask") d) && is_some (u16_at (codes "caps_start") d) && is_some (u16_at (codes "num_caps") d) && is_some (u8_at (codes "num_msi_vectors") d) && is_some (u8_at (codes "msi_bits") d) && is_some (u16_at (codes "num_msix_vectors") d) && is_some (u16_at (codes "msix_region_size") d) && is_some (u64_at (codes "msix_address") d) && is_some (u32_at (codes "shmem_regions_start") d) && is_some (u8_at (codes "shmem_dev_id") d)) (is_some (u8_at (codes "shmem_peers") d)) p16.0 in
-    let p14 = and_parts (has_only device_names d && is_some (u8_at (codes "kind") d) && is_some (u8_at (codes "iommu") d) && is_some (u16_at (codes "domain") d) && is_some (u16_at (codes "bdf") d) && is_some (words_at 6 (codes "bar_mask") d) && is_some (u16_at (codes "caps_start") d) && is_some (u16_at (codes "num_caps") d) && is_some (u8_at (codes "num_msi_vectors") d) && is_some (u8_at (codes "msi_bits") d) && is_some (u16_at (codes "num_msix_vectors") d) && is_some (u16_at (codes "msix_region_size") d) && is_some (u64_at (codes "msix_address") d) && is_some (u32_at (codes "shmem_regions_start") d)) (is_some (u8_at (codes "shmem_dev_id") d)) p15.0 in
-    let p13 = and_parts (has_only device_names d && is_some (u8_at (codes "kind") d) && is_some (u8_at (codes "iommu") d) && is_some (u16_at (codes "domain") d) && is_some (u16_at (codes "bdf") d) && is_some (words_at 6 (codes "bar_mask") d) && is_some (u16_at (codes "caps_start") d) && is_some (u16_at (codes "num_caps") d) && is_some (u8_at (codes "num_msi_vectors") d) && is_some (u8_at (codes "msi_bits") d) && is_some (u16_at (codes "num_msix_vectors") d) && is_some (u16_at (codes "msix_region_size") d) && is_some (u64_at (codes "msix_address") d)) (is_some (u32_at (codes "shmem_regions_start") d)) p14.0 in
-    let p12 = and_parts (has_only device_names d && is_some (u8_at (codes "kind") d) && is_some (u8_at (codes "iommu") d) && is_some (u16_at (codes "domain") d) && is_some (u16_at (codes "bdf") d) && is_some (words_at 6 (codes "bar_mask") d) && is_some (u16_at (codes "caps_start") d) && is_some (u16_at (codes "num_caps") d) && is_some (u8_at (codes "num_msi_vectors") d) && is_some (u8_at (codes "msi_bits") d) && is_some (u16_at (codes "num_msix_vectors") d) && is_some (u16_at (codes "msix_region_size") d)) (is_some (u64_at (codes "msix_address") d)) p13.0 in
-    let p11 = and_parts (has_only device_names d && is_some (u8_at (codes "kind") d) && is_some (u8_at (codes "iommu") d) && is_some (u16_at (codes "domain") d) && is_some (u16_at (codes "bdf") d) && is_some (words_at 6 (codes "bar_mask") d) && is_some (u16_at (codes "caps_start") d) && is_some (u16_at (codes "num_caps") d) && is_some (u8_at (codes "num_msi_vectors") d) && is_some (u8_at (codes "msi_bits") d) && is_some (u16_at (codes "num_msix_vectors") d)) (is_some (u16_at (codes "msix_region_size") d)) p12.0 in
-    let p10 = and_parts (has_only device_names d && is_some (u8_at (codes "kind") d) && is_some (u8_at (codes "iommu") d) && is_some (u16_at (codes "domain") d) && is_some (u16_at (codes "bdf") d) && is_some (words_at 6 (codes "bar_mask") d) && is_some (u16_at (codes "caps_start") d) && is_some (u16_at (codes "num_caps") d) && is_some (u8_at (codes "num_msi_vectors") d) && is_some (u8_at (codes "msi_bits") d)) (is_some (u16_at (codes "num_msix_vectors") d)) p11.0 in
-    let p9 = and_parts (has_only device_names d && is_some (u8_at (codes "kind") d) && is_some (u8_at (codes "iommu") d) && is_some (u16_at (codes "domain") d) && is_some (u16_at (codes "bdf") d) && is_some (words_at 6 (codes "bar_mask") d) && is_some (u16_at (codes "caps_start") d) && is_some (u16_at (codes "num_caps") d) && is_some (u8_at (codes "num_msi_vectors") d)) (is_some (u8_at (codes "msi_bits") d)) p10.0 in
-    let p8 = and_parts (has_only device_names d && is_some (u8_at (codes "kind") d) && is_some (u8_at (codes "iommu") d) && is_some (u16_at (codes "domain") d) && is_some (u16_at (codes "bdf") d) && is_some (words_at 6 (codes "bar_mask") d) && is_some (u16_at (codes "caps_start") d) && is_some (u16_at (codes "num_caps") d)) (is_some (u8_at (codes "num_msi_vectors") d)) p9.0 in
-    let p7 = and_parts (has_only device_names d && is_some (u8_at (codes "kind") d) && is_some (u8_at (codes "iommu") d) && is_some (u16_at (codes "domain") d) && is_some (u16_at (codes "bdf") d) && is_some (words_at 6 (codes "bar_mask") d) && is_some (u16_at (codes "caps_start") d)) (is_some (u16_at (codes "num_caps") d)) p8.0 in
-    let p6 = and_parts (has_only device_names d && is_some (u8_at (codes "kind") d) && is_some (u8_at (codes "iommu") d) && is_some (u16_at (codes "domain") d) && is_some (u16_at (codes "bdf") d) && is_some (words_at 6 (codes "bar_mask") d)) (is_some (u16_at (codes "caps_start") d)) p7.0 in
-    let p5 = and_parts (has_only device_names d && is_some (u8_at (codes "kind") d) && is_some (u8_at (codes "iommu") d) && is_some (u16_at (codes "domain") d) && is_some (u16_at (codes "bdf") d)) (is_some (words_at 6 (codes "bar_mask") d)) p6.0 in
-    let p4 = and_parts (has_only device_names d && is_some (u8_at (codes "kind") d) && is_some (u8_at (codes "iommu") d) && is_some (u16_at (codes "domain") d)) (is_some (u16_at (codes "bdf") d)) p5.0 in
-    let p3 = and_parts (has_only device_names d && is_some (u8_at (codes "kind") d) && is_some (u8_at (codes "iommu") d)) (is_some (u16_at (codes "domain") d)) p4.0 in
-    let p2 = and_parts (has_only device_names d && is_some (u8_at (codes "kind") d)) (is_some (u8_at (codes "iommu") d)) p3.0 in
-    let p1 = and_parts (has_only device_names d) (is_some (u8_at (codes "kind") d)) p2.0 in
-    subst (IsDeviceOf d) is.1 (record {
-      kind = field 8 (codes "kind") d p1.1;
-      iommu = field 8 (codes "iommu") d p2.1;
-      domain = field 16 (codes "domain") d p3.1;
-      bdf = field 16 (codes "bdf") d p4.1;
-      bar_mask = words 6 (codes "bar_mask") d p5.1;
-      caps_start = field 16 (codes "caps_start") d p6.1;
-      num_caps = field 16 (codes "num_caps") d p7.1;
-      num_msi_vectors = field 8 (codes "num_msi_vectors") d p8.1;
-      msi_bits = field 8 (codes "msi_bits") d p9.1;
-      num_msix_vectors = field 16 (codes "num_msix_vectors") d p10.1;
-      msix_region_size = field 16 (codes "msix_region_size") d p11.1;
-      msix_address = field 64 (codes "msix_address") d p12.1;
-      shmem_regions_start = field 32 (codes "shmem_regions_start") d p13.1;
-      shmem_dev_id = field 8 (codes "shmem_dev_id") d p14.1;
-      shmem_peers = field 8 (codes "shmem_peers") d p15.1;
-      shmem_protocol = field 16 (codes "shmem_protocol") d p16.1;
+    let s0 = listed (has_only device_names d) (device_members d) told h in
+    let s1 = members (u8_at (codes "kind") d) _ told s0 in
+    let s2 = members (u8_at (codes "iommu") d) _ told s1.2 in
+    let s3 = members (u16_at (codes "domain") d) _ told s2.2 in
+    let s4 = members (u16_at (codes "bdf") d) _ told s3.2 in
+    let s5 = members (words_at 6 (codes "bar_mask") d) _ told s4.2 in
+    let s6 = members (u16_at (codes "caps_start") d) _ told s5.2 in
+    let s7 = members (u16_at (codes "num_caps") d) _ told s6.2 in
+    let s8 = members (u8_at (codes "num_msi_vectors") d) _ told s7.2 in
+    let s9 = members (u8_at (codes "msi_bits") d) _ told s8.2 in
+    let s10 = members (u16_at (codes "num_msix_vectors") d) _ told s9.2 in
+    let s11 = members (u16_at (codes "msix_region_size") d) _ told s10.2 in
+    let s12 = members (u64_at (codes "msix_address") d) _ told s11.2 in
+    let s13 = members (u32_at (codes "shmem_regions_start") d) _ told s12.2 in
+    let s14 = members (u8_at (codes "shmem_dev_id") d) _ told s13.2 in
+    let s15 = members (u8_at (codes "shmem_peers") d) _ told s14.2 in
+    let s16 = members (u16_at (codes "shmem_protocol") d) _ told s15.2 in
+    subst (IsDeviceOf d) (same_Some _ told s16.2) (record {
+      kind = number_is 8 (codes "kind") d s1.0 s1.1;
+      iommu = number_is 8 (codes "iommu") d s2.0 s2.1;
+      domain = number_is 16 (codes "domain") d s3.0 s3.1;
+      bdf = number_is 16 (codes "bdf") d s4.0 s4.1;
+      bar_mask = words_are 6 (codes "bar_mask") d s5.0 s5.1;
+      caps_start = number_is 16 (codes "caps_start") d s6.0 s6.1;
+      num_caps = number_is 16 (codes "num_caps") d s7.0 s7.1;
+      num_msi_vectors = number_is 8 (codes "num_msi_vectors") d s8.0 s8.1;
+      msi_bits = number_is 8 (codes "msi_bits") d s9.0 s9.1;
+      num_msix_vectors = number_is 16 (codes "num_msix_vectors") d s10.0 s10.1;
+      msix_region_size = number_is 16 (codes "msix_region_size") d s11.0 s11.1;
+      msix_address = number_is 64 (codes "msix_address") d s12.0 s12.1;
+      shmem_regions_start = number_is 32 (codes "shmem_regions_start") d s13.0 s13.1;
+      shmem_dev_id = number_is 8 (codes "shmem_dev_id") d s14.0 s14.1;
+      shmem_peers = number_is 8 (codes "shmem_peers") d s15.0 s15.1;
+      shmem_protocol = number_is 16 (codes "shmem_protocol") d s16.0 s16.1;
     })
 
 pub console_fields : (d : Data) (told : Console) → console_told d ≡ Some told → IsConsoleOf d told
 console_fields d told h =
-    let is = where_by (has_only console_names d && is_some (u64_at (codes "address") d) && is_some (u32_at (codes "size") d) && is_some (u16_at (codes "kind") d) && is_some (u16_at (codes "flags") d) && is_some (u32_at (codes "divider") d) && is_some (u32_at (codes "gate_nr") d) && is_some (u64_at (codes "clock_reg") d)) _ told h in
-    let p7 = and_parts (has_only console_names d && is_some (u64_at (codes "address") d) && is_some (u32_at (codes "size") d) && is_some (u16_at (codes "kind") d) && is_some (u16_at (codes "flags") d) && is_some (u32_at (codes "divider") d) && is_some (u32_at (codes "gate_nr") d)) (is_some (u64_at (codes "clock_reg") d)) is.0 in
-    let p6 = and_parts (has_only console_names d && is_some (u64_at (codes "address") d) && is_some (u32_at (codes "size") d) && is_some (u16_at (codes "kind") d) && is_some (u16_at (codes "flags") d) && is_some (u32_at (codes "divider") d)) (is_some (u32_at (codes "gate_nr") d)) p7.0 in
-    let p5 = and_parts (has_only console_names d && is_some (u64_at (codes "address") d) && is_some (u32_at (codes "size") d) && is_some (u16_at (codes "kind") d) && is_some (u16_at (codes "flags") d)) (is_some (u32_at (codes "divider") d)) p6.0 in
-    let p4 = and_parts (has_only console_names d && is_some (u64_at (codes "address") d) && is_some (u32_at (codes "size") d) && is_some (u16_at (codes "kind") d)) (is_some (u16_at (codes "flags") d)) p5.0 in
-    let p3 = and_parts (has_only console_names d && is_some (u64_at (codes "address") d) && is_some (u32_at (codes "size") d)) (is_some (u16_at (codes "kind") d)) p4.0 in
-    let p2 = and_parts (has_only console_names d && is_some (u64_at (codes "address") d)) (is_some (u32_at (codes "size") d)) p3.0 in
-    let p1 = and_parts (has_only console_names d) (is_some (u64_at (codes "address") d)) p2.0 in
-    subst (IsConsoleOf d) is.1 (record {
-      address = field 64 (codes "address") d p1.1;
-      size = field 32 (codes "size") d p2.1;
-      kind = field 16 (codes "kind") d p3.1;
-      flags = field 16 (codes "flags") d p4.1;
-      divider = field 32 (codes "divider") d p5.1;
-      gate_nr = field 32 (codes "gate_nr") d p6.1;
-      clock_reg = field 64 (codes "clock_reg") d p7.1;
+    let s0 = listed (has_only console_names d) (console_members d) told h in
+    let s1 = members (u64_at (codes "address") d) _ told s0 in
+    let s2 = members (u32_at (codes "size") d) _ told s1.2 in
+    let s3 = members (u16_at (codes "kind") d) _ told s2.2 in
+    let s4 = members (u16_at (codes "flags") d) _ told s3.2 in
+    let s5 = members (u32_at (codes "divider") d) _ told s4.2 in
+    let s6 = members (u32_at (codes "gate_nr") d) _ told s5.2 in
+    let s7 = members (u64_at (codes "clock_reg") d) _ told s6.2 in
+    subst (IsConsoleOf d) (same_Some _ told s7.2) (record {
+      address = number_is 64 (codes "address") d s1.0 s1.1;
+      size = number_is 32 (codes "size") d s2.0 s2.1;
+      kind = number_is 16 (codes "kind") d s3.0 s3.1;
+      flags = number_is 16 (codes "flags") d s4.0 s4.1;
+      divider = number_is 32 (codes "divider") d s5.0 s5.1;
+      gate_nr = number_is 32 (codes "gate_nr") d s6.0 s6.1;
+      clock_reg = number_is 64 (codes "clock_reg") d s7.0 s7.1;
     })
 
 -- ---- cells and systems

@@ -7,11 +7,11 @@ use Rattle.jh_spec.specs.declared.spec.Spec.TheVariants.{Cell as CellSpec, Syste
 use Rattle.jh_spec.specs.declared.spec.Kind.{Kind}
 use Rattle.jh_spec.specs.declared.spec.Kind.TheVariants.{Cell, System}
 use Rattle.jh_spec.specs.Cells.{cell_told, system_told}
-use Rattle.jh_spec.specs.Faults.{◌>>=◌, Answers}
+use Rattle.jh_spec.specs.Faults.{◌>>=◌, IsAsWanted}
 use Rattle.jh_spec.specs.Specs.{names_with_kind, told_by}
 
-pub cell_by : (kind : Option Kind) (d : Data) (r : Result Spec SpecFault) → Some Cell ≡ kind → Answers (cell_told names_with_kind d >>= λ config. Ok (CellSpec config)) r → Answers (told_by kind d) r
+pub cell_by : (kind : Option Kind) (d : Data) (r : Result Spec SpecFault) → Some Cell ≡ kind → IsAsWanted (cell_told names_with_kind d >>= λ config. Ok (CellSpec config)) r → IsAsWanted (told_by kind d) r
 cell_by kind d r is h = rw (← is) h
 
-pub system_by : (kind : Option Kind) (d : Data) (r : Result Spec SpecFault) → Some System ≡ kind → Answers (system_told d >>= λ config. Ok (SystemSpec config)) r → Answers (told_by kind d) r
+pub system_by : (kind : Option Kind) (d : Data) (r : Result Spec SpecFault) → Some System ≡ kind → IsAsWanted (system_told d >>= λ config. Ok (SystemSpec config)) r → IsAsWanted (told_by kind d) r
 system_by kind d r is h = rw (← is) h

@@ -59,14 +59,14 @@ abbrev LengthIs : {X : Type 0} → Option (List X) → ℕ → Type 0
 LengthIs None n = Unit {0}
 LengthIs (Some xs) n = length xs ≡ n
 
-LengthIs-more : {X : Type 0} (x : Option X) (later : Option (List X)) (n : ℕ) → LengthIs later n → LengthIs (item_and x later) (suc n)
-LengthIs-more None later n h = tt
-LengthIs-more (Some x) None n h = tt
-LengthIs-more (Some x) (Some xs) n h = ap suc h
+LengthIs_more : {X : Type 0} (x : Option X) (later : Option (List X)) (n : ℕ) → LengthIs later n → LengthIs (item_and x later) (suc n)
+LengthIs_more None later n h = tt
+LengthIs_more (Some x) None n h = tt
+LengthIs_more (Some x) (Some xs) n h = ap suc h
 
-LengthIs-items : {X : Type 0} (tells : Data → Option X) (values : List Value) → LengthIs (items_told tells (items_view values)) (length values)
-LengthIs-items tells [] = refl
-LengthIs-items tells (v ∷ vs) = LengthIs-more (tells (view v)) (items_told tells (items_view vs)) (length vs) (LengthIs-items tells vs)
+LengthIs_items : {X : Type 0} (tells : Data → Option X) (values : List Value) → LengthIs (items_told tells (items_view values)) (length values)
+LengthIs_items tells [] = refl
+LengthIs_items tells (v ∷ vs) = LengthIs_more (tells (view v)) (items_told tells (items_view vs)) (length vs) (LengthIs_items tells vs)
 
 -- so many words, and no others
 abbrev pub counted : ℕ → Option (List ℕ) → Option (List ℕ)
@@ -77,7 +77,7 @@ counted_none count n None h other = refl
 counted_none count n (Some ws) h other = let differs : length ws ≢ count = λ e. other (sym h ∙ e) in rw (ne_eqb (length ws) count differs)
 
 pub words_none : (tells : Data → Option ℕ) (count : ℕ) (values : List Value) → length values ≢ count → counted count (items_told tells (items_view values)) ≡ None
-words_none tells count values other = counted_none count (length values) (items_told tells (items_view values)) (LengthIs-items tells values) other
+words_none tells count values other = counted_none count (length values) (items_told tells (items_view values)) (LengthIs_items tells values) other
 
 pub words_some : (count : ℕ) (words : List ℕ) → length words ≡ count → counted count (Some words) ≡ Some words
 words_some count words is = rw (eq-eqb (length words) count is)

@@ -19,7 +19,7 @@ use Rattle.jh_spec.specs.declared.cell.Lists.{Lists}
 use Rattle.jh_spec.specs.declared.cell.Settings.{Settings}
 use Rattle.jh_spec.specs.Faults.{◌>>=◌, member_told, all_listed, IsFaultOf}
 use Rattle.jh_spec.specs.Json.{told_or, list_at}
-use Rattle.jh_spec.specs.Told.{u8_at, u16_at, u32_at, u64_at, u32_told, region_told, irqchip_told, device_told, console_told}
+use Rattle.jh_spec.specs.Fields.{u8_at, u16_at, u32_at, u64_at, u32_told, region_told, irqchip_told, device_told, console_told}
 use Rattle.jh_spec.specs.Cpus.{bitmap, cpus_told}
 
 -- ---- a cell's members

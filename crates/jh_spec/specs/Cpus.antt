@@ -3,7 +3,7 @@ use Rattle.std.specs.Prelude.{◌≡◌, ◌<◌, ℕ, zero, suc, ◌+◌, ◌*�
 use Rattle.std.specs.List.{list_any}
 use Rattle.serde_json.specs.Data.{Data}
 use Rattle.jh_spec.specs.Json.{list_told}
-use Rattle.jh_spec.specs.Told.{u64_told}
+use Rattle.jh_spec.specs.Fields.{u64_told}
 
 abbrev pub names_cpu : List ℕ → ℕ → Bool
 names_cpu cpus cpu = list_any (λ other. other == cpu) cpus

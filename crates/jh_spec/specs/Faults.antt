@@ -38,5 +38,5 @@ IsAnswer wanted (Err Json) = wanted ≡ Err Json
 IsAnswer wanted (Err (Member name)) = wanted ≡ Err (Member name)
 
 -- an answer is the one that is wanted, or want of memory
-pub record Answers {X : Type 0} (wanted result : Result X SpecFault) : Type 0 where
+pub record IsAsWanted {X : Type 0} (wanted result : Result X SpecFault) : Type 0 where
   pub answer : IsAnswer wanted result

@@ -14,6 +14,11 @@ pub record IsText (bytes : List ℕ) (d : Data) : Type 0 where
 
 -- ---- members of an object
 
+infixl 10 ◌>>=◌
+-- the next step of a `do`, where this one tells something
+abbrev pub ◌>>=◌ : {X Y : Type 0} → Option X → (X → Option Y) → Option Y
+o >>= next = option_and_then next o
+
 -- what the member of this name tells; nothing where it is missing
 abbrev pub told_at : {X : Type 0} → (Data → Option X) → List ℕ → Data → Option X
 told_at tells name d = option_and_then tells (get name d)

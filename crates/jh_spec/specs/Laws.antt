@@ -13,7 +13,7 @@ use Rattle.jh_cellcfg.specs.Spelling.{console_bytes}
 use Rattle.jh_spec.specs.declared.spec.Kind.{Kind}
 use Rattle.jh_spec.specs.declared.spec.Kind.TheVariants.{Cell, System}
 use Rattle.jh_spec.specs.Json.{number_told, list_told, list_at, unlisted}
-use Rattle.jh_spec.specs.Told.{u8_at, u16_at, u32_at, u64_at, u32_told, region_told, irqchip_told, device_told}
+use Rattle.jh_spec.specs.Fields.{u8_at, u16_at, u32_at, u64_at, u32_told, region_told, irqchip_told, device_told}
 use Rattle.jh_spec.specs.Cells.{cell_name, cpu_set_size, cpu_set_in, console_at, region_at, cell_names, system_names, cell_told}
 use Rattle.jh_spec.specs.Specs.{names_with_kind}
 

@@ -1,5 +1,5 @@
 pub mod Json
-pub mod Told
+pub mod Fields
 pub mod Faults
 pub mod Cpus
 pub mod Cells

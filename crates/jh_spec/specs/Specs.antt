@@ -42,17 +42,17 @@ abbrev pub spec_told : Data → Result Spec SpecFault
 spec_told d = if is_some (as_object d) then object_told d else Err Json
 
 -- why no object was read: the bytes are no object's text, or memory ran out
-abbrev pub IsUnread : List ℕ → SpecFault → Type 0
-IsUnread bytes Json = (d : Data) → IsText bytes d → spec_told d ≡ Err Json
-IsUnread bytes (Member name) = ⊥
-IsUnread bytes NoMemory = ⊤
+abbrev pub IsNoSpec : List ℕ → SpecFault → Type 0
+IsNoSpec bytes Json = (d : Data) → IsText bytes d → spec_told d ≡ Err Json
+IsNoSpec bytes (Member name) = ⊥
+IsNoSpec bytes NoMemory = ⊤
 
 -- what is answered to these bytes: what their value tells, or that they are no object's text
-abbrev pub Tells : List ℕ → Result Spec SpecFault → Type 0
-Tells bytes (Ok spec) = (d : Data) × IsText bytes d × (spec_told d ≡ Ok spec)
-Tells bytes (Err Json) = (d : Data) → IsText bytes d → spec_told d ≡ Err Json
-Tells bytes (Err (Member name)) = (d : Data) × IsText bytes d × (spec_told d ≡ Err (Member name))
-Tells bytes (Err NoMemory) = ⊤
+abbrev pub IsSpecAnswer : List ℕ → Result Spec SpecFault → Type 0
+IsSpecAnswer bytes (Ok spec) = (d : Data) × IsText bytes d × (spec_told d ≡ Ok spec)
+IsSpecAnswer bytes (Err Json) = (d : Data) → IsText bytes d → spec_told d ≡ Err Json
+IsSpecAnswer bytes (Err (Member name)) = (d : Data) × IsText bytes d × (spec_told d ≡ Err (Member name))
+IsSpecAnswer bytes (Err NoMemory) = ⊤
 
 -- the configuration may be written
 abbrev pub MayBeWritten : Spec → Type 0

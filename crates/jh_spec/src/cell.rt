@@ -5,31 +5,31 @@ ghost use Rattle.serde_json.specs.View.{view};
 ghost use Rattle.jh_cellcfg.specs.Limits.{IsWithinLimits};
 ghost use Rattle.jh_cellcfg.specs.Spelling.{console_bytes as bytes_of};
 ghost use Rattle.jh_spec.specs.Cells.{cell_told, identity_told, lists_told, settings_told, IsIdentity, AreLists};
-ghost use Rattle.jh_spec.specs.Faults.{Answers, all_listed, member_told};
+ghost use Rattle.jh_spec.specs.Faults.{IsAsWanted, all_listed, member_told};
 ghost use Rattle.jh_spec.specs.Json.{told_or};
 
 use crate::cpus::{cpu_set, cpu_set_size};
 use crate::fault::{fault_of, named};
+use crate::from_json::{FromJson, member};
 use crate::json::first_unlisted;
 use crate::list::list_at;
 use crate::name::cell_name;
 use crate::spec::SpecFault;
-use crate::told::{Told, member};
 use jh_cellcfg::{CellConfig, Console, Irqchip, PciDevice, Record, Region, Writer};
 use jh_num::{NoMemory, Seq};
 use serde_json::Value;
 use std::alloc::Global;
 
 /// What the member of this name tells, or its fault.
-pub fn told<T: Told + Drop>(alloc: Global, object: &Value, name: &str) -> Result<T, SpecFault>
-    ensures { Answers (member_told name.now (told_or T.tells T.missing (get name.now (view object.now)))) result }
+pub fn field<T: FromJson + Drop>(alloc: Global, object: &Value, name: &str) -> Result<T, SpecFault>
+    ensures { IsAsWanted (member_told name.now (told_or T.tells T.missing (get name.now (view object.now)))) result }
 {
     named(alloc, name, member(object, name))
 }
 
 /// No name is unlisted.
 pub fn all_listed(alloc: Global, object: &Value, names: &[&str]) -> Result<(), SpecFault>
-    ensures { Answers (all_listed (map (λ name. name.now) names.now) (view object.now)) result }
+    ensures { IsAsWanted (all_listed (map (λ name. name.now) names.now) (view object.now)) result }
 {
     match first_unlisted(object, names) {
         Some(name) => Err(fault_of(alloc, name)),
@@ -57,12 +57,12 @@ struct Identity {
 }
 
 fn identity_of(alloc: Global, object: &Value) -> Result<Identity, SpecFault>
-    ensures told { Answers (identity_told (view object.now)) result }
+    ensures told { IsAsWanted (identity_told (view object.now)) result }
     ensures limits { IfOk result IsIdentity }
 {
     let name = named(alloc, "name", cell_name(object))?;
-    let id = told(alloc, object, "id")?;
-    let flags = told(alloc, object, "flags")?;
+    let id = field(alloc, object, "id")?;
+    let flags = field(alloc, object, "flags")?;
     let bytes = named(alloc, "cpu_set_size", cpu_set_size(object))?;
     let cpu_set = named(alloc, "cpus", cpu_set(alloc, object, bytes)?)?;
     Ok(Identity {
@@ -82,7 +82,7 @@ struct Lists {
 }
 
 fn lists_of(alloc: Global, object: &Value) -> Result<Lists, SpecFault>
-    ensures told { Answers (lists_told (view object.now)) result }
+    ensures told { IsAsWanted (lists_told (view object.now)) result }
     ensures limits { IfOk result AreLists }
 {
     let memory_regions = named(alloc, "regions", list_at(alloc, object, "regions", 1024)?)?;
@@ -105,12 +105,12 @@ struct Settings {
 }
 
 fn settings_of(alloc: Global, object: &Value) -> Result<Settings, SpecFault>
-    ensures { Answers (settings_told (view object.now)) result }
+    ensures { IsAsWanted (settings_told (view object.now)) result }
 {
-    let vpci_irq_base = told(alloc, object, "vpci_irq_base")?;
-    let cpu_reset_address = told(alloc, object, "cpu_reset_address")?;
-    let msg_reply_timeout = told(alloc, object, "msg_reply_timeout")?;
-    let console = told(alloc, object, "console")?;
+    let vpci_irq_base = field(alloc, object, "vpci_irq_base")?;
+    let cpu_reset_address = field(alloc, object, "cpu_reset_address")?;
+    let msg_reply_timeout = field(alloc, object, "msg_reply_timeout")?;
+    let console = field(alloc, object, "console")?;
     Ok(Settings {
         vpci_irq_base,
         cpu_reset_address,
@@ -121,7 +121,7 @@ fn settings_of(alloc: Global, object: &Value) -> Result<Settings, SpecFault>
 
 /// The configuration that an object's members tell, where it has no other names than these.
 pub fn cell(alloc: Global, object: &Value, names: &[&str]) -> Result<CellConfig, SpecFault>
-    ensures told { Answers (cell_told (map (λ name. name.now) names.now) (view object.now)) result }
+    ensures told { IsAsWanted (cell_told (map (λ name. name.now) names.now) (view object.now)) result }
     ensures limits { IfOk result IsWithinLimits }
 {
     let Identity {

@@ -4,8 +4,8 @@ ghost use Rattle.serde_json.specs.View.{view};
 ghost use Rattle.jh_spec.specs.Cpus.{bitmap_of, are_new, mark_byte, AreMarks};
 ghost use Rattle.jh_spec.specs.Cells.{cpu_set_size, cpu_set_in, size_told};
 
+use crate::from_json::FromJson;
 use crate::list::list;
-use crate::told::Told;
 use jh_num::{NoMemory, Seq};
 use serde_json::Value;
 use std::alloc::Global;
@@ -27,7 +27,7 @@ fn size_told(value: &Value) -> Option<u32>
     ensures some { IfSome result (λ bytes. 0 < bytes) }
     ensures most { IfSome result (λ bytes. bytes ≤ 64) }
 {
-    let bytes = u32::told(value)?;
+    let bytes = u32::from_json(value)?;
     if bytes > 0 && bytes <= 64 {
         Some(bytes)
     } else {

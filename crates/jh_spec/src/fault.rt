@@ -1,6 +1,6 @@
 //! Faults by the name of their member.
 ghost use Rattle.std.specs.Prelude.{◌≡◌, IfOk, Some};
-ghost use Rattle.jh_spec.specs.Faults.{member_told, Answers, IsFaultOf};
+ghost use Rattle.jh_spec.specs.Faults.{member_told, IsAsWanted, IsFaultOf};
 
 use crate::spec::SpecFault;
 use jh_num::Seq;
@@ -18,7 +18,7 @@ pub fn fault_of(alloc: Global, name: &str) -> SpecFault
 
 /// What a member tells, or its fault.
 pub fn named<T: Drop>(alloc: Global, name: &str, told: Option<T>) -> Result<T, SpecFault>
-    ensures answer { Answers (member_told name.now told) result }
+    ensures answer { IsAsWanted (member_told name.now told) result }
     ensures ok { IfOk result (λ value. told ≡ Some value) }
 {
     match told {

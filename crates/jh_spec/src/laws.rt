@@ -11,7 +11,7 @@ ghost use Rattle.jh_cellcfg.specs.declared.config.Console.{Console as TheConsole
 ghost use Rattle.jh_cellcfg.specs.declared.region.Region.{Region as TheRegion};
 ghost use Rattle.jh_spec.specs.declared.spec.Spec.{Spec as TheSpec};
 ghost use Rattle.jh_spec.specs.Json.{list_told};
-ghost use Rattle.jh_spec.specs.Told.{u64_told, region_told, irqchip_told, device_told, console_told};
+ghost use Rattle.jh_spec.specs.Fields.{u64_told, region_told, irqchip_told, device_told, console_told};
 ghost use Rattle.jh_spec.specs.Cpus.{cpus_told};
 ghost use Rattle.jh_spec.specs.Cells.{cell_told, system_told};
 ghost use Rattle.jh_spec.specs.Specs.{kind_told, spec_told};

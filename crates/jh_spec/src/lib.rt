@@ -4,6 +4,7 @@
 mod cell;
 mod cpus;
 mod fault;
+mod from_json;
 pub mod json;
 mod laws;
 mod list;
@@ -12,12 +13,8 @@ mod numbers;
 mod records;
 mod spec;
 mod system;
-mod told;
 
 pub use laws::{
     a_cpu_that_is_named_has_its_bit, each_field_is_its_members_number, the_first_fault_is_to_blame,
 };
 pub use spec::{Spec, SpecFault, read_spec};
-
-#[cfg(test)]
-mod tests;

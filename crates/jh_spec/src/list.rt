@@ -3,13 +3,13 @@ ghost use Rattle.std.specs.Prelude.{◌≡◌, ◌≤◌, length, IfOk, IfSome};
 ghost use Rattle.serde_json.specs.View.{view};
 ghost use Rattle.jh_spec.specs.Json.{list_told, list_at};
 
-use crate::told::Told;
+use crate::from_json::FromJson;
 use jh_num::{NoMemory, Seq};
 use serde_json::Value;
 use std::alloc::Global;
 
 /// What each item of a list tells, where all tell something.
-pub fn list<T: Told>(alloc: Global, value: &Value) -> Result<Option<Seq<T>>, NoMemory>
+pub fn list<T: FromJson>(alloc: Global, value: &Value) -> Result<Option<Seq<T>>, NoMemory>
     ensures { IfOk result (λ told. told ≡ list_told T.tells (view value.now)) }
 {
     let Some(items) = value.as_array() else {
@@ -17,7 +17,7 @@ pub fn list<T: Told>(alloc: Global, value: &Value) -> Result<Option<Seq<T>>, NoM
     };
     let mut list = Vec::with_capacity(alloc, items.len())?;
     for item in items {
-        match T::told(item) {
+        match T::from_json(item) {
             Some(told) => list.push(told)?,
             None => return Ok(None),
         }
@@ -26,7 +26,7 @@ pub fn list<T: Told>(alloc: Global, value: &Value) -> Result<Option<Seq<T>>, NoM
 }
 
 /// The list of this name, of at most so many items; an empty one where it is missing.
-pub fn list_at<T: Told>(
+pub fn list_at<T: FromJson>(
     alloc: Global,
     object: &Value,
     name: &str,

@@ -1,17 +1,17 @@
 //! Whole numbers, which must fit their field.
 ghost use Rattle.std.specs.Prelude.{replicate};
-ghost use Rattle.jh_spec.specs.Told.{u8_told, u16_told, u32_told, u64_told, words_told};
+ghost use Rattle.jh_spec.specs.Fields.{u8_told, u16_told, u32_told, u64_told, words_told};
 
+use crate::from_json::FromJson;
 use crate::json::number_below;
-use crate::told::Told;
 use serde_json::Value;
 
-impl Told for u8 {
+impl FromJson for u8 {
     ghost tells = { u8_told };
 
     ghost missing = { 0 };
 
-    fn told(value: &Value) -> Option<u8> {
+    fn from_json(value: &Value) -> Option<u8> {
         let number = number_below(value, 1 << 8)?;
         Some(number as u8)
     }
@@ -21,12 +21,12 @@ impl Told for u8 {
     }
 }
 
-impl Told for u16 {
+impl FromJson for u16 {
     ghost tells = { u16_told };
 
     ghost missing = { 0 };
 
-    fn told(value: &Value) -> Option<u16> {
+    fn from_json(value: &Value) -> Option<u16> {
         let number = number_below(value, 1 << 16)?;
         Some(number as u16)
     }
@@ -36,12 +36,12 @@ impl Told for u16 {
     }
 }
 
-impl Told for u32 {
+impl FromJson for u32 {
     ghost tells = { u32_told };
 
     ghost missing = { 0 };
 
-    fn told(value: &Value) -> Option<u32> {
+    fn from_json(value: &Value) -> Option<u32> {
         let number = number_below(value, 1 << 32)?;
         Some(number as u32)
     }
@@ -51,12 +51,12 @@ impl Told for u32 {
     }
 }
 
-impl Told for u64 {
+impl FromJson for u64 {
     ghost tells = { u64_told };
 
     ghost missing = { 0 };
 
-    fn told(value: &Value) -> Option<u64> {
+    fn from_json(value: &Value) -> Option<u64> {
         value.as_u64()
     }
 
@@ -66,19 +66,19 @@ impl Told for u64 {
 }
 
 /// Exactly so many numbers.
-impl<const N: usize> Told for [u32; N] {
+impl<const N: usize> FromJson for [u32; N] {
     ghost tells = { words_told N };
 
     ghost missing = { replicate N 0 };
 
-    fn told(value: &Value) -> Option<[u32; N]> {
+    fn from_json(value: &Value) -> Option<[u32; N]> {
         let items = value.as_array()?;
         if items.len() != N {
             return None;
         }
         let mut words = [0; N];
         for place in 0..N {
-            words[place] = u32::told(&items[place])?;
+            words[place] = u32::from_json(&items[place])?;
         }
         Some(words)
     }

@@ -1,9 +1,9 @@
 //! Records of a configuration: objects with the names of their fields alone.
-ghost use Rattle.jh_spec.specs.Told.{region_told, irqchip_told, device_told, console_told};
+ghost use Rattle.jh_spec.specs.Fields.{region_told, irqchip_told, device_told, console_told};
 ghost use Rattle.jh_spec.specs.Cells.{no_region, no_irqchip, no_device, no_console};
 
+use crate::from_json::{FromJson, member};
 use crate::json::has_only;
-use crate::told::{Told, member};
 use jh_cellcfg::{Console, Irqchip, PciDevice, Region};
 use serde_json::Value;
 
@@ -36,12 +36,12 @@ const CONSOLE_NAMES: [&str; 7] = [
     "clock_reg",
 ];
 
-impl Told for Region {
+impl FromJson for Region {
     ghost tells = { region_told };
 
     ghost missing = { no_region };
 
-    fn told(value: &Value) -> Option<Region> {
+    fn from_json(value: &Value) -> Option<Region> {
         if !has_only(value, &["phys", "virt", "size", "flags"]) {
             return None;
         }
@@ -63,12 +63,12 @@ impl Told for Region {
     }
 }
 
-impl Told for Irqchip {
+impl FromJson for Irqchip {
     ghost tells = { irqchip_told };
 
     ghost missing = { no_irqchip };
 
-    fn told(value: &Value) -> Option<Irqchip> {
+    fn from_json(value: &Value) -> Option<Irqchip> {
         if !has_only(value, &["address", "id", "pin_base", "bitmap"]) {
             return None;
         }
@@ -90,12 +90,12 @@ impl Told for Irqchip {
     }
 }
 
-impl Told for PciDevice {
+impl FromJson for PciDevice {
     ghost tells = { device_told };
 
     ghost missing = { no_device };
 
-    fn told(value: &Value) -> Option<PciDevice> {
+    fn from_json(value: &Value) -> Option<PciDevice> {
         if !has_only(value, &DEVICE_NAMES) {
             return None;
         }
@@ -141,12 +141,12 @@ impl Told for PciDevice {
     }
 }
 
-impl Told for Console {
+impl FromJson for Console {
     ghost tells = { console_told };
 
     ghost missing = { no_console };
 
-    fn told(value: &Value) -> Option<Console> {
+    fn from_json(value: &Value) -> Option<Console> {
         if !has_only(value, &CONSOLE_NAMES) {
             return None;
         }

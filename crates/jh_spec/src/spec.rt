@@ -3,8 +3,8 @@ ghost use Rattle.std.specs.Prelude.{◌≡◌, IfOk, IfErr, is_some, true};
 ghost use Rattle.serde_json.specs.Find.{as_object};
 ghost use Rattle.serde_json.specs.View.{view};
 ghost use Rattle.jh_spec.specs.Json.{IsText};
-ghost use Rattle.jh_spec.specs.Specs.{Tells, MayBeWritten, IsUnread, kind_told, object_told};
-ghost use Rattle.jh_spec.specs.Faults.{Answers};
+ghost use Rattle.jh_spec.specs.Specs.{IsSpecAnswer, MayBeWritten, IsNoSpec, kind_told, object_told};
+ghost use Rattle.jh_spec.specs.Faults.{IsAsWanted};
 ghost use Rattle.jh_spec.specs.declared.spec.SpecFault.TheVariants.{NoMemory as OutOfMemory};
 
 use crate::cell::cell;
@@ -65,7 +65,7 @@ const NAMES: [&str; 13] = [
 
 /// Reads a SPEC, all of the bytes.
 pub fn read_spec(alloc: Global, bytes: &[u8]) -> Result<Spec, SpecFault>
-    ensures told { Tells bytes.now result }
+    ensures told { IsSpecAnswer bytes.now result }
     ensures limits { IfOk result MayBeWritten }
 {
     let object = object(alloc, bytes)?;
@@ -74,7 +74,7 @@ pub fn read_spec(alloc: Global, bytes: &[u8]) -> Result<Spec, SpecFault>
 
 /// What an object tells, by its kind.
 fn spec_of(alloc: Global, object: &Value) -> Result<Spec, SpecFault>
-    ensures told { Answers (object_told (view object.now)) result }
+    ensures told { IsAsWanted (object_told (view object.now)) result }
     ensures limits { IfOk result MayBeWritten }
 {
     match kind_of(object) {
@@ -98,7 +98,7 @@ fn kind_of(object: &Value) -> Option<Kind>
 fn object(alloc: Global, bytes: &[u8]) -> Result<Value, SpecFault>
     ensures text { IfOk result (λ value. IsText bytes.now (view value)) }
     ensures object { IfOk result (λ value. is_some (as_object (view value)) ≡ true) }
-    ensures fault { IfErr result (IsUnread bytes.now) }
+    ensures fault { IfErr result (IsNoSpec bytes.now) }
 {
     match Value::from_slice(alloc, bytes) {
         Ok(value) if value.is_object() => Ok(value),

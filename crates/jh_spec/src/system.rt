@@ -4,9 +4,9 @@ ghost use Rattle.serde_json.specs.View.{view};
 ghost use Rattle.jh_cellcfg.specs.Limits.{IsWithinLimits};
 ghost use Rattle.jh_syscfg.specs.Layout.{IsSystemWithinLimits};
 ghost use Rattle.jh_spec.specs.Cells.{platform_told, root_told, system_told, IsFaultInRoot};
-ghost use Rattle.jh_spec.specs.Faults.{Answers};
+ghost use Rattle.jh_spec.specs.Faults.{IsAsWanted};
 
-use crate::cell::{all_listed, cell, told};
+use crate::cell::{all_listed, cell, field};
 use crate::fault::fault_of;
 use crate::spec::SpecFault;
 use jh_cellcfg::{CellConfig, SystemConfig};
@@ -43,15 +43,15 @@ const ROOT_NAMES: [&str; 12] = [
 
 /// The members before root.
 fn platform_of(alloc: Global, object: &Value) -> Result<Platform, SpecFault>
-    ensures { Answers (platform_told (view object.now)) result }
+    ensures { IsAsWanted (platform_told (view object.now)) result }
 {
-    let flags = told(alloc, object, "flags")?;
-    let hypervisor_memory = told(alloc, object, "hypervisor")?;
-    let debug_console = told(alloc, object, "debug_console")?;
-    let pci_mmconfig_base = told(alloc, object, "mmconfig_base")?;
-    let pci_mmconfig_end_bus = told(alloc, object, "end_bus")?;
-    let pci_is_virtual = told(alloc, object, "is_virtual")?;
-    let pci_domain = told(alloc, object, "domain")?;
+    let flags = field(alloc, object, "flags")?;
+    let hypervisor_memory = field(alloc, object, "hypervisor")?;
+    let debug_console = field(alloc, object, "debug_console")?;
+    let pci_mmconfig_base = field(alloc, object, "mmconfig_base")?;
+    let pci_mmconfig_end_bus = field(alloc, object, "end_bus")?;
+    let pci_is_virtual = field(alloc, object, "is_virtual")?;
+    let pci_domain = field(alloc, object, "domain")?;
     Ok(Platform {
         flags,
         hypervisor_memory,
@@ -76,7 +76,7 @@ fn fault_in_root(alloc: Global, fault: SpecFault) -> SpecFault
 
 /// Root, which is a cell without a kind and must be there.
 fn root(alloc: Global, object: &Value) -> Result<CellConfig, SpecFault>
-    ensures told { Answers (root_told (view object.now)) result }
+    ensures told { IsAsWanted (root_told (view object.now)) result }
     ensures limits { IfOk result IsWithinLimits }
 {
     let Some(value) = object.get("root") else {
@@ -90,7 +90,7 @@ fn root(alloc: Global, object: &Value) -> Result<CellConfig, SpecFault>
 
 /// The system that an object's members tell.
 pub fn system(alloc: Global, object: &Value) -> Result<SystemConfig, SpecFault>
-    ensures told { Answers (system_told (view object.now)) result }
+    ensures told { IsAsWanted (system_told (view object.now)) result }
     ensures limits { IfOk result IsSystemWithinLimits }
 {
     let platform = platform_of(alloc, object)?;

@@ -1,12 +1,8 @@
 -- What stands before root's name ends by itself, and can be taken from any bytes.
-use Rattle.std.proofs.Common.{◌≡◌, ℕ, suc, ◌+◌, ◌<◌, ◌≤◌, ◌^◌, List, [], ◌∷◌, ◌++◌, length, take, drop, refl, sym, ap, ◌∙◌, arith}
-use Rattle.std.specs.Int.{w16, w64, from_le_bytes}
-use Rattle.std.proofs.lemmas.List.{take-append-drop, length-take}
-use Rattle.std.proofs.lemmas.Nat.{le_bytes_2, le_bytes_8}
-use Rattle.jh_cellcfg.specs.Spelling.{u8_bytes, u16_bytes, u64_bytes, console_bytes}
+use Rattle.jh_cellcfg.specs.Spelling.{console_bytes}
 use Rattle.jh_cellcfg.specs.Widths.{IsConsole}
 use Rattle.jh_cellcfg.proofs.Splits.{Splits, u8_splits, u16_splits, u32_splits, u64_splits, array_splits, region_splits}
-use Rattle.jh_cellcfg.proofs.Fields.{Field, Taken, IsBytes, IsBytes-take, IsBytes-drop, both, array_field, u32_field, region_field}
+use Rattle.jh_cellcfg.proofs.Fields.{Field, both, array_field, u32_field, region_field, u64_field, u16_field, u8_field}
 use Rattle.jh_syscfg.specs.Layout.{platform_bytes, IsPlatform}
 
 -- ---- two with the same bytes are one
@@ -50,41 +46,6 @@ platform_splits a b x y fa fb e =
     }
 
 -- ---- any bytes spell one
-
-u8_takes : (bytes : List ℕ) → IsBytes bytes → 1 ≤ length bytes → Taken u8_bytes (λ n. n < 2 ^ 8) bytes
-u8_takes [] all long = absurd (omega arith)
-u8_takes (b ∷ rest) all long = record { value = b; rest = rest; is = refl; fits = all 0; more = λ i. all (suc i) }
-
-u8_field : Field u8_bytes (λ n. n < 2 ^ 8) 1
-u8_field = record { len = λ x h. refl; takes = u8_takes }
-
-u16_field : Field u16_bytes (λ n. n < 2 ^ 16) 2
-u16_field = record {
-  len = λ x h. refl;
-  takes = λ bytes all long.
-      let small : IsBytes (take 2 bytes) = IsBytes-take 2 bytes all in
-      record {
-        value = from_le_bytes w16 (take 2 bytes);
-        rest = drop 2 bytes;
-        is = sym (ap (λ (l : List ℕ). l ++ drop 2 bytes) (le_bytes_2 (take 2 bytes) _ (omega (arith, length-take 2 bytes)) small refl) ∙ take-append-drop 2 bytes);
-        fits = omega (arith, small 0, small 1);
-        more = IsBytes-drop 2 bytes all;
-      };
-}
-
-u64_field : Field u64_bytes (λ n. n < 2 ^ 64) 8
-u64_field = record {
-  len = λ x h. refl;
-  takes = λ bytes all long.
-      let small : IsBytes (take 8 bytes) = IsBytes-take 8 bytes all in
-      record {
-        value = from_le_bytes w64 (take 8 bytes);
-        rest = drop 8 bytes;
-        is = sym (ap (λ (l : List ℕ). l ++ drop 8 bytes) (le_bytes_8 (take 8 bytes) _ (omega (arith, length-take 8 bytes)) small refl) ∙ take-append-drop 8 bytes);
-        fits = omega (arith, small 0, small 1, small 2, small 3, small 4, small 5, small 6, small 7);
-        more = IsBytes-drop 8 bytes all;
-      };
-}
 
 console_field : Field console_bytes IsConsole 32
 console_field =

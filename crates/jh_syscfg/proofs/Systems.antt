@@ -1,15 +1,14 @@
 -- What the format promises of all systems: one spelling each, which has no fault.
-use Rattle.std.proofs.Common.{◌≡◌, ℕ, ◌+◌, ◌≤◌, List, [], ◌∷◌, ◌++◌, length, drop, Option, None, Result, Ok, Err, refl, sym, ap, subst, ◌∙◌, length-append, arith}
-use Rattle.std.specs.Prelude.{nat_lt, codes, IfOk}
+use Rattle.std.proofs.Common.{◌≡◌, ℕ, ◌+◌, ◌≤◌, List, [], ◌∷◌, ◌++◌, length, drop, Option, None, Result, Ok, Err, refl, sym, ap, ◌∙◌, length-append, arith}
+use Rattle.std.specs.Prelude.{codes, IfOk}
 use Rattle.std.proofs.lemmas.Bool.{le-ltb}
 use Rattle.std.proofs.lemmas.List.{drop_at}
 use Rattle.jh_cellcfg.specs.declared.config.SystemConfig.{SystemConfig}
 use Rattle.jh_cellcfg.specs.declared.fault.ConfigFault.{ConfigFault}
 use Rattle.jh_cellcfg.specs.declared.fault.ConfigFault.TheVariants.{Short}
 use Rattle.jh_cellcfg.specs.Faults.{fault_if, first_of, body_fault, refusal}
-use Rattle.jh_cellcfg.specs.Limits.{parts_size}
-use Rattle.jh_cellcfg.specs.Spelling.{u16_bytes, counts_of, body_bytes}
-use Rattle.jh_cellcfg.proofs.Faultless.{length-body_bytes, body_unfaulted, one_body}
+use Rattle.jh_cellcfg.specs.Spelling.{u16_bytes, body_bytes}
+use Rattle.jh_cellcfg.proofs.Faultless.{length_body_bytes, body_unfaulted, one_body}
 use Rattle.jh_syscfg.specs.Layout.{platform_bytes, platform_of, system_spelling, IsPlatform, IsSystem, IsSystemWithinLimits}
 use Rattle.jh_syscfg.specs.SystemFaults.{system_start_fault, system_fault, GivesSystem}
 use Rattle.jh_syscfg.specs.declared.platform.Platform.{Platform}
@@ -50,7 +49,7 @@ pub system_unfaulted : (s : SystemConfig) → IsSystem s → IsSystemWithinLimit
 system_unfaulted s fits limits =
     let p = platform_of s in
     let platform = platform_field.len p fits.platform in
-    let body = length-body_bytes s.root fits.root limits.root in
+    let body = length_body_bytes s.root fits.root limits.root in
     let long : 220 ≤ length (system_spelling s) = omega (arith, length-append (platform_bytes p) (body_bytes s.root), platform, body) in
     unfaulted_whole _ _ _
     (ap (λ t. fault_if t (Short 220)) (le-ltb (length (system_spelling s)) 220 long))

@@ -1,53 +1,25 @@
 -- Bytes without a fault spell a system.
-use Rattle.std.proofs.Common.{◌≡◌, ℕ, ◌+◌, ◌<◌, ◌≤◌, Bool, true, false, not, ◌==◌, List, [], ◌∷◌, ◌++◌, length, take, drop, Option, Some, None, All, refl, sym, ap, ◌∙◌, length-drop, length-append, arith}
-use Rattle.std.specs.Prelude.{nat_lt, codes, nat_eq, ◌&&◌}
+use Rattle.std.proofs.Common.{◌≡◌, ℕ, ◌+◌, ◌<◌, ◌≤◌, Bool, true, false, not, ◌==◌, List, [], ◌∷◌, ◌++◌, length, take, drop, None, All, refl, sym, ap, ◌∙◌, length-drop, length-append, arith}
+use Rattle.std.specs.Prelude.{nat_lt, codes, nat_eq}
 use Rattle.std.specs.List.{starts_with}
-use Rattle.std.specs.Cmp.Lexicographic.{pointwise}
 use Rattle.std.proofs.lemmas.Bool.{ltb-false, eqb-true}
 use Rattle.std.proofs.lemmas.List.{drop-drop, take-append-drop, length-take}
 use Rattle.std.proofs.lemmas.Nat.{le_bytes_2}
 use Rattle.jh_cellcfg.specs.declared.config.SystemConfig.{SystemConfig}
 use Rattle.jh_cellcfg.specs.declared.fault.ConfigFault.{ConfigFault}
 use Rattle.jh_cellcfg.specs.declared.fault.ConfigFault.TheVariants.{Short, Signature, Revision}
-use Rattle.jh_cellcfg.specs.Faults.{fault_if, first_of, u16_at, body_fault}
-use Rattle.jh_cellcfg.specs.Spelling.{u16_bytes, body_bytes}
-use Rattle.jh_cellcfg.proofs.Fields.{IsBytes, IsBytes-take, IsBytes-drop}
-use Rattle.jh_cellcfg.proofs.Found.{body_found, all_bytes}
+use Rattle.jh_cellcfg.specs.Faults.{fault_if, u16_at, body_fault}
+use Rattle.jh_cellcfg.specs.Spelling.{u16_bytes}
+use Rattle.jh_cellcfg.proofs.Fields.{IsBytes, IsBytes_take, IsBytes_drop}
+use Rattle.jh_cellcfg.proofs.Found.{body_found, all_bytes, pointwise_same, rest_of, head_of, passed}
 use Rattle.jh_syscfg.specs.Layout.{platform_bytes, system_spelling, IsSystem, IsSystemWithinLimits}
 use Rattle.jh_syscfg.specs.SystemFaults.{system_start_fault, system_fault}
 use Rattle.jh_syscfg.proofs.Platforms.{platform_field}
 use Rattle.jh_syscfg.proofs.Systems.{behind_platform}
 
--- each of a list of faults is none where the first of them is
-head_of : (o : Option ConfigFault) (os : List (Option ConfigFault)) → first_of (o ∷ os) ≡ None → o ≡ None
-head_of None os e = refl
-head_of (Some fault) os e = absurd cc
-
-rest_of : (o : Option ConfigFault) (os : List (Option ConfigFault)) → first_of (o ∷ os) ≡ None → first_of os ≡ None
-rest_of None os e = e
-rest_of (Some fault) os e = absurd cc
-
-passed : (test : Bool) (fault : ConfigFault) → fault_if test fault ≡ None → test ≡ false
-passed true fault e = absurd cc
-passed false fault e = refl
-
 held : (test : Bool) (fault : ConfigFault) → fault_if (not test) fault ≡ None → test ≡ true
 held true fault e = refl
 held false fault e = absurd cc
-
-and_splits : (a b : Bool) → (a && b) ≡ true → (a ≡ true) × (b ≡ true)
-and_splits true b e = (refl, e)
-and_splits false b e = absurd cc
-
-pointwise_same : (xs ys : List ℕ) → pointwise nat_eq xs ys ≡ true → xs ≡ ys
-pointwise_same [] [] e = refl
-pointwise_same [] (y ∷ ys) e = absurd cc
-pointwise_same (x ∷ xs) [] e = absurd cc
-pointwise_same (x ∷ xs) (y ∷ ys) e =
-    let p = and_splits (nat_eq x y) (pointwise nat_eq xs ys) e in
-    let first : x ≡ y = eqb-true x y p.0 in
-    let others = pointwise_same xs ys p.1 in
-    λ i. first i ∷ others i
 
 start_found : (bytes : List ℕ) → IsBytes bytes → 8 ≤ length bytes → system_start_fault bytes ≡ None → bytes ≡ codes "JHSYST" ++ (u16_bytes 13 ++ drop 8 bytes)
 unfolding system_start_fault
@@ -58,7 +30,7 @@ start_found bytes all long none =
     let last = head_of revised [] (rest_of signed (revised ∷ []) none) in
     let number : u16_at bytes 6 ≡ 13 = eqb-true (u16_at bytes 6) 13 (held (u16_at bytes 6 == 13) (Revision (u16_at bytes 6)) last) in
     let two = take 2 (drop 6 bytes) in
-    let small : IsBytes two = IsBytes-take 2 (drop 6 bytes) (IsBytes-drop 6 bytes all) in
+    let small : IsBytes two = IsBytes_take 2 (drop 6 bytes) (IsBytes_drop 6 bytes all) in
     let len : length two ≡ 2 = omega (arith, length-take 2 (drop 6 bytes), length-drop 6 bytes) in
     let revision : u16_bytes 13 ≡ two = le_bytes_2 two 13 len small (sym number) in
     let behind : drop 6 bytes ≡ u16_bytes 13 ++ drop 8 bytes
@@ -74,7 +46,7 @@ system_found bytes each none =
     let long = ltb-false (length bytes) 220 (passed (nat_lt (length bytes) 220) (Short 220) (head_of short (system_start_fault bytes ∷ body ∷ []) none)) in
     let later = rest_of short (system_start_fault bytes ∷ body ∷ []) none in
     let start = start_found bytes all (omega arith) (head_of (system_start_fault bytes) (body ∷ []) later) in
-    let t = platform_field.takes (drop 8 bytes) (IsBytes-drop 8 bytes all) (omega (arith, length-drop 8 bytes)) in
+    let t = platform_field.takes (drop 8 bytes) (IsBytes_drop 8 bytes all) (omega (arith, length-drop 8 bytes)) in
     let p = t.value in
     let rest_is : drop 96 bytes ≡ t.rest = sym (drop-drop 88 8 bytes) ∙ ap (drop 88) t.is ∙ behind_platform p t.rest t.fits in
     let len : length (drop 8 bytes) ≡ 88 + length t.rest = ap length t.is ∙ length-append (platform_bytes p) t.rest ∙ ap (λ (k : ℕ). k + length t.rest) (platform_field.len p t.fits) in

@@ -1,7 +1,5 @@
 -- The bytes of a system's configuration, from its fields. Numbers have their lowest byte first.
 use Rattle.std.specs.Prelude.{◌≡◌, ℕ, ◌<◌, ◌^◌, List, ◌++◌, length, codes}
-use Rattle.jh_cellcfg.specs.declared.region.Region.{Region}
-use Rattle.jh_cellcfg.specs.declared.config.Console.{Console}
 use Rattle.jh_cellcfg.specs.declared.config.SystemConfig.{SystemConfig}
 use Rattle.jh_cellcfg.specs.Spelling.{u8_bytes, u16_bytes, u32_bytes, u64_bytes, region_bytes, console_bytes, body_bytes}
 use Rattle.jh_cellcfg.specs.Widths.{IsRegion, IsConsole, IsCell}

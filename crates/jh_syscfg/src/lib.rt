@@ -13,6 +13,3 @@ pub use limits::system_fits;
 pub use platform::Platform;
 pub use read::read_system;
 pub use write::write_system;
-
-#[cfg(test)]
-mod tests;

@@ -84,7 +84,7 @@ pub fn read_system(alloc: Global, bytes: &[u8]) -> Result<SystemConfig, ConfigFa
     ensures typed { IfOk result IsSystem }
     ensures limits { IfOk result IsSystemWithinLimits }
     ensures spelled { IfOk result (λ system. bytes.now ≡ system_spelling system) }
-    // What is spelled so is read, unless memory runs out.
+    // What is spelled so is read, but for want of memory.
     ensures only { (system : SystemConfig) → IsSystem system → IsSystemWithinLimits system → bytes.now ≡ system_spelling system → GivesSystem result system }
     // Which fault it is.
     ensures fault { refusal result ≡ system_fault bytes.now }

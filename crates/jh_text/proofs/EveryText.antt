@@ -1,5 +1,5 @@
 -- Every text has an answer.
-use Rattle.std.proofs.Common.{◌≡◌, ◌≢◌, ℕ, zero, suc, ◌+◌, ◌^◌, ◌<◌, ◌≤◌, ℤ, pos, negsuc, Bool, true, false, List, [], ◌∷◌, ◌++◌, length, Option, Some, None, refl, sym, ap, ◌∙◌, subst, arith, FitsSigned, w64, length-append, ◌⊎◌, inl, inr, IsTrue}
+use Rattle.std.proofs.Common.{◌≡◌, ◌≢◌, ℕ, zero, suc, ◌+◌, ◌^◌, ◌<◌, ◌≤◌, ℤ, pos, negsuc, Bool, List, [], ◌∷◌, ◌++◌, length, Option, Some, None, refl, sym, ap, ◌∙◌, subst, arith, FitsSigned, w64, length-append, ◌⊎◌, inl, inr, IsTrue}
 use Rattle.std.specs.Option.{IfSome}
 use Rattle.std.specs.Str.{bytes_eq}
 use Rattle.std.specs.List.{AllByRecursion}
@@ -14,7 +14,7 @@ use Rattle.jh_text.specs.declared.fault.TheConstants.{MAX_ENTRIES}
 use Rattle.jh_text.specs.Ranges.{is_width, IsReadableAct, IsReadable}
 use Rattle.jh_text.specs.Text.{entry_text, line, journal_text}
 use Rattle.jh_text.specs.Faults.{BeginsWithNoLine, HasAnswer}
-use Rattle.jh_text.specs.Reading.{split_once, entry_of}
+use Rattle.jh_text.specs.Private.Reading.{split_once, entry_of}
 use Rattle.jh_text.proofs.Lines.{first_text, no_line_unsplit, no_line_untold, no_line_other, line_found, all_push, text_push, too_long}
 use Rattle.jh_text.proofs.Acts.{entry_again}
 

@@ -16,22 +16,22 @@ use Rattle.jh_text.specs.Ranges.{IsReadableAct, IsReadable}
 use Rattle.jh_text.specs.Text.{hexadecimal, got_text, ok_text, decision_text, settled_text, heard_text, act_words, entry_words, entry_text, line, journal_text}
 use Rattle.jh_text.specs.declared.fault.TheConstants.{MAX_ENTRIES}
 use Rattle.jh_text.specs.Faults.{BeginsWithNoLine, IsTooLong}
-use Rattle.jh_text.specs.Reading.{split_once, entry_of}
-use Rattle.jh_text.proofs.Numbers.{Lacks-digits}
-use Rattle.jh_text.proofs.Splits.{Lacks, Lacks-cons, Lacks-append, split_once-front, split_once_whole}
+use Rattle.jh_text.specs.Private.Reading.{split_once, entry_of}
+use Rattle.jh_text.proofs.Numbers.{Lacks_digits}
+use Rattle.jh_text.proofs.Splits.{Lacks, Lacks_cons, Lacks_append, split_once_front, split_once_whole}
 use Rattle.jh_text.proofs.Spellings.{width_le, widest}
 use Rattle.jh_text.proofs.Acts.{entry_again}
 
 -- no word has a line feed
 decimal_lacks : (n : ℕ) → n < 2 ^ 64 → Lacks 10 (decimal n)
-decimal_lacks n small = Lacks-digits 10 10 n (omega arith) (omega arith) (omega arith) refl
+decimal_lacks n small = Lacks_digits 10 10 n (omega arith) (omega arith) (omega arith) refl
 
 hexadecimal_lacks : (n : ℕ) → n < 2 ^ 64 → Lacks 10 (hexadecimal n)
-hexadecimal_lacks n small = Lacks-cons 10 48 _ refl (Lacks-cons 10 120 _ refl (Lacks-digits 16 10 n (omega arith) (omega arith) (omega arith) refl))
+hexadecimal_lacks n small = Lacks_cons 10 48 _ refl (Lacks_cons 10 120 _ refl (Lacks_digits 16 10 n (omega arith) (omega arith) (omega arith) refl))
 
 answer_lacks : (z : ℤ) → FitsSigned w64 z → Lacks 10 (signed_decimal z)
 answer_lacks (pos n) fits = decimal_lacks n (omega (arith, ints))
-answer_lacks (negsuc n) fits = Lacks-cons 10 45 _ refl (decimal_lacks (suc n) (omega (arith, ints)))
+answer_lacks (negsuc n) fits = Lacks_cons 10 45 _ refl (decimal_lacks (suc n) (omega (arith, ints)))
 
 got_lacks : (got : Option ℕ) → IfSome got (λ value. value < 2 ^ 64) → Lacks 10 (got_text got)
 got_lacks None fits = record { none = refl }
@@ -85,7 +85,7 @@ act_lacks (Finish answer) z = (record { none = refl }, (record { none = refl }, 
 join_lacks : (words : List (List ℕ)) → AllByRecursion (Lacks 10) words → Lacks 10 (join_with_byte 32 words)
 join_lacks [] all = record { none = refl }
 join_lacks (word ∷ []) all = all.0
-join_lacks (word ∷ other ∷ words) all = Lacks-append 10 word _ all.0 (Lacks-cons 10 32 _ refl (join_lacks (other ∷ words) all.1))
+join_lacks (word ∷ other ∷ words) all = Lacks_append 10 word _ all.0 (Lacks_cons 10 32 _ refl (join_lacks (other ∷ words) all.1))
 
 text_lacks : (entry : Entry) → IsReadable entry → Lacks 10 (entry_text entry)
 text_lacks entry h =
@@ -96,7 +96,7 @@ text_lacks entry h =
 -- a line is split off at its line feed
 pub line_split : (entry : Entry) (rest : List ℕ) → IsReadable entry → split_once 10 (line entry ++ rest) ≡ Some (entry_text entry, rest)
 line_split entry rest h =
-    ap (split_once 10) (append_assoc (entry_text entry) (10 ∷ []) rest) ∙ split_once-front 10 (entry_text entry) rest (text_lacks entry h)
+    ap (split_once 10) (append_assoc (entry_text entry) (10 ∷ []) rest) ∙ split_once_front 10 (entry_text entry) rest (text_lacks entry h)
 
 -- where a line ends, and which entry's it is, is told by the text alone
 pub one_line : (entry other : Entry) (rest more : List ℕ) → IsReadable entry → IsReadable other → line entry ++ rest ≡ line other ++ more → (entry ≡ other) × (rest ≡ more)

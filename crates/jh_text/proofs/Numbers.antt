@@ -6,8 +6,8 @@ use Rattle.std.specs.Str.Parse.{AllDigits}
 use Rattle.std.proofs.lemmas.Bool.{lt-ltb, le-leb, ne_eqb}
 use Rattle.std.proofs.lemmas.Fmt.{digits_is_IsNumeral}
 use Rattle.jh_script.specs.Numbers.{are_digits, value_of}
-use Rattle.jh_text.specs.Reading.{number_of}
-use Rattle.jh_text.proofs.Splits.{Lacks, Lacks-cons}
+use Rattle.jh_text.specs.Private.Reading.{number_of}
+use Rattle.jh_text.proofs.Splits.{Lacks, Lacks_cons}
 
 -- where each byte is a digit, all are
 are_digits_all : (radix : ℕ) (ds : List ℕ) → AllDigits radix ds → are_digits radix ds ≡ true
@@ -30,7 +30,7 @@ no_digit radix byte d high none small = ne_eqb d byte (λ e. omega (arith, ap di
 
 digits_lack : (radix byte : ℕ) (ds : List ℕ) → radix ≤ 16 → digit_value byte ≡ 36 → AllDigits radix ds → Lacks byte ds
 digits_lack radix byte [] high none all = record { none = refl }
-digits_lack radix byte (d ∷ ds) high none all = Lacks-cons byte d ds (no_digit radix byte d high none all.0) (digits_lack radix byte ds high none all.1)
+digits_lack radix byte (d ∷ ds) high none all = Lacks_cons byte d ds (no_digit radix byte d high none all.0) (digits_lack radix byte ds high none all.1)
 
-pub Lacks-digits : (radix byte n : ℕ) → 2 ≤ radix → radix ≤ 16 → n < radix ^ 64 → digit_value byte ≡ 36 → Lacks byte (digits radix false n)
-Lacks-digits radix byte n low high small none = digits_lack radix byte (digits radix false n) high none (digits_is_IsNumeral radix false low high n small).0.1
+pub Lacks_digits : (radix byte n : ℕ) → 2 ≤ radix → radix ≤ 16 → n < radix ^ 64 → digit_value byte ≡ 36 → Lacks byte (digits radix false n)
+Lacks_digits radix byte n low high small none = digits_lack radix byte (digits radix false n) high none (digits_is_IsNumeral radix false low high n small).0.1

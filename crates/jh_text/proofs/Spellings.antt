@@ -15,7 +15,7 @@ use Rattle.jh_history.specs.declared.entry.Heard.{Heard}
 use Rattle.jh_history.specs.declared.entry.Heard.TheVariants as heard
 use Rattle.jh_text.specs.Ranges.{is_width}
 use Rattle.jh_text.specs.Text.{hexadecimal, got_text, ok_text, decision_text, settled_text, heard_text}
-use Rattle.jh_text.specs.Reading.{max_u64, number_of, hexadecimal_of, answer_of, negative, width_of, got_of, ok_of, decision_of, settled_of, heard_of}
+use Rattle.jh_text.specs.Private.Reading.{max_u64, number_of, hexadecimal_of, answer_of, negative, width_of, got_of, ok_of, decision_of, settled_of, heard_of}
 use Rattle.jh_text.proofs.Numbers.{number_again}
 
 pub decimal_again : (most n : ℕ) → n < 2 ^ 64 → n ≤ most → number_of 10 most (decimal n) ≡ Some n

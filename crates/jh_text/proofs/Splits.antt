@@ -7,7 +7,7 @@ use Rattle.std.specs.List.{prefix_len, position_or_len}
 use Rattle.std.proofs.lemmas.Bool.{lt-ltb, ltb-true, eq-eqb, eqb-true}
 use Rattle.std.proofs.lemmas.List.Folds.{prefix_len-append}
 use Rattle.std.proofs.Math.Seq.{take-append_seam, drop-append-add}
-use Rattle.jh_text.specs.Reading.{split_once}
+use Rattle.jh_text.specs.Private.Reading.{split_once}
 
 abbrev differs : ℕ → ℕ → Bool
 differs byte c = not (c == byte)
@@ -26,18 +26,18 @@ place_after byte word rest h =
     ∙ rw (h.none, eq-eqb (length word) (length word) refl, eq-eqb byte byte refl) (omega arith)
 
 -- the word before the first such byte, and what stands after it
-pub split_once-front : (byte : ℕ) (word rest : List ℕ) → Lacks byte word → split_once byte (word ++ byte ∷ rest) ≡ Some (word, rest)
-split_once-front byte word rest h =
+pub split_once_front : (byte : ℕ) (word rest : List ℕ) → Lacks byte word → split_once byte (word ++ byte ∷ rest) ≡ Some (word, rest)
+split_once_front byte word rest h =
     split_at byte (word ++ byte ∷ rest) (length word) (place_after byte word rest h) (omega (arith, length-append word (byte ∷ rest)))
     ∙ rw (take-append_seam word (byte ∷ rest), drop-append-add word (byte ∷ rest) 1) refl
 
-pub Lacks-append : (byte : ℕ) (front back : List ℕ) → Lacks byte front → Lacks byte back → Lacks byte (front ++ back)
-Lacks-append byte front back f b = record {
+pub Lacks_append : (byte : ℕ) (front back : List ℕ) → Lacks byte front → Lacks byte back → Lacks byte (front ++ back)
+Lacks_append byte front back f b = record {
   none = prefix_len-append (differs byte) front back ∙ rw (f.none, eq-eqb (length front) (length front) refl, b.none, length-append front back) refl;
 }
 
-pub Lacks-cons : (byte c : ℕ) (bytes : List ℕ) → eqb c byte ≡ false → Lacks byte bytes → Lacks byte (c ∷ bytes)
-Lacks-cons byte c bytes e h = record { none = rw (e, h.none) (omega arith) }
+pub Lacks_cons : (byte c : ℕ) (bytes : List ℕ) → eqb c byte ≡ false → Lacks byte bytes → Lacks byte (c ∷ bytes)
+Lacks_cons byte c bytes e h = record { none = rw (e, h.none) (omega arith) }
 
 -- what is split is its two parts, with the byte between them
 pub split_once_whole : (byte : ℕ) (bytes front back : List ℕ) → split_once byte bytes ≡ Some (front, back) → bytes ≡ front ++ byte ∷ back

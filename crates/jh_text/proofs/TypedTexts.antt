@@ -1,5 +1,5 @@
 -- Entries with the same text are the same, whatever their numbers: these are below the ends of their types alone.
-use Rattle.std.proofs.Common.{◌≡◌, ◌≢◌, ℕ, suc, ◌+◌, ◌-◌, ◌^◌, ◌<◌, ◌≤◌, ℤ, pos, negsuc, Bool, true, false, List, [], ◌∷◌, ◌++◌, length, Option, Some, None, option_map, refl, sym, ap, ◌∙◌, arith, FitsSigned, w64, append_assoc, length-append, codes, if◌then◌else◌}
+use Rattle.std.proofs.Common.{◌≡◌, ℕ, suc, ◌+◌, ◌-◌, ◌^◌, ◌<◌, ◌≤◌, ℤ, pos, negsuc, Bool, true, false, List, [], ◌∷◌, ◌++◌, length, Option, Some, None, refl, sym, ap, ◌∙◌, arith, FitsSigned, w64, append_assoc, length-append, codes, if◌then◌else◌}
 use Rattle.std.specs.Option.{IfSome}
 use Rattle.std.specs.List.{join_with_byte, AllByRecursion}
 use Rattle.std.specs.Fmt.{decimal, signed_decimal}
@@ -16,9 +16,9 @@ use Rattle.jh_history.specs.declared.entry.Heard.{Heard}
 use Rattle.jh_history.specs.declared.entry.Heard.TheVariants as heard
 use Rattle.jh_text.specs.Ranges.{IsTypedAct, IsTyped}
 use Rattle.jh_text.specs.Text.{hexadecimal, got_text, ok_text, decision_text, settled_text, heard_text, act_words, entry_words, entry_text, line, journal_text}
-use Rattle.jh_text.specs.Reading.{◌>>=◌, max_u64, split_once, number_of, hexadecimal_of, answer_of, got_of, ok_of, decision_of, settled_of, heard_of}
-use Rattle.jh_text.proofs.Numbers.{Lacks-digits}
-use Rattle.jh_text.proofs.Splits.{Lacks, Lacks-cons, Lacks-append, split_once-front}
+use Rattle.jh_text.specs.Private.Reading.{◌>>=◌, max_u64, split_once, number_of, hexadecimal_of, answer_of, got_of, ok_of, decision_of, settled_of, heard_of}
+use Rattle.jh_text.proofs.Numbers.{Lacks_digits}
+use Rattle.jh_text.proofs.Splits.{Lacks, Lacks_cons, Lacks_append, split_once_front}
 use Rattle.jh_text.proofs.Spellings.{decimal_again, hexadecimal_again, answer_again, answer_is_not, got_again, ok_again, decision_again, settled_again, heard_again}
 
 -- ---- no word has a space or a line feed
@@ -32,21 +32,21 @@ literal space feed = record { space = space; feed = feed }
 
 decimal_word : (n : ℕ) → n < 2 ^ 64 → IsWord (decimal n)
 decimal_word n small = record {
-  space = Lacks-digits 10 32 n (omega arith) (omega arith) (omega arith) refl;
-  feed = Lacks-digits 10 10 n (omega arith) (omega arith) (omega arith) refl;
+  space = Lacks_digits 10 32 n (omega arith) (omega arith) (omega arith) refl;
+  feed = Lacks_digits 10 10 n (omega arith) (omega arith) (omega arith) refl;
 }
 
 hexadecimal_word : (n : ℕ) → n < 2 ^ 64 → IsWord (hexadecimal n)
 hexadecimal_word n small = record {
-  space = Lacks-cons 32 48 _ refl (Lacks-cons 32 120 _ refl (Lacks-digits 16 32 n (omega arith) (omega arith) (omega arith) refl));
-  feed = Lacks-cons 10 48 _ refl (Lacks-cons 10 120 _ refl (Lacks-digits 16 10 n (omega arith) (omega arith) (omega arith) refl));
+  space = Lacks_cons 32 48 _ refl (Lacks_cons 32 120 _ refl (Lacks_digits 16 32 n (omega arith) (omega arith) (omega arith) refl));
+  feed = Lacks_cons 10 48 _ refl (Lacks_cons 10 120 _ refl (Lacks_digits 16 10 n (omega arith) (omega arith) (omega arith) refl));
 }
 
 answer_word : (z : ℤ) → FitsSigned w64 z → IsWord (signed_decimal z)
 answer_word (pos n) fits = decimal_word n (omega (arith, ints))
 answer_word (negsuc n) fits =
     let own = decimal_word (suc n) (omega (arith, ints)) in
-    record { space = Lacks-cons 32 45 _ refl own.space; feed = Lacks-cons 10 45 _ refl own.feed }
+    record { space = Lacks_cons 32 45 _ refl own.space; feed = Lacks_cons 10 45 _ refl own.feed }
 
 got_word : (got : Option ℕ) → IfSome got (λ value. value < 2 ^ 64) → IsWord (got_text got)
 got_word None fits = literal (record { none = refl }) (record { none = refl })
@@ -104,12 +104,12 @@ same_words : (v w : List ℕ) (vs ws : List (List ℕ)) → AllByRecursion IsWor
     → join_with_byte 32 (v ∷ vs) ≡ join_with_byte 32 (w ∷ ws) → (v ∷ vs) ≡ (w ∷ ws)
 same_words v w [] [] l m e = ap (λ x. x ∷ []) e
 same_words v w [] (y ∷ ws) l m e =
-    absurd (none-some (w, join_with_byte 32 (y ∷ ws)) (sym (split_none 32 v l.0.space) ∙ ap (split_once 32) e ∙ split_once-front 32 w (join_with_byte 32 (y ∷ ws)) m.0.space))
+    absurd (none-some (w, join_with_byte 32 (y ∷ ws)) (sym (split_none 32 v l.0.space) ∙ ap (split_once 32) e ∙ split_once_front 32 w (join_with_byte 32 (y ∷ ws)) m.0.space))
 same_words v w (x ∷ vs) [] l m e =
-    absurd (none-some (v, join_with_byte 32 (x ∷ vs)) (sym (split_none 32 w m.0.space) ∙ ap (split_once 32) (sym e) ∙ split_once-front 32 v (join_with_byte 32 (x ∷ vs)) l.0.space))
+    absurd (none-some (v, join_with_byte 32 (x ∷ vs)) (sym (split_none 32 w m.0.space) ∙ ap (split_once 32) (sym e) ∙ split_once_front 32 v (join_with_byte 32 (x ∷ vs)) l.0.space))
 same_words v w (x ∷ vs) (y ∷ ws) l m e =
     let parts : (v, join_with_byte 32 (x ∷ vs)) ≡ (w, join_with_byte 32 (y ∷ ws)) =
-    same_Some _ _ (sym (split_once-front 32 v (join_with_byte 32 (x ∷ vs)) l.0.space) ∙ ap (split_once 32) e ∙ split_once-front 32 w (join_with_byte 32 (y ∷ ws)) m.0.space) in
+    same_Some _ _ (sym (split_once_front 32 v (join_with_byte 32 (x ∷ vs)) l.0.space) ∙ ap (split_once 32) e ∙ split_once_front 32 w (join_with_byte 32 (y ∷ ws)) m.0.space) in
     let rest = same_words x y vs ws l.1 m.1 (ap (λ (p : List ℕ × List ℕ). p.1) parts) in
     ap (λ (p : List ℕ × List ℕ). p.0 ∷ (x ∷ vs)) parts ∙ ap (λ zs. w ∷ zs) rest
 
@@ -228,11 +228,11 @@ typed_entries a b h k e =
 join_lacks : (words : List (List ℕ)) → AllByRecursion IsWord words → Lacks 10 (join_with_byte 32 words)
 join_lacks [] all = record { none = refl }
 join_lacks (word ∷ []) all = all.0.feed
-join_lacks (word ∷ other ∷ words) all = Lacks-append 10 word _ all.0.feed (Lacks-cons 10 32 _ refl (join_lacks (other ∷ words) all.1))
+join_lacks (word ∷ other ∷ words) all = Lacks_append 10 word _ all.0.feed (Lacks_cons 10 32 _ refl (join_lacks (other ∷ words) all.1))
 
 line_split : (entry : Entry) (rest : List ℕ) → IsTyped entry → split_once 10 (line entry ++ rest) ≡ Some (entry_text entry, rest)
 line_split entry rest h =
-    ap (split_once 10) (append_assoc (entry_text entry) (10 ∷ []) rest) ∙ split_once-front 10 (entry_text entry) rest (join_lacks (entry_words entry) (words_of entry h))
+    ap (split_once 10) (append_assoc (entry_text entry) (10 ∷ []) rest) ∙ split_once_front 10 (entry_text entry) rest (join_lacks (entry_words entry) (words_of entry h))
 
 no_line : (entry : Entry) (rest : List ℕ) → [] ≡ line entry ++ rest → ⊥
 no_line entry rest e = omega (arith, ap length e, length-append (line entry) rest, length-append (entry_text entry) (10 ∷ []))

@@ -1,6 +1,6 @@
 pub mod FaultText
 pub mod Faults
 pub mod Maps
+pub mod Private
 pub mod Ranges
-pub mod Reading
 pub mod Text

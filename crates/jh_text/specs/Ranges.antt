@@ -1,5 +1,5 @@
 -- Which entries a text may hold: those whose numbers are within their ranges.
-use Rattle.std.specs.Prelude.{ℕ, ◌^◌, ◌<◌, IsTrue, IfSome, FitsSigned}
+use Rattle.std.specs.Prelude.{◌^◌, ◌<◌, IsTrue, IfSome, FitsSigned}
 use Rattle.std.specs.Int.{w64}
 pub use Rattle.jh_script.specs.Operations.{is_width}
 use Rattle.jh_history.specs.declared.entry.Entry.{Entry}

@@ -1,18 +1,18 @@
 //! The one entry whose text a line may be.
 //!
-//! These functions go by the places of the words, and take some words that no entry's text has: a number
-//! with leading zeros or in upper case, anything in the place of an equals sign. Whether the line is the
+//! These functions go by the order of the words, and take some words that no entry's text has: a number
+//! with leading zeros or in upper case, anything instead of an equals sign. Whether the line is the
 //! text of the entry that they find is then seen by printing it.
 ghost use Rattle.std.specs.Prelude.{◌≡◌, ◌^◌, ◌<◌, IfSome, IsTrue};
 ghost use Rattle.jh_text.specs.Ranges.{is_width, IsReadableAct, IsReadable};
-ghost use Rattle.jh_text.specs.Reading.{read_of, attempt_of, write_of, await_of, fetch_of, irq_of, call_of, decide_of, settle_of, note_of, noted_of, finish_of, named_of, act_of, entry_of};
+ghost use Rattle.jh_text.specs.Private.Reading.{read_of, attempt_of, write_of, await_of, fetch_of, irq_of, call_of, decide_of, settle_of, note_of, noted_of, finish_of, named_of, act_of, entry_of};
 
 use crate::outcomes::{read_decision, read_got, read_heard, read_ok, read_settled};
 use crate::words::{answer, decimal, hexadecimal, is, split_once, width};
 use jh_history::{Act, Entry};
 use jh_script::max_of_width;
 
-#[tactic(auto, unfolding(crate::specs::Reading::entry_of))]
+#[tactic(auto, unfolding(crate::specs::Private::Reading::entry_of))]
 pub(crate) fn entry(line: &[u8]) -> Option<Entry>
     ensures value { result ≡ entry_of line.now }
     ensures readable { IfSome result IsReadable }
@@ -25,7 +25,7 @@ pub(crate) fn entry(line: &[u8]) -> Option<Entry>
     Some(Entry { cpu, cell, act })
 }
 
-#[tactic(auto, unfolding(crate::specs::Reading::act_of))]
+#[tactic(auto, unfolding(crate::specs::Private::Reading::act_of))]
 fn act(words: &[u8]) -> Option<Act>
     ensures value { result ≡ act_of words.now }
     ensures readable { IfSome result IsReadableAct }
@@ -40,7 +40,7 @@ fn act(words: &[u8]) -> Option<Act>
     named_act(name, rest)
 }
 
-#[tactic(auto, unfolding(crate::specs::Reading::named_of))]
+#[tactic(auto, unfolding(crate::specs::Private::Reading::named_of))]
 fn named_act(name: &[u8], rest: &[u8]) -> Option<Act>
     ensures value { result ≡ named_of name.now rest.now }
     ensures readable { IfSome result IsReadableAct }
@@ -81,7 +81,7 @@ fn named_act(name: &[u8], rest: &[u8]) -> Option<Act>
     None
 }
 
-#[tactic(auto, unfolding(crate::specs::Reading::read_of))]
+#[tactic(auto, unfolding(crate::specs::Private::Reading::read_of))]
 fn read(rest: &[u8]) -> Option<Act>
     ensures value { result ≡ read_of rest.now }
     ensures readable { IfSome result IsReadableAct }
@@ -95,7 +95,7 @@ fn read(rest: &[u8]) -> Option<Act>
     Some(Act::Read { width, at, got })
 }
 
-#[tactic(auto, unfolding(crate::specs::Reading::write_of))]
+#[tactic(auto, unfolding(crate::specs::Private::Reading::write_of))]
 fn write(rest: &[u8]) -> Option<Act>
     ensures value { result ≡ write_of rest.now }
     ensures readable { IfSome result IsReadableAct }
@@ -109,7 +109,7 @@ fn write(rest: &[u8]) -> Option<Act>
     })
 }
 
-#[tactic(auto, unfolding(crate::specs::Reading::await_of))]
+#[tactic(auto, unfolding(crate::specs::Private::Reading::await_of))]
 fn wait(rest: &[u8]) -> Option<Act>
     ensures value { result ≡ await_of rest.now }
     ensures readable { IfSome result IsReadableAct }
@@ -124,7 +124,7 @@ fn wait(rest: &[u8]) -> Option<Act>
 }
 
 /// The width, the address and the value of a write or a wait, and whether it was granted.
-#[tactic(auto, unfolding(crate::specs::Reading::attempt_of))]
+#[tactic(auto, unfolding(crate::specs::Private::Reading::attempt_of))]
 fn attempt(rest: &[u8]) -> Option<(u8, u64, u64, bool)>
     ensures value { result ≡ attempt_of rest.now }
     ensures width { IfSome result (λ x. IsTrue (is_width x.0)) }
@@ -142,7 +142,7 @@ fn attempt(rest: &[u8]) -> Option<(u8, u64, u64, bool)>
     Some((width, at, value, ok))
 }
 
-#[tactic(auto, unfolding(crate::specs::Reading::fetch_of))]
+#[tactic(auto, unfolding(crate::specs::Private::Reading::fetch_of))]
 fn fetch(rest: &[u8]) -> Option<Act>
     ensures value { result ≡ fetch_of rest.now }
     ensures readable { IfSome result IsReadableAct }
@@ -154,7 +154,7 @@ fn fetch(rest: &[u8]) -> Option<Act>
     Some(Act::Fetch { at, got })
 }
 
-#[tactic(auto, unfolding(crate::specs::Reading::irq_of))]
+#[tactic(auto, unfolding(crate::specs::Private::Reading::irq_of))]
 fn irq(rest: &[u8]) -> Option<Act>
     ensures value { result ≡ irq_of rest.now }
     ensures readable { IfSome result IsReadableAct }
@@ -166,7 +166,7 @@ fn irq(rest: &[u8]) -> Option<Act>
     Some(Act::Irq { device, vector })
 }
 
-#[tactic(auto, unfolding(crate::specs::Reading::call_of))]
+#[tactic(auto, unfolding(crate::specs::Private::Reading::call_of))]
 fn call(rest: &[u8]) -> Option<Act>
     ensures value { result ≡ call_of rest.now }
     ensures readable { IfSome result IsReadableAct }
@@ -185,7 +185,7 @@ fn call(rest: &[u8]) -> Option<Act>
     Some(Act::Hvc { code, a, b, answer })
 }
 
-#[tactic(auto, unfolding(crate::specs::Reading::decide_of))]
+#[tactic(auto, unfolding(crate::specs::Private::Reading::decide_of))]
 fn decide(rest: &[u8]) -> Option<Act>
     ensures value { result ≡ decide_of rest.now }
     ensures readable { IfSome result IsReadableAct }
@@ -195,7 +195,7 @@ fn decide(rest: &[u8]) -> Option<Act>
     Some(Act::Decide { refused })
 }
 
-#[tactic(auto, unfolding(crate::specs::Reading::settle_of))]
+#[tactic(auto, unfolding(crate::specs::Private::Reading::settle_of))]
 fn settle(rest: &[u8]) -> Option<Act>
     ensures value { result ≡ settle_of rest.now }
     ensures readable { IfSome result IsReadableAct }
@@ -205,7 +205,7 @@ fn settle(rest: &[u8]) -> Option<Act>
     Some(Act::Settle { how })
 }
 
-#[tactic(auto, unfolding(crate::specs::Reading::note_of))]
+#[tactic(auto, unfolding(crate::specs::Private::Reading::note_of))]
 fn note(rest: &[u8]) -> Option<Act>
     ensures value { result ≡ note_of rest.now }
     ensures readable { IfSome result IsReadableAct }
@@ -214,7 +214,7 @@ fn note(rest: &[u8]) -> Option<Act>
     Some(Act::Note { id })
 }
 
-#[tactic(auto, unfolding(crate::specs::Reading::noted_of))]
+#[tactic(auto, unfolding(crate::specs::Private::Reading::noted_of))]
 fn noted(rest: &[u8]) -> Option<Act>
     ensures value { result ≡ noted_of rest.now }
     ensures readable { IfSome result IsReadableAct }
@@ -226,7 +226,7 @@ fn noted(rest: &[u8]) -> Option<Act>
     Some(Act::Noted { id, how })
 }
 
-#[tactic(auto, unfolding(crate::specs::Reading::finish_of))]
+#[tactic(auto, unfolding(crate::specs::Private::Reading::finish_of))]
 fn finish(rest: &[u8]) -> Option<Act>
     ensures value { result ≡ finish_of rest.now }
     ensures readable { IfSome result IsReadableAct }

@@ -2,7 +2,7 @@
 ghost use Rattle.std.specs.Prelude.{◌≡◌, ◌≤◌, IfSome, FitsSigned, Some};
 ghost use Rattle.std.specs.Int.{w64};
 ghost use Rattle.jh_text.specs.Text.{got_text, ok_text, decision_text, settled_text, heard_text};
-ghost use Rattle.jh_text.specs.Reading.{got_of, ok_of, decision_of, settled_of, heard_of};
+ghost use Rattle.jh_text.specs.Private.Reading.{got_of, ok_of, decision_of, settled_of, heard_of};
 
 use crate::words::{answer, hexadecimal, is};
 use jh_history::{Heard, Settled};
@@ -66,7 +66,7 @@ pub(crate) fn heard_word(how: Heard) -> &'static str
 }
 
 /// What a read or a fetch gave; without a value where it was a violation.
-#[tactic(auto, unfolding(crate::specs::Reading::got_of))]
+#[tactic(auto, unfolding(crate::specs::Private::Reading::got_of))]
 pub(crate) fn read_got(most: u64, word: &[u8]) -> Option<Option<u64>>
     ensures value { result ≡ got_of most word.now }
     ensures bound { IfSome result (λ got. IfSome got (λ value. value ≤ most)) }
@@ -78,7 +78,7 @@ pub(crate) fn read_got(most: u64, word: &[u8]) -> Option<Option<u64>>
     Some(Some(value))
 }
 
-#[tactic(auto, unfolding(crate::specs::Reading::ok_of))]
+#[tactic(auto, unfolding(crate::specs::Private::Reading::ok_of))]
 pub(crate) fn read_ok(word: &[u8]) -> Option<bool>
     ensures { result ≡ ok_of word.now }
 {
@@ -92,7 +92,7 @@ pub(crate) fn read_ok(word: &[u8]) -> Option<bool>
 }
 
 /// The number with which a call is refused; without one where it goes on.
-#[tactic(auto, unfolding(crate::specs::Reading::decision_of))]
+#[tactic(auto, unfolding(crate::specs::Private::Reading::decision_of))]
 pub(crate) fn read_decision(word: &[u8]) -> Option<Option<i64>>
     ensures value { result ≡ decision_of word.now }
     ensures fits { IfSome result (λ refused. IfSome refused (FitsSigned w64)) }
@@ -104,7 +104,7 @@ pub(crate) fn read_decision(word: &[u8]) -> Option<Option<i64>>
     Some(Some(number))
 }
 
-#[tactic(auto, unfolding(crate::specs::Reading::settled_of))]
+#[tactic(auto, unfolding(crate::specs::Private::Reading::settled_of))]
 pub(crate) fn read_settled(word: &[u8]) -> Option<Settled>
     ensures { result ≡ settled_of word.now }
 {
@@ -120,7 +120,7 @@ pub(crate) fn read_settled(word: &[u8]) -> Option<Settled>
     None
 }
 
-#[tactic(auto, unfolding(crate::specs::Reading::heard_of))]
+#[tactic(auto, unfolding(crate::specs::Private::Reading::heard_of))]
 pub(crate) fn read_heard(word: &[u8]) -> Option<Heard>
     ensures { result ≡ heard_of word.now }
 {

@@ -2,12 +2,12 @@
 ghost use Rattle.std.specs.Prelude.{◌≡◌, ℕ, ◌-◌, ◌≤◌, ◌<◌, ◌==◌, length, position, IfSome, IsTrue};
 ghost use Rattle.std.specs.Str.{bytes_eq};
 ghost use Rattle.jh_text.specs.Ranges.{is_width};
-ghost use Rattle.jh_text.specs.Reading.{Finds, split_once, number_of, hexadecimal_of, answer_of, width_of};
+ghost use Rattle.jh_text.specs.Private.Reading.{Finds, split_once, number_of, hexadecimal_of, answer_of, width_of};
 
 use jh_script::{access_width, read_digits};
 
 /// What stands before the first such byte, and what stands after it.
-#[tactic(auto, unfolding(crate::specs::Reading::split_once))]
+#[tactic(auto, unfolding(crate::specs::Private::Reading::split_once))]
 pub(crate) fn split_once(bytes: &[u8], byte: u8) -> Option<(&[u8], &[u8])>
     ensures { Finds (λ x. (x.0.now, x.1.now)) result (split_once byte bytes.now) }
 {
@@ -48,7 +48,7 @@ pub(crate) fn decimal(word: &[u8], most: u64) -> Option<u64>
 }
 
 /// The number behind `0x`.
-#[tactic(auto, unfolding(crate::specs::Reading::hexadecimal_of))]
+#[tactic(auto, unfolding(crate::specs::Private::Reading::hexadecimal_of))]
 pub(crate) fn hexadecimal(word: &[u8], most: u64) -> Option<u64>
     ensures value { result ≡ hexadecimal_of most word.now }
     ensures bound { IfSome result (λ n. n ≤ most) }
@@ -60,7 +60,7 @@ pub(crate) fn hexadecimal(word: &[u8], most: u64) -> Option<u64>
 }
 
 /// A number with a sign.
-#[tactic(auto, unfolding(crate::specs::Reading::answer_of))]
+#[tactic(auto, unfolding(crate::specs::Private::Reading::answer_of))]
 pub(crate) fn answer(word: &[u8]) -> Option<i64>
     ensures { result ≡ answer_of word.now }
 {
@@ -75,7 +75,7 @@ pub(crate) fn answer(word: &[u8]) -> Option<i64>
 }
 
 /// The number of bytes of an access.
-#[tactic(auto, unfolding(crate::specs::Reading::width_of))]
+#[tactic(auto, unfolding(crate::specs::Private::Reading::width_of))]
 pub(crate) fn width(word: &[u8]) -> Option<u8>
     ensures value { result ≡ width_of word.now }
     ensures width { IfSome result (λ width. IsTrue (is_width width)) }

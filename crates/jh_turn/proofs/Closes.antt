@@ -6,7 +6,7 @@ use Rattle.jh_turn.specs.declared.shared.Port.{Port}
 use Rattle.jh_turn.specs.declared.rule.Hand.{Hand}
 use Rattle.jh_turn.specs.Hands.{hand}
 use Rattle.jh_turn.specs.Ports.{port_caller, seen_by}
-use Rattle.jh_turn.specs.Closing.{HasCaller, HasHands}
+use Rattle.jh_turn.specs.Private.Closing.{HasCaller, HasHands}
 use Rattle.jh_turn.proofs.Seats.{contains_head, contains_map}
 
 module _ {T E A : Type 0} {G : Ghosts T E A} where

@@ -1,5 +1,5 @@
 -- The first seat gives the callers' hands away, one after another.
-use Rattle.std.proofs.Common.{◌≡◌, ◌≢◌, ℕ, suc, ◌+◌, ◌<◌, false, List, [], ◌∷◌, length, get_or, slice_index, take, drop, map, Contains, AllPairs, Some, refl, ap, sym, subst, ◌∙◌, arith, get_or-drop, length-drop}
+use Rattle.std.proofs.Common.{◌≡◌, ◌≢◌, ℕ, suc, ◌<◌, false, List, [], ◌∷◌, length, get_or, slice_index, drop, map, Contains, AllPairs, Some, refl, ap, sym, ◌∙◌, arith}
 use Rattle.atomic_table.specs.Table.{Splits}
 use Rattle.jh_turn.specs.declared.rule.Hand.{Hand}
 use Rattle.jh_turn.specs.declared.rule.View.{View}
@@ -17,24 +17,12 @@ module _ {E : Type 0} (seen : List E) where
   first_hand [] l = absurd (omega arith)
   first_hand (x ∷ xs) l = refl
 
-  pub first_taken : (left : List ℕ) → 0 < length left → take 1 (hands_of left) ≡ hand (slice_index left 0) seen ∷ []
-  first_taken [] l = absurd (omega arith)
-  first_taken (x ∷ xs) l = refl
-
-  pub first_dropped : (left : List ℕ) → 0 < length left → drop 1 (hands_of left) ≡ hands_of (drop 1 left)
-  first_dropped [] l = absurd (omega arith)
-  first_dropped (x ∷ xs) l = refl
-
   -- no other hand is the first caller's
   pub first_apart : (left : List ℕ) → 0 < length left → AllPairs (λ a b. a ≢ b) left → (g : Hand E) → Contains (hands_of (drop 1 left)) g → g.caller ≢ slice_index left 0
   first_apart [] l differ g c same = absurd (omega arith)
   first_apart (x ∷ xs) l differ g c same = let m = contains_map (λ who. hand who seen) xs g c in let at = m.1 in let inside = at.1 in
       let other : x ≡ get_or xs at.0 m.0 → ⊥ = differ 0 (suc at.0) m.0 (omega arith) (omega arith) in
       other (sym same ∙ (sym (ap (λ (h : Hand E). h.caller) m.2) ∙ sym at.2))
-
-pub differ_on : (n : ℕ) (xs : List ℕ) → AllPairs (λ a b. a ≢ b) xs → AllPairs (λ a b. a ≢ b) (drop n xs)
-differ_on n xs differ i j d less inside = let l = length-drop n xs in let far : n + j < length xs = omega arith in
-    subst (λ (z : ℕ × ℕ). z.0 ≢ z.1) (λ k. (sym (get_or-drop n xs i d) k, sym (get_or-drop n xs j d) k)) (differ (n + i) (n + j) d (omega arith) far)
 
 module _ {T E O : Type 0} (whose : E → ℕ) (origin : T → O) (serves : O → ℕ → Type 0) (history : T → List E) (key : Opening T) where
   pub splits_first : (id : ℕ) (v : View T E) (left : List ℕ) (seen : List E) (opened : T) → 0 < length left → AllPairs (λ a b. a ≢ b) left → v ≡ view (Some opened) (hands_of seen left) false

@@ -1,7 +1,7 @@
 -- Turns at several ports leave what ports they are.
-use Rattle.std.proofs.Common.{◌≡◌, ◌≢◌, ℕ, zero, suc, ◌<◌, ◌==◌, Bool, true, false, not, ◌&&◌, List, [], ◌∷◌, ◌++◌, length, get_or, set, All, AllPairs, Contains, map, refl, sym, subst, ap, ap₂, ◌∙◌, true≢false, arith, eq-eqb}
-use Rattle.std.proofs.lemmas.List.{map-append, map-set, set-get_or}
-use Rattle.std.proofs.lemmas.List.Elements.{All-append, All-set}
+use Rattle.std.proofs.Common.{◌≡◌, ◌≢◌, ℕ, zero, suc, ◌<◌, ◌==◌, Bool, true, false, not, ◌&&◌, List, [], ◌∷◌, length, get_or, set, All, AllPairs, Contains, map, refl, sym, subst, ap, ◌∙◌, true≢false, arith, eq-eqb}
+use Rattle.std.proofs.lemmas.List.{map-set, set-get_or}
+use Rattle.std.proofs.lemmas.List.Elements.{All-set}
 use Rattle.jh_turn.specs.declared.turner.Turner.{Ghosts}
 use Rattle.jh_turn.specs.declared.shared.Shared.{Shared}
 use Rattle.jh_turn.specs.declared.shared.Port.{Port}
@@ -15,13 +15,6 @@ module _ {T E A : Type 0} {G : Ghosts T E A} where
   same_set_at shared first now i p q same own caller = record {
     own = All-set (IsPortOf shared) now i q own same.own;
     callers = map-set port_caller now i q ∙ (ap (set (map port_caller now) i) caller ∙ (sym (map-set port_caller now i (get_or now i p)) ∙ (ap (map port_caller) (set-get_or now i p) ∙ same.callers)));
-  }
-
-  -- of two parts
-  pub same_sets : (shared : Shared T E A) (a b c d : List (Port T E A G)) → IsSameSet shared a c → IsSameSet shared b d → IsSameSet shared (a ++ b) (c ++ d)
-  same_sets shared a b c d left right = record {
-    own = All-append (IsPortOf shared) c d left.own right.own;
-    callers = map-append port_caller c d ∙ (ap₂ (λ x y. x ++ y) left.callers right.callers ∙ sym (map-append port_caller a b));
   }
 
   -- all ports are all ports still

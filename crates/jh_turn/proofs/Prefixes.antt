@@ -1,6 +1,6 @@
 -- Beginnings of one history, and the entries of one caller in them.
-use Rattle.std.proofs.Common.{◌≡◌, ◌≢◌, ℕ, ◌≤◌, ◌==◌, Bool, cond, List, [], ◌∷◌, ◌++◌, length, All, refl, ap, sym, ◌∙◌, inl, inr, arith, append_assoc, append-nil, length-append, eq-eqb, ne_eqb}
-use Rattle.std.proofs.lemmas.List.{append_cancel_left, nil_from_length}
+use Rattle.std.proofs.Common.{◌≡◌, ◌≢◌, ℕ, ◌==◌, Bool, cond, List, [], ◌∷◌, ◌++◌, All, refl, ap, sym, ◌∙◌, inl, inr, append_assoc, append-nil, eq-eqb, ne_eqb}
+use Rattle.std.proofs.lemmas.List.{append_cancel_left}
 use Rattle.std.proofs.lemmas.List.Elements.{filter-append, All-nil, All-cons}
 use mathlib.Core.List.{IsPrefix}
 use mathlib.Core.Logic.{dite}
@@ -13,24 +13,6 @@ module _ {A : Type 0} where
 
   pub prefix_trans : (xs ys zs : List A) → IsPrefix xs ys → IsPrefix ys zs → IsPrefix xs zs
   prefix_trans xs ys zs p q = (p.0 ++ q.0, sym (append_assoc xs p.0 q.0) ∙ (ap (λ w. w ++ q.0) p.1 ∙ q.1))
-
-  pub prefix_length : (xs ys : List A) → IsPrefix xs ys → length xs ≤ length ys
-  prefix_length xs ys p = omega (arith, length-append xs p.0, ap length p.1)
-
-  -- of two beginnings of one list the shorter begins the longer
-  pub prefix_shorter : (xs ys zs : List A) → IsPrefix xs zs → IsPrefix ys zs → length xs ≤ length ys → IsPrefix xs ys
-  prefix_shorter [] ys zs p q le = (ys, refl)
-  prefix_shorter (x ∷ xs) [] zs p q le = absurd (omega arith)
-  prefix_shorter (x ∷ xs) (y ∷ ys) [] p q le = absurd (cc (p.1))
-  prefix_shorter (x ∷ xs) (y ∷ ys) (z ∷ zs) p q le =
-      let heads : x ≡ y = cc (p.1, q.1) in
-      let rest = prefix_shorter xs ys zs (p.0, cc (p.1)) (q.0, cc (q.1)) (omega arith) in
-      (rest.0, cc (heads, rest.1))
-
-  -- a beginning as long as the whole is the whole
-  pub prefix_whole : (xs ys : List A) → IsPrefix xs ys → length ys ≤ length xs → xs ≡ ys
-  prefix_whole xs ys p le = let none_left : p.0 ≡ [] = nil_from_length p.0 (omega (arith, length-append xs p.0, ap length p.1)) in
-      sym (append-nil xs) ∙ (ap (λ w. xs ++ w) (sym none_left) ∙ p.1)
 
 module _ {E : Type 0} (whose : E → ℕ) where
   pub entries-append : (who : ℕ) (xs ys : List E) → entries_of whose who (xs ++ ys) ≡ entries_of whose who xs ++ entries_of whose who ys
@@ -61,15 +43,6 @@ module _ {E : Type 0} (whose : E → ℕ) where
   pub grows_on : (who : ℕ) (before after : List E) → Grows whose who before after → IsPrefix before after
   grows_on who before after (inl same) = ([], append-nil before ∙ sym same)
   grows_on who before after (inr added) = (added.0 ∷ [], sym added.2)
-
-  -- where nothing of the caller was added between the first and the third, nothing was between the second and the third
-  pub none_between : (who : ℕ) (xs ys zs : List E) → IsPrefix xs ys → IsPrefix ys zs → entries_of whose who zs ≡ entries_of whose who xs → entries_of whose who zs ≡ entries_of whose who ys
-  none_between who xs ys zs p q same =
-      let f = entries_of whose who in
-      let y : f ys ≡ f xs ++ f p.0 = ap f (sym p.1) ∙ entries-append who xs p.0 in
-      let z : f zs ≡ f ys ++ f q.0 = ap f (sym q.1) ∙ entries-append who ys q.0 in
-      let short : length (f q.0) ≡ 0 = omega (arith, ap length y, ap length z, ap length same, length-append (f xs) (f p.0), length-append (f ys) (f q.0)) in
-      z ∙ (ap (λ w. f ys ++ w) (nil_from_length (f q.0) short) ∙ append-nil (f ys))
 
   all_others : (who : ℕ) (xs : List E) → entries_of whose who xs ≡ [] → All (λ e. whose e ≢ who) xs
   all_others who [] none = All-nil (λ e. whose e ≢ who)

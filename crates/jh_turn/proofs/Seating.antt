@@ -9,7 +9,7 @@ use Rattle.atomic_table.proofs.Lists.{set_else, at_longer}
 use Rattle.jh_turn.specs.declared.rule.Hand.{Hand}
 use Rattle.jh_turn.specs.declared.rule.View.{View}
 use Rattle.jh_turn.specs.declared.rule.Opening.{Opening}
-use Rattle.jh_turn.specs.Closing.{HasCaller, IsLast}
+use Rattle.jh_turn.specs.Private.Closing.{HasCaller, IsLast}
 use Rattle.jh_turn.specs.Hands.{hand}
 use Rattle.jh_turn.specs.Histories.{entries_of}
 use Rattle.jh_turn.specs.Rule.{free, Slot, without_first, only_first, together, spent_view, opening_view, HandFits, Fits, Kept}

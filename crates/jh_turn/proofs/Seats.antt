@@ -3,8 +3,6 @@ use Rattle.std.proofs.Common.{◌≡◌, ◌≢◌, ◌⊎◌, ℕ, zero, suc, �
 use mathlib.Core.Option.{some, some-injective, some-ne-none}
 use lib.ListN.{get_elem?}
 use Rattle.atomic_table.proofs.Lists.{at_set}
-use Rattle.jh_turn.specs.declared.rule.Hand.{Hand}
-use Rattle.jh_turn.specs.Hands.{hand, caller_of, seen_of}
 
 module _ {A : Type 0} where
   -- what stands at a place is within the list
@@ -46,13 +44,6 @@ module _ {A : Type 0} where
 pub not_true : (b : Bool) → (b ≡ true → ⊥) → b ≡ false
 not_true true never = absurd (never refl)
 not_true false never = refl
-
-module _ {E : Type 0} where
-  -- one hand is its caller, with what it has seen
-  pub the_hand : (hs : List (Hand E)) → length hs ≡ 1 → hs ≡ hand (caller_of hs) (seen_of hs) ∷ []
-  the_hand [] e = absurd (omega arith)
-  the_hand (h ∷ []) e = refl
-  the_hand (h ∷ g ∷ hs) e = absurd (omega arith)
 
 module _ {A : Type 0} where
   pub contains_more : (x : A) (xs : List A) (y : A) → Contains xs y → Contains (x ∷ xs) y

@@ -1,8 +1,7 @@
-pub mod Closing
 pub mod Hands
 pub mod Histories
 pub mod Opened
 pub mod PortSets
 pub mod Ports
+pub mod Private
 pub mod Rule
-pub mod Stages

@@ -33,8 +33,8 @@ below_all (suc n) p h k lt =
 abbrev as_number : Bool → ℕ
 as_number b = if b then 1 else 0
 
-as_number-bit : (n k : ℕ) → as_number (bit_at n k == 1) ≡ bit_at n k
-as_number-bit n k = let low = bit_at-lt n k in grind (arith, nat_tests)
+as_number_bit : (n k : ℕ) → as_number (bit_at n k == 1) ≡ bit_at n k
+as_number_bit n k = let low = bit_at-lt n k in grind (arith, nat_tests)
 
 -- a number without its bits below j
 aligned_high : (n j k : ℕ) → j ≤ k → bit_at (n / 2 ^ j * 2 ^ j) k ≡ bit_at n k
@@ -145,7 +145,7 @@ fourth false false false d h p q r = h
 pub differs : (a b : ℕ) → a ≢ b → (a == b) ≡ false
 differs a b h = grind (arith, nat_tests)
 
-equals : (a b : ℕ) → (a == b) ≡ true → a ≡ b
+pub equals : (a b : ℕ) → (a == b) ≡ true → a ≡ b
 equals a b h = grind (arith, nat_tests)
 
 command_other : (a b c : Bool) (k : ℕ) → k < 32 → k ≢ 1 → k ≢ 2 → k ≢ 10
@@ -175,15 +175,15 @@ command_at : (a b c x y z : Bool) (word k : ℕ) → k < 32
 command_at a b c x y z word k lt is_x is_y is_z (inl e) two ten =
     let P : ℕ → Type 0 = Mixes 0x0406 (command_word a b c) (command_word x y z) word in
     subst P (sym e) (put_bit 0x0406 (command_word a b c) (command_word x y z) word 1 refl
-    (command_1 x y z ∙ ap as_number is_x ∙ as_number-bit word 1))
+    (command_1 x y z ∙ ap as_number is_x ∙ as_number_bit word 1))
 command_at a b c x y z word k lt is_x is_y is_z (inr one) (inl e) ten =
     let P : ℕ → Type 0 = Mixes 0x0406 (command_word a b c) (command_word x y z) word in
     subst P (sym e) (put_bit 0x0406 (command_word a b c) (command_word x y z) word 2 refl
-    (command_2 x y z ∙ ap as_number is_y ∙ as_number-bit word 2))
+    (command_2 x y z ∙ ap as_number is_y ∙ as_number_bit word 2))
 command_at a b c x y z word k lt is_x is_y is_z (inr one) (inr two) (inl e) =
     let P : ℕ → Type 0 = Mixes 0x0406 (command_word a b c) (command_word x y z) word in
     subst P (sym e) (put_bit 0x0406 (command_word a b c) (command_word x y z) word 10 refl
-    (command_10 x y z ∙ ap as_number is_z ∙ as_number-bit word 10))
+    (command_10 x y z ∙ ap as_number is_z ∙ as_number_bit word 10))
 command_at a b c x y z word k lt is_x is_y is_z (inr one) (inr two) (inr ten) =
     let new = command_other x y z k lt one two ten in
     let old = command_other a b c k lt one two ten in
@@ -237,7 +237,7 @@ capability_mixes v a word k lt =
       | inl e ↦
           let P : ℕ → Type 0 = Mixes 0x01000000 (capability_word v a) (capability_word v (bit_at word 24 == 1)) word in
           subst P (sym e) (put_bit 0x01000000 (capability_word v a) (capability_word v (bit_at word 24 == 1)) word 24 refl
-          (capability_24 v (bit_at word 24 == 1) ∙ as_number-bit word 24))
+          (capability_24 v (bit_at word 24 == 1) ∙ as_number_bit word 24))
       | inr other ↦
           let new = capability_other v (bit_at word 24 == 1) k lt other in
           let old = capability_other v a k lt other in
@@ -301,11 +301,11 @@ control_mixes n m e word k small lt =
             | inl e30 ↦ subst P (sym e30)
                 (put_bit 0xc0000000 (control_word n m e) (control_word n (bit_at word 30 == 1) (bit_at word 31 == 1)) word 30 refl
                 (control_high n (bit_at word 30 == 1) (bit_at word 31 == 1) 30 small (omega arith)
-                ∙ top_0 (bit_at word 30 == 1) (bit_at word 31 == 1) ∙ as_number-bit word 30))
+                ∙ top_0 (bit_at word 30 == 1) (bit_at word 31 == 1) ∙ as_number_bit word 30))
             | inr other ↦ subst P (let same : 31 ≡ k = omega arith in same)
                 (put_bit 0xc0000000 (control_word n m e) (control_word n (bit_at word 30 == 1) (bit_at word 31 == 1)) word 31 refl
                 (control_high n (bit_at word 30 == 1) (bit_at word 31 == 1) 31 small (omega arith)
-                ∙ top_1 (bit_at word 30 == 1) (bit_at word 31 == 1) ∙ as_number-bit word 31))
+                ∙ top_1 (bit_at word 30 == 1) (bit_at word 31 == 1) ∙ as_number_bit word 31))
           ]
     ]
 

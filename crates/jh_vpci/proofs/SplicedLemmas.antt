@@ -29,8 +29,8 @@ below_fits word low wide value =
     row_fits (value % 2 ^ wide) (2 ^ low) (2 ^ wide) (2 ^ low) b (omega arith) in
     omega (arith, pow-add 2 low wide)
 
-pub placed-lt : (word low wide value : ℕ) → low + wide ≤ 32 → word < 2 ^ 32 → placed word low wide value < 2 ^ 32
-placed-lt word low wide value within is_word =
+pub placed_lt : (word low wide value : ℕ) → low + wide ≤ 32 → word < 2 ^ 32 → placed word low wide value < 2 ^ 32
+placed_lt word low wide value within is_word =
     let a = below_fits word low wide value in
     let b = above_fits word (low + wide) within is_word in
     omega arith
@@ -49,8 +49,8 @@ bit_of_shifted : (n k j : ℕ) → j ≤ k → bit_at (n / 2 ^ j) (k - j) ≡ bi
 bit_of_shifted n k j above =
     ap (λ m. m % 2) (shr-shr n j (k - j)) ∙ ap (λ m. n / 2 ^ m % 2) (let e : j + (k - j) ≡ k = omega arith in e)
 
-pub placed-below : (word low wide value k : ℕ) → k < low → bit_at (placed word low wide value) k ≡ bit_at word k
-placed-below word low wide value k below =
+pub placed_below : (word low wide value k : ℕ) → k < low → bit_at (placed word low wide value) k ≡ bit_at word k
+placed_below word low wide value k below =
     ap (λ n. bit_at n k) (blocks word low wide value)
     ∙ bit_at_cat_low (word / 2 ^ (low + wide) * 2 ^ wide + value % 2 ^ wide) low (word % 2 ^ low) k below
     ∙ bit_of_rest word k low below
@@ -62,16 +62,16 @@ upper word low wide value k above =
     ∙ bit_at_cat_high (word / 2 ^ (low + wide) * 2 ^ wide + value % 2 ^ wide) low (word % 2 ^ low) k
     (mod_below word (2 ^ low) (pow_pos low)) above
 
-pub placed-inside : (word low wide value k : ℕ) → low ≤ k → k < low + wide
+pub placed_inside : (word low wide value k : ℕ) → low ≤ k → k < low + wide
     → bit_at (placed word low wide value) k ≡ bit_at value (k - low)
-placed-inside word low wide value k above below =
+placed_inside word low wide value k above below =
     let inside : k - low < wide = omega arith in
     upper word low wide value k above
     ∙ bit_at_cat_low (word / 2 ^ (low + wide)) wide (value % 2 ^ wide) (k - low) inside
     ∙ bit_of_rest value (k - low) wide inside
 
-pub placed-above : (word low wide value k : ℕ) → low + wide ≤ k → bit_at (placed word low wide value) k ≡ bit_at word k
-placed-above word low wide value k above =
+pub placed_above : (word low wide value k : ℕ) → low + wide ≤ k → bit_at (placed word low wide value) k ≡ bit_at word k
+placed_above word low wide value k above =
     let past : wide ≤ k - low = omega arith in
     let over : low ≤ k = omega arith in
     let same : k - low - wide ≡ k - (low + wide) = omega arith in
@@ -82,6 +82,6 @@ placed-above word low wide value k above =
     ∙ bit_of_shifted word k (low + wide) above
 
 -- the bits of a part
-pub part-bit : (word low wide k : ℕ) → k < wide → bit_at (word / 2 ^ low % 2 ^ wide) k ≡ bit_at word (low + k)
-part-bit word low wide k below =
+pub part_bit : (word low wide k : ℕ) → k < wide → bit_at (word / 2 ^ low % 2 ^ wide) k ≡ bit_at word (low + k)
+part_bit word low wide k below =
     bit_of_rest (word / 2 ^ low) k wide below ∙ ap (λ m. m % 2) (shr-shr word low k)

@@ -7,7 +7,7 @@ use Rattle.jh_vpci.specs.Windows.{AreWindows}
 use Rattle.jh_vpci.specs.Words.{word_of, word_at, read_of}
 use Rattle.jh_vpci.specs.Writes.{with_word, written, mask_of, IsPut, spliced}
 use Rattle.jh_vpci.proofs.BitLemmas.{Mixes, differs, bar0_mixes, bar1_mixes, command_mixes, capability_mixes, control_mixes, nothing_mixes}
-use Rattle.jh_vpci.proofs.SplicedLemmas.{placed-below, placed-inside, placed-above, part-bit}
+use Rattle.jh_vpci.proofs.SplicedLemmas.{placed_below, placed_inside, placed_above, part_bit}
 
 -- the word at the offset has this word's bits where they can be written
 abbrev PutAt : Space → ℕ → ℕ → ℕ → Type 0
@@ -185,15 +185,15 @@ mixes_written : (space : Space) (at width value k : ℕ) → AreWindows space.ba
 mixes_written space at width value k aligned small lt =
     word_mixes space (spliced (word_of space (word_at at)) at width value) k (word_at at) aligned small lt
 
-pub written-put : (space : Space) (at width value k : ℕ) → AreWindows space.bar0 space.bar1 → space.spec.vectors < 256 → k < 32
+pub written_put : (space : Space) (at width value k : ℕ) → AreWindows space.bar0 space.bar1 → space.spec.vectors < 256 → k < 32
     → IsPut space at width k → after space at width value k ≡ bit_at value (k - 8 * (at % 4))
-written-put space at width value k aligned small lt put =
+written_put space at width value k aligned small lt put =
     (mixes_written space at width value k aligned small lt).inside put.0
-    ∙ placed-inside (word_of space (word_at at)) (8 * (at % 4)) (8 * width) value k put.1 put.2
+    ∙ placed_inside (word_of space (word_at at)) (8 * (at % 4)) (8 * width) value k put.1 put.2
 
-pub written-kept : (space : Space) (at width value k : ℕ) → AreWindows space.bar0 space.bar1 → space.spec.vectors < 256 → k < 32
+pub written_kept : (space : Space) (at width value k : ℕ) → AreWindows space.bar0 space.bar1 → space.spec.vectors < 256 → k < 32
     → ¬ IsPut space at width k → after space at width value k ≡ bit_at (word_of space (word_at at)) k
-written-kept space at width value k aligned small lt none =
+written_kept space at width value k aligned small lt none =
     let mixes = mixes_written space at width value k aligned small lt in
     let old = word_of space (word_at at) in
     let low = 8 * (at % 4) in
@@ -202,32 +202,32 @@ written-kept space at width value k aligned small lt none =
       | inr lacks ↦ mixes.outside lacks
       | inl has ↦ elim (cases_lt k (8 * (at % 4)))
           as (λ _. after space at width value k ≡ bit_at (word_of space (word_at at)) k) [
-            | inl below ↦ mixes.inside has ∙ placed-below (word_of space (word_at at)) (8 * (at % 4)) (8 * width) value k below
+            | inl below ↦ mixes.inside has ∙ placed_below (word_of space (word_at at)) (8 * (at % 4)) (8 * width) value k below
             | inr above ↦ elim (cases_lt k (8 * (at % 4) + 8 * width))
                 as (λ _. after space at width value k ≡ bit_at (word_of space (word_at at)) k) [
                   | inl inside ↦ absurd (none (has, above, inside))
-                  | inr past ↦ mixes.inside has ∙ placed-above (word_of space (word_at at)) (8 * (at % 4)) (8 * width) value k past
+                  | inr past ↦ mixes.inside has ∙ placed_above (word_of space (word_at at)) (8 * (at % 4)) (8 * width) value k past
                 ]
           ]
     ]
 
 -- what a read shows of the word
-read-bit : (space : Space) (at width k : ℕ) → k < 8 * width
+read_bit : (space : Space) (at width k : ℕ) → k < 8 * width
     → bit_at (read_of space at width) k ≡ bit_at (word_of space (word_at at)) (8 * (at % 4) + k)
-read-bit space at width k below = part-bit (word_of space (word_at at)) (8 * (at % 4)) (8 * width) k below
+read_bit space at width k below = part_bit (word_of space (word_at at)) (8 * (at % 4)) (8 * width) k below
 
-pub read-put : (space : Space) (at width value k : ℕ) → AreWindows space.bar0 space.bar1 → space.spec.vectors < 256
+pub read_put : (space : Space) (at width value k : ℕ) → AreWindows space.bar0 space.bar1 → space.spec.vectors < 256
     → 8 * (at % 4) + 8 * width ≤ 32 → k < 8 * width → bit_at (mask_of space (word_at at)) (8 * (at % 4) + k) ≡ 1
     → bit_at (read_of (written space at width value) at width) k ≡ bit_at value k
-read-put space at width value k aligned small within below has =
-    read-bit (written space at width value) at width k below
-    ∙ written-put space at width value (8 * (at % 4) + k) aligned small (omega arith) (has, omega arith, omega arith)
+read_put space at width value k aligned small within below has =
+    read_bit (written space at width value) at width k below
+    ∙ written_put space at width value (8 * (at % 4) + k) aligned small (omega arith) (has, omega arith, omega arith)
     ∙ ap (λ n. bit_at value n) (let e : 8 * (at % 4) + k - 8 * (at % 4) ≡ k = omega arith in e)
 
-pub read-kept : (space : Space) (at width value k : ℕ) → AreWindows space.bar0 space.bar1 → space.spec.vectors < 256
+pub read_kept : (space : Space) (at width value k : ℕ) → AreWindows space.bar0 space.bar1 → space.spec.vectors < 256
     → 8 * (at % 4) + 8 * width ≤ 32 → k < 8 * width → bit_at (mask_of space (word_at at)) (8 * (at % 4) + k) ≢ 1
     → bit_at (read_of (written space at width value) at width) k ≡ bit_at (read_of space at width) k
-read-kept space at width value k aligned small within below lacks =
-    read-bit (written space at width value) at width k below
-    ∙ written-kept space at width value (8 * (at % 4) + k) aligned small (omega arith) (λ put. lacks put.0)
-    ∙ sym (read-bit space at width k below)
+read_kept space at width value k aligned small within below lacks =
+    read_bit (written space at width value) at width k below
+    ∙ written_kept space at width value (8 * (at % 4) + k) aligned small (omega arith) (λ put. lacks put.0)
+    ∙ sym (read_bit space at width k below)

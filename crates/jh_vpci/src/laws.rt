@@ -26,6 +26,7 @@ pub fn a_write_reaches_its_writable_bits(
     ensures others { (offset : ℕ) → offset ≢ word_at _at
         → word_of (written _space.now _at _width _value) offset ≡ word_of _space.now offset }
 {
+    // for the proof: the invariant, and that the vectors are less than 256
     let _vectors = _space.spec.vectors;
 }
 
@@ -46,5 +47,6 @@ pub fn a_read_gives_what_was_written(
     ensures kept { bit_at (mask_of _space.now (word_at _at)) (8 * (_at % 4) + _bit) ≢ 1
         → bit_at (read_of (written _space.now _at _width _value) _at _width) _bit ≡ bit_at (read_of _space.now _at _width) _bit }
 {
+    // for the proof: the invariant, and that the vectors are less than 256
     let _vectors = _space.spec.vectors;
 }

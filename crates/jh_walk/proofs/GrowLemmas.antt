@@ -8,9 +8,9 @@ use Rattle.jh_desc.specs.declared.descriptor.Hit.{Hit}
 use Rattle.jh_desc.specs.Descriptors.{read_of}
 use Rattle.jh_desc.specs.Levels.{last_level, index_of, slot_size}
 use Rattle.jh_walk.specs.Walks.{walk_of, walk_on, slot_at}
-use Rattle.jh_walk.specs.Pages.{sum_below, by_next, count, is_page, times, slot_counts, Grows, IsKept}
+use Rattle.jh_walk.specs.Pages.{sum_below, by_next, count, is_page, times, Grows, IsKept}
 use Rattle.jh_walk.proofs.WalkLemmas.{below_end, past_end}
-use Rattle.jh_walk.proofs.LiftLemmas.{count_more, count_none}
+use Rattle.jh_walk.proofs.LiftLemmas.{slot_counts, count_more, count_none}
 
 index_small : (x : ℕ) → x % 512 < 512
 index_small x = omega arith

@@ -2,10 +2,14 @@
 use Rattle.std.proofs.Common.{◌≡◌, ◌≢◌, ℕ, ◌+◌, ◌-◌, ◌*◌, ◌%◌, ◌<◌, ◌≤◌, inl, inr, zero, suc, ap, ◌∙◌, sym, subst, arith, refl}
 use Rattle.jh_desc.specs.Descriptors.{read_of}
 use Rattle.jh_desc.specs.Levels.{last_level}
-use Rattle.jh_walk.specs.Pages.{sum_below, by_next, count, is_page, times, slot_counts, Weight, AlikeBut, AreAligned, IsReached}
+use Rattle.jh_walk.specs.Pages.{sum_below, by_next, count, is_page, times, Weight, AlikeBut, AreAligned, IsReached}
 use Rattle.jh_desc.specs.declared.descriptor.Descriptor.{Descriptor}
 use Rattle.jh_desc.specs.declared.descriptor.Descriptor.TheVariants.{Invalid, Table, Leaf}
-use Rattle.jh_walk.proofs.SumLemmas.{sum_same, sum_falls, term-le, others_none}
+use Rattle.jh_walk.proofs.SumLemmas.{sum_same, sum_falls, term_le, others_none}
+
+-- how much of a sum over all pages the slot of that number leads to
+abbrev pub slot_counts : Weight → (ℕ → ℕ) → ℕ → ℕ → ℕ → ℕ
+slot_counts weight word n page i = by_next (count weight word n) (read_of (word (page + 8 * i)) (last_level - n))
 
 pub count_more : (w : Weight) (word : ℕ → ℕ) (n page : ℕ) → count w word (suc n) page ≡ w word n page + sum_below 512 (λ i. by_next (count w word n) (read_of (word (page + 8 * i)) (last_level - n)))
 unfolding count
@@ -35,7 +39,7 @@ slot_is w word n page i next is = ap (by_next (count w word n)) is
 
 pub slot_le : (w : Weight) (word : ℕ → ℕ) (n page i : ℕ) → i < 512 → w word n page + slot_counts w word n page i ≤ count w word (suc n) page
 slot_le w word n page i lt =
-    let term : slot_counts w word n page i ≤ sum_below 512 (slot_counts w word n page) = term-le 512 (slot_counts w word n page) i lt in
+    let term : slot_counts w word n page i ≤ sum_below 512 (slot_counts w word n page) = term_le 512 (slot_counts w word n page) i lt in
     let more : count w word (suc n) page ≡ w word n page + sum_below 512 (slot_counts w word n page) = count_more w word n page in omega arith
 
 aligned_below : (word : ℕ → ℕ) (n page i next : ℕ) → i < 512 → read_of (word (page + 8 * i)) (last_level - n) ≡ Table next → AreAligned word (suc n) page → AreAligned word n next

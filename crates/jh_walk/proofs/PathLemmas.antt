@@ -21,15 +21,15 @@ ends_found w (suc n) t at hit (inr (next, (leads, ends))) =
     ∙ sym (below_end next (walk_of w n next at) None leads.place) ∙ ends_found w n next at hit ends
 
 -- where a walk that finds something goes from a descriptor
-abbrev Found : (ℕ → ℕ) → ℕ → ℕ → ℕ → ℕ → Hit → Type 0
-Found w n t at level hit = IsLeafAt w level t at hit ⊎ ((next : ℕ) × (LeadsTo w level t at next × EndsAtLeaf w n next at hit))
+abbrev EndsOrLeads : (ℕ → ℕ) → ℕ → ℕ → ℕ → ℕ → Hit → Type 0
+EndsOrLeads w n t at level hit = IsLeafAt w level t at hit ⊎ ((next : ℕ) × (LeadsTo w level t at next × EndsAtLeaf w n next at hit))
 
-found_end : (w : ℕ → ℕ) (n t at level next : ℕ) (hit : Hit) → read_of (w (slot_at level t at)) level ≡ Table next → (walk_of w n next at ≡ Some hit → EndsAtLeaf w n next at hit) → (if nat_lt next ADDRESS_END then walk_of w n next at else None) ≡ Some hit → (next < ADDRESS_END) ⊎ (ADDRESS_END ≤ next) → Found w n t at level hit
+found_end : (w : ℕ → ℕ) (n t at level next : ℕ) (hit : Hit) → read_of (w (slot_at level t at)) level ≡ Table next → (walk_of w n next at ≡ Some hit → EndsAtLeaf w n next at hit) → (if nat_lt next ADDRESS_END then walk_of w n next at else None) ≡ Some hit → (next < ADDRESS_END) ⊎ (ADDRESS_END ≤ next) → EndsOrLeads w n t at level hit
 found_end w n t at level next hit is on e (inl lt) = inr (next, (record { descriptor = is; place = lt }, on (below_end next (walk_of w n next at) None lt ∙ e)))
 found_end w n t at level next hit is on e (inr le) =
     let wrong : None ≡ Some hit = past_end next (walk_of w n next at) None le ∙ e in cc
 
-found_by : (w : ℕ → ℕ) (n t at level : ℕ) (hit : Hit) (d : Descriptor) → read_of (w (slot_at level t at)) level ≡ d → ((next : ℕ) → walk_of w n next at ≡ Some hit → EndsAtLeaf w n next at hit) → walk_on (λ next. walk_of w n next at) level at d ≡ Some hit → Found w n t at level hit
+found_by : (w : ℕ → ℕ) (n t at level : ℕ) (hit : Hit) (d : Descriptor) → read_of (w (slot_at level t at)) level ≡ d → ((next : ℕ) → walk_of w n next at ≡ Some hit → EndsAtLeaf w n next at hit) → walk_on (λ next. walk_of w n next at) level at d ≡ Some hit → EndsOrLeads w n t at level hit
 found_by w n t at level hit Invalid is on e = cc
 found_by w n t at level hit (Leaf out rights device) is on e = inl (record { out = out; rights = rights; device = device; descriptor = is; gives = cc })
 found_by w n t at level hit (Table next) is on e = found_end w n t at level next hit is (on next) e (cases_lt next ADDRESS_END)

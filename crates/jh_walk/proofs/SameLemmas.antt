@@ -8,9 +8,9 @@ use Rattle.jh_desc.specs.declared.descriptor.Hit.{Hit}
 use Rattle.jh_desc.specs.Descriptors.{read_of}
 use Rattle.jh_desc.specs.Levels.{last_level, index_of, slot_size}
 use Rattle.jh_walk.specs.Walks.{walk_of, walk_on, probes_of, probes_on, slot_at}
-use Rattle.jh_walk.specs.Pages.{sum_below, by_next, count, is_page, times, slot_counts, SameTables}
+use Rattle.jh_walk.specs.Pages.{sum_below, by_next, count, is_page, times, SameTables}
 use Rattle.jh_walk.proofs.SumLemmas.{sum_same}
-use Rattle.jh_walk.proofs.LiftLemmas.{count_more, count_none, next_same, self_times, slot_is, slot_le}
+use Rattle.jh_walk.proofs.LiftLemmas.{slot_counts, count_more, count_none, next_same, self_times, slot_is, slot_le}
 
 index_small : (x : ℕ) → x % 512 < 512
 index_small x = omega arith

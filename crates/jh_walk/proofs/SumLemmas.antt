@@ -30,18 +30,18 @@ le_by_cases n f i lt before (inl e) = subst (λ z. f i ≤ sum_below n f + f z) 
 le_by_cases n f i lt before (inr ne) = let a : f i ≤ sum_below n f = before (omega arith) in omega arith
 
 -- a term is at most the sum
-pub term-le : (n : ℕ) (f : ℕ → ℕ) (i : ℕ) → i < n → f i ≤ sum_below n f
+pub term_le : (n : ℕ) (f : ℕ → ℕ) (i : ℕ) → i < n → f i ≤ sum_below n f
 unfolding sum_below
-term-le zero f i lt = elim lt [ ]
-term-le (suc n) f i lt = le_by_cases n f i lt (λ small. term-le n f i small) (cases_eq n i)
+term_le zero f i lt = elim lt [ ]
+term_le (suc n) f i lt = le_by_cases n f i lt (λ small. term_le n f i small) (cases_eq n i)
 
 none_by_cases : (n : ℕ) (f : ℕ → ℕ) (i j : ℕ) → i < suc n → j < suc n → j ≢ i → 0 < f i → sum_below n f + f n ≤ 1 → (i < n → j < n → f j ≡ 0) → (n ≡ i) ⊎ (n ≡ i → ⊥) → (n ≡ j) ⊎ (n ≡ j → ⊥) → f j ≡ 0
 none_by_cases n f i j lt lt' ne some most before (inl e) (inl e') = elim (ne (sym e' ∙ e)) [ ]
 none_by_cases n f i j lt lt' ne some most before (inl e) (inr ne') =
     let here : 0 < f n = subst (λ z. 0 < f z) (sym e) some in
-    let a : f j ≤ sum_below n f = term-le n f j (omega arith) in omega arith
+    let a : f j ≤ sum_below n f = term_le n f j (omega arith) in omega arith
 none_by_cases n f i j lt lt' ne some most before (inr ne') (inl e) =
-    let a : f i ≤ sum_below n f = term-le n f i (omega arith) in
+    let a : f i ≤ sum_below n f = term_le n f i (omega arith) in
     subst (λ z. f z ≡ 0) e (omega arith)
 none_by_cases n f i j lt lt' ne some most before (inr ni) (inr nj) = before (omega arith) (omega arith)
 

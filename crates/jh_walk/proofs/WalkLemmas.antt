@@ -8,7 +8,7 @@ use Rattle.jh_desc.specs.declared.descriptor.Descriptor.TheVariants.{Invalid, Ta
 use Rattle.jh_desc.specs.declared.descriptor.Hit.{Hit}
 use Rattle.jh_walk.specs.declared.walking.Onward.{Onward}
 use Rattle.jh_walk.specs.declared.walking.Onward.TheVariants.{Nowhere, Below}
-use Rattle.jh_walk.specs.Onwards.{found_on, onward_of, reads_on}
+use Rattle.jh_walk.specs.Private.Onwards.{found_on, onward_of, reads_on}
 use Rattle.jh_desc.specs.Descriptors.{read_of}
 use Rattle.jh_walk.specs.Walks.{walk_of, walk_on, probes_of, probes_on, slot_at}
 

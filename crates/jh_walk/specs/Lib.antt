@@ -1,4 +1,4 @@
 pub mod Walks
 pub mod Pages
 pub mod Paths
-pub mod Onwards
+pub mod Private

@@ -26,20 +26,12 @@ count weight word zero page = 0
 count weight word (suc n) page =
     weight word n page + sum_below 512 (λ i. by_next (count weight word n) (read_of (word (page + 8 * i)) (last_level - n)))
 
--- how much of it the slot of that number leads to
-abbrev pub slot_counts : Weight → (ℕ → ℕ) → ℕ → ℕ → ℕ → ℕ
-slot_counts weight word n page i = by_next (count weight word n) (read_of (word (page + 8 * i)) (last_level - n))
-
 abbrev pub is_page : ℕ → Weight
 is_page q word n page = if nat_eq page q then 1 else 0
 
 -- how often the page is reached from a table with so many levels left
 abbrev pub times : (ℕ → ℕ) → ℕ → ℕ → ℕ → ℕ
 times word n page q = count (is_page q) word n page
-
--- how many pages are reached, each as often as it is
-abbrev pub pages_of : (ℕ → ℕ) → ℕ → ℕ → ℕ
-pages_of word n page = count (λ word n page. 1) word n page
 
 -- the 512 words of each page that is reached are the same
 pub record SameTables (word word' : ℕ → ℕ) (n table : ℕ) : Type 0 where

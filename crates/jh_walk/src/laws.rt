@@ -14,7 +14,8 @@ pub fn a_walk_ends_at_a_leaf()
 
 /// What an address is given, each other address of the slot is given at its own offset.
 pub fn a_hit_covers_its_slot()
-    ensures { (word : ℕ → ℕ) (table at other : ℕ) (hit : AnyHit) → walk_of word levels table at ≡ Some hit → other / hit.span ≡ at / hit.span → walk_of word levels table other ≡ Some (moved at other hit) }
+    ensures { (word : ℕ → ℕ) (table at other : ℕ) (hit : AnyHit) → walk_of word levels table at ≡ Some hit
+        → other / hit.span ≡ at / hit.span → walk_of word levels table other ≡ Some (moved at other hit) }
 {}
 
 /// A walk reads a descriptor a level at most.
@@ -32,8 +33,11 @@ pub fn walks_read_their_pages()
 /// A change within one page alone changes a count by as much, where that page is reached once, and not at
 /// all where it isn't reached.
 pub fn changes_are_lifted()
-    ensures elsewhere { (inner : ℕ) (w : Weight) (word word' : ℕ → ℕ) (n page : ℕ) → AlikeBut inner w word word' → AreAligned word n page → times word n page inner ≡ 0 → count w word' n page ≡ count w word n page }
-    ensures falls { (inner m : ℕ) (w : Weight) (word word' : ℕ → ℕ) (n page : ℕ) → AlikeBut inner w word word' → AreAligned word n page → times word n page inner ≤ 1 → IsReached word n page m inner → count w word' m inner + 1 ≡ count w word m inner → count w word' n page + 1 ≡ count w word n page }
+    ensures elsewhere { (inner : ℕ) (w : Weight) (word word' : ℕ → ℕ) (n page : ℕ) → AlikeBut inner w word word'
+        → AreAligned word n page → times word n page inner ≡ 0 → count w word' n page ≡ count w word n page }
+    ensures falls { (inner m : ℕ) (w : Weight) (word word' : ℕ → ℕ) (n page : ℕ) → AlikeBut inner w word word'
+        → AreAligned word n page → times word n page inner ≤ 1 → IsReached word n page m inner
+        → count w word' m inner + 1 ≡ count w word m inner → count w word' n page + 1 ≡ count w word n page }
 {}
 
 /// Where the words that read valid stay, in all tables that are reached, what a walk found it still finds,

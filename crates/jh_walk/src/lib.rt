@@ -11,6 +11,3 @@ pub use laws::{
     walks_read_their_pages,
 };
 pub use walking::walk;
-
-#[cfg(test)]
-mod tests;

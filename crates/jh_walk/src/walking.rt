@@ -4,7 +4,7 @@ ghost use Rattle.jh_num.specs.declared.address.TheConstants.{ADDRESS_END};
 ghost use Rattle.jh_desc.specs.Descriptors.{read_of};
 ghost use Rattle.jh_desc.specs.Levels.{first_level, last_level, index_of, slot_size};
 ghost use Rattle.jh_frames.specs.Memory.{byte_at, word_in};
-ghost use Rattle.jh_walk.specs.Onwards.{found_on, onward_of, reads_on, IsTablePlace, LeadsToPlace};
+ghost use Rattle.jh_walk.specs.Private.Onwards.{found_on, onward_of, reads_on, IsTablePlace, LeadsToPlace};
 ghost use Rattle.jh_walk.specs.Walks.{all_counted, counted, levels, probes_of, slot_at, walk_of};
 
 use jh_desc::{Descriptor, FIRST_LEVEL, Hit, LAST_LEVEL, index, offset, read, slot_size};

@@ -10,7 +10,7 @@ use atomic_table::Seat;
 
 impl<T: Turner> Shared<T> {
     ghost use Rattle.jh_turn.specs.Ports.{opened_value, all_callers, port_caller, seen_by, IsPortOf, AreAllPorts};
-    ghost use Rattle.jh_turn.specs.Closing.{HasCaller, HasHands, IsLast};
+    ghost use Rattle.jh_turn.specs.Private.Closing.{HasCaller, HasHands, IsLast};
 
     /// Gives the value back. It takes all ports of this object, in any order.
     pub fn close(self, ports: Vec<Port<T>>) -> T

@@ -2,7 +2,7 @@
 use Rattle.std.proofs.Common.{◌≡◌, ◌∙◌, Option, Some, sym, ap, subst}
 use Rattle.std.specs.Prelude.{IfSome, option_map}
 use Rattle.jh_history.specs.History.{facts}
-use Rattle.jh_history.proofs.FactsLemmas.{facts-push}
+use Rattle.jh_history.proofs.FactsLemmas.{facts_push}
 use Rattle.jh_history.specs.Due.{due_at}
 use Rattle.jh_history.specs.Wants.{IsReachOfEntry}
 use Rattle.jh_board.specs.declared.state.NextStep.{NextStep}
@@ -25,4 +25,4 @@ returns-clause-means c =
     let Q : Option NextStep → Type 0 = λ step. IfSome step (λ s. s.entry.cpu ≡ c.args.cpu) in
     let due : Some c.in-Some.step.entry ≡ due_at image f c.args.cpu = subst P c.in-Some.is (c.in_ok-step.ensures.due f c.requires.means) in
     let own : c.in-Some.step.entry.cpu ≡ c.args.cpu = subst Q c.in-Some.is c.in_ok-step.ensures.cpu in
-    rw (c.in-Ok.ensures.ok, c.in_ok-reserve.ensures.entries, facts-push) (c.in_ok-make.ensures.ok f c.requires.means (sym (due ∙ ap (due_at image f) (sym own))))
+    rw (c.in-Ok.ensures.ok, c.in_ok-reserve.ensures.entries, facts_push) (c.in_ok-make.ensures.ok f c.requires.means (sym (due ∙ ap (due_at image f) (sym own))))

@@ -5,7 +5,7 @@ use Rattle.std.proofs.lemmas.List.{take_all}
 use Rattle.jh_script.specs.declared.image.Preload.{Preload}
 use Rattle.jh_history.specs.Bytes.{preloaded}
 use Rattle.jh_history.specs.declared.place.Place.TheVariants.{Physical, Page}
-use Rattle.jh_board.proofs.MeansLemmas.{loaded-bytes}
+use Rattle.jh_board.proofs.MeansLemmas.{loaded_bytes}
 use Rattle.jh_board.proofs.board.load.Goals as goal
 
 pub loop-preload-init : goal.loop-preload-init
@@ -16,6 +16,6 @@ loop-preload-init c = record {
 
 pub returns : goal.returns
 returns c =
-    loaded-bytes c.args.image.now c.loop-preload.memory (λ q.
+    loaded_bytes c.args.image.now c.loop-preload.memory (λ q.
     c.loop-preload.invariant.bytes q
     ∙ ap (λ (ps : List Preload). fold preloaded (λ _. 0) ps q) (take_all c.loop-preload.preload-index c.as_slice-preload-items.result.now c.loop-preload-test.false ∙ c.as_slice-preload-items.ensures.value)) c.loop-preload.invariant.comms

@@ -6,13 +6,13 @@ use Rattle.jh_ivshmem.specs.declared.spec.EndpointSpec.{EndpointSpec}
 use Rattle.jh_ivshmem.specs.Specs.{IsWithin}
 use Rattle.jh_history.specs.Devices.{specs_at}
 use Rattle.jh_board.specs.Pages.{HoldsWord}
-use Rattle.jh_board.proofs.DevicesLemmas.{specs_before, specs-more, specs-all, specs-few, all-at}
-use Rattle.jh_board.proofs.KeptLemmas.{words-kept}
+use Rattle.jh_board.proofs.DevicesLemmas.{specs_before, specs_more, specs_all, specs_few, all_at}
+use Rattle.jh_board.proofs.KeptLemmas.{words_kept}
 use Rattle.jh_board.proofs.devices.prepare_devices.Goals as goal
 
 pub hold_device-requires-clause-within : goal.hold_device-requires-clause-within
 hold_device-requires-clause-within c =
-    let lt : c.loop-number.number < length c.args.config.now.pci_devices = omega arith in all-at IsWithin c.args.config.now c.loop-number.number lt c.requires.within
+    let lt : c.loop-number.number < length c.args.config.now.pci_devices = omega arith in all_at IsWithin c.args.config.now c.loop-number.number lt c.requires.within
 
 pub loop-number-preserved : goal.loop-number-preserved
 loop-number-preserved c =
@@ -24,14 +24,14 @@ loop-number-preserved c =
     let P : List EndpointSpec → Type 0 = All (HoldsWord new) in
     let known = c.loop-number.invariant in record {
       bytes = λ q. c.hold_device.ensures.bytes q ∙ known.bytes q;
-      held = subst P (sym (specs-more config n lt))
-          (All-append (HoldsWord new) (specs_before config n) (specs_at config n) (words-kept mid new (specs_before config n) c.hold_device.ensures.others known.held) c.in_ok-hold_device.ensures.held);
+      held = subst P (sym (specs_more config n lt))
+          (All-append (HoldsWord new) (specs_before config n) (specs_at config n) (words_kept mid new (specs_before config n) c.hold_device.ensures.others known.held) c.in_ok-hold_device.ensures.held);
       others = λ q h. c.hold_device.ensures.others q (known.others q h);
     }
 
 pub returns-clause-room : goal.returns-clause-room
 returns-clause-room c =
-    let few = specs-few c.args.config.now in
+    let few = specs_few c.args.config.now in
     let room = c.in_ok-reserve.ensures.ok in omega arith
 
 pub returns-clause-held : goal.returns-clause-held
@@ -39,4 +39,4 @@ returns-clause-held c =
     let config = c.args.config.now in
     let P : List EndpointSpec → Type 0 = All (HoldsWord c.loop-number.memory) in
     let all : length config.pci_devices ≤ c.loop-number.number = omega arith in
-    subst P (specs-all config c.loop-number.number all) c.loop-number.invariant.held
+    subst P (specs_all config c.loop-number.number all) c.loop-number.invariant.held

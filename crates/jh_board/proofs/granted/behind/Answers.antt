@@ -9,7 +9,7 @@ use Rattle.jh_history.specs.Behind.{answer_to, ecam_start, ecam_end, window_foun
 use Rattle.jh_history.specs.Devices.{Devices, devices_in}
 use Rattle.jh_history.specs.Grants.{is_kept}
 use Rattle.jh_history.specs.Lives.{regions_in}
-use Rattle.jh_history.proofs.BehindLemmas.{answer-within, answer-beyond, answer-no_bytes}
+use Rattle.jh_history.proofs.BehindLemmas.{answer_within, answer_beyond, answer_no_bytes}
 use Rattle.jh_board.proofs.granted.behind.Goals as goal
 
 pub returns-then-is_within : goal.returns-then-is_within
@@ -31,7 +31,7 @@ returns-then-is_within c =
     ∙ ap (λ (e : ℕ). answer_to cell region (ecam_start c.image.result.now.system) e window wanted.access wanted.at wanted.width) c.ecam_of.ensures.end
     ∙ ap (λ (i : Image). answer_to cell region (ecam_start i.system) (ecam_end i.system) window wanted.access wanted.at wanted.width) c.image.ensures.image
     ∙ ap (λ (o : Option Region). answer_to cell o (ecam_start image.system) (ecam_end image.system) window wanted.access wanted.at wanted.width) c.open_whole-region.ensures.found
-    ∙ sym (answer-within (regions_in image cells cell) devices (is_kept image cells cell) image.system wanted.access wanted.at wanted.width within.1)
+    ∙ sym (answer_within (regions_in image cells cell) devices (is_kept image cells cell) image.system wanted.access wanted.at wanted.width within.1)
 
 pub returns-else-is_within : goal.returns-else-is_within
 returns-else-is_within c =
@@ -43,9 +43,9 @@ returns-else-is_within c =
     let devices = devices_in image cells c.args.endpoints.now.list cell in
     let kept = is_kept image cells cell in
     sym (elim (cases_lt ADDRESS_END (wanted.at + wanted.width)) [
-      | inl beyond ↦ answer-beyond regions devices kept image.system wanted.access wanted.at wanted.width beyond
+      | inl beyond ↦ answer_beyond regions devices kept image.system wanted.access wanted.at wanted.width beyond
       | inr within ↦ elim (cases_lt 0 wanted.width) [
         | inl some ↦ absurd (false≢true (sym c.if-is_within.false ∙ c.is_within.ensures.1 (some, within)))
-        | inr none ↦ answer-no_bytes regions devices kept image.system wanted.access wanted.at wanted.width (omega arith)
+        | inr none ↦ answer_no_bytes regions devices kept image.system wanted.access wanted.at wanted.width (omega arith)
       ]
     ])

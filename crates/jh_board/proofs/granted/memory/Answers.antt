@@ -1,17 +1,17 @@
 -- What the regions give, where no place of it is kept.
 use Rattle.std.proofs.Common.{ap}
 use Rattle.jh_history.specs.Access.{memory_or_nothing}
-use Rattle.jh_board.proofs.GrantedLemmas.{reach-shut, reach-free, reach-nothing}
+use Rattle.jh_board.proofs.GrantedLemmas.{reach_shut, reach_free, reach_nothing}
 use Rattle.jh_board.proofs.granted.memory.Goals as goal
 
 pub returns-then-keeps : goal.returns-then-keeps
 returns-then-keeps c =
-    reach-shut c.args.image.now c.args.cells.now.lives c.args.cell c.args.wanted.now.access c.args.wanted.now.at c.args.wanted.now.width (memory_or_nothing c.memory.result) c.in-Some.places c.keeps.result c.memory.ensures (ap memory_or_nothing c.in-Some.is) c.keeps.ensures c.if-keeps.true
+    reach_shut c.args.image.now c.args.cells.now.lives c.args.cell c.args.wanted.now.access c.args.wanted.now.at c.args.wanted.now.width (memory_or_nothing c.memory.result) c.in-Some.places c.keeps.result c.memory.ensures (ap memory_or_nothing c.in-Some.is) c.keeps.ensures c.if-keeps.true
 
 pub returns-else-keeps : goal.returns-else-keeps
 returns-else-keeps c =
-    reach-free c.args.image.now c.args.cells.now.lives c.args.cell c.args.wanted.now.access c.args.wanted.now.at c.args.wanted.now.width (memory_or_nothing c.memory.result) c.in-Some.places c.keeps.result c.memory.ensures (ap memory_or_nothing c.in-Some.is) c.keeps.ensures c.if-keeps.false
+    reach_free c.args.image.now c.args.cells.now.lives c.args.cell c.args.wanted.now.access c.args.wanted.now.at c.args.wanted.now.width (memory_or_nothing c.memory.result) c.in-Some.places c.keeps.result c.memory.ensures (ap memory_or_nothing c.in-Some.is) c.keeps.ensures c.if-keeps.false
 
 pub returns-in-None : goal.returns-in-None
 returns-in-None c =
-    reach-nothing c.args.image.now c.args.cells.now.lives c.args.cell c.args.wanted.now.access c.args.wanted.now.at c.args.wanted.now.width (memory_or_nothing c.memory.result) c.memory.ensures (ap memory_or_nothing c.in-None.is)
+    reach_nothing c.args.image.now c.args.cells.now.lives c.args.cell c.args.wanted.now.access c.args.wanted.now.at c.args.wanted.now.width (memory_or_nothing c.memory.result) c.memory.ensures (ap memory_or_nothing c.in-None.is)

@@ -1,11 +1,11 @@
 -- What the regions give, where no place of it is kept.
-use Rattle.std.proofs.Common.{◌≡◌, ℕ, List, Option, Some, None, subst, sym, ap}
+use Rattle.std.proofs.Common.{◌≡◌, ℕ, List, Option, Some, None, subst}
 use Rattle.jh_history.specs.declared.place.Place.{Place}
 use Rattle.jh_history.specs.declared.access.Access.TheVariants.{Read}
 use Rattle.jh_history.specs.Access.{place_of, places_from}
 use Rattle.jh_history.specs.Lives.{regions_in}
 use Rattle.jh_history.specs.Places.{places_in_row}
-use Rattle.jh_board.proofs.GrantedLemmas.{row-kept, row-granted, row-lacking}
+use Rattle.jh_board.proofs.GrantedLemmas.{row_kept, row_granted, row_lacking}
 use Rattle.jh_board.proofs.granted.row_of_root.Goals as goal
 
 pub returns-then-keeps_row-clause-places : goal.returns-then-keeps_row-clause-places
@@ -14,7 +14,7 @@ returns-then-keeps_row-clause-places c =
     let lives = c.args.cells.now.lives in
     let row : List Place = places_in_row c.in-Some.first c.args.count in
     let P : ℕ → Type 0 = λ id. Some row ≡ places_from (place_of id (regions_in image lives id) Read) c.args.at c.args.count in
-    row-kept image lives image.system.root.id Read c.args.at c.args.count row c.keeps_row.result (subst P c.root.ensures c.in-Some.ensures.places) (c.keeps_row.ensures image) c.if-keeps_row.true
+    row_kept image lives image.system.root.id Read c.args.at c.args.count row c.keeps_row.result (subst P c.root.ensures c.in-Some.ensures.places) (c.keeps_row.ensures image) c.if-keeps_row.true
 
 pub returns-else-keeps_row-clause-places : goal.returns-else-keeps_row-clause-places
 returns-else-keeps_row-clause-places c =
@@ -22,7 +22,7 @@ returns-else-keeps_row-clause-places c =
     let lives = c.args.cells.now.lives in
     let row : List Place = places_in_row c.in-Some.first c.args.count in
     let P : ℕ → Type 0 = λ id. Some row ≡ places_from (place_of id (regions_in image lives id) Read) c.args.at c.args.count in
-    row-granted image lives image.system.root.id Read c.args.at c.args.count row c.keeps_row.result (subst P c.root.ensures c.in-Some.ensures.places) (c.keeps_row.ensures image) c.if-keeps_row.false
+    row_granted image lives image.system.root.id Read c.args.at c.args.count row c.keeps_row.result (subst P c.root.ensures c.in-Some.ensures.places) (c.keeps_row.ensures image) c.if-keeps_row.false
 
 pub returns-in-None-clause-places : goal.returns-in-None-clause-places
 returns-in-None-clause-places c =
@@ -30,4 +30,4 @@ returns-in-None-clause-places c =
     let lives = c.args.cells.now.lives in
     let none : Option (List Place) = None in
     let P : ℕ → Type 0 = λ id. none ≡ places_from (place_of id (regions_in image lives id) Read) c.args.at c.args.count in
-    row-lacking image lives image.system.root.id Read c.args.at c.args.count (subst P c.root.ensures c.in-None.ensures.places)
+    row_lacking image lives image.system.root.id Read c.args.at c.args.count (subst P c.root.ensures c.in-None.ensures.places)

@@ -1,17 +1,17 @@
 -- The one region that may have the address decides.
 use Rattle.std.proofs.Common.{sym}
-use Rattle.jh_history.proofs.GrantLemmas.{gives-has, has-some}
-use Rattle.jh_board.proofs.IndexLemmas.{giving-true, giving-false, region_of-none}
+use Rattle.jh_history.proofs.GrantLemmas.{gives_has, has_some}
+use Rattle.jh_board.proofs.IndexLemmas.{giving_true, giving_false, region_of_none}
 use Rattle.jh_board.proofs.indexed.giving.Goals as goal
 
 pub returns-then-gives-clause-found : goal.returns-then-gives-clause-found
-returns-then-gives-clause-found c = λ regions is. giving-true regions c.args.access c.args.at c.in-Some.region (rw c.in-Some.is at is) (sym c.if-gives.ensures.gives)
+returns-then-gives-clause-found c = λ regions is. giving_true regions c.args.access c.args.at c.in-Some.region (rw c.in-Some.is at is) (sym c.if-gives.ensures.gives)
 
 pub returns-then-gives-clause-within : goal.returns-then-gives-clause-within
-returns-then-gives-clause-within c = λ within. (rw c.in-Some.is at within) (has-some c.in-Some.region c.args.at (gives-has c.args.access c.args.at c.in-Some.region (sym c.if-gives.ensures.gives)))
+returns-then-gives-clause-within c = λ within. (rw c.in-Some.is at within) (has_some c.in-Some.region c.args.at (gives_has c.args.access c.args.at c.in-Some.region (sym c.if-gives.ensures.gives)))
 
 pub returns-else-gives-clause-found : goal.returns-else-gives-clause-found
-returns-else-gives-clause-found c = λ regions is. giving-false regions c.args.access c.args.at c.in-Some.region (rw c.in-Some.is at is) (sym c.if-gives.ensures.gives)
+returns-else-gives-clause-found c = λ regions is. giving_false regions c.args.access c.args.at c.in-Some.region (rw c.in-Some.is at is) (sym c.if-gives.ensures.gives)
 
 pub returns-in-None-clause-found : goal.returns-in-None-clause-found
-returns-in-None-clause-found c = λ regions is. region_of-none regions c.args.access c.args.at (rw c.in-None.is at is)
+returns-in-None-clause-found c = λ regions is. region_of_none regions c.args.access c.args.at (rw c.in-None.is at is)

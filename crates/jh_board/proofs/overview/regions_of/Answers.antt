@@ -4,15 +4,15 @@ use Rattle.std.specs.Prelude.{AllPairs}
 use Rattle.jh_cellcfg.specs.declared.region.Region.{Region}
 use Rattle.jh_check.specs.Clean.{SharesNoAddress}
 use Rattle.jh_board.specs.Closed.{AreInRange}
-use Rattle.jh_board.proofs.ToldLemmas.{cell-within, cell-apart}
+use Rattle.jh_board.proofs.ToldLemmas.{cell_within, cell_apart}
 use Rattle.jh_board.proofs.overview.regions_of.Goals as goal
 
 pub returns-in-Some-clause-within : goal.returns-in-Some-clause-within
 returns-in-Some-clause-within c =
     let P : List Region → Type 0 = λ regions. AreInRange regions in
-    subst P (sym c.as_slice.ensures.value) (cell-within c.args.image.now c.args.cells.now.lives c.args.id c.in-Some.cell.now c.requires (sym c.in-Some.ensures))
+    subst P (sym c.as_slice.ensures.value) (cell_within c.args.image.now c.args.cells.now.lives c.args.id c.in-Some.cell.now c.requires (sym c.in-Some.ensures))
 
 pub returns-in-Some-clause-apart : goal.returns-in-Some-clause-apart
 returns-in-Some-clause-apart c =
     let P : List Region → Type 0 = λ regions. AllPairs SharesNoAddress regions in
-    subst P (sym c.as_slice.ensures.value) (cell-apart c.args.image.now c.args.cells.now.lives c.args.id c.in-Some.cell.now c.requires (sym c.in-Some.ensures))
+    subst P (sym c.as_slice.ensures.value) (cell_apart c.args.image.now c.args.cells.now.lives c.args.id c.in-Some.cell.now c.requires (sym c.in-Some.ensures))

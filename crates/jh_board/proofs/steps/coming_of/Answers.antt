@@ -7,8 +7,8 @@ use Rattle.jh_history.specs.declared.entry.Act.TheVariants.{Decide}
 use Rattle.jh_history.specs.declared.call.Creation.TheVariants.{Comes}
 use Rattle.jh_history.specs.Calls.{call_by}
 use Rattle.jh_history.specs.Phases.{creation_of}
-use Rattle.jh_board.proofs.DevicesLemmas.{specs-within}
-use Rattle.jh_board.proofs.ReadyLemmas.{going-decides, create-at, coming-is, ready-create, ready-early, not-refused}
+use Rattle.jh_board.proofs.DevicesLemmas.{specs_within}
+use Rattle.jh_board.proofs.ReadyLemmas.{going_decides, create_at, coming_is, ready_create, ready_early, not_refused}
 use Rattle.jh_board.proofs.steps.coming_of.Goals as goal
 
 pub unreachable-requires : goal.unreachable-requires
@@ -17,11 +17,11 @@ unreachable-requires c =
     let f = c.requires.next.facts in
     let o : OpenCall = c.in-Some.begun in
     let at = c.in-Some-create_of.at in
-    let act : c.args.entry.now.act ≡ Decide None = going-decides c.args.entry.now.act (sym c.goes_on.ensures ∙ c.if-not-goes_on.false) in
+    let act : c.args.entry.now.act ≡ Decide None = going_decides c.args.entry.now.act (sym c.goes_on.ensures ∙ c.if-not-goes_on.false) in
     let is : f.call ≡ Some o = sym c.requires.next.means.call ∙ c.in-Some.is in
-    let create : o.call ≡ Create at = create-at o.call at (sym c.create_of.ensures ∙ c.in-Some-create_of.is) in
+    let create : o.call ≡ Create at = create_at o.call at (sym c.create_of.ensures ∙ c.in-Some-create_of.is) in
     let read = c.decides_are_of_the_open_call.ensures.goes_on image f c.args.entry.now o at c.requires.next.sound c.requires.next.due act is create in
-    not-refused read.config c.in-Refused.number (creation_of image f o.caller at) read.comes
+    not_refused read.config c.in-Refused.number (creation_of image f o.caller at) read.comes
     (sym (c.in_ok-config.ensures f c.requires.next.means) ∙ c.in-Refused.is)
 
 pub returns-clause-read : goal.returns-clause-read
@@ -30,29 +30,29 @@ returns-clause-read c = λ f means due.
     let o : OpenCall = c.in-Some.begun in
     let at = c.in-Some-create_of.at in
     let is : f.call ≡ Some o = sym means.call ∙ c.in-Some.is in
-    let create : o.call ≡ Create at = create-at o.call at (sym c.create_of.ensures ∙ c.in-Some-create_of.is) in
+    let create : o.call ≡ Create at = create_at o.call at (sym c.create_of.ensures ∙ c.in-Some-create_of.is) in
     let comes : creation_of image f o.caller at ≡ Comes c.in-Comes.config = sym (c.in_ok-config.ensures f means) ∙ c.in-Comes.is in
     let reads = c.decides_are_of_the_open_call.ensures.read image f o.caller at c.in-Comes.config comes in
-    ap (λ (d : Option CellConfig). call_by f.cells d f.call c.args.entry.now c.args.entry.now.act) (sym (coming-is image f o at c.in-Comes.config is create reads))
+    ap (λ (d : Option CellConfig). call_by f.cells d f.call c.args.entry.now c.args.entry.now.act) (sym (coming_is image f o at c.in-Comes.config is create reads))
 
 pub returns-clause-ready : goal.returns-clause-ready
 returns-clause-ready c = λ f means due held before ready.
     let image = c.args.image.now in
     let o : OpenCall = c.in-Some.begun in
     let at = c.in-Some-create_of.at in
-    let act : c.args.entry.now.act ≡ Decide None = going-decides c.args.entry.now.act (sym c.goes_on.ensures ∙ c.if-not-goes_on.false) in
+    let act : c.args.entry.now.act ≡ Decide None = going_decides c.args.entry.now.act (sym c.goes_on.ensures ∙ c.if-not-goes_on.false) in
     let is : f.call ≡ Some o = sym means.call ∙ c.in-Some.is in
-    let create : o.call ≡ Create at = create-at o.call at (sym c.create_of.ensures ∙ c.in-Some-create_of.is) in
+    let create : o.call ≡ Create at = create_at o.call at (sym c.create_of.ensures ∙ c.in-Some-create_of.is) in
     let comes : creation_of image f o.caller at ≡ Comes c.in-Comes.config = sym (c.in_ok-config.ensures f means) ∙ c.in-Comes.is in
     let reads = c.decides_are_of_the_open_call.ensures.read image f o.caller at c.in-Comes.config comes in
-    ready-create held image f c.args.entry.now o at c.in-Comes.config is create (coming-is image f o at c.in-Comes.config is create reads) act ready
+    ready_create held image f c.args.entry.now o at c.in-Comes.config is create (coming_is image f o at c.in-Comes.config is create reads) act ready
 
 pub returns-clause-free : goal.returns-clause-free
 returns-clause-free c = λ f means due held.
     let o : OpenCall = c.in-Some.begun in
-    let act : c.args.entry.now.act ≡ Decide None = going-decides c.args.entry.now.act (sym c.goes_on.ensures ∙ c.if-not-goes_on.false) in
+    let act : c.args.entry.now.act ≡ Decide None = going_decides c.args.entry.now.act (sym c.goes_on.ensures ∙ c.if-not-goes_on.false) in
     let is : c.requires.next.facts.call ≡ Some o = sym c.requires.next.means.call ∙ c.in-Some.is in
-    ready-early held f.call o (sym means.call ∙ c.in-Some.is)
+    ready_early held f.call o (sym means.call ∙ c.in-Some.is)
     (c.decides_are_of_the_open_call.ensures.phase c.args.image.now c.requires.next.facts c.args.entry.now None o c.requires.next.sound c.requires.next.due act is)
 
 pub returns-clause-apart : goal.returns-clause-apart
@@ -80,5 +80,5 @@ returns-clause-tables c =
     let o : OpenCall = c.in-Some.begun in
     let at = c.in-Some-create_of.at in
     let comes : creation_of image f o.caller at ≡ Comes c.in-Comes.config = sym (c.in_ok-config.ensures f c.requires.next.means) ∙ c.in-Comes.is in
-    specs-within c.in-Comes.config (c.devices_may_change.ensures.comes image f o.caller at c.in-Comes.config c.requires.next.sound comes)
+    specs_within c.in-Comes.config (c.devices_may_change.ensures.comes image f o.caller at c.in-Comes.config c.requires.next.sound comes)
     (c.a_cell_that_comes_may_live.ensures.decided image f o.caller at c.in-Comes.config c.requires.next.sound comes).within

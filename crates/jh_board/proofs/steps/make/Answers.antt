@@ -19,10 +19,10 @@ use Rattle.jh_board.specs.LiveView.{LiveView}
 use Rattle.jh_board.specs.Means.{Means}
 use Rattle.jh_board.specs.Pages.{byte_of, HoldsComm}
 use Rattle.jh_board.specs.Steps.{MayJoin, devices_held, endpoints_acted_by}
-use Rattle.jh_board.proofs.ActedLemmas.{entry-bytes, entry-devices}
-use Rattle.jh_board.proofs.AfterLemmas.{if-some, on-err, may-write, page-held, created-is, may-join, join-kept, Means-made}
-use Rattle.jh_board.proofs.CommitLemmas.{same-devices, may-write-slot, may-commit}
-use Rattle.jh_board.proofs.KeptLemmas.{comms-kept, ready-kept, Means-kept}
+use Rattle.jh_board.proofs.ActedLemmas.{entry_bytes, entry_devices}
+use Rattle.jh_board.proofs.AfterLemmas.{if_some, on_err, may_write, page_held, created_is, may_join, join_kept, Means_made}
+use Rattle.jh_board.proofs.CommitLemmas.{same_devices, may_write_slot, may_commit}
+use Rattle.jh_board.proofs.KeptLemmas.{comms_kept, ready_kept, Means_kept}
 use Rattle.jh_board.proofs.steps.make.Goals as goal
 
 pub make_bytes-requires : goal.make_bytes-requires
@@ -32,7 +32,7 @@ make_bytes-requires c =
     let entry = c.args.entry.now in
     let held = c.prepare.new.held in
     let means = c.prepare.ensures.means f c.requires.next.means in
-    may-write held.memory f.cells means.pages entry.act c.args.reach.now
+    may_write held.memory f.cells means.pages entry.act c.args.reach.now
     (c.places_reached_are_of_cells.ensures.write image f entry c.args.reach.now c.requires.next.sound (c.requires.reached f c.requires.next.means))
 
 pub returns-in_err-make_bytes-clause-err : goal.returns-in_err-make_bytes-clause-err
@@ -40,9 +40,9 @@ returns-in_err-make_bytes-clause-err c =
     let image = c.args.image.now in
     let held : Held = c.prepare.new.held in
     let mid : Held = record { memory = c.make_bytes.new.memory; cpus = held.cpus; cells = held.cells; endpoints = held.endpoints; call = held.call; index = held.index; alloc = held.alloc } in
-    on-err c.from_residual-in_err-make_bytes.result ((f : Facts) → Means image c.args.held.now f → Means image mid f) (λ f old.
+    on_err c.from_residual-in_err-make_bytes.result ((f : Facts) → Means image c.args.held.now f → Means image mid f) (λ f old.
     let means = c.prepare.ensures.means f old in
-    Means-kept image held mid f c.in_err-make_bytes.ensures.err c.make_bytes.ensures.held refl refl refl refl refl (ready-kept held mid f.call refl refl (omega arith) c.make_bytes.ensures.held means.ready) means)
+    Means_kept image held mid f c.in_err-make_bytes.ensures.err c.make_bytes.ensures.held refl refl refl refl refl (ready_kept held mid f.call refl refl (omega arith) c.make_bytes.ensures.held means.ready) means)
 
 pub make_devices-requires : goal.make_devices-requires
 make_devices-requires c =
@@ -53,7 +53,7 @@ make_devices-requires c =
     let held : Held = c.prepare.new.held in
     let means = c.prepare.ensures.means f c.requires.next.means in
     let mid : Held = record { memory = c.make_bytes.new.memory; cpus = held.cpus; cells = held.cells; endpoints = held.endpoints; call = held.call; index = held.index; alloc = held.alloc } in
-    may-write-slot image held mid f entry.cell entry.act c.args.reach.now means sound refl refl c.make_bytes.ensures.held
+    may_write_slot image held mid f entry.cell entry.act c.args.reach.now means sound refl refl c.make_bytes.ensures.held
     (λ value. c.devices_may_change.ensures.word image f entry.cell value c.args.reach.now sound)
 
 pub make_commit-requires : goal.make_commit-requires
@@ -64,7 +64,7 @@ make_commit-requires c =
     let held : Held = c.prepare.new.held in
     let means = c.prepare.ensures.means f c.requires.next.means in
     let acted = c.make_devices.ensures in
-    may-commit image held c.make_devices.new.held f entry.act means (record {
+    may_commit image held c.make_devices.new.held f entry.act means (record {
       cells = acted.others.cells;
       call = acted.others.call;
       list = λ commit. acted.list ∙ ap (λ (act : Act). endpoints_acted_by (devices_held image held entry.cell) act c.args.reach.now) commit;
@@ -89,9 +89,9 @@ make_page-requires c =
     let write : c.page_write-write.result ≡ page_write_by image f entry entry.act =
     c.page_write-write.ensures f (sym (c.list.ensures.value ∙ ap configs_of cells)) (sym (c.as_ref-2.ensures.value ∙ call)) (λ i lt. cpus i lt ∙ ap (λ (im : Image). Some (cpu_after im f entry i)) (sym c.image-2.ensures.image))
     ∙ ap (λ (im : Image). page_write_by im f entry entry.act) c.image-2.ensures.image in
-    if-some c.page_write-write.result (λ (w : PageWrite). HoldsComm c.make_commit.new.held.memory.comms w.cell) (λ w is.
-    comms-kept held.memory c.make_commit.new.held.memory w.cell (λ q there. changed.pages q (acted.pages q (c.make_bytes.ensures.held q there)))
-    (page-held image held f entry.act w.cell means
+    if_some c.page_write-write.result (λ (w : PageWrite). HoldsComm c.make_commit.new.held.memory.comms w.cell) (λ w is.
+    comms_kept held.memory c.make_commit.new.held.memory w.cell (λ q there. changed.pages q (acted.pages q (c.make_bytes.ensures.held q there)))
+    (page_held image held f entry.act w.cell means
     (c.pages_written_are_of_cells.ensures image f entry w c.requires.next.sound c.requires.next.due (sym write ∙ is))))
 
 pub make_call-requires : goal.make_call-requires
@@ -103,11 +103,11 @@ make_call-requires c =
     let means = c.prepare.ensures.means f c.requires.next.means in
     let acted = c.make_devices.ensures.others in
     let changed = c.make_commit.ensures.others in
-    join-kept held c.make_commit.new.held entry.act (changed.call ∙ acted.call) (changed.cells ∙ acted.cells) (changed.index ∙ acted.index)
-    (if-some (created_by held.call entry.act) (MayJoin held.cells held.index) (λ config made.
-    let coming = created-is held.call entry.act config made in
+    join_kept held c.make_commit.new.held entry.act (changed.call ∙ acted.call) (changed.cells ∙ acted.cells) (changed.index ∙ acted.index)
+    (if_some (created_by held.call entry.act) (MayJoin held.cells held.index) (λ config made.
+    let coming = created_is held.call entry.act config made in
     let is : f.call ≡ Some coming.begun = sym means.call ∙ coming.is in
-    may-join image held f coming.begun config means is coming.phase
+    may_join image held f coming.begun config means is coming.phase
     (c.a_cell_that_comes_may_live.ensures.comes image f coming.begun config c.requires.next.sound is coming.phase)
     (λ named. c.few_cells_live.ensures image f coming.begun config c.requires.next.sound means.named named is coming.phase)))
 
@@ -119,7 +119,7 @@ returns-clause-ok c = λ f old due.
     let means = c.prepare.ensures.means f old in
     let reached = c.requires.reached f old in
     let devices = devices_held image held entry.cell in
-    let same = same-devices image held f entry.cell means.cells means.endpoints in
+    let same = same_devices image held f entry.cell means.cells means.endpoints in
     let acted = c.make_devices.ensures in
     let changed = c.make_commit.ensures in
     let last : Held = c.make_commit.new.held in
@@ -137,12 +137,12 @@ returns-clause-ok c = λ f old due.
     let known = c.requires.next in
     let P : List Endpoint → Type 0 = λ list. IsNextOf entry.cell list entry.act in
     let next = subst P (sym known.means.endpoints ∙ old.endpoints) (c.devices_may_change.ensures.interrupt image known.facts entry known.sound known.due) in
-    Means-made image held mid c.make_call.new.held f entry c.in_ok-coming.coming (c.in_ok-coming.ensures.ok f old due) (record {
-      bytes = entry-bytes image f entry c.args.reach.now devices c.page_write-write.result (byte_of held.memory) (byte_of c.make_bytes.new.memory) (byte_of c.make_devices.new.held.memory) (byte_of last.memory) (byte_of c.make_page.new.memory)
+    Means_made image held mid c.make_call.new.held f entry c.in_ok-coming.coming (c.in_ok-coming.ensures.ok f old due) (record {
+      bytes = entry_bytes image f entry c.args.reach.now devices c.page_write-write.result (byte_of held.memory) (byte_of c.make_bytes.new.memory) (byte_of c.make_devices.new.held.memory) (byte_of last.memory) (byte_of c.make_page.new.memory)
           reached same write means.bytes c.in_ok-make_bytes.ensures.ok acted.bytes (changed.bytes f acted_cells acted_call) c.make_page.ensures.bytes;
       pages = λ q there. c.make_page.ensures.held q (changed.others.pages q (acted.others.pages q (c.make_bytes.ensures.held q there)));
       cpus = cpus;
-      endpoints = entry-devices image f entry c.args.reach.now devices c.make_devices.new.held.endpoints.list last.endpoints.list reached next same acted.list (changed.list f acted_cells acted_call);
+      endpoints = entry_devices image f entry c.args.reach.now devices c.make_devices.new.held.endpoints.list last.endpoints.list reached next same acted.list (changed.list f acted_cells acted_call);
       spare = λ none.
           changed.spare (ap (λ (cs : List Live). changing_by cs c.make_devices.new.held.call entry.act) (sym acted_cells) ∙ ap (λ (k : Option OpenCall). changing_by f.cells k entry.act) (sym acted_call) ∙ none)
           ∙ acted.spare;

@@ -9,7 +9,7 @@ use Rattle.jh_board.specs.declared.held.Held.{Held}
 use Rattle.jh_board.specs.declared.steps.CellsChange.{CellsChange}
 use Rattle.jh_board.specs.Means.{IsReady}
 use Rattle.jh_board.specs.Steps.{change_of_cells, changed_cells, joined_cells}
-use Rattle.jh_board.proofs.MadeLemmas.{cells-made, ready-made, KeepsCells}
+use Rattle.jh_board.proofs.MadeLemmas.{cells_made, ready_made, KeepsCells}
 use Rattle.jh_board.proofs.steps.make_call.Goals as goal
 
 pub returns-clause-lives : goal.returns-clause-lives
@@ -22,7 +22,7 @@ returns-clause-lives c =
     c.make_cells.ensures.lives
     ∙ ap (λ (d : Option CellConfig). option_map_or (joined_cells lives) d (changed_cells c.change_of_cells-change.result lives)) made
     ∙ ap (λ (d : CellsChange). option_map_or (joined_cells lives) (created_by held.call act) (changed_cells d lives)) change
-    ∙ cells-made held.call lives act
+    ∙ cells_made held.call lives act
 
 pub returns-clause-ready : goal.returns-clause-ready
 returns-clause-ready c = λ h.
@@ -38,4 +38,4 @@ returns-clause-ready c = λ h.
     let P : Option OpenCall → Type 0 = IsReady old in
     let Q : Option OpenCall → Type 0 = IsReady new in
     let same : KeepsCells old new (created_by old.call act) (change_of_cells old.call act) = λ none keep. c.make_cells.ensures.kept (made ∙ none) (change ∙ keep) in
-    subst Q (sym call) (ready-made old new lives c.args.coming old.call entry act (omega arith) (λ q held. held) same (subst P call h))
+    subst Q (sym call) (ready_made old new lives c.args.coming old.call entry act (omega arith) (λ q held. held) same (subst P call h))

@@ -6,7 +6,7 @@ use Rattle.jh_history.specs.declared.entry.Act.TheVariants.{Write}
 use Rattle.jh_history.specs.Access.{with_slot_if}
 use Rattle.jh_board.specs.Pages.{byte_of}
 use Rattle.jh_board.specs.Steps.{devices_held, slot_after}
-use Rattle.jh_board.proofs.ActedLemmas.{other-acts}
+use Rattle.jh_board.proofs.ActedLemmas.{other_acts}
 use Rattle.jh_board.proofs.steps.make_devices.Goals as goal
 
 pub returns-then-not-ok-clause-bytes : goal.returns-then-not-ok-clause-bytes
@@ -26,7 +26,7 @@ pub returns-in_default : goal.returns-in_default
 returns-in_default c =
     let held = c.args.held.now in
     let entry = c.args.entry.now in
-    let none = other-acts (devices_held c.args.image.now held entry.cell) entry.act c.args.reach.now c.in_default.not-Write c.in_default.not-Irq in record {
+    let none = other_acts (devices_held c.args.image.now held entry.cell) entry.act c.args.reach.now c.in_default.not-Write c.in_default.not-Irq in record {
       bytes = λ q. ap (λ (slot : Option Slot). with_slot_if slot (byte_of held.memory) q) (sym none.0);
       list = sym none.1;
       spare = refl;

@@ -3,7 +3,7 @@ use Rattle.std.proofs.Common.{Option, subst}
 use Rattle.jh_cellcfg.specs.declared.config.CellConfig.{CellConfig}
 use Rattle.jh_board.specs.Means.{IsReadyFor}
 use Rattle.jh_board.specs.Steps.{IsFree, IsRead, WillBeReady}
-use Rattle.jh_board.proofs.AfterLemmas.{free-same}
+use Rattle.jh_board.proofs.AfterLemmas.{free_same}
 use Rattle.jh_board.proofs.steps.prepare.Goals as goal
 
 pub returns-in_err-make_ready-in-Some-clause-means : goal.returns-in_err-make_ready-in-Some-clause-means
@@ -12,7 +12,7 @@ returns-in_err-make_ready-in-Some-clause-means c = λ f means.
     let known = c.requires.next.facts in
     let P : Option CellConfig → Type 0 = IsFree known in
     let free = subst P c.in-Some.is (c.in_ok-config.ensures.free known c.requires.next.means c.requires.next.due) in
-    c.make_ready.ensures.means image f (free-same image c.args.held.now known f c.in-Some.config c.requires.next.means means free) means
+    c.make_ready.ensures.means image f (free_same image c.args.held.now known f c.in-Some.config c.requires.next.means means free) means
 
 pub returns-in_ok-make_ready-in-Some-clause-means : goal.returns-in_ok-make_ready-in-Some-clause-means
 returns-in_ok-make_ready-in-Some-clause-means c = λ f means.
@@ -20,7 +20,7 @@ returns-in_ok-make_ready-in-Some-clause-means c = λ f means.
     let known = c.requires.next.facts in
     let P : Option CellConfig → Type 0 = IsFree known in
     let free = subst P c.in-Some.is (c.in_ok-config.ensures.free known c.requires.next.means c.requires.next.due) in
-    c.make_ready.ensures.means image f (free-same image c.args.held.now known f c.in-Some.config c.requires.next.means means free) means
+    c.make_ready.ensures.means image f (free_same image c.args.held.now known f c.in-Some.config c.requires.next.means means free) means
 
 pub returns-in_ok-make_ready-in-Some-clause-ok : goal.returns-in_ok-make_ready-in-Some-clause-ok
 returns-in_ok-make_ready-in-Some-clause-ok c = λ f means due.

@@ -5,12 +5,12 @@ use Rattle.std.proofs.lemmas.List.{get_or_default, get_or-set_same, get_or-set_o
 use Rattle.jh_cellcfg.specs.declared.config.PciDevice.{PciDevice}
 use Rattle.jh_check.proofs.bus.mark.Goals as goal
 
--- a place keeps its mark where another is marked
-still : (marks : List Bool) (i place : ℕ) → i < length marks → get_or marks place false ≡ true → get_or (set marks i true) place false ≡ true
-still marks i place within marked =
-    elim (cases_eq place i) [
+-- a bdf keeps its mark where another is marked
+still : (marks : List Bool) (i bdf : ℕ) → i < length marks → get_or marks bdf false ≡ true → get_or (set marks i true) bdf false ≡ true
+still marks i bdf within marked =
+    elim (cases_eq bdf i) [
       | inl e ↦ subst (λ p. get_or (set marks i true) p false ≡ true) (sym e) (get_or-set_same marks i true false within)
-      | inr n ↦ get_or-set_other marks i place true false n ∙ marked
+      | inr n ↦ get_or-set_other marks i bdf true false n ∙ marked
     ]
 
 pub loop-device-preserved : goal.loop-device-preserved
@@ -18,7 +18,7 @@ loop-device-preserved c =
     let marks = c.loop-device.marks.items in
     let devices = c.args.devices.now in
     let i = c.loop-device.device-index in
-    let at = c.place_of.result in
+    let at = c.bdf_of.result in
     let none : PciDevice = record {
       kind = 0;
       iommu = 0;
@@ -38,13 +38,13 @@ loop-device-preserved c =
       shmem_protocol = 0;
     } in
     let size = c.loop-device.invariant.size in
-    let within : at < length marks = let b = c.place_of.ensures.bound in omega arith in
+    let within : at < length marks = let b = c.bdf_of.ensures.bound in omega arith in
     record {
       size = length-set marks at true ∙ size;
-      kept = λ place m. still marks at place within (c.loop-device.invariant.kept place m);
+      kept = λ bdf m. still marks at bdf within (c.loop-device.invariant.kept bdf m);
       each = λ k d h. elim (cases_eq k i) [
         | inl e ↦
-            let here : get_or (set marks at true) (get_or devices i none).bdf false ≡ true = subst (λ p. get_or (set marks at true) p false ≡ true) c.place_of.ensures.value (get_or-set_same marks at true false within) in
+            let here : get_or (set marks at true) (get_or devices i none).bdf false ≡ true = subst (λ p. get_or (set marks at true) p false ≡ true) c.bdf_of.ensures.value (get_or-set_same marks at true false within) in
             let same : get_or devices i none ≡ get_or devices k d = get_or_default devices i none d c.loop-device-test.true ∙ ap (λ j. get_or devices j d) (sym e) in
             subst (λ (x : PciDevice). get_or (set marks at true) x.bdf false ≡ true) same here
         | inr n ↦ still marks at (get_or devices k d).bdf within (c.loop-device.invariant.each k d (omega arith))

@@ -1,7 +1,7 @@
 use Rattle.jh_check.specs.Cells.{cells_of}
-use Rattle.jh_check.proofs.SeatLemmas.{agrees-linked}
+use Rattle.jh_check.proofs.SeatLemmas.{agrees_linked}
 use Rattle.jh_check.proofs.devices.agrees_with_linked.Goals as goal
 
 pub returns : goal.returns
 returns c = λ t.
-    agrees-linked (cells_of c.args.setup.now) c.args.number c.args.regions.now c.args.device.now c.args.seats.now c.at_place.result.now c.requires.number c.requires.seats c.at_place.ensures (c.agrees_with_seats.ensures t)
+    agrees_linked (cells_of c.args.setup.now) c.args.number c.args.regions.now c.args.device.now c.args.seats.now c.at_bdf.result.now c.requires.number c.requires.seats c.at_bdf.ensures (c.agrees_with_seats.ensures t)

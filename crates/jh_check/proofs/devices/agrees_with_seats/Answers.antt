@@ -1,16 +1,16 @@
-use Rattle.std.proofs.Common.{ℕ, ◌<◌, get_or, inl, inr, sym, ap, subst, arith}
+use Rattle.std.proofs.Common.{get_or, inl, inr, sym, subst, arith}
 use Rattle.std.proofs.lemmas.Bool.{cases_eq}
 use Rattle.std.proofs.lemmas.List.{get_or_default}
 use Rattle.jh_check.specs.declared.seats.Seat.{Seat}
 use Rattle.jh_check.specs.Cells.{cells_of}
-use Rattle.jh_check.specs.Seats.{AgreesAt}
+use Rattle.jh_check.specs.Private.Seats.{AgreesAt}
 use Rattle.jh_check.proofs.devices.agrees_with_seats.Goals as goal
 
 pub loop-seat-preserved : goal.loop-seat-preserved
 loop-seat-preserved c =
     let seats = c.args.seats.now in
     let i = c.loop-seat.seat-index in
-    let none : Seat = record { place = 0; cell = 0; item = 0 } in
+    let none : Seat = record { bdf = 0; cell = 0; item = 0 } in
     let P : Seat → Type 0 = λ s. AgreesAt (cells_of c.args.setup.now) c.args.number c.args.regions.now c.args.device.now s in
     λ k d h. elim (cases_eq k i) [
       | inl e ↦

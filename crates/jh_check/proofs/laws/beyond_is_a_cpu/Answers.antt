@@ -1,5 +1,5 @@
-use Rattle.jh_check.proofs.RefusalLemmas.{beyond-named, named-beyond}
+use Rattle.jh_check.proofs.RefusalLemmas.{beyond_named, named_beyond}
 use Rattle.jh_check.proofs.laws.beyond_is_a_cpu.Goals as goal
 
 pub returns : goal.returns
-returns c = λ may. (beyond-named may c.args._set.now, λ r. named-beyond may c.args._set.now r.0 r.1 r.2)
+returns c = λ may. (beyond_named may c.args._set.now, λ r. named_beyond may c.args._set.now r.0 r.1 r.2)

@@ -1,5 +1,5 @@
-use Rattle.jh_check.proofs.GivenLemmas.{sound-root}
+use Rattle.jh_check.proofs.GivenLemmas.{sound_root_holds}
 use Rattle.jh_check.proofs.laws.clean_root_is_sound.Goals as goal
 
 pub returns : goal.returns
-returns c = sound-root c.args._system.now c.args._cells.now
+returns c = sound_root_holds c.args._system.now c.args._cells.now

@@ -1,8 +1,8 @@
-use Rattle.jh_check.proofs.GivenLemmas.{may-join, numbers-differ}
+use Rattle.jh_check.proofs.GivenLemmas.{may_join, numbers_differ}
 use Rattle.jh_check.proofs.laws.endpoints_may_join.Goals as goal
 
 pub returns : goal.returns
 returns c = record {
-  each = may-join c.args._system.now c.args._cells.now;
-  links = numbers-differ c.args._system.now c.args._cells.now;
+  each = may_join c.args._system.now c.args._cells.now;
+  links = numbers_differ c.args._system.now c.args._cells.now;
 }

@@ -1,5 +1,5 @@
-use Rattle.jh_check.proofs.JoinLemmas.{fewer-clean}
+use Rattle.jh_check.proofs.JoinLemmas.{fewer_clean}
 use Rattle.jh_check.proofs.laws.fewer_cells_stay_clean.Goals as goal
 
 pub returns : goal.returns
-returns c = fewer-clean c.args._system.now c.args._before.now c.args._after.now c.args._gone.now
+returns c = fewer_clean c.args._system.now c.args._before.now c.args._after.now c.args._gone.now

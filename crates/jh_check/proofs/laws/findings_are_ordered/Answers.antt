@@ -1,5 +1,5 @@
-use Rattle.jh_check.proofs.OrderLemmas.{findings-ordered}
+use Rattle.jh_check.proofs.OrderLemmas.{findings_ordered}
 use Rattle.jh_check.proofs.laws.findings_are_ordered.Goals as goal
 
 pub returns : goal.returns
-returns c = findings-ordered c.args._system.now c.args._cells.now
+returns c = findings_ordered c.args._system.now c.args._cells.now

@@ -1,6 +1,6 @@
-use Rattle.jh_check.proofs.RefusalLemmas.{accepted-from, accepted-to}
+use Rattle.jh_check.proofs.RefusalLemmas.{accepted_from, accepted_to}
 use Rattle.jh_check.proofs.laws.nothing_is_refused_that_is_accepted.Goals as goal
 
 pub returns : goal.returns
 returns c = λ may pages pool.
-    (accepted-from c.args._system.now c.args._live.now c.args._new.now may pages pool, accepted-to c.args._system.now c.args._live.now c.args._new.now may pages pool)
+    (accepted_from c.args._system.now c.args._live.now c.args._new.now may pages pool, accepted_to c.args._system.now c.args._live.now c.args._new.now may pages pool)

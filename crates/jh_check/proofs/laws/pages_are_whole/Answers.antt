@@ -1,5 +1,5 @@
-use Rattle.jh_check.proofs.GivenLemmas.{whole-pages}
+use Rattle.jh_check.proofs.GivenLemmas.{whole_pages}
 use Rattle.jh_check.proofs.laws.pages_are_whole.Goals as goal
 
 pub returns : goal.returns
-returns c = whole-pages c.args._system.now c.args._cells.now
+returns c = whole_pages c.args._system.now c.args._cells.now

@@ -1,4 +1,4 @@
-use Rattle.jh_check.specs.Links.{ArePartners}
+use Rattle.jh_check.specs.Private.Links.{ArePartners}
 use Rattle.jh_check.proofs.links.find_partners.Given as goal
 
 abbrev pub invariant-loop-m : goal.invariant-loop-m

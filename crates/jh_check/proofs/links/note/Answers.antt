@@ -3,8 +3,8 @@ use Rattle.std.specs.List.{Contains}
 use Rattle.std.proofs.lemmas.List.{get_or_default}
 use Rattle.jh_cellcfg.specs.declared.config.PciDevice.{PciDevice}
 use Rattle.jh_check.specs.Devices.{are_linked, section_count}
-use Rattle.jh_check.specs.Links.{ArePartners}
-use Rattle.jh_check.proofs.LinkLemmas.{partners-more}
+use Rattle.jh_check.specs.Private.Links.{ArePartners}
+use Rattle.jh_check.proofs.LinkLemmas.{partners_more}
 use Rattle.jh_check.proofs.links.note.Goals as goal
 
 pub loop-k-preserved : goal.loop-k-preserved
@@ -49,4 +49,4 @@ loop-k-preserved c =
     × (c.loop-k.k < section_count (get_or ys c.args.m none))
     in
     let all : P one.pci_devices other.pci_devices = subst (λ ys. P one.pci_devices ys) w (subst (λ xs. P xs c.as_slice-2.result.now) v (c.put.ensures.others, c.put.ensures.own, h, i)) in
-    partners-more one other c.loop-k.partners.items c.put.new.partners.items d e c.loop-k.k c.loop-k.invariant all.0 all.1 cd ce linked all.2 all.3
+    partners_more one other c.loop-k.partners.items c.put.new.partners.items d e c.loop-k.k c.loop-k.invariant all.0 all.1 cd ce linked all.2 all.3

@@ -2,10 +2,11 @@ use Rattle.std.proofs.Common.{◌≡◌, ℕ, ◌<◌, ◌++◌, length, get_or,
 use Rattle.jh_cellcfg.specs.declared.region.Region.{Region}
 use Rattle.jh_check.specs.Lists.{capped}
 use Rattle.jh_cellcfg.specs.declared.config.CellConfig.{CellConfig}
-use Rattle.jh_check.specs.Reaches.{IsOwn}
+use Rattle.jh_check.specs.Private.Reaches.{IsOwn}
 use Rattle.jh_check.specs.Findings.{between, between_at, spot}
 use Rattle.std.proofs.lemmas.List.{get_or_default}
-use Rattle.jh_check.proofs.ListLemmas.{found-step, found-done}
+use Rattle.jh_check.proofs.ListLemmas.{found_step, found_done}
+use Rattle.jh_check.proofs.ReachLemmas.{own_spot}
 use Rattle.jh_check.proofs.pairing.between.Goals as goal
 
 pub loop-r-init : goal.loop-r-init
@@ -22,17 +23,11 @@ loop-r-preserved c =
     let h : c.loop-r.r < length regions = rw v at t in
     let a = c.in_ok-visit.ensures in
     let e : capped c.visit.new.found ≡ capped (c.loop-r.found ++ found c.loop-r.r (get_or regions c.loop-r.r none)) = cc in
-    found-step found regions c.loop-r.r none c.loop-r.found c.visit.new.found _ h e c.loop-r.invariant
+    found_step found regions c.loop-r.r none c.loop-r.found c.visit.new.found _ h e c.loop-r.invariant
 
 pub returns : goal.returns
 returns c =
-    found-done (between_at c.args.rule c.args.pair.now.a c.args.pair.now.one.now c.args.pair.now.b c.args.pair.now.other.now) c.args.pair.now.one.now.memory_regions c.loop-r.r c.loop-r.found _ (rw c.as_slice-region-items.ensures.value at c.loop-r-test.false) c.loop-r.invariant
-
-own : (a : ℕ) (one : CellConfig) (r : ℕ) (d : Region) (b : ℕ) (other : CellConfig) → r < length one.memory_regions → (a ≡ b → one ≡ other) → IsOwn (spot a one r (get_or one.memory_regions r d)) b other
-own a one r d b other h same = λ e.
-    let x = get_or one.memory_regions r d in
-    let P : CellConfig → Type 0 = λ c. (r < length c.memory_regions) × (x ≡ get_or c.memory_regions r x) in
-    subst P (same e) (h, get_or_default one.memory_regions r d x h)
+    found_done (between_at c.args.rule c.args.pair.now.a c.args.pair.now.one.now c.args.pair.now.b c.args.pair.now.other.now) c.args.pair.now.one.now.memory_regions c.loop-r.r c.loop-r.found _ (rw c.as_slice-region-items.ensures.value at c.loop-r-test.false) c.loop-r.invariant
 
 pub visit-requires-clause-own : goal.visit-requires-clause-own
 visit-requires-clause-own c =
@@ -40,5 +35,5 @@ visit-requires-clause-own c =
     let v = c.as_slice-region-items.ensures.value in
     let t = c.loop-r-test.true in
     let h : c.loop-r.r < length c.args.pair.now.one.now.memory_regions = rw v at t in
-    let k = own c.args.pair.now.a c.args.pair.now.one.now c.loop-r.r none c.args.pair.now.b c.args.pair.now.other.now h c.requires.same in
+    let k = own_spot c.args.pair.now.a c.args.pair.now.one.now c.loop-r.r none c.args.pair.now.b c.args.pair.now.other.now h c.requires.same in
     rw v k

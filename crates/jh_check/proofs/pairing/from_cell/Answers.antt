@@ -1,10 +1,10 @@
 use Rattle.std.proofs.Common.{◌≡◌, ◌<◌, ◌++◌, length, get_or, refl, sym, ap, subst, ◌∙◌, arith}
 use Rattle.std.proofs.lemmas.List.{get_or_default}
 use Rattle.jh_check.specs.Cells.{cells_of}
-use Rattle.jh_check.specs.Reaches.{AreOf}
+use Rattle.jh_check.specs.Private.Reaches.{AreOf}
 use Rattle.jh_check.specs.Lists.{capped}
 use Rattle.jh_check.specs.Findings.{between, from_cell}
-use Rattle.jh_check.proofs.ListLemmas.{found-step, found-done}
+use Rattle.jh_check.proofs.ListLemmas.{found_step, found_done}
 use Rattle.jh_check.proofs.pairing.from_cell.Goals as goal
 
 pub loop-b-init : goal.loop-b-init
@@ -19,10 +19,10 @@ loop-b-preserved c =
     let h : c.loop-b.b < length all = omega arith in
     let a = c.in_ok-join.ensures in
     let e : capped c.join.new.found ≡ capped (c.loop-b.found ++ found c.loop-b.b (get_or all c.loop-b.b c.cell.result.now)) = cc in
-    found-step found all c.loop-b.b c.cell.result.now c.loop-b.found c.join.new.found _ h e c.loop-b.invariant
+    found_step found all c.loop-b.b c.cell.result.now c.loop-b.found c.join.new.found _ h e c.loop-b.invariant
 
 pub returns : goal.returns
-returns c = found-done (between c.args.rule c.args.a c.args.one.now) (cells_of c.args.setup.now) c.loop-b.b c.loop-b.found _ (omega arith) c.loop-b.invariant
+returns c = found_done (between c.args.rule c.args.a c.args.one.now) (cells_of c.args.setup.now) c.loop-b.b c.loop-b.found _ (omega arith) c.loop-b.invariant
 
 pub join-requires-clause-same : goal.join-requires-clause-same
 join-requires-clause-same c =

@@ -1,8 +1,8 @@
 use Rattle.std.proofs.Common.{◌≡◌, false}
 use Rattle.jh_check.specs.Spans.{joins}
 use Rattle.jh_check.specs.Findings.{between}
-use Rattle.jh_check.proofs.BreakLemmas.{between-apart}
-use Rattle.jh_check.proofs.ReachLemmas.{capped-none_more}
+use Rattle.jh_check.proofs.BreakLemmas.{between_apart}
+use Rattle.jh_check.proofs.ReachLemmas.{capped_none_more}
 use Rattle.jh_check.proofs.pairing.join.Goals as goal
 
 pub returns-else-joins : goal.returns-else-joins
@@ -13,4 +13,4 @@ returns-else-joins c =
     let t = c.joins.ensures in
     let i = c.if-joins.false in
     let h : joins rule c.args.pair.now.a c.args.pair.now.b ≡ false = cc in
-    capped-none_more c.args.found.now (between rule c.args.pair.now.a one c.args.pair.now.b other) (between-apart rule c.args.pair.now.a one c.args.pair.now.b other h)
+    capped_none_more c.args.found.now (between rule c.args.pair.now.a one c.args.pair.now.b other) (between_apart rule c.args.pair.now.a one c.args.pair.now.b other h)

@@ -3,8 +3,8 @@ use Rattle.std.proofs.lemmas.Result.{IfOk-weaker}
 use Rattle.jh_cellcfg.specs.declared.region.Region.{Region}
 use Rattle.jh_check.specs.declared.spans.Span.{Span}
 use Rattle.jh_check.specs.Spans.{is_within}
-use Rattle.jh_check.specs.Reaches.{HasOthers, TellsEach, TellsPairs, TellsOthers}
-use Rattle.jh_check.proofs.ReachLemmas.{others-each, others-pairs}
+use Rattle.jh_check.specs.Private.Reaches.{HasOthers, TellsEach, TellsPairs, TellsOthers}
+use Rattle.jh_check.proofs.ReachLemmas.{others_each, others_pairs}
 use Rattle.jh_check.proofs.reach.of_cell.Goals as goal
 
 pub returns-then-is_within-clause-tells : goal.returns-then-is_within-clause-tells
@@ -18,7 +18,7 @@ returns-then-is_within-clause-tells c =
     let P : List Region → List Span → Type 0 = λ regions spans. HasOthers c.args.rule c.args.pass c.args.b regions spans in
     let has : P cell.memory_regions c.in_ok-spans.spans.items = subst (λ regions. P regions c.in_ok-spans.spans.items) c.as_slice.ensures.value c.in_ok-spans.ensures.each in
     let all : P cell.memory_regions spans = rw v has in
-    IfOk-weaker c.of_overlaps.result (λ reaches. TellsPairs spans reaches.items) (λ reaches. TellsOthers c.args.rule c.args.pass c.args.b cell reaches.items) (λ reaches tells. others-pairs c.args.rule c.args.pass c.args.b cell spans reaches.items w all tells) c.of_overlaps.ensures.tells
+    IfOk-weaker c.of_overlaps.result (λ reaches. TellsPairs spans reaches.items) (λ reaches. TellsOthers c.args.rule c.args.pass c.args.b cell reaches.items) (λ reaches tells. others_pairs c.args.rule c.args.pass c.args.b cell spans reaches.items w all tells) c.of_overlaps.ensures.tells
 
 pub returns-clause-tells : goal.returns-clause-tells
 returns-clause-tells c =
@@ -28,4 +28,4 @@ returns-clause-tells c =
     let P : List Region → List Span → Type 0 = λ regions spans. HasOthers c.args.rule c.args.pass c.args.b regions spans in
     let has : P cell.memory_regions c.in_ok-spans.spans.items = subst (λ regions. P regions c.in_ok-spans.spans.items) c.as_slice.ensures.value c.in_ok-spans.ensures.each in
     let all : P cell.memory_regions spans = rw v has in
-    IfOk-weaker c.of_each.result (λ reaches. TellsEach spans reaches.items) (λ reaches. TellsOthers c.args.rule c.args.pass c.args.b cell reaches.items) (λ reaches tells. others-each c.args.rule c.args.pass c.args.b cell spans reaches.items all tells) c.of_each.ensures.tells
+    IfOk-weaker c.of_each.result (λ reaches. TellsEach spans reaches.items) (λ reaches. TellsOthers c.args.rule c.args.pass c.args.b cell reaches.items) (λ reaches tells. others_each c.args.rule c.args.pass c.args.b cell spans reaches.items all tells) c.of_each.ensures.tells

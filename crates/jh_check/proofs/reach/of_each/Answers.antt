@@ -1,11 +1,11 @@
 use Rattle.std.proofs.Common.{◌≡◌, get_or, arith}
 use Rattle.std.proofs.lemmas.List.{get_or_default}
 use Rattle.jh_check.specs.declared.spans.Span.{Span}
-use Rattle.jh_check.proofs.ReachLemmas.{reach-none, reach-more, reach-rises, reach-tells}
+use Rattle.jh_check.proofs.ReachLemmas.{reach_none, reach_more, reach_rises, reach_tells}
 use Rattle.jh_check.proofs.reach.of_each.Goals as goal
 
 pub loop-span-init : goal.loop-span-init
-loop-span-init c = rw c.in_ok-reaches.ensures.items (reach-none c.args.spans.now)
+loop-span-init c = rw c.in_ok-reaches.ensures.items (reach_none c.args.spans.now)
 
 pub loop-span-preserved : goal.loop-span-preserved
 loop-span-preserved c =
@@ -15,10 +15,10 @@ loop-span-preserved c =
     let x = get_or spans i none in
     let m = c.max-end.ensures in
     let is : x ≡ get_or spans i x = get_or_default spans i none x c.loop-span-test.true in
-    rw c.in_ok-push.ensures.items (reach-more spans c.loop-span.reaches.items i c.loop-span.end c.max-end.result x c.loop-span-test.true is (omega (arith, m)) (omega (arith, m)) c.loop-span.invariant)
+    rw c.in_ok-push.ensures.items (reach_more spans c.loop-span.reaches.items i c.loop-span.end c.max-end.result x c.loop-span-test.true is (omega (arith, m)) (omega (arith, m)) c.loop-span.invariant)
 
 pub returns-clause-rising : goal.returns-clause-rising
-returns-clause-rising c = reach-rises c.args.spans.now c.loop-span.reaches.items c.loop-span.span-index c.loop-span.end c.loop-span-test.false c.loop-span.auto.span-index-end c.requires c.loop-span.invariant
+returns-clause-rising c = reach_rises c.args.spans.now c.loop-span.reaches.items c.loop-span.span-index c.loop-span.end c.loop-span-test.false c.loop-span.auto.span-index-end c.requires c.loop-span.invariant
 
 pub returns-clause-tells : goal.returns-clause-tells
-returns-clause-tells c = reach-tells c.args.spans.now c.loop-span.reaches.items c.loop-span.span-index c.loop-span.end c.loop-span-test.false c.loop-span.invariant
+returns-clause-tells c = reach_tells c.args.spans.now c.loop-span.reaches.items c.loop-span.span-index c.loop-span.end c.loop-span-test.false c.loop-span.invariant

@@ -1,11 +1,11 @@
 use Rattle.std.proofs.Common.{◌≡◌, get_or, arith}
 use Rattle.std.proofs.lemmas.List.{get_or_default}
 use Rattle.jh_check.specs.declared.spans.Span.{Span}
-use Rattle.jh_check.proofs.ReachLemmas.{pairs-none, pairs-more, pairs-rise, pairs-tell}
+use Rattle.jh_check.proofs.ReachLemmas.{pairs_none, pairs_more, pairs_rise, pairs_tell}
 use Rattle.jh_check.proofs.reach.of_pairs.Goals as goal
 
 pub loop-span-init : goal.loop-span-init
-loop-span-init c = rw c.in_ok-reaches.ensures.items (pairs-none c.args.spans.now)
+loop-span-init c = rw c.in_ok-reaches.ensures.items (pairs_none c.args.spans.now)
 
 pub loop-span-preserved : goal.loop-span-preserved
 loop-span-preserved c =
@@ -17,10 +17,10 @@ loop-span-preserved c =
     let m = c.max-end.ensures in
     let f = c.max-farthest.ensures in
     let is : x ≡ get_or spans i x = get_or_default spans i none x c.loop-span-test.true in
-    rw c.in_ok-push.ensures.items (pairs-more spans c.loop-span.reaches.items i c.loop-span.farthest c.loop-span.end c.max-farthest.result c.max-end.result x c.loop-span-test.true is (omega (arith, f)) (omega (arith, f)) (omega (arith, m)) (λ k a b. omega (arith, low, m)) c.loop-span.invariant)
+    rw c.in_ok-push.ensures.items (pairs_more spans c.loop-span.reaches.items i c.loop-span.farthest c.loop-span.end c.max-farthest.result c.max-end.result x c.loop-span-test.true is (omega (arith, f)) (omega (arith, f)) (omega (arith, m)) (λ k a b. omega (arith, low, m)) c.loop-span.invariant)
 
 pub returns-clause-rising : goal.returns-clause-rising
-returns-clause-rising c = pairs-rise c.args.spans.now c.loop-span.reaches.items c.loop-span.span-index c.loop-span.farthest c.loop-span.end c.loop-span-test.false c.loop-span.auto.span-index-end c.requires c.loop-span.invariant
+returns-clause-rising c = pairs_rise c.args.spans.now c.loop-span.reaches.items c.loop-span.span-index c.loop-span.farthest c.loop-span.end c.loop-span-test.false c.loop-span.auto.span-index-end c.requires c.loop-span.invariant
 
 pub returns-clause-tells : goal.returns-clause-tells
-returns-clause-tells c = pairs-tell c.args.spans.now c.loop-span.reaches.items c.loop-span.span-index c.loop-span.farthest c.loop-span.end c.loop-span-test.false c.loop-span.invariant
+returns-clause-tells c = pairs_tell c.args.spans.now c.loop-span.reaches.items c.loop-span.span-index c.loop-span.farthest c.loop-span.end c.loop-span-test.false c.loop-span.invariant

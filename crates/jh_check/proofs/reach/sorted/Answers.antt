@@ -6,7 +6,7 @@ use Rattle.std.proofs.lemmas.List.Sorted.{Contains-permutation, IsNonDecreasingB
 use Rattle.jh_cellcfg.specs.declared.region.Region.{Region}
 use Rattle.jh_check.specs.declared.spans.Span.{Span}
 use Rattle.jh_check.specs.Spans.{span_of}
-use Rattle.jh_check.specs.Reaches.{may_follow}
+use Rattle.jh_check.specs.Private.Reaches.{may_follow}
 use Rattle.jh_check.proofs.reach.sorted.Goals as goal
 
 pub loop-item-preserved : goal.loop-item-preserved

@@ -1,7 +1,7 @@
 use Rattle.std.proofs.Common.{nat_lt, leb, arith, rules}
 use Rattle.std.proofs.lemmas.List.Sorted.{IsPartitionPoint-from_clause, IsPartitionedBy-ltb, IsPartitionedBy-leb}
 use Rattle.jh_check.specs.declared.reach.Reach.{Reach}
-use Rattle.jh_check.proofs.ReachLemmas.{among-parted}
+use Rattle.jh_check.proofs.ReachLemmas.{among_parted}
 use Rattle.jh_check.proofs.reach.window_of.Goals as goal
 
 pub returns : goal.returns
@@ -12,4 +12,4 @@ returns c =
     let m = c.partition_point-begin.result in
     let begins = IsPartitionPoint-from_clause (λ (reach : Reach). nat_lt reach.start span.end) reaches n c.partition_point-end.ensures.partitioned (IsPartitionedBy-ltb (λ (reach : Reach). reach.start) reaches span.end c.requires.starts) (λ a r q k. search rules) in
     let ends = IsPartitionPoint-from_clause (λ (reach : Reach). leb reach.end span.start) reaches m c.partition_point-begin.ensures.partitioned (IsPartitionedBy-leb (λ (reach : Reach). reach.end) reaches span.start c.requires.ends) (λ a r q k. search rules) in
-    λ x cx b e. c.around.ensures x (among-parted reaches span c.min.result m n (omega (arith, c.min.ensures)) (omega (arith, c.min.ensures)) c.partition_point-end.ensures.bound begins.1 ends.0 x cx b e)
+    λ x cx b e. c.around.ensures x (among_parted reaches span c.min.result m n (omega (arith, c.min.ensures)) (omega (arith, c.min.ensures)) c.partition_point-end.ensures.bound begins.1 ends.0 x cx b e)

@@ -3,20 +3,20 @@ use Rattle.jh_cellcfg.specs.Cells.{is_cpu_set}
 use Rattle.jh_check.specs.Clean.{IsSoundBitmap, IsSoundCpuSet}
 use Rattle.jh_check.specs.Devices.{cpus_break}
 use Rattle.jh_check.specs.Refusals.{names_beyond, nobody}
-use Rattle.jh_check.proofs.IdleLemmas.{none-set, idle-breaks, refused-known, refused-busy, refused-idle}
+use Rattle.jh_check.proofs.IdleLemmas.{none_set, idle_breaks, refused_known, refused_busy, refused_idle}
 use Rattle.jh_check.proofs.refusal.refusal_without_cpus.Goals as goal
 
 pub returns-then-is_known-clause-value : goal.returns-then-is_known-clause-value
 returns-then-is_known-clause-value c = λ pages pool.
-    refused-known c.args.system.now c.args.live.now c.args.new.now pages pool (sym c.is_known.ensures ∙ c.if-is_known.true)
+    refused_known c.args.system.now c.args.live.now c.args.new.now pages pool (sym c.is_known.ensures ∙ c.if-is_known.true)
 
 -- sixteen CPUs that mustn't be given away are all
 named : (set : List ℕ) (answer : Bool) → answer ≡ names_beyond (λ cpu. get_or (replicate 16 false) cpu false) set → names_beyond nobody set ≡ answer
-named set answer is = sym (is ∙ ap (λ (may : ℕ → Bool). names_beyond may set) (λ i cpu. none-set 16 cpu i))
+named set answer is = sym (is ∙ ap (λ (may : ℕ → Bool). names_beyond may set) (λ i cpu. none_set 16 cpu i))
 
 pub returns-then-names_beyond-clause-value : goal.returns-then-names_beyond-clause-value
 returns-then-names_beyond-clause-value c = λ pages pool.
-    refused-busy c.args.system.now c.args.live.now c.args.new.now pages pool
+    refused_busy c.args.system.now c.args.live.now c.args.new.now pages pool
     (sym c.is_known.ensures ∙ c.if-is_known.false)
     (named c.args.new.now.cpu_set c.names_beyond.result c.names_beyond.ensures ∙ c.if-names_beyond.true)
 
@@ -27,5 +27,5 @@ returns-clause-value c = λ pages pool.
     let gives : IsSoundBitmap set → IsSoundCpuSet set = rw (← c.as_slice.ensures.value) c.sound_bitmaps_name_few_cpus.ensures in
     let beyond : (cpu : ℕ) × (is_cpu_set set cpu ≡ true) × (nobody cpu ≡ false) → names_beyond nobody set ≡ true =
     rw (← c.as_slice-2.ensures.value) (c.beyond_is_a_cpu.ensures nobody).1 in
-    let breaks : cpus_break set ≡ true = idle-breaks set gives beyond idle in
-    refused-idle c.args.system.now c.args.live.now c.args.new.now pages pool (sym c.is_known.ensures ∙ c.if-is_known.false) idle breaks
+    let breaks : cpus_break set ≡ true = idle_breaks set gives beyond idle in
+    refused_idle c.args.system.now c.args.live.now c.args.new.now pages pool (sym c.is_known.ensures ∙ c.if-is_known.false) idle breaks

@@ -5,7 +5,7 @@ use Rattle.std.proofs.lemmas.List.{get_or_default}
 use Rattle.std.proofs.lemmas.List.Elements.{Contains-push, Contains-append_left}
 use Rattle.jh_cellcfg.specs.declared.config.PciDevice.{PciDevice}
 use Rattle.jh_check.specs.declared.seats.Seat.{Seat}
-use Rattle.jh_check.specs.Seats.{seat_of}
+use Rattle.jh_check.specs.Private.Seats.{seat_of}
 use Rattle.jh_check.proofs.seats.push_seats.Goals as goal
 
 pub loop-item-preserved : goal.loop-item-preserved

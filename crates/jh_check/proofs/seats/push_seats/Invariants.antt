@@ -2,7 +2,7 @@ use Rattle.std.proofs.Common.{ℕ, ◌<◌, get_or}
 use Rattle.std.specs.List.{Contains}
 use Rattle.jh_cellcfg.specs.declared.config.PciDevice.{PciDevice}
 use Rattle.jh_check.specs.declared.seats.Seat.{Seat}
-use Rattle.jh_check.specs.Seats.{seat_of}
+use Rattle.jh_check.specs.Private.Seats.{seat_of}
 use Rattle.jh_check.proofs.seats.push_seats.Given as goal
 
 abbrev pub invariant-loop-item : goal.invariant-loop-item

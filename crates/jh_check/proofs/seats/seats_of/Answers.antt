@@ -1,11 +1,11 @@
-use Rattle.std.proofs.Common.{◌≡◌, ◌<◌, length, get_or, inl, inr, sym, ap, subst, arith, rules}
+use Rattle.std.proofs.Common.{◌<◌, length, get_or, inl, inr, sym, subst, arith, rules}
 use Rattle.std.proofs.lemmas.Bool.{cases_eq}
 use Rattle.std.proofs.lemmas.List.{get_or_default}
 use Rattle.std.proofs.lemmas.List.Sorted.{Contains-permutation, IsNonDecreasingBy-from_sort_by_key}
 use Rattle.jh_cellcfg.specs.declared.config.CellConfig.{CellConfig}
 use Rattle.jh_check.specs.declared.seats.Seat.{Seat}
 use Rattle.jh_check.specs.Cells.{cells_of}
-use Rattle.jh_check.specs.Seats.{seat_of, HasSeatsOf}
+use Rattle.jh_check.specs.Private.Seats.{seat_of, HasSeatsOf}
 use Rattle.jh_check.proofs.seats.seats_of.Goals as goal
 
 pub loop-c-preserved : goal.loop-c-preserved
@@ -29,4 +29,4 @@ pub returns-clause-each : goal.returns-clause-each
 returns-clause-each c = λ k d h item x i. Contains-permutation _ _ _ c.sort_unstable_by_key.ensures.permutation (c.loop-c.invariant k d (omega arith) item x i)
 
 pub returns-clause-order : goal.returns-clause-order
-returns-clause-order c = IsNonDecreasingBy-from_sort_by_key (λ (seat : Seat). seat.place) _ c.sort_unstable_by_key.ensures.sorted (λ a r q k. search rules)
+returns-clause-order c = IsNonDecreasingBy-from_sort_by_key (λ (seat : Seat). seat.bdf) _ c.sort_unstable_by_key.ensures.sorted (λ a r q k. search rules)

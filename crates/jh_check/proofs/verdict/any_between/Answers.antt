@@ -2,7 +2,7 @@ use Rattle.std.proofs.Common.{◌≡◌, ◌<◌, true, false, length, get_or, r
 use Rattle.jh_cellcfg.specs.declared.region.Region.{Region}
 use Rattle.jh_check.specs.Lists.{is_any}
 use Rattle.jh_check.specs.Findings.{between_at, between}
-use Rattle.jh_check.proofs.ListLemmas.{any-step, any-hit, any-done}
+use Rattle.jh_check.proofs.ListLemmas.{any_step, any_hit, any_done}
 use Rattle.jh_check.proofs.verdict.any_between.Goals as goal
 
 pub loop-r-init : goal.loop-r-init
@@ -20,7 +20,7 @@ returns-then-any_beside c =
     let b = c.any_beside.ensures in
     let i = c.if-any_beside.true in
     let e : is_any (found c.loop-r.r (get_or items c.loop-r.r none)) ≡ true = cc in
-    any-hit found items c.loop-r.r none _ h e c.loop-r.invariant
+    any_hit found items c.loop-r.r none _ h e c.loop-r.invariant
 
 pub loop-r-preserved : goal.loop-r-preserved
 loop-r-preserved c =
@@ -33,7 +33,7 @@ loop-r-preserved c =
     let b = c.any_beside.ensures in
     let i = c.if-any_beside.false in
     let e : is_any (found c.loop-r.r (get_or items c.loop-r.r none)) ≡ false = cc in
-    any-step found items c.loop-r.r none _ h e c.loop-r.invariant
+    any_step found items c.loop-r.r none _ h e c.loop-r.invariant
 
 pub returns : goal.returns
-returns c = any-done (between_at c.args.rule c.args.a c.args.one.now c.args.b c.args.other.now) (c.args.one.now.memory_regions) c.loop-r.r _ (rw c.as_slice-region-items.ensures.value at c.loop-r-test.false) c.loop-r.invariant
+returns c = any_done (between_at c.args.rule c.args.a c.args.one.now c.args.b c.args.other.now) (c.args.one.now.memory_regions) c.loop-r.r _ (rw c.as_slice-region-items.ensures.value at c.loop-r-test.false) c.loop-r.invariant

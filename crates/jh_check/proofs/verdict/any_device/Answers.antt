@@ -5,7 +5,7 @@ use Rattle.jh_check.specs.Devices.{device_breaks}
 use Rattle.jh_check.specs.declared.rule.Rule.TheVariants.{Shmem}
 use Rattle.jh_check.specs.Lists.{is_any}
 use Rattle.jh_check.specs.Findings.{device_at, in_devices_of, finding_of}
-use Rattle.jh_check.proofs.ListLemmas.{any-step, any-hit, any-done, any-only}
+use Rattle.jh_check.proofs.ListLemmas.{any_step, any_hit, any_done, any_only}
 use Rattle.jh_check.proofs.verdict.any_device.Goals as goal
 
 pub loop-n-init : goal.loop-n-init
@@ -39,9 +39,9 @@ returns-then-device_breaks c =
     let h : c.loop-n.n < length items = rw v at t in
     let b = c.device_breaks.ensures in
     let i = c.if-device_breaks.true in
-    let o = any-only (device_breaks (take c.args.number (cells_of c.args.setup.now)) c.args.cell.now (take c.loop-n.n items) (get_or items c.loop-n.n none)) (finding_of Shmem c.args.number c.loop-n.n 0 0) in
+    let o = any_only (device_breaks (take c.args.number (cells_of c.args.setup.now)) c.args.cell.now (take c.loop-n.n items) (get_or items c.loop-n.n none)) (finding_of Shmem c.args.number c.loop-n.n 0 0) in
     let e : is_any (found c.loop-n.n (get_or items c.loop-n.n none)) ≡ true = cc in
-    any-hit found items c.loop-n.n none _ h e c.loop-n.invariant
+    any_hit found items c.loop-n.n none _ h e c.loop-n.invariant
 
 pub loop-n-preserved : goal.loop-n-preserved
 loop-n-preserved c =
@@ -70,9 +70,9 @@ loop-n-preserved c =
     let h : c.loop-n.n < length items = rw v at t in
     let b = c.device_breaks.ensures in
     let i = c.if-device_breaks.false in
-    let o = any-only (device_breaks (take c.args.number (cells_of c.args.setup.now)) c.args.cell.now (take c.loop-n.n items) (get_or items c.loop-n.n none)) (finding_of Shmem c.args.number c.loop-n.n 0 0) in
+    let o = any_only (device_breaks (take c.args.number (cells_of c.args.setup.now)) c.args.cell.now (take c.loop-n.n items) (get_or items c.loop-n.n none)) (finding_of Shmem c.args.number c.loop-n.n 0 0) in
     let e : is_any (found c.loop-n.n (get_or items c.loop-n.n none)) ≡ false = cc in
-    any-step found items c.loop-n.n none _ h e c.loop-n.invariant
+    any_step found items c.loop-n.n none _ h e c.loop-n.invariant
 
 pub returns : goal.returns
-returns c = any-done (device_at (take c.args.number (cells_of c.args.setup.now)) c.args.number c.args.cell.now) (c.args.cell.now.pci_devices) c.loop-n.n _ (rw c.as_slice-devices.ensures.value at c.loop-n-test.false) c.loop-n.invariant
+returns c = any_done (device_at (take c.args.number (cells_of c.args.setup.now)) c.args.number c.args.cell.now) (c.args.cell.now.pci_devices) c.loop-n.n _ (rw c.as_slice-devices.ensures.value at c.loop-n-test.false) c.loop-n.invariant

@@ -3,7 +3,7 @@ use Rattle.jh_check.specs.declared.rule.Rule.TheVariants.{CellsOverlap}
 use Rattle.jh_cellcfg.specs.declared.region.Region.{Region}
 use Rattle.jh_check.specs.Lists.{is_any}
 use Rattle.jh_check.specs.Findings.{between_at, between}
-use Rattle.jh_check.proofs.ListLemmas.{any-step, any-hit, any-done}
+use Rattle.jh_check.proofs.ListLemmas.{any_step, any_hit, any_done}
 use Rattle.jh_check.proofs.verdict.any_indexed.Goals as goal
 
 pub loop-r-init : goal.loop-r-init
@@ -21,7 +21,7 @@ returns-then-any_met c =
     let b = c.any_met.ensures in
     let i = c.if-any_met.true in
     let e : is_any (found c.loop-r.r (get_or items c.loop-r.r none)) ≡ true = cc in
-    any-hit found items c.loop-r.r none _ h e c.loop-r.invariant
+    any_hit found items c.loop-r.r none _ h e c.loop-r.invariant
 
 pub loop-r-preserved : goal.loop-r-preserved
 loop-r-preserved c =
@@ -34,7 +34,7 @@ loop-r-preserved c =
     let b = c.any_met.ensures in
     let i = c.if-any_met.false in
     let e : is_any (found c.loop-r.r (get_or items c.loop-r.r none)) ≡ false = cc in
-    any-step found items c.loop-r.r none _ h e c.loop-r.invariant
+    any_step found items c.loop-r.r none _ h e c.loop-r.invariant
 
 pub returns : goal.returns
-returns c = any-done (between_at CellsOverlap c.args.a c.args.one.now c.args.b c.args.other.now) (c.args.one.now.memory_regions) c.loop-r.r _ (rw c.as_slice-region-items.ensures.value at c.loop-r-test.false) c.loop-r.invariant
+returns c = any_done (between_at CellsOverlap c.args.a c.args.one.now c.args.b c.args.other.now) (c.args.one.now.memory_regions) c.loop-r.r _ (rw c.as_slice-region-items.ensures.value at c.loop-r-test.false) c.loop-r.invariant

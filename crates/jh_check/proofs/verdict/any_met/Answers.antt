@@ -10,7 +10,7 @@ use Rattle.jh_check.specs.Regions.{pair_breaks}
 use Rattle.jh_check.specs.Spans.{span_of, spans_meet, HasOnly}
 use Rattle.jh_check.specs.Lists.{is_any}
 use Rattle.jh_check.specs.Findings.{spot}
-use Rattle.jh_check.proofs.BreakLemmas.{beside-hit, beside-unmet}
+use Rattle.jh_check.proofs.BreakLemmas.{beside_hit, beside_unmet}
 use Rattle.jh_check.proofs.verdict.any_met.Goals as goal
 
 -- a span that meets is of one of the regions
@@ -44,7 +44,7 @@ returns-then-pair_breaks c =
     let b = c.pair_breaks.ensures in
     let i = c.if-pair_breaks.true in
     let e : pair_breaks CellsOverlap one (spot c.args.b other x.item (get_or items x.item none)) ≡ true = cc in
-    sym (beside-hit CellsOverlap one c.args.b other x.item none h e)
+    sym (beside_hit CellsOverlap one c.args.b other x.item none h e)
 
 pub loop-span-preserved : goal.loop-span-preserved
 loop-span-preserved c = λ k e d l.
@@ -78,6 +78,6 @@ returns c =
     let met = c.met_by-met.result.now in
     let P : Span → Type 0 = λ y. (x : Span) → Contains c.args.spans.now x → spans_meet x y ≡ true → Contains met x in
     let each : P (span_of CellsOverlap one.item one.region) = subst P c.span_of.ensures c.met_by-met.ensures.each in
-    sym (ap is_any (beside-unmet one c.args.b other c.args.spans.now met c.requires each (λ x d cx.
+    sym (ap is_any (beside_unmet one c.args.b other c.args.spans.now met c.requires each (λ x d cx.
     let Q : Span → Type 0 = λ y. pair_breaks CellsOverlap one (spot c.args.b other y.item (get_or items y.item d)) ≡ false in
     subst Q cx.2 (c.loop-span.invariant cx.0 x d (omega (arith, cx.1, c.loop-span-test.false))))))

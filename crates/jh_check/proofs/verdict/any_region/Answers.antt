@@ -3,7 +3,7 @@ use Rattle.jh_cellcfg.specs.declared.region.Region.{Region}
 use Rattle.jh_check.specs.Regions.{region_breaks}
 use Rattle.jh_check.specs.Lists.{is_any}
 use Rattle.jh_check.specs.Findings.{in_cell_at, in_cell, finding_of}
-use Rattle.jh_check.proofs.ListLemmas.{any-step, any-hit, any-done, any-only}
+use Rattle.jh_check.proofs.ListLemmas.{any_step, any_hit, any_done, any_only}
 use Rattle.jh_check.proofs.verdict.any_region.Goals as goal
 
 pub loop-r-init : goal.loop-r-init
@@ -18,9 +18,9 @@ returns-then-region_breaks c =
     let h : c.loop-r.r < length items = c.loop-r-test.true in
     let b = c.region_breaks.ensures in
     let i = c.if-region_breaks.true in
-    let o = any-only (region_breaks c.args.rule c.args.hypervisor.now c.args.a (take c.loop-r.r items) (get_or items c.loop-r.r none)) (finding_of c.args.rule c.args.a c.loop-r.r 0 0) in
+    let o = any_only (region_breaks c.args.rule c.args.hypervisor.now c.args.a (take c.loop-r.r items) (get_or items c.loop-r.r none)) (finding_of c.args.rule c.args.a c.loop-r.r 0 0) in
     let e : is_any (found c.loop-r.r (get_or items c.loop-r.r none)) ≡ true = cc in
-    any-hit found items c.loop-r.r none _ h e c.loop-r.invariant
+    any_hit found items c.loop-r.r none _ h e c.loop-r.invariant
 
 pub loop-r-preserved : goal.loop-r-preserved
 loop-r-preserved c =
@@ -30,9 +30,9 @@ loop-r-preserved c =
     let h : c.loop-r.r < length items = c.loop-r-test.true in
     let b = c.region_breaks.ensures in
     let i = c.if-region_breaks.false in
-    let o = any-only (region_breaks c.args.rule c.args.hypervisor.now c.args.a (take c.loop-r.r items) (get_or items c.loop-r.r none)) (finding_of c.args.rule c.args.a c.loop-r.r 0 0) in
+    let o = any_only (region_breaks c.args.rule c.args.hypervisor.now c.args.a (take c.loop-r.r items) (get_or items c.loop-r.r none)) (finding_of c.args.rule c.args.a c.loop-r.r 0 0) in
     let e : is_any (found c.loop-r.r (get_or items c.loop-r.r none)) ≡ false = cc in
-    any-step found items c.loop-r.r none _ h e c.loop-r.invariant
+    any_step found items c.loop-r.r none _ h e c.loop-r.invariant
 
 pub returns : goal.returns
-returns c = any-done (in_cell_at c.args.rule c.args.hypervisor.now c.args.a c.args.regions.now) (c.args.regions.now) c.loop-r.r _ c.loop-r-test.false c.loop-r.invariant
+returns c = any_done (in_cell_at c.args.rule c.args.hypervisor.now c.args.a c.args.regions.now) (c.args.regions.now) c.loop-r.r _ c.loop-r-test.false c.loop-r.invariant

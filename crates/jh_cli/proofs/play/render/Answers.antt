@@ -2,11 +2,11 @@
 use Rattle.std.proofs.Common.{◌∙◌, ap, List}
 use Rattle.jh_history.specs.declared.entry.Entry.{Entry}
 use Rattle.jh_text.specs.Text.{journal_text}
-use Rattle.jh_cli.proofs.PlayedLemmas.{IsPlayed-from}
+use Rattle.jh_cli.proofs.PlayedLemmas.{IsPlayed_from}
 use Rattle.jh_cli.proofs.play.render.Goals as goal
 
 pub returns : goal.returns
 returns c =
-    IsPlayed-from c.args.image c.args.cpus.now c.in_ok-board.board c.in_ok-board.ended c.status_of.result c.in_ok-text.text.items
+    IsPlayed_from c.args.image c.args.cpus.now c.in_ok-board.board c.in_ok-board.ended c.status_of.result c.in_ok-text.text.items
     c.in_ok-board.ensures.played c.in_ok-board.ensures.legal c.in_ok-board.ensures.quiet c.in_ok-board.ensures.full c.status_of.ensures
     (c.in_ok-text.ensures ∙ ap (λ (es : List Entry). journal_text es) c.journal.ensures.entries)

@@ -1,10 +1,11 @@
 -- One byte more, from the last on.
 use Rattle.std.proofs.Common.{◌+◌, ◌-◌, ◌*◌, ◌^◌, ◌<◌, length, arith}
-use Rattle.jh_frames.proofs.ByteLemmas.{spelled-start, spelled-more, spelled-end, byte_fits, next_fits}
+use Rattle.jh_num.proofs.MemoryLemmas.{byte_fits}
+use Rattle.jh_frames.proofs.ByteLemmas.{spelled_start, spelled_more, spelled_end, next_fits}
 use Rattle.jh_frames.proofs.bytes.number_of.Goals as goal
 
 pub loop-k-init : goal.loop-k-init
-loop-k-init c = record { number = spelled-start c.args.bytes.now; small = omega arith }
+loop-k-init c = record { number = spelled_start c.args.bytes.now; small = omega arith }
 
 pub overflow_mul-number : goal.overflow_mul-number
 overflow_mul-number c =
@@ -23,9 +24,9 @@ pub loop-k-preserved : goal.loop-k-preserved
 loop-k-preserved c =
     let byte : c.from.result < 256 = omega (arith, c.from.ensures, c.type_inv.bytes (length c.args.bytes.now - 1 - c.loop-k.k)) in
     record {
-      number = spelled-more c.args.bytes.now c.loop-k.k c.loop-k.number c.from.result c.loop-k-test.true c.loop-k.invariant.number c.from.ensures;
+      number = spelled_more c.args.bytes.now c.loop-k.k c.loop-k.number c.from.result c.loop-k-test.true c.loop-k.invariant.number c.from.ensures;
       small = byte_fits c.loop-k.number c.from.result c.loop-k.k c.loop-k.invariant.small byte;
     }
 
 pub returns : goal.returns
-returns c = spelled-end c.args.bytes.now c.loop-k.k c.loop-k.number (omega arith) c.loop-k.invariant.number
+returns c = spelled_end c.args.bytes.now c.loop-k.k c.loop-k.number (omega arith) c.loop-k.invariant.number

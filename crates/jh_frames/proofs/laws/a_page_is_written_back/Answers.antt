@@ -1,11 +1,11 @@
-use Rattle.jh_frames.proofs.LentLemmas.{lent-bytes, lent-size, lent-held}
+use Rattle.jh_frames.proofs.LentLemmas.{lent_bytes, lent_size, lent_held}
 use Rattle.jh_frames.proofs.laws.a_page_is_written_back.Goals as goal
 
 pub returns-clause-bytes : goal.returns-clause-bytes
-returns-clause-bytes c = lent-bytes
+returns-clause-bytes c = lent_bytes
 
 pub returns-clause-size : goal.returns-clause-size
-returns-clause-size c = lent-size
+returns-clause-size c = lent_size
 
 pub returns-clause-held : goal.returns-clause-held
-returns-clause-held c = lent-held
+returns-clause-held c = lent_held

@@ -1,5 +1,5 @@
-use Rattle.jh_frames.proofs.WordLemmas.{stored-spelled}
+use Rattle.jh_frames.proofs.WordLemmas.{stored_spelled}
 use Rattle.jh_frames.proofs.laws.what_is_written_is_read.Goals as goal
 
 pub returns : goal.returns
-returns c = λ before after at bytes is. stored-spelled before after at bytes is
+returns c = λ before after at bytes is. stored_spelled before after at bytes is

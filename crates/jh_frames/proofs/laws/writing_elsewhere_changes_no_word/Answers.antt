@@ -1,8 +1,8 @@
-use Rattle.jh_frames.proofs.WordLemmas.{word-before, word-behind}
+use Rattle.jh_frames.proofs.WordLemmas.{word_before, word_behind}
 use Rattle.jh_frames.proofs.laws.writing_elsewhere_changes_no_word.Goals as goal
 
 pub returns-clause-below : goal.returns-clause-below
-returns-clause-below c = λ before after at word bytes is below. word-before before after at word bytes is below
+returns-clause-below c = λ before after at word bytes is below. word_before before after at word bytes is below
 
 pub returns-clause-above : goal.returns-clause-above
-returns-clause-above c = λ before after at word bytes is above. word-behind before after at word bytes is above
+returns-clause-above c = λ before after at word bytes is above. word_behind before after at word bytes is above

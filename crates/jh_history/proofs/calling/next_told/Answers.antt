@@ -1,15 +1,15 @@
 -- The first behind that is told, and none at the end.
 use Rattle.std.proofs.Common.{◌≡◌, false, ◌||◌, ◌&&◌, refl, ap, sym, ◌∙◌}
 use Rattle.jh_history.specs.Calls.{is_told_by}
-use Rattle.jh_history.proofs.LiveLemmas.{has_number, next_told-is, told_from, told_from-found, told_from-next, told_from-end, nothing-left}
+use Rattle.jh_history.proofs.LiveLemmas.{has_number, next_told_is, told_from, told_from_found, told_from_next, told_from_end, nothing_left}
 use Rattle.jh_history.proofs.calling.next_told.Goals as goal
 use Rattle.jh_history.proofs.calling.next_told.Goals.{else-is_behind-via-then-is_behind+else-is_told, else-is_behind-via-else-is_behind, then-is_behind-2, else-is_behind-2}
 
 pub returns-then-is_told : goal.returns-then-is_told
 returns-then-is_told c = λ lives e.
-    sym (told_from-found c.loop-cell.is_behind c.args.about c.args.id c.args.cells.now c.loop-cell.cell-index c.cell-item.result c.loop-cell-test.true c.cell-item.is c.if-is_behind.true (sym c.is_told.ensures ∙ c.if-is_told.true))
+    sym (told_from_found c.loop-cell.is_behind c.args.about c.args.id c.args.cells.now c.loop-cell.cell-index c.cell-item.result c.loop-cell-test.true c.cell-item.is c.if-is_behind.true (sym c.is_told.ensures ∙ c.if-is_told.true))
     ∙ c.loop-cell.invariant
-    ∙ next_told-is c.args.about c.args.id lives c.args.cells.now e
+    ∙ next_told_is c.args.about c.args.id lives c.args.cells.now e
 
 pub loop-cell-preserved : goal.loop-cell-preserved
 loop-cell-preserved c =
@@ -22,12 +22,12 @@ loop-cell-preserved c =
       | then-is_behind-2 w ↦ rw (w.is_behind-is, w.if-is_behind-2.true) refl
       | else-is_behind-2 w ↦ rw (w.is_behind-is, w.if-is_behind-2.false) refl
     ] in
-    told_from-next c.loop-cell.is_behind c.if-is_behind-2.is_behind c.args.about c.args.id c.args.cells.now c.loop-cell.cell-index cell c.loop-cell-test.true c.cell-item.is fails passed
+    told_from_next c.loop-cell.is_behind c.if-is_behind-2.is_behind c.args.about c.args.id c.args.cells.now c.loop-cell.cell-index cell c.loop-cell-test.true c.cell-item.is fails passed
     ∙ c.loop-cell.invariant
 
 pub returns : goal.returns
 returns c = λ lives e.
-    sym (told_from-end c.loop-cell.is_behind c.args.about c.args.id)
-    ∙ ap (told_from c.loop-cell.is_behind c.args.about c.args.id) (sym (nothing-left c.args.cells.now c.loop-cell.cell-index c.loop-cell-test.false))
+    sym (told_from_end c.loop-cell.is_behind c.args.about c.args.id)
+    ∙ ap (told_from c.loop-cell.is_behind c.args.about c.args.id) (sym (nothing_left c.args.cells.now c.loop-cell.cell-index c.loop-cell-test.false))
     ∙ c.loop-cell.invariant
-    ∙ next_told-is c.args.about c.args.id lives c.args.cells.now e
+    ∙ next_told_is c.args.about c.args.id lives c.args.cells.now e

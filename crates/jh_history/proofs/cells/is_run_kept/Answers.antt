@@ -4,18 +4,18 @@ use Rattle.std.specs.List.{list_any}
 use Rattle.jh_history.specs.declared.place.Place.{Place}
 use Rattle.jh_history.specs.Grants.{is_kept}
 use Rattle.jh_history.specs.Places.{places_in_row}
-use Rattle.jh_history.proofs.LoopLemmas.{row-found, row-next_fails}
+use Rattle.jh_history.proofs.LoopLemmas.{row_found, row_next_fails}
 use Rattle.jh_history.proofs.cells.is_run_kept.Goals as goal
 
 pub returns-then-is_kept : goal.returns-then-is_kept
 returns-then-is_kept c =
     let kept : Place → Bool = is_kept c.args.image.now c.args.cells.now c.args.cell in
-    sym (row-found kept c.args.run.first c.loop-k.k c.args.run.count c.loop-k-test.true (ap kept (sym c.further.ensures) ∙ sym c.is_kept.ensures ∙ c.if-is_kept.true))
+    sym (row_found kept c.args.run.first c.loop-k.k c.args.run.count c.loop-k-test.true (ap kept (sym c.further.ensures) ∙ sym c.is_kept.ensures ∙ c.if-is_kept.true))
 
 pub loop-k-preserved : goal.loop-k-preserved
 loop-k-preserved c =
     let kept : Place → Bool = is_kept c.args.image.now c.args.cells.now c.args.cell in
-    row-next_fails kept c.args.run.first c.loop-k.k c.loop-k.invariant (ap kept (sym c.further.ensures) ∙ sym c.is_kept.ensures ∙ c.if-is_kept.false)
+    row_next_fails kept c.args.run.first c.loop-k.k c.loop-k.invariant (ap kept (sym c.further.ensures) ∙ sym c.is_kept.ensures ∙ c.if-is_kept.false)
 
 pub returns : goal.returns
 returns c =

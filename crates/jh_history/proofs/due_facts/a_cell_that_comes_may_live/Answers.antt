@@ -1,6 +1,6 @@
 -- By what the check says of all cells with it.
-use Rattle.jh_history.proofs.DueComesLemmas.{decided-lives, comes-lives}
+use Rattle.jh_history.proofs.DueComesLemmas.{decided_lives, comes_lives}
 use Rattle.jh_history.proofs.due_facts.a_cell_that_comes_may_live.Goals as goal
 
 pub returns : goal.returns
-returns c = record { decided = decided-lives; comes = comes-lives }
+returns c = record { decided = decided_lives; comes = comes_lives }

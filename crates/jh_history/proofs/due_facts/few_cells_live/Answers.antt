@@ -1,6 +1,6 @@
 -- By a CPU of each cell.
-use Rattle.jh_history.proofs.DueFewLemmas.{few-cells}
+use Rattle.jh_history.proofs.DueFewLemmas.{few_cells}
 use Rattle.jh_history.proofs.due_facts.few_cells_live.Goals as goal
 
 pub returns : goal.returns
-returns c = few-cells
+returns c = few_cells

@@ -1,6 +1,6 @@
 -- By the act.
-use Rattle.jh_history.proofs.DuePageLemmas.{page-cells}
+use Rattle.jh_history.proofs.DuePageLemmas.{page_cells}
 use Rattle.jh_history.proofs.due_facts.pages_written_are_of_cells.Goals as goal
 
 pub returns : goal.returns
-returns c = page-cells
+returns c = page_cells

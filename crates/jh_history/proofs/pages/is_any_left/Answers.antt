@@ -4,7 +4,7 @@ use Rattle.std.specs.Prelude.{slice_get}
 use Rattle.std.proofs.lemmas.Option.{get_or_from_slice_get}
 use Rattle.jh_cpu.specs.declared.cpu.Cpu.{Cpu}
 use Rattle.jh_check.specs.Refusals.{any_below}
-use Rattle.jh_check.proofs.RefusalLemmas.{below-at, below-none, below-more}
+use Rattle.jh_check.proofs.RefusalLemmas.{below_at, below_none, below_more}
 use Rattle.jh_history.specs.Lives.{is_on_board}
 use Rattle.jh_history.specs.Pages.{is_left}
 use Rattle.jh_history.proofs.pages.is_any_left.Goals as goal
@@ -16,13 +16,13 @@ read cell k n cpus state d b is at e =
     sym (e ∙ ap (λ (m : ℕ). is_left cell (get_or cpus m d)) is ∙ ap (is_left cell) (get_or_from_slice_get cpus k (state k) d at))
 
 pub loop-i-init : goal.loop-i-init
-loop-i-init c = λ state h. below-none (λ i. is_on_board c.args.image.now i && is_left c.args.cell (state i)) 0 refl
+loop-i-init c = λ state h. below_none (λ i. is_on_board c.args.image.now i && is_left c.args.cell (state i)) 0 refl
 
 pub returns-then-is_left : goal.returns-then-is_left
 returns-then-is_left c = λ state h.
     let left : is_left c.args.cell (state c.loop-i.i) ≡ true = read c.args.cell c.loop-i.i c.from.result c.args.cpus.now state _ c.is_left.result c.from.ensures (h c.loop-i.i c.loop-i-test.true) c.is_left.ensures ∙ c.if-is_left.true in
     let on : is_on_board c.args.image.now c.loop-i.i ≡ true = sym c.is_on_board.ensures ∙ c.if-is_on_board.true in
-    sym (below-at (λ i. is_on_board c.args.image.now i && is_left c.args.cell (state i)) 16 c.loop-i.i c.loop-i-test.true (rw (on, left) refl))
+    sym (below_at (λ i. is_on_board c.args.image.now i && is_left c.args.cell (state i)) 16 c.loop-i.i c.loop-i-test.true (rw (on, left) refl))
 
 pub loop-i-preserved : goal.loop-i-preserved
 loop-i-preserved c = λ state h.
@@ -35,7 +35,7 @@ loop-i-preserved c = λ state h.
           let off : is_on_board c.args.image.now c.loop-i.i ≡ false = sym c.is_on_board.ensures ∙ w.if-is_on_board.false in
           rw off refl)
     ] in
-    below-more (λ i. is_on_board c.args.image.now i && is_left c.args.cell (state i)) c.loop-i.i (c.loop-i.i + 1) (omega arith) (c.loop-i.invariant state h) fails
+    below_more (λ i. is_on_board c.args.image.now i && is_left c.args.cell (state i)) c.loop-i.i (c.loop-i.i + 1) (omega arith) (c.loop-i.invariant state h) fails
 
 pub returns : goal.returns
 returns c = λ state h.

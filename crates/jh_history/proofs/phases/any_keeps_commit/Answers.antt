@@ -1,15 +1,15 @@
 -- One CPU more.
 use Rattle.std.proofs.Common.{◌+◌, ◌∙◌, sym, refl, arith}
-use Rattle.jh_check.proofs.RefusalLemmas.{below-at, below-none, below-more}
+use Rattle.jh_check.proofs.RefusalLemmas.{below_at, below_none, below_more}
 use Rattle.jh_history.specs.Phases.{keeps_commit}
 use Rattle.jh_history.proofs.phases.any_keeps_commit.Goals as goal
 
 pub returns-then-keeps_commit : goal.returns-then-keeps_commit
-returns-then-keeps_commit g c = λ i f h. sym (below-at (λ k. keeps_commit i c.args.call.now k (f.cpu k)) 16 c.loop-cpu.cpu c.loop-cpu-test.true (sym (c.keeps_commit.ensures i f h) ∙ c.if-keeps_commit.true))
+returns-then-keeps_commit g c = λ i f h. sym (below_at (λ k. keeps_commit i c.args.call.now k (f.cpu k)) 16 c.loop-cpu.cpu c.loop-cpu-test.true (sym (c.keeps_commit.ensures i f h) ∙ c.if-keeps_commit.true))
 
 pub loop-cpu-init : goal.loop-cpu-init
-loop-cpu-init g c = λ i f h. below-none (λ k. keeps_commit i c.args.call.now k (f.cpu k)) 0 refl
+loop-cpu-init g c = λ i f h. below_none (λ k. keeps_commit i c.args.call.now k (f.cpu k)) 0 refl
 
 pub loop-cpu-preserved : goal.loop-cpu-preserved
 loop-cpu-preserved g c = λ i f h.
-    below-more (λ k. keeps_commit i c.args.call.now k (f.cpu k)) c.loop-cpu.cpu (c.loop-cpu.cpu + 1) (omega arith) (c.loop-cpu.invariant i f h) (sym (c.keeps_commit.ensures i f h) ∙ c.if-keeps_commit.false)
+    below_more (λ k. keeps_commit i c.args.call.now k (f.cpu k)) c.loop-cpu.cpu (c.loop-cpu.cpu + 1) (omega arith) (c.loop-cpu.invariant i f h) (sym (c.keeps_commit.ensures i f h) ∙ c.if-keeps_commit.false)

@@ -7,37 +7,37 @@ use Rattle.jh_history.specs.Access.{with_slot}
 use Rattle.jh_history.specs.Devices.{specs_at}
 use Rattle.jh_history.specs.Endpoints.{endpoints_changed, with_words, MayJoinThem}
 use Rattle.jh_history.specs.PlainView.{last_byte}
-use Rattle.jh_history.proofs.DeviceLoopLemmas.{at-some, at-none, first, word_ends}
+use Rattle.jh_history.proofs.DeviceLoopLemmas.{at_some, at_none, first, word_ends}
 use Rattle.jh_history.proofs.plain.change_device.Goals as goal
 
 pub apply-requires-clause-new : goal.apply-requires-clause-new
 apply-requires-clause-new c = λ join.
-    let one = at-some c.args.config.now c.as_slice.result.now c.args.number _ c.endpoint_of.result c.in-Some.spec c.as_slice.ensures.value c.requires.number c.endpoint_of.ensures c.in-Some.is in
+    let one = at_some c.args.config.now c.as_slice.result.now c.args.number _ c.endpoint_of.result c.in-Some.spec c.as_slice.ensures.value c.requires.number c.endpoint_of.ensures c.in-Some.is in
     first (MayJoinThem c.args.endpoints.now.list) (specs_at c.args.config.now c.args.number) c.in-Some.spec one (c.requires.new join)
 
 pub write_slot-requires : goal.write_slot-requires
 write_slot-requires c =
-    let one = at-some c.args.config.now c.as_slice.result.now c.args.number _ c.endpoint_of.result c.in-Some.spec c.as_slice.ensures.value c.requires.number c.endpoint_of.ensures c.in-Some.is in
+    let one = at_some c.args.config.now c.as_slice.result.now c.args.number _ c.endpoint_of.result c.in-Some.spec c.as_slice.ensures.value c.requires.number c.endpoint_of.ensures c.in-Some.is in
     word_ends c.in-Some.spec c.in_ok-slot-in-Some.slot (first IsWithin (specs_at c.args.config.now c.args.number) c.in-Some.spec one c.requires.within) c.in_ok-slot-in-Some.ensures.slot
 
 pub returns-in_ok-write_slot-in-Some-clause-bytes : goal.returns-in_ok-write_slot-in-Some-clause-bytes
 returns-in_ok-write_slot-in-Some-clause-bytes c = λ image q.
-    let one = at-some c.args.config.now c.as_slice.result.now c.args.number _ c.endpoint_of.result c.in-Some.spec c.as_slice.ensures.value c.requires.number c.endpoint_of.ensures c.in-Some.is in
+    let one = at_some c.args.config.now c.as_slice.result.now c.args.number _ c.endpoint_of.result c.in-Some.spec c.as_slice.ensures.value c.requires.number c.endpoint_of.ensures c.in-Some.is in
     c.in_ok-write_slot-in-Some.ensures image q
     ∙ ap (λ (s : Slot). with_slot s (last_byte image c.args.bytes.now.items) q) c.in_ok-slot-in-Some.ensures.slot
     ∙ ap (λ (specs : List EndpointSpec). with_words specs (last_byte image c.args.bytes.now.items) q) (sym one)
 
 pub returns-in_ok-write_slot-in-Some-clause-endpoints : goal.returns-in_ok-write_slot-in-Some-clause-endpoints
 returns-in_ok-write_slot-in-Some-clause-endpoints c =
-    let one = at-some c.args.config.now c.as_slice.result.now c.args.number _ c.endpoint_of.result c.in-Some.spec c.as_slice.ensures.value c.requires.number c.endpoint_of.ensures c.in-Some.is in
+    let one = at_some c.args.config.now c.as_slice.result.now c.args.number _ c.endpoint_of.result c.in-Some.spec c.as_slice.ensures.value c.requires.number c.endpoint_of.ensures c.in-Some.is in
     c.in_ok-slot-in-Some.ensures.ok ∙ ap (λ (specs : List EndpointSpec). endpoints_changed c.args.change specs c.args.endpoints.now.list) (sym one)
 
 pub returns-in-None-clause-bytes : goal.returns-in-None-clause-bytes
 returns-in-None-clause-bytes c = λ image q.
-    let none = at-none c.args.config.now c.as_slice.result.now c.args.number _ c.endpoint_of.result c.as_slice.ensures.value c.requires.number c.endpoint_of.ensures c.in-None.is in
+    let none = at_none c.args.config.now c.as_slice.result.now c.args.number _ c.endpoint_of.result c.as_slice.ensures.value c.requires.number c.endpoint_of.ensures c.in-None.is in
     ap (λ (specs : List EndpointSpec). with_words specs (last_byte image c.args.bytes.now.items) q) (sym none)
 
 pub returns-in-None-clause-endpoints : goal.returns-in-None-clause-endpoints
 returns-in-None-clause-endpoints c =
-    let none = at-none c.args.config.now c.as_slice.result.now c.args.number _ c.endpoint_of.result c.as_slice.ensures.value c.requires.number c.endpoint_of.ensures c.in-None.is in
+    let none = at_none c.args.config.now c.as_slice.result.now c.args.number _ c.endpoint_of.result c.as_slice.ensures.value c.requires.number c.endpoint_of.ensures c.in-None.is in
     ap (λ (specs : List EndpointSpec). endpoints_changed c.args.change specs c.args.endpoints.now.list) (sym none)

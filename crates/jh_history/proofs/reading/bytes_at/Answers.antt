@@ -2,7 +2,7 @@
 use Rattle.std.proofs.Common.{◌≡◌, ℕ, ◌+◌, ◌-◌, ◌≤◌, ◌++◌, List, Option, Some, None, Bool, cond, ap, sym, ◌∙◌, arith}
 use Rattle.std.specs.Prelude.{option_map}
 use Rattle.jh_history.specs.ReadView.{bytes_by}
-use Rattle.jh_history.proofs.ReadLemmas.{bytes_by-row, bytes_by-no_row}
+use Rattle.jh_history.proofs.ReadLemmas.{bytes_by_row, bytes_by_no_row}
 use Rattle.jh_history.proofs.reading.bytes_at.Goals as goal
 
 pub returns-then-not-branch : goal.returns-then-not-branch
@@ -17,7 +17,7 @@ returns-then-not-branch g c =
     let within : k + c.in_page-here.result ≤ c.args.count = omega arith in
     let lacks : option_map (λ (bs : List ℕ). old ++ bs) (bytes_by byte c.loop-next.next c.in_page-here.result) ≡ None =
     c.in_ok-append.ensures ∙ ap (λ (b : Bool). cond b (Some c.append.new.bytes.items) None) c.if-not-branch.true in
-    sym (bytes_by-no_row byte c.args.at k c.in_page-here.result c.args.count old within (ap (λ (a : ℕ). option_map (λ (bs : List ℕ). old ++ bs) (bytes_by byte a c.in_page-here.result)) here ∙ lacks))
+    sym (bytes_by_no_row byte c.args.at k c.in_page-here.result c.args.count old within (ap (λ (a : ℕ). option_map (λ (bs : List ℕ). old ++ bs) (bytes_by byte a c.in_page-here.result)) here ∙ lacks))
 
 pub loop-next-preserved : goal.loop-next-preserved
 loop-next-preserved g c =
@@ -33,4 +33,4 @@ loop-next-preserved g c =
     let high : c.loop-next.next + c.from-in-loop-next.result ≤ c.args.at + c.from.result = omega arith in
     let whole : option_map (λ (bs : List ℕ). old ++ bs) (bytes_by byte c.loop-next.next c.in_page-here.result) ≡ Some c.append.new.bytes.items =
     c.in_ok-append.ensures ∙ ap (λ (b : Bool). cond b (Some c.append.new.bytes.items) None) c.if-not-branch.false in
-    (low, high, ap (bytes_by byte c.args.at) more ∙ bytes_by-row byte c.args.at k c.in_page-here.result old c.append.new.bytes.items c.loop-next.invariant.2 (ap (λ (a : ℕ). option_map (λ (bs : List ℕ). old ++ bs) (bytes_by byte a c.in_page-here.result)) here ∙ whole))
+    (low, high, ap (bytes_by byte c.args.at) more ∙ bytes_by_row byte c.args.at k c.in_page-here.result old c.append.new.bytes.items c.loop-next.invariant.2 (ap (λ (a : ℕ). option_map (λ (bs : List ℕ). old ++ bs) (bytes_by byte a c.in_page-here.result)) here ∙ whole))

@@ -1,5 +1,5 @@
 -- The bytes so far.
-use Rattle.std.proofs.Common.{◌≡◌, ℕ, ◌+◌, ◌-◌, ◌≤◌, Some}
+use Rattle.std.proofs.Common.{◌≡◌, ◌-◌, ◌≤◌, Some}
 use Rattle.jh_history.specs.ReadView.{bytes_by}
 use Rattle.jh_history.proofs.reading.bytes_at.Given as goal
 

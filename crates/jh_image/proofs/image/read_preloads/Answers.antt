@@ -6,7 +6,7 @@ use Rattle.jh_image.specs.Order.{ask_for, preload_name}
 use Rattle.jh_outside.specs.TrailLaws.{loop-more, loop-until}
 use Rattle.jh_image.specs.Causes.{OnRefused}
 use Rattle.jh_image.proofs.StopLemmas.{on_refused, passed_up}
-use Rattle.jh_image.proofs.LoadLemmas.{LoadedSoFar, loaded-start, loaded-more}
+use Rattle.jh_image.proofs.LoadLemmas.{LoadedSoFar, loaded_start, loaded_more}
 use Rattle.jh_image.proofs.image.read_preloads.Goals as goal
 
 pub loop-file-init : goal.loop-file-init
@@ -14,7 +14,7 @@ loop-file-init g c = record {
   kept = refl;
   rises = omega arith;
   asked = no_ask c.args.files.now;
-  so_far = rw c.new-preloads.ensures (loaded-start (g.F.Files.contents c.args.files.now) c.args.system.now.hypervisor_memory c.args.listing.now.preloads);
+  so_far = rw c.new-preloads.ensures (loaded_start (g.F.Files.contents c.args.files.now) c.args.system.now.hypervisor_memory c.args.listing.now.preloads);
 }
 
 pub loop-file-preserved : goal.loop-file-preserved
@@ -32,7 +32,7 @@ loop-file-preserved g c =
       kept = cc;
       rises = omega arith;
       asked = loop-more preload_name g.F.Files.asks g.F.Files.failed c.args.files.now c.loop-file.files c.next_preload.new.files listing.preloads i file lt is c.loop-file.invariant.asked c.in_ok-preload.ensures.asked;
-      so_far = subst (λ ps. LoadedSoFar contents hypervisor listing.preloads (i + 1) ps) (sym c.in_ok-push.ensures.ok) (loaded-more contents hypervisor listing.preloads i file c.loop-file.preloads c.in_ok-preload.preload lt is of fit c.loop-file.invariant.so_far);
+      so_far = subst (λ ps. LoadedSoFar contents hypervisor listing.preloads (i + 1) ps) (sym c.in_ok-push.ensures.ok) (loaded_more contents hypervisor listing.preloads i file c.loop-file.preloads c.in_ok-preload.preload lt is of fit c.loop-file.invariant.so_far);
     }
 
 pub returns-in_err-preload-clause-asked_until : goal.returns-in_err-preload-clause-asked_until

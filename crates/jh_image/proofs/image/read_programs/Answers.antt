@@ -2,11 +2,11 @@
 use Rattle.std.proofs.Common.{◌≡◌, ◌+◌, ◌<◌, ◌≤◌, length, get_or, refl, sym, subst, arith, map, [], ◌∷◌}
 use Rattle.std.proofs.lemmas.List.{take_all}
 use Rattle.jh_image.specs.Causes.{IsProgramUnread, OnRefused, StopsReading}
-use Rattle.jh_image.proofs.StopLemmas.{on_refused, program-stops, passed_up}
+use Rattle.jh_image.proofs.StopLemmas.{on_refused, program_stops, passed_up}
 use Rattle.jh_outside.specs.Trail.{Asks, no_ask, AsksAll, AsksUntil}
 use Rattle.jh_image.specs.Order.{ask_for, program_name}
 use Rattle.jh_outside.specs.TrailLaws.{loop-more, loop-until}
-use Rattle.jh_image.proofs.LoadLemmas.{ScriptsSoFar, scripts-start, scripts-more, scripts-next, scripts-owned}
+use Rattle.jh_image.proofs.LoadLemmas.{ScriptsSoFar, scripts_start, scripts_more, scripts_next, scripts_owned}
 use Rattle.jh_image.proofs.image.read_programs.Goals as goal
 
 pub loop-file-init : goal.loop-file-init
@@ -14,7 +14,7 @@ loop-file-init g c = record {
   kept = refl;
   rises = omega arith;
   asked = no_ask c.args.files.now;
-  so_far = rw c.new-programs.ensures (scripts-start (g.F.Files.contents c.args.files.now) c.args.listing.now.programs);
+  so_far = rw c.new-programs.ensures (scripts_start (g.F.Files.contents c.args.files.now) c.args.listing.now.programs);
 }
 
 pub returns-in_err-program-clause-err : goal.returns-in_err-program-clause-err
@@ -28,10 +28,10 @@ returns-in_err-program-clause-err g c =
     let file = c.file-item.result in
     let lt : i < length listing.programs = rw c.as_slice-entries.ensures.value at c.loop-file-test.true in
     let is : file ≡ get_or listing.programs i file = rw c.as_slice-entries.ensures.value at c.file-item.is in
-    let next = scripts-next contents board listing system preloads i file c.loop-file.programs c.requires.loaded lt is c.loop-file.invariant.so_far in
+    let next = scripts_next contents board listing system preloads i file c.loop-file.programs c.requires.loaded lt is c.loop-file.invariant.so_far in
     let unread = rw c.loop-file.invariant.kept at c.in_err-program.ensures.err in
     passed_up c.from_residual.result c.in_err-program.field-0.0 (λ e. OnRefused (StopsReading contents board) e) c.from_residual.ensures.1
-    (on_refused (IsProgramUnread contents file.file) (StopsReading contents board) c.in_err-program.field-0.0 (program-stops contents board listing system preloads c.loop-file.programs file next) unread)
+    (on_refused (IsProgramUnread contents file.file) (StopsReading contents board) c.in_err-program.field-0.0 (program_stops contents board listing system preloads c.loop-file.programs file next) unread)
 
 pub loop-file-preserved : goal.loop-file-preserved
 loop-file-preserved g c =
@@ -46,14 +46,14 @@ loop-file-preserved g c =
       kept = cc;
       rises = omega arith;
       asked = loop-more program_name g.F.Files.asks g.F.Files.failed c.args.files.now c.loop-file.files c.read_program_file.new.files listing.programs i file lt is c.loop-file.invariant.asked c.in_ok-program.ensures.asked;
-      so_far = subst (λ ps. ScriptsSoFar contents listing.programs (i + 1) ps) (sym c.in_ok-push.ensures.ok) (scripts-more contents listing.programs i file c.loop-file.programs c.in_ok-program.program lt is of c.in_ok-program.ensures.sound c.loop-file.invariant.so_far);
+      so_far = subst (λ ps. ScriptsSoFar contents listing.programs (i + 1) ps) (sym c.in_ok-push.ensures.ok) (scripts_more contents listing.programs i file c.loop-file.programs c.in_ok-program.program lt is of c.in_ok-program.ensures.sound c.loop-file.invariant.so_far);
     }
 
 pub returns-clause-owned : goal.returns-clause-owned
 returns-clause-owned g c =
     let listing = c.args.listing.now in
     let le : length listing.programs ≤ c.loop-file.file-index = rw c.as_slice-entries.ensures.value at c.loop-file-test.false in
-    scripts-owned (g.F.Files.contents c.args.files.now) listing.programs c.loop-file.file-index c.loop-file.programs le c.requires.distinct c.loop-file.invariant.so_far
+    scripts_owned (g.F.Files.contents c.args.files.now) listing.programs c.loop-file.file-index c.loop-file.programs le c.requires.distinct c.loop-file.invariant.so_far
 
 pub returns-in_err-program-clause-asked_until : goal.returns-in_err-program-clause-asked_until
 returns-in_err-program-clause-asked_until g c =

@@ -1,6 +1,6 @@
 -- The first stage at which one of the two stops is the other's, too.
-use Rattle.jh_image.proofs.CauseLemmas.{causes-one}
+use Rattle.jh_image.proofs.CauseLemmas.{causes_one}
 use Rattle.jh_image.proofs.laws.boards_have_one_cause.Goals as goal
 
 pub returns : goal.returns
-returns c = causes-one c.one_system_spelling.ensures c.system_has_no_fault.ensures
+returns c = causes_one c.one_system_spelling.ensures c.system_has_no_fault.ensures

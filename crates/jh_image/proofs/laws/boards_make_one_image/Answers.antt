@@ -1,6 +1,6 @@
 -- One file after another, in the order of reading.
-use Rattle.jh_image.proofs.OneLemmas.{image-one}
+use Rattle.jh_image.proofs.OneLemmas.{image_one}
 use Rattle.jh_image.proofs.laws.boards_make_one_image.Goals as goal
 
 pub returns : goal.returns
-returns c = image-one c.one_system_spelling.ensures
+returns c = image_one c.one_system_spelling.ensures

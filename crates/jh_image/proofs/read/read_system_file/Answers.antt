@@ -3,9 +3,9 @@ use Rattle.std.proofs.Common.{sym, subst, [], ◌∷◌}
 use Rattle.jh_outside.specs.Trail.{Asks}
 use Rattle.jh_image.specs.declared.fault.ImageCause.TheVariants.{System}
 use Rattle.jh_image.specs.Order.{ask_for}
-use Rattle.jh_image.specs.Images.{Comes, the_system}
+use Rattle.jh_image.specs.Images.{IsNextFile, the_system}
 use Rattle.jh_image.specs.Causes.{HandsOutNothing, OnRefused, StopsReading}
-use Rattle.jh_image.proofs.StopLemmas.{on_refusal, on_refused, unread-stops, passed_up}
+use Rattle.jh_image.proofs.StopLemmas.{on_refusal, on_refused, unread_stops, passed_up}
 use Rattle.jh_image.proofs.read.read_system_file.Goals as goal
 
 pub returns-clause-asked_until : goal.returns-clause-asked_until
@@ -19,6 +19,6 @@ returns-in_err-bytes-clause-err g c =
     let contents = g.F.Files.contents c.args.files.now in
     let board = c.args.board.now in
     let name = c.as_str-name.result.now in
-    let comes : Comes contents board name = subst (λ n. Comes contents board n) (sym c.as_str-name.ensures) (the_system c.args.listing.now c.requires) in
+    let comes : IsNextFile contents board name = subst (λ n. IsNextFile contents board n) (sym c.as_str-name.ensures) (the_system c.args.listing.now c.requires) in
     passed_up c.from_residual.result c.in_err-bytes.field-0.0 (λ e. OnRefused (StopsReading contents board) e) c.from_residual.ensures.1
-    (on_refused (HandsOutNothing contents name) (StopsReading contents board) c.in_err-bytes.field-0.0 (unread-stops contents board name comes) c.in_err-bytes.ensures.err)
+    (on_refused (HandsOutNothing contents name) (StopsReading contents board) c.in_err-bytes.field-0.0 (unread_stops contents board name comes) c.in_err-bytes.ensures.err)

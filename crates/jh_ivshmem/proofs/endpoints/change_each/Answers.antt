@@ -2,7 +2,7 @@ use Rattle.std.proofs.Common.{◌<◌, ◌≤◌, length, arith, sym, ◌∙◌,
 use Rattle.std.proofs.lemmas.List.{length-map}
 use Rattle.jh_ivshmem.specs.Keys.{key_of, IsSound}
 use Rattle.jh_ivshmem.proofs.LoopLemmas.{step_meant, step_other, at_end, sound_at, meant_at}
-use Rattle.jh_ivshmem.proofs.ChangeLemmas.{after-sound}
+use Rattle.jh_ivshmem.proofs.ChangeLemmas.{after_sound}
 use Rattle.jh_ivshmem.proofs.endpoints.change_each.Goals as goal
 use Rattle.jh_ivshmem.proofs.endpoints.change_each.Goals.{then-is_meant, else-is_meant}
 
@@ -18,7 +18,7 @@ of-requires c =
     ) in
     record {
       sound = subst IsSound (sym c.apply.ensures)
-          (after-sound c.args.change c.index_mut-endpoint.result.now
+          (after_sound c.args.change c.index_mut-endpoint.result.now
           (sound_at c.loop-i.endpoints.items c.loop-i.keys.items c.loop-i.i c.index_mut-endpoint.result.now
           c.loop-i.invariant.0.kept inside c.index_mut-endpoint.ensures.value));
     }

@@ -2,7 +2,7 @@
 use Rattle.std.proofs.Common.{◌∙◌, position, set, sym, ap, subst}
 use Rattle.jh_ivshmem.specs.declared.change.Whom.TheVariants.{Device}
 use Rattle.jh_ivshmem.specs.Keys.{AreInOrder, IsSound, key_of, is_key_meant}
-use Rattle.jh_ivshmem.proofs.ChangeLemmas.{after-sound}
+use Rattle.jh_ivshmem.proofs.ChangeLemmas.{after_sound}
 use Rattle.jh_ivshmem.proofs.LoopLemmas.{device_at, change_found, change_none, sound_at}
 use Rattle.jh_ivshmem.proofs.OrderLemmas.{keys_in_order}
 use Rattle.jh_ivshmem.proofs.endpoints.change_one.Goals as goal
@@ -20,7 +20,7 @@ of-requires c =
     let at = device_at c.args.cell c.args.device es ks c.in-Some.i e c.requires.kept is c.index_mut-endpoint.ensures.value in
     record {
       sound = subst IsSound (sym c.apply.ensures)
-          (after-sound c.args.change e (sound_at es ks c.in-Some.i e c.requires.kept at.0 c.index_mut-endpoint.ensures.value));
+          (after_sound c.args.change e (sound_at es ks c.in-Some.i e c.requires.kept at.0 c.index_mut-endpoint.ensures.value));
     }
 
 pub returns-in-Some-clause-list : goal.returns-in-Some-clause-list

@@ -4,14 +4,14 @@ use Rattle.jh_ivshmem.specs.Specs.{is_peer, AreApart}
 use Rattle.jh_ivshmem.specs.Endpoint.{raised}
 use Rattle.jh_ivshmem.specs.Seen.{Seen}
 use Rattle.jh_ivshmem.proofs.ApartLemmas.{single, peers_apart}
-use Rattle.jh_ivshmem.proofs.LawLemmas.{stays-at, meant-at}
+use Rattle.jh_ivshmem.proofs.LawLemmas.{stays_at, meant_at}
 use Rattle.jh_ivshmem.proofs.laws.a_doorbell_reaches_one_endpoint.Goals as goal
 
 pub returns-clause-target : goal.returns-clause-target
-returns-clause-target c = λ bdf target v k d within here. meant-at (is_peer bdf target) (raised v) c.args._links.now.list k d within here
+returns-clause-target c = λ bdf target v k d within here. meant_at (is_peer bdf target) (raised v) c.args._links.now.list k d within here
 
 pub returns-clause-others : goal.returns-clause-others
-returns-clause-others c = λ bdf target v k d within other. stays-at (is_peer bdf target) (raised v) c.args._links.now.list k d within other
+returns-clause-others c = λ bdf target v k d within other. stays_at (is_peer bdf target) (raised v) c.args._links.now.list k d within other
 
 pub returns-clause-one : goal.returns-clause-one
 returns-clause-one c = λ bdf target i k d within inside other here.

@@ -1,5 +1,5 @@
-use Rattle.jh_ivshmem.proofs.LawLemmas.{written-keeps_pending}
+use Rattle.jh_ivshmem.proofs.LawLemmas.{written_keeps_pending}
 use Rattle.jh_ivshmem.proofs.laws.a_pending_vector_stays_over_writes.Goals as goal
 
 pub returns : goal.returns
-returns c = written-keeps_pending
+returns c = written_keeps_pending

@@ -9,7 +9,7 @@ use Rattle.jh_ivshmem.specs.Specs.{is_device, AreApart}
 use Rattle.jh_ivshmem.specs.Changes.{changed}
 use Rattle.jh_ivshmem.specs.Links.{written, told_of, endpoint_at}
 use Rattle.jh_ivshmem.specs.Seen.{Seen}
-use Rattle.jh_ivshmem.proofs.ApartLemmas.{set-device}
+use Rattle.jh_ivshmem.proofs.ApartLemmas.{set_device}
 use Rattle.jh_ivshmem.proofs.laws.the_same_state_changes_nothing.Goals as goal
 
 same_number : (n : ℕ) → (n == n) ≡ true
@@ -28,7 +28,7 @@ itself cell device list e apart named =
     let within = slice_get_within list (position_or_len (λ (o : Endpoint). is_device cell device o.spec) list) e there in
     let read = sym (get_or_from_slice_get list (position_or_len (λ (o : Endpoint). is_device cell device o.spec) list) e e there) in
     let own : is_device e.spec.cell e.spec.device e.spec ≡ true = rw (same_number e.spec.cell, same_number e.spec.device) refl in
-    sym (set-device e.spec.cell e.spec.device (λ (o : Endpoint). record o { state = e.state }) list
+    sym (set_device e.spec.cell e.spec.device (λ (o : Endpoint). record o { state = e.state }) list
     (position_or_len (λ (o : Endpoint). is_device cell device o.spec) list) e apart within read own)
     ∙ ap (λ (o : Endpoint). set list (position_or_len (λ (o : Endpoint). is_device cell device o.spec) list) o) read
     ∙ set-get_or list (position_or_len (λ (o : Endpoint). is_device cell device o.spec) list) e

@@ -1,6 +1,6 @@
 -- What is expected in the phase behind an act, until the caller's next entry.
-use Rattle.jh_laws.proofs.CallLemmas.{follows-begun}
+use Rattle.jh_laws.proofs.CallLemmas.{follows_begun}
 use Rattle.jh_laws.proofs.calls.calls_go_phase_by_phase.Goals as goal
 
 pub returns : goal.returns
-returns c = follows-begun
+returns c = follows_begun

@@ -1,6 +1,6 @@
 -- In each phase the caller, or one that it waits for, has something due.
-use Rattle.jh_laws.proofs.QuietLemmas.{quiet-closed}
+use Rattle.jh_laws.proofs.QuietLemmas.{quiet_closed}
 use Rattle.jh_laws.proofs.calls.quiet_journals_have_no_open_call.Goals as goal
 
 pub returns : goal.returns
-returns c = λ j quiet. quiet-closed j.image j.entries j.admitted j.legal quiet
+returns c = λ j quiet. quiet_closed j.image j.entries j.admitted j.legal quiet

@@ -1,6 +1,6 @@
 -- The phase keeps the configuration.
-use Rattle.jh_laws.proofs.CommitLemmas.{created-as_read}
+use Rattle.jh_laws.proofs.CommitLemmas.{created_as_read}
 use Rattle.jh_laws.proofs.commits.configurations_are_read_at_the_decide.Goals as goal
 
 pub returns : goal.returns
-returns c = created-as_read
+returns c = created_as_read

@@ -1,9 +1,9 @@
 -- What is written is granted, and a place that is held is granted to few.
-use Rattle.jh_laws.proofs.PlacesHeldLemmas.{held-at, page-at}
+use Rattle.jh_laws.proofs.PlacesHeldLemmas.{held_at, page_at}
 use Rattle.jh_laws.proofs.held.what_a_cell_holds_is_its_own.Goals as goal
 
 pub returns-clause-memory : goal.returns-clause-memory
-returns-clause-memory c = λ m live number region place held changed. held-at m.image m.before m.rest m.entry live number region place m.admitted m.legal held changed
+returns-clause-memory c = λ m live number region place held changed. held_at m.image m.before m.rest m.entry live number region place m.admitted m.legal held changed
 
 pub returns-clause-pages : goal.returns-clause-pages
-returns-clause-pages c = λ m cell offset changed. page-at m.image m.before m.rest m.entry cell offset m.admitted m.legal changed
+returns-clause-pages c = λ m cell offset changed. page_at m.image m.before m.rest m.entry cell offset m.admitted m.legal changed

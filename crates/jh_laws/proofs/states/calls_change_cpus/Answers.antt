@@ -1,15 +1,15 @@
 -- By the call that was begun.
-use Rattle.jh_laws.proofs.StatesLemmas.{begin-cpus, settle-cpus, commit-cpus, finish-cpus}
+use Rattle.jh_laws.proofs.StatesLemmas.{begin_cpus, settle_cpus, commit_cpus, finish_cpus}
 use Rattle.jh_laws.proofs.states.calls_change_cpus.Goals as goal
 
 pub returns-clause-begin : goal.returns-clause-begin
-returns-clause-begin c = λ m code a b cpu act. begin-cpus m.image m.before m.entry code a b cpu act
+returns-clause-begin c = λ m code a b cpu act. begin_cpus m.image m.before m.entry code a b cpu act
 
 pub returns-clause-settle : goal.returns-clause-settle
-returns-clause-settle c = λ m first cpu agreed is. settle-cpus m.image m.before m.rest m.entry first cpu m.admitted m.legal agreed is
+returns-clause-settle c = λ m first cpu agreed is. settle_cpus m.image m.before m.rest m.entry first cpu m.admitted m.legal agreed is
 
 pub returns-clause-commit : goal.returns-clause-commit
-returns-clause-commit c = λ m first cpu act is. commit-cpus m.image m.before m.rest m.entry first cpu m.admitted m.legal act is
+returns-clause-commit c = λ m first cpu act is. commit_cpus m.image m.before m.rest m.entry first cpu m.admitted m.legal act is
 
 pub returns-clause-finish : goal.returns-clause-finish
-returns-clause-finish c = λ m answer cpu act. finish-cpus m.image m.before m.rest m.entry answer cpu m.admitted m.legal act
+returns-clause-finish c = λ m answer cpu act. finish_cpus m.image m.before m.rest m.entry answer cpu m.admitted m.legal act

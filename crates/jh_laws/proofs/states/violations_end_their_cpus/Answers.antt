@@ -1,13 +1,13 @@
 -- A CPU that has failed is never ready, and a violation is no write that succeeds.
 use Rattle.jh_laws.specs.Moments.{facts_before}
-use Rattle.jh_laws.proofs.FailedLemmas.{failing-of, failed-rests, memory-kept}
+use Rattle.jh_laws.proofs.FailedLemmas.{failing_of, failed_rests, memory_kept}
 use Rattle.jh_laws.proofs.states.violations_end_their_cpus.Goals as goal
 
 pub returns-clause-rests : goal.returns-clause-rests
-returns-clause-rests c = failed-rests
+returns-clause-rests c = failed_rests
 
 pub returns-clause-state : goal.returns-clause-state
-returns-clause-state c = λ m violates. failing-of m.image (facts_before m) m.entry m.entry.act violates
+returns-clause-state c = λ m violates. failing_of m.image (facts_before m) m.entry m.entry.act violates
 
 pub returns-clause-memory : goal.returns-clause-memory
-returns-clause-memory c = λ m place violates. memory-kept m.image m.before m.entry place violates
+returns-clause-memory c = λ m place violates. memory_kept m.image m.before m.entry place violates

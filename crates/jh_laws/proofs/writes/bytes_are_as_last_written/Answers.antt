@@ -3,15 +3,15 @@ use Rattle.std.proofs.Common.{[], ◌∷◌, ◌++◌, List, ap, sym, subst, ◌
 use Rattle.jh_history.specs.declared.entry.Entry.{Entry}
 use Rattle.jh_history.specs.Facts.{Facts}
 use Rattle.jh_history.specs.Due.{IsLegal}
-use Rattle.jh_history.proofs.FactsLemmas.{facts-nil}
-use Rattle.jh_laws.proofs.WrittenLemmas.{entry-writes, rest-keeps}
+use Rattle.jh_history.proofs.FactsLemmas.{facts_nil}
+use Rattle.jh_laws.proofs.WrittenLemmas.{entry_writes, rest_keeps}
 use Rattle.jh_laws.proofs.writes.bytes_are_as_last_written.Goals as goal
 
 pub returns-clause-last : goal.returns-clause-last
 returns-clause-last c = λ m place byte h none.
     let P : List Entry → Type 0 = IsLegal m.image in
-    rest-keeps m.image (m.before ++ m.entry ∷ []) m.rest place m.admitted (subst P (sym (append_assoc m.before (m.entry ∷ []) m.rest)) m.legal) none
-    ∙ entry-writes m.image m.before m.rest m.entry place byte m.admitted m.legal h
+    rest_keeps m.image (m.before ++ m.entry ∷ []) m.rest place m.admitted (subst P (sym (append_assoc m.before (m.entry ∷ []) m.rest)) m.legal) none
+    ∙ entry_writes m.image m.before m.rest m.entry place byte m.admitted m.legal h
 
 pub returns-clause-opening : goal.returns-clause-opening
-returns-clause-opening c = λ j place none. rest-keeps j.image [] j.entries place j.admitted j.legal none ∙ ap (λ (f : Facts). f.byte place) (facts-nil j.image)
+returns-clause-opening c = λ j place none. rest_keeps j.image [] j.entries place j.admitted j.legal none ∙ ap (λ (f : Facts). f.byte place) (facts_nil j.image)

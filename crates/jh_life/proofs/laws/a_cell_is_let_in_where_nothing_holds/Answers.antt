@@ -12,9 +12,9 @@ use Rattle.jh_life.specs.Verdict.{may_have}
 use Rattle.jh_life.proofs.laws.a_cell_is_let_in_where_nothing_holds.Goals as goal
 
 -- what is refused for a lock, or else for what is told
-let-in : (locked : Bool) (refusal : Option ℤ) (P : Type 0) → ((refusal ≡ None) ↔ P) → ((if locked then Some EPERM else refusal) ≡ None) ↔ ((locked ≡ false) × P)
-let-in true refusal P same = (λ e. absurd (none-some EPERM (sym e)), λ both. absurd (false≢true (sym both.0)))
-let-in false refusal P same = (λ e. (refl, same.0 e), λ both. same.1 both.1)
+let_in : (locked : Bool) (refusal : Option ℤ) (P : Type 0) → ((refusal ≡ None) ↔ P) → ((if locked then Some EPERM else refusal) ≡ None) ↔ ((locked ≡ false) × P)
+let_in true refusal P same = (λ e. absurd (none-some EPERM (sym e)), λ both. absurd (false≢true (sym both.0)))
+let_in false refusal P same = (λ e. (refl, same.0 e), λ both. same.1 both.1)
 
 -- nothing of a refusal holds exactly where the cell is accepted
 abbrev IsTold : CellConfig → ℕ → ℕ → ℕ → ℕ → SystemConfig → List CellConfig → Type 0
@@ -26,7 +26,7 @@ returns c = λ locked owned caller pool.
     let new = c.args.new.now in
     let live = configs_of seen.lives in
     let pages : ℕ = pages_of seen.system.root.memory_regions (live ++ new ∷ []) in
-    let-in locked (refusal_of seen.system live new (may_have owned caller) pages pool) (IsAccepted seen.system live new (may_have owned caller) pages pool)
+    let_in locked (refusal_of seen.system live new (may_have owned caller) pages pool) (IsAccepted seen.system live new (may_have owned caller) pages pool)
     (subst (λ (s : SystemConfig). IsTold new owned caller pages pool s live) c.system.ensures
     (subst (λ (l : List CellConfig). IsTold new owned caller pages pool c.system.result.now l) c.list.ensures.value
     (c.nothing_is_refused_that_is_accepted.ensures (may_have owned caller) pages pool)))

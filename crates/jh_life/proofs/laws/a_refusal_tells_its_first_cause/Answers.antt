@@ -1,7 +1,7 @@
 use Rattle.std.proofs.Common.{Some, ap, sym, ◌∙◌}
-use Rattle.jh_life.proofs.CauseLemmas.{cause-from, cause-to}
+use Rattle.jh_life.proofs.CauseLemmas.{cause_from, cause_to}
 use Rattle.jh_life.proofs.laws.a_refusal_tells_its_first_cause.Goals as goal
 
 pub returns : goal.returns
 returns c = λ seen create number.
-    (cause-from seen create number, λ r. cause-to seen create r.0 r.1 ∙ sym (ap (λ n. Some n) r.2))
+    (cause_from seen create number, λ r. cause_to seen create r.0 r.1 ∙ sym (ap (λ n. Some n) r.2))

@@ -3,7 +3,7 @@ use Rattle.std.proofs.lemmas.Bool.{cases_lt, and_left}
 use Rattle.std.proofs.lemmas.List.{get_or-set_same, get_or-set_other, length-set, length-replicate}
 use Rattle.jh_shape.specs.Claims.{has_bit}
 use Rattle.jh_life.specs.Verdict.{may_have}
-use Rattle.jh_life.proofs.MarkLemmas.{past-end, high-bit, so-far}
+use Rattle.jh_life.proofs.MarkLemmas.{past_end, high_bit, so_far}
 use Rattle.jh_life.proofs.marks.free_cpus.Goals as goal
 
 pub loop-cpu-init : goal.loop-cpu-init
@@ -15,7 +15,7 @@ loop-cpu-preserved c =
     let cpu = c.loop-cpu.cpu in
     let len : length free ≡ 16 = c.loop-cpu.invariant.0 in (
       length-set free cpu c.is_free.result ∙ len,
-      so-far (λ k. get_or (set free cpu c.is_free.result) k false) (λ k. may_have c.args.owned c.args.caller k) cpu
+      so_far (λ k. get_or (set free cpu c.is_free.result) k false) (λ k. may_have c.args.owned c.args.caller k) cpu
           (λ k l. get_or-set_other free cpu k c.is_free.result false (λ (e : k ≡ cpu). omega arith) ∙ c.loop-cpu.invariant.1 k l)
           (get_or-set_same free cpu c.is_free.result false (omega arith) ∙ c.is_free.ensures),
     )
@@ -27,5 +27,5 @@ returns c = λ k.
     (λ (low : k < c.loop-cpu.cpu). c.loop-cpu.invariant.1 k low)
     (λ (high : c.loop-cpu.cpu ≤ k).
     let small : c.args.owned < 2 ^ 16 = c.ranges.owned.fits in
-    past-end c.loop-cpu.free k (omega arith) ∙ sym (and_left (has_bit c.args.owned k) (not (k == c.args.caller)) (high-bit c.args.owned k small (omega arith))))
+    past_end c.loop-cpu.free k (omega arith) ∙ sym (and_left (has_bit c.args.owned k) (not (k == c.args.caller)) (high_bit c.args.owned k small (omega arith))))
     (cases_lt k c.loop-cpu.cpu)

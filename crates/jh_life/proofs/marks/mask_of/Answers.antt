@@ -1,11 +1,11 @@
 use Rattle.std.proofs.Common.{◌≡◌, ◌<◌, ◌≤◌, false, get_or, sym, ◌∙◌, ⊎_elim, arith}
 use Rattle.std.proofs.lemmas.Bool.{cases_lt}
 use Rattle.jh_shape.specs.Claims.{has_bit}
-use Rattle.jh_life.proofs.MarkLemmas.{no-bit, past-end, so-far}
+use Rattle.jh_life.proofs.MarkLemmas.{no_bit, past_end, so_far}
 use Rattle.jh_life.proofs.marks.mask_of.Goals as goal
 
 pub loop-i-init : goal.loop-i-init
-loop-i-init c = (λ k l. absurd (omega arith), λ k l. no-bit k)
+loop-i-init c = (λ k l. absurd (omega arith), λ k l. no_bit k)
 
 pub with_bit-mask-requires-clause-unset : goal.with_bit-mask-requires-clause-unset
 with_bit-mask-requires-clause-unset c = c.loop-i.invariant.1 c.loop-i.i (omega arith)
@@ -14,7 +14,7 @@ pub loop-i-preserved : goal.loop-i-preserved
 loop-i-preserved c =
     let i = c.loop-i.i in
     let others = c.with_bit-mask.ensures.others in (
-      so-far (λ k. has_bit c.with_bit-mask.result k) (λ k. get_or c.args.marks.now k false) i
+      so_far (λ k. has_bit c.with_bit-mask.result k) (λ k. get_or c.args.marks.now k false) i
           (λ k l. others k (λ (e : k ≡ i). omega arith) ∙ c.loop-i.invariant.0 k l)
           c.with_bit-mask.ensures.here,
       λ k l. others k (λ (e : k ≡ i). omega arith) ∙ c.loop-i.invariant.1 k (omega arith),
@@ -24,5 +24,5 @@ pub returns : goal.returns
 returns c = λ k.
     ⊎_elim
     (λ (low : k < c.loop-i.i). c.loop-i.invariant.0 k low)
-    (λ (high : c.loop-i.i ≤ k). c.loop-i.invariant.1 k high ∙ sym (past-end c.args.marks.now k (omega arith)))
+    (λ (high : c.loop-i.i ≤ k). c.loop-i.invariant.1 k high ∙ sym (past_end c.args.marks.now k (omega arith)))
     (cases_lt k c.loop-i.i)

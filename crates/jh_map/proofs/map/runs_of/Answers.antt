@@ -1,11 +1,11 @@
 -- A communication region is one run; of any other the open places are the runs.
-use Rattle.std.proofs.Common.{◌≡◌, ℕ, ◌<◌, ◌≤◌, List, [], ◌∷◌, map, sym, ap, ◌∙◌, subst, arith}
+use Rattle.std.proofs.Common.{◌≤◌, List, [], ◌∷◌, map, sym, ap, ◌∙◌, subst, arith}
 use Rattle.std.specs.Prelude.{All}
 use Rattle.jh_num.specs.declared.range.Range.{Range}
 use Rattle.jh_cellcfg.specs.Regions.{phys_end}
 use Rattle.jh_map.specs.declared.run.Run.{Run}
 use Rattle.jh_map.specs.Maps.{IsMap}
-use Rattle.jh_map.specs.Places.{run_to}
+use Rattle.jh_map.specs.Private.Places.{run_to}
 use Rattle.jh_map.proofs.RunLemmas.{whole_map, own_ranges, left_from, ranges_map}
 use Rattle.jh_map.proofs.map.runs_of.Goals as goal
 

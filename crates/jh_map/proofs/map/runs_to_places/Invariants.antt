@@ -1,6 +1,6 @@
 -- A run of each range so far.
 use Rattle.std.proofs.Common.{◌≡◌, map, take}
-use Rattle.jh_map.specs.Places.{run_to}
+use Rattle.jh_map.specs.Private.Places.{run_to}
 use Rattle.jh_map.proofs.map.runs_to_places.Given as goal
 
 abbrev pub invariant-loop-places : goal.invariant-loop-places

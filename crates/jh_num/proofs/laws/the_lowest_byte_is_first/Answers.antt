@@ -1,5 +1,5 @@
-use Rattle.jh_num.proofs.MemoryLemmas.{spelled-little_endian}
+use Rattle.jh_num.proofs.MemoryLemmas.{spelled_little_endian}
 use Rattle.jh_num.proofs.laws.the_lowest_byte_is_first.Goals as goal
 
 pub returns : goal.returns
-returns c = spelled-little_endian
+returns c = spelled_little_endian

@@ -1,5 +1,5 @@
 -- The CPUs of an admitted board: there are some, and they differ.
-use Rattle.std.proofs.Common.{◌≡◌, ℕ, List, refl}
+use Rattle.std.proofs.Common.{ℕ, List, refl}
 use Rattle.jh_history.specs.Items.{cpus_of}
 use Rattle.jh_check.specs.Clean.{IsSoundBitmap, IsSoundCpuSet}
 use Rattle.jh_run.proofs.CallerLemmas.{some_contained, differ_rising}

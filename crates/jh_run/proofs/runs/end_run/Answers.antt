@@ -1,9 +1,8 @@
 -- What the port has seen that tells how the run ended is the beginning of the whole journal.
-use Rattle.std.proofs.Common.{◌≡◌, ap, sym, subst}
 use Rattle.std.proofs.lemmas.List.Elements.{All-contains}
 use mathlib.Core.List.{IsPrefix}
 use Rattle.jh_turn.specs.Ports.{opened_value, seen_by}
-use Rattle.jh_run.specs.Drives.{stop_of, end_stop, ExplainsStop}
+use Rattle.jh_run.specs.Drives.{stop_of}
 use Rattle.jh_run.specs.Running.{origin_of}
 use Rattle.jh_run.proofs.WholeLemmas.{board_of, board_legal, board_tells, quiet_exactly, full_exactly}
 use Rattle.jh_run.proofs.runs.end_run.Goals as goal

@@ -1,5 +1,5 @@
 -- Both names are printable.
-use Rattle.std.proofs.Common.{◌≡◌, [], ◌∷◌, ◌++◌, ◌∙◌, refl}
+use Rattle.std.proofs.Common.{[], ◌∷◌, ◌++◌, ◌∙◌, refl}
 use Rattle.jh_cellcfg.specs.Limits.{is_name}
 use Rattle.jh_run.specs.Soak.{cell_a, cell_b}
 use Rattle.jh_run.proofs.soak.preloads.Goals as goal

@@ -1,8 +1,7 @@
 -- Each worker's port is put behind the others.
-use Rattle.std.proofs.Common.{◌≡◌, ℕ, ◌<◌, ◌++◌, ◌∷◌, [], List, length, map, Contains, refl, sym, ap, subst, ◌∙◌, arith, append-nil}
+use Rattle.std.proofs.Common.{◌≡◌, ◌++◌, refl, sym, ap, ◌∙◌, arith, append-nil}
 use Rattle.std.proofs.lemmas.List.{nil_from_length}
-use Rattle.jh_turn.specs.Ports.{port_caller}
-use Rattle.jh_run.proofs.SpreadLemmas.{Gathering, gather-start, gather-next, port_of-same, All-at, split-next, split-more, split-few}
+use Rattle.jh_run.proofs.SpreadLemmas.{gather-start, gather-next, port_of-same, All_at, split_next, split_more, split_few}
 use Rattle.jh_run.proofs.workers.gather.Goals as goal
 
 pub loop-child-init : goal.loop-child-init
@@ -16,7 +15,7 @@ loop-child-init g c = record {
 
 pub push_reserved-requires : goal.push_reserved-requires
 push_reserved-requires g c =
-    let few = split-few c.args.children.items c.loop-child.yielded c.loop-child.child-iterator.rest.items c.next.new.self.rest.items c.in-Some.child c.loop-child.invariant.left c.in-Some.ensures.steps.0 in
+    let few = split_few c.args.children.items c.loop-child.yielded c.loop-child.child-iterator.rest.items c.next.new.self.rest.items c.in-Some.child c.loop-child.invariant.left c.in-Some.ensures.steps.0 in
     let count = c.loop-child.invariant.gathered.count in
     let room = c.loop-child.invariant.room in
     let enough = c.requires.room in
@@ -27,13 +26,13 @@ pub loop-child-preserved : goal.loop-child-preserved
 loop-child-preserved g c =
     let steps = c.in-Some.ensures.steps.0 in
     let left = c.loop-child.invariant.left in
-    let split = split-next c.args.children.items c.loop-child.yielded c.loop-child.child-iterator.rest.items c.next.new.self.rest.items c.in-Some.child left steps in
-    let given = All-at (λ child. child.promise.shared.now ≡ c.args.shared.now) c.loop-child.yielded c.next.new.self.rest.items c.args.children.items c.in-Some.child split c.requires.given in
+    let split = split_next c.args.children.items c.loop-child.yielded c.loop-child.child-iterator.rest.items c.next.new.self.rest.items c.in-Some.child left steps in
+    let given = All_at (λ child. child.promise.shared.now ≡ c.args.shared.now) c.loop-child.yielded c.next.new.self.rest.items c.args.children.items c.in-Some.child split c.requires.given in
     let own = port_of-same c.in-Some.child.promise.shared.now c.args.shared.now c.join.result given c.join.ensures.0 in record {
       next = tt;
       finite = tt;
       gathered = rw c.push_reserved.ensures.items (gather-next c.args.shared.now (λ child. child.promise.caller) c.args.own.now.items c.loop-child.own.items c.loop-child.yielded c.in-Some.child c.join.result c.loop-child.invariant.gathered own c.join.ensures.1);
-      left = split-more c.args.children.items c.loop-child.yielded c.loop-child.child-iterator.rest.items c.next.new.self.rest.items c.in-Some.child left steps;
+      left = split_more c.args.children.items c.loop-child.yielded c.loop-child.child-iterator.rest.items c.next.new.self.rest.items c.in-Some.child left steps;
       room = c.push_reserved.ensures.capacity ∙ c.loop-child.invariant.room;
     }
 

@@ -1,9 +1,9 @@
 -- Each port goes to a worker, or stays with the caller: the last one stays, since there is no mark for it.
-use Rattle.std.proofs.Common.{◌≡◌, ℕ, ◌+◌, ◌<◌, ◌++◌, ◌∷◌, [], ◌⊎◌, List, length, map, Contains, true, nat_lt, refl, sym, ap, subst, ◌∙◌, arith, append-nil}
+use Rattle.std.proofs.Common.{◌≡◌, ℕ, ◌+◌, ◌<◌, ◌++◌, length, true, nat_lt, refl, ap, ◌∙◌, arith, append-nil}
 use Rattle.std.proofs.lemmas.Bool.Decides.{nat_tests}
 use Rattle.std.proofs.lemmas.List.{nil_from_length}
 use Rattle.jh_turn.specs.Ports.{IsPortOf}
-use Rattle.jh_run.proofs.SpreadLemmas.{spread-own, spread-child, All-at, split-next, split-more}
+use Rattle.jh_run.proofs.SpreadLemmas.{spread-own, spread-child, All_at, split_next, split_more}
 use Rattle.jh_run.proofs.workers.spread.Goals as goal
 
 below : (a b : ℕ) → true ≡ nat_lt a b → a < b
@@ -22,7 +22,7 @@ loop-port-preserved-in-Ok g c =
       next = tt;
       finite = tt;
       spread = rw c.push_reserved.ensures.items next;
-      left = split-more c.args.ports.items c.loop-port.yielded c.loop-port.port-iterator.rest.items c.next.new.self.rest.items c.in-Some.port c.loop-port.invariant.left steps;
+      left = split_more c.args.ports.items c.loop-port.yielded c.loop-port.port-iterator.rest.items c.next.new.self.rest.items c.in-Some.port c.loop-port.invariant.left steps;
       own_room = c.loop-port.invariant.own_room;
       children_room = c.push_reserved.ensures.capacity ∙ c.loop-port.invariant.children_room;
     }
@@ -35,7 +35,7 @@ loop-port-preserved-in-Err g c =
       next = tt;
       finite = tt;
       spread = rw c.push_reserved-in-Err.ensures.items next;
-      left = split-more c.args.ports.items c.loop-port.yielded c.loop-port.port-iterator.rest.items c.next.new.self.rest.items c.in-Some.port c.loop-port.invariant.left steps;
+      left = split_more c.args.ports.items c.loop-port.yielded c.loop-port.port-iterator.rest.items c.next.new.self.rest.items c.in-Some.port c.loop-port.invariant.left steps;
       own_room = c.push_reserved-in-Err.ensures.capacity ∙ c.loop-port.invariant.own_room;
       children_room = c.loop-port.invariant.children_room;
     }
@@ -44,13 +44,13 @@ pub loop-port-preserved : goal.loop-port-preserved
 loop-port-preserved g c =
     let steps = c.in-Some.ensures.steps.0 in
     let left = c.loop-port.invariant.left in
-    let split = split-next c.args.ports.items c.loop-port.yielded c.loop-port.port-iterator.rest.items c.next.new.self.rest.items c.in-Some.port left steps in
-    let own = All-at (IsPortOf c.args.shared.now) c.loop-port.yielded c.next.new.self.rest.items c.args.ports.items c.in-Some.port split c.requires.own in
+    let split = split_next c.args.ports.items c.loop-port.yielded c.loop-port.port-iterator.rest.items c.next.new.self.rest.items c.in-Some.port left steps in
+    let own = All_at (IsPortOf c.args.shared.now) c.loop-port.yielded c.next.new.self.rest.items c.args.ports.items c.in-Some.port split c.requires.own in
     let next = spread-own c.args.shared.now (λ child. child.promise.caller) (λ child. child.promise.shared.now ≡ c.args.shared.now) (length c.args.stays.now) c.loop-port.yielded c.loop-port.own.items c.loop-port.children.items c.in-Some.port c.in-Some.port c.loop-port.invariant.spread own refl in record {
       next = tt;
       finite = tt;
       spread = rw c.push_reserved-in-None-get.ensures.items next;
-      left = split-more c.args.ports.items c.loop-port.yielded c.loop-port.port-iterator.rest.items c.next.new.self.rest.items c.in-Some.port left steps;
+      left = split_more c.args.ports.items c.loop-port.yielded c.loop-port.port-iterator.rest.items c.next.new.self.rest.items c.in-Some.port left steps;
       own_room = c.push_reserved-in-None-get.ensures.capacity ∙ c.loop-port.invariant.own_room;
       children_room = c.loop-port.invariant.children_room;
     }

@@ -1,5 +1,5 @@
 use Rattle.std.proofs.Common.{◌≡◌, drop}
-use Rattle.jh_script.specs.Reading.{value_after}
+use Rattle.jh_script.specs.Private.Reading.{value_after}
 use Rattle.jh_script.specs.Numbers.{value_of}
 use Rattle.jh_script.proofs.number.read_digits.Given as goal
 

@@ -2,7 +2,7 @@ use Rattle.std.proofs.Common.{◌≡◌, ◌<◌, [], ◌∷◌, ◌++◌, lengt
 use Rattle.std.specs.List.{All}
 use Rattle.std.proofs.lemmas.List.Elements.{All-push}
 use Rattle.jh_script.specs.declared.line.Line.TheVariants.{Blank, Operation, Syntax, Width}
-use Rattle.jh_script.specs.Operations.{IsPlain}
+use Rattle.jh_script.specs.Operations.{IsWellFormed}
 use Rattle.jh_script.specs.Programs.{lines_of, line_number}
 use Rattle.jh_script.proofs.ProgramLemmas.{program_too_long, program_syntax, program_width, program_done, blank_fault, blank_ops, op_fault, op_ops}
 use Rattle.jh_script.proofs.program.read_program.Goals as goal
@@ -44,14 +44,14 @@ loop-line-preserved c =
     let lines : lines_of c.loop-line.rest.now ≡ Operation op ∷ lines_of c.in-Some.after.now = search rules in
     let number : c.saturating_add-number.result ≡ line_number c.loop-line.number = search rules in
     let push : c.push.new.self ≡ c.loop-line.ops ++ op ∷ [] = search rules in
-    let sound : IsPlain op = search rules in
+    let sound : IsWellFormed op = search rules in
     let before = c.loop-line.invariant in
     let few : length c.loop-line.ops < most_ops = omega arith in
     record {
       faults = op_fault c.args.text.now c.loop-line.number c.saturating_add-number.result c.loop-line.ops c.push.new.self (lines_of c.loop-line.rest.now) (lines_of c.in-Some.after.now) op before.faults lines number few push;
       found = op_ops c.args.text.now c.loop-line.ops c.push.new.self (lines_of c.loop-line.rest.now) (lines_of c.in-Some.after.now) op before.found lines push;
       few = omega (arith, ap length push, length-append c.loop-line.ops (op ∷ []));
-      plain = subst (All IsPlain) (sym push) (All-push IsPlain c.loop-line.ops op before.plain sound);
+      plain = subst (All IsWellFormed) (sym push) (All-push IsWellFormed c.loop-line.ops op before.plain sound);
     }
 
 pub returns-clause-exact : goal.returns-clause-exact

@@ -1,6 +1,6 @@
 use Rattle.std.proofs.Common.{◌≡◌, ◌≤◌, ◌-◌, ◌++◌, length}
 use Rattle.std.specs.List.{All}
-use Rattle.jh_script.specs.Operations.{IsPlain}
+use Rattle.jh_script.specs.Operations.{IsWellFormed}
 use Rattle.jh_script.specs.Programs.{lines_of, first_fault, ops_of}
 use Rattle.jh_script.proofs.program.read_program.Given as goal
 use Rattle.jh_script.specs.Limits.{most_ops}
@@ -11,7 +11,7 @@ invariant-loop-line l = record {
   faults : first_fault 0 most_ops (lines_of l.text) ≡ first_fault l.number (most_ops - length l.ops) (lines_of l.rest);
   found : ops_of (lines_of l.text) ≡ l.ops ++ ops_of (lines_of l.rest);
   few : length l.ops ≤ most_ops;
-  plain : All IsPlain l.ops;
+  plain : All IsWellFormed l.ops;
 }
 
 abbrev pub decreases-loop-line : goal.decreases-loop-line

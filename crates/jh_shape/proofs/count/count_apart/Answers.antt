@@ -2,12 +2,12 @@ use Rattle.std.proofs.Common.{◌≡◌, ℕ, ◌+◌, Bool, true, false, not, �
 use Rattle.std.proofs.lemmas.Bool.{and_left}
 use Rattle.jh_shape.specs.Marks.{is_marked}
 use Rattle.jh_shape.specs.Pages.{count_below}
-use Rattle.jh_shape.proofs.CountLemmas.{count_below-none, count_below-suc, count_below-stretch}
+use Rattle.jh_shape.proofs.CountLemmas.{count_below_none, count_below_suc, count_below_stretch}
 use Rattle.jh_shape.proofs.count.count_apart.Goals as goal
 use Rattle.jh_shape.proofs.count.count_apart.Goals.{then-is_apart, else-is_apart}
 
 pub slots-init : goal.slots-init
-slots-init c = (omega arith, omega arith, sym (count_below-none _))
+slots-init c = (omega arith, omega arith, sym (count_below_none _))
 
 pub slots-preserved-then-empty-gt0 : goal.slots-preserved-then-empty-gt0
 slots-preserved-then-empty-gt0 c =
@@ -17,13 +17,13 @@ slots-preserved-then-empty-gt0 c =
     let bound = c.empty_from-empty.ensures.bound in
     let few = c.slots.invariant.1 in
     let none : count_below test (n + run) ≡ count_below test n + 0 =
-    count_below-stretch test n run false (λ k l. and_left (is_marked c.args.met.now (n + k)) (not (is_marked c.args.leaves.now (n + k))) (c.empty_from-empty.ensures.none k l)) in
+    count_below_stretch test n run false (λ k l. and_left (is_marked c.args.met.now (n + k)) (not (is_marked c.args.leaves.now (n + k))) (c.empty_from-empty.ensures.none k l)) in
     let same : count_below test n + 0 ≡ count_below test n = omega arith in
     (omega arith, omega arith, c.slots.invariant.2 ∙ sym (none ∙ same))
 
 one_more : (test : ℕ → Bool) (n count new : ℕ) (b : Bool) → count ≡ count_below test n → test n ≡ b → new ≡ count + cond b 1 0 → new ≡ count_below test (n + 1)
 one_more test n count new b e t f =
-    f ∙ ap (λ m. m + cond b 1 0) e ∙ sym (ap (λ v. count_below test n + cond v 1 0) t) ∙ sym (count_below-suc test n (n + 1) (omega arith))
+    f ∙ ap (λ m. m + cond b 1 0) e ∙ sym (ap (λ v. count_below test n + cond v 1 0) t) ∙ sym (count_below_suc test n (n + 1) (omega arith))
 
 pub slots-preserved : goal.slots-preserved
 slots-preserved c =

@@ -1,5 +1,5 @@
-use Rattle.jh_shape.proofs.OrderLemmas.{pages_of-fewer}
+use Rattle.jh_shape.proofs.OrderLemmas.{pages_of_fewer}
 use Rattle.jh_shape.proofs.laws.fewer_cells_take_no_more_pages.Goals as goal
 
 pub returns : goal.returns
-returns c = pages_of-fewer c.args._root.now c.args._before.now c.args._gone.now c.args._behind.now
+returns c = pages_of_fewer c.args._root.now c.args._before.now c.args._gone.now c.args._behind.now

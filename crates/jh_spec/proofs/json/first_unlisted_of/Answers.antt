@@ -1,11 +1,11 @@
 use Rattle.std.proofs.Common.{map, Some, sym, ap, ◌∙◌}
 use Rattle.std.specs.Map.Iter.{deref}
 use Rattle.std.proofs.lemmas.Map.Iter.{rest_more}
-use Rattle.jh_spec.proofs.Unlisted.{key_unlisted, first_unlisted-keys, next_key}
+use Rattle.jh_spec.proofs.Unlisted.{key_unlisted, first_unlisted_keys, next_key}
 use Rattle.jh_spec.proofs.json.first_unlisted_of.Goals as goal
 
 pub loop-name-init : goal.loop-name-init
-loop-name-init c = rw (c.into_iter-name-iterator.ensures.into_iter_gives, c.keys-name-items.ensures.rest) (sym (first_unlisted-keys (map (λ listed. listed.now) c.args.names.now) c.args.members.now.entries))
+loop-name-init c = rw (c.into_iter-name-iterator.ensures.into_iter_gives, c.keys-name-items.ensures.rest) (sym (first_unlisted_keys (map (λ listed. listed.now) c.args.names.now) c.args.members.now.entries))
 
 pub returns-then-not-is_listed : goal.returns-then-not-is_listed
 returns-then-not-is_listed c =

@@ -2,4 +2,4 @@ use Rattle.jh_spec.proofs.ListsTold.{ToldSoFar}
 use Rattle.jh_spec.proofs.list.list.Given as goal
 
 abbrev pub invariant-loop-item : goal.invariant-loop-item
-invariant-loop-item g l = ToldSoFar g.T.Told.tells l.item-items l.item-index l.list.items
+invariant-loop-item g l = ToldSoFar g.T.FromJson.tells l.item-items l.item-index l.list.items

@@ -3,7 +3,7 @@ use Rattle.std.specs.Str.{bytes_eq}
 use Rattle.std.proofs.lemmas.Slice.Eq.{bytes_eq-Decides}
 use Rattle.std.proofs.lemmas.Bool.{false≢true}
 use Rattle.jh_text.specs.Text.{entry_text}
-use Rattle.jh_text.specs.Reading.{split_once, entry_of}
+use Rattle.jh_text.specs.Private.Reading.{split_once, entry_of}
 use Rattle.jh_text.proofs.Lines.{no_line_unsplit, no_line_untold, no_line_other, line_found}
 use Rattle.jh_text.proofs.read.first_line.Goals as goal
 

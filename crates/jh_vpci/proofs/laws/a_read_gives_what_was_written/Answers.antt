@@ -1,7 +1,7 @@
 use Rattle.std.proofs.Common.{◌≡◌, ◌+◌, ◌*◌, ◌%◌, ◌<◌, ◌≤◌, ◌⊎◌, inl, inr, ℕ, arith, subst, ap}
 use Rattle.jh_vpci.specs.Space.{Space}
 use Rattle.jh_vpci.specs.Windows.{AreWindows}
-use Rattle.jh_vpci.proofs.WordLemmas.{read-put, read-kept}
+use Rattle.jh_vpci.proofs.WordLemmas.{read_put, read_kept}
 use Rattle.jh_vpci.proofs.laws.a_read_gives_what_was_written.Goals as goal
 
 vectors_fit : (c : goal.After-_space) → c.args._space.now.spec.vectors < 256
@@ -18,13 +18,13 @@ within_word at width (inr (inr e)) aligned = let P : ℕ → Type 0 = λ n. at %
 pub returns-clause-put : goal.returns-clause-put
 returns-clause-put c =
     let P : Space → Type 0 = λ space. AreWindows space.bar0 space.bar1 in
-    read-put c.args._space.now c.args._at c.args._width c.args._value c.args._bit
+    read_put c.args._space.now c.args._at c.args._width c.args._value c.args._bit
     (subst P c._space.view_is c._space.invariant) (vectors_fit c)
     (within_word c.args._at c.args._width c.requires.width c.requires.aligned) c.requires.bit
 
 pub returns-clause-kept : goal.returns-clause-kept
 returns-clause-kept c =
     let P : Space → Type 0 = λ space. AreWindows space.bar0 space.bar1 in
-    read-kept c.args._space.now c.args._at c.args._width c.args._value c.args._bit
+    read_kept c.args._space.now c.args._at c.args._width c.args._value c.args._bit
     (subst P c._space.view_is c._space.invariant) (vectors_fit c)
     (within_word c.args._at c.args._width c.requires.width c.requires.aligned) c.requires.bit

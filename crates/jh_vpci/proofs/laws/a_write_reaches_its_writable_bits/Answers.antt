@@ -3,7 +3,7 @@ use Rattle.jh_vpci.specs.Space.{Space}
 use Rattle.jh_vpci.specs.Windows.{AreWindows}
 use Rattle.jh_vpci.specs.Writes.{spliced}
 use Rattle.jh_vpci.specs.Words.{word_of, word_at}
-use Rattle.jh_vpci.proofs.WordLemmas.{written-put, written-kept, others_stay}
+use Rattle.jh_vpci.proofs.WordLemmas.{written_put, written_kept, others_stay}
 use Rattle.jh_vpci.proofs.laws.a_write_reaches_its_writable_bits.Goals as goal
 
 vectors_fit : (c : goal.After-_space) → c.args._space.now.spec.vectors < 256
@@ -14,13 +14,13 @@ vectors_fit c =
 pub returns-clause-put : goal.returns-clause-put
 returns-clause-put c =
     let P : Space → Type 0 = λ space. AreWindows space.bar0 space.bar1 in
-    written-put c.args._space.now c.args._at c.args._width c.args._value c.args._bit
+    written_put c.args._space.now c.args._at c.args._width c.args._value c.args._bit
     (subst P c._space.view_is c._space.invariant) (vectors_fit c) (omega arith)
 
 pub returns-clause-kept : goal.returns-clause-kept
 returns-clause-kept c =
     let P : Space → Type 0 = λ space. AreWindows space.bar0 space.bar1 in
-    written-kept c.args._space.now c.args._at c.args._width c.args._value c.args._bit
+    written_kept c.args._space.now c.args._at c.args._width c.args._value c.args._bit
     (subst P c._space.view_is c._space.invariant) (vectors_fit c) (omega arith)
 
 pub returns-clause-others : goal.returns-clause-others

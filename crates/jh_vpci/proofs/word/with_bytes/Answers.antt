@@ -1,6 +1,6 @@
 use Rattle.std.proofs.Common.{◌≡◌, ◌+◌, ◌*◌, ◌/◌, ◌%◌, ◌^◌, ◌<◌, ◌≤◌, arith, refl}
 use Rattle.std.proofs.lemmas.Nat.{pow-add}
-use Rattle.jh_vpci.proofs.SplicedLemmas.{placed, placed-lt}
+use Rattle.jh_vpci.proofs.SplicedLemmas.{placed, placed_lt}
 use Rattle.jh_vpci.proofs.word.with_bytes.Goals as goal
 
 -- what the code adds up
@@ -22,7 +22,7 @@ pub overflow_cast-result : goal.overflow_cast-result
 overflow_cast-result c =
     let within : 8 * (c.args.at % 4) + 8 * c.args.width ≤ 32 = omega arith in
     let is_word : c.args.word < 2 ^ 32 = omega arith in
-    let fits = placed-lt c.args.word (8 * (c.args.at % 4)) (8 * c.args.width) c.args.value within is_word in
+    let fits = placed_lt c.args.word (8 * (c.args.at % 4)) (8 * c.args.width) c.args.value within is_word in
     omega (arith, sum_is_placed c)
 
 pub returns : goal.returns

@@ -3,7 +3,7 @@ use Rattle.std.proofs.Common.{◌≡◌, ◌-◌, ◌∙◌, ap, subst, refl, ar
 use Rattle.jh_num.specs.Counted.{Counted}
 use Rattle.jh_desc.specs.Descriptors.{read_of}
 use Rattle.jh_frames.specs.Memory.{byte_at, word_in}
-use Rattle.jh_walk.specs.Onwards.{onward_of, reads_on}
+use Rattle.jh_walk.specs.Private.Onwards.{onward_of, reads_on}
 use Rattle.jh_walk.specs.Walks.{all_counted, probes_of, slot_at}
 use Rattle.jh_walk.proofs.WalkLemmas.{step_found, step_reads}
 use Rattle.jh_walk.proofs.walking.step.Goals as goal

@@ -2,7 +2,7 @@
 use Rattle.std.proofs.Common.{◌≡◌, ℕ, ◌<◌, length, arith, sym, subst}
 use Rattle.std.proofs.lemmas.List.{length_push}
 use Rattle.jh_history.specs.declared.entry.Entry.{Entry}
-use Rattle.jh_history.proofs.DueLemmas.{IsLegal-made}
+use Rattle.jh_history.proofs.DueLemmas.{IsLegal_made}
 use Rattle.std.specs.Prelude.{IsTrue}
 use Rattle.jh_history.specs.Lives.{is_on_board}
 use Rattle.jh_board.specs.BoardView.{BoardView}
@@ -23,7 +23,7 @@ invariant_of-self-in-Some c =
     let few = c.has_few_cpus.ensures.cpus c.args.cpu (subst P (sym c.self.view_is) c.requires) in
     record {
       admitted = c.self.invariant.admitted;
-      legal = IsLegal-made c.self.inside.image c.self.inside.journal.entries c.advance.new.journal.entries c.args.cpu c.in-Some.entry c.self.invariant.legal made.0 made.2;
+      legal = IsLegal_made c.self.inside.image c.self.inside.journal.entries c.advance.new.journal.entries c.args.cpu c.in-Some.entry c.self.invariant.legal made.0 made.2;
       within = let few : length c.self.inside.journal.entries < c.self.inside.limit = made.1 in rw (made.2, length_push) (omega arith);
       means = c.advance.ensures.means;
       last = few_of c.in-Some.entry c.args.cpu (rw c.in-Some.is at c.in_ok-made.ensures.cpu) few;

@@ -1,13 +1,13 @@
 -- An empty journal is legal, and a new board stands for it.
 use Rattle.std.proofs.Common.{◌≡◌, arith}
-use Rattle.jh_history.proofs.FactsLemmas.{IsLegal-nil}
+use Rattle.jh_history.proofs.FactsLemmas.{IsLegal_nil}
 use Rattle.jh_board.proofs.board.Board.open.Goals as goal
 
 pub invariant_of-result : goal.invariant_of-result
 invariant_of-result c =
     let same : c.in-Ok-new.image ≡ c.args.image = c.in-Ok-new.ensures.ok in record {
       admitted = rw same c.requires.admitted;
-      legal = rw (c.new-2.ensures, same) (IsLegal-nil c.args.image);
+      legal = rw (c.new-2.ensures, same) (IsLegal_nil c.args.image);
       within = rw c.new-2.ensures (omega arith);
       means = rw (c.new-2.ensures, same) c.in-Ok.ensures;
       last = omega arith;

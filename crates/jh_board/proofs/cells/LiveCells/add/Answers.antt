@@ -9,8 +9,8 @@ use Rattle.jh_cellcfg.specs.declared.region.Region.{Region}
 use Rattle.jh_life.specs.Lives.{configs_of, new_live}
 use Rattle.jh_board.specs.LiveView.{LiveView}
 use Rattle.jh_board.specs.Closed.{is_closed_by, is_taken, count_regions, AreInRange}
-use Rattle.jh_board.proofs.ClosedLemmas.{closed-added}
-use Rattle.jh_board.proofs.CellsLemmas.{all_regions, configs-added, regions-added}
+use Rattle.jh_board.proofs.ClosedLemmas.{closed_added}
+use Rattle.jh_board.proofs.CellsLemmas.{all_regions, configs_added, regions_added}
 use Rattle.jh_board.proofs.cells.LiveCells.add.Goals as goal
 
 pub invariant_of-self : goal.invariant_of-self
@@ -19,7 +19,7 @@ invariant_of-self c =
     let new = c.args.new in
     let old = c.self.invariant in
     let all : c.add.new.self.lives ≡ lives ++ new_live new ∷ [] = c.in-Ok.ensures.ok in
-    let configs : configs_of c.add.new.self.lives ≡ configs_of lives ++ new ∷ [] = ap (λ (l : List Live). configs_of l) all ∙ configs-added lives new in
+    let configs : configs_of c.add.new.self.lives ≡ configs_of lives ++ new ∷ [] = ap (λ (l : List Live). configs_of l) all ∙ configs_added lives new in
     let places : c.args.self.now.regions ≡ min c.self.inside.closed.room 18446744073709551615 - (c.self.inside.regions + 1) = ap (λ (v : LiveView). v.regions) (sym c.self.view_is) in
     let room = old.room in
     let few = old.few in
@@ -28,7 +28,7 @@ invariant_of-self c =
     let more = c.close_regions.ensures.room in
     let want = c.requires.regions in
     let count = old.regions in
-    let counted = regions-added (configs_of lives) new in
+    let counted = regions_added (configs_of lives) new in
     let recounted : count_regions (configs_of c.add.new.self.lives) ≡ count_regions (configs_of lives ++ new ∷ []) = ap (λ (cs : List CellConfig). count_regions cs) configs in
     record {
       indexes = c.push_reserved.ensures.items
@@ -42,7 +42,7 @@ invariant_of-self c =
           c.close_regions.ensures.bytes place
           ∙ ap (λ b. b || is_taken false c.as_slice-regions.result.now place) (old.closed place)
           ∙ ap (λ (rs : List Region). is_closed_by lives place || is_taken false rs place) c.as_slice-regions.ensures.value
-          ∙ sym (closed-added lives (new_live new) place)
+          ∙ sym (closed_added lives (new_live new) place)
           ∙ ap (λ (l : List Live). is_closed_by l place) (sym all);
       few = omega arith;
       regions = omega arith;

@@ -3,7 +3,7 @@ use Rattle.std.proofs.Common.{◌≡◌, Some, get_or, List, ap, sym, subst, ◌
 use Rattle.jh_cellcfg.specs.declared.region.Region.{Region}
 use Rattle.jh_mmio.specs.Index.{IsRegionAt}
 use Rattle.jh_board.specs.Closed.{IsIndexOf}
-use Rattle.jh_board.proofs.CellsLemmas.{regions-some, regions-within, all_regions}
+use Rattle.jh_board.proofs.CellsLemmas.{regions_some, regions_within, all_regions}
 use Rattle.jh_board.proofs.cells.LiveCells.region.Goals as goal
 use Rattle.jh_board.proofs.cells.LiveCells.region.Goals.{After-at}
 
@@ -16,7 +16,7 @@ own c = c.index.ensures ∙ ap (λ (l : List (List Region)). get_or l c.in-Some.
 pub returns-in-Some-clause-found : goal.returns-in-Some-clause-found
 returns-in-Some-clause-found c =
     rw (← c.self.view_is)
-    (subst (λ (rs : List Region). IsRegionAt rs c.args.at c.at.result) (sym (regions-some c.self.inside.cells.lives c.args.id c.in-Some.index c.index.result.now (index c) (own c))) c.at.ensures)
+    (subst (λ (rs : List Region). IsRegionAt rs c.args.at c.at.result) (sym (regions_some c.self.inside.cells.lives c.args.id c.in-Some.index c.index.result.now (index c) (own c))) c.at.ensures)
 
 pub returns-in-Some-clause-within : goal.returns-in-Some-clause-within
-returns-in-Some-clause-within c = regions-within c.self.inside.cells.lives c.args.id c.in-Some.index c.index.result.now c.at.result (index c) (own c) c.self.invariant.within c.at.ensures.own
+returns-in-Some-clause-within c = regions_within c.self.inside.cells.lives c.args.id c.in-Some.index c.index.result.now c.at.result (index c) (own c) c.self.invariant.within c.at.ensures.own

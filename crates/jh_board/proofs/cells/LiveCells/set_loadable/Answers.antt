@@ -7,12 +7,12 @@ use Rattle.jh_shape.specs.Pages.{pages_of}
 use Rattle.jh_life.specs.Lives.{configs_of, marks_of}
 use Rattle.jh_life.specs.Changes.{marked}
 use Rattle.jh_board.specs.Closed.{count_regions, AreInRange}
-use Rattle.jh_board.proofs.CellsLemmas.{cell-at, marked-none, marked-same}
+use Rattle.jh_board.proofs.CellsLemmas.{cell_at, marked_none, marked_same}
 use Rattle.jh_board.proofs.cells.LiveCells.set_loadable.Goals as goal
 use Rattle.jh_board.proofs.cells.LiveCells.set_loadable.Goals.{After-loadable}
 
 pub returns-in_default-clause-lives : goal.returns-in_default-clause-lives
-returns-in_default-clause-lives c = rw (← c.self.view_is) (marked-none c.self.inside.cells.lives c.args.id c.args.on c.in_default.ensures.found)
+returns-in_default-clause-lives c = rw (← c.self.view_is) (marked_none c.self.inside.cells.lives c.args.id c.args.on c.in_default.ensures.found)
 
 listed : (c : After-loadable) → c.list.result.now ≡ configs_of c.self.inside.cells.lives
 listed c = c.list.ensures.value ∙ c.set_loadable.ensures.list
@@ -55,9 +55,9 @@ pub returns-clause-lives : goal.returns-clause-lives
 returns-clause-lives c =
     let lives = c.self.inside.cells.lives in
     let new = c.set_loadable.new.self.lives in
-    let cell = cell-at lives c.args.id c.in-Some.index c.in-Some.ensures.found in
+    let cell = cell_at lives c.args.id c.in-Some.index c.in-Some.ensures.found in
     let index : c.in-Some.index + 1 - 1 ≡ c.in-Some.index = omega arith in
     rw (← c.self.view_is)
-    (c.a_place_is_marked_by_its_id.ensures c.in-Some.index cell.0 c.args.on new cell.1.at c.set_loadable.ensures.list (c.set_loadable.ensures.marks ∙ ap (λ k. set (marks_of lives) k c.args.on) index)
+    (c.a_cell_is_marked_by_its_id.ensures c.in-Some.index cell.0 c.args.on new cell.1.at c.set_loadable.ensures.list (c.set_loadable.ensures.marks ∙ ap (λ k. set (marks_of lives) k c.args.on) index)
     ∙ ap (λ id. map (marked id c.args.on) lives) cell.1.is
-    ∙ marked-same lives c.args.id c.args.on)
+    ∙ marked_same lives c.args.id c.args.on)

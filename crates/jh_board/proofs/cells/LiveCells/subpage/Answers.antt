@@ -4,8 +4,8 @@ use Rattle.std.specs.Prelude.{find}
 use Rattle.jh_cellcfg.specs.declared.region.Region.{Region}
 use Rattle.jh_mmio.specs.Dispatch.{takes_all, unless_closed}
 use Rattle.jh_board.specs.Closed.{IsIndexOf}
-use Rattle.jh_board.proofs.CellsLemmas.{regions-some, regions-within, all_regions}
-use Rattle.jh_board.proofs.IndexLemmas.{sized-in_range}
+use Rattle.jh_board.proofs.CellsLemmas.{regions_some, regions_within, all_regions}
+use Rattle.jh_board.proofs.IndexLemmas.{sized_in_range}
 use Rattle.jh_board.proofs.cells.LiveCells.subpage.Goals as goal
 use Rattle.jh_board.proofs.cells.LiveCells.subpage.Goals.{After-subpage}
 
@@ -19,8 +19,8 @@ pub returns-in-Some-clause-found : goal.returns-in-Some-clause-found
 returns-in-Some-clause-found c =
     rw (← c.self.view_is)
     (subst (λ (rs : List Region). (closed : ℕ → Bool) → find (takes_all closed c.args.at c.args.width) rs ≡ unless_closed closed c.args.at c.args.width c.subpage.result)
-    (sym (regions-some c.self.inside.cells.lives c.args.id c.in-Some.index c.index.result.now (index c) (own c))) c.subpage.ensures.found)
+    (sym (regions_some c.self.inside.cells.lives c.args.id c.in-Some.index c.index.result.now (index c) (own c))) c.subpage.ensures.found)
 
 pub returns-in-Some-clause-within : goal.returns-in-Some-clause-within
 returns-in-Some-clause-within c =
-    sized-in_range c.args.at c.subpage.result (regions-within c.self.inside.cells.lives c.args.id c.in-Some.index c.index.result.now c.subpage.result (index c) (own c) c.self.invariant.within c.subpage.ensures.own) c.subpage.ensures.first
+    sized_in_range c.args.at c.subpage.result (regions_within c.self.inside.cells.lives c.args.id c.in-Some.index c.index.result.now c.subpage.result (index c) (own c) c.self.invariant.within c.subpage.ensures.own) c.subpage.ensures.first

@@ -4,8 +4,8 @@ use Rattle.std.specs.Prelude.{OnOk}
 use Rattle.jh_history.specs.declared.place.Place.{Place}
 use Rattle.jh_history.specs.Places.{places_in_row}
 use Rattle.jh_board.specs.Pages.{byte_at, byte_of, comm_byte, bytes_from, MemoryView}
-use Rattle.jh_board.proofs.PieceLemmas.{row-of_memory}
-use Rattle.jh_board.proofs.RowLemmas.{row-of_comm}
+use Rattle.jh_board.proofs.PieceLemmas.{row_of_memory}
+use Rattle.jh_board.proofs.RowLemmas.{row_of_comm}
 use Rattle.jh_board.proofs.memory.Memory.append.Goals as goal
 
 pub returns-in-Physical : goal.returns-in-Physical
@@ -14,7 +14,7 @@ returns-in-Physical c =
     let P : List ℕ → Type 0 = λ row. OnOk c.append.result (c.append.new.bytes.items ≡ c.args.bytes.now.items ++ row) in
     subst P
     (ap (λ (m : MemoryView). bytes_from (byte_at m.physical) c.in-Physical.at c.from-count.result) c.self.view_is
-    ∙ sym (row-of_memory memory c.in-Physical.at c.from-count.result)
+    ∙ sym (row_of_memory memory c.in-Physical.at c.from-count.result)
     ∙ ap (λ (n : ℕ). map (byte_of memory) (places_in_row (Place.Physical c.in-Physical.at) n)) c.from-count.ensures
     ∙ ap (λ (p : Place). map (byte_of memory) (places_in_row p c.args.count)) (sym c.in-Physical.is))
     c.append.ensures
@@ -25,7 +25,7 @@ returns-in-Page c =
     let P : List ℕ → Type 0 = λ row. OnOk c.append-in-Page.result (c.append-in-Page.new.bytes.items ≡ c.args.bytes.now.items ++ row) in
     subst P
     (ap (λ (m : MemoryView). bytes_from (comm_byte m.comms c.in-Page.cell) c.in-Page.offset c.from-count.result) c.self.view_is
-    ∙ sym (row-of_comm memory c.in-Page.cell c.in-Page.offset c.from-count.result)
+    ∙ sym (row_of_comm memory c.in-Page.cell c.in-Page.offset c.from-count.result)
     ∙ ap (λ (n : ℕ). map (byte_of memory) (places_in_row (Place.Page c.in-Page.cell c.in-Page.offset) n)) c.from-count.ensures
     ∙ ap (λ (p : Place). map (byte_of memory) (places_in_row p c.args.count)) (sym c.in-Page.is))
     c.append-in-Page.ensures

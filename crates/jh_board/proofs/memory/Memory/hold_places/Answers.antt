@@ -1,10 +1,10 @@
 -- The places are those of the two runs.
 use Rattle.jh_history.specs.Places.{places_of_run}
 use Rattle.jh_board.specs.Pages.{MayHold}
-use Rattle.jh_board.proofs.BytesLemmas.{All-high, MayHold-same}
+use Rattle.jh_board.proofs.BytesLemmas.{All_high, MayHold_same}
 use Rattle.jh_board.proofs.memory.Memory.hold_places.Goals as goal
 
 pub hold_run-requires-2-clause-may : goal.hold_run-requires-2-clause-may
 hold_run-requires-2-clause-may c = λ k d lt.
-    MayHold-same c.args.self.now c.hold_run.new.self c.hold_run.ensures.others _
-    (All-high (MayHold c.args.self.now) (places_of_run c.runs.result.0) (places_of_run c.runs.result.1) (rw c.runs.ensures.places at c.requires) k d lt)
+    MayHold_same c.args.self.now c.hold_run.new.self c.hold_run.ensures.others _
+    (All_high (MayHold c.args.self.now) (places_of_run c.runs.result.0) (places_of_run c.runs.result.1) (rw c.runs.ensures.places at c.requires) k d lt)

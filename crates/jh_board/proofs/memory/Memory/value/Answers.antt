@@ -3,13 +3,13 @@ use Rattle.std.proofs.Common.{ap, sym, ◌∙◌}
 use Rattle.jh_num.specs.Memory.{spelled}
 use Rattle.jh_history.specs.declared.place.Place.TheVariants.{Physical}
 use Rattle.jh_board.specs.Pages.{MemoryView}
-use Rattle.jh_board.proofs.PieceLemmas.{row-of_memory, fits-in_row}
+use Rattle.jh_board.proofs.PieceLemmas.{row_of_memory, fits_in_row}
 use Rattle.jh_board.proofs.memory.Memory.value.Goals as goal
 
 pub returns-in-Some-clause-value : goal.returns-in-Some-clause-value
 returns-in-Some-clause-value c =
     let memory : MemoryView = record { physical = c.self.inside.physical; comms = c.self.inside.comms } in
-    rw (c.in-Some.ensures.places, ← c.self.view_is) (c.value.ensures.spells ∙ ap spelled (sym (row-of_memory memory c.in-Some.piece.at c.in-Some.piece.count)))
+    rw (c.in-Some.ensures.places, ← c.self.view_is) (c.value.ensures.spells ∙ ap spelled (sym (row_of_memory memory c.in-Some.piece.at c.in-Some.piece.count)))
 
 pub returns-in-Some-clause-fits : goal.returns-in-Some-clause-fits
-returns-in-Some-clause-fits c = fits-in_row c.value.result c.in-Some.piece.count (Physical c.in-Some.piece.at) c.args.places.now c.in-Some.ensures.places c.value.ensures.fits
+returns-in-Some-clause-fits c = fits_in_row c.value.result c.in-Some.piece.count (Physical c.in-Some.piece.at) c.args.places.now c.in-Some.ensures.places c.value.ensures.fits

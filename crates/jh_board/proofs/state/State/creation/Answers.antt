@@ -14,11 +14,11 @@ use Rattle.jh_history.specs.LiveView.{is_locked_by}
 use Rattle.jh_history.specs.Phases.{configs_of, is_locked, creation_of, creation_by}
 use Rattle.jh_history.specs.ReadView.{as_read}
 use Rattle.jh_history.proofs.FactsLemmas.{same_function}
-use Rattle.jh_history.proofs.ReadLemmas.{read_by-is}
+use Rattle.jh_history.proofs.ReadLemmas.{read_by_is}
 use Rattle.jh_board.specs.Means.{Means}
 use Rattle.jh_board.specs.Pages.{byte_of}
 use Rattle.jh_board.specs.StateView.{StateView}
-use Rattle.jh_board.proofs.RootReadLemmas.{read_held, held-reads}
+use Rattle.jh_board.proofs.RootReadLemmas.{read_held, held_reads}
 use Rattle.jh_board.proofs.state.State.creation.Goals as goal
 
 pub returns-then-is_any_locked : goal.returns-then-is_any_locked
@@ -46,9 +46,9 @@ returns-in-Some c = λ i f h.
     let admitted : IsAdmitted s.image = subst (λ (s : StateView). IsAdmitted s.image) c.self.view_is c.image.ensures.admitted in
     let Q : Image → Type 0 = λ x. (a : ℕ) → read_held s.image s.held a ≡ option_map f.byte (granted x f x.system.root.id Read a) in
     let means : Means s.image s.held f = subst (λ (x : Image). Means x s.held f) h.0 h.1 in
-    let reads = subst Q (sym h.0) (λ a. held-reads s.image s.held f a admitted means) in
+    let reads = subst Q (sym h.0) (λ a. held_reads s.image s.held f a admitted means) in
     let P : Option Creation → Type 0 = λ told. IfSome told (λ creation. creation ≡ creation_by c.image.result.now f c.args.caller (as_read c.in_ok-read.read)) in
     rw locked
     (subst P c.in-Some.is (c.in_ok-creation.ensures.told f cells (λ n lt. ap (λ (s : StateView). slice_get s.held.cpus n) c.self.view_is ∙ h.1.cpus n lt))
     ∙ ap (λ (x : Image). creation_by x f c.args.caller (as_read c.in_ok-read.read)) (c.image.ensures.image ∙ image)
-    ∙ ap (λ (read : ReadCell). creation_by i f c.args.caller read) (c.in_ok-read.ensures ∙ read_by-is i f (read_held s.image s.held) c.args.at reads))
+    ∙ ap (λ (read : ReadCell). creation_by i f c.args.caller read) (c.in_ok-read.ensures ∙ read_by_is i f (read_held s.image s.held) c.args.at reads))

@@ -1,6 +1,5 @@
 -- No more pages are missing than there are, and as many as before where none was laid by.
-use Rattle.std.proofs.Common.{◌≡◌, ◌≤◌, arith, refl}
-use Rattle.jh_frames.specs.Memory.{FramesView, missing_from}
+use Rattle.std.proofs.Common.{arith, refl}
 use Rattle.jh_frames.proofs.HeldLemmas.{missing_few, missing_kept}
 use Rattle.jh_frames.proofs.frames.Frames.lay_enough.Goals as goal
 

@@ -3,10 +3,10 @@ use Rattle.std.proofs.Common.{◌≡◌, ℕ, zero, suc, get_or, refl}
 use Rattle.std.specs.Prelude.{replicate}
 use Rattle.jh_frames.proofs.page.Page.zero.Goals as goal
 
-get_or-same : (n k b : ℕ) → get_or (replicate n b) k b ≡ b
-get_or-same zero k b = refl
-get_or-same (suc n) zero b = refl
-get_or-same (suc n) (suc k) b = get_or-same n k b
+get_or_same : (n k b : ℕ) → get_or (replicate n b) k b ≡ b
+get_or_same zero k b = refl
+get_or_same (suc n) zero b = refl
+get_or_same (suc n) (suc k) b = get_or_same n k b
 
 pub returns : goal.returns
-returns c = λ k. rw (c.in_ok-bytes.ensures.items_if_clones_equal (λ y same. same)) (get_or-same 4096 k 0)
+returns c = λ k. rw (c.in_ok-bytes.ensures.items_if_clones_equal (λ y same. same)) (get_or_same 4096 k 0)

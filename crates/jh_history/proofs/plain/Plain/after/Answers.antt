@@ -8,23 +8,23 @@ use Rattle.jh_history.specs.Facts.{Facts}
 use Rattle.jh_history.specs.Due.{due_at}
 use Rattle.jh_history.specs.History.{facts}
 use Rattle.jh_history.specs.Sound.{IsSound}
-use Rattle.jh_history.specs.PlainView.{Stands}
-use Rattle.jh_history.proofs.FactsLemmas.{facts-nil, facts-next}
-use Rattle.jh_history.proofs.FollowLemmas.{may-follow}
-use Rattle.jh_history.proofs.LegalLemmas.{due-index}
-use Rattle.jh_history.proofs.PlainLemmas.{due_at-plain}
+use Rattle.jh_history.specs.PlainView.{StandsFor}
+use Rattle.jh_history.proofs.FactsLemmas.{facts_nil, facts_next}
+use Rattle.jh_history.proofs.FollowLemmas.{may_follow}
+use Rattle.jh_history.proofs.LegalLemmas.{due_index}
+use Rattle.jh_history.proofs.PlainLemmas.{due_at_plain}
 use Rattle.jh_history.proofs.plain.Plain.after.Goals as goal
 
 abbrev any_entry : Entry
 any_entry = record { cpu = 0; cell = 0; act = Read 0 0 None }
 
 pub loop-entry-init : goal.loop-entry-init
-loop-entry-init c = rw facts-nil (record { stands = c.in_ok-plain.ensures; sound = c.legal_journals_are_sound.ensures.start c.args.image.now c.requires.admitted })
+loop-entry-init c = rw facts_nil (record { stands = c.in_ok-plain.ensures; sound = c.legal_journals_are_sound.ensures.start c.args.image.now c.requires.admitted })
 
 pub follow-requires-clause-plain : goal.follow-requires-clause-plain
 follow-requires-clause-plain c =
     let lt : c.loop-entry.entry-index < length c.args.entries.now = omega arith in
-    due_at-plain c.args.image.now (facts c.args.image.now (take c.loop-entry.entry-index c.args.entries.now)) _ _ c.requires.admitted (due-index c.args.image.now c.args.entries.now c.loop-entry.entry-index _ c.requires.legal lt)
+    due_at_plain c.args.image.now (facts c.args.image.now (take c.loop-entry.entry-index c.args.entries.now)) _ _ c.requires.admitted (due_index c.args.image.now c.args.entries.now c.loop-entry.entry-index _ c.requires.legal lt)
 
 pub follow-requires-clause-due : goal.follow-requires-clause-due
 follow-requires-clause-due c =
@@ -34,7 +34,7 @@ follow-requires-clause-due c =
     record {
       facts = f;
       sound = subst (λ (x : Image). IsSound x f) stands.same c.loop-entry.invariant.sound;
-      due = subst (λ (x : Image). due_at x f (get_or c.args.entries.now c.loop-entry.entry-index any_entry).cpu ≡ Some (get_or c.args.entries.now c.loop-entry.entry-index any_entry)) stands.same (due-index c.args.image.now c.args.entries.now c.loop-entry.entry-index any_entry c.requires.legal lt);
+      due = subst (λ (x : Image). due_at x f (get_or c.args.entries.now c.loop-entry.entry-index any_entry).cpu ≡ Some (get_or c.args.entries.now c.loop-entry.entry-index any_entry)) stands.same (due_index c.args.image.now c.args.entries.now c.loop-entry.entry-index any_entry c.requires.legal lt);
       cells = stands.cells;
       call = stands.call;
     }
@@ -44,9 +44,9 @@ follow-requires-clause-may c =
     let lt : c.loop-entry.entry-index < length c.args.entries.now = omega arith in
     let i = c.args.image.now in
     let f = facts i (take c.loop-entry.entry-index c.args.entries.now) in
-    let due = due-index i c.args.entries.now c.loop-entry.entry-index _ c.requires.legal lt in
+    let due = due_index i c.args.entries.now c.loop-entry.entry-index _ c.requires.legal lt in
     let sound = c.loop-entry.invariant.sound in
-    may-follow i f c.loop-entry.plain (get_or c.args.entries.now c.loop-entry.entry-index any_entry) c.loop-entry.invariant.stands
+    may_follow i f c.loop-entry.plain (get_or c.args.entries.now c.loop-entry.entry-index any_entry) c.loop-entry.invariant.stands
     (λ id value found. c.devices_may_change.ensures.word i f id value found sound)
     (c.devices_may_change.ensures.commit i f (get_or c.args.entries.now c.loop-entry.entry-index any_entry) sound due)
     (c.devices_may_change.ensures.interrupt i f (get_or c.args.entries.now c.loop-entry.entry-index any_entry) sound due)
@@ -55,11 +55,11 @@ pub loop-entry-preserved : goal.loop-entry-preserved
 loop-entry-preserved c =
     let lt : c.loop-entry.entry-index < length c.args.entries.now = omega arith in
     let f = facts c.args.image.now (take c.loop-entry.entry-index c.args.entries.now) in
-    let next = sym (facts-next c.args.image.now c.args.entries.now c.loop-entry.entry-index _ lt) in
+    let next = sym (facts_next c.args.image.now c.args.entries.now c.loop-entry.entry-index _ lt) in
     record {
-      stands = subst (λ (g : Facts). Stands c.follow.new.self c.args.image.now g) next (c.in_ok-follow.ensures c.args.image.now f c.loop-entry.invariant.stands);
-      sound = subst (λ (g : Facts). IsSound c.args.image.now g) next (c.legal_journals_are_sound.ensures.after c.args.image.now f _ c.loop-entry.invariant.sound (due-index c.args.image.now c.args.entries.now c.loop-entry.entry-index _ c.requires.legal lt));
+      stands = subst (λ (g : Facts). StandsFor c.follow.new.self c.args.image.now g) next (c.in_ok-follow.ensures c.args.image.now f c.loop-entry.invariant.stands);
+      sound = subst (λ (g : Facts). IsSound c.args.image.now g) next (c.legal_journals_are_sound.ensures.after c.args.image.now f _ c.loop-entry.invariant.sound (due_index c.args.image.now c.args.entries.now c.loop-entry.entry-index _ c.requires.legal lt));
     }
 
 pub returns : goal.returns
-returns c = subst (λ (entries : List Entry). Stands c.loop-entry.plain c.args.image.now (facts c.args.image.now entries)) (take_all c.loop-entry.entry-index c.args.entries.now c.loop-entry-test.false) c.loop-entry.invariant.stands
+returns c = subst (λ (entries : List Entry). StandsFor c.loop-entry.plain c.args.image.now (facts c.args.image.now entries)) (take_all c.loop-entry.entry-index c.args.entries.now c.loop-entry-test.false) c.loop-entry.invariant.stands

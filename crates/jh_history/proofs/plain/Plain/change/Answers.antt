@@ -15,11 +15,11 @@ use Rattle.jh_history.specs.Pages.{page_write_by, with_page_write}
 use Rattle.jh_history.specs.Phases.{configs_of}
 use Rattle.jh_history.specs.PlainView.{PlainView, last_byte}
 use Rattle.jh_history.proofs.FactsLemmas.{same_function}
-use Rattle.jh_history.proofs.FollowLemmas.{may-commit}
+use Rattle.jh_history.proofs.FollowLemmas.{may_commit}
 use Rattle.jh_history.proofs.plain.Plain.change.Goals as goal
 
 pub commit_devices-requires : goal.commit_devices-requires
-commit_devices-requires c = may-commit c.args.self.now c.write.new.self c.args.entry.now.act c.requires.may.commit c.in_ok-write.ensures.others c.in_ok-write.ensures.commit
+commit_devices-requires c = may_commit c.args.self.now c.write.new.self c.args.entry.now.act c.requires.may.commit c.in_ok-write.ensures.others c.in_ok-write.ensures.commit
 
 pub returns-clause-cpus : goal.returns-clause-cpus
 returns-clause-cpus c = λ i f h k lt.

@@ -1,17 +1,15 @@
 -- The devices of the cell that a Commit is about.
-use Rattle.std.proofs.Common.{◌≡◌, List, [], Option, Some, None, sym, ap, subst, ◌∙◌}
+use Rattle.std.proofs.Common.{◌≡◌, List, Option, Some, None, sym, ap, subst, ◌∙◌}
 use Rattle.std.specs.Prelude.{IfSome}
 use Rattle.std.specs.Option.{option_copied}
 use Rattle.jh_cellcfg.specs.declared.config.CellConfig.{CellConfig}
-use Rattle.jh_cellcfg.specs.declared.live.Live.{Live}
-use Rattle.jh_ivshmem.specs.declared.endpoint.Endpoint.{Endpoint}
 use Rattle.jh_ivshmem.specs.declared.spec.EndpointSpec.{EndpointSpec}
 use Rattle.jh_history.specs.declared.call.OpenCall.{OpenCall}
 use Rattle.jh_history.specs.declared.device_change.DeviceChange.{DeviceChange}
 use Rattle.jh_history.specs.Devices.{specs_of}
-use Rattle.jh_history.specs.Endpoints.{change_by, changing_by, endpoints_changed, specs_changing, with_words, MayChange}
+use Rattle.jh_history.specs.Endpoints.{change_by, changing_by, endpoints_changed, with_words, MayChange}
 use Rattle.jh_history.specs.PlainView.{PlainView, last_byte}
-use Rattle.jh_history.proofs.FollowLemmas.{specs-changing}
+use Rattle.jh_history.proofs.FollowLemmas.{specs_changing_holds}
 use Rattle.jh_history.proofs.plain.Plain.commit_devices.Goals as goal
 
 pub change_devices-requires : goal.change_devices-requires
@@ -37,7 +35,7 @@ returns-in_ok-change_devices-in-Some-clause-bytes c = λ i f alive opened q.
     ∙ ap option_copied c.in-Some.is in
     c.in_ok-change_devices-in-Some.ensures.bytes i q
     ∙ ap (λ (v : PlainView). with_words (specs_of c.in-Some.config.now) (last_byte i v.bytes) q) c.self.view_is
-    ∙ ap (λ (specs : List EndpointSpec). with_words specs (last_byte i p.bytes) q) (specs-changing f p.cells p.call act (Some c.in-Some.config.now) alive opened is)
+    ∙ ap (λ (specs : List EndpointSpec). with_words specs (last_byte i p.bytes) q) (specs_changing_holds f p.cells p.call act (Some c.in-Some.config.now) alive opened is)
 
 pub returns-in_ok-change_devices-in-Some-clause-endpoints : goal.returns-in_ok-change_devices-in-Some-clause-endpoints
 returns-in_ok-change_devices-in-Some-clause-endpoints c = λ f alive opened.
@@ -51,7 +49,7 @@ returns-in_ok-change_devices-in-Some-clause-endpoints c = λ f alive opened.
     c.in_ok-change_devices-in-Some.ensures.endpoints
     ∙ ap (λ (v : PlainView). endpoints_changed c.by-change.result (specs_of c.in-Some.config.now) v.endpoints) c.self.view_is
     ∙ ap (λ (k : DeviceChange). endpoints_changed k (specs_of c.in-Some.config.now) p.endpoints) (c.by-change.ensures ∙ ap change_by (call ∙ sym opened))
-    ∙ ap (λ (specs : List EndpointSpec). endpoints_changed (change_by f.call) specs p.endpoints) (specs-changing f p.cells p.call act (Some c.in-Some.config.now) alive opened is)
+    ∙ ap (λ (specs : List EndpointSpec). endpoints_changed (change_by f.call) specs p.endpoints) (specs_changing_holds f p.cells p.call act (Some c.in-Some.config.now) alive opened is)
 
 pub returns-in-None-clause-bytes : goal.returns-in-None-clause-bytes
 returns-in-None-clause-bytes c = λ i f alive opened q.
@@ -61,7 +59,7 @@ returns-in-None-clause-bytes c = λ i f alive opened q.
     let is : changing_by p.cells p.call act ≡ None =
     sym (c.changing_cell.ensures c.self.inside.cells (sym c.configs.ensures) ∙ ap (λ (k : Option OpenCall). changing_by c.self.inside.cells k act) call_too ∙ ap (λ (v : PlainView). changing_by v.cells p.call act) c.self.view_is)
     ∙ ap option_copied c.in-None.is in
-    ap (λ (specs : List EndpointSpec). with_words specs (last_byte i p.bytes) q) (specs-changing f p.cells p.call act None alive opened is)
+    ap (λ (specs : List EndpointSpec). with_words specs (last_byte i p.bytes) q) (specs_changing_holds f p.cells p.call act None alive opened is)
 
 pub returns-in-None-clause-endpoints : goal.returns-in-None-clause-endpoints
 returns-in-None-clause-endpoints c = λ f alive opened.
@@ -71,4 +69,4 @@ returns-in-None-clause-endpoints c = λ f alive opened.
     let is : changing_by p.cells p.call act ≡ None =
     sym (c.changing_cell.ensures c.self.inside.cells (sym c.configs.ensures) ∙ ap (λ (k : Option OpenCall). changing_by c.self.inside.cells k act) call_too ∙ ap (λ (v : PlainView). changing_by v.cells p.call act) c.self.view_is)
     ∙ ap option_copied c.in-None.is in
-    ap (λ (specs : List EndpointSpec). endpoints_changed (change_by f.call) specs p.endpoints) (specs-changing f p.cells p.call act None alive opened is)
+    ap (λ (specs : List EndpointSpec). endpoints_changed (change_by f.call) specs p.endpoints) (specs_changing_holds f p.cells p.call act None alive opened is)

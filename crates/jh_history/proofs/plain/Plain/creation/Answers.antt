@@ -12,8 +12,8 @@ use Rattle.jh_history.specs.Phases.{configs_of, is_locked, creation_of, creation
 use Rattle.jh_history.specs.PlainView.{PlainView, IsFit, last_byte}
 use Rattle.jh_history.specs.ReadView.{as_read}
 use Rattle.jh_history.proofs.FactsLemmas.{same_function}
-use Rattle.jh_history.proofs.PlainReadLemmas.{read_in, plain-reads}
-use Rattle.jh_history.proofs.ReadLemmas.{read_by-is}
+use Rattle.jh_history.proofs.PlainReadLemmas.{read_in, plain_reads}
+use Rattle.jh_history.proofs.ReadLemmas.{read_by_is}
 use Rattle.jh_history.proofs.plain.Plain.creation.Goals as goal
 
 pub returns-then-is_any_locked : goal.returns-then-is_any_locked
@@ -42,4 +42,4 @@ returns-in-Some c = λ i f h.
     rw locked
     (subst P c.in-Some.is (c.in_ok-creation.ensures.told f cells_too (λ n lt. ap (λ (v : PlainView). slice_get v.cpus n) c.self.view_is ∙ h.0.cpus n lt))
     ∙ ap (λ (x : Image). creation_by x f c.args.caller (as_read c.in_ok-read.read)) image
-    ∙ ap (λ (read : ReadCell). creation_by i f c.args.caller read) (c.in_ok-read.ensures ∙ read_by-is i f (read_in p) c.args.at (λ a. plain-reads p i f a fit h.0)))
+    ∙ ap (λ (read : ReadCell). creation_by i f c.args.caller read) (c.in_ok-read.ensures ∙ read_by_is i f (read_in p) c.args.at (λ a. plain_reads p i f a fit h.0)))

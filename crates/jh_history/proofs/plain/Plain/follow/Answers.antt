@@ -11,7 +11,7 @@ use Rattle.jh_history.specs.Commits.{cells_by}
 use Rattle.jh_history.specs.Due.{due_at}
 use Rattle.jh_history.specs.Sound.{IsSound}
 use Rattle.jh_history.specs.PlainView.{last_byte}
-use Rattle.jh_history.proofs.KeptLemmas.{Stands-after}
+use Rattle.jh_history.proofs.KeptLemmas.{Stands_after}
 use Rattle.jh_history.proofs.plain.Plain.follow.Goals as goal
 
 pub move_on-requires : goal.move_on-requires
@@ -31,7 +31,7 @@ returns c = λ i f h.
     let entry = c.args.entry.now in
     let call : c.change.new.self.call ≡ f.call = c.in_ok-change.ensures.call ∙ sym h.call in
     let cells : c.change.new.self.cells ≡ f.cells = c.in_ok-change.ensures.cells ∙ sym h.cells in
-    Stands-after i f entry c.args.self.now c.move_on.new.self h (c.in_ok-move_on.ensures.image ∙ c.in_ok-change.ensures.image)
+    Stands_after i f entry c.args.self.now c.move_on.new.self h (c.in_ok-move_on.ensures.image ∙ c.in_ok-change.ensures.image)
     (c.in_ok-move_on.ensures.cells
     ∙ ap (λ (k : Option OpenCall). cells_by k c.change.new.self.cells entry.act) call
     ∙ ap (λ (lives : List Live). cells_by f.call lives entry.act) cells)

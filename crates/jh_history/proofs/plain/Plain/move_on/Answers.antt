@@ -12,7 +12,7 @@ use Rattle.jh_history.specs.Calls.{call_by}
 use Rattle.jh_history.specs.Commits.{cells_by}
 use Rattle.jh_history.specs.Phases.{configs_of}
 use Rattle.jh_history.specs.PlainView.{PlainView, IsFit}
-use Rattle.jh_history.proofs.PlainStepLemmas.{fit-after}
+use Rattle.jh_history.proofs.PlainStepLemmas.{fit_after}
 use Rattle.jh_history.proofs.plain.Plain.move_on.Goals as goal
 
 pub returns-clause-cells : goal.returns-clause-cells
@@ -52,4 +52,4 @@ invariant_of-self-2 c =
     subst (λ (x : Image). IsSound x (after x f entry)) image (c.legal_journals_are_sound.ensures.after c.args.self.now.image f entry c.requires.sound c.requires.due) in
     let names : All (λ (x : CellConfig). IsSoundBitmap x.cpu_set → IsSoundCpuSet x.cpu_set) (configs_of c.cells_after.new.cells) =
     subst (λ (configs : List CellConfig). All (λ (x : CellConfig). IsSoundBitmap x.cpu_set → IsSoundCpuSet x.cpu_set) configs) c.configs-2.ensures c.sets_name_cpus.ensures in
-    fit-after c.self.inside.image.now f entry c.self.inside.cells c.cells_after.new.cells c.self.invariant cells sound is names
+    fit_after c.self.inside.image.now f entry c.self.inside.cells c.cells_after.new.cells c.self.invariant cells sound is names

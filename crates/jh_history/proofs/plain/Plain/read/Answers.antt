@@ -4,7 +4,7 @@ use Rattle.jh_history.specs.declared.access.Access.TheVariants.{Read}
 use Rattle.jh_history.specs.Access.{memory_or_nothing, memory_read, reach_by}
 use Rattle.jh_history.specs.Grants.{granted_in}
 use Rattle.jh_history.specs.PlainView.{PlainView, last_byte}
-use Rattle.jh_history.proofs.ReadLemmas.{one-place}
+use Rattle.jh_history.proofs.ReadLemmas.{one_place_holds}
 use Rattle.jh_history.proofs.plain.Plain.read.Goals as goal
 
 pub returns-in-None : goal.returns-in-None
@@ -19,6 +19,6 @@ returns-in-Some c =
 pub overflow_cast-result : goal.overflow_cast-result
 overflow_cast-result c =
     let image = c.self.inside.image.now in
-    let one : length c.in-Some.places ≡ 1 = one-place (granted_in image c.self.inside.cells image.system.root.id Read) c.args.at c.in-Some.places (sym c.memory_in.ensures ∙ ap memory_or_nothing c.in-Some.is) in
+    let one : length c.in-Some.places ≡ 1 = one_place_holds (granted_in image c.self.inside.cells image.system.root.id Read) c.args.at c.in-Some.places (sym c.memory_in.ensures ∙ ap memory_or_nothing c.in-Some.is) in
     let fits : c.value_of.result < 256 ^ 1 = subst (λ (n : ℕ). c.value_of.result < 256 ^ n) one c.value_of.ensures.fits in
     omega arith

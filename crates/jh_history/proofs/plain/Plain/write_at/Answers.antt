@@ -2,67 +2,67 @@
 use Rattle.std.proofs.Common.{◌≡◌, true, false, inl, inr, ◌∙◌, ap, sym, ⊎_elim}
 use Rattle.jh_history.specs.declared.access.Reach.{Reach}
 use Rattle.jh_history.specs.declared.access.Reach.TheVariants.{Memory, Subpage}
-use Rattle.jh_history.specs.Access.{with_slot_if, slot_of_reach, write_of}
+use Rattle.jh_history.specs.Access.{write_of}
 use Rattle.jh_history.specs.Endpoints.{endpoints_put}
 use Rattle.jh_history.specs.Grants.{devices_of}
 use Rattle.jh_history.specs.Places.{over}
 use Rattle.jh_history.specs.PlainView.{PlainView, last_byte}
-use Rattle.jh_history.proofs.KeptLemmas.{kept-write, kept-write_subpage, reach-kept, is_device, device-write, others-put}
+use Rattle.jh_history.proofs.KeptLemmas.{kept_write, kept_write_subpage, reach_kept, is_device, device_write, others_put}
 use Rattle.jh_history.proofs.plain.Plain.write_at.Goals as goal
 
 pub returns-in_ok-write_places-in-Memory-clause-bytes : goal.returns-in_ok-write_places-in-Memory-clause-bytes
 returns-in_ok-write_places-in-Memory-clause-bytes c = λ i f h q.
     let wanted = c.args.wanted.now in
-    let found = reach-kept i c.self.inside.image.now f c.self.inside.cells c.self.inside.endpoints.list c.args.cell wanted c.reach_in-reach.result
+    let found = reach_kept i c.self.inside.image.now f c.self.inside.cells c.self.inside.endpoints.list c.args.cell wanted c.reach_in-reach.result
     (ap (λ (p : PlainView). p.image) c.self.view_is ∙ sym h.same) (ap (λ (p : PlainView). p.cells) c.self.view_is ∙ sym h.cells) (ap (λ (p : PlainView). p.endpoints) c.self.view_is ∙ sym h.endpoints) c.reach_in-reach.ensures in
     c.in_ok-write_places-in-Memory.ensures i q
     ∙ ap (λ (p : PlainView). over c.in-Memory.places c.args.value q (last_byte i p.bytes q)) c.self.view_is
     ∙ ⊎_elim
-    (λ (is : c.reach_in-reach.result ≡ Memory c.in-Memory.places). kept-write i f c.args.cell wanted c.reach_in-reach.result c.in-Memory.places c.args.value q c.args.self.now h found is)
-    (λ (is : c.reach_in-reach.result ≡ Subpage c.in-Memory.places). kept-write_subpage i f c.args.cell wanted c.reach_in-reach.result c.in-Memory.places c.args.value q c.args.self.now h found is)
+    (λ (is : c.reach_in-reach.result ≡ Memory c.in-Memory.places). kept_write i f c.args.cell wanted c.reach_in-reach.result c.in-Memory.places c.args.value q c.args.self.now h found is)
+    (λ (is : c.reach_in-reach.result ≡ Subpage c.in-Memory.places). kept_write_subpage i f c.args.cell wanted c.reach_in-reach.result c.in-Memory.places c.args.value q c.args.self.now h found is)
     c.in-Memory.is
 
 pub returns-in_ok-write_places-in-Memory-clause-endpoints : goal.returns-in_ok-write_places-in-Memory-clause-endpoints
 returns-in_ok-write_places-in-Memory-clause-endpoints c = λ i f h.
     let wanted = c.args.wanted.now in
-    let found = reach-kept i c.self.inside.image.now f c.self.inside.cells c.self.inside.endpoints.list c.args.cell wanted c.reach_in-reach.result
+    let found = reach_kept i c.self.inside.image.now f c.self.inside.cells c.self.inside.endpoints.list c.args.cell wanted c.reach_in-reach.result
     (ap (λ (p : PlainView). p.image) c.self.view_is ∙ sym h.same) (ap (λ (p : PlainView). p.cells) c.self.view_is ∙ sym h.cells) (ap (λ (p : PlainView). p.endpoints) c.self.view_is ∙ sym h.endpoints) c.reach_in-reach.ensures in
     let other : is_device c.reach_in-reach.result ≡ false = ⊎_elim
     (λ (is : c.reach_in-reach.result ≡ Memory c.in-Memory.places). ap is_device is)
     (λ (is : c.reach_in-reach.result ≡ Subpage c.in-Memory.places). ap is_device is)
     c.in-Memory.is in
-    ap (λ (p : PlainView). p.endpoints) c.self.view_is ∙ sym h.endpoints ∙ others-put i f c.args.cell wanted c.reach_in-reach.result c.args.value found other
+    ap (λ (p : PlainView). p.endpoints) c.self.view_is ∙ sym h.endpoints ∙ others_put i f c.args.cell wanted c.reach_in-reach.result c.args.value found other
 
 pub returns-in_ok-write_device-in-Config-clause-bytes : goal.returns-in_ok-write_device-in-Config-clause-bytes
 returns-in_ok-write_device-in-Config-clause-bytes c = λ i f h q.
     let wanted = c.args.wanted.now in
-    let found = reach-kept i c.self.inside.image.now f c.self.inside.cells c.self.inside.endpoints.list c.args.cell wanted c.reach_in-reach.result
+    let found = reach_kept i c.self.inside.image.now f c.self.inside.cells c.self.inside.endpoints.list c.args.cell wanted c.reach_in-reach.result
     (ap (λ (p : PlainView). p.image) c.self.view_is ∙ sym h.same) (ap (λ (p : PlainView). p.cells) c.self.view_is ∙ sym h.cells) (ap (λ (p : PlainView). p.endpoints) c.self.view_is ∙ sym h.endpoints) c.reach_in-reach.ensures in
     let device : is_device c.reach_in-reach.result ≡ true = elim c.in-Config.is [
       | inl is ↦ ap is_device is.1
       | inr is ↦ ap is_device is.1
     ] in
     c.in_ok-write_device-in-Config.ensures.bytes i f h q
-    ∙ device-write f.byte (devices_of i f c.args.cell) c.reach_in-reach.result c.args.value q device
+    ∙ device_write f.byte (devices_of i f c.args.cell) c.reach_in-reach.result c.args.value q device
     ∙ ap (λ (r : Reach). write_of f.byte (devices_of i f c.args.cell) r c.args.value q) found
 
 pub returns-in_ok-write_device-in-Config-clause-endpoints : goal.returns-in_ok-write_device-in-Config-clause-endpoints
 returns-in_ok-write_device-in-Config-clause-endpoints c = λ i f h.
     let wanted = c.args.wanted.now in
-    let found = reach-kept i c.self.inside.image.now f c.self.inside.cells c.self.inside.endpoints.list c.args.cell wanted c.reach_in-reach.result
+    let found = reach_kept i c.self.inside.image.now f c.self.inside.cells c.self.inside.endpoints.list c.args.cell wanted c.reach_in-reach.result
     (ap (λ (p : PlainView). p.image) c.self.view_is ∙ sym h.same) (ap (λ (p : PlainView). p.cells) c.self.view_is ∙ sym h.cells) (ap (λ (p : PlainView). p.endpoints) c.self.view_is ∙ sym h.endpoints) c.reach_in-reach.ensures in
     c.in_ok-write_device-in-Config.ensures.endpoints i f h ∙ ap (λ (r : Reach). endpoints_put (devices_of i f c.args.cell) r c.args.value) found
 
 pub returns-in-Nothing-clause-bytes : goal.returns-in-Nothing-clause-bytes
 returns-in-Nothing-clause-bytes c = λ i f h q.
     let wanted = c.args.wanted.now in
-    let found = reach-kept i c.self.inside.image.now f c.self.inside.cells c.self.inside.endpoints.list c.args.cell wanted c.reach_in-reach.result
+    let found = reach_kept i c.self.inside.image.now f c.self.inside.cells c.self.inside.endpoints.list c.args.cell wanted c.reach_in-reach.result
     (ap (λ (p : PlainView). p.image) c.self.view_is ∙ sym h.same) (ap (λ (p : PlainView). p.cells) c.self.view_is ∙ sym h.cells) (ap (λ (p : PlainView). p.endpoints) c.self.view_is ∙ sym h.endpoints) c.reach_in-reach.ensures in
     sym (h.bytes q) ∙ ap (λ (r : Reach). write_of f.byte (devices_of i f c.args.cell) r c.args.value q) (sym c.in-Nothing.is ∙ found)
 
 pub returns-in-Nothing-clause-endpoints : goal.returns-in-Nothing-clause-endpoints
 returns-in-Nothing-clause-endpoints c = λ i f h.
     let wanted = c.args.wanted.now in
-    let found = reach-kept i c.self.inside.image.now f c.self.inside.cells c.self.inside.endpoints.list c.args.cell wanted c.reach_in-reach.result
+    let found = reach_kept i c.self.inside.image.now f c.self.inside.cells c.self.inside.endpoints.list c.args.cell wanted c.reach_in-reach.result
     (ap (λ (p : PlainView). p.image) c.self.view_is ∙ sym h.same) (ap (λ (p : PlainView). p.cells) c.self.view_is ∙ sym h.cells) (ap (λ (p : PlainView). p.endpoints) c.self.view_is ∙ sym h.endpoints) c.reach_in-reach.ensures in
-    sym h.endpoints ∙ others-put i f c.args.cell wanted c.reach_in-reach.result c.args.value found (ap is_device c.in-Nothing.is)
+    sym h.endpoints ∙ others_put i f c.args.cell wanted c.reach_in-reach.result c.args.value found (ap is_device c.in-Nothing.is)

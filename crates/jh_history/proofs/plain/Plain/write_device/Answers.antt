@@ -1,5 +1,5 @@
 -- A write that reaches a device.
-use Rattle.std.proofs.Common.{◌≡◌, ◌+◌, ◌^◌, ◌<◌, ℕ, Option, sym, ap, subst, ◌∙◌}
+use Rattle.std.proofs.Common.{◌+◌, ◌^◌, ◌<◌, ℕ, Option, sym, ap, subst, ◌∙◌}
 use Rattle.std.specs.Prelude.{IfSome}
 use Rattle.jh_ivshmem.specs.declared.spec.Slot.{Slot}
 use Rattle.jh_history.specs.declared.place.Place.{Place}
@@ -9,13 +9,13 @@ use Rattle.jh_history.specs.Endpoints.{endpoints_put}
 use Rattle.jh_history.specs.Grants.{devices_of}
 use Rattle.jh_history.specs.PlainView.{PlainView, last_byte}
 use Rattle.jh_history.proofs.FactsLemmas.{same_function}
-use Rattle.jh_history.proofs.KeptLemmas.{devices-kept}
+use Rattle.jh_history.proofs.KeptLemmas.{devices_kept}
 use Rattle.jh_history.proofs.plain.Plain.write_device.Goals as goal
 
 pub write_slot_if-requires : goal.write_slot_if-requires
 write_slot_if-requires c =
     let p = c.args.self.now in
-    let devices = devices-kept p.image c.self.inside.image.now p.cells c.self.inside.cells p.endpoints c.self.inside.endpoints.list c.args.cell c.devices_in-list.result.now
+    let devices = devices_kept p.image c.self.inside.image.now p.cells c.self.inside.cells p.endpoints c.self.inside.endpoints.list c.args.cell c.devices_in-list.result.now
     (ap (λ (v : PlainView). v.image) c.self.view_is) (ap (λ (v : PlainView). v.cells) c.self.view_is) (ap (λ (v : PlainView). v.endpoints) c.self.view_is)
     (c.devices_in-list.ensures c.self.inside.cells (sym c.configs.ensures)) in
     subst (λ (o : Option Slot). IfSome o (λ (s : Slot). s.place + 4 < 2 ^ 64))
@@ -24,7 +24,7 @@ write_slot_if-requires c =
 
 pub returns-clause-bytes : goal.returns-clause-bytes
 returns-clause-bytes c = λ i f h q.
-    let devices = devices-kept i c.self.inside.image.now f.cells c.self.inside.cells f.endpoints c.self.inside.endpoints.list c.args.cell c.devices_in-list.result.now
+    let devices = devices_kept i c.self.inside.image.now f.cells c.self.inside.cells f.endpoints c.self.inside.endpoints.list c.args.cell c.devices_in-list.result.now
     (ap (λ (v : PlainView). v.image) c.self.view_is ∙ sym h.same) (ap (λ (v : PlainView). v.cells) c.self.view_is ∙ sym h.cells) (ap (λ (v : PlainView). v.endpoints) c.self.view_is ∙ sym h.endpoints)
     (c.devices_in-list.ensures c.self.inside.cells (sym c.configs.ensures)) in
     c.in_ok-write_slot_if.ensures i q
@@ -34,7 +34,7 @@ returns-clause-bytes c = λ i f h q.
 
 pub returns-clause-endpoints : goal.returns-clause-endpoints
 returns-clause-endpoints c = λ i f h.
-    let devices = devices-kept i c.self.inside.image.now f.cells c.self.inside.cells f.endpoints c.self.inside.endpoints.list c.args.cell c.devices_in-list.result.now
+    let devices = devices_kept i c.self.inside.image.now f.cells c.self.inside.cells f.endpoints c.self.inside.endpoints.list c.args.cell c.devices_in-list.result.now
     (ap (λ (v : PlainView). v.image) c.self.view_is ∙ sym h.same) (ap (λ (v : PlainView). v.cells) c.self.view_is ∙ sym h.cells) (ap (λ (v : PlainView). v.endpoints) c.self.view_is ∙ sym h.endpoints)
     (c.devices_in-list.ensures c.self.inside.cells (sym c.configs.ensures)) in
     c.write_device-slot.ensures.list ∙ ap (λ (d : Devices). endpoints_put d c.args.reach.now c.args.value) devices

@@ -8,9 +8,9 @@ use Rattle.jh_ivshmem.specs.Changes.{changed}
 use Rattle.jh_ivshmem.specs.Seen.{Seen}
 use Rattle.jh_ivshmem.specs.Links.{endpoint_at}
 use Rattle.jh_ivshmem.specs.Lending.{with_space}
-use Rattle.jh_ivshmem.proofs.ApartLemmas.{set-device}
-use Rattle.jh_ivshmem.proofs.BesidesLemmas.{besides-changed}
-use Rattle.jh_ivshmem.proofs.KeyLemmas.{kept-space}
+use Rattle.jh_ivshmem.proofs.ApartLemmas.{set_device}
+use Rattle.jh_ivshmem.proofs.BesidesLemmas.{besides_changed}
+use Rattle.jh_ivshmem.proofs.KeyLemmas.{kept_space}
 use Rattle.jh_ivshmem.proofs.LoopLemmas.{sound_at}
 use Rattle.jh_ivshmem.proofs.NamedLemmas.{passes, same_found}
 use Rattle.jh_ivshmem.proofs.endpoints.Endpoints.config_mut.Goals as goal
@@ -24,7 +24,7 @@ found c =
 
 pub invariant_of-self-lent : goal.invariant_of-self-lent
 invariant_of-self-lent c = λ w.
-    kept-space c.self.inside.endpoints.items c.self.inside.keys.items c.place-i.result c.index_mut-endpoint.result.now w
+    kept_space c.self.inside.endpoints.items c.self.inside.keys.items c.place-i.result c.index_mut-endpoint.result.now w
     c.self.invariant
     (sound_at c.self.inside.endpoints.items c.self.inside.keys.items c.place-i.result c.index_mut-endpoint.result.now
     c.self.invariant c.place-i.ensures.bound c.index_mut-endpoint.ensures.value)
@@ -35,7 +35,7 @@ listed : (c : goal.After-self-2-1) (w : Space)
     → set c.self.inside.endpoints.items c.place-i.result (record c.index_mut-endpoint.result.now { space = w })
     ≡ changed (is_device c.args.cell c.args.device) (λ (e : Endpoint). record e { space = w }) c.self.inside.endpoints.items
 listed c w =
-    set-device c.args.cell c.args.device (λ (e : Endpoint). record e { space = w }) c.self.inside.endpoints.items c.place-i.result
+    set_device c.args.cell c.args.device (λ (e : Endpoint). record e { space = w }) c.self.inside.endpoints.items c.place-i.result
     c.index_mut-endpoint.result.now c.self.invariant.apart c.place-i.ensures.bound c.index_mut-endpoint.ensures.value
     (passes c.args.cell c.args.device c.args.self.now.list c.index_mut-endpoint.result.now (found c))
 
@@ -46,5 +46,5 @@ returns c = (
     λ w. ap (λ (list : List Endpoint). record (the_view c.self.inside) { list = list }) (listed c w)
         ∙ ap (λ (seen : Seen). with_space c.args.cell c.args.device w seen) c.self.view_is,
   ),
-  record { value = λ e named. ap (λ (o : Endpoint). o.space) (same_found c.args.cell c.args.device c.args.self.now.list e c.index_mut-endpoint.result.now named (found c)); others = λ space. besides-changed (is_device c.args.cell c.args.device) (is_device c.args.cell c.args.device) (λ (e : Endpoint). record e { space = space }) (λ e. refl) (λ s h. h) c.args.self.now.list; writes_back = tt },
+  record { value = λ e named. ap (λ (o : Endpoint). o.space) (same_found c.args.cell c.args.device c.args.self.now.list e c.index_mut-endpoint.result.now named (found c)); others = λ space. besides_changed (is_device c.args.cell c.args.device) (is_device c.args.cell c.args.device) (λ (e : Endpoint). record e { space = space }) (λ e. refl) (λ s h. h) c.args.self.now.list; writes_back = tt },
 )

@@ -6,7 +6,7 @@ use Rattle.jh_ivshmem.specs.Specs.{AreApart, is_device}
 use Rattle.jh_ivshmem.specs.Seen.{Seen}
 use Rattle.jh_ivshmem.specs.Keys.{AreInOrder}
 use Rattle.jh_ivshmem.specs.Links.{besides, joined}
-use Rattle.jh_ivshmem.proofs.BesidesLemmas.{besides-joined, own_device}
+use Rattle.jh_ivshmem.proofs.BesidesLemmas.{besides_joined, own_device}
 use Rattle.jh_ivshmem.proofs.OrderLemmas.{IsPlace, Joins, joins, keys_in_order}
 use Rattle.jh_ivshmem.proofs.endpoints.Endpoints.join.Goals as goal
 
@@ -38,4 +38,4 @@ returns-clause-ok c = (joining c).list ∙ ap (joined c.args.s) (ap (λ (seen : 
 pub returns-clause-others : goal.returns-clause-others
 returns-clause-others c =
     ap (besides (is_device c.args.s.cell c.args.s.device)) (returns-clause-ok c)
-    ∙ besides-joined (is_device c.args.s.cell c.args.s.device) c.args.s (own_device c.args.s) c.args.self.now.list
+    ∙ besides_joined (is_device c.args.s.cell c.args.s.device) c.args.s (own_device c.args.s) c.args.self.now.list

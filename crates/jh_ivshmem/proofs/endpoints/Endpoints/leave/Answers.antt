@@ -7,8 +7,8 @@ use Rattle.jh_ivshmem.specs.Specs.{is_device, is_concerned}
 use Rattle.jh_ivshmem.specs.Seen.{Seen}
 use Rattle.jh_ivshmem.specs.Keys.{AreKept, is_key_meant}
 use Rattle.jh_ivshmem.specs.Links.{told_of, besides}
-use Rattle.jh_ivshmem.proofs.BesidesLemmas.{besides-left}
-use Rattle.jh_ivshmem.proofs.KeyLemmas.{kept-filter}
+use Rattle.jh_ivshmem.proofs.BesidesLemmas.{besides_left}
+use Rattle.jh_ivshmem.proofs.KeyLemmas.{kept_filter}
 use Rattle.jh_ivshmem.proofs.NamedLemmas.{by_own_name}
 use Rattle.jh_ivshmem.proofs.endpoints.Endpoints.leave.Goals as goal
 
@@ -17,7 +17,7 @@ invariant_of-self c =
     subst (λ list. AreKept list c.drop_key.new.keys.items) (sym c.drop_endpoint.ensures.list)
     (subst (AreKept (filter (λ (e : Endpoint). not (is_device c.args.cell c.args.device e.spec)) c.self.inside.endpoints.items))
     (sym c.drop_key.ensures.list)
-    (kept-filter c.self.inside.endpoints.items c.self.inside.keys.items
+    (kept_filter c.self.inside.endpoints.items c.self.inside.keys.items
     (λ (e : Endpoint). not (is_device c.args.cell c.args.device e.spec))
     (λ (key : Key). not (is_key_meant (Device c.args.cell c.args.device) key))
     (λ (spec : EndpointSpec). not (is_device c.args.cell c.args.device spec))
@@ -33,4 +33,4 @@ returns-clause-list c = λ e named.
     (ap (λ (seen : Seen). seen.list) c.self.view_is ∙ c.tell-slot.ensures.list e named))
 
 pub returns-clause-others : goal.returns-clause-others
-returns-clause-others c = λ e named. ap (besides (is_concerned e.spec)) (returns-clause-list c e named) ∙ besides-left e c.args.self.now.list
+returns-clause-others c = λ e named. ap (besides (is_concerned e.spec)) (returns-clause-list c e named) ∙ besides_left e c.args.self.now.list

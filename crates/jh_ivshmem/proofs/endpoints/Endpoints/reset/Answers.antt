@@ -3,7 +3,7 @@ use Rattle.jh_ivshmem.specs.Specs.{is_device, is_concerned}
 use Rattle.jh_ivshmem.specs.Endpoint.{cleared}
 use Rattle.jh_ivshmem.specs.Changes.{changed}
 use Rattle.jh_ivshmem.specs.Links.{told_of, besides}
-use Rattle.jh_ivshmem.proofs.BesidesLemmas.{besides-reset}
+use Rattle.jh_ivshmem.proofs.BesidesLemmas.{besides_reset}
 use Rattle.jh_ivshmem.proofs.NamedLemmas.{by_own_name}
 use Rattle.jh_ivshmem.proofs.endpoints.Endpoints.reset.Goals as goal
 
@@ -14,4 +14,4 @@ returns-clause-list c = λ e named.
     (c.change.ensures.list ∙ ap (changed (is_device c.args.cell c.args.device) cleared) (c.tell-slot.ensures.list e named))
 
 pub returns-clause-others : goal.returns-clause-others
-returns-clause-others c = λ e named. ap (besides (is_concerned e.spec)) (returns-clause-list c e named) ∙ besides-reset e c.args.self.now.list
+returns-clause-others c = λ e named. ap (besides (is_concerned e.spec)) (returns-clause-list c e named) ∙ besides_reset e c.args.self.now.list

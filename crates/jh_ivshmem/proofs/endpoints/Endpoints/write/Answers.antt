@@ -7,7 +7,7 @@ use Rattle.jh_ivshmem.specs.Specs.{is_device, is_concerned, slot_of}
 use Rattle.jh_ivshmem.specs.Registers.{register_written}
 use Rattle.jh_ivshmem.specs.Changes.{changed}
 use Rattle.jh_ivshmem.specs.Links.{written, slot_written, rung, state_written, besides}
-use Rattle.jh_ivshmem.proofs.BesidesLemmas.{besides-written}
+use Rattle.jh_ivshmem.proofs.BesidesLemmas.{besides_written}
 use Rattle.jh_ivshmem.proofs.NamedLemmas.{by_own_name}
 use Rattle.jh_ivshmem.proofs.endpoints.Endpoints.write.Goals as goal
 
@@ -95,14 +95,14 @@ returns-else-is_state-clause-slot c = λ e named.
 pub returns-then-is_doorbell-clause-others : goal.returns-then-is_doorbell-clause-others
 returns-then-is_doorbell-clause-others c = λ e named.
     ap (besides (is_concerned e.spec)) (returns-then-is_doorbell-clause-list c e named)
-    ∙ besides-written e c.args.bar c.args.at c.args.value c.args.self.now.list
+    ∙ besides_written e c.args.bar c.args.at c.args.value c.args.self.now.list
 
 pub returns-then-is_state-clause-others : goal.returns-then-is_state-clause-others
 returns-then-is_state-clause-others c = λ e named.
     ap (besides (is_concerned e.spec)) (returns-then-is_state-clause-list c e named)
-    ∙ besides-written e c.args.bar c.args.at c.args.value c.args.self.now.list
+    ∙ besides_written e c.args.bar c.args.at c.args.value c.args.self.now.list
 
 pub returns-else-is_state-clause-others : goal.returns-else-is_state-clause-others
 returns-else-is_state-clause-others c = λ e named.
     ap (besides (is_concerned e.spec)) (returns-else-is_state-clause-list c e named)
-    ∙ besides-written e c.args.bar c.args.at c.args.value c.args.self.now.list
+    ∙ besides_written e c.args.bar c.args.at c.args.value c.args.self.now.list

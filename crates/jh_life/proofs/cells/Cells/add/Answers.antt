@@ -2,15 +2,15 @@ use Rattle.std.proofs.Common.{◌≡◌, ◌*◌, ◌≤◌, false, Bool, List, 
 use Rattle.jh_cellcfg.specs.declared.config.CellConfig.{CellConfig}
 use Rattle.jh_check.specs.Refusals.{is_known}
 use Rattle.jh_life.specs.Lives.{cells_of}
-use Rattle.jh_life.proofs.JoinedLemmas.{list-joined, length-joined, joined-push, stands-push}
-use Rattle.jh_life.proofs.PageLemmas.{own-le}
+use Rattle.jh_life.proofs.JoinedLemmas.{list_joined, length_joined, joined_push, stands_push}
+use Rattle.jh_life.proofs.PageLemmas.{own_le}
 use Rattle.jh_life.proofs.cells.Cells.add.Goals as goal
 
 pub overflow_add-self : goal.overflow_add-self
 overflow_add-self c =
     let few = c.self.invariant.few in
     let own = c.cell_pages.ensures.bound in
-    let taken : c.self.inside.taken ≤ 1048577 * length c.self.inside.configs.items = rw c.self.invariant.pages (own-le c.self.inside.configs.items) in
+    let taken : c.self.inside.taken ≤ 1048577 * length c.self.inside.configs.items = rw c.self.invariant.pages (own_le c.tables_are_few.ensures c.self.inside.configs.items) in
     omega arith
 
 pub invariant_of-self-2 : goal.invariant_of-self-2
@@ -20,10 +20,10 @@ invariant_of-self-2 c =
     let marks = c.self.inside.marks.items in
     let first : c.push_reserved.new.self.items ≡ configs ++ c.args.new ∷ [] = c.push_reserved.ensures.items ∙ ap (λ (l : List CellConfig). l ++ c.args.new ∷ []) c.in_ok-make_room.ensures.items in
     let second : c.push_reserved-2.new.self.items ≡ marks ++ false ∷ [] = c.push_reserved-2.ensures.items ∙ ap (λ (l : List Bool). l ++ false ∷ []) c.in_ok-make_room-2.ensures.items in
-    let lives : length c.args.self.now.lives ≡ length configs = rw (← c.self.view_is) (length-joined configs marks c.self.invariant.even) in
-    let cells : cells_of c.args.self.now ≡ root ∷ configs = rw (← c.self.view_is) (ap (λ (l : List CellConfig). root ∷ l) (list-joined configs marks c.self.invariant.even)) in
+    let lives : length c.args.self.now.lives ≡ length configs = rw (← c.self.view_is) (length_joined configs marks c.self.invariant.even) in
+    let cells : cells_of c.args.self.now ≡ root ∷ configs = rw (← c.self.view_is) (ap (λ (l : List CellConfig). root ∷ l) (list_joined configs marks c.self.invariant.even)) in
     let unknown : is_known (root ∷ configs) c.args.new ≡ false = subst (λ (l : List CellConfig). is_known l c.args.new ≡ false) cells c.requires.unknown in
-    rw (first, second) (stands-push root configs marks c.self.inside.taken c.args.new c.cell_pages.result c.self.invariant (omega arith) unknown c.cell_pages.ensures.value)
+    rw (first, second) (stands_push root configs marks c.self.inside.taken c.args.new c.cell_pages.result c.self.invariant (omega arith) unknown c.cell_pages.ensures.value)
 
 pub returns-clause-ok : goal.returns-clause-ok
 returns-clause-ok c =
@@ -31,4 +31,4 @@ returns-clause-ok c =
     let marks = c.self.inside.marks.items in
     let first : c.push_reserved.new.self.items ≡ configs ++ c.args.new ∷ [] = c.push_reserved.ensures.items ∙ ap (λ (l : List CellConfig). l ++ c.args.new ∷ []) c.in_ok-make_room.ensures.items in
     let second : c.push_reserved-2.new.self.items ≡ marks ++ false ∷ [] = c.push_reserved-2.ensures.items ∙ ap (λ (l : List Bool). l ++ false ∷ []) c.in_ok-make_room-2.ensures.items in
-    rw (first, second, ← c.self.view_is) (joined-push configs marks c.args.new false c.self.invariant.even)
+    rw (first, second, ← c.self.view_is) (joined_push configs marks c.args.new false c.self.invariant.even)

@@ -8,8 +8,8 @@ use Rattle.jh_shape.specs.Pages.{pages_of}
 use Rattle.jh_life.specs.Seen.{Seen}
 use Rattle.jh_life.specs.Lives.{configs_of, cells_of}
 use Rattle.jh_life.specs.Verdict.{may_have}
-use Rattle.jh_life.proofs.JoinedLemmas.{list-joined, length-joined}
-use Rattle.jh_life.proofs.VerdictLemmas.{refused-same, refused-kept, refused-left, same-cells, accepted-none, accepted-unknown, if_none-from, if_none-some, may-none}
+use Rattle.jh_life.proofs.JoinedLemmas.{list_joined, length_joined}
+use Rattle.jh_life.proofs.VerdictLemmas.{refused_same, refused_kept, refused_left, same_cells, accepted_none, accepted_unknown, if_none_from, if_none_some, may_none}
 use Rattle.jh_life.proofs.cells.Cells.verdict.Goals as goal
 use Rattle.jh_life.proofs.cells.Cells.verdict.Goals.{After-refusal_without_cpus}
 
@@ -18,8 +18,8 @@ abbrev pages_with : Seen → CellConfig → ℕ
 pages_with seen new = pages_of seen.system.root.memory_regions (configs_of seen.lives ++ new ∷ [])
 
 -- beside 15 cells
-told-full : (c : After-refusal_without_cpus) → c.refusal_without_cpus.result ≡ refusal_of c.args.self.now.system (configs_of c.args.self.now.lives) c.args.new.now (may_have c.args.owned c.args.caller) (pages_with c.args.self.now c.args.new.now) c.args.pool
-told-full c =
+told_full : (c : After-refusal_without_cpus) → c.refusal_without_cpus.result ≡ refusal_of c.args.self.now.system (configs_of c.args.self.now.lives) c.args.new.now (may_have c.args.owned c.args.caller) (pages_with c.args.self.now c.args.new.now) c.args.pool
+told_full c =
     let now = c.args.self.now in
     let new = c.args.new.now in
     let live = c.as_slice-live.result.now in
@@ -27,25 +27,25 @@ told-full c =
     let marks = c.self.inside.marks.items in
     let pages : ℕ = pages_with now new in
     let system : c.self.inside.system ≡ now.system = ap (λ (s : Seen). s.system) c.self.view_is in
-    let cells : live ≡ configs_of now.lives = c.as_slice-live.ensures.value ∙ sym (list-joined configs marks c.self.invariant.even) ∙ ap (λ (s : Seen). configs_of s.lives) c.self.view_is in
-    let lives : length now.lives ≡ length configs = rw (← c.self.view_is) (length-joined configs marks c.self.invariant.even) in
+    let cells : live ≡ configs_of now.lives = c.as_slice-live.ensures.value ∙ sym (list_joined configs marks c.self.invariant.even) ∙ ap (λ (s : Seen). configs_of s.lives) c.self.view_is in
+    let lives : length now.lives ≡ length configs = rw (← c.self.view_is) (length_joined configs marks c.self.invariant.even) in
     let len : length live ≡ length configs = ap (λ (l : List CellConfig). length l) c.as_slice-live.ensures.value in
     let full : length now.lives ≡ 15 = omega arith in
     c.refusal_without_cpus.ensures.value pages c.args.pool
     ∙ ap (λ (s : SystemConfig). refusal_of s live new nobody pages c.args.pool) system
     ∙ ap (λ (l : List CellConfig). refusal_of now.system l new nobody pages c.args.pool) cells
-    ∙ refused-same now.system (configs_of now.lives) new nobody (may_have c.args.owned c.args.caller) pages pages c.args.pool
-    (λ cpu. may-none c.args.owned c.args.caller cpu (c.requires full cpu)) refl
+    ∙ refused_same now.system (configs_of now.lives) new nobody (may_have c.args.owned c.args.caller) pages pages c.args.pool
+    (λ cpu. may_none c.args.owned c.args.caller cpu (c.requires full cpu)) refl
 
 pub returns-then-live-eq-MOST_CELLS-clause-value : goal.returns-then-live-eq-MOST_CELLS-clause-value
-returns-then-live-eq-MOST_CELLS-clause-value c = rw c.if-locked.false (told-full c)
+returns-then-live-eq-MOST_CELLS-clause-value c = rw c.if-locked.false (told_full c)
 
 pub returns-then-live-eq-MOST_CELLS-clause-unknown : goal.returns-then-live-eq-MOST_CELLS-clause-unknown
 returns-then-live-eq-MOST_CELLS-clause-unknown c =
-    accepted-unknown c.refusal_without_cpus.result c.args.self.now.system (configs_of c.args.self.now.lives) c.args.new.now (may_have c.args.owned c.args.caller) (pages_with c.args.self.now c.args.new.now) c.args.pool (told-full c)
+    accepted_unknown c.refusal_without_cpus.result c.args.self.now.system (configs_of c.args.self.now.lives) c.args.new.now (may_have c.args.owned c.args.caller) (pages_with c.args.self.now c.args.new.now) c.args.pool (told_full c)
 
 pub returns-then-live-eq-MOST_CELLS-clause-room : goal.returns-then-live-eq-MOST_CELLS-clause-room
-returns-then-live-eq-MOST_CELLS-clause-room c = if_none-some c.refusal_without_cpus.result (length c.args.self.now.lives < 15) c.refusal_without_cpus.ensures.some
+returns-then-live-eq-MOST_CELLS-clause-room c = if_none_some c.refusal_without_cpus.result (length c.args.self.now.lives < 15) c.refusal_without_cpus.ensures.some
 
 -- beside fewer: what is refused before the pages
 pub returns-in-Some-clause-value : goal.returns-in-Some-clause-value
@@ -55,12 +55,12 @@ returns-in-Some-clause-value c =
     let live = c.as_slice-live.result.now in
     let free : ℕ → Bool = λ cpu. get_or c.free_cpus-free.result cpu false in
     let system : c.self.inside.system ≡ now.system = ap (λ (s : Seen). s.system) c.self.view_is in
-    let cells : live ≡ configs_of now.lives = c.as_slice-live.ensures.value ∙ sym (list-joined c.self.inside.configs.items c.self.inside.marks.items c.self.invariant.even) ∙ ap (λ (s : Seen). configs_of s.lives) c.self.view_is in
+    let cells : live ≡ configs_of now.lives = c.as_slice-live.ensures.value ∙ sym (list_joined c.self.inside.configs.items c.self.inside.marks.items c.self.invariant.even) ∙ ap (λ (s : Seen). configs_of s.lives) c.self.view_is in
     let kept : refusal_of c.self.inside.system live new free 0 0 ≡ refusal_of c.self.inside.system live new free (pages_with now new) c.args.pool =
-    refused-kept c.self.inside.system live new free (pages_with now new) c.args.pool (sym c.in_ok-refusal.ensures ∙ c.in-Some.is) in
+    refused_kept c.self.inside.system live new free (pages_with now new) c.args.pool (sym c.in_ok-refusal.ensures ∙ c.in-Some.is) in
     rw c.if-locked.false
     (c.in_ok-refusal.ensures ∙ kept
-    ∙ same-cells c.self.inside.system now.system live (configs_of now.lives) new free (may_have c.args.owned c.args.caller) (pages_with now new) c.args.pool system cells c.free_cpus-free.ensures)
+    ∙ same_cells c.self.inside.system now.system live (configs_of now.lives) new free (may_have c.args.owned c.args.caller) (pages_with now new) c.args.pool system cells c.free_cpus-free.ensures)
 
 -- what is left to them
 pub returns-in-None-clause-value : goal.returns-in-None-clause-value
@@ -70,14 +70,14 @@ returns-in-None-clause-value c =
     let live = c.as_slice-live.result.now in
     let free : ℕ → Bool = λ cpu. get_or c.free_cpus-free.result cpu false in
     let system : c.self.inside.system ≡ now.system = ap (λ (s : Seen). s.system) c.self.view_is in
-    let cells : live ≡ configs_of now.lives = c.as_slice-live.ensures.value ∙ sym (list-joined c.self.inside.configs.items c.self.inside.marks.items c.self.invariant.even) ∙ ap (λ (s : Seen). configs_of s.lives) c.self.view_is in
+    let cells : live ≡ configs_of now.lives = c.as_slice-live.ensures.value ∙ sym (list_joined c.self.inside.configs.items c.self.inside.marks.items c.self.invariant.even) ∙ ap (λ (s : Seen). configs_of s.lives) c.self.view_is in
     let before : refusal_of c.self.inside.system live new free 0 0 ≡ None = sym c.in_ok-refusal.ensures ∙ c.in-None.is in
-    let whole = refused-left c.self.inside.system live new free (pages_with now new) c.args.pool before in
+    let whole = refused_left c.self.inside.system live new free (pages_with now new) c.args.pool before in
     rw c.if-locked.false
     (c.refusal_by_pages.ensures
     ∙ ap (λ n. if nat_lt c.args.pool n then Some ENOMEM else None) c.pages.ensures
     ∙ sym whole
-    ∙ same-cells c.self.inside.system now.system live (configs_of now.lives) new free (may_have c.args.owned c.args.caller) (pages_with now new) c.args.pool system cells c.free_cpus-free.ensures)
+    ∙ same_cells c.self.inside.system now.system live (configs_of now.lives) new free (may_have c.args.owned c.args.caller) (pages_with now new) c.args.pool system cells c.free_cpus-free.ensures)
 
 pub returns-in-None-clause-unknown : goal.returns-in-None-clause-unknown
 returns-in-None-clause-unknown c =
@@ -86,18 +86,18 @@ returns-in-None-clause-unknown c =
     let live = c.as_slice-live.result.now in
     let free : ℕ → Bool = λ cpu. get_or c.free_cpus-free.result cpu false in
     let system : c.self.inside.system ≡ now.system = ap (λ (s : Seen). s.system) c.self.view_is in
-    let cells : live ≡ configs_of now.lives = c.as_slice-live.ensures.value ∙ sym (list-joined c.self.inside.configs.items c.self.inside.marks.items c.self.invariant.even) ∙ ap (λ (s : Seen). configs_of s.lives) c.self.view_is in
+    let cells : live ≡ configs_of now.lives = c.as_slice-live.ensures.value ∙ sym (list_joined c.self.inside.configs.items c.self.inside.marks.items c.self.invariant.even) ∙ ap (λ (s : Seen). configs_of s.lives) c.self.view_is in
     let before : refusal_of now.system (configs_of now.lives) new (may_have c.args.owned c.args.caller) 0 0 ≡ None =
-    sym (same-cells c.self.inside.system now.system live (configs_of now.lives) new free (may_have c.args.owned c.args.caller) 0 0 system cells c.free_cpus-free.ensures)
+    sym (same_cells c.self.inside.system now.system live (configs_of now.lives) new free (may_have c.args.owned c.args.caller) 0 0 system cells c.free_cpus-free.ensures)
     ∙ sym c.in_ok-refusal.ensures ∙ c.in-None.is in
-    if_none-from c.refusal_by_pages.result (is_known (cells_of now) new ≡ false)
-    (accepted-none now.system (configs_of now.lives) new (may_have c.args.owned c.args.caller) 0 0 before)
+    if_none_from c.refusal_by_pages.result (is_known (cells_of now) new ≡ false)
+    (accepted_none now.system (configs_of now.lives) new (may_have c.args.owned c.args.caller) 0 0 before)
 
 pub returns-in-None-clause-room : goal.returns-in-None-clause-room
 returns-in-None-clause-room c =
     let now = c.args.self.now in
     let configs = c.self.inside.configs.items in
-    let lives : length now.lives ≡ length configs = rw (← c.self.view_is) (length-joined configs c.self.inside.marks.items c.self.invariant.even) in
+    let lives : length now.lives ≡ length configs = rw (← c.self.view_is) (length_joined configs c.self.inside.marks.items c.self.invariant.even) in
     let len : length c.as_slice-live.result.now ≡ length configs = ap (λ (l : List CellConfig). length l) c.as_slice-live.ensures.value in
     let few : length now.lives < 15 = omega arith in
-    if_none-from c.refusal_by_pages.result (length now.lives < 15) few
+    if_none_from c.refusal_by_pages.result (length now.lives < 15) few

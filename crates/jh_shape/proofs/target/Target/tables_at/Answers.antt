@@ -5,7 +5,7 @@ use Rattle.jh_shape.specs.Claims.{claims_of}
 use Rattle.jh_shape.specs.Marks.{is_marked}
 use Rattle.jh_shape.specs.Pages.{count_below, tables_at}
 use Rattle.jh_shape.specs.Shapes.{slot_size, is_met, is_table}
-use Rattle.jh_shape.proofs.CountLemmas.{count_below-agree, count_below-until}
+use Rattle.jh_shape.proofs.CountLemmas.{count_below_agree, count_below_until}
 use Rattle.jh_shape.proofs.MarkLemmas.{unmarked}
 use Rattle.jh_shape.proofs.target.Target.tables_at.Goals as goal
 
@@ -31,8 +31,8 @@ returns-clause-value c =
     c.count_apart.ensures.value
     ∙ ap (λ end. count_below test end) c.min-end.ensures
     ∙ ap (λ all. count_below test (min past all)) c.slots.ensures.value
-    ∙ count_below-until test past (ADDRESS_END / size) (λ k l. and_left (is_marked met k) (not (is_marked leaves k)) (c.fill_met-past.ensures.end k l))
-    ∙ count_below-agree test (λ n. is_table claims level (n * size)) _
+    ∙ count_below_until test past (ADDRESS_END / size) (λ k l. and_left (is_marked met k) (not (is_marked leaves k)) (c.fill_met-past.ensures.end k l))
+    ∙ count_below_agree test (λ n. is_table claims level (n * size)) _
     (λ n below.
     ap (λ b. b && not (is_marked leaves n)) (c.fill_met-past.ensures.met n below)
     ∙ ap (λ b. is_met claims level (n * size) && not b) (c.fill_leaves.ensures n below))

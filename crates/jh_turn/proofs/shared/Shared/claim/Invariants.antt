@@ -1,5 +1,5 @@
 use Rattle.std.proofs.Common.{◌≡◌}
-use Rattle.jh_turn.specs.Stages.{IsSameSeat}
+use Rattle.jh_turn.specs.Private.Stages.{IsSameSeat}
 use Rattle.jh_turn.proofs.shared.Shared.claim.Given as goal
 
 abbrev pub invariant-loop : goal.invariant-loop

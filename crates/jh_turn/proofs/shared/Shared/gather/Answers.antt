@@ -1,7 +1,7 @@
 use Rattle.std.proofs.Common.{rules, ◌≡◌, ◌∷◌, ◌++◌, [], length, Some, sym, subst, ap, ◌∙◌, append_assoc}
 use Rattle.std.proofs.lemmas.List.{nil_from_length}
 use Rattle.std.proofs.lemmas.List.Elements.{All-pop}
-use Rattle.jh_turn.specs.Closing.{HasHands}
+use Rattle.jh_turn.specs.Private.Closing.{HasHands}
 use Rattle.jh_turn.specs.Ports.{IsPortOf}
 use Rattle.jh_turn.proofs.Closes.{one_joined, hands_joined}
 use Rattle.jh_turn.proofs.Seating.{join_keeps}

@@ -1,5 +1,5 @@
 use Rattle.std.proofs.Common.{◌≡◌, ◌++◌, false, All, vec_len}
-use Rattle.jh_turn.specs.Closing.{HasHands}
+use Rattle.jh_turn.specs.Private.Closing.{HasHands}
 use Rattle.jh_turn.specs.Ports.{IsPortOf}
 use Rattle.jh_turn.proofs.shared.Shared.gather.Given as goal
 

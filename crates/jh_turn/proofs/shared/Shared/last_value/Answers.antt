@@ -1,7 +1,7 @@
 use Rattle.std.proofs.Common.{◌≡◌, Some, sym, subst, ap, ◌∙◌}
 use Rattle.std.proofs.lemmas.List.Elements.{All-contains}
 use mathlib.Core.Option.{some-injective}
-use Rattle.jh_turn.specs.Closing.{HasCaller, IsLast}
+use Rattle.jh_turn.specs.Private.Closing.{HasCaller, IsLast}
 use Rattle.jh_turn.specs.Ports.{opened_value, all_callers}
 use Rattle.jh_turn.proofs.Seating.{closes}
 use Rattle.jh_turn.proofs.shared.Shared.last_value.Goals as goal

@@ -1,0 +1,14 @@
+-- What is true of every board.
+use Rattle.std.specs.Prelude.{◌<◌, ◌≤◌, length}
+use Rattle.jh_history.specs.History.{facts}
+use Rattle.jh_history.specs.Due.{IsLegal}
+use Rattle.jh_history.specs.Admitted.{IsAdmitted}
+use Rattle.jh_board.specs.Means.{Means}
+use Rattle.jh_board.specs.declared.board.Board.TheInside.{Inside}
+
+pub record IsSoundBoard (b : Inside) : Type 0 where
+  pub admitted : IsAdmitted b.image
+  pub legal : IsLegal b.image b.journal.entries
+  pub within : length b.journal.entries ≤ b.limit
+  pub means : Means b.image b.held.value (facts b.image b.journal.entries)
+  pub last : b.last < 16

@@ -1,6 +1,0 @@
-use Rattle.std.proofs.Common.{[], ◌∷◌, arith}
-use Rattle.jh_check.proofs.ListLemmas.{capped_full}
-use Rattle.jh_check.proofs.found.push.Goals as goal
-
-pub returns-then-len-ge-MAX_FINDINGS : goal.returns-then-len-ge-MAX_FINDINGS
-returns-then-len-ge-MAX_FINDINGS c = capped_full c.args.found.now (c.args.finding ∷ []) (omega arith)

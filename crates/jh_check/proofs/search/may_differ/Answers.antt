@@ -1,0 +1,15 @@
+use Rattle.std.proofs.Common.{◌≡◌, true, take, sym, subst, ◌∙◌}
+use Rattle.std.proofs.lemmas.Bool.{not-false}
+use Rattle.jh_check.specs.Cells.{cells_of}
+use Rattle.jh_check.specs.Devices.{agrees_with_all}
+use Rattle.jh_check.proofs.BusLemmas.{agrees_unmarked}
+use Rattle.jh_check.proofs.search.may_differ.Goals as goal
+
+pub returns-then-not-is_marked : goal.returns-then-not-is_marked
+returns-then-not-is_marked c = λ f.
+    agrees_unmarked (take c.args.a (cells_of c.args.setup.now)) c.args.marks.now c.args.cell.now.memory_regions c.args.device.now c.requires.bdfs (sym c.is_marked.ensures ∙ c.if-not-is_marked.true)
+
+pub returns : goal.returns
+returns c = λ f.
+    let t : c.agrees_with_linked.result ≡ true = not-false c.agrees_with_linked.result f in
+    subst (λ regions. agrees_with_all (take c.args.a (cells_of c.args.setup.now)) regions c.args.device.now ≡ true) c.as_slice.ensures.value (c.agrees_with_linked.ensures t)

@@ -1,0 +1,5 @@
+-- Definitions that mirror the code: clauses of private functions alone cite them, and no public clause rests on them.
+pub mod Bus
+pub mod Links
+pub mod Reaches
+pub mod Seats

@@ -1,0 +1,32 @@
+-- Where the devices of all cells stand on the bus.
+use Rattle.std.specs.Prelude.{◌≡◌, ℕ, ◌<◌, true, List, length, slice_index_or, Contains}
+use Rattle.std.specs.List.Sorted.{IsNonDecreasingBy}
+use Rattle.jh_cellcfg.specs.declared.region.Region.{Region}
+use Rattle.jh_cellcfg.specs.declared.config.PciDevice.{PciDevice}
+use Rattle.jh_cellcfg.specs.declared.config.CellConfig.{CellConfig}
+use Rattle.jh_check.specs.declared.seats.Seat.{Seat}
+use Rattle.jh_check.specs.Devices.{agrees_with}
+
+-- the seat of the device that has that number in the cell of that number
+abbrev pub seat_of : ℕ → ℕ → PciDevice → Seat
+seat_of cell item device = record { bdf = device.bdf; cell = cell; item = item }
+
+-- each device of a cell has its seat among them
+abbrev pub HasSeatsOf : ℕ → List PciDevice → List Seat → Type 0
+HasSeatsOf cell devices seats =
+    (n : ℕ) (d : PciDevice) → n < length devices → Contains seats (seat_of cell n (slice_index_or devices n d))
+
+-- so does each of each cell
+abbrev pub HasSeats : List CellConfig → List Seat → Type 0
+HasSeats cells seats =
+    (c : ℕ) (d : CellConfig) → c < length cells → HasSeatsOf c (slice_index_or cells c d).pci_devices seats
+
+-- they stand in the order of their bdfs
+abbrev pub AreByBdf : List Seat → Type 0
+AreByBdf seats = IsNonDecreasingBy (λ (seat : Seat). seat.bdf) seats
+
+-- the device of the seat fits that one, if it is of one of so many cells
+abbrev pub AgreesAt : List CellConfig → ℕ → List Region → PciDevice → Seat → Type 0
+AgreesAt cells number regions device seat =
+    (c : CellConfig) (d : PciDevice) → seat.cell < number → seat.item < length (slice_index_or cells seat.cell c).pci_devices
+    → agrees_with regions device (slice_index_or cells seat.cell c).memory_regions (slice_index_or (slice_index_or cells seat.cell c).pci_devices seat.item d) ≡ true

@@ -1,0 +1,221 @@
+//! The search for findings, each in its order.
+ghost use Rattle.std.specs.Prelude.{◌≡◌, ◌≤◌, ◌<◌, ◌++◌, true, false, length, take, OnOk, [], ◌∷◌};
+ghost use Rattle.jh_check.specs.Cells.{cells_of};
+ghost use Rattle.jh_check.specs.Sites.{spot_of};
+ghost use Rattle.jh_check.specs.Lists.{capped, only_if};
+ghost use Rattle.jh_check.specs.Regions.{pair_breaks, hypervisor_breaks};
+ghost use Rattle.jh_check.specs.Private.Reaches.{HasHits};
+ghost use Rattle.jh_check.specs.Private.Links.{IsPartner};
+ghost use Rattle.jh_check.specs.Devices.{agrees_with_all};
+ghost use Rattle.jh_check.specs.Private.Bus.{HasBdfs};
+ghost use Rattle.jh_check.specs.Private.Seats.{HasSeats, AreByBdf};
+ghost use Rattle.jh_check.specs.Findings.{item_of, finding_of, beside, in_cell, in_regions, in_hypervisor, in_devices_of, in_devices, in_cpus};
+
+use crate::bus::{is_marked, mark, marks};
+use crate::checking::MAX_FINDINGS;
+use crate::devices::{agrees_with_linked, cpus_break, device_breaks};
+use crate::finding::{Finding, HYPERVISOR};
+use crate::links::is_noted;
+use crate::pairs::{Site, pair_breaks};
+use crate::reach::Window;
+use crate::regions::{hypervisor_breaks, region_breaks};
+use crate::rule::Rule;
+use crate::seats::{Seat, seats_of};
+use crate::setup::Setup;
+use jh_cellcfg::{CellConfig, PciDevice, Region};
+use jh_num::{NoMemory, Seq};
+use std::alloc::Global;
+
+/// The number of an item as a finding tells it.
+fn item_of(n: usize) -> u32
+    ensures { result ≡ item_of n }
+{
+    n.min(u32::MAX as usize) as u32
+}
+
+#[tactic(auto, unfolding(crate::specs::Findings::finding_of))]
+fn finding(rule: Rule, cell: u32, item: usize, other_cell: u32, other_item: usize) -> Finding
+    ensures { result ≡ finding_of rule cell item other_cell other_item }
+{
+    Finding {
+        number: rule.number(),
+        cell,
+        item: item_of(item),
+        other_cell,
+        other_item: item_of(other_item),
+    }
+}
+
+/// Appends the finding where there is room for one.
+fn push(found: &mut Seq<Finding>, finding: Finding) -> Result<(), NoMemory>
+    ensures { OnOk result (capped found.new ≡ capped (found.old ++ finding ∷ [])) }
+{
+    if found.len() >= MAX_FINDINGS {
+        return Ok(());
+    }
+    found.push(finding)?;
+    Ok(())
+}
+
+/// Appends the finding where the test says so and there is room for one.
+#[tactic(auto, using(crate::proofs::ListLemmas::append_nil), unfolding(crate::specs::Lists::only_if))]
+fn put(found: &mut Seq<Finding>, test: bool, finding: Finding) -> Result<(), NoMemory>
+    ensures { OnOk result (capped found.new ≡ capped (found.old ++ only_if test finding)) }
+{
+    if test { push(found, finding) } else { Ok(()) }
+}
+
+/// A region with each of another cell; only those in the window may break the rule with it. Its partner there, if one
+/// is known, is the same section of linked devices.
+pub(crate) fn beside(
+    found: &mut Seq<Finding>,
+    rule: Rule,
+    one: &Site,
+    partner: Option<usize>,
+    window: Window,
+    b: u32,
+    other: &CellConfig,
+) -> Result<(), NoMemory>
+    requires partner { IsPartner (spot_of one.now) other.now partner }
+    requires hits { HasHits rule (spot_of one.now) b other.now window }
+    ensures { OnOk result (capped found.new ≡ capped (found.old ++ beside rule (spot_of one.now) b other.now)) }
+{
+    let regions = other.memory_regions.as_slice();
+    for s in window.first..regions.len().min(window.last.saturating_add(1)) {
+        let second = Site {
+            cell: b,
+            config: other,
+            item: s,
+            region: &regions[s],
+        };
+        let breaks = pair_breaks(rule, one, &second, is_noted(partner, s));
+        put(found, breaks, finding(rule, one.cell, one.item, b, s))?;
+    }
+    Ok(())
+}
+
+/// Each region of a cell by a rule about one.
+fn in_cell(
+    found: &mut Seq<Finding>,
+    rule: Rule,
+    hypervisor: &Region,
+    a: u32,
+    regions: &[Region],
+) -> Result<(), NoMemory>
+    ensures { OnOk result (capped found.new ≡ capped (found.old ++ in_cell rule hypervisor.now a regions.now)) }
+{
+    for (r, region) in regions.iter().enumerate() {
+        let breaks = region_breaks(rule, hypervisor, a, &regions[..r], region);
+        put(found, breaks, finding(rule, a, r, 0, 0))?;
+    }
+    Ok(())
+}
+
+/// Each region of all cells by such a rule.
+pub(crate) fn in_regions(
+    found: &mut Seq<Finding>,
+    rule: Rule,
+    setup: &Setup,
+) -> Result<(), NoMemory>
+    requires { length setup.now.cells.now ≤ 15 }
+    ensures { OnOk result (capped found.new ≡ capped (found.old ++ in_regions rule setup.now.hypervisor.now (cells_of setup.now))) }
+{
+    for a in 0..setup.count() {
+        let regions = setup.cell(a).memory_regions.as_slice();
+        in_cell(found, rule, setup.hypervisor, a, regions)?;
+    }
+    Ok(())
+}
+
+/// The hypervisor's memory.
+#[tactic(auto, unfolding(crate::specs::Findings::in_hypervisor))]
+pub(crate) fn in_hypervisor(
+    found: &mut Seq<Finding>,
+    rule: Rule,
+    setup: &Setup,
+) -> Result<(), NoMemory>
+    ensures { OnOk result (capped found.new ≡ capped (found.old ++ in_hypervisor rule setup.now.hypervisor.now)) }
+{
+    let breaks = hypervisor_breaks(rule, setup.hypervisor);
+    put(found, breaks, finding(rule, HYPERVISOR, 0, 0, 0))
+}
+
+/// Whether the device may not fit one that is linked with it, of a cell with a lower number. The bdfs of the devices
+/// of these are marked.
+fn may_differ(
+    setup: &Setup,
+    marks: &[bool],
+    seats: &[Seat],
+    a: u32,
+    cell: &CellConfig,
+    device: &PciDevice,
+) -> bool
+    requires count { a ≤ length (cells_of setup.now) }
+    requires length { length marks.now ≡ 65536 }
+    requires bdfs { HasBdfs (take a (cells_of setup.now)) marks.now }
+    requires seats { HasSeats (cells_of setup.now) seats.now }
+    requires order { AreByBdf seats.now }
+    ensures { result ≡ false → agrees_with_all (take a (cells_of setup.now)) cell.now.memory_regions device.now ≡ true }
+{
+    if !is_marked(marks, device) {
+        return false;
+    }
+    !agrees_with_linked(setup, a, cell.memory_regions.as_slice(), device, seats)
+}
+
+/// Each device of a cell, where the bdfs of the devices of those with lower numbers are marked.
+fn in_devices_of(
+    found: &mut Seq<Finding>,
+    setup: &Setup,
+    marks: &[bool],
+    seats: &[Seat],
+    a: u32,
+    cell: &CellConfig,
+) -> Result<(), NoMemory>
+    requires count { a ≤ length (cells_of setup.now) }
+    requires length { length marks.now ≡ 65536 }
+    requires bdfs { HasBdfs (take a (cells_of setup.now)) marks.now }
+    requires seats { HasSeats (cells_of setup.now) seats.now }
+    requires order { AreByBdf seats.now }
+    ensures { OnOk result (capped found.new ≡ capped (found.old ++ in_devices_of (take a (cells_of setup.now)) a cell.now)) }
+{
+    let devices = cell.pci_devices.as_slice();
+    for (n, device) in devices.iter().enumerate() {
+        let doubted = may_differ(setup, marks, seats, a, cell, device);
+        let breaks = device_breaks(setup, a, cell, &devices[..n], device, doubted);
+        put(found, breaks, finding(Rule::Shmem, a, n, 0, 0))?;
+    }
+    Ok(())
+}
+
+/// Each device of all cells.
+pub(crate) fn in_devices(
+    alloc: Global,
+    found: &mut Seq<Finding>,
+    setup: &Setup,
+) -> Result<(), NoMemory>
+    requires { length setup.now.cells.now ≤ 15 }
+    ensures { OnOk result (capped found.new ≡ capped (found.old ++ in_devices (cells_of setup.now))) }
+{
+    let each = seats_of(alloc, setup)?;
+    let seats = each.as_slice();
+    let mut marks = marks(alloc)?;
+    for a in 0..setup.count() {
+        let cell = setup.cell(a);
+        in_devices_of(found, setup, marks.as_slice(), seats, a, cell)?;
+        mark(&mut marks, cell.pci_devices.as_slice());
+    }
+    Ok(())
+}
+
+/// The CPUs of all cells.
+pub(crate) fn in_cpus(found: &mut Seq<Finding>, setup: &Setup) -> Result<(), NoMemory>
+    requires { length setup.now.cells.now ≤ 15 }
+    ensures { OnOk result (capped found.new ≡ capped (found.old ++ in_cpus (cells_of setup.now))) }
+{
+    for a in 0..setup.count() {
+        let breaks = cpus_break(setup.cell(a).cpu_set.as_slice());
+        put(found, breaks, finding(Rule::NoCpu, a, 0, 0, 0))?;
+    }
+    Ok(())
+}

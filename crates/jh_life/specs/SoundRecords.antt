@@ -1,0 +1,24 @@
+-- What holds of the records of live cells at every moment.
+use Rattle.std.specs.Prelude.{◌≡◌, ℕ, ◌+◌, ◌≤◌, Bool, false, List, [], ◌∷◌, length, sum_by, AllPairs}
+use Rattle.jh_cellcfg.specs.declared.config.CellConfig.{CellConfig}
+use Rattle.jh_cellcfg.specs.declared.live.Live.{Live}
+use Rattle.jh_check.specs.Refusals.{is_namesake}
+use Rattle.jh_shape.specs.Pages.{tables_of, cell_claims}
+
+-- the configurations, each with its mark
+abbrev pub joined : List CellConfig → List Bool → List Live
+joined [] marks = []
+joined (config ∷ configs) [] = []
+joined (config ∷ configs) (mark ∷ marks) = record { config = config; loadable = mark } ∷ joined configs marks
+
+-- neither the name nor the id is one that both have
+abbrev pub AreTwo : CellConfig → CellConfig → Type 0
+AreTwo earlier later = is_namesake later earlier ≡ false
+
+-- each cell has a mark, there are at most 15, no two of them and root have one name or one id, and so many pages are
+-- taken by them without root: their tables, and a communication page for each
+pub record AreSoundRecords (root : CellConfig) (configs : List CellConfig) (marks : List Bool) (taken : ℕ) : Type 0 where
+  pub even : length marks ≡ length configs
+  pub few : length configs ≤ 15
+  pub differ : AllPairs AreTwo (root ∷ configs)
+  pub pages : taken ≡ sum_by (λ (cell : CellConfig). tables_of (cell_claims cell) + 1) configs

@@ -1,0 +1,117 @@
+//! What no row shows: places and addresses past the end, a cell that doesn't hold, and descriptors of single slots.
+ghost use Rattle.std.specs.Prelude.{◌≡◌, ◌≤◌, length, IfOk};
+ghost use Rattle.jh_shape.specs.Suits.{IsSlot};
+
+use jh_cellcfg::{CellConfig, Region};
+use jh_num::{Rights, Seq};
+use jh_shape::{Target, Want};
+use std::alloc::{AllocError, Global};
+use std::test::Fail;
+
+/// The start of a slot of 1 GB, and the size of a slot of 2 MB.
+const BASE: u64 = 0x4000_0000;
+
+const BLOCK: u64 = 0x20_0000;
+
+fn region(phys_start: u64, virt_start: u64, size: u64, flags: u64) -> Region
+    ensures { result ≡ record { phys_start = phys_start; virt_start = virt_start; size = size; flags = flags } }
+{
+    Region {
+        phys_start,
+        virt_start,
+        size,
+        flags,
+    }
+}
+
+fn cell(alloc: Global, regions: &[Region]) -> Result<CellConfig, AllocError>
+    ensures { IfOk result (λ cell. cell.memory_regions ≡ regions.now) }
+{
+    Ok(CellConfig {
+        memory_regions: Seq::from_vec(Vec::from_slice(alloc, regions)?),
+        ..CellConfig::empty(alloc, 1)
+    })
+}
+
+/// The pages of the tables of a cell besides root.
+fn pages(regions: &[Region]) -> u64 {
+    let target = Target {
+        regions,
+        root: false,
+        cells: &[],
+        held: 0,
+        loadable: 0,
+        extra: None,
+        comm: 0,
+    };
+    target.tables()
+}
+
+/// The pages of root's tables beside other cells, of which those of the mask hold.
+fn pages_beside<'a>(regions: &'a [Region], cells: &'a [CellConfig], held: u16) -> u64
+    requires { length cells.now ≤ 15 }
+{
+    let target = Target {
+        regions,
+        root: true,
+        cells,
+        held,
+        loadable: 0,
+        extra: None,
+        comm: 0,
+    };
+    target.tables()
+}
+
+#[test]
+fn a_region_past_the_end_of_addresses_takes_no_table(rt: HostRuntime) {
+    let regions = [region(0, 0x80_0000_0000, BLOCK, 7)];
+    assert_eq!(rt; pages(&regions), 1);
+}
+
+#[test]
+fn a_cell_cuts_places_past_the_end_of_addresses_where_it_holds(
+    rt: HostRuntime,
+) -> Result<(), Fail> {
+    let regions = [region(0x80_0000_0000, BASE, 2 * BLOCK, 7)];
+    let cells = [cell(rt.alloc(), &[region(0x80_0020_1000, 0, 0x1000, 7)])?];
+    assert_eq!(rt; pages_beside(&regions, &cells, 2), 2);
+    assert_eq!(rt; pages_beside(&regions, &cells, 1), 3);
+    Ok(())
+}
+
+/// A descriptor of a cell with two pages of a device.
+fn small_want(level: u8, start: u64) -> Want
+    requires { IsSlot level start }
+{
+    let regions = [region(0x5000, BASE, 0x2000, 0x13)];
+    let target = Target {
+        regions: &regions,
+        root: false,
+        cells: &[],
+        held: 0,
+        loadable: 0,
+        extra: None,
+        comm: 0,
+    };
+    target.want(level, start)
+}
+
+#[test]
+fn descriptors_lead_down_to_pages(rt: HostRuntime) {
+    let rights = Rights {
+        read: true,
+        write: true,
+        execute: false,
+    };
+    let leaf = Want::Leaf {
+        out: 0x6000,
+        rights,
+        device: true,
+    };
+    assert_eq!(rt; small_want(1, BASE), Want::Table);
+    assert_eq!(rt; small_want(2, BASE), Want::Table);
+    assert_eq!(rt; small_want(3, BASE + 0x1000), leaf);
+    assert_eq!(rt; small_want(3, BASE + 0x2000), Want::Nothing);
+    assert_eq!(rt; small_want(1, 0), Want::Nothing);
+}
