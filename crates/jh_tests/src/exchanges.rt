@@ -12,8 +12,8 @@ use std::thread::Threads;
 const BOARD: &str =
     "{\"system\":\"s.sys\",\"preloads\":[{\"file\":\"demo.cell\",\"at\":1207959552},{\"file\":\"other.cell\",\"at\":1208025088},{\"file\":\"pair.cell\",\"at\":1208090624}],\"programs\":[{\"cell\":\"root\",\"cpu\":0,\"file\":\"root0.txt\"},{\"cell\":\"root\",\"cpu\":1,\"file\":\"root1.txt\"},{\"cell\":\"demo\",\"cpu\":2,\"file\":\"demo2.txt\"}]}";
 
-/// A system: root on CPUs 0 to 2 with memory from 0x40000000 to 0x7fb00000, an ECAM window, a link's regions from
-/// 0x7fb00000 on, and an ivshmem device.
+/// A system: root on CPUs 0 to 2 with memory from 0x40000000 to 0x7fb00000, a page of a device at 0x9000000, a link's
+/// regions from 0x7fb00000 on, and the link's device.
 fn system<'a>() -> &'a [u8] {
     &[
         0x4a, 0x48, 0x53, 0x59, 0x53, 0x54, 0x0d, 0, 0, 0, 0, 0, 0, 0, 0xc0, 0x7f, 0, 0, 0, 0, 0,
@@ -39,7 +39,7 @@ fn system<'a>() -> &'a [u8] {
 }
 
 /// The cell `demo` up to its time for a reply: id 1, CPU 2, a loadable region of 64 KB at 0, which is root's
-/// 0x7f900000, its communication page at 0x80000000, the link's regions, and an ivshmem device.
+/// 0x7f900000, its communication page at 0x80000000, the device's page, the link's regions, and the link's device.
 fn demo_front<'a>() -> &'a [u8] {
     &[
         0x4a, 0x48, 0x43, 0x45, 0x4c, 0x4c, 0x0d, 0, 0x64, 0x65, 0x6d, 0x6f, 0, 0, 0, 0, 0, 0, 0,
@@ -96,10 +96,10 @@ fn pair<'a>() -> &'a [u8] {
 
 /// What the CPUs run, a schedule, and the journal that is wanted.
 struct Case {
-    /// How many entries of its CPUs the cell `demo` has for a reply; 0 is without end.
+    /// How many entries `demo` has for a reply, up to 255; 0 is without end.
     timeout: u8,
     root: &'static str,
-    /// Of root's CPU 1.
+    /// On root's CPU 1.
     second: &'static str,
     demo: &'static str,
     schedule: &'static str,
@@ -160,9 +160,7 @@ const TAKEN: &str = "0 0 hvc 1 0x48000000 0x0 = begin
 ";
 
 #[test]
-fn a_page_that_a_cell_took_is_roots_again_with_what_the_cell_wrote(
-    rt: HostRuntime,
-) -> Result<(), Fail> {
+fn a_cell_that_is_gone_leaves_its_page_to_root(rt: HostRuntime) -> Result<(), Fail> {
     let case = Case {
         timeout: 0,
         root: "hvc 1 0x48000000 0\nhvc 2 1 0\nhvc 4 1 0\nread 4 0x7f900100\n",
@@ -175,7 +173,28 @@ fn a_page_that_a_cell_took_is_roots_again_with_what_the_cell_wrote(
     Ok(())
 }
 
-const LOADED: &str = "?";
+const LOADED: &str = "0 0 hvc 1 0x48000000 0x0 = begin
+1 0 stop
+2 0 stop
+0 0 decide = go
+0 0 commit
+0 0 finish = 1
+0 0 hvc 3 0x1 0x0 = begin
+1 0 stop
+0 0 decide = go
+0 0 settle = agreed
+0 0 commit
+0 0 finish = 0
+0 0 write 4 0x7f900000 0x77 = ok
+0 0 hvc 2 0x1 0x0 = begin
+1 0 stop
+0 0 decide = go
+0 0 settle = agreed
+0 0 commit
+2 1 read 4 0x0 = 0x77
+0 0 finish = 0
+0 0 write 4 0x7f900000 0x77 = violation
+";
 
 #[test]
 fn root_loads_a_program_that_the_cell_reads_once_started(rt: HostRuntime) -> Result<(), Fail> {
@@ -191,7 +210,28 @@ fn root_loads_a_program_that_the_cell_reads_once_started(rt: HostRuntime) -> Res
     Ok(())
 }
 
-const AGREED: &str = "?";
+const AGREED: &str = "0 0 hvc 1 0x48000000 0x0 = begin
+1 0 stop
+2 0 stop
+0 0 decide = go
+0 0 commit
+0 0 finish = 1
+0 0 hvc 2 0x1 0x0 = begin
+1 0 stop
+0 0 decide = go
+0 0 settle = agreed
+0 0 commit
+0 0 finish = 0
+0 0 hvc 4 0x1 0x0 = begin
+1 0 stop
+0 0 decide = go
+2 1 await 4 0x8000000c 0x1 = ok
+2 1 write 4 0x80000010 0x3 = ok
+0 0 settle = agreed
+2 1 stop
+0 0 commit
+0 0 finish = 0
+";
 
 #[test]
 fn a_cell_that_agrees_is_shut_down(rt: HostRuntime) -> Result<(), Fail> {
@@ -207,7 +247,26 @@ fn a_cell_that_agrees_is_shut_down(rt: HostRuntime) -> Result<(), Fail> {
     Ok(())
 }
 
-const DENIED: &str = "?";
+const DENIED: &str = "0 0 hvc 1 0x48000000 0x0 = begin
+1 0 stop
+2 0 stop
+0 0 decide = go
+0 0 commit
+0 0 finish = 1
+0 0 hvc 2 0x1 0x0 = begin
+1 0 stop
+0 0 decide = go
+0 0 settle = agreed
+0 0 commit
+0 0 finish = 0
+0 0 hvc 4 0x1 0x0 = begin
+1 0 stop
+0 0 decide = go
+2 1 await 4 0x8000000c 0x1 = ok
+2 1 write 4 0x80000010 0x2 = ok
+0 0 settle = denied
+0 0 finish = -1
+";
 
 #[test]
 fn a_cell_that_denies_lives_on(rt: HostRuntime) -> Result<(), Fail> {
@@ -223,7 +282,28 @@ fn a_cell_that_denies_lives_on(rt: HostRuntime) -> Result<(), Fail> {
     Ok(())
 }
 
-const SILENT: &str = "?";
+const SILENT: &str = "0 0 hvc 1 0x48000000 0x0 = begin
+1 0 stop
+2 0 stop
+0 0 decide = go
+0 0 commit
+0 0 finish = 1
+0 0 hvc 2 0x1 0x0 = begin
+1 0 stop
+0 0 decide = go
+0 0 settle = agreed
+0 0 commit
+0 0 finish = 0
+0 0 hvc 4 0x1 0x0 = begin
+1 0 stop
+0 0 decide = go
+2 1 write 4 0x0 0x1 = ok
+2 1 write 4 0x4 0x2 = ok
+0 0 settle = timeout
+2 1 stop
+0 0 commit
+0 0 finish = 0
+";
 
 #[test]
 fn a_cell_that_is_silent_is_shut_down_after_its_time(rt: HostRuntime) -> Result<(), Fail> {
@@ -239,7 +319,39 @@ fn a_cell_that_is_silent_is_shut_down_after_its_time(rt: HostRuntime) -> Result<
     Ok(())
 }
 
-const LOCKED: &str = "?";
+const LOCKED: &str = "0 0 hvc 1 0x48000000 0x0 = begin
+1 0 stop
+2 0 stop
+0 0 decide = go
+0 0 commit
+0 0 finish = 1
+0 0 hvc 1 0x48010000 0x0 = begin
+1 0 stop
+0 0 decide = go
+0 0 commit
+0 0 note 1
+0 0 noted 1 = down
+0 0 finish = 2
+0 0 hvc 2 0x1 0x0 = begin
+0 0 decide = go
+0 0 settle = agreed
+0 0 commit
+2 1 write 4 0x80000008 0x1 = ok
+0 0 finish = 0
+2 1 write 4 0x7fb0c000 0x1 = ok
+0 0 await 4 0x7fb0c000 0x1 = ok
+0 0 hvc 4 0x2 0x0 = begin
+0 0 decide = -1
+0 0 finish = -1
+0 0 hvc 1 0x48020000 0x0 = begin
+0 0 decide = -1
+0 0 finish = -1
+0 0 hvc 2 0x2 0x0 = begin
+0 0 decide = go
+0 0 settle = agreed
+0 0 commit
+0 0 finish = 0
+";
 
 #[test]
 fn a_locked_cell_keeps_cells_from_coming_and_going(rt: HostRuntime) -> Result<(), Fail> {
@@ -255,10 +367,32 @@ fn a_locked_cell_keeps_cells_from_coming_and_going(rt: HostRuntime) -> Result<()
     Ok(())
 }
 
-const TOLD: &str = "?";
+const TOLD: &str = "0 0 hvc 1 0x48000000 0x0 = begin
+1 0 stop
+2 0 stop
+0 0 decide = go
+0 0 commit
+0 0 finish = 1
+0 0 hvc 2 0x1 0x0 = begin
+1 0 stop
+0 0 decide = go
+0 0 settle = agreed
+0 0 commit
+0 0 finish = 0
+0 0 hvc 1 0x48010000 0x0 = begin
+1 0 stop
+0 0 decide = go
+0 0 commit
+0 0 note 1
+2 1 await 4 0x8000000c 0x2 = ok
+2 1 write 4 0x80000010 0x4 = ok
+0 0 noted 1 = received
+0 0 finish = 2
+0 0 hvc 6 0x1 0x0 = 0
+";
 
 #[test]
-fn a_cell_that_takes_the_note_of_another_is_noted(rt: HostRuntime) -> Result<(), Fail> {
+fn a_cell_that_receives_a_note_is_noted(rt: HostRuntime) -> Result<(), Fail> {
     let case = Case {
         timeout: 0,
         root: "hvc 1 0x48000000 0\nhvc 2 1 0\nhvc 1 0x48010000 0\nhvc 6 1 0\n",
@@ -271,7 +405,39 @@ fn a_cell_that_takes_the_note_of_another_is_noted(rt: HostRuntime) -> Result<(),
     Ok(())
 }
 
-const ANY: &str = "?";
+const ANY: &str = "0 0 hvc 1 0x48000000 0x0 = begin
+1 0 stop
+2 0 stop
+0 0 decide = go
+0 0 commit
+0 0 finish = 1
+0 0 hvc 2 0x1 0x0 = begin
+1 0 stop
+0 0 decide = go
+0 0 settle = agreed
+0 0 commit
+2 1 write 4 0x80000010 0x5 = ok
+0 0 finish = 0
+2 1 write 4 0x80000008 0xffffffff = ok
+2 1 write 4 0x7fb0c000 0x1 = ok
+0 0 await 4 0x7fb0c000 0x1 = ok
+0 0 hvc 6 0x1 0x0 = -22
+0 0 hvc 1 0x48010000 0x0 = begin
+1 0 stop
+0 0 decide = go
+0 0 commit
+0 0 note 1
+2 1 await 4 0x8000000c 0x2 = ok
+2 1 write 4 0x80000010 0x4d = ok
+0 0 noted 1 = other
+0 0 finish = 2
+0 0 hvc 4 0x1 0x0 = begin
+0 0 decide = go
+2 1 await 4 0x8000000c 0x1 = ok
+2 1 write 4 0x80000010 0xffffffff = ok
+0 0 settle = denied
+0 0 finish = -1
+";
 
 #[test]
 fn a_cell_may_write_anything_into_its_state_and_reply(rt: HostRuntime) -> Result<(), Fail> {
