@@ -95,6 +95,7 @@ fn pair<'a>() -> &'a [u8] {
 }
 
 /// What the CPUs run, a schedule, and the journal that is wanted.
+#[derive(Drop)]
 struct Case {
     /// How many entries `demo` has for a reply, up to 255; 0 is without end.
     timeout: u8,
