@@ -78,7 +78,7 @@ fn called<R: Threads + Wait + Sync>(
 }
 
 /// Calls with these words, and compares the status and the text.
-fn ends<R: Abort + Threads + Wait + Sync>(
+pub(crate) fn ends<R: Abort + Threads + Wait + Sync>(
     rt: &R,
     alloc: Global,
     files: &mut MemFiles,
@@ -92,7 +92,7 @@ fn ends<R: Abort + Threads + Wait + Sync>(
     Ok(())
 }
 
-const PLAY: [&str; 4] = ["jailhouse", "play", "b.json", "s.txt"];
+pub(crate) const PLAY: [&str; 4] = ["jailhouse", "play", "b.json", "s.txt"];
 
 const RUN: [&str; 3] = ["jailhouse", "run", "b.json"];
 

@@ -11,6 +11,8 @@ mod check;
 #[cfg(test)]
 mod cli;
 #[cfg(test)]
+mod exchanges;
+#[cfg(test)]
 mod frames;
 #[cfg(test)]
 mod ivshmem;
