@@ -1,8 +1,11 @@
 -- Slots, a bit each, 64 in a word.
-use Rattle.std.specs.Prelude.{◌≡◌, ℕ, ◌+◌, ◌*◌, ◌/◌, ◌%◌, ◌<◌, Bool, ◌&&◌, nat_eq, nat_lt, List, slice_index, IsTrue}
+use Rattle.std.specs.Prelude.{◌≡◌, ℕ, ◌+◌, ◌-◌, ◌*◌, ◌/◌, ◌%◌, ◌<◌, min, Bool, ◌&&◌, nat_eq, nat_lt, List, slice_index, IsTrue}
 use Rattle.std.specs.Int.{bit_at}
 use Rattle.jh_num.specs.declared.address.TheConstants.{ADDRESS_END}
+use Rattle.jh_cellcfg.specs.declared.region.Region.{Region}
+use Rattle.jh_cellcfg.specs.Regions.{virt_end}
 use Rattle.jh_shape.specs.Claims.{Claims}
+use Rattle.jh_shape.specs.Pages.{count_below}
 use Rattle.jh_shape.specs.Shapes.{slot_size, are_cut}
 
 -- the bit of that number is set
@@ -21,3 +24,15 @@ AreCuts words level claims =
 -- the number lies among so many from `at` on, and isn't the first of them
 abbrev pub is_inside : ℕ → ℕ → ℕ → Bool
 is_inside at size number = nat_lt at number && nat_lt number (at + size)
+
+-- how many slots of the level below the end of addresses are marked
+abbrev pub marked_slots : List ℕ → ℕ → ℕ
+marked_slots words level = count_below (λ n. is_marked words n) (ADDRESS_END / slot_size level)
+
+-- one past the level's last slot below the end of addresses that begins before the number
+abbrev pub past_slot : ℕ → ℕ → ℕ
+past_slot level number = (min number ADDRESS_END + (slot_size level - 1)) / slot_size level
+
+-- the region has addresses in slots of that number and above
+abbrev pub is_beyond : ℕ → ℕ → Region → Bool
+is_beyond limit level region = nat_lt limit (past_slot level (virt_end region))

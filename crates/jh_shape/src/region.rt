@@ -3,7 +3,7 @@ ghost use Rattle.std.specs.Prelude.{◌≡◌, ℕ, ◌+◌, ◌*◌, ◌^◌, �
 ghost use Rattle.std.specs.List.{list_any};
 ghost use Rattle.jh_cellcfg.specs.Regions.{virt_end, phys_end, place_in};
 ghost use Rattle.jh_cellcfg.specs.declared.region.Region.{Region};
-ghost use Rattle.jh_shape.specs.Marks.{is_inside, is_marked, AreMarked};
+ghost use Rattle.jh_shape.specs.Marks.{is_beyond, is_inside, is_marked, marked_slots, past_slot, AreMarked};
 ghost use Rattle.jh_shape.specs.Shapes.{slot_size, fits_blocks, is_mapped, is_met_by, meets_in_part, takes};
 
 use crate::interval::Interval;
@@ -112,18 +112,35 @@ pub(crate) fn fits_blocks(level: u8, region: &Region) -> bool
         && region.phys_start % size == region.virt_start % size
 }
 
-/// Marks the slots in which the region has an address, where tables map it, and tells a number that each of them is
-/// below.
-pub(crate) fn mark_met(words: &mut [u64], level: u8, region: &Region) -> usize
+/// Whether it has addresses in slots of that number and above, of the level's below the end of addresses.
+fn is_beyond(region: &Region, level: u8, limit: usize) -> bool
+    requires { level < LAST_LEVEL }
+    ensures { result ≡ is_beyond limit level region.now }
+{
+    limit < addresses(region).past_slot(level)
+}
+
+/// Whether one of them has.
+pub(crate) fn any_beyond(regions: &[Region], level: u8, limit: usize) -> bool
+    requires { level < LAST_LEVEL }
+    ensures { result ≡ list_any (λ region. is_beyond limit level region) regions.now }
+{
+    regions
+        .iter()
+        .any(|region| is_beyond(region, level, limit))
+}
+
+/// Marks the slots in which the region has an address, where tables map it, and tells how many marks that adds.
+pub(crate) fn mark_met(words: &mut [u64], level: u8, region: &Region) -> u64
     requires level { level < LAST_LEVEL }
-    requires enough { length words.old ≡ 4096 }
+    requires room { past_slot level (virt_end region.now) ≤ 64 * length words.old }
     ensures marks { AreMarked words.new level (λ n. is_marked words.old n || is_met_by level (n * slot_size level) region.now) }
-    ensures end { (n : ℕ) → result ≤ n → is_marked words.new n ≡ is_marked words.old n }
+    ensures more { marked_slots words.new level ≡ marked_slots words.old level + result }
+    ensures bound { result ≤ 262144 }
 {
     if is_mapped(region) {
         let slots = addresses(region).touched(level);
-        mark_span(words, slots.from, slots.to);
-        slots.to
+        mark_span(words, slots.from, slots.to)
     } else {
         0
     }
