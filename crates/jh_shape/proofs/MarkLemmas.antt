@@ -198,6 +198,14 @@ inside_none n size number some begins =
     let more : (n + 1) * size ≤ q * size = mul-le-mul_right size (let l : n + 1 ≤ q = omega arith in l) in
     absurd (omega arith))
 
+-- nor below the slot that it lies in
+pub inside_above : (n size number : ℕ) → 0 < size → n < number / size → is_inside (n * size) size number ≡ false
+inside_above n size number some h =
+    let under : (number / size) * size ≤ number = div-mul-le_self number size in
+    let next = next_slot n size in
+    let more : (n + 1) * size ≤ (number / size) * size = mul-le-mul_right size (let l : n + 1 ≤ number / size = omega arith in l) in
+    and_right (nat_lt (n * size) number) (nat_lt number (n * size + size)) (le-ltb number (n * size + size) (omega arith))
+
 -- nor where it lies past the end of addresses
 pub inside_past : (n size number top : ℕ) → 0 < size → n < top / size → top ≤ number → is_inside (n * size) size number ≡ false
 inside_past n size number top some h past =

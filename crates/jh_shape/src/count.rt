@@ -1,36 +1,38 @@
 //! How many pages a cell's tables take. All slots of a level are told at once, by marks: those of places that other
 //! cells cut, the leaves, and those that are met.
-ghost use Rattle.std.specs.Prelude.{◌≡◌, ℕ, ◌+◌, ◌*◌, ◌^◌, ◌<◌, ◌≤◌, ◌&&◌, ◌||◌, not, false, true, length, IsTrue};
+ghost use Rattle.std.specs.Prelude.{◌≡◌, ℕ, ◌+◌, ◌*◌, ◌^◌, ◌<◌, ◌≤◌, ◌&&◌, ◌||◌, not, false, true, length};
 ghost use Rattle.std.specs.List.{list_any};
 ghost use Rattle.jh_shape.specs.Claims.{claims_of};
-ghost use Rattle.jh_shape.specs.Marks.{is_beyond, is_marked, marked_slots, past_slot, AreMarked, AreCuts};
+ghost use Rattle.jh_shape.specs.Marks.{is_beyond, is_marked, marked_slots, past_slot, AreMarked, AreMarkedBelow, AreCuts};
 ghost use Rattle.jh_shape.specs.Pages.{tables_at, tables_of};
 ghost use Rattle.jh_cellcfg.specs.Regions.{place_in, virt_end};
 ghost use Rattle.jh_shape.specs.Shapes.{slot_size, are_cut, is_leaf, is_leaf_by, is_met};
 
 use crate::level::{FIRST_LEVEL, LAST_LEVEL, slot_of, slot_size};
-use crate::marks::{LOW_WORDS, WORDS, is_marked, mark};
-use crate::region::{addresses, any_beyond, fits_blocks, is_mapped, mark_cuts, mark_met, place_in};
+use crate::marks::{LOW_SLOTS, LOW_WORDS, SLOTS, WORDS, is_marked, mark};
+use crate::region::{
+    addresses, any_beyond, any_place_beyond, fits_blocks, is_mapped, mark_cuts, mark_met, place_in,
+};
 use crate::target::{Target, has_bit};
 use jh_cellcfg::Region;
 use jh_num::ADDRESS_END;
 
 impl<'a> Target<'a> {
-    /// Marks the slots of places that other cells cut, where none is marked.
-    fn fill_cuts(&self, words: &mut [u64], level: u8)
+    /// Marks the slots of places below the limit that other cells cut, where none is marked.
+    fn fill_cuts(&self, words: &mut [u64], level: u8, limit: usize)
         requires cells { length self.now.cells.now ≤ 15 }
         requires level { level < LAST_LEVEL }
-        requires enough { length words.old ≡ 4096 }
+        requires room { limit ≤ 64 * length words.old }
         requires clear { (n : ℕ) → is_marked words.old n ≡ false }
-        ensures { AreMarked words.new level (λ n. are_cut (claims_of self.now).holders (n * slot_size level) (slot_size level)) }
+        ensures { AreMarkedBelow limit words.new level (λ n. are_cut (claims_of self.now).holders (n * slot_size level) (slot_size level)) }
     {
         for (i, cell) in self.cells.iter().enumerate() {
             if has_bit(self.held, i) {
-                mark_cuts(words, level, cell.memory_regions.as_slice());
+                mark_cuts(words, level, cell.memory_regions.as_slice(), limit);
             }
         }
         if let Some(cell) = self.extra {
-            mark_cuts(words, level, cell.memory_regions.as_slice());
+            mark_cuts(words, level, cell.memory_regions.as_slice(), limit);
         }
     }
 
@@ -39,7 +41,6 @@ impl<'a> Target<'a> {
         requires cells { length self.now.cells.now ≤ 15 }
         requires level { level < LAST_LEVEL }
         requires root { self.now.root ≡ true }
-        requires enough { length cuts.now ≡ 4096 }
         requires cuts { AreCuts cuts.now level (claims_of self.now) }
         requires fits { place < 2 ^ 65 }
         ensures { result ≡ are_cut (claims_of self.now).holders place (slot_size level) }
@@ -47,8 +48,11 @@ impl<'a> Target<'a> {
         if place < u128::from(ADDRESS_END) {
             let at = place as u64;
             let n = slot_of(level, at);
-            if n * slot_size(level) == at {
-                return is_marked(cuts, n as usize);
+            let listed = n / 64 < cuts.len() as u64;
+            if listed {
+                if n * slot_size(level) == at {
+                    return is_marked(cuts, n as usize);
+                }
             }
         }
         self.are_cut(place, u128::from(slot_size(level)))
@@ -58,7 +62,6 @@ impl<'a> Target<'a> {
     fn is_kept_small(&self, cuts: &[u64], level: u8, region: &Region, n: usize) -> bool
         requires cells { length self.now.cells.now ≤ 15 }
         requires level { level < LAST_LEVEL }
-        requires enough { IsTrue self.now.root → length cuts.now ≡ 4096 }
         requires cuts { AreCuts cuts.now level (claims_of self.now) }
         requires few { n < 262144 }
         ensures { result ≡ (self.now.root && are_cut (claims_of self.now).holders (place_in region.now (n * slot_size level)) (slot_size level)) }
@@ -71,7 +74,6 @@ impl<'a> Target<'a> {
         requires cells { length self.now.cells.now ≤ 15 }
         requires level { level < LAST_LEVEL }
         requires room { past_slot level (virt_end region.now) ≤ 64 * length words.old }
-        requires enough { IsTrue self.now.root → length cuts.now ≡ 4096 }
         requires cuts { AreCuts cuts.now level (claims_of self.now) }
         ensures { AreMarked words.new level (λ n. is_marked words.old n || is_leaf_by (claims_of self.now) level (n * slot_size level) region.now) }
     {
@@ -91,7 +93,6 @@ impl<'a> Target<'a> {
         requires level { level < LAST_LEVEL }
         requires room { list_any (λ region. is_beyond (64 * length words.old) level region) self.now.regions.now ≡ false }
         requires clear { (n : ℕ) → is_marked words.old n ≡ false }
-        requires enough { IsTrue self.now.root → length cuts.now ≡ 4096 }
         requires cuts { AreCuts cuts.now level (claims_of self.now) }
         ensures { AreMarked words.new level (λ n. is_leaf (claims_of self.now) level (n * slot_size level)) }
     {
@@ -122,7 +123,6 @@ impl<'a> Target<'a> {
         requires level { level < LAST_LEVEL }
         requires room { list_any (λ region. is_beyond (64 * length words.old) level region) self.now.regions.now ≡ false }
         requires clear { (n : ℕ) → is_marked words.old n ≡ false }
-        requires enough { IsTrue self.now.root → length cuts.now ≡ 4096 }
         requires cuts { AreCuts cuts.now level (claims_of self.now) }
         ensures value { result ≡ tables_at (claims_of self.now) level }
         ensures bound { result ≤ 262144 }
@@ -136,7 +136,6 @@ impl<'a> Target<'a> {
         requires cells { length self.now.cells.now ≤ 15 }
         requires level { level < LAST_LEVEL }
         requires low { list_any (λ region. is_beyond 8192 level region) self.now.regions.now ≡ false }
-        requires enough { IsTrue self.now.root → length cuts.now ≡ 4096 }
         requires cuts { AreCuts cuts.now level (claims_of self.now) }
         ensures value { result ≡ tables_at (claims_of self.now) level }
         ensures bound { result ≤ 262144 }
@@ -149,7 +148,6 @@ impl<'a> Target<'a> {
     fn count_all(&self, cuts: &[u64], level: u8) -> u64
         requires cells { length self.now.cells.now ≤ 15 }
         requires level { level < LAST_LEVEL }
-        requires enough { IsTrue self.now.root → length cuts.now ≡ 4096 }
         requires cuts { AreCuts cuts.now level (claims_of self.now) }
         ensures value { result ≡ tables_at (claims_of self.now) level }
         ensures bound { result ≤ 262144 }
@@ -158,32 +156,61 @@ impl<'a> Target<'a> {
         self.count_in(&mut words, cuts, level)
     }
 
-    /// The same in the shorter list that serves.
-    fn count_beside(&self, cuts: &[u64], level: u8) -> u64
+    /// The same of root, whose leaves other cells cut, in short lists.
+    fn count_root_low(&self, level: u8) -> u64
         requires cells { length self.now.cells.now ≤ 15 }
         requires level { level < LAST_LEVEL }
-        requires enough { IsTrue self.now.root → length cuts.now ≡ 4096 }
-        requires cuts { AreCuts cuts.now level (claims_of self.now) }
+        requires low { list_any (λ region. is_beyond 8192 level region) self.now.regions.now ≡ false }
         ensures value { result ≡ tables_at (claims_of self.now) level }
         ensures bound { result ≤ 262144 }
     {
-        if any_beyond(self.regions, level, 64 * LOW_WORDS) {
-            self.count_all(cuts, level)
-        } else {
-            self.count_low(cuts, level)
-        }
+        let mut cuts = [0; LOW_WORDS];
+        self.fill_cuts(&mut cuts, level, LOW_SLOTS);
+        self.count_low(&cuts, level)
     }
 
-    /// The same of root, whose leaves other cells cut.
-    fn count_of_root(&self, level: u8) -> u64
+    /// The same in lists that have all slots.
+    fn count_root_all(&self, level: u8) -> u64
         requires cells { length self.now.cells.now ≤ 15 }
         requires level { level < LAST_LEVEL }
         ensures value { result ≡ tables_at (claims_of self.now) level }
         ensures bound { result ≤ 262144 }
     {
         let mut cuts = [0; WORDS];
-        self.fill_cuts(&mut cuts, level);
-        self.count_beside(&cuts, level)
+        self.fill_cuts(&mut cuts, level, SLOTS);
+        self.count_all(&cuts, level)
+    }
+
+    /// The same of root. What cuts are looked up for must lie low too: where the list lacks a place, all regions of
+    /// the other cells are asked.
+    fn count_root(&self, level: u8) -> u64
+        requires cells { length self.now.cells.now ≤ 15 }
+        requires level { level < LAST_LEVEL }
+        ensures value { result ≡ tables_at (claims_of self.now) level }
+        ensures bound { result ≤ 262144 }
+    {
+        if any_beyond(self.regions, level, LOW_SLOTS) {
+            return self.count_root_all(level);
+        }
+        if any_place_beyond(self.regions, level, LOW_SLOTS) {
+            return self.count_root_all(level);
+        }
+        self.count_root_low(level)
+    }
+
+    /// The same of a cell besides root.
+    fn count_cell(&self, level: u8) -> u64
+        requires cells { length self.now.cells.now ≤ 15 }
+        requires level { level < LAST_LEVEL }
+        requires root { self.now.root ≡ false }
+        ensures value { result ≡ tables_at (claims_of self.now) level }
+        ensures bound { result ≤ 262144 }
+    {
+        if any_beyond(self.regions, level, LOW_SLOTS) {
+            self.count_all(&[], level)
+        } else {
+            self.count_low(&[], level)
+        }
     }
 
     /// How many slots of the level are tables.
@@ -194,9 +221,9 @@ impl<'a> Target<'a> {
         ensures bound { result ≤ ADDRESS_END }
     {
         if self.root {
-            self.count_of_root(level)
+            self.count_root(level)
         } else {
-            self.count_beside(&[], level)
+            self.count_cell(level)
         }
     }
 

@@ -9,6 +9,10 @@ pub(crate) const WORDS: usize = 4096;
 /// The words of marks of the slots of 2 MB below 16 GB, and of all larger slots.
 pub(crate) const LOW_WORDS: usize = 128;
 
+/// How many slots these lists have.
+pub(crate) const SLOTS: usize = 64 * WORDS;
+pub(crate) const LOW_SLOTS: usize = 64 * LOW_WORDS;
+
 /// Whether the slot of that number is marked.
 pub(crate) fn is_marked(words: &[u64], n: usize) -> bool
     requires { n < 64 * length words.now }
