@@ -292,7 +292,7 @@ pub none_beyond : (limit room level : ℕ) (regions : List Region) (i : ℕ) (d 
 none_beyond limit room level regions i d l none h =
     let past = past_slot level (virt_end (get_or regions i d)) in
     ⊎_elim
-    (λ (over : limit < past). absurd (both_ways (list_any (λ (region : Region). is_beyond limit level region) regions) (list_any_at (λ (region : Region). is_beyond limit level region) regions i d l (lt-ltb limit past over)) none))
+    (λ (over : limit < past). absurd (both_ways (list_any (λ (region : Region). is_beyond limit level region) regions) none (list_any_at (λ (region : Region). is_beyond limit level region) regions i d l (lt-ltb limit past over))))
     (λ (under : past ≤ limit). let e : past ≤ room = omega arith in e)
     (cases_lt limit past)
 
