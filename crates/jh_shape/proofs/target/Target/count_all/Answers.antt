@@ -1,4 +1,5 @@
-use Rattle.std.proofs.Common.{ℕ, ◌*◌, ap, ◌∙◌, length-replicate}
+use Rattle.std.proofs.Common.{ℕ, ◌*◌, ap, ◌∙◌}
+use Rattle.std.proofs.lemmas.List.{length-replicate}
 use Rattle.std.specs.List.{list_any}
 use Rattle.jh_cellcfg.specs.declared.region.Region.{Region}
 use Rattle.jh_shape.specs.Marks.{is_beyond}

@@ -1,4 +1,5 @@
-use Rattle.std.proofs.Common.{ℕ, length-replicate, arith}
+use Rattle.std.proofs.Common.{ℕ, arith}
+use Rattle.std.proofs.lemmas.List.{length-replicate}
 use Rattle.jh_shape.proofs.MarkLemmas.{unmarked}
 use Rattle.jh_shape.proofs.target.Target.count_root_low.Goals as goal
 
