@@ -1,4 +1,4 @@
-use Rattle.std.proofs.Common.{◌≡◌, ℕ, ◌+◌, ◌<◌, cond, sym, ap, ◌∙◌, arith}
+use Rattle.std.proofs.Common.{◌≡◌, ◌+◌, ◌<◌, sym, ap, ◌∙◌, arith}
 use Rattle.jh_shape.specs.Marks.{is_marked}
 use Rattle.jh_shape.specs.Pages.{count_below}
 use Rattle.jh_shape.proofs.CountLemmas.{count_below_mark, grown}
