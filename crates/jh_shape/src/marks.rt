@@ -11,6 +11,7 @@ pub(crate) const LOW_WORDS: usize = 128;
 
 /// How many slots these lists have.
 pub(crate) const SLOTS: usize = 64 * WORDS;
+
 pub(crate) const LOW_SLOTS: usize = 64 * LOW_WORDS;
 
 /// Whether the slot of that number is marked.

@@ -125,9 +125,7 @@ pub(crate) fn any_beyond(regions: &[Region], level: u8, limit: usize) -> bool
     requires { level < LAST_LEVEL }
     ensures { result ≡ list_any (λ region. is_beyond limit level region) regions.now }
 {
-    regions
-        .iter()
-        .any(|region| is_beyond(region, level, limit))
+    regions.iter().any(|region| is_beyond(region, level, limit))
 }
 
 /// Whether it has places in slots of that number and above.

@@ -12,19 +12,20 @@ pub loop-n-preserved : goal.loop-n-preserved
 loop-n-preserved c =
     let bound = c.mark_more-more.ensures.bound in
     let test = c.loop-n-test.true in
-    let so_far = c.loop-n.invariant.1 in
-    ( omega arith
-    , omega arith
-    , λ k. span_more k c.args.from c.loop-n.n (is_marked c.args.words.now k) _ _ c.loop-n.auto.n (c.loop-n.invariant.2 k) (c.mark_more-more.ensures.marks k)
-    , λ end l.
-    let first = count_below (λ k. is_marked c.args.words.now k) end in
-    let middle = count_below (λ k. is_marked c.loop-n.words k) end in
-    let last = count_below (λ k. is_marked c.mark_more-more.new.words k) end in
-    let below : c.loop-n.n < end = omega arith in
-    let next : last ≡ middle + c.mark_more-more.result =
-    count_below_mark (λ k. is_marked c.loop-n.words k) (λ k. is_marked c.mark_more-more.new.words k) c.loop-n.n end below c.mark_more-more.ensures.marks
-    ∙ sym (ap (λ m. middle + m) c.mark_more-more.ensures.more) in
-    grown first middle last c.loop-n.more c.mark_more-more.result (c.loop-n.invariant.3 end l) next )
+    let so_far = c.loop-n.invariant.1 in (
+      omega arith,
+      omega arith,
+      λ k. span_more k c.args.from c.loop-n.n (is_marked c.args.words.now k) _ _ c.loop-n.auto.n (c.loop-n.invariant.2 k) (c.mark_more-more.ensures.marks k),
+      λ end l.
+          let first = count_below (λ k. is_marked c.args.words.now k) end in
+          let middle = count_below (λ k. is_marked c.loop-n.words k) end in
+          let last = count_below (λ k. is_marked c.mark_more-more.new.words k) end in
+          let below : c.loop-n.n < end = omega arith in
+          let next : last ≡ middle + c.mark_more-more.result =
+          count_below_mark (λ k. is_marked c.loop-n.words k) (λ k. is_marked c.mark_more-more.new.words k) c.loop-n.n end below c.mark_more-more.ensures.marks
+          ∙ sym (ap (λ m. middle + m) c.mark_more-more.ensures.more) in
+          grown first middle last c.loop-n.more c.mark_more-more.result (c.loop-n.invariant.3 end l) next,
+    )
 
 pub returns-clause-marks : goal.returns-clause-marks
 returns-clause-marks c = λ k. span_end k c.args.from c.args.to c.loop-n.n (is_marked c.args.words.now k) _ c.loop-n-test.false c.loop-n.invariant.0 (c.loop-n.invariant.2 k)

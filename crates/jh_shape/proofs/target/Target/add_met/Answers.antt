@@ -22,10 +22,11 @@ loop-region-preserved c =
     let first = marked_slots c.args.words.now level in
     let last = marked_slots c.mark_met-more.new.words level in
     let all : last ≡ first + (c.loop-region.more + c.mark_met-more.result) =
-    grown first (marked_slots c.loop-region.words level) last c.loop-region.more c.mark_met-more.result c.loop-region.invariant.1 c.mark_met-more.ensures.more in
-    ( λ n below. any_step (λ (region : Region). is_met_by level (n * slot_size level) region) c.args.self.now.regions.now c.loop-region.region-index _ (is_marked c.args.words.now n) (is_marked c.loop-region.words n) _ c.loop-region-test.true (c.loop-region.invariant.0 n below) (c.mark_met-more.ensures.marks n below)
-    , all
-    , grown_bound first last (c.loop-region.more + c.mark_met-more.result) 262144 all (marked_few c.mark_met-more.new.words level c.requires.level) )
+    grown first (marked_slots c.loop-region.words level) last c.loop-region.more c.mark_met-more.result c.loop-region.invariant.1 c.mark_met-more.ensures.more in (
+      λ n below. any_step (λ (region : Region). is_met_by level (n * slot_size level) region) c.args.self.now.regions.now c.loop-region.region-index _ (is_marked c.args.words.now n) (is_marked c.loop-region.words n) _ c.loop-region-test.true (c.loop-region.invariant.0 n below) (c.mark_met-more.ensures.marks n below),
+      all,
+      grown_bound first last (c.loop-region.more + c.mark_met-more.result) 262144 all (marked_few c.mark_met-more.new.words level c.requires.level),
+    )
 
 pub returns-clause-met : goal.returns-clause-met
 returns-clause-met c = λ n below.
