@@ -9,9 +9,10 @@ pub(crate) const WORDS: usize = 4096;
 /// The words of marks of the slots of 2 MB below 16 GB, and of all larger slots.
 pub(crate) const LOW_WORDS: usize = 128;
 
-/// How many slots these lists have.
+/// How many slots a list of all has.
 pub(crate) const SLOTS: usize = 64 * WORDS;
 
+/// How many a short one has.
 pub(crate) const LOW_SLOTS: usize = 64 * LOW_WORDS;
 
 /// Whether the slot of that number is marked.
