@@ -1,5 +1,5 @@
 -- Two lists of ranges merged from the back.
-use Rattle.std.proofs.Common.{◌≡◌, ℕ, ◌+◌, ◌-◌, ◌<◌, ◌≤◌, suc, Bool, true, false, ◌||◌, List, [], length, get_or, take, drop, sym, refl, ap, ◌∙◌, ⊎_elim, arith}
+use Rattle.std.proofs.Common.{◌≡◌, ℕ, ◌+◌, ◌-◌, ◌<◌, ◌≤◌, Bool, true, false, ◌||◌, List, [], length, get_or, take, drop, sym, refl, ap, ◌∙◌, ⊎_elim, arith}
 use Rattle.std.proofs.Math.Bool.{or-true, or-false}
 use Rattle.std.proofs.lemmas.Bool.{cases_lt}
 use Rattle.std.proofs.lemmas.List.{drop_all, get_or-take, get_or_read, take-take, take_all}
@@ -60,8 +60,8 @@ none_merged xs ys items i j at fi fj s fa =
 pub ends_rise : (xs : List Range) (i k : ℕ) (d : Range) → AreApart xs → i ≤ k → k < length xs → (get_or xs i d).end ≤ (get_or xs k d).end
 ends_rise xs i k d a h l =
     ⊎_elim
-    (λ less. let e = ends_before 0 xs i k d a less l in let f = not_empty_at 0 xs k d a l in omega arith)
-    (λ more. let same : i ≡ k = omega arith in rw same (omega arith))
+    (λ (less : i < k). let e = ends_before 0 xs i k d a less l in let f = not_empty_at 0 xs k d a l in omega arith)
+    (λ (more : k ≤ i). let same : i ≡ k = omega arith in let ends : (get_or xs i d).end ≡ (get_or xs k d).end = ap (λ n. (get_or xs n d).end) same in omega arith)
     (cases_lt i k)
 
 -- the range that is put, taken out of the test
