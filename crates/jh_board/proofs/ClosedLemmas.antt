@@ -21,7 +21,7 @@ use Rattle.jh_cellcfg.specs.declared.live.Live.{Live}
 use Rattle.jh_shape.specs.Claims.{Holder}
 use Rattle.jh_shape.specs.Shapes.{takes, holder_of_live}
 use Rattle.jh_life.specs.Lives.{configs_of, is_loadable_at}
-use Rattle.jh_board.specs.Closed.{is_taken, is_closed_by, all_regions, count_regions, AreInRange}
+use Rattle.jh_board.specs.Closed.{is_taken, is_closed_by, all_regions, count_regions}
 use Rattle.jh_num.proofs.BytesLemmas.{above_range, within_range, absent_below}
 
 abbrev end_of : Range → ℕ
@@ -186,16 +186,9 @@ pub places_fit : (region : Region) → IsInRange region → is_comm region ≡ f
 places_fit region within own = let le = within.phys own in omega arith
 
 -- one region more, as at a step of a loop
-pub taken_more : (loadable : Bool) (regions : List Region) (k : ℕ) (region : Region) (before after : Bool) (place : ℕ) → k < length regions → region ≡ get_or regions k region
-    → before ≡ is_taken loadable (take k regions) place → after ≡ (before || takes loadable region place) → after ≡ is_taken loadable (take (k + 1) regions) place
-taken_more loadable regions k region before after place lt is was then =
+pub taken_more : (loadable : Bool) (regions : List Region) (k : ℕ) (d : Region) (before after : Bool) (place : ℕ) → k < length regions
+    → before ≡ is_taken loadable (take k regions) place → after ≡ (before || takes loadable (get_or regions k d) place) → after ≡ is_taken loadable (take (k + 1) regions) place
+taken_more loadable regions k d before after place lt was then =
     then
-    ∙ ap (λ b. b || takes loadable region place) was
-    ∙ ap (λ (r : Region). is_taken loadable (take k regions) place || takes loadable r place) is
-    ∙ sym (list_any_more (λ (r : Region). takes loadable r place) regions k region lt)
-
--- a region of the list that isn't empty is in range where each is
-pub in_range_at : (regions : List Region) (k : ℕ) (region : Region) → AreInRange regions → k < length regions → region ≡ get_or regions k region → 0 < region.size → IsInRange region
-in_range_at regions k region all lt is =
-    let P : Region → Type 0 = λ r. 0 < r.size → IsInRange r in
-    subst P (sym is) (all k region lt)
+    ∙ ap (λ b. b || takes loadable (get_or regions k d) place) was
+    ∙ sym (list_any_more (λ (r : Region). takes loadable r place) regions k d lt)

@@ -63,8 +63,8 @@ fn taken_places(alloc: Global, regions: &[Region], loadable: bool) -> Result<Byt
     ensures { IfOk result (λ places. AreTaken loadable regions.now places.ranges) }
 {
     let mut places = ByteSet::new(alloc);
-    for k in 0..regions.len() {
-        take_region(&mut places, &regions[k], loadable)?;
+    for region in regions {
+        take_region(&mut places, region, loadable)?;
     }
     Ok(places)
 }

@@ -128,8 +128,8 @@ pub(crate) fn meeting(alloc: Global, xs: &[Range], ys: &[Range]) -> Result<Vec<R
     Ok(met)
 }
 
-/// Puts the range before those from `at` on, of which none ends before it, and joins it with the first of
-/// them where it reaches that one. They stand from the answer on then.
+/// Puts the range before those from `at` on, of which none ends before it does, and joins it with the first
+/// where it reaches that one. The answer is where they begin now.
 fn put_before(ranges: &mut Vec<Range>, at: usize, next: Range) -> usize
     requires some { next.start < next.end }
     requires space { 0 < at }
@@ -141,7 +141,6 @@ fn put_before(ranges: &mut Vec<Range>, at: usize, next: Range) -> usize
     ensures first { (d : Range) → next.end ≤ (slice_index_or ranges.new.items result d).end }
     ensures before { take (at - 1) ranges.new.items ≡ take (at - 1) ranges.old.items }
     ensures near { at ≤ result + 1 }
-    ensures bound { result ≤ at }
     ensures within { result < vec_len ranges.new }
     ensures len { vec_len ranges.new ≡ vec_len ranges.old }
     ensures capacity { vec_capacity ranges.new ≡ vec_capacity ranges.old }
@@ -157,7 +156,7 @@ fn put_before(ranges: &mut Vec<Range>, at: usize, next: Range) -> usize
     }
 }
 
-/// Whether of the first `i` ranges and the first `j` others the last is one of the former.
+/// Whether the one that ends last, of the first `i` ranges and the first `j` others, is one of the former.
 fn ends_last(ranges: &[Range], i: usize, others: &[Range], j: usize) -> bool
     requires some { 0 < i + j }
     requires ranges { i ≤ length ranges.now }
@@ -170,8 +169,8 @@ fn ends_last(ranges: &[Range], i: usize, others: &[Range], j: usize) -> bool
     j == 0 || i > 0 && others[j - 1].end <= ranges[i - 1].end
 }
 
-/// Makes one list of the first ranges and the others, as many as which stand behind the first. It goes from
-/// the back, so that a place is written only once what stood there is read.
+/// Joins the ranges with the others, for which there are as many places behind them at first. It goes from
+/// the back, so that no range is written over before it is read.
 pub(crate) fn merge(ranges: &mut Vec<Range>, others: &[Range])
     requires space { length others.now ≤ vec_len ranges.old }
     requires apart { AreApart (take (vec_len ranges.old - length others.now) ranges.old.items) }

@@ -9,14 +9,14 @@ pub loop-i-preserved : goal.loop-i-preserved
 loop-i-preserved c =
     let cells = c.args.cells.now in
     let i = c.loop-i.i in
-    let cell = c.index.result.now in
+    let cell = c.index-cells-i.result in
     let counts = few_regions cells i cell c.loop-i-test.true in
-    let here : length cell ≡ length (get_or cells i cell) = ap (λ (r : List Region). length r) c.index.ensures in
+    let here : length cell ≡ length (get_or cells i cell) = ap (λ (r : List Region). length r) c.index-cells-i.is in
     let few = c.loop-i.invariant.few in
     let more = c.close_cell.ensures.few in
     record {
       bytes = λ lives same marks place.
-          closed_step lives cells i c.has_bit.result cell (has_byte c.loop-i.closed.ranges place) (has_byte c.close_cell.new.closed.ranges place) place same c.loop-i-test.true c.index.ensures (c.has_bit.ensures ∙ marks i)
+          closed_step lives cells i c.has_bit.result cell (has_byte c.loop-i.closed.ranges place) (has_byte c.close_cell.new.closed.ranges place) place same c.loop-i-test.true c.index-cells-i.is (c.has_bit.ensures ∙ marks i)
           (c.loop-i.invariant.bytes lives same marks place)
           (c.close_cell.ensures.bytes place);
       few = (let sum = counts.0 in omega arith);
