@@ -1,8 +1,7 @@
 -- Ranges that close places: how many there are, and what they close.
-use Rattle.std.proofs.Common.{◌≡◌, ℕ, zero, suc, ◌+◌, ◌<◌, ◌≤◌, ◌^◌, Bool, true, false, ◌||◌, ◌&&◌, not, List, [], ◌∷◌, ◌++◌, length, get_or, take, map, eqb, refl, sym, ap, subst, ◌∙◌, ⊎_elim, arith}
+use Rattle.std.proofs.Common.{◌≡◌, ℕ, zero, suc, ◌+◌, ◌<◌, ◌≤◌, Bool, true, false, ◌||◌, ◌&&◌, not, List, [], ◌∷◌, ◌++◌, length, get_or, take, map, eqb, refl, sym, ap, subst, ◌∙◌, ⊎_elim, arith}
 use Rattle.std.specs.Prelude.{Some, nat_le, nat_lt, slice_get}
 use Rattle.std.proofs.lemmas.Option.{none-some, same_Some}
-use Rattle.jh_cellcfg.specs.Regions.{IsInRange, is_comm, phys_end}
 use Rattle.std.specs.Cmp.{nat_eq_equiv}
 use Rattle.std.specs.List.{list_any, IsDistinct, AllByRecursion}
 use Rattle.std.proofs.lemmas.Bool.{both_ways, or_left, or_right, or_cases, or_parts, and_right, eq-eqb, ne_eqb, eqb-true}
@@ -180,10 +179,6 @@ none_left (y ∷ ys) old end x apart is same within =
     let below : y.start < end = omega arith in
     let taken : (nat_le 0 y.start && nat_lt y.start end) ≡ true = grind (arith, nat_tests) in
     both_ways (has_byte (y ∷ ys) y.start) (same y.start ∙ rw taken (and_right (has_byte old y.start) false refl)) here
-
--- the places of a region fit a word
-pub places_fit : (region : Region) → IsInRange region → is_comm region ≡ false → phys_end region < 2 ^ 64
-places_fit region within own = let le = within.phys own in omega arith
 
 -- one region more, as at a step of a loop
 pub taken_more : (loadable : Bool) (regions : List Region) (k : ℕ) (d : Region) (before after : Bool) (place : ℕ) → k < length regions

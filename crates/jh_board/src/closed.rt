@@ -7,9 +7,7 @@ ghost use Rattle.jh_life.specs.Lives.{is_loadable_at};
 ghost use Rattle.jh_board.specs.Closed.{is_taken, is_closed_by, all_regions, count_regions, AreInRange};
 
 use crate::cell_regions::CellRegions;
-use jh_num::{ByteSet, NoMemory, Range};
-ghost use Rattle.std.specs.Prelude.{OnOk, OnErr, IsOk};
-ghost use Rattle.jh_num.specs.Bytes.{AreApart};
+use jh_num::{ByteSet, Range};
 
 /// Whether the bit of that number is set.
 fn has_bit(mask: u16, index: usize) -> bool
@@ -17,18 +15,6 @@ fn has_bit(mask: u16, index: usize) -> bool
     ensures { result ≡ has_bit mask index }
 {
     mask >> index & 1 == 1
-}
-
-/// STAND-IN
-fn unite(closed: &mut ByteSet, other: &ByteSet) -> Result<(), NoMemory>
-    ensures bytes { OnOk result ((at : ℕ) → has_byte closed.new.ranges at ≡ (has_byte closed.old.ranges at || has_byte other.now.ranges at)) }
-    ensures apart { AreApart closed.new.ranges }
-    ensures few { length closed.new.ranges ≤ length closed.old.ranges + length other.now.ranges }
-    ensures err { OnErr result (closed.new.ranges ≡ closed.old.ranges) }
-    ensures succeeds { length closed.old.ranges + length other.now.ranges ≤ closed.old.room → IsOk result }
-    ensures room { closed.old.room ≤ closed.new.room }
-{
-    Ok(())
 }
 
 /// Closes the places that the cell, loadable or not, takes. It takes no memory.
@@ -39,7 +25,7 @@ pub fn close_cell(closed: &mut ByteSet, cell: &CellRegions, loadable: bool)
     ensures few { length closed.new.ranges ≤ length closed.old.ranges + length cell.now }
     ensures room { closed.old.room ≤ closed.new.room }
 {
-    match unite(closed, cell.taken(loadable)) {
+    match closed.unite(cell.taken(loadable)) {
         Ok(()) => (),
         Err(_) => unreachable!(),
     }

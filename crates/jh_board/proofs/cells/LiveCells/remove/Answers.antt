@@ -1,9 +1,7 @@
 -- The cell at the index is the one with the id, and the others stay.
-use Rattle.std.proofs.Common.{◌≡◌, ◌+◌, ◌-◌, List, length, map, remove, sym, ap, subst, ◌∙◌, arith}
+use Rattle.std.proofs.Common.{◌≡◌, ◌+◌, ◌-◌, List, map, remove, sym, ap, subst, ◌∙◌, arith}
 use Rattle.std.specs.Prelude.{All}
-use Rattle.std.proofs.lemmas.List.{length-map}
 use Rattle.jh_cellcfg.specs.declared.config.CellConfig.{CellConfig}
-use Rattle.jh_cellcfg.specs.declared.live.Live.{Live}
 use Rattle.jh_cellcfg.specs.declared.region.Region.{Region}
 use Rattle.jh_life.specs.Lives.{configs_of}
 use Rattle.jh_life.specs.Changes.{without}
@@ -38,8 +36,7 @@ pub close_again-requires-clause-few : goal.close_again-requires-clause-few
 close_again-requires-clause-few c =
     let lives = c.self.inside.cells.lives in
     let few = c.list.ensures.few in
-    let listed : length c.list.result.now ≡ length (configs_of lives) = ap (λ (cs : List CellConfig). length cs) c.list.ensures.value in
-    let configs : length (configs_of lives) ≡ length lives = length-map lives (λ (l : Live). l.config) in
+    let count = c.list.ensures.count in
     let lists = lists_len lives c.self.inside.indexes.items c.self.invariant.indexes in
     let old = c.self.inside.indexes.ok.0 in
     let gone = c.remove.ensures.len in
