@@ -117,7 +117,7 @@ marked_same (x ∷ xs) id on = ap (λ (y : Live). y ∷ map (marked_of id on) xs
 
 -- ---- one cell less, and one more
 
-pub map_remove : {X Y : Type 0} (f : X → Y) (xs : List X) (k : ℕ) → map f (remove xs k) ≡ remove (map f xs) k
+map_remove : {X Y : Type 0} (f : X → Y) (xs : List X) (k : ℕ) → map f (remove xs k) ≡ remove (map f xs) k
 map_remove f [] zero = refl
 map_remove f [] (suc k) = refl
 map_remove f (x ∷ xs) zero = refl
@@ -132,11 +132,19 @@ removed Q (x ∷ xs) (suc k) all = (all.0, removed Q xs k all.1)
 pub All_removed : {X : Type 0} (Q : X → Type 0) (xs : List X) (k : ℕ) → All Q xs → All Q (remove xs k)
 All_removed Q xs k all = All-from_recursion Q (remove xs k) (removed Q xs k (recursion_from_All Q xs all))
 
-pub configs_removed : (lives new : List Live) (k n : ℕ) → new ≡ remove lives n → n ≡ k → configs_of new ≡ remove (configs_of lives) k
+configs_removed : (lives new : List Live) (k n : ℕ) → new ≡ remove lives n → n ≡ k → configs_of new ≡ remove (configs_of lives) k
 configs_removed lives new k n is same =
     ap (λ (l : List Live). configs_of l) is
     ∙ map_remove (λ (x : Live). x.config) lives n
     ∙ ap (λ i. remove (configs_of lives) i) same
+
+-- the regions of the cells that are left
+pub lists_removed : (lives new : List Live) (lists left : List (List Region)) (k n : ℕ) → lists ≡ all_regions lives → left ≡ remove lists k → new ≡ remove lives n → n ≡ k → left ≡ all_regions new
+lists_removed lives new lists left k n all is gone same =
+    is
+    ∙ ap (λ (l : List (List Region)). remove l k) all
+    ∙ sym (map_remove (λ (c : CellConfig). c.memory_regions) (configs_of lives) k)
+    ∙ ap (λ (cs : List CellConfig). map (λ (c : CellConfig). c.memory_regions) cs) (sym (configs_removed lives new k n gone same))
 
 -- the lists of regions are as many as the cells
 pub lists_len : (lives : List Live) (lists : List (List Region)) → lists ≡ all_regions lives → length lists ≡ length lives

@@ -10,17 +10,9 @@ use Rattle.jh_life.specs.Changes.{marked}
 use Rattle.jh_board.specs.Closed.{all_regions, count_regions, AreInRange}
 use Rattle.jh_board.proofs.CellsLemmas.{cell_at, lists_len, marked_none, marked_same}
 use Rattle.jh_board.proofs.cells.LiveCells.set_loadable.Goals as goal
-use Rattle.jh_board.proofs.cells.LiveCells.set_loadable.Goals.{After-loadable}
 
 pub returns-in_default-clause-lives : goal.returns-in_default-clause-lives
 returns-in_default-clause-lives c = rw (← c.self.view_is) (marked_none c.self.inside.cells.lives c.args.id c.args.on c.in_default.ensures.found)
-
--- the regions stay
-listed : (c : After-loadable) → c.as_slice.result.now ≡ c.self.inside.indexes.items
-listed c = c.as_slice.ensures.value
-
-counted : (c : After-loadable) → count_regions c.as_slice.result.now ≡ count_regions c.self.inside.indexes.items
-counted c = ap (λ (l : List (List Region)). count_regions l) (listed c)
 
 pub close_again-requires-clause-few : goal.close_again-requires-clause-few
 close_again-requires-clause-few c =
@@ -31,11 +23,11 @@ close_again-requires-clause-few c =
     omega arith
 
 pub close_again-requires-clause-within : goal.close_again-requires-clause-within
-close_again-requires-clause-within c = subst (λ (l : List (List Region)). All AreInRange l) (sym (listed c)) c.self.invariant.within
+close_again-requires-clause-within c = subst (λ (l : List (List Region)). All AreInRange l) (sym c.as_slice.ensures.value) c.self.invariant.within
 
 pub close_again-requires-clause-room : goal.close_again-requires-clause-room
 close_again-requires-clause-room c =
-    let same = counted c in
+    let same : count_regions c.as_slice.result.now ≡ count_regions c.self.inside.indexes.items = ap (λ (l : List (List Region)). count_regions l) c.as_slice.ensures.value in
     let count = c.self.invariant.regions in
     let room = c.self.invariant.room in
     omega arith
@@ -46,7 +38,7 @@ invariant_of-self c =
     let new = c.set_loadable.new.self.lives in
     let configs : configs_of new ≡ configs_of c.self.inside.cells.lives = c.set_loadable.ensures.list in
     let indexes : c.self.inside.indexes.items ≡ all_regions new = old.indexes ∙ ap (λ (cs : List CellConfig). map (λ (x : CellConfig). x.memory_regions) cs) (sym configs) in
-    let same = counted c in
+    let same : count_regions c.as_slice.result.now ≡ count_regions c.self.inside.indexes.items = ap (λ (l : List (List Region)). count_regions l) c.as_slice.ensures.value in
     let count = old.regions in
     let few = c.close_again.ensures.few in
     let room = c.close_again.ensures.room in
@@ -54,7 +46,7 @@ invariant_of-self c =
     record {
       indexes = indexes;
       within = old.within;
-      closed = λ place. c.close_again.ensures.bytes new (sym (listed c ∙ indexes)) c.loadable.ensures place;
+      closed = λ place. c.close_again.ensures.bytes new (sym (c.as_slice.ensures.value ∙ indexes)) c.loadable.ensures place;
       few = omega arith;
       regions = omega arith;
       room = omega arith;
