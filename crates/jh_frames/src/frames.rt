@@ -280,8 +280,8 @@ impl Frames {
         }
     }
 
-    /// Makes room for a write of so many bytes from the place on: a page is laid by for each that isn't held.
-    fn make_room(&mut self, at: u64, count: usize) -> Result<(), NoMemory>
+    /// Lays by a page for each that isn't held and that a write of so many bytes from the place on needs.
+    fn lay_for(&mut self, at: u64, count: usize) -> Result<(), NoMemory>
         requires { at + count ≤ ADDRESS_END }
         ensures bytes { (q : ℕ) → byte_at self.new q ≡ byte_at self.old q }
         ensures held { (q : ℕ) → holds self.new q ≡ holds self.old q }
@@ -343,7 +343,7 @@ impl Frames {
         if at % PAGE_SIZE + bytes.len() as u64 <= PAGE_SIZE {
             return self.write_page(at, bytes);
         }
-        self.make_room(at, bytes.len())?;
+        self.lay_for(at, bytes.len())?;
         self.write_pages(at, bytes);
         Ok(())
     }

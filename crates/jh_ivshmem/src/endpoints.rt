@@ -14,7 +14,7 @@ use crate::change::{Change, Whom};
 use crate::endpoint::Endpoint;
 use crate::key::Key;
 use crate::spec::{EndpointSpec, Slot};
-use jh_num::NoMemory;
+use jh_num::{NoMemory, make_room};
 use jh_vpci::ConfigSpace;
 use std::alloc::Global;
 use std::marker::Model;
@@ -125,21 +125,6 @@ fn earlier(one: Option<(u32, u8)>, other: Option<(u32, u8)>) -> Option<(u32, u8)
         (one, None) => one,
         (Some(a), Some(b)) => { if b.0 < a.0 { Some(b) } else { Some(a) } }
     }
-}
-
-/// Makes room for one more, where there is none.
-fn make_room<T>(list: &mut Vec<T>) -> Result<(), NoMemory>
-    ensures items { list.new.items ≡ list.old.items }
-    ensures len { vec_len list.new ≡ vec_len list.old }
-    ensures ok { OnOk result (vec_len list.new < vec_capacity list.new) }
-    ensures spare { vec_len list.old < vec_capacity list.old → IsOk result }
-    ensures capacity { vec_len list.old < vec_capacity list.old → vec_capacity list.new ≡ vec_capacity list.old }
-{
-    if list.len() < list.capacity() {
-        return Ok(());
-    }
-    list.reserve(1)?;
-    Ok(())
 }
 
 /// Puts an element at the index, where there is room.

@@ -1,5 +1,5 @@
 //! Numbers and lists that every layer speaks of: where addresses end, rights, lists as contracts see
-//! them, sets of bytes, counted descriptor reads, and want of memory.
+//! them and room in them, sets of bytes, counted descriptor reads, and want of memory.
 #![tactic(auto)]
 
 mod address;
@@ -9,6 +9,7 @@ mod laws;
 mod no_memory;
 mod range;
 mod rights;
+mod room;
 mod seq;
 mod splice;
 mod steps;
@@ -21,6 +22,7 @@ pub use laws::{
 pub use no_memory::NoMemory;
 pub use range::Range;
 pub use rights::Rights;
+pub use room::make_room;
 pub use seq::Seq;
 pub use steps::{Probe, Steps};
 

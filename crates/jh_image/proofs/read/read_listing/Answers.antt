@@ -26,4 +26,4 @@ returns-clause-err g c =
     let contents = g.F.Files.contents c.args.files.now in
     let board = c.args.board.now in
     on_refused (IsBoardRefusal board c.in-Err.fault) (StopsReading contents board) c.refused_board.result
-    (board_stops contents board _ c.in-Err.fault c.in_ok-bytes.ensures.ok (rw c.in-Err.is at c.read_board.ensures.told)) c.refused_board.ensures
+    (board_stops contents board _ c.in-Err.fault c.in_ok-bytes.ensures.ok (rw (c.as_slice.ensures.value, c.in-Err.is) at c.read_board.ensures.told)) c.refused_board.ensures
