@@ -12,7 +12,7 @@ use Rattle.jh_image.specs.declared.board.PreloadFile.{PreloadFile}
 use Rattle.jh_image.specs.declared.board.ProgramFile.{ProgramFile}
 use Rattle.jh_image.specs.declared.fault.ImageCause.{ImageCause}
 use Rattle.jh_image.specs.Files.{Contents, max_file_size, HasBytes, IsOversize, Lists, SpellsSystem, IsPreloadOf, IsProgramOf}
-use Rattle.jh_image.specs.Images.{SoFar, Stage, nothing, listed, begun, so_far_of, IsNextPreload, IsNextProgram, IsNext, the_board, the_system, a_preload, a_program, Reads, reads_board, reads_system, reads_preload, reads_program, IsRead, nothing_read, one_more_read, IsImage}
+use Rattle.jh_image.specs.Images.{SoFar, Stage, nothing, with_listing, with_system, so_far_of, IsNextPreload, IsNextProgram, IsNextFile, the_board, the_system, a_preload, a_program, ReadsNext, reads_board, reads_system, reads_preload, reads_program, ReadsTo, nothing_read, one_more_read, IsImage}
 use Rattle.jh_image.specs.Causes.{Stops, cannot_be_read, is_too_large, is_no_object, has_bad_member, is_no_system, has_findings, has_small_pool, is_bad_preload, is_bad_program, StopsReading}
 use Rattle.jh_image.specs.Order.{preload_name, program_name}
 use Rattle.jh_image.specs.Laws.{AreTold as AreAllTold}
@@ -97,16 +97,16 @@ module _ (contents : Contents) where
     -- what is listed at the stage
     abbrev IsListed : Stage → Type 0
     IsListed nothing = Unit {0}
-    IsListed (listed listing) = Lists contents board listing
-    IsListed (begun so_far) = Lists contents board so_far.listing
+    IsListed (with_listing listing) = Lists contents board listing
+    IsListed (with_system so_far) = Lists contents board so_far.listing
 
-    reads_listed : (s t : Stage) → Reads contents board s t → IsListed s → IsListed t
+    reads_listed : (s t : Stage) → ReadsNext contents board s t → IsListed s → IsListed t
     reads_listed s t (reads_board listing h) before = h
     reads_listed s t (reads_system listing system h sound) before = before
     reads_listed s t (reads_preload so_far file preload next is fit) before = before
     reads_listed s t (reads_program so_far file program next is) before = before
 
-    is_listed : (s : Stage) → IsRead contents board s → IsListed s
+    is_listed : (s : Stage) → ReadsTo contents board s → IsListed s
     is_listed s nothing_read = tt
     is_listed s (one_more_read before now read last) = reads_listed before now last (is_listed before read)
 
@@ -116,26 +116,26 @@ module _ (contents : Contents) where
     at_program : (so_far : SoFar) (file : ProgramFile) → Lists contents board so_far.listing → IsNextProgram so_far file → IsTold file.file
     at_program so_far file listed_so next = all_get IsTold program_name so_far.listing.programs (length so_far.programs) file next.next (at_programs so_far.listing listed_so)
 
-    at_next : (stage : Stage) (file : List ℕ) → IsNext board stage file → IsListed stage → IsTold file
+    at_next : (stage : Stage) (file : List ℕ) → IsNextFile board stage file → IsListed stage → IsTold file
     at_next stage file the_board before = at_board
     at_next stage file (the_system listing) before = at_system listing before
     at_next stage file (a_preload so_far entry next) before = at_preload so_far entry before next
     at_next stage file (a_program so_far entry next) before = at_program so_far entry before next
 
-    one_read : (s t : Stage) → Reads contents board s t → IsListed s → Reads (all_told contents) board s t
+    one_read : (s t : Stage) → ReadsNext contents board s t → IsListed s → ReadsNext (all_told contents) board s t
     one_read s t (reads_board listing h) before = reads_board listing (lists board listing at_board h)
     one_read s t (reads_system listing system h sound) before = reads_system listing system (spells listing.system system (at_system listing before) h) sound
     one_read s t (reads_preload so_far file preload next is fit) before = reads_preload so_far file preload next (preload_of file preload (at_preload so_far file before next) is) fit
     one_read s t (reads_program so_far file program next is) before = reads_program so_far file program next (program_of file program (at_program so_far file before next) is)
 
-    all_read : (s : Stage) → IsRead contents board s → IsRead (all_told contents) board s
+    all_read : (s : Stage) → ReadsTo contents board s → ReadsTo (all_told contents) board s
     all_read s nothing_read = nothing_read
     all_read s (one_more_read before now read last) = one_more_read before now (all_read before read) (one_read before now last (is_listed before read))
 
     pub is_image : (image : Image) → IsImage contents board image → IsImage (all_told contents) board image
     is_image image h = record {
       listing = h.listing;
-      read = all_read (begun (so_far_of h.listing image.system image.preloads image.programs)) h.read;
+      read = all_read (with_system (so_far_of h.listing image.system image.preloads image.programs)) h.read;
       complete = h.complete;
     }
 

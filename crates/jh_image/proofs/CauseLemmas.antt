@@ -25,11 +25,11 @@ use Rattle.jh_image.specs.declared.fault.ImageCause.TheVariants.{ReadFault, Over
 use Rattle.jh_image.specs.Boards.{board_told, IsListingAnswer}
 use Rattle.jh_image.specs.Opening.{IsFit}
 use Rattle.jh_image.specs.Files.{Contents, HasBytes, IsOversize, Lists, SpellsSystem, IsPreloadOf, IsProgramOf}
-use Rattle.jh_image.specs.Images.{SoFar, Stage, nothing, listed, begun, IsNextPreload, IsComplete, IsNextProgram, IsNext, the_board, the_system, a_preload, a_program, Reads, reads_board, reads_system, reads_preload, reads_program, IsImage}
+use Rattle.jh_image.specs.Images.{SoFar, Stage, nothing, with_listing, with_system, IsNextPreload, IsComplete, IsNextProgram, IsNextFile, the_board, the_system, a_preload, a_program, ReadsNext, reads_board, reads_system, reads_preload, reads_program, IsImage}
 use Rattle.jh_image.specs.Causes.{Stops, cannot_be_read, is_too_large, is_no_object, has_bad_member, is_no_system, has_findings, has_small_pool, is_bad_preload, is_bad_program, StopsReading}
 use Rattle.jh_image.specs.Laws.{AreTold}
 use Rattle.jh_image.proofs.OneLemmas.{OneSpelling, bytes_one, text_one, listing_told, spelled_one, preload_one}
-use Rattle.jh_image.proofs.ReadLemmas.{same_preload, same_program, no_preload, begun_one, listed_one, complete_preload, complete_program, IsLast, last_one, read_for, image_last}
+use Rattle.jh_image.proofs.ReadLemmas.{same_preload, same_program, no_preload, one_so_far, one_listing, complete_preload, complete_program, IsLast, last_one, read_for, image_last}
 
 -- a spelling has no fault
 abbrev pub SpellingsAreFaultless : Type 0
@@ -204,13 +204,13 @@ program_here contents file other cause more entry told (bad_program one bytes ha
 
 data IsStop (contents : Contents) (board : List ℕ) : Stage → List ℕ → ImageCause → Type 0 where
   at_board : (file : List ℕ) (cause : ImageCause) → AtBoard contents board file cause → IsStop contents board nothing file cause
-  at_system : (listing : Listing) (file : List ℕ) (cause : ImageCause) → AtSystem contents board listing.system file cause → IsStop contents board (listed listing) file cause
+  at_system : (listing : Listing) (file : List ℕ) (cause : ImageCause) → AtSystem contents board listing.system file cause → IsStop contents board (with_listing listing) file cause
   at_preload : (so_far : SoFar) (entry : PreloadFile) (file : List ℕ) (cause : ImageCause) → IsNextPreload so_far entry
-      → StopsPreload contents board file so_far.system.hypervisor_memory so_far.preloads entry cause → IsStop contents board (begun so_far) file cause
+      → StopsPreload contents board file so_far.system.hypervisor_memory so_far.preloads entry cause → IsStop contents board (with_system so_far) file cause
   at_program : (so_far : SoFar) (entry : ProgramFile) (file : List ℕ) (cause : ImageCause) → IsNextProgram so_far entry → StopsProgram contents file entry cause
-      → IsStop contents board (begun so_far) file cause
+      → IsStop contents board (with_system so_far) file cause
 
-large_stop : (contents : Contents) (board : List ℕ) (stage : Stage) (file : List ℕ) → IsNext board stage file → IsOversize contents file → IsStop contents board stage file Oversize
+large_stop : (contents : Contents) (board : List ℕ) (stage : Stage) (file : List ℕ) → IsNextFile board stage file → IsOversize contents file → IsStop contents board stage file Oversize
 large_stop contents board stage file the_board over = at_board board Oversize (large_board refl over)
 large_stop contents board stage file (the_system listing) over = at_system listing listing.system Oversize (large_system refl over)
 large_stop contents board stage file (a_preload so_far entry next) over = at_preload so_far entry entry.file Oversize next (large_preload refl over)
@@ -231,7 +231,7 @@ stop_of contents board stage file cause (is_bad_preload so_far entry preload nex
 stop_of contents board stage file cause (is_bad_program so_far entry bytes fault next has bad) =
     inr (at_program so_far entry entry.file (BadProgram fault) next (bad_program fault bytes has bad refl))
 
-complete_stop : (contents : Contents) (board : List ℕ) (stage : Stage) (file : List ℕ) (cause : ImageCause) → IsStop contents board stage file cause → (so_far : SoFar) → IsComplete so_far → stage ≡ begun so_far → ⊥
+complete_stop : (contents : Contents) (board : List ℕ) (stage : Stage) (file : List ℕ) (cause : ImageCause) → IsStop contents board stage file cause → (so_far : SoFar) → IsComplete so_far → stage ≡ with_system so_far → ⊥
 complete_stop contents board stage file cause (at_preload one entry _ _ next stop) so_far all e = complete_preload one so_far entry next all e
 complete_stop contents board stage file cause (at_program one entry _ _ next stop) so_far all e = complete_program one so_far entry next all e
 complete_stop contents board stage file cause stop so_far all e = cc
@@ -241,37 +241,37 @@ module _ (spelling : OneSpelling) (faultless : SpellingsAreFaultless) (contents 
   stop_one s r file other cause more (at_board _ _ one) (at_board _ _ two) e = board_same contents board file other cause more told one two
   stop_one s r file other cause more (at_system listing _ _ one) (at_system listing_too _ _ two) e =
       system_same spelling faultless contents told board listing_too.system file other cause more
-      (subst (λ (l : Listing). AtSystem contents board l.system file cause) (listed_one listing listing_too e) one) two
+      (subst (λ (l : Listing). AtSystem contents board l.system file cause) (one_listing listing listing_too e) one) two
   stop_one s r file other cause more (at_preload a entry _ _ next one) (at_preload b entry_too _ _ next_too two) e =
-      let same = begun_one a b e in
+      let same = one_so_far a b e in
       let entries = same_preload a b entry entry_too next next_too same in
       let moved : StopsPreload contents board file b.system.hypervisor_memory b.preloads entry cause
       = subst (λ (so_far : SoFar). StopsPreload contents board file so_far.system.hypervisor_memory so_far.preloads entry cause) same one in
       preload_here contents board file other cause more b.system.hypervisor_memory b.preloads entry_too told
       (subst (λ (f : PreloadFile). StopsPreload contents board file b.system.hypervisor_memory b.preloads f cause) entries moved) two
   stop_one s r file other cause more (at_program a entry _ _ next one) (at_program b entry_too _ _ next_too two) e =
-      let entries = same_program a b entry entry_too next next_too (begun_one a b e) in
+      let entries = same_program a b entry entry_too next next_too (one_so_far a b e) in
       program_here contents file other cause more entry_too told (subst (λ (f : ProgramFile). StopsProgram contents file f cause) entries one) two
-  stop_one s r file other cause more (at_preload a entry _ _ next one) (at_program b entry_too _ _ next_too two) e = absurd (no_preload a b entry next next_too.preloads (begun_one a b e))
-  stop_one s r file other cause more (at_program a entry _ _ next one) (at_preload b entry_too _ _ next_too two) e = absurd (no_preload b a entry_too next_too next.preloads (sym (begun_one a b e)))
+  stop_one s r file other cause more (at_preload a entry _ _ next one) (at_program b entry_too _ _ next_too two) e = absurd (no_preload a b entry next next_too.preloads (one_so_far a b e))
+  stop_one s r file other cause more (at_program a entry _ _ next one) (at_preload b entry_too _ _ next_too two) e = absurd (no_preload b a entry_too next_too next.preloads (sym (one_so_far a b e)))
   stop_one s r file other cause more one two e = absurd cc
 
-  stop_last : (s r t : Stage) (file : List ℕ) (cause : ImageCause) → IsStop contents board s file cause → Reads contents board r t → s ≡ r → ⊥
+  stop_last : (s r t : Stage) (file : List ℕ) (cause : ImageCause) → IsStop contents board s file cause → ReadsNext contents board r t → s ≡ r → ⊥
   stop_last s r t file cause (at_board _ _ stop) (reads_board listing lists) e = not_board contents board file cause listing told stop lists
   stop_last s r t file cause (at_system listing _ _ stop) (reads_system more system spells sound) e =
-      not_system spelling faultless contents told board more.system file cause system (subst (λ (l : Listing). AtSystem contents board l.system file cause) (listed_one listing more e) stop) spells sound
+      not_system spelling faultless contents told board more.system file cause system (subst (λ (l : Listing). AtSystem contents board l.system file cause) (one_listing listing more e) stop) spells sound
   stop_last s r t file cause (at_preload a entry _ _ next stop) (reads_preload b file_too preload next_too is fit) e =
-      let same = begun_one a b e in
+      let same = one_so_far a b e in
       let entries = same_preload a b entry file_too next next_too same in
       let moved : StopsPreload contents board file b.system.hypervisor_memory b.preloads entry cause
       = subst (λ (so_far : SoFar). StopsPreload contents board file so_far.system.hypervisor_memory so_far.preloads entry cause) same stop in
       preload_goes_on contents board file cause b.system.hypervisor_memory b.preloads file_too preload told
       (subst (λ (f : PreloadFile). StopsPreload contents board file b.system.hypervisor_memory b.preloads f cause) entries moved) is fit
   stop_last s r t file cause (at_program a entry _ _ next stop) (reads_program b file_too program next_too is) e =
-      let entries = same_program a b entry file_too next next_too (begun_one a b e) in
+      let entries = same_program a b entry file_too next next_too (one_so_far a b e) in
       program_goes_on contents file cause file_too program told (subst (λ (f : ProgramFile). StopsProgram contents file f cause) entries stop) is
-  stop_last s r t file cause (at_preload a entry _ _ next stop) (reads_program b file_too program next_too is) e = no_preload a b entry next next_too.preloads (begun_one a b e)
-  stop_last s r t file cause (at_program a entry _ _ next stop) (reads_preload b file_too preload next_too is fit) e = no_preload b a file_too next_too next.preloads (sym (begun_one a b e))
+  stop_last s r t file cause (at_preload a entry _ _ next stop) (reads_program b file_too program next_too is) e = no_preload a b entry next next_too.preloads (one_so_far a b e)
+  stop_last s r t file cause (at_program a entry _ _ next stop) (reads_preload b file_too preload next_too is fit) e = no_preload b a file_too next_too next.preloads (sym (one_so_far a b e))
   stop_last s r t file cause stop reads e = cc
 
   stopped : (file : List ℕ) (cause : ImageCause) → (h : StopsReading contents board file cause) → cause ≢ ReadFault → IsStop contents board h.stage file cause
@@ -298,7 +298,7 @@ unrefused spelling faultless contents board file image cause told is h =
     elim (stop_of contents board h.stage file cause h.stops) [
       | inl e ↦ e
       | inr stop ↦
-          let same : h.stage ≡ begun whole = last_one contents board told spelling h.stage (begun whole) h.read is.read
+          let same : h.stage ≡ with_system whole = last_one contents board told spelling h.stage (with_system whole) h.read is.read
               (last_at spelling faultless contents told board h.stage file cause stop) (image_last contents board image is) in
           absurd (complete_stop contents board h.stage file cause stop whole is.complete same)
     ]

@@ -22,7 +22,7 @@ use Rattle.jh_image.specs.declared.board.ProgramFile.{ProgramFile}
 use Rattle.jh_image.specs.Boards.{Seat, seat_of, is_seat, are_distinct}
 use Rattle.jh_image.specs.Opening.{IsFit}
 use Rattle.jh_image.specs.Files.{Contents, IsPreloadOf, IsProgramOf}
-use Rattle.jh_image.specs.Images.{begun, so_far_of, with_preload, with_program, IsNextPreload, IsComplete, IsNextProgram, reads_preload, reads_program, IsRead, one_more_read}
+use Rattle.jh_image.specs.Images.{with_system, so_far_of, with_preload, with_program, IsNextPreload, IsComplete, IsNextProgram, reads_preload, reads_program, ReadsTo, one_more_read}
 
 -- the front of a list with one item more
 front_more : {X : Type 0} (xs : List X) (i : ℕ) (x : X) → i < length xs → x ≡ get_or xs i x → take i xs ++ x ∷ [] ≡ take (i + 1) xs
@@ -33,11 +33,11 @@ front_more xs i x lt is = ap (λ y. take i xs ++ y ∷ []) is ∙ sym (take_more
 pub record LoadedSoFar (contents : Contents) (board : List ℕ) (listing : Listing) (system : SystemConfig) (count : ℕ) (preloads : List Preload) : Type 0 where
   pub count_is : length preloads ≡ count
   pub within : count ≤ length listing.preloads
-  pub read : IsRead contents board (begun (so_far_of listing system preloads []))
+  pub read : ReadsTo contents board (with_system (so_far_of listing system preloads []))
   pub sound : All (IsSoundPreload system.hypervisor_memory) preloads
   pub apart : AllPairs IsOtherPreload preloads
 
-pub loaded_start : (contents : Contents) (board : List ℕ) (listing : Listing) (system : SystemConfig) → IsRead contents board (begun (so_far_of listing system [] [])) → LoadedSoFar contents board listing system 0 []
+pub loaded_start : (contents : Contents) (board : List ℕ) (listing : Listing) (system : SystemConfig) → ReadsTo contents board (with_system (so_far_of listing system [] [])) → LoadedSoFar contents board listing system 0 []
 loaded_start contents board listing system read = record {
   count_is = refl;
   within = omega arith;
@@ -65,7 +65,7 @@ loaded_more contents board listing system i file preloads preload lt is of fit s
     record {
       count_is = length_more preloads preload i so_far.count_is;
       within = omega arith;
-      read = one_more_read (begun before) (begun (with_preload before preload)) so_far.read (reads_preload before file preload (loaded_next contents board listing system i file preloads lt is so_far) of fit);
+      read = one_more_read (with_system before) (with_system (with_preload before preload)) so_far.read (reads_preload before file preload (loaded_next contents board listing system i file preloads lt is so_far) of fit);
       sound = All-push (IsSoundPreload system.hypervisor_memory) preloads preload so_far.sound fit.sound;
       apart = all_pairs_push IsOtherPreload preloads preload so_far.apart (λ k d within. fit.apart k d within);
     }
@@ -84,11 +84,11 @@ program_seat program = record { cell = program.cell; cpu = program.cpu }
 pub record ScriptsSoFar (contents : Contents) (board : List ℕ) (listing : Listing) (system : SystemConfig) (preloads : List Preload) (count : ℕ) (programs : List Program) : Type 0 where
   pub count_is : length programs ≡ count
   pub within : count ≤ length listing.programs
-  pub read : IsRead contents board (begun (so_far_of listing system preloads programs))
+  pub read : ReadsTo contents board (with_system (so_far_of listing system preloads programs))
   pub sound : All IsSoundProgram programs
   pub seats : map program_seat programs ≡ map seat_of (take count listing.programs)
 
-pub scripts_start : (contents : Contents) (board : List ℕ) (listing : Listing) (system : SystemConfig) (preloads : List Preload) → IsRead contents board (begun (so_far_of listing system preloads []))
+pub scripts_start : (contents : Contents) (board : List ℕ) (listing : Listing) (system : SystemConfig) (preloads : List Preload) → ReadsTo contents board (with_system (so_far_of listing system preloads []))
     → ScriptsSoFar contents board listing system preloads 0 []
 scripts_start contents board listing system preloads read = record {
   count_is = refl;
@@ -117,7 +117,7 @@ scripts_more contents board listing system preloads i file programs program all 
     record {
       count_is = length_more programs program i so_far.count_is;
       within = omega arith;
-      read = one_more_read (begun before) (begun (with_program before program)) so_far.read (reads_program before file program (scripts_next contents board listing system preloads i file programs all lt is so_far) of);
+      read = one_more_read (with_system before) (with_system (with_program before program)) so_far.read (reads_program before file program (scripts_next contents board listing system preloads i file programs all lt is so_far) of);
       sound = All-push IsSoundProgram programs program so_far.sound sound;
       seats = map_push program_seat programs program ∙ ap (λ ss. ss ++ program_seat program ∷ []) so_far.seats ∙ ap (λ s. map seat_of (take i files) ++ s ∷ []) (same_seat contents file program of)
           ∙ sym (map_push seat_of (take i files) file) ∙ ap (map seat_of) (front_more files i file lt is);

@@ -23,34 +23,34 @@ use Rattle.jh_image.specs.declared.fault.ImageFault.TheVariants.{Refused, NoMemo
 use Rattle.jh_image.specs.Boards.{IsListingAnswer}
 use Rattle.jh_image.specs.Opening.{IsFit}
 use Rattle.jh_image.specs.Files.{Contents, HasBytes, IsOversize, SpellsSystem, IsPreloadOf}
-use Rattle.jh_image.specs.Images.{SoFar, Stage, nothing, listed, begun, IsNextPreload, IsNextProgram, IsNext, IsRead, IsImage}
+use Rattle.jh_image.specs.Images.{SoFar, Stage, nothing, with_listing, with_system, IsNextPreload, IsNextProgram, IsNextFile, ReadsTo, IsImage}
 
 -- why the reading stops at the stage: the file that is named, and the cause
 pub data Stops (contents : Contents) (board : List ℕ) : Stage → List ℕ → ImageCause → Type 0 where
   -- which of the files that are next could not be read only the files know
-  cannot_be_read : (stage : Stage) (file : List ℕ) → IsNext board stage file → Stops contents board stage file ReadFault
-  is_too_large : (stage : Stage) (file : List ℕ) → IsNext board stage file → IsOversize contents file → Stops contents board stage file Oversize
+  cannot_be_read : (stage : Stage) (file : List ℕ) → IsNextFile board stage file → Stops contents board stage file ReadFault
+  is_too_large : (stage : Stage) (file : List ℕ) → IsNextFile board stage file → IsOversize contents file → Stops contents board stage file Oversize
   is_no_object : (bytes : List ℕ) → HasBytes contents board bytes → IsListingAnswer bytes (Err boards.Json) → Stops contents board nothing board Json
   has_bad_member : (bytes name : List ℕ) → HasBytes contents board bytes → IsListingAnswer bytes (Err (boards.Member name))
       → Stops contents board nothing board (Member name)
   is_no_system : (listing : Listing) (bytes : List ℕ) (fault : ConfigFault) → HasBytes contents listing.system bytes → system_fault bytes ≡ Some fault
-      → Stops contents board (listed listing) listing.system (System fault)
+      → Stops contents board (with_listing listing) listing.system (System fault)
   -- the check finds something in the system alone; the first thousand are told
   has_findings : (listing : Listing) (system : SystemConfig) → SpellsSystem contents listing.system system → findings system [] ≢ []
-      → Stops contents board (listed listing) listing.system (Findings (capped (findings system [])))
+      → Stops contents board (with_listing listing) listing.system (Findings (capped (findings system [])))
   -- the pool has fewer pages than root takes, which is the board's fault
   has_small_pool : (listing : Listing) (system : SystemConfig) → SpellsSystem contents listing.system system → findings system [] ≡ []
-      → pool_pages system < root_pages system → Stops contents board (listed listing) board (PoolSmall (root_pages system) (pool_pages system))
+      → pool_pages system < root_pages system → Stops contents board (with_listing listing) board (PoolSmall (root_pages system) (pool_pages system))
   -- preloads are told by their numbers, from 0; where one comes to stand is the board's fault
   is_bad_preload : (so_far : SoFar) (file : PreloadFile) (preload : Preload) → IsNextPreload so_far file → IsPreloadOf contents file preload
-      → ¬ IsFit so_far.system.hypervisor_memory so_far.preloads preload → Stops contents board (begun so_far) board (BadPreload (length so_far.preloads))
+      → ¬ IsFit so_far.system.hypervisor_memory so_far.preloads preload → Stops contents board (with_system so_far) board (BadPreload (length so_far.preloads))
   is_bad_program : (so_far : SoFar) (file : ProgramFile) (bytes : List ℕ) (fault : ScriptFault) → IsNextProgram so_far file → HasBytes contents file.file bytes
-      → program_of bytes ≡ Err fault → Stops contents board (begun so_far) file.file (BadProgram fault)
+      → program_of bytes ≡ Err fault → Stops contents board (with_system so_far) file.file (BadProgram fault)
 
 -- the reading of the board stops, names this file, and has this cause
 pub record StopsReading (contents : Contents) (board file : List ℕ) (cause : ImageCause) : Type 0 where
   pub stage : Stage
-  pub read : IsRead contents board stage
+  pub read : ReadsTo contents board stage
   pub stops : Stops contents board stage file cause
 
 -- a fact of the file and the cause, unless memory ran out

@@ -22,8 +22,8 @@ pub record SoFar : Type 0 where
 -- how far the reading has come: nothing is read; the board is; or its system is, and maybe files behind it
 pub data Stage : Type 0 where
   nothing : Stage
-  listed : Listing → Stage
-  begun : SoFar → Stage
+  with_listing : Listing → Stage
+  with_system : SoFar → Stage
 
 abbrev pub so_far_of : Listing → SystemConfig → List Preload → List Program → SoFar
 so_far_of listing system preloads programs = record { listing = listing; system = system; preloads = preloads; programs = programs }
@@ -55,31 +55,31 @@ pub record IsNextProgram (so_far : SoFar) (file : ProgramFile) : Type 0 where
   pub next : slice_get so_far.listing.programs (length so_far.programs) ≡ Some file
 
 -- the file of this name is next
-pub data IsNext (board : List ℕ) : Stage → List ℕ → Type 0 where
-  the_board : IsNext board nothing board
-  the_system : (listing : Listing) → IsNext board (listed listing) listing.system
-  a_preload : (so_far : SoFar) (file : PreloadFile) → IsNextPreload so_far file → IsNext board (begun so_far) file.file
-  a_program : (so_far : SoFar) (file : ProgramFile) → IsNextProgram so_far file → IsNext board (begun so_far) file.file
+pub data IsNextFile (board : List ℕ) : Stage → List ℕ → Type 0 where
+  the_board : IsNextFile board nothing board
+  the_system : (listing : Listing) → IsNextFile board (with_listing listing) listing.system
+  a_preload : (so_far : SoFar) (file : PreloadFile) → IsNextPreload so_far file → IsNextFile board (with_system so_far) file.file
+  a_program : (so_far : SoFar) (file : ProgramFile) → IsNextProgram so_far file → IsNextFile board (with_system so_far) file.file
 
 -- ---- reading
 
 -- the next file is read and not refused, and takes the reading from the one stage to the other
-pub data Reads (contents : Contents) (board : List ℕ) : Stage → Stage → Type 0 where
-  reads_board : (listing : Listing) → Lists contents board listing → Reads contents board nothing (listed listing)
+pub data ReadsNext (contents : Contents) (board : List ℕ) : Stage → Stage → Type 0 where
+  reads_board : (listing : Listing) → Lists contents board listing → ReadsNext contents board nothing (with_listing listing)
   reads_system : (listing : Listing) (system : SystemConfig) → SpellsSystem contents listing.system system → IsAdmittedSystem system
-      → Reads contents board (listed listing) (begun (so_far_of listing system [] []))
+      → ReadsNext contents board (with_listing listing) (with_system (so_far_of listing system [] []))
   reads_preload : (so_far : SoFar) (file : PreloadFile) (preload : Preload) → IsNextPreload so_far file → IsPreloadOf contents file preload
-      → IsFit so_far.system.hypervisor_memory so_far.preloads preload → Reads contents board (begun so_far) (begun (with_preload so_far preload))
+      → IsFit so_far.system.hypervisor_memory so_far.preloads preload → ReadsNext contents board (with_system so_far) (with_system (with_preload so_far preload))
   reads_program : (so_far : SoFar) (file : ProgramFile) (program : Program) → IsNextProgram so_far file → IsProgramOf contents file program
-      → Reads contents board (begun so_far) (begun (with_program so_far program))
+      → ReadsNext contents board (with_system so_far) (with_system (with_program so_far program))
 
 -- the reading comes to the stage, file by file
-pub data IsRead (contents : Contents) (board : List ℕ) : Stage → Type 0 where
-  nothing_read : IsRead contents board nothing
-  one_more_read : (before now : Stage) → IsRead contents board before → Reads contents board before now → IsRead contents board now
+pub data ReadsTo (contents : Contents) (board : List ℕ) : Stage → Type 0 where
+  nothing_read : ReadsTo contents board nothing
+  one_more_read : (before now : Stage) → ReadsTo contents board before → ReadsNext contents board before now → ReadsTo contents board now
 
 -- the board's files make this image
 pub record IsImage (contents : Contents) (board : List ℕ) (image : Image) : Type 0 where
   pub listing : Listing
-  pub read : IsRead contents board (begun (so_far_of listing image.system image.preloads image.programs))
+  pub read : ReadsTo contents board (with_system (so_far_of listing image.system image.preloads image.programs))
   pub complete : IsComplete (so_far_of listing image.system image.preloads image.programs)

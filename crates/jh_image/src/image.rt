@@ -7,7 +7,7 @@ ghost use Rattle.jh_image.specs.Opening.{IsFit};
 ghost use Rattle.jh_image.specs.Files.{IsPreloadOf};
 ghost use Rattle.jh_outside.specs.Trail.{Asks, AsksAll, AsksUntil, handed};
 ghost use Rattle.jh_image.specs.Order.{ask_for, preload_name, program_name, AsksBoard, AsksBoardUntil};
-ghost use Rattle.jh_image.specs.Images.{listed, begun, so_far_of, IsNextPreload, IsComplete, IsRead};
+ghost use Rattle.jh_image.specs.Images.{with_listing, with_system, so_far_of, IsNextPreload, IsComplete, ReadsTo};
 ghost use Rattle.jh_image.specs.Causes.{StopsReading, OnRefused, IsImageAnswer, IsCounted};
 
 use crate::admission::check_system;
@@ -29,8 +29,8 @@ fn read_ready<F: Files>(
     board: &str,
     listing: &Listing,
 ) -> Result<SystemConfig, ImageFault>
-    requires { IsRead (F.contents files.old) board.now (listed listing.now) }
-    ensures ok { IfOk result (λ system. IsRead (F.contents files.old) board.now (begun (so_far_of listing.now system [] []))) }
+    requires { ReadsTo (F.contents files.old) board.now (with_listing listing.now) }
+    ensures ok { IfOk result (λ system. ReadsTo (F.contents files.old) board.now (with_system (so_far_of listing.now system [] []))) }
     ensures err { IfErr result (OnRefused (StopsReading (F.contents files.old) board.now)) }
     ensures counted { IfErr result (IsCounted (F.faults files.old) (F.faults files.new) (F.failed files.new)) }
     ensures never_falls { F.faults files.old ≤ F.faults files.new }
@@ -52,7 +52,7 @@ fn next_preload<F: Files>(
     preloads: &[Preload],
     file: &PreloadFile,
 ) -> Result<Preload, ImageFault>
-    requires next { (listing : TheListing) × IsRead (F.contents files.old) board.now (begun (so_far_of listing system.now preloads.now [])) × IsNextPreload (so_far_of listing system.now preloads.now []) file.now }
+    requires next { (listing : TheListing) × ReadsTo (F.contents files.old) board.now (with_system (so_far_of listing system.now preloads.now [])) × IsNextPreload (so_far_of listing system.now preloads.now []) file.now }
     requires few { length preloads.now < 64 }
     ensures ok { IfOk result (IsPreloadOf (F.contents files.old) file.now) }
     ensures fit { IfOk result (IsFit system.now.hypervisor_memory preloads.now) }
@@ -79,9 +79,9 @@ fn read_preloads<F: Files>(
     listing: &Listing,
     system: &SystemConfig,
 ) -> Result<Seq<Preload>, ImageFault>
-    requires read { IsRead (F.contents files.old) board.now (begun (so_far_of listing.now system.now [] [])) }
+    requires read { ReadsTo (F.contents files.old) board.now (with_system (so_far_of listing.now system.now [] [])) }
     requires few { length listing.now.preloads ≤ 64 }
-    ensures ok { IfOk result (λ preloads. IsRead (F.contents files.old) board.now (begun (so_far_of listing.now system.now preloads []))) }
+    ensures ok { IfOk result (λ preloads. ReadsTo (F.contents files.old) board.now (with_system (so_far_of listing.now system.now preloads []))) }
     ensures all { IfOk result (λ preloads. length preloads ≡ length listing.now.preloads) }
     ensures sound { IfOk result (All (IsSoundPreload system.now.hypervisor_memory)) }
     ensures apart { IfOk result (AllPairs IsOtherPreload) }
@@ -110,10 +110,10 @@ fn read_programs<F: Files>(
     system: &SystemConfig,
     preloads: &[Preload],
 ) -> Result<Seq<Program>, ImageFault>
-    requires read { IsRead (F.contents files.old) board.now (begun (so_far_of listing.now system.now preloads.now [])) }
+    requires read { ReadsTo (F.contents files.old) board.now (with_system (so_far_of listing.now system.now preloads.now [])) }
     requires all { length preloads.now ≡ length listing.now.preloads }
     requires distinct { are_distinct (map seat_of listing.now.programs) ≡ true }
-    ensures ok { IfOk result (λ programs. IsRead (F.contents files.old) board.now (begun (so_far_of listing.now system.now preloads.now programs))) }
+    ensures ok { IfOk result (λ programs. ReadsTo (F.contents files.old) board.now (with_system (so_far_of listing.now system.now preloads.now programs))) }
     ensures complete { IfOk result (λ programs. IsComplete (so_far_of listing.now system.now preloads.now programs)) }
     ensures sound { IfOk result (All IsSoundProgram) }
     ensures owned { IfOk result (AllPairs IsOtherProgram) }
