@@ -1,12 +1,10 @@
 -- Marks of slots.
-use Rattle.std.proofs.Common.{◌≡◌, ◌≢◌, ℕ, ◌+◌, ◌-◌, ◌*◌, ◌/◌, ◌%◌, ◌^◌, ◌<◌, ◌≤◌, ◌==◌, zero, suc, min, max, Bool, true, false, not, ◌&&◌, ◌||◌, nat_eq, nat_le, nat_lt, List, length, get_or, set, take, replicate, refl, sym, ap, subst, ◌∙◌, ⊎_elim, arith, w64, bit_or, slice_index}
+use Rattle.std.proofs.Common.{◌≡◌, ◌≢◌, ℕ, ◌+◌, ◌-◌, ◌*◌, ◌/◌, ◌%◌, ◌^◌, ◌<◌, ◌≤◌, ◌==◌, zero, suc, min, max, Bool, true, false, not, ◌&&◌, ◌||◌, nat_eq, nat_le, nat_lt, List, length, get_or, set, replicate, refl, sym, ap, subst, ◌∙◌, ⊎_elim, arith, w64, bit_or, slice_index}
 use Rattle.std.specs.Int.{bit_at}
-use Rattle.std.specs.List.{list_any}
 use Rattle.std.proofs.lemmas.Bool.{cases_eq, eq-eqb, ne_eqb, eqb-true, and_parts, and_from, and_right, both_ways, leb-true, ltb-true, lt-ltb, le-leb, le-ltb, false_from_ne_true, not_from_true, not_from_false}
 use Rattle.std.proofs.lemmas.Bool.Decides.{nat_tests}
 use Rattle.std.proofs.lemmas.Nat.Bits.{bit_at-zero, bit_at_set_same, bit_at_set_other}
 use Rattle.std.proofs.lemmas.List.{get_or-set_same, get_or-set_other}
-use Rattle.std.proofs.lemmas.List.Folds.{list_any_more}
 use Rattle.std.proofs.Math.Bool.{or-true, or-false}
 use Rattle.std.proofs.Math.Nat.{add-mul, mul-le-mul_right, le-div_iff_mul-le, div-lt_iff_lt-mul, div-mul-le_self, lt-div-mul-add, lt_of_mul-lt-mul_right}
 use Rattle.jh_num.specs.declared.address.TheConstants.{ADDRESS_END}
@@ -191,10 +189,6 @@ inside_past n size number top some h past =
     let ends = slot_ends n size top some h in
     and_right (nat_lt (n * size) number) (nat_lt number (n * size + size)) (le-ltb number (n * size + size) (omega arith))
 
--- places are had in part where one of the ends lies inside of them
-pub ends_cut : (at size start end : ℕ) → 0 < size → start < end → (is_inside at size start || is_inside at size end) ≡ (touches start end at size && not (spans start end at size))
-ends_cut at size start end some order = grind (arith, nat_tests)
-
 -- below the last level a mapped region that blocks fit makes a leaf of each slot that it spans and nothing cuts
 above_pages : (level : ℕ) → level < 3 → (level == 3) ≡ false
 above_pages level h = ne_eqb level 3 (λ e. absurd (omega arith))
@@ -248,10 +242,3 @@ pub leaf_end : (kept : ℕ → Bool) (k from to n : ℕ) (b new span : Bool) →
 leaf_end kept k from to n b new span h l s e =
     let same : is_from from n k ≡ is_from from to k = grind (arith, nat_tests) in
     e ∙ ap (λ v. b || (v && not (kept k))) (same ∙ s)
-
--- one element more, of a list that marks go over
-pub any_step : {X : Type 0} (p : X → Bool) (xs : List X) (i : ℕ) (d : X) (b old new : Bool) → i < length xs → old ≡ (b || list_any p (take i xs)) → new ≡ (old || p (get_or xs i d)) → new ≡ (b || list_any p (take (i + 1) xs))
-any_step p xs i d b old new l e f =
-    f ∙ ap (λ v. v || p (get_or xs i d)) e
-    ∙ sym (or_assoc b (list_any p (take i xs)) (p (get_or xs i d)))
-    ∙ sym (ap (λ v. b || v) (list_any_more p xs i d l))
