@@ -4,21 +4,13 @@ ghost use Rattle.jh_num.specs.Bytes.{has_byte};
 ghost use Rattle.jh_cellcfg.specs.declared.config.CellConfig.{CellConfig as TheCell};
 ghost use Rattle.jh_cellcfg.specs.declared.live.Live.{Live};
 ghost use Rattle.jh_cellcfg.specs.Regions.{has_place, is_comm, IsInRange};
-ghost use Rattle.jh_shape.specs.Claims.{has_bit};
+ghost use Rattle.jh_num.specs.Bits.{has_bit};
 ghost use Rattle.jh_shape.specs.Shapes.{takes};
 ghost use Rattle.jh_life.specs.Lives.{configs_of, is_loadable_at};
 ghost use Rattle.jh_board.specs.Closed.{is_taken, is_closed_by, count_regions, AreInRange};
 
 use jh_cellcfg::{CellConfig, Region};
-use jh_num::{ByteSet, Range};
-
-/// Whether the bit of that number is set.
-fn has_bit(mask: u16, index: usize) -> bool
-    requires { index < 16 }
-    ensures { result ≡ has_bit mask index }
-{
-    mask >> index & 1 == 1
-}
+use jh_num::{ByteSet, Range, has_bit};
 
 /// Whether a cell, loadable or not, takes the region's places from root.
 fn takes_places(region: &Region, loadable: bool) -> bool

@@ -3,7 +3,7 @@ ghost use Rattle.std.specs.Prelude.{◌≡◌, ◌↔◌, ℕ, ◌+◌, ◌-◌,
 ghost use Rattle.std.specs.Option.{option_copied};
 ghost use Rattle.jh_cellcfg.specs.declared.live.Live.{Live};
 ghost use Rattle.jh_check.specs.Refusals.{is_known};
-ghost use Rattle.jh_shape.specs.Claims.{has_bit};
+ghost use Rattle.jh_num.specs.Bits.{has_bit};
 ghost use Rattle.jh_shape.specs.Pages.{pages_of};
 ghost use Rattle.jh_life.specs.Lives.{new_live, has_config_id, configs_of, marks_of, cells_of, is_loadable_at, number_of};
 ghost use Rattle.jh_life.specs.SoundRecords.{AreTwo};

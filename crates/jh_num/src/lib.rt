@@ -1,8 +1,9 @@
-//! Numbers and lists that every layer speaks of: where addresses end, rights, lists as contracts see
+//! Numbers and lists that every layer speaks of: where addresses end, bits, rights, lists as contracts see
 //! them and room in them, sets of bytes, counted descriptor reads, and want of memory.
 #![tactic(auto)]
 
 mod address;
+mod bits;
 mod byte_set;
 pub mod error;
 mod laws;
@@ -15,6 +16,7 @@ mod splice;
 mod steps;
 
 pub use address::{ADDRESS_END, PAGE_SIZE};
+pub use bits::has_bit;
 pub use byte_set::ByteSet;
 pub use laws::{
     a_list_is_stored_at_its_places, addresses_end_here, errors_are_these, the_lowest_byte_is_first,

@@ -10,9 +10,9 @@ ghost use Rattle.jh_shape.specs.Shapes.{slot_size, are_cut, is_leaf, is_leaf_by,
 use crate::level::{FIRST_LEVEL, LAST_LEVEL, slot_of, slot_size, slots};
 use crate::marks::{WORDS, is_marked, mark};
 use crate::region::{addresses, fits_blocks, is_mapped, mark_cuts, mark_met, place_in};
-use crate::target::{Target, has_bit};
+use crate::target::Target;
 use jh_cellcfg::Region;
-use jh_num::ADDRESS_END;
+use jh_num::{ADDRESS_END, has_bit};
 
 /// Whether the slot is met and isn't a leaf.
 fn is_apart(met: &[u64], leaves: &[u64], n: usize) -> bool
