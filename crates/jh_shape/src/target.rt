@@ -1,6 +1,5 @@
 //! The tables that a cell is to have.
 ghost use Rattle.std.specs.Prelude.{◌≡◌, ℕ, ◌+◌, ◌*◌, ◌^◌, ◌<◌, ◌≤◌, [], ◌∷◌, false, length};
-ghost use Rattle.jh_shape.specs.Claims.{claims_of};
 
 use crate::level::{LAST_LEVEL, slot_size};
 use crate::region::{addresses, any_in_part, any_met, any_takes, fits_blocks, is_mapped, place_in};
@@ -24,6 +23,8 @@ pub struct Target<'a> {
     /// The physical place of the cell's communication page.
     pub comm: u64,
 }
+
+ghost use Rattle.jh_shape.specs.Claims.{claims_of};
 
 impl<'a> Target<'a> {
     ghost use Rattle.jh_shape.specs.Claims.{held_from, one_more};
