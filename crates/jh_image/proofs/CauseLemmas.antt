@@ -288,7 +288,7 @@ causes_one spelling faultless contents board file other cause more told h ne k n
     let one = stopped spelling faultless contents told board file cause h ne in
     let two = stopped spelling faultless contents told board other more k ne_too in
     let same : h.stage ≡ k.stage = last_one contents board told spelling h.stage k.stage h.read k.read
-        (last_at spelling faultless contents told board h.stage file cause one) (last_at spelling faultless contents told board k.stage other more two) in
+    (last_at spelling faultless contents told board h.stage file cause one) (last_at spelling faultless contents told board k.stage other more two) in
     let both = stop_one spelling faultless contents told board h.stage k.stage file other cause more one two same in
     (both.same_cause, both.same_file)
 
@@ -299,6 +299,6 @@ unrefused spelling faultless contents board file image cause told is h =
       | inl e ↦ e
       | inr stop ↦
           let same : h.stage ≡ with_system whole = last_one contents board told spelling h.stage (with_system whole) h.read is.read
-              (last_at spelling faultless contents told board h.stage file cause stop) (image_last contents board image is) in
+          (last_at spelling faultless contents told board h.stage file cause stop) (image_last contents board image is) in
           absurd (complete_stop contents board h.stage file cause stop whole is.complete same)
     ]
