@@ -1,5 +1,4 @@
 -- The system is admitted, or isn't.
-use Rattle.std.proofs.Common.{sym, subst}
 use Rattle.jh_image.specs.Causes.{IsUnsound, OnRefused, StopsReading}
 use Rattle.jh_image.proofs.StopLemmas.{on_refused, system_read, unsound_stops, passed_up}
 use Rattle.jh_image.proofs.image.read_ready.Goals as goal

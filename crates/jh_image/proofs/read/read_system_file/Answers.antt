@@ -4,7 +4,6 @@ use Rattle.std.proofs.lemmas.Grind.{common_steps}
 use Rattle.jh_outside.specs.Trail.{Asks}
 use Rattle.jh_image.specs.declared.fault.ImageCause.TheVariants.{System}
 use Rattle.jh_image.specs.Order.{ask_for}
-use Rattle.jh_image.specs.Files.{HasBytes}
 use Rattle.jh_image.specs.Images.{IsNextFile, with_listing, the_system}
 use Rattle.jh_image.specs.Causes.{HandsOutNothing, IsRefusal, OnRefused, StopsReading}
 use Rattle.jh_image.proofs.StopLemmas.{on_refusal, on_refused, unread_stops, system_stops, passed_up}
