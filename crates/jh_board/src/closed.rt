@@ -2,20 +2,12 @@
 ghost use Rattle.std.specs.Prelude.{◌≡◌, ℕ, ◌+◌, ◌<◌, ◌≤◌, ◌^◌, ◌||◌, List, [], All, length};
 ghost use Rattle.jh_num.specs.Bytes.{has_byte};
 ghost use Rattle.jh_cellcfg.specs.declared.live.Live.{Live};
-ghost use Rattle.jh_shape.specs.Claims.{has_bit};
+ghost use Rattle.jh_num.specs.Bits.{has_bit};
 ghost use Rattle.jh_life.specs.Lives.{is_loadable_at};
 ghost use Rattle.jh_board.specs.Closed.{is_taken, is_closed_by, all_regions, count_regions, AreInRange};
 
 use crate::cell_regions::CellRegions;
-use jh_num::{ByteSet, Range};
-
-/// Whether the bit of that number is set.
-fn has_bit(mask: u16, index: usize) -> bool
-    requires { index < 16 }
-    ensures { result ≡ has_bit mask index }
-{
-    mask >> index & 1 == 1
-}
+use jh_num::{ByteSet, Range, has_bit};
 
 /// Closes the places that the cell, loadable or not, takes. It takes no memory.
 pub fn close_cell(closed: &mut ByteSet, cell: &CellRegions, loadable: bool)

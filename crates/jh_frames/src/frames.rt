@@ -282,7 +282,7 @@ impl Frames {
     }
 
     /// Makes room for a write of so many bytes from the place on, for each of its pages that isn't held.
-    fn make_room(&mut self, at: u64, count: usize) -> Result<(), NoMemory>
+    fn reserve_for(&mut self, at: u64, count: usize) -> Result<(), NoMemory>
         requires { at + count ≤ ADDRESS_END }
         ensures bytes { (q : ℕ) → byte_at self.new q ≡ byte_at self.old q }
         ensures held { (q : ℕ) → holds self.new q ≡ holds self.old q }
@@ -344,7 +344,7 @@ impl Frames {
         if at % PAGE_SIZE + bytes.len() as u64 <= PAGE_SIZE {
             return self.write_page(at, bytes);
         }
-        self.make_room(at, bytes.len())?;
+        self.reserve_for(at, bytes.len())?;
         self.write_pages(at, bytes);
         Ok(())
     }

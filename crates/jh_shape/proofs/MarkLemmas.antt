@@ -212,10 +212,6 @@ inside_past n size number top some h past =
     let ends = slot_ends n size top some h in
     and_right (nat_lt (n * size) number) (nat_lt number (n * size + size)) (le-ltb number (n * size + size) (omega arith))
 
--- places are had in part where one of the ends lies inside of them
-pub ends_cut : (at size start end : ℕ) → 0 < size → start < end → (is_inside at size start || is_inside at size end) ≡ (touches start end at size && not (spans start end at size))
-ends_cut at size start end some order = grind (arith, nat_tests)
-
 -- below the last level a mapped region that blocks fit makes a leaf of each slot that it spans and nothing cuts
 above_pages : (level : ℕ) → level < 3 → (level == 3) ≡ false
 above_pages level h = ne_eqb level 3 (λ e. absurd (omega arith))

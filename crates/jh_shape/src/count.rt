@@ -13,9 +13,9 @@ use crate::marks::{LOW_SLOTS, LOW_WORDS, SLOTS, WORDS, is_marked, mark};
 use crate::region::{
     addresses, any_beyond, any_place_beyond, fits_blocks, is_mapped, mark_cuts, mark_met, place_in,
 };
-use crate::target::{Target, has_bit};
+use crate::target::Target;
 use jh_cellcfg::Region;
-use jh_num::ADDRESS_END;
+use jh_num::{ADDRESS_END, has_bit};
 
 impl<'a> Target<'a> {
     /// Marks the slots of places below the limit that other cells cut, where none is marked.
