@@ -1,9 +1,9 @@
 //! The records of the cells that live.
-ghost use Rattle.std.specs.Prelude.{vec_len, vec_capacity, ◌≡◌, ◌↔◌, ℕ, ◌+◌, ◌-◌, ◌<◌, ◌≤◌, Bool, false, [], ◌∷◌, ◌++◌, length, map, position, remove, slice_set, option_to_list, IfNone, IfOk, OnOk, OnErr, IsOk, IsTrue, AllPairs};
+ghost use Rattle.std.specs.Prelude.{◌≡◌, ◌↔◌, ℕ, ◌+◌, ◌-◌, ◌<◌, ◌≤◌, Bool, false, [], ◌∷◌, ◌++◌, length, map, position, remove, slice_set, option_to_list, IfNone, IfOk, OnOk, OnErr, IsOk, IsTrue, AllPairs};
 ghost use Rattle.std.specs.Option.{option_copied};
 ghost use Rattle.jh_cellcfg.specs.declared.live.Live.{Live};
 ghost use Rattle.jh_check.specs.Refusals.{is_known};
-ghost use Rattle.jh_shape.specs.Claims.{has_bit};
+ghost use Rattle.jh_num.specs.Bits.{has_bit};
 ghost use Rattle.jh_shape.specs.Pages.{pages_of};
 ghost use Rattle.jh_life.specs.Lives.{new_live, has_config_id, configs_of, marks_of, cells_of, is_loadable_at, number_of};
 ghost use Rattle.jh_life.specs.SoundRecords.{AreTwo};
@@ -14,8 +14,8 @@ use crate::counting::{pages_of, refusal_by_pages};
 use crate::marks::{free_cpus, mask_of};
 use jh_cellcfg::{CellConfig, SystemConfig};
 use jh_check::{refusal_of, refusal_without_cpus};
-use jh_num::NoMemory;
 use jh_num::error::EPERM;
+use jh_num::{NoMemory, make_room};
 use jh_shape::{cell_pages, tables_are_few};
 use std::alloc::Global;
 use std::marker::Model;
@@ -55,21 +55,6 @@ fn index_of(cells: &[CellConfig], id: u32) -> Option<usize>
     ensures { result ≡ position (has_config_id id) cells.now }
 {
     cells.iter().position(|cell| cell.id == id)
-}
-
-/// Makes room for one more, where there is none.
-fn make_room<T>(list: &mut Vec<T>) -> Result<(), NoMemory>
-    ensures items { list.new.items ≡ list.old.items }
-    ensures len { vec_len list.new ≡ vec_len list.old }
-    ensures ok { OnOk result (vec_len list.new < vec_capacity list.new) }
-    ensures spare { vec_len list.old < vec_capacity list.old → IsOk result }
-    ensures capacity { vec_len list.old < vec_capacity list.old → vec_capacity list.new ≡ vec_capacity list.old }
-{
-    if list.len() < list.capacity() {
-        return Ok(());
-    }
-    list.reserve(1)?;
-    Ok(())
 }
 
 impl Cells {

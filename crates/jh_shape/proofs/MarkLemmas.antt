@@ -1,12 +1,12 @@
 -- Marks of slots.
-use Rattle.std.proofs.Common.{◌≡◌, ◌≢◌, ℕ, ◌+◌, ◌-◌, ◌*◌, ◌/◌, ◌%◌, ◌^◌, ◌<◌, ◌≤◌, ◌==◌, zero, suc, min, max, Bool, true, false, not, ◌&&◌, ◌||◌, nat_eq, nat_le, nat_lt, List, length, get_or, set, take, replicate, refl, sym, ap, subst, ◌∙◌, ⊎_elim, arith, w64, bit_or, slice_index}
+use Rattle.std.proofs.Common.{◌≡◌, ◌≢◌, ℕ, ◌+◌, ◌-◌, ◌*◌, ◌/◌, ◌%◌, ◌^◌, ◌<◌, ◌≤◌, ◌==◌, zero, suc, min, max, Bool, true, false, not, ◌&&◌, ◌||◌, nat_eq, nat_le, nat_lt, List, [], ◌∷◌, length, get_or, set, take, replicate, refl, sym, ap, subst, ◌∙◌, ⊎_elim, arith, w64, bit_or, slice_index}
 use Rattle.std.specs.Int.{bit_at}
 use Rattle.std.specs.List.{list_any}
-use Rattle.std.proofs.lemmas.Bool.{cases_eq, eq-eqb, ne_eqb, eqb-true, and_parts, and_from, and_right, both_ways, leb-true, ltb-true, lt-ltb, le-leb, le-ltb, false_from_ne_true, not_from_true, not_from_false}
+use Rattle.std.proofs.lemmas.Bool.{cases_eq, cases_lt, eq-eqb, ne_eqb, eqb-true, and_parts, and_from, and_right, both_ways, leb-true, ltb-true, lt-ltb, le-leb, le-ltb, false_from_ne_true, not_from_true, not_from_false}
 use Rattle.std.proofs.lemmas.Bool.Decides.{nat_tests}
 use Rattle.std.proofs.lemmas.Nat.Bits.{bit_at-zero, bit_at_set_same, bit_at_set_other}
 use Rattle.std.proofs.lemmas.List.{get_or-set_same, get_or-set_other}
-use Rattle.std.proofs.lemmas.List.Folds.{list_any_more}
+use Rattle.std.proofs.lemmas.List.Folds.{list_any_more, list_any_at}
 use Rattle.std.proofs.Math.Bool.{or-true, or-false}
 use Rattle.std.proofs.Math.Nat.{add-mul, mul-le-mul_right, le-div_iff_mul-le, div-lt_iff_lt-mul, div-mul-le_self, lt-div-mul-add, lt_of_mul-lt-mul_right}
 use Rattle.jh_num.specs.declared.address.TheConstants.{ADDRESS_END}
@@ -15,8 +15,9 @@ use Rattle.jh_cellcfg.specs.declared.region.Region.{Region}
 use Rattle.jh_cellcfg.specs.Regions.{virt_end, place_in}
 use Rattle.jh_shape.specs.Claims.{Claims}
 use Rattle.jh_shape.specs.Intervals.{touches, spans}
-use Rattle.jh_shape.specs.Marks.{is_marked, is_inside}
+use Rattle.jh_shape.specs.Marks.{is_marked, is_inside, marked_slots, past_slot, is_beyond}
 use Rattle.jh_shape.specs.Shapes.{slot_size, is_mapped, are_cut, fits_blocks, may_be_block, is_leaf_by}
+use Rattle.jh_shape.proofs.CountLemmas.{count_below_le}
 
 -- one mark more
 pub marked : (words : List ℕ) (n k word : ℕ) → n < 64 * length words → word ≡ bit_or (slice_index words (n / 64)) (1 * 2 ^ (n % 64) % 2 ^ 64) → is_marked (set words (n / 64) word) k ≡ (is_marked words k || nat_eq k n)
@@ -75,6 +76,12 @@ slots_few zero x h l = let e : (x + (549755813888 - 1)) / 549755813888 ≤ 26214
 slots_few (suc zero) x h l = let e : (x + (1073741824 - 1)) / 1073741824 ≤ 262144 = omega arith in e
 slots_few (suc (suc zero)) x h l = let e : (x + (2097152 - 1)) / 2097152 ≤ 262144 = omega arith in e
 slots_few (suc (suc (suc n))) x h l = absurd (omega arith)
+
+pub slots_within : (level x : ℕ) → level < 3 → x ≤ ADDRESS_END → (x + (slot_size level - 1)) / slot_size level ≤ ADDRESS_END / slot_size level
+slots_within zero x h l = let e : (x + (549755813888 - 1)) / 549755813888 ≤ 1 = omega arith in e
+slots_within (suc zero) x h l = let e : (x + (1073741824 - 1)) / 1073741824 ≤ 512 = omega arith in e
+slots_within (suc (suc zero)) x h l = let e : (x + (2097152 - 1)) / 2097152 ≤ 262144 = omega arith in e
+slots_within (suc (suc (suc n))) x h l = absurd (omega arith)
 
 pub slots_fewer : (level x : ℕ) → level < 3 → x ≤ ADDRESS_END → x / slot_size level ≤ 262144
 slots_fewer zero x h l = let e : x / 549755813888 ≤ 262144 = omega arith in e
@@ -152,6 +159,12 @@ spanned_slots start end size n top some h =
     let d : n + 1 ≤ min end top / size = (le-div_iff_mul-le {k = size} {x = n + 1} {y = min end top} some).1 c in
     and_from (nat_le ((min start top + (size - 1)) / size) n) (nat_lt n (min end top / size)) (le-leb ((min start top + (size - 1)) / size) n (omega arith)) (lt-ltb n (min end top / size) (omega arith)))
 
+-- the last of them that it spans it touches
+pub spanned_below : (x size : ℕ) → 0 < size → x / size ≤ (x + (size - 1)) / size
+spanned_below x size some =
+    let under : (x / size) * size ≤ x = div-mul-le_self x size in
+    (le-div_iff_mul-le {k = size} {x = x / size} {y = x + (size - 1)} some).1 (omega arith)
+
 -- the slot that a number lies inside of
 pub inside_only : (n size number : ℕ) → 0 < size → (number / size) * size < number → nat_eq n (number / size) ≡ is_inside (n * size) size number
 inside_only n size number some above =
@@ -185,15 +198,19 @@ inside_none n size number some begins =
     let more : (n + 1) * size ≤ q * size = mul-le-mul_right size (let l : n + 1 ≤ q = omega arith in l) in
     absurd (omega arith))
 
+-- nor below the slot that it lies in
+pub inside_above : (n size number : ℕ) → 0 < size → n < number / size → is_inside (n * size) size number ≡ false
+inside_above n size number some h =
+    let under : (number / size) * size ≤ number = div-mul-le_self number size in
+    let next = next_slot n size in
+    let more : (n + 1) * size ≤ (number / size) * size = mul-le-mul_right size (let l : n + 1 ≤ number / size = omega arith in l) in
+    and_right (nat_lt (n * size) number) (nat_lt number (n * size + size)) (le-ltb number (n * size + size) (omega arith))
+
 -- nor where it lies past the end of addresses
 pub inside_past : (n size number top : ℕ) → 0 < size → n < top / size → top ≤ number → is_inside (n * size) size number ≡ false
 inside_past n size number top some h past =
     let ends = slot_ends n size top some h in
     and_right (nat_lt (n * size) number) (nat_lt number (n * size + size)) (le-ltb number (n * size + size) (omega arith))
-
--- places are had in part where one of the ends lies inside of them
-pub ends_cut : (at size start end : ℕ) → 0 < size → start < end → (is_inside at size start || is_inside at size end) ≡ (touches start end at size && not (spans start end at size))
-ends_cut at size start end some order = grind (arith, nat_tests)
 
 -- below the last level a mapped region that blocks fit makes a leaf of each slot that it spans and nothing cuts
 above_pages : (level : ℕ) → level < 3 → (level == 3) ≡ false
@@ -248,6 +265,39 @@ pub leaf_end : (kept : ℕ → Bool) (k from to n : ℕ) (b new span : Bool) →
 leaf_end kept k from to n b new span h l s e =
     let same : is_from from n k ≡ is_from from to k = grind (arith, nat_tests) in
     e ∙ ap (λ v. b || (v && not (kept k))) (same ∙ s)
+
+-- a mark that was there
+pub marked_again : (test : ℕ → Bool) (n k : ℕ) → test n ≡ true → test k ≡ (test k || nat_eq k n)
+marked_again test n k there =
+    ⊎_elim
+    (λ (same : k ≡ n).
+    let is : test k ≡ true = ap test same ∙ there in
+    is ∙ sym (ap (λ b. b || nat_eq k n) is))
+    (λ (other : k ≢ n). sym (ap (λ b. test k || b) (ne_eqb k n other) ∙ or-false (test k)))
+    (cases_eq k n)
+
+-- how many marks there are
+pub marked_few : (words : List ℕ) (level : ℕ) → level < 3 → marked_slots words level ≤ 262144
+marked_few words level h =
+    let count : marked_slots words level ≤ ADDRESS_END / slot_size level = count_below_le (λ n. is_marked words n) (ADDRESS_END / slot_size level) in
+    let all : ADDRESS_END / slot_size level ≤ 262144 = slots_fewer level ADDRESS_END h (omega arith) in
+    omega arith
+
+-- a region of a list none of which lies beyond so many slots
+pub none_beyond : (limit room level : ℕ) (regions : List Region) (i : ℕ) (d : Region) → i < length regions → list_any (λ (region : Region). is_beyond limit level region) regions ≡ false → limit ≤ room → past_slot level (virt_end (get_or regions i d)) ≤ room
+none_beyond limit room level regions i d l none h =
+    let past = past_slot level (virt_end (get_or regions i d)) in
+    ⊎_elim
+    (λ (over : limit < past). absurd (both_ways (list_any (λ (region : Region). is_beyond limit level region) regions) none (list_any_at (λ (region : Region). is_beyond limit level region) regions i d l (lt-ltb limit past over))))
+    (λ (under : past ≤ limit). let e : past ≤ room = omega arith in e)
+    (cases_lt limit past)
+
+pub none_beyond_all : (level : ℕ) (regions : List Region) → level < 3 → list_any (λ (region : Region). is_beyond 262144 level region) regions ≡ false
+none_beyond_all level [] h = refl
+none_beyond_all level (r ∷ rs) h =
+    let few : past_slot level (virt_end r) ≤ 262144 = slots_few level (min (virt_end r) ADDRESS_END) h (omega arith) in
+    let one : is_beyond 262144 level r ≡ false = le-ltb 262144 (past_slot level (virt_end r)) few in
+    ap (λ b. b || list_any (λ (region : Region). is_beyond 262144 level region) rs) one ∙ none_beyond_all level rs h
 
 -- one element more, of a list that marks go over
 pub any_step : {X : Type 0} (p : X → Bool) (xs : List X) (i : ℕ) (d : X) (b old new : Bool) → i < length xs → old ≡ (b || list_any p (take i xs)) → new ≡ (old || p (get_or xs i d)) → new ≡ (b || list_any p (take (i + 1) xs))

@@ -1,6 +1,7 @@
 //! Intervals of addresses or places, and slots beside them.
 ghost use Rattle.std.specs.Prelude.{◌≡◌, ℕ, ◌+◌, ◌*◌, ◌/◌, ◌^◌, ◌<◌, ◌≤◌, ◌&&◌, min, nat_le, nat_lt};
 ghost use Rattle.jh_shape.specs.Intervals.{touches, spans};
+ghost use Rattle.jh_shape.specs.Marks.{past_slot};
 ghost use Rattle.jh_shape.specs.Shapes.{slot_size};
 
 use crate::level::{LAST_LEVEL, slot_of, slot_size};
@@ -48,24 +49,36 @@ impl Interval {
         self.start <= at && at + size <= self.end
     }
 
+    /// One past the last of the level's slots below the end of addresses that it touches.
+    pub(crate) fn past_slot(&self, level: u8) -> usize
+        requires { level < LAST_LEVEL }
+        ensures value { result ≡ past_slot level self.now.end }
+        ensures within { result ≤ ADDRESS_END / slot_size level }
+        ensures bound { result ≤ 262144 }
+    {
+        slot_of(level, capped(self.end) + (slot_size(level) - 1)) as usize
+    }
+
     /// Which of the level's slots below the end of addresses it touches.
     pub(crate) fn touched(&self, level: u8) -> Slots
         requires some { self.now.start < self.now.end }
         requires level { level < LAST_LEVEL }
+        ensures past { result.to ≡ past_slot level self.now.end }
+        ensures within { result.to ≤ ADDRESS_END / slot_size level }
         ensures bound { result.to ≤ 262144 }
         ensures slots { (n : ℕ) → n < ADDRESS_END / slot_size level → (nat_le result.from n && nat_lt n result.to) ≡ touches self.now.start self.now.end (n * slot_size level) (slot_size level) }
     {
         let from = slot_of(level, capped(self.start));
-        let to = slot_of(level, capped(self.end) + (slot_size(level) - 1));
         Slots {
             from: from as usize,
-            to: to as usize,
+            to: self.past_slot(level),
         }
     }
 
     /// Which of them it spans.
     pub(crate) fn spanned(&self, level: u8) -> Slots
         requires { level < LAST_LEVEL }
+        ensures past { result.to ≤ past_slot level self.now.end }
         ensures bound { result.to ≤ 262144 }
         ensures slots { (n : ℕ) → n < ADDRESS_END / slot_size level → (nat_le result.from n && nat_lt n result.to) ≡ spans self.now.start self.now.end (n * slot_size level) (slot_size level) }
     {

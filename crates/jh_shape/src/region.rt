@@ -1,9 +1,9 @@
 //! A region against a slot.
-ghost use Rattle.std.specs.Prelude.{◌≡◌, ℕ, ◌+◌, ◌*◌, ◌^◌, ◌<◌, ◌≤◌, ◌||◌, length};
+ghost use Rattle.std.specs.Prelude.{◌≡◌, ◌+◌, ◌*◌, ◌^◌, ◌<◌, ◌≤◌, ◌||◌, length};
 ghost use Rattle.std.specs.List.{list_any};
 ghost use Rattle.jh_cellcfg.specs.Regions.{virt_end, phys_end, place_in};
 ghost use Rattle.jh_cellcfg.specs.declared.region.Region.{Region};
-ghost use Rattle.jh_shape.specs.Marks.{is_inside, is_marked, AreMarked};
+ghost use Rattle.jh_shape.specs.Marks.{is_beyond, is_inside, is_marked, is_place_beyond, marked_slots, past_slot, AreMarked, AreMarkedBelow};
 ghost use Rattle.jh_shape.specs.Shapes.{slot_size, fits_blocks, is_mapped, is_met_by, meets_in_part, takes};
 
 use crate::interval::Interval;
@@ -112,58 +112,93 @@ pub(crate) fn fits_blocks(level: u8, region: &Region) -> bool
         && region.phys_start % size == region.virt_start % size
 }
 
-/// Marks the slots in which the region has an address, where tables map it, and tells a number that each of them is
-/// below.
-pub(crate) fn mark_met(words: &mut [u64], level: u8, region: &Region) -> usize
+/// Whether it has addresses in slots of that number and above, of the level's below the end of addresses.
+fn is_beyond(region: &Region, level: u8, limit: usize) -> bool
+    requires { level < LAST_LEVEL }
+    ensures { result ≡ is_beyond limit level region.now }
+{
+    limit < addresses(region).past_slot(level)
+}
+
+/// Whether one of them has.
+pub(crate) fn any_beyond(regions: &[Region], level: u8, limit: usize) -> bool
+    requires { level < LAST_LEVEL }
+    ensures { result ≡ list_any (λ region. is_beyond limit level region) regions.now }
+{
+    regions.iter().any(|region| is_beyond(region, level, limit))
+}
+
+/// Whether it has places in slots of that number and above.
+fn is_place_beyond(region: &Region, level: u8, limit: usize) -> bool
+    requires { level < LAST_LEVEL }
+    ensures { result ≡ is_place_beyond limit level region.now }
+{
+    limit < places(region).past_slot(level)
+}
+
+/// Whether one of them has.
+pub(crate) fn any_place_beyond(regions: &[Region], level: u8, limit: usize) -> bool
+    requires { level < LAST_LEVEL }
+    ensures { result ≡ list_any (λ region. is_place_beyond limit level region) regions.now }
+{
+    regions
+        .iter()
+        .any(|region| is_place_beyond(region, level, limit))
+}
+
+/// Marks the slots in which the region has an address, where tables map it, and tells how many marks that adds.
+pub(crate) fn mark_met(words: &mut [u64], level: u8, region: &Region) -> u64
     requires level { level < LAST_LEVEL }
-    requires enough { length words.old ≡ 4096 }
+    requires room { past_slot level (virt_end region.now) ≤ 64 * length words.old }
     ensures marks { AreMarked words.new level (λ n. is_marked words.old n || is_met_by level (n * slot_size level) region.now) }
-    ensures end { (n : ℕ) → result ≤ n → is_marked words.new n ≡ is_marked words.old n }
+    ensures more { marked_slots words.new level ≡ marked_slots words.old level + result }
+    ensures bound { result ≤ 262144 }
 {
     if is_mapped(region) {
         let slots = addresses(region).touched(level);
-        mark_span(words, slots.from, slots.to);
-        slots.to
+        mark_span(words, slots.from, slots.to)
     } else {
         0
     }
 }
 
-/// Marks the slot that the number lies in, unless it is the first there.
-fn mark_inside(words: &mut [u64], level: u8, number: u128)
+/// Marks the slot that the number lies in, unless it is the first there, or the slot isn't below the limit.
+fn mark_inside(words: &mut [u64], level: u8, number: u128, limit: usize)
     requires level { level < LAST_LEVEL }
-    requires enough { length words.old ≡ 4096 }
-    ensures { AreMarked words.new level (λ n. is_marked words.old n || is_inside (n * slot_size level) (slot_size level) number) }
+    requires room { limit ≤ 64 * length words.old }
+    ensures { AreMarkedBelow limit words.new level (λ n. is_marked words.old n || is_inside (n * slot_size level) (slot_size level) number) }
 {
     if number < u128::from(ADDRESS_END) {
         let number = number as u64;
         let n = slot_of(level, number);
-        if n * slot_size(level) < number {
-            mark(words, n as usize);
+        if n < limit as u64 {
+            if n * slot_size(level) < number {
+                mark(words, n as usize);
+            }
         }
     }
 }
 
-/// Marks the slots of places that the region, where it is for its cell alone, has in part.
-fn mark_cut(words: &mut [u64], level: u8, region: &Region)
+/// Marks the slots of places below the limit that the region, where it is for its cell alone, has in part.
+fn mark_cut(words: &mut [u64], level: u8, region: &Region, limit: usize)
     requires level { level < LAST_LEVEL }
-    requires enough { length words.old ≡ 4096 }
-    ensures { AreMarked words.new level (λ n. is_marked words.old n || meets_in_part region.now (n * slot_size level) (slot_size level)) }
+    requires room { limit ≤ 64 * length words.old }
+    ensures { AreMarkedBelow limit words.new level (λ n. is_marked words.old n || meets_in_part region.now (n * slot_size level) (slot_size level)) }
 {
     let its = places(region);
     if region.is_unshared() && its.start < its.end {
-        mark_inside(words, level, its.start);
-        mark_inside(words, level, its.end);
+        mark_inside(words, level, its.start, limit);
+        mark_inside(words, level, its.end, limit);
     }
 }
 
 /// The same of each of them.
-pub(crate) fn mark_cuts(words: &mut [u64], level: u8, regions: &[Region])
+pub(crate) fn mark_cuts(words: &mut [u64], level: u8, regions: &[Region], limit: usize)
     requires level { level < LAST_LEVEL }
-    requires enough { length words.old ≡ 4096 }
-    ensures { AreMarked words.new level (λ n. is_marked words.old n || list_any (λ region. meets_in_part region (n * slot_size level) (slot_size level)) regions.now) }
+    requires room { limit ≤ 64 * length words.old }
+    ensures { AreMarkedBelow limit words.new level (λ n. is_marked words.old n || list_any (λ region. meets_in_part region (n * slot_size level) (slot_size level)) regions.now) }
 {
     for region in regions {
-        mark_cut(words, level, region);
+        mark_cut(words, level, region, limit);
     }
 }
