@@ -1,11 +1,33 @@
 //! Where a range meets a sorted list, and what stands there afterwards.
-ghost use Rattle.std.specs.Prelude.{◌≡◌, ℕ, ◌+◌, ◌-◌, ◌<◌, ◌≤◌, ◌&&◌, ◌||◌, ◌∷◌, ◌++◌, length, take, drop, nat_le, nat_lt, slice_index_or, vec_len, vec_capacity, true, false, IsOk, IfOk, OnOk, OnErr};
+ghost use Rattle.std.specs.Prelude.{◌≡◌, ℕ, ◌+◌, ◌-◌, ◌<◌, ◌≤◌, ◌&&◌, ◌||◌, ◌∷◌, ◌++◌, length, take, drop, nat_le, nat_lt, slice_index_or, vec_len, vec_capacity, true, false, IsTrue, IsOk, IfOk, OnOk, OnErr};
 ghost use Rattle.std.specs.List.{list_any};
 ghost use Rattle.jh_num.specs.Bytes.{in_range, has_byte, pieces, AreApart};
 
 use crate::no_memory::NoMemory;
 use crate::range::Range;
 use std::alloc::Global;
+
+/// Whether all ranges end before `limit`, as the last tells.
+fn all_end_before(ranges: &[Range], limit: u64) -> bool
+    requires { AreApart ranges.now }
+    ensures { IsTrue result → (k : ℕ) (d : Range) → k < length ranges.now → (slice_index_or ranges.now k d).end < limit }
+{
+    match ranges.len().checked_sub(1) {
+        Some(last) => ranges[last].end < limit,
+        None => true,
+    }
+}
+
+/// Whether all ranges start at `limit` or before, as the last tells.
+fn all_start_by(ranges: &[Range], limit: u64) -> bool
+    requires { AreApart ranges.now }
+    ensures { IsTrue result → (k : ℕ) (d : Range) → k < length ranges.now → (slice_index_or ranges.now k d).start ≤ limit }
+{
+    match ranges.len().checked_sub(1) {
+        Some(last) => ranges[last].start <= limit,
+        None => true,
+    }
+}
 
 /// The index of the first range that ends at `limit` or later, or their number.
 pub(crate) fn ending_before(ranges: &[Range], limit: u64) -> usize
@@ -14,6 +36,9 @@ pub(crate) fn ending_before(ranges: &[Range], limit: u64) -> usize
     ensures before { (k : ℕ) (d : Range) → k < result → (slice_index_or ranges.now k d).end < limit }
     ensures at { (d : Range) → result < length ranges.now → limit ≤ (slice_index_or ranges.now result d).end }
 {
+    if all_end_before(ranges, limit) {
+        return ranges.len();
+    }
     ranges.partition_point(|x| x.end < limit)
 }
 
@@ -24,6 +49,9 @@ pub(crate) fn starting_by(ranges: &[Range], limit: u64) -> usize
     ensures before { (k : ℕ) (d : Range) → k < result → (slice_index_or ranges.now k d).start ≤ limit }
     ensures at { (d : Range) → result < length ranges.now → limit < (slice_index_or ranges.now result d).start }
 {
+    if all_start_by(ranges, limit) {
+        return ranges.len();
+    }
     ranges.partition_point(|x| x.start <= limit)
 }
 
