@@ -4,7 +4,7 @@ use Rattle.std.specs.Prelude.{Some, nat_le, nat_lt, slice_get}
 use Rattle.std.proofs.lemmas.Option.{none-some, same_Some}
 use Rattle.std.specs.Cmp.{nat_eq_equiv}
 use Rattle.std.specs.List.{list_any, IsDistinct, AllByRecursion}
-use Rattle.std.proofs.lemmas.Bool.{both_ways, or_left, or_right, or_cases, or_parts, and_right, eq-eqb, ne_eqb, eqb-true}
+use Rattle.std.proofs.lemmas.Bool.{false≢true, both_ways, or_left, or_right, or_cases, or_parts, and_right, eq-eqb, ne_eqb, eqb-true}
 use Rattle.std.proofs.lemmas.Bool.Decides.{nat_tests}
 use Rattle.std.proofs.Math.Bool.{or-false}
 use Rattle.std.proofs.lemmas.List.{length-map, get_or-map, take_all}
@@ -17,6 +17,7 @@ use Rattle.jh_num.proofs.Lists.{list_any_map}
 use Rattle.jh_cellcfg.specs.declared.config.CellConfig.{CellConfig}
 use Rattle.jh_cellcfg.specs.declared.region.Region.{Region}
 use Rattle.jh_cellcfg.specs.declared.live.Live.{Live}
+use Rattle.jh_cellcfg.specs.Regions.{has_place, is_unshared, is_loadable}
 use Rattle.jh_shape.specs.Claims.{Holder}
 use Rattle.jh_shape.specs.Shapes.{takes, holder_of_live}
 use Rattle.jh_life.specs.Lives.{configs_of, is_loadable_at}
@@ -187,3 +188,17 @@ taken_more loadable regions k d before after place lt was then =
     then
     ∙ ap (λ b. b || takes loadable (get_or regions k d) place) was
     ∙ sym (list_any_more (λ (r : Region). takes loadable r place) regions k d lt)
+
+-- ---- what a cell takes while it is loadable
+
+lent_or_not : (unshared loadable has : Bool) → (unshared && loadable) ≡ false → (unshared && (not (true && loadable) && has)) ≡ (unshared && (not (false && loadable) && has))
+lent_or_not false loadable has none = refl
+lent_or_not true false has none = refl
+lent_or_not true true has none = absurd (false≢true (sym none))
+
+-- where no region is root's while its cell is loadable, the cell takes the same
+pub same_taken : (regions : List Region) (place : ℕ) → list_any (λ (r : Region). is_unshared r && is_loadable r) regions ≡ false → is_taken true regions place ≡ is_taken false regions place
+same_taken [] place none = refl
+same_taken (r ∷ rs) place none =
+    let parts = or_parts (is_unshared r && is_loadable r) (list_any (λ (r : Region). is_unshared r && is_loadable r) rs) none in
+    rw (lent_or_not (is_unshared r) (is_loadable r) (has_place r place) parts.0, same_taken rs place parts.1) refl

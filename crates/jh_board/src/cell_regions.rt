@@ -1,7 +1,9 @@
 //! The regions of a cell, with what is found once of them.
-ghost use Rattle.std.specs.Prelude.{◌≡◌, ℕ, ◌+◌, ◌<◌, ◌≤◌, ◌&&◌, ◌||◌, AllPairs, IfOk, OnOk, true, false, length};
+ghost use Rattle.std.specs.Prelude.{◌≡◌, ℕ, ◌+◌, ◌<◌, ◌≤◌, ◌&&◌, ◌||◌, AllPairs, IfOk, IfSome, IfNone, OnOk, true, false, length};
 ghost use Rattle.jh_num.specs.Bytes.{has_byte};
-ghost use Rattle.jh_cellcfg.specs.Regions.{has_place, is_comm, IsInRange};
+ghost use Rattle.std.specs.List.{list_any};
+ghost use Rattle.jh_cellcfg.specs.declared.region.Region.{Region as TheRegion};
+ghost use Rattle.jh_cellcfg.specs.Regions.{has_place, is_comm, is_unshared, is_loadable, IsInRange};
 ghost use Rattle.jh_shape.specs.Shapes.{takes};
 ghost use Rattle.jh_mmio.specs.Index.{SharesNoAddress};
 ghost use Rattle.jh_board.specs.Closed.{is_taken, AreTaken, AreInRange};
@@ -17,10 +19,10 @@ use std::marker::Model;
 #[derive(Drop)]
 pub struct CellRegions {
     index: RegionIndex,
-    /// The places that the cell takes even while it is loadable.
-    kept: ByteSet,
-    /// The places that it takes while it isn't.
+    /// The places that the cell takes from root while it isn't loadable.
     taken: ByteSet,
+    /// Those that it takes even while it is, where they aren't the same.
+    kept: Option<ByteSet>,
 }
 
 impl Model for CellRegions {
@@ -41,6 +43,15 @@ fn takes_places(region: &Region, loadable: bool) -> bool
     ensures own { result ≡ true → is_comm region.now ≡ false }
 {
     region.is_unshared() && !(loadable && region.is_loadable())
+}
+
+/// Whether one of them is root's while their cell is loadable.
+fn any_lent(regions: &[Region]) -> bool
+    ensures { result ≡ list_any (λ (r : TheRegion). is_unshared r && is_loadable r) regions.now }
+{
+    regions
+        .iter()
+        .any(|region| region.is_unshared() && region.is_loadable())
 }
 
 /// Puts in the region's places, where the cell takes them.
@@ -69,6 +80,19 @@ fn taken_places(alloc: Global, regions: &[Region], loadable: bool) -> Result<Byt
     Ok(places)
 }
 
+/// The places that the cell takes even while it is loadable, where they aren't those that it takes while it isn't.
+fn kept_places(alloc: Global, regions: &[Region]) -> Result<Option<ByteSet>, NoMemory>
+    ensures kept { IfOk result (λ kept. IfSome kept (λ places. AreTaken true regions.now places.ranges)) }
+    ensures same { IfOk result (λ kept. IfNone kept ((place : ℕ) → is_taken true regions.now place ≡ is_taken false regions.now place)) }
+{
+    if any_lent(regions) {
+        let places = taken_places(alloc, regions, true)?;
+        Ok(Some(places))
+    } else {
+        Ok(None)
+    }
+}
+
 impl CellRegions {
     /// The regions of a cell, of which no two share an address.
     pub fn new(alloc: Global, regions: &[Region]) -> Result<Self, NoMemory>
@@ -76,9 +100,9 @@ impl CellRegions {
         ensures { IfOk result (λ cell. cell ≡ regions.now) }
     {
         let index = RegionIndex::new(alloc, regions)?;
-        let kept = taken_places(alloc, regions, true)?;
         let taken = taken_places(alloc, regions, false)?;
-        Ok(CellRegions { index, kept, taken })
+        let kept = kept_places(alloc, regions)?;
+        Ok(CellRegions { index, taken, kept })
     }
 
     /// The regions by their addresses.
@@ -94,6 +118,12 @@ impl CellRegions {
         ensures bytes { (place : ℕ) → has_byte result.now.ranges place ≡ is_taken loadable self.now place }
         ensures few { length result.now.ranges ≤ length self.now }
     {
-        if loadable { &self.kept } else { &self.taken }
+        if !loadable {
+            return &self.taken;
+        }
+        match &self.kept {
+            Some(kept) => kept,
+            None => &self.taken,
+        }
     }
 }
