@@ -1,7 +1,7 @@
 //! From a board to the image that its files make.
 ghost use Rattle.std.specs.Prelude.{◌≡◌, ◌≤◌, ◌<◌, ◌∷◌, [], true, IfOk, IfErr, OnOk, All, AllPairs, length, map};
 ghost use Rattle.jh_image.specs.declared.board.Listing.{Listing as TheListing};
-ghost use Rattle.jh_history.specs.Admitted.{IsSoundPreload, IsOtherPreload, IsSoundProgram, IsOtherProgram, IsAdmitted};
+ghost use Rattle.jh_history.specs.Admitted.{IsSoundPreload, IsOtherPreload, IsSoundProgram, IsOtherProgram, IsAdmittedSystem, IsAdmitted};
 ghost use Rattle.jh_image.specs.Boards.{are_distinct, seat_of};
 ghost use Rattle.jh_image.specs.Opening.{IsFit};
 ghost use Rattle.jh_image.specs.Files.{IsPreloadOf};
@@ -31,6 +31,7 @@ fn read_ready<F: Files>(
 ) -> Result<SystemConfig, ImageFault>
     requires { ReadsTo (F.contents files.old) board.now (with_listing listing.now) }
     ensures ok { IfOk result (λ system. ReadsTo (F.contents files.old) board.now (with_system (so_far_of listing.now system [] []))) }
+    ensures admitted { IfOk result IsAdmittedSystem }
     ensures err { IfErr result (OnRefused (StopsReading (F.contents files.old) board.now)) }
     ensures counted { IfErr result (IsCounted (F.faults files.old) (F.faults files.new) (F.failed files.new)) }
     ensures never_falls { F.faults files.old ≤ F.faults files.new }
