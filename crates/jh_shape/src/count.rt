@@ -8,10 +8,11 @@ ghost use Rattle.jh_shape.specs.Pages.{tables_at, tables_of};
 ghost use Rattle.jh_cellcfg.specs.Regions.{place_in, virt_end};
 ghost use Rattle.jh_shape.specs.Shapes.{slot_size, are_cut, is_leaf, is_leaf_by, is_met};
 
+use crate::interval::NO_SPAN;
 use crate::level::{FIRST_LEVEL, LAST_LEVEL, slot_of, slot_size};
-use crate::marks::{LOW_SLOTS, LOW_WORDS, SLOTS, WORDS, is_marked, mark};
+use crate::marks::{LOW_SLOTS, LOW_WORDS, SLOTS, WORDS, is_marked, mark, mark_span};
 use crate::region::{
-    addresses, any_beyond, any_place_beyond, fits_blocks, is_mapped, mark_cuts, mark_met, place_in,
+    addresses, any_beyond, any_place_beyond, fits_blocks, is_mapped, mark_cuts, place_in,
 };
 use crate::target::Target;
 use jh_cellcfg::Region;
@@ -77,7 +78,7 @@ impl<'a> Target<'a> {
         requires cuts { AreCuts cuts.now level (claims_of self.now) }
         ensures { AreMarked words.new level (λ n. is_marked words.old n || is_leaf_by (claims_of self.now) level (n * slot_size level) region.now) }
     {
-        if is_mapped(region) && fits_blocks(level, region) {
+        if region.size >= slot_size(level) && is_mapped(region) && fits_blocks(level, region) {
             let slots = addresses(region).spanned(level);
             for n in slots.from..slots.to {
                 if !self.is_kept_small(cuts, level, region, n) {
@@ -110,8 +111,13 @@ impl<'a> Target<'a> {
         ensures bound { result ≤ 262144 }
     {
         let mut more = 0;
+        let mut done = NO_SPAN;
         for region in self.regions {
-            more += mark_met(words, level, region);
+            if !done.has_all(region.virt_start, region.size) && is_mapped(region) {
+                let slots = addresses(region).touched(level);
+                more += mark_span(words, slots.from, slots.to);
+                done = slots.span(level);
+            }
         }
         more
     }
