@@ -21,6 +21,16 @@ pub(crate) struct Slots {
     pub(crate) to: usize,
 }
 
+/// Numbers of 64 bits from `start` on, below `end`.
+#[derive(Clone, Copy)]
+pub(crate) struct Span {
+    pub(crate) start: u64,
+    pub(crate) end: u64,
+}
+
+/// The span that has no number.
+pub(crate) const NO_SPAN: Span = Span { start: 0, end: 0 };
+
 /// The number, but none past the end of addresses.
 fn capped(number: u128) -> u64
     ensures { result ≡ min number ADDRESS_END }
@@ -31,16 +41,6 @@ fn capped(number: u128) -> u64
         ADDRESS_END
     }
 }
-
-/// Numbers of 64 bits from `start` on, below `end`.
-#[derive(Clone, Copy)]
-pub(crate) struct Span {
-    pub(crate) start: u64,
-    pub(crate) end: u64,
-}
-
-/// The span that has no number.
-pub(crate) const NO_SPAN: Span = Span { start: 0, end: 0 };
 
 impl Span {
     /// Whether it has the `size` numbers from `at` on.
