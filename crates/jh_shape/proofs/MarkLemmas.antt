@@ -4,6 +4,7 @@ use Rattle.std.specs.Int.{bit_at}
 use Rattle.std.specs.List.{list_any}
 use Rattle.std.proofs.lemmas.Bool.{cases_eq, cases_lt, eq-eqb, ne_eqb, eqb-true, and_parts, and_from, and_right, both_ways, leb-true, ltb-true, lt-ltb, le-leb, le-ltb, false_from_ne_true, not_from_true, not_from_false}
 use Rattle.std.proofs.lemmas.Bool.Decides.{nat_tests}
+use Rattle.std.proofs.lemmas.Nat.{div-add-mod'}
 use Rattle.std.proofs.lemmas.Nat.Bits.{bit_at-zero, bit_at_set_same, bit_at_set_other}
 use Rattle.std.proofs.lemmas.List.{get_or-set_same, get_or-set_other}
 use Rattle.std.proofs.lemmas.List.Folds.{list_any_more, list_any_at}
@@ -110,6 +111,33 @@ slot_ends n size top some h =
     let m : n + 1 ≤ top / size = omega arith in
     let e : (n + 1) * size ≤ top = (le-div_iff_mul-le {k = size} {x = n + 1} {y = top} some).0 m in
     let f = next_slot n size in omega arith
+
+-- the number of the slot of places that a slot of addresses has, where a region's places are aligned like its addresses
+pub slot_not_past : (virt size n : ℕ) → 0 < size → virt ≤ n * size → virt / size ≤ n
+slot_not_past virt size n some within =
+    let next = next_slot n size in
+    let below : virt / size < n + 1 = (div-lt_iff_lt-mul {k = size} {x = virt} {y = n + 1} some).1 (omega arith) in
+    omega arith
+
+pub place_of_slot : (phys virt size n : ℕ) → 0 < size → phys % size ≡ virt % size → virt ≤ n * size → phys + (n * size - virt) ≡ (n + phys / size - virt / size) * size
+place_of_slot phys virt size n some alike within =
+    let a = phys / size in
+    let b = virt / size in
+    let k = n + a - b in
+    let low : b ≤ n = slot_not_past virt size n some within in
+    let p : a * size + phys % size ≡ phys = div-add-mod' phys size in
+    let v : b * size + virt % size ≡ virt = div-add-mod' virt size in
+    let back : k + b ≡ n + a = omega arith in
+    let left : (k + b) * size ≡ k * size + b * size = add-mul k b size in
+    let right : (n + a) * size ≡ n * size + a * size = add-mul n a size in
+    let both : (k + b) * size ≡ (n + a) * size = ap (λ m. m * size) back in
+    omega arith
+
+pub far_slot : (level x : ℕ) → level < 3 → x < 2 ^ 64 → x / slot_size level < 2 ^ 43
+far_slot zero x h l = let e : x / 549755813888 < 2 ^ 43 = omega arith in e
+far_slot (suc zero) x h l = let e : x / 1073741824 < 2 ^ 43 = omega arith in e
+far_slot (suc (suc zero)) x h l = let e : x / 2097152 < 2 ^ 43 = omega arith in e
+far_slot (suc (suc (suc n))) x h l = absurd (omega arith)
 
 -- the slots that an interval touches
 pub touched_slots : (start end size n top : ℕ) → 0 < size → start < end → n < top / size → (nat_le (min start top / size) n && nat_lt n ((min end top + (size - 1)) / size)) ≡ touches start end (n * size) size
