@@ -30,7 +30,9 @@ pub struct Cells {
     system: SystemConfig,
     configs: Vec<CellConfig>,
     marks: Vec<bool>,
-    /// How many pages the cells besides root take.
+    /// How many pages each cell besides root takes.
+    own: Vec<u64>,
+    /// How many they take together.
     taken: u64,
 }
 
@@ -44,10 +46,10 @@ impl Model for Cells {
     ghost view = { λ c. record {
       system = c.system;
       lives = joined c.configs.items c.marks.items;
-      spare = min (vec_capacity c.configs - vec_len c.configs) (vec_capacity c.marks - vec_len c.marks);
+      spare = min (min (vec_capacity c.configs - vec_len c.configs) (vec_capacity c.marks - vec_len c.marks)) (vec_capacity c.own - vec_len c.own);
     } };
 
-    ghost invariant = { λ c. AreSoundRecords c.system.root c.configs.items c.marks.items c.taken };
+    ghost invariant = { λ c. AreSoundRecords c.system.root c.configs.items c.marks.items c.own.items c.taken };
 }
 
 /// The index of the cell with the id.
@@ -74,6 +76,7 @@ impl Cells {
             system: copy_of_system(alloc, system)?,
             configs: Vec::new(alloc),
             marks: Vec::new(alloc),
+            own: Vec::new(alloc),
             taken: 0,
         })
     }
@@ -164,6 +167,7 @@ impl Cells {
     {
         self.configs.reserve(1)?;
         self.marks.reserve(1)?;
+        self.own.reserve(1)?;
         Ok(())
     }
 
@@ -179,10 +183,13 @@ impl Cells {
     {
         make_room(&mut self.configs)?;
         make_room(&mut self.marks)?;
+        make_room(&mut self.own)?;
         tables_are_few();
-        self.taken += cell_pages(&new);
+        let own = cell_pages(&new);
+        self.taken += own;
         self.configs.push_reserved(new);
         self.marks.push_reserved(false);
+        self.own.push_reserved(own);
         Ok(())
     }
 
@@ -195,8 +202,7 @@ impl Cells {
         ensures spare { self.new.spare ≡ self.old.spare + 1 }
     {
         let index = number as usize - 1;
-        let live = self.configs.as_slice();
-        let gone = cell_pages(&live[index]);
+        let gone = self.own.remove(index);
         self.taken -= gone;
         // the configuration is dropped, and its mark with it
         let _ = self.configs.remove(index);

@@ -1,10 +1,11 @@
 -- Slots, a bit each, 64 in a word.
-use Rattle.std.specs.Prelude.{◌≡◌, ℕ, ◌+◌, ◌-◌, ◌*◌, ◌/◌, ◌%◌, ◌<◌, min, Bool, ◌&&◌, nat_eq, nat_lt, List, length, slice_index, IsTrue}
+use Rattle.std.specs.Prelude.{◌≡◌, ℕ, ◌+◌, ◌-◌, ◌*◌, ◌/◌, ◌%◌, ◌<◌, min, Bool, true, ◌&&◌, nat_eq, nat_lt, List, length, slice_index, IsTrue}
 use Rattle.std.specs.Int.{bit_at}
 use Rattle.jh_num.specs.declared.address.TheConstants.{ADDRESS_END}
 use Rattle.jh_cellcfg.specs.declared.region.Region.{Region}
 use Rattle.jh_cellcfg.specs.Regions.{virt_end, phys_end}
 use Rattle.jh_shape.specs.Claims.{Claims}
+use Rattle.jh_shape.specs.Intervals.{touches}
 use Rattle.jh_shape.specs.Pages.{count_below}
 use Rattle.jh_shape.specs.Shapes.{slot_size, are_cut}
 
@@ -19,6 +20,10 @@ AreMarked words level test = (n : ℕ) → n < ADDRESS_END / slot_size level →
 -- the same of the slots below the limit alone
 abbrev pub AreMarkedBelow : ℕ → List ℕ → ℕ → (ℕ → Bool) → Type 0
 AreMarkedBelow limit words level test = (n : ℕ) → n < limit → n < ADDRESS_END / slot_size level → is_marked words n ≡ test n
+
+-- of the slots below the limit those are marked that have a number from `start` on, below `end`
+abbrev pub AreMarkedWithin : ℕ → List ℕ → ℕ → ℕ → ℕ → Type 0
+AreMarkedWithin limit words level start end = (n : ℕ) → n < limit → touches start end (n * slot_size level) (slot_size level) ≡ true → is_marked words n ≡ true
 
 -- of the slots of places that the list has, those are marked that other cells cut, which is asked for root alone
 abbrev pub AreCuts : List ℕ → ℕ → Claims → Type 0

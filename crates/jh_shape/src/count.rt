@@ -6,13 +6,12 @@ ghost use Rattle.jh_shape.specs.Claims.{claims_of};
 ghost use Rattle.jh_shape.specs.Marks.{is_beyond, is_marked, marked_slots, past_slot, AreMarked, AreMarkedBelow, AreCuts};
 ghost use Rattle.jh_shape.specs.Pages.{tables_at, tables_of};
 ghost use Rattle.jh_cellcfg.specs.Regions.{place_in, virt_end};
-ghost use Rattle.jh_shape.specs.Shapes.{slot_size, are_cut, is_leaf, is_leaf_by, is_met};
+ghost use Rattle.jh_shape.specs.Shapes.{slot_size, are_cut, is_aligned_alike, is_leaf, is_leaf_by, is_met};
 
+use crate::interval::NO_SPAN;
 use crate::level::{FIRST_LEVEL, LAST_LEVEL, slot_of, slot_size};
-use crate::marks::{LOW_SLOTS, LOW_WORDS, SLOTS, WORDS, is_marked, mark};
-use crate::region::{
-    addresses, any_beyond, any_place_beyond, fits_blocks, is_mapped, mark_cuts, mark_met, place_in,
-};
+use crate::marks::{LOW_SLOTS, LOW_WORDS, SLOTS, WORDS, is_marked, mark, mark_span};
+use crate::region::{addresses, any_beyond, any_place_beyond, fits_blocks, is_mapped, mark_cuts};
 use crate::target::Target;
 use jh_cellcfg::Region;
 use jh_num::{ADDRESS_END, has_bit};
@@ -36,37 +35,34 @@ impl<'a> Target<'a> {
         }
     }
 
-    /// Whether other cells cut the slot of places, which is mostly among those that are marked.
-    fn is_cut(&self, cuts: &[u64], level: u8, place: u128) -> bool
+    /// Whether other cells cut the slot of places of that number, which is mostly among those that are marked.
+    fn is_cut(&self, cuts: &[u64], level: u8, n: u64) -> bool
         requires cells { length self.now.cells.now ≤ 15 }
         requires level { level < LAST_LEVEL }
         requires root { self.now.root ≡ true }
         requires cuts { AreCuts cuts.now level (claims_of self.now) }
-        requires fits { place < 2 ^ 65 }
-        ensures { result ≡ are_cut (claims_of self.now).holders place (slot_size level) }
+        ensures { result ≡ are_cut (claims_of self.now).holders (n * slot_size level) (slot_size level) }
     {
-        if place < u128::from(ADDRESS_END) {
-            let at = place as u64;
-            let n = slot_of(level, at);
-            let listed = n / 64 < cuts.len() as u64;
-            if listed {
-                if n * slot_size(level) == at {
-                    return is_marked(cuts, n as usize);
-                }
-            }
+        if n < slot_of(level, ADDRESS_END) && n / 64 < cuts.len() as u64 {
+            return is_marked(cuts, n as usize);
         }
-        self.are_cut(place, u128::from(slot_size(level)))
+        let size = u128::from(slot_size(level));
+        self.are_cut(u128::from(n) * size, size)
     }
 
-    /// Whether blocks of the level don't serve the slot of that number, of a region that fits them.
+    /// Whether blocks of the level don't serve the slot of that number, of a region that fits them and spans it.
     fn is_kept_small(&self, cuts: &[u64], level: u8, region: &Region, n: usize) -> bool
         requires cells { length self.now.cells.now ≤ 15 }
         requires level { level < LAST_LEVEL }
         requires cuts { AreCuts cuts.now level (claims_of self.now) }
         requires few { n < 262144 }
+        requires alike { is_aligned_alike level region.now ≡ true }
+        requires within { region.now.virt_start ≤ n * slot_size level }
         ensures { result ≡ (self.now.root && are_cut (claims_of self.now).holders (place_in region.now (n * slot_size level)) (slot_size level)) }
     {
-        self.root && self.is_cut(cuts, level, place_in(region, n as u64 * slot_size(level)))
+        let places = slot_of(level, region.phys_start);
+        let addresses = slot_of(level, region.virt_start);
+        self.root && self.is_cut(cuts, level, n as u64 + places - addresses)
     }
 
     /// Marks the slots that the region makes leaves.
@@ -77,7 +73,7 @@ impl<'a> Target<'a> {
         requires cuts { AreCuts cuts.now level (claims_of self.now) }
         ensures { AreMarked words.new level (λ n. is_marked words.old n || is_leaf_by (claims_of self.now) level (n * slot_size level) region.now) }
     {
-        if is_mapped(region) && fits_blocks(level, region) {
+        if region.size >= slot_size(level) && is_mapped(region) && fits_blocks(level, region) {
             let slots = addresses(region).spanned(level);
             for n in slots.from..slots.to {
                 if !self.is_kept_small(cuts, level, region, n) {
@@ -110,8 +106,13 @@ impl<'a> Target<'a> {
         ensures bound { result ≤ 262144 }
     {
         let mut more = 0;
+        let mut done = NO_SPAN;
         for region in self.regions {
-            more += mark_met(words, level, region);
+            if !done.has_all(region.virt_start, region.size) && is_mapped(region) {
+                let slots = addresses(region).touched(level);
+                more += mark_span(words, slots.from, slots.to);
+                done = slots.span(level);
+            }
         }
         more
     }
