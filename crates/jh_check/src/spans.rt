@@ -1,7 +1,7 @@
 //! An index of a cell's regions, by which pairs that can't break a rule are told at once.
 ghost use Rattle.std.specs.Prelude.{◌≡◌, ◌≢◌, ◌-◌, ◌<◌, ◌≤◌, true, length, slice_index_or, OnOk, IfOk, IfSome, Contains};
 ghost use Rattle.jh_check.specs.declared.spans.Span.{Span};
-ghost use Rattle.jh_check.specs.Spans.{takes_part, span_of, spans_meet, HasEach, HasOnly, AreApart, IsIndex};
+ghost use Rattle.jh_check.specs.Spans.{takes_part, span_of, spans_meet, HasEach, HasOnly, AreApart, LiesWithin, StandApart, IsIndex};
 
 use crate::rule::Rule;
 use jh_cellcfg::Region;
@@ -90,6 +90,36 @@ pub(crate) fn are_apart(spans: &[Span]) -> bool
     for k in 0..spans.len() {
         if !is_behind(spans, k) {
             return false;
+        }
+    }
+    true
+}
+
+/// Where the region ends, if it takes part and begins at `end` or behind it. None, if it begins before.
+fn end_behind(rule: Rule, item: usize, region: &Region, end: u128) -> Option<u128>
+    ensures grows { IfSome result (λ more. end ≤ more) }
+    ensures behind { IfSome result (λ more. takes_part rule region.now ≡ true → LiesWithin (span_of rule item region.now) end more) }
+{
+    if !takes_part(rule, region) {
+        return Some(end);
+    }
+    let span = span_of(rule, item, region);
+    if u128::from(span.start) < end {
+        None
+    } else {
+        Some(span.end)
+    }
+}
+
+/// Whether each of the regions that take part begins behind those before it.
+pub(crate) fn stand_apart(rule: Rule, regions: &[Region]) -> bool
+    ensures { result ≡ true → StandApart rule regions.now }
+{
+    let mut end = 0;
+    for (item, region) in regions.iter().enumerate() {
+        match end_behind(rule, item, region, end) {
+            Some(more) => end = more,
+            None => return false,
         }
     }
     true
