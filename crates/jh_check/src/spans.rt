@@ -141,23 +141,18 @@ pub(crate) fn index(
     }
 }
 
-/// Whether all of the spans begin behind that one, or end before it.
-fn lie_beyond(spans: &[Span], other: Span) -> bool
+/// Whether that one lies behind the first `n` of the spans and before the others.
+fn lies_between(spans: &[Span], n: usize, other: Span) -> bool
     requires { AreApart spans.now }
     ensures { result ≡ true → (x : Span) → Contains spans.now x → spans_meet x other ≡ true → ⊥ }
 {
-    let n = spans.len();
-    if n == 0 {
-        return true;
-    }
-    if other.end <= u128::from(spans[0].start) {
-        return true;
-    }
-    spans[n - 1].end <= u128::from(other.start)
+    n <= spans.len()
+        && (n == 0 || spans[n - 1].end <= u128::from(other.start))
+        && (n == spans.len() || other.end <= u128::from(spans[n].start))
 }
 
-/// Those of the spans that meet that one, by two searches.
-fn stretch_met(spans: &[Span], other: Span) -> &[Span]
+/// Those of the spans that meet that one, by two searches. `near` becomes how many lie before it.
+fn stretch_met<'a>(spans: &'a [Span], other: Span, near: &mut usize) -> &'a [Span]
     requires { AreApart spans.now }
     ensures each { (x : Span) → Contains spans.now x → spans_meet x other ≡ true → Contains result.now x }
     ensures only { (x : Span) → Contains result.now x → Contains spans.now x }
@@ -165,18 +160,23 @@ fn stretch_met(spans: &[Span], other: Span) -> &[Span]
     let start = u128::from(other.start);
     let end = spans.partition_point(|span| u128::from(span.start) < other.end);
     let first = spans.partition_point(|span| span.end <= start);
+    *near = first;
     &spans[first.min(end)..end]
 }
 
-/// Those of the spans that meet that one. As they are apart, they stand side by side.
-pub(crate) fn met_by(spans: &[Span], other: Span) -> &[Span]
+/// Those of the spans that meet that one. As they are apart, they stand side by side. `near` is how many lay before
+/// the last one, and becomes how many lie before this one: mostly as many, or one more.
+pub(crate) fn met_by<'a>(spans: &'a [Span], other: Span, near: &mut usize) -> &'a [Span]
     requires { AreApart spans.now }
     ensures each { (x : Span) → Contains spans.now x → spans_meet x other ≡ true → Contains result.now x }
     ensures only { (x : Span) → Contains result.now x → Contains spans.now x }
 {
-    if lie_beyond(spans, other) {
-        &spans[0..0]
-    } else {
-        stretch_met(spans, other)
+    if lies_between(spans, *near, other) {
+        return &spans[0..0];
     }
+    *near = near.saturating_add(1);
+    if lies_between(spans, *near, other) {
+        return &spans[0..0];
+    }
+    stretch_met(spans, other, near)
 }

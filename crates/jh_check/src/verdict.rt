@@ -84,13 +84,15 @@ fn any_within(alloc: Global, rule: Rule, number: u32, cell: &CellConfig) -> Resu
     }
 }
 
-/// Whether a region overlaps with one of another cell, of whose places that is the index.
-fn any_met(one: &Site, spans: &[Span], b: u32, other: &CellConfig) -> bool
+/// Whether a region overlaps with one of another cell, of whose places that is the index. `near` is where the last
+/// region was looked for.
+fn any_met(one: &Site, spans: &[Span], near: &mut usize, b: u32, other: &CellConfig) -> bool
     requires { IsIndex CellsOverlap other.now.memory_regions spans.now }
     ensures { result ≡ is_any (beside CellsOverlap (spot_of one.now) b other.now) }
 {
     let regions = other.memory_regions.as_slice();
-    let met = met_by(spans, span_of(Rule::CellsOverlap, one.item, one.region));
+    let span = span_of(Rule::CellsOverlap, one.item, one.region);
+    let met = met_by(spans, span, near);
     for span in met {
         let second = Site {
             cell: b,
@@ -110,6 +112,7 @@ fn any_indexed(a: u32, one: &CellConfig, spans: &[Span], b: u32, other: &CellCon
     requires { IsIndex CellsOverlap other.now.memory_regions spans.now }
     ensures { result ≡ is_any (between CellsOverlap a one.now b other.now) }
 {
+    let mut near = 0;
     for (r, region) in one.memory_regions.as_slice().iter().enumerate() {
         let first = Site {
             cell: a,
@@ -117,7 +120,7 @@ fn any_indexed(a: u32, one: &CellConfig, spans: &[Span], b: u32, other: &CellCon
             item: r,
             region,
         };
-        if any_met(&first, spans, b, other) {
+        if any_met(&first, spans, &mut near, b, other) {
             return true;
         }
     }
