@@ -176,15 +176,26 @@ def coming_and_going():
     board("creates_and_destroys", system("root", 0, range(16), [MEMORY]), [(CONFIGS, it)], [("root", 0, lines)])
 
 
-def refusals(name, place, flags, pages):
-    """Root creates fourteen cells of 1,024 regions, and is refused a fifteenth a thousand times, for a page too few:
-    a refusal for pages comes after all others."""
+def fourteen(name, place, flags, then, pages=1024):
+    """Root creates fourteen cells of 1,024 regions, and then makes these calls about a fifteenth."""
     cells = [cell(f"cell{c + 1}", c + 1, [c + 1], [page(place(c, r), PLAIN | flags, r * 2 * PAGE) for r in range(1024)])
              for c in range(15)]
-    lines = [f"hvc 1 {CONFIGS + 0x10000 * c:#x} 0" for c in range(14)]
-    lines += [f"hvc 1 {CONFIGS + 0x10000 * 14:#x} 0"] * 1000
+    lines = [f"hvc 1 {CONFIGS + 0x10000 * c:#x} 0" for c in range(14)] + then
     root = system("root", 0, range(16), [MEMORY], hypervisor=(0x7fc00000, pages * PAGE))
     board(name, root, [(CONFIGS + 0x10000 * c, it) for c, it in enumerate(cells)], [("root", 0, lines)])
+
+
+def beside_fourteen():
+    places = {
+        "disjoint": (lambda c, r: FIRST + (c * 1024 + r) * 2 * PAGE, 0, 166),
+        "by_turns": (lambda c, r: FIRST + (r * 15 + c) * 2 * PAGE, 0, 166),
+        "shared": (lambda c, r: FIRST + r * 2 * PAGE, SHARED, 106),
+    }
+    create = f"hvc 1 {CONFIGS + 0x10000 * 14:#x} 0"
+    for name, (place, flags, pages) in places.items():
+        # A refusal for pages, of which there is one too few, comes after all others.
+        fourteen("refusals_" + name, place, flags, [create] * 1000, pages)
+        fourteen("fifteenth_" + name, place, flags, [create, "hvc 4 15 0"] * 500)
 
 
 def starts():
@@ -218,8 +229,7 @@ if __name__ == "__main__":
     fifteen("fifteen_beside", lambda c, r: FIRST + (c * 1000 + r) * 2 * PAGE)
     fifteen("fifteen_by_turns", lambda c, r: FIRST + (r * 15 + c) * 2 * PAGE)
     coming_and_going()
-    refusals("refusals_disjoint", lambda c, r: FIRST + (c * 1024 + r) * 2 * PAGE, 0, 166)
-    refusals("refusals_shared", lambda c, r: FIRST + r * 2 * PAGE, SHARED, 106)
+    beside_fourteen()
     starts()
     many_pages()
     words("soak", "soak", "soak", "400")
