@@ -176,6 +176,28 @@ def coming_and_going():
     board("creates_and_destroys", system("root", 0, range(16), [MEMORY]), [(CONFIGS, it)], [("root", 0, lines)])
 
 
+def fourteen(name, place, flags, then, pages=1024):
+    """Root creates fourteen cells of 1,024 regions, and then makes these calls about a fifteenth."""
+    cells = [cell(f"cell{c + 1}", c + 1, [c + 1], [page(place(c, r), PLAIN | flags, r * 2 * PAGE) for r in range(1024)])
+             for c in range(15)]
+    lines = [f"hvc 1 {CONFIGS + 0x10000 * c:#x} 0" for c in range(14)] + then
+    root = system("root", 0, range(16), [MEMORY], hypervisor=(0x7fc00000, pages * PAGE))
+    board(name, root, [(CONFIGS + 0x10000 * c, it) for c, it in enumerate(cells)], [("root", 0, lines)])
+
+
+def beside_fourteen():
+    places = {
+        "disjoint": (lambda c, r: FIRST + (c * 1024 + r) * 2 * PAGE, 0, 166),
+        "by_turns": (lambda c, r: FIRST + (r * 15 + c) * 2 * PAGE, 0, 166),
+        "shared": (lambda c, r: FIRST + r * 2 * PAGE, SHARED, 106),
+    }
+    create = f"hvc 1 {CONFIGS + 0x10000 * 14:#x} 0"
+    for name, (place, flags, pages) in places.items():
+        # A refusal for pages, of which there is one too few, comes after all others.
+        fourteen("refusals_" + name, place, flags, [create] * 1000, pages)
+        fourteen("fifteenth_" + name, place, flags, [create, "hvc 4 15 0"] * 500)
+
+
 def starts():
     """Three cells of 64 KiB and a communication page, which make 56 accesses and then wait for the request."""
     memory = [(FIRST + c * 0x10000, 0, 0x10000, PLAIN | LOADABLE) for c in range(3)]
@@ -207,6 +229,7 @@ if __name__ == "__main__":
     fifteen("fifteen_beside", lambda c, r: FIRST + (c * 1000 + r) * 2 * PAGE)
     fifteen("fifteen_by_turns", lambda c, r: FIRST + (r * 15 + c) * 2 * PAGE)
     coming_and_going()
+    beside_fourteen()
     starts()
     many_pages()
     words("soak", "soak", "soak", "400")

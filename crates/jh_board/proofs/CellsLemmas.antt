@@ -5,10 +5,10 @@ use Rattle.std.specs.Option.{option_map_or}
 use Rattle.std.specs.List.{find, position_or_len, Contains, AllByRecursion}
 use Rattle.std.proofs.lemmas.Bool.{eqb-true}
 use Rattle.std.proofs.lemmas.Option.{none-some, same_Some, slice_get-map, slice_get-get_or, slice_get_past}
-use Rattle.std.proofs.lemmas.List.{length-map, map-append}
+use Rattle.std.proofs.lemmas.List.{length-map, map-append, get_or-map}
 use Rattle.std.proofs.lemmas.List.Folds.{find_at}
 use Rattle.std.proofs.lemmas.List.Sums.{sum_by-append, sum_by-remove}
-use Rattle.std.proofs.lemmas.List.Elements.{All-contains, All-map, All-from_recursion, recursion_from_All}
+use Rattle.std.proofs.lemmas.List.Elements.{All-contains, All-from_recursion, recursion_from_All}
 use Rattle.jh_num.proofs.Lists.{IsFound_from_find, find_None, Contains_head, Contains_tail}
 use Rattle.jh_cellcfg.specs.declared.config.CellConfig.{CellConfig}
 use Rattle.jh_cellcfg.specs.declared.region.Region.{Region}
@@ -21,7 +21,7 @@ use Rattle.jh_life.specs.Lives.{configs_of, has_config_id, new_live}
 use Rattle.jh_life.specs.Changes.{marked as marked_of}
 use Rattle.jh_history.specs.Commits.{is_other, marked}
 use Rattle.jh_history.specs.Lives.{live_in}
-use Rattle.jh_board.specs.Closed.{IsIndexOf, live_regions, count_regions, AreInRange}
+use Rattle.jh_board.specs.Closed.{IsIndexOf, live_regions, all_regions, count_regions, AreInRange}
 
 -- ---- the index of a cell
 
@@ -54,9 +54,6 @@ given : (o : Option CellConfig) (regions : List Region) → option_map (λ (c : 
 given None regions is = absurd (none-some regions is)
 given (Some c) regions is = same_Some c.memory_regions regions is
 
-abbrev pub all_regions : List Live → List (List Region)
-all_regions lives = map (λ (c : CellConfig). c.memory_regions) (configs_of lives)
-
 pub regions_some : (lives : List Live) (id k : ℕ) (regions : List Region) → IsIndexOf lives id (Some k) → regions ≡ get_or (all_regions lives) k regions → live_regions lives id ≡ regions
 regions_some lives id k regions is at =
     let len : length (configs_of lives) ≡ length lives = length-map lives (λ (l : Live). l.config) in
@@ -69,13 +66,13 @@ regions_some lives id k regions is at =
     ∙ ap Some (sym at))
 
 pub regions_within : (lives : List Live) (id k : ℕ) (regions : List Region) (found : Option Region) → IsIndexOf lives id (Some k) → regions ≡ get_or (all_regions lives) k regions
-    → All (λ (c : CellConfig). AreInRange c.memory_regions) (configs_of lives) → IfSome found (Contains regions) → IfSome found (λ r. 0 < r.size → IsInRange r)
+    → All AreInRange (all_regions lives) → IfSome found (Contains regions) → IfSome found (λ r. 0 < r.size → IsInRange r)
 regions_within lives id k regions None is at all own = tt
 regions_within lives id k regions (Some r) is at all own =
     let len : length (configs_of lives) ≡ length lives = length-map lives (λ (l : Live). l.config) in
     let all_len : length (all_regions lives) ≡ length (configs_of lives) = length-map (configs_of lives) (λ (c : CellConfig). c.memory_regions) in
     let within = is.within in
-    let each : AreInRange (get_or (all_regions lives) k regions) = All-map AreInRange (λ (c : CellConfig). c.memory_regions) (configs_of lives) all k regions (omega arith) in
+    let each : AreInRange (get_or (all_regions lives) k regions) = all k regions (omega arith) in
     let here : AreInRange regions = subst AreInRange (sym at) each in
     All-contains (λ (x : Region). 0 < x.size → IsInRange x) regions r here own
 
@@ -120,7 +117,7 @@ marked_same (x ∷ xs) id on = ap (λ (y : Live). y ∷ map (marked_of id on) xs
 
 -- ---- one cell less, and one more
 
-pub map_remove : {X Y : Type 0} (f : X → Y) (xs : List X) (k : ℕ) → map f (remove xs k) ≡ remove (map f xs) k
+map_remove : {X Y : Type 0} (f : X → Y) (xs : List X) (k : ℕ) → map f (remove xs k) ≡ remove (map f xs) k
 map_remove f [] zero = refl
 map_remove f [] (suc k) = refl
 map_remove f (x ∷ xs) zero = refl
@@ -135,26 +132,45 @@ removed Q (x ∷ xs) (suc k) all = (all.0, removed Q xs k all.1)
 pub All_removed : {X : Type 0} (Q : X → Type 0) (xs : List X) (k : ℕ) → All Q xs → All Q (remove xs k)
 All_removed Q xs k all = All-from_recursion Q (remove xs k) (removed Q xs k (recursion_from_All Q xs all))
 
-pub regions_removed : (cells : List CellConfig) (k : ℕ) (d : CellConfig) → k < length cells → count_regions (remove cells k) + length (get_or cells k d).memory_regions ≡ count_regions cells
-regions_removed cells k d lt = sum_by-remove (λ (c : CellConfig). length c.memory_regions) cells k d lt
-
-pub configs_removed : (lives new : List Live) (k n : ℕ) → new ≡ remove lives n → n ≡ k → configs_of new ≡ remove (configs_of lives) k
+configs_removed : (lives new : List Live) (k n : ℕ) → new ≡ remove lives n → n ≡ k → configs_of new ≡ remove (configs_of lives) k
 configs_removed lives new k n is same =
     ap (λ (l : List Live). configs_of l) is
     ∙ map_remove (λ (x : Live). x.config) lives n
     ∙ ap (λ i. remove (configs_of lives) i) same
 
-pub regions_left : (cells new list : List CellConfig) (k n : ℕ) (cell : CellConfig) → new ≡ remove cells k → list ≡ cells → k < length cells → n ≡ length (get_or list k cell).memory_regions
-    → count_regions new + n ≡ count_regions cells
-regions_left cells new list k n cell left same lt len =
-    let all = regions_removed cells k cell lt in
-    let a : count_regions new ≡ count_regions (remove cells k) = ap (λ (cs : List CellConfig). count_regions cs) left in
-    let b : length (get_or list k cell).memory_regions ≡ length (get_or cells k cell).memory_regions = ap (λ (l : List CellConfig). length (get_or l k cell).memory_regions) same in
+-- the regions of the cells that are left
+pub lists_removed : (lives new : List Live) (lists left : List (List Region)) (k n : ℕ) → lists ≡ all_regions lives → left ≡ remove lists k → new ≡ remove lives n → n ≡ k → left ≡ all_regions new
+lists_removed lives new lists left k n all is gone same =
+    is
+    ∙ ap (λ (l : List (List Region)). remove l k) all
+    ∙ sym (map_remove (λ (c : CellConfig). c.memory_regions) (configs_of lives) k)
+    ∙ ap (λ (cs : List CellConfig). map (λ (c : CellConfig). c.memory_regions) cs) (sym (configs_removed lives new k n gone same))
+
+-- the lists of regions are as many as the cells
+pub lists_len : (lives : List Live) (lists : List (List Region)) → lists ≡ all_regions lives → length lists ≡ length lives
+lists_len lives lists all =
+    ap (λ (l : List (List Region)). length l) all
+    ∙ length-map (configs_of lives) (λ (c : CellConfig). c.memory_regions)
+    ∙ length-map lives (λ (l : Live). l.config)
+
+pub regions_left : (lives : List Live) (lists new : List (List Region)) (configs : List CellConfig) (k n : ℕ) (cell : CellConfig) → lists ≡ all_regions lives → new ≡ remove lists k → configs ≡ configs_of lives → k < length lives
+    → n ≡ length (get_or configs k cell).memory_regions → count_regions new + n ≡ count_regions lists
+regions_left lives lists new configs k n cell all left same lt len =
+    let d : List Region = cell.memory_regions in
+    let count = lists_len lives lists all in
+    let configs_len : length (configs_of lives) ≡ length lives = length-map lives (λ (l : Live). l.config) in
+    let sum : count_regions (remove lists k) + length (get_or lists k d) ≡ count_regions lists = sum_by-remove (λ (r : List Region). length r) lists k d (omega arith) in
+    let gone : count_regions new ≡ count_regions (remove lists k) = ap (λ (l : List (List Region)). count_regions l) left in
+    let own : get_or lists k d ≡ (get_or configs k cell).memory_regions
+    = ap (λ (l : List (List Region)). get_or l k d) all
+    ∙ get_or-map (λ (c : CellConfig). c.memory_regions) (configs_of lives) k cell d (omega arith)
+    ∙ ap (λ (cs : List CellConfig). (get_or cs k cell).memory_regions) (sym same) in
+    let own_len : length (get_or lists k d) ≡ length (get_or configs k cell).memory_regions = ap (λ (r : List Region). length r) own in
     omega arith
 
-pub regions_added : (cells : List CellConfig) (new : CellConfig) → count_regions (cells ++ new ∷ []) ≡ count_regions cells + length new.memory_regions
-regions_added cells new =
-    let all = sum_by-append (λ (c : CellConfig). length c.memory_regions) cells (new ∷ []) in omega (arith, all)
+pub regions_added : (lists : List (List Region)) (new : List Region) → count_regions (lists ++ new ∷ []) ≡ count_regions lists + length new
+regions_added lists new =
+    let all = sum_by-append (λ (r : List Region). length r) lists (new ∷ []) in omega (arith, all)
 
 pub configs_added : (lives : List Live) (new : CellConfig) → configs_of (lives ++ new_live new ∷ []) ≡ configs_of lives ++ new ∷ []
 configs_added lives new = map-append (λ (l : Live). l.config) lives (new_live new ∷ [])

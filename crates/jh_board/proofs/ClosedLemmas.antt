@@ -1,11 +1,10 @@
 -- Ranges that close places: how many there are, and what they close.
-use Rattle.std.proofs.Common.{◌≡◌, ℕ, zero, suc, ◌+◌, ◌<◌, ◌≤◌, ◌^◌, Bool, true, false, ◌||◌, ◌&&◌, not, List, [], ◌∷◌, ◌++◌, length, get_or, take, map, eqb, refl, sym, ap, subst, ◌∙◌, ⊎_elim, arith}
+use Rattle.std.proofs.Common.{◌≡◌, ℕ, zero, suc, ◌+◌, ◌<◌, ◌≤◌, Bool, true, false, ◌||◌, ◌&&◌, not, List, [], ◌∷◌, ◌++◌, length, get_or, take, map, eqb, refl, sym, ap, subst, ◌∙◌, ⊎_elim, arith}
 use Rattle.std.specs.Prelude.{Some, nat_le, nat_lt, slice_get}
 use Rattle.std.proofs.lemmas.Option.{none-some, same_Some}
-use Rattle.jh_cellcfg.specs.Regions.{IsInRange, is_comm, phys_end}
 use Rattle.std.specs.Cmp.{nat_eq_equiv}
 use Rattle.std.specs.List.{list_any, IsDistinct, AllByRecursion}
-use Rattle.std.proofs.lemmas.Bool.{both_ways, or_left, or_right, or_cases, or_parts, and_right, eq-eqb, ne_eqb, eqb-true}
+use Rattle.std.proofs.lemmas.Bool.{false≢true, both_ways, or_left, or_right, or_cases, or_parts, and_right, eq-eqb, ne_eqb, eqb-true}
 use Rattle.std.proofs.lemmas.Bool.Decides.{nat_tests}
 use Rattle.std.proofs.Math.Bool.{or-false}
 use Rattle.std.proofs.lemmas.List.{length-map, get_or-map, take_all}
@@ -18,10 +17,11 @@ use Rattle.jh_num.proofs.Lists.{list_any_map}
 use Rattle.jh_cellcfg.specs.declared.config.CellConfig.{CellConfig}
 use Rattle.jh_cellcfg.specs.declared.region.Region.{Region}
 use Rattle.jh_cellcfg.specs.declared.live.Live.{Live}
+use Rattle.jh_cellcfg.specs.Regions.{has_place, is_unshared, is_loadable}
 use Rattle.jh_shape.specs.Claims.{Holder}
 use Rattle.jh_shape.specs.Shapes.{takes, holder_of_live}
 use Rattle.jh_life.specs.Lives.{configs_of, is_loadable_at}
-use Rattle.jh_board.specs.Closed.{is_taken, is_closed_by, count_regions}
+use Rattle.jh_board.specs.Closed.{is_taken, is_closed_by, all_regions, count_regions}
 use Rattle.jh_num.proofs.BytesLemmas.{above_range, within_range, absent_below}
 
 abbrev end_of : Range → ℕ
@@ -117,48 +117,57 @@ closed_added lives new place =
     ∙ ap (λ b. list_any (takes_live place) lives || b) (or-false (takes_live place new))
     ∙ ap (λ b. b || takes_live place new) (sym (closed_lives lives place))
 
--- the cell at an index, by its configuration and its mark
-pub record IsLiveAt (lives : List Live) (i : ℕ) (config : CellConfig) (mark : Bool) (d : Live) : Type 0 where
-  pub within : i < length lives
-  pub config_is : (get_or lives i d).config ≡ config
-  pub mark_is : (get_or lives i d).loadable ≡ mark
+-- the cell at an index, by its regions and its mark
+record IsLiveAt (lives : List Live) (i : ℕ) (regions : List Region) (mark : Bool) (d : Live) : Type 0 where
+  within : i < length lives
+  regions_is : (get_or lives i d).config.memory_regions ≡ regions
+  mark_is : (get_or lives i d).loadable ≡ mark
 
-pub live_at : (lives : List Live) (cells : List CellConfig) (i : ℕ) (mark : Bool) (config : CellConfig) → configs_of lives ≡ cells → i < length cells → config ≡ get_or cells i config → mark ≡ is_loadable_at lives i
-    → IsLiveAt lives i config mark (record { config = config; loadable = mark })
-live_at lives cells i mark config same lt is marked =
-    let d : Live = record { config = config; loadable = mark } in
-    let len : length (map (λ (l : Live). l.config) lives) ≡ length lives = length-map lives (λ (l : Live). l.config) in
-    let all : length (configs_of lives) ≡ length cells = ap (λ (cs : List CellConfig). length cs) same in
+live_at : (lives : List Live) (lists : List (List Region)) (i : ℕ) (mark : Bool) (regions : List Region) (d : Live) → all_regions lives ≡ lists → i < length lists → regions ≡ get_or lists i regions → mark ≡ is_loadable_at lives i
+    → IsLiveAt lives i regions mark d
+live_at lives lists i mark regions d same lt is marked =
+    let len : length (configs_of lives) ≡ length lives = length-map lives (λ (l : Live). l.config) in
+    let count : length (all_regions lives) ≡ length (configs_of lives) = length-map (configs_of lives) (λ (c : CellConfig). c.memory_regions) in
+    let all : length (all_regions lives) ≡ length lists = ap (λ (l : List (List Region)). length l) same in
     let within : i < length lives = omega arith in
     record {
       within = within;
-      config_is = sym (get_or-map (λ (l : Live). l.config) lives i d config within) ∙ ap (λ (cs : List CellConfig). get_or cs i config) same ∙ sym is;
+      regions_is = ap (λ (c : CellConfig). c.memory_regions) (sym (get_or-map (λ (l : Live). l.config) lives i d d.config within))
+          ∙ sym (get_or-map (λ (c : CellConfig). c.memory_regions) (configs_of lives) i d.config regions (omega arith))
+          ∙ ap (λ (l : List (List Region)). get_or l i regions) same
+          ∙ sym is;
       mark_is = sym (get_or-map (λ (l : Live). l.loadable) lives i d false within) ∙ sym marked;
     }
 
--- what was closed by the cells before, and what the next one takes
-pub closed_step : (lives : List Live) (cells : List CellConfig) (i : ℕ) (mark : Bool) (config : CellConfig) (before after : Bool) (place : ℕ)
-    → configs_of lives ≡ cells → i < length cells → config ≡ get_or cells i config → mark ≡ is_loadable_at lives i
-    → before ≡ is_closed_by (take i lives) place → after ≡ (before || is_taken mark config.memory_regions place) → after ≡ is_closed_by (take (i + 1) lives) place
-closed_step lives cells i mark config before after place same lt is marked was then =
-    let d : Live = record { config = config; loadable = mark } in
-    let at = live_at lives cells i mark config same lt is marked in
+step_at : (lives : List Live) (i : ℕ) (mark : Bool) (regions : List Region) (d : Live) (before after : Bool) (place : ℕ) → IsLiveAt lives i regions mark d
+    → before ≡ is_closed_by (take i lives) place → after ≡ (before || is_taken mark regions place) → after ≡ is_closed_by (take (i + 1) lives) place
+step_at lives i mark regions d before after place at was then =
     then
-    ∙ ap (λ b. b || is_taken mark config.memory_regions place) was
-    ∙ ap (λ m. is_closed_by (take i lives) place || is_taken m config.memory_regions place) (sym at.mark_is)
-    ∙ ap (λ (c : CellConfig). is_closed_by (take i lives) place || is_taken (get_or lives i d).loadable c.memory_regions place) (sym at.config_is)
+    ∙ ap (λ b. b || is_taken mark regions place) was
+    ∙ ap (λ m. is_closed_by (take i lives) place || is_taken m regions place) (sym at.mark_is)
+    ∙ ap (λ (r : List Region). is_closed_by (take i lives) place || is_taken (get_or lives i d).loadable r place) (sym at.regions_is)
     ∙ sym (closed_more lives i d place at.within)
 
+-- what was closed by the cells before, and what the next one takes
+pub closed_step : (lives : List Live) (lists : List (List Region)) (i : ℕ) (mark : Bool) (regions : List Region) (before after : Bool) (place : ℕ)
+    → all_regions lives ≡ lists → i < length lists → regions ≡ get_or lists i regions → mark ≡ is_loadable_at lives i
+    → before ≡ is_closed_by (take i lives) place → after ≡ (before || is_taken mark regions place) → after ≡ is_closed_by (take (i + 1) lives) place
+closed_step [] lists i mark regions before after place same lt is marked was then =
+    let none : 0 ≡ length lists = ap (λ (l : List (List Region)). length l) same in absurd (omega arith)
+closed_step (x ∷ xs) lists i mark regions before after place same lt is marked was then =
+    step_at (x ∷ xs) i mark regions x before after place (live_at (x ∷ xs) lists i mark regions x same lt is marked) was then
+
 -- once all cells are looked at
-pub closed_all : (lives : List Live) (cells : List CellConfig) (i : ℕ) (place : ℕ) → configs_of lives ≡ cells → length cells ≤ i → is_closed_by (take i lives) place ≡ is_closed_by lives place
-closed_all lives cells i place same le =
-    let len : length (map (λ (l : Live). l.config) lives) ≡ length lives = length-map lives (λ (l : Live). l.config) in
-    let all : length (configs_of lives) ≡ length cells = ap (λ (cs : List CellConfig). length cs) same in
+pub closed_all : (lives : List Live) (lists : List (List Region)) (i : ℕ) (place : ℕ) → all_regions lives ≡ lists → length lists ≤ i → is_closed_by (take i lives) place ≡ is_closed_by lives place
+closed_all lives lists i place same le =
+    let len : length (configs_of lives) ≡ length lives = length-map lives (λ (l : Live). l.config) in
+    let count : length (all_regions lives) ≡ length (configs_of lives) = length-map (configs_of lives) (λ (c : CellConfig). c.memory_regions) in
+    let all : length (all_regions lives) ≡ length lists = ap (λ (l : List (List Region)). length l) same in
     ap (λ (ls : List Live). is_closed_by ls place) (take_all i lives (omega arith))
 
 -- the regions of the cells up to one are no more than all
-pub few_regions : (cells : List CellConfig) (i : ℕ) (d : CellConfig) → i < length cells → (count_regions (take (i + 1) cells) ≡ count_regions (take i cells) + length (get_or cells i d).memory_regions) × (count_regions (take (i + 1) cells) ≤ count_regions cells)
-few_regions cells i d lt = (sum_by_more (λ (c : CellConfig). length c.memory_regions) cells i d lt, sum_by-take-le (λ (c : CellConfig). length c.memory_regions) cells (i + 1))
+pub few_regions : (lists : List (List Region)) (i : ℕ) (d : List Region) → i < length lists → (count_regions (take (i + 1) lists) ≡ count_regions (take i lists) + length (get_or lists i d)) × (count_regions (take (i + 1) lists) ≤ count_regions lists)
+few_regions lists i d lt = (sum_by_more (λ (r : List Region). length r) lists i d lt, sum_by-take-le (λ (r : List Region). length r) lists (i + 1))
 
 -- nothing is in what all bytes were taken from
 pub none_left : (xs old : List Range) (end : ℕ) (x : Range) → AreApart xs → slice_get xs 0 ≡ Some x → ((b : ℕ) → has_byte xs b ≡ (has_byte old b && not (nat_le 0 b && nat_lt b end))) → x.end ≤ end → ⊥
@@ -172,6 +181,24 @@ none_left (y ∷ ys) old end x apart is same within =
     let taken : (nat_le 0 y.start && nat_lt y.start end) ≡ true = grind (arith, nat_tests) in
     both_ways (has_byte (y ∷ ys) y.start) (same y.start ∙ rw taken (and_right (has_byte old y.start) false refl)) here
 
--- the places of a region fit a word
-pub places_fit : (region : Region) → IsInRange region → is_comm region ≡ false → phys_end region < 2 ^ 64
-places_fit region within own = let le = within.phys own in omega arith
+-- one region more, as at a step of a loop
+pub taken_more : (loadable : Bool) (regions : List Region) (k : ℕ) (d : Region) (before after : Bool) (place : ℕ) → k < length regions
+    → before ≡ is_taken loadable (take k regions) place → after ≡ (before || takes loadable (get_or regions k d) place) → after ≡ is_taken loadable (take (k + 1) regions) place
+taken_more loadable regions k d before after place lt was then =
+    then
+    ∙ ap (λ b. b || takes loadable (get_or regions k d) place) was
+    ∙ sym (list_any_more (λ (r : Region). takes loadable r place) regions k d lt)
+
+-- ---- what a cell takes while it is loadable
+
+lent_or_not : (unshared loadable has : Bool) → (unshared && loadable) ≡ false → (unshared && (not (true && loadable) && has)) ≡ (unshared && (not (false && loadable) && has))
+lent_or_not false loadable has none = refl
+lent_or_not true false has none = refl
+lent_or_not true true has none = absurd (false≢true (sym none))
+
+-- where no region is root's while its cell is loadable, the cell takes the same
+pub same_taken : (regions : List Region) (place : ℕ) → list_any (λ (r : Region). is_unshared r && is_loadable r) regions ≡ false → is_taken true regions place ≡ is_taken false regions place
+same_taken [] place none = refl
+same_taken (r ∷ rs) place none =
+    let parts = or_parts (is_unshared r && is_loadable r) (list_any (λ (r : Region). is_unshared r && is_loadable r) rs) none in
+    rw (lent_or_not (is_unshared r) (is_loadable r) (has_place r place) parts.0, same_taken rs place parts.1) refl

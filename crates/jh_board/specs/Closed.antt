@@ -1,13 +1,16 @@
 -- What live cells close to root.
-use Rattle.std.specs.Prelude.{◌≡◌, ℕ, ◌<◌, Bool, List, [], Option, Some, None, length, map, find, slice_get, All, sum_by}
+use Rattle.std.specs.Prelude.{◌≡◌, ℕ, ◌<◌, ◌≤◌, Bool, List, [], Option, Some, None, length, map, find, slice_get, All, sum_by}
 use Rattle.std.specs.List.{list_any}
 use Rattle.std.specs.Option.{option_map_or}
+use Rattle.jh_num.specs.declared.range.Range.{Range}
+use Rattle.jh_num.specs.Bytes.{has_byte}
 use Rattle.jh_cellcfg.specs.declared.config.CellConfig.{CellConfig}
 use Rattle.jh_cellcfg.specs.declared.region.Region.{Region}
 use Rattle.jh_cellcfg.specs.declared.live.Live.{Live}
 use Rattle.jh_cellcfg.specs.Lives.{has_id}
 use Rattle.jh_cellcfg.specs.Regions.{IsInRange}
 use Rattle.jh_shape.specs.Shapes.{takes, is_closed, holder_of_live}
+use Rattle.jh_life.specs.Lives.{configs_of}
 use Rattle.jh_history.specs.Lives.{live_in}
 
 -- a cell with these regions, loadable or not, takes the place from root
@@ -18,13 +21,23 @@ is_taken loadable regions place = list_any (λ (r : Region). takes loadable r pl
 abbrev pub is_closed_by : List Live → ℕ → Bool
 is_closed_by lives place = is_closed (map holder_of_live lives) place
 
--- how many regions the cells have together
-abbrev pub count_regions : List CellConfig → ℕ
-count_regions cells = sum_by (λ (c : CellConfig). length c.memory_regions) cells
+-- the regions of each cell
+abbrev pub all_regions : List Live → List (List Region)
+all_regions lives = map (λ (c : CellConfig). c.memory_regions) (configs_of lives)
+
+-- how many regions cells with these have together
+abbrev pub count_regions : List (List Region) → ℕ
+count_regions cells = sum_by (λ (regions : List Region). length regions) cells
 
 -- each region that isn't empty ends within the addresses, and within the places where it has any
 abbrev pub AreInRange : List Region → Type 0
 AreInRange regions = All (λ (r : Region). 0 < r.size → IsInRange r) regions
+
+-- the ranges have the places that a cell with these regions, loadable or not, takes from root, where the regions are in
+-- range, and aren't more than they
+pub record AreTaken (loadable : Bool) (regions : List Region) (ranges : List Range) : Type 0 where
+  pub places : AreInRange regions → (place : ℕ) → has_byte ranges place ≡ is_taken loadable regions place
+  pub few : length ranges ≤ length regions
 
 -- the regions of the cell with the id, none where it doesn't live
 abbrev pub live_regions : List Live → ℕ → List Region

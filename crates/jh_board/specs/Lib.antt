@@ -1,5 +1,6 @@
 pub mod Pages
 pub mod Closed
+pub mod IsCellRegions
 pub mod LiveView
 pub mod IsLive
 pub mod StateView

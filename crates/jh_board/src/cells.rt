@@ -13,10 +13,10 @@ ghost use Rattle.jh_history.specs.Commits.{is_other, marked};
 ghost use Rattle.jh_history.specs.Lives.{live_in};
 ghost use Rattle.jh_board.specs.Closed.{is_closed_by, live_regions, AreInRange, IsIndexOf};
 
-use crate::closed::{close_again, close_regions};
+use crate::cell_regions::CellRegions;
+use crate::closed::{close_again, close_cell};
 use jh_cellcfg::{CellConfig, Region, SystemConfig};
 use jh_life::{Cells, a_cell_is_dropped_by_its_id, a_cell_is_marked_by_its_id, live_cells_differ};
-use jh_mmio::RegionIndex;
 use jh_num::{ByteSet, NoMemory, Range};
 use std::alloc::Global;
 use std::marker::Model;
@@ -26,7 +26,7 @@ use std::marker::Model;
 pub struct LiveCells {
     cells: Cells,
     /// The regions of each cell, in the order of the cells.
-    indexes: Vec<RegionIndex>,
+    indexes: Vec<CellRegions>,
     /// The places that the cells close to root.
     closed: ByteSet,
     /// How many regions the cells have together.
@@ -140,7 +140,7 @@ impl LiveCells {
         ensures within { IfSome result (λ region. 0 < region.size → IsInRange region) }
     {
         match index_of(&self.cells, id) {
-            Some(index) => self.indexes[index].at(at),
+            Some(index) => self.indexes[index].by_address().at(at),
             None => None,
         }
     }
@@ -153,7 +153,7 @@ impl LiveCells {
         ensures first { IfSome result (λ (r : TheRegion). IsTrue (has_address r at)) }
     {
         match index_of(&self.cells, id) {
-            Some(index) => self.indexes[index].subpage(at, width),
+            Some(index) => self.indexes[index].by_address().subpage(at, width),
             None => None,
         }
     }
@@ -172,8 +172,8 @@ impl LiveCells {
         &self.closed
     }
 
-    /// Makes ready for a new cell: room for it, and the index of its regions. No cell changes.
-    pub fn prepare(&mut self, alloc: Global, new: &CellConfig) -> Result<RegionIndex, NoMemory>
+    /// Makes ready for a new cell: room for it, and what is found once of its regions. No cell changes.
+    pub fn prepare(&mut self, alloc: Global, new: &CellConfig) -> Result<CellRegions, NoMemory>
         requires apart { AllPairs SharesNoAddress new.now.memory_regions }
         ensures index { IfOk result (λ index. index ≡ new.now.memory_regions) }
         ensures cells { OnOk result (0 < self.new.cells) }
@@ -181,7 +181,7 @@ impl LiveCells {
         ensures system { self.new.system ≡ self.old.system }
         ensures lives { self.new.lives ≡ self.old.lives }
     {
-        let index = RegionIndex::new(alloc, new.memory_regions.as_slice())?;
+        let index = CellRegions::new(alloc, new.memory_regions.as_slice())?;
         self.cells.reserve()?;
         self.indexes.reserve(1)?;
         let Some(regions) = self.regions.checked_add(new.memory_regions.len()) else {
@@ -195,7 +195,7 @@ impl LiveCells {
     }
 
     /// A new cell lives, as the last, and isn't loadable. It takes no memory.
-    pub fn add(&mut self, new: CellConfig, index: RegionIndex)
+    pub fn add(&mut self, new: CellConfig, index: CellRegions)
         requires few { length self.old.lives < 15 }
         requires unknown { is_known (self.old.system.root ∷ configs_of self.old.lives) new ≡ false }
         requires within { AreInRange new.memory_regions }
@@ -205,9 +205,8 @@ impl LiveCells {
         ensures system { self.new.system ≡ self.old.system }
         ensures lives { self.new.lives ≡ self.old.lives ++ new_live new ∷ [] }
     {
-        let regions = new.memory_regions.as_slice();
-        close_regions(&mut self.closed, regions, false);
-        self.regions += regions.len();
+        close_cell(&mut self.closed, &index, false);
+        self.regions += new.memory_regions.len();
         match self.cells.add(new) {
             Ok(()) => (),
             Err(_) => unreachable!(),
@@ -229,7 +228,11 @@ impl LiveCells {
         self.cells.drop_cell(index as u32 + 1);
         // its index goes with it
         let _ = self.indexes.remove(index);
-        close_again(&mut self.closed, self.cells.list(), self.cells.loadable());
+        close_again(
+            &mut self.closed,
+            self.indexes.as_slice(),
+            self.cells.loadable(),
+        );
         self.used = count_pages(&self.cells);
     }
 
@@ -243,7 +246,12 @@ impl LiveCells {
             return;
         };
         a_cell_is_marked_by_its_id(&self.cells);
+        live_cells_differ(&self.cells);
         self.cells.set_loadable(index as u32 + 1, on);
-        close_again(&mut self.closed, self.cells.list(), self.cells.loadable());
+        close_again(
+            &mut self.closed,
+            self.indexes.as_slice(),
+            self.cells.loadable(),
+        );
     }
 }

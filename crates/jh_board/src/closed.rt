@@ -1,60 +1,25 @@
 //! The places that live cells close to root.
-ghost use Rattle.std.specs.Prelude.{◌≡◌, ℕ, ◌+◌, ◌<◌, ◌≤◌, ◌^◌, ◌&&◌, ◌||◌, true, false, List, [], All, length, map};
+ghost use Rattle.std.specs.Prelude.{◌≡◌, ℕ, ◌+◌, ◌<◌, ◌≤◌, ◌^◌, ◌||◌, List, [], All, length};
 ghost use Rattle.jh_num.specs.Bytes.{has_byte};
-ghost use Rattle.jh_cellcfg.specs.declared.config.CellConfig.{CellConfig as TheCell};
 ghost use Rattle.jh_cellcfg.specs.declared.live.Live.{Live};
-ghost use Rattle.jh_cellcfg.specs.Regions.{has_place, is_comm, IsInRange};
-ghost use Rattle.jh_shape.specs.Claims.{has_bit};
-ghost use Rattle.jh_shape.specs.Shapes.{takes};
-ghost use Rattle.jh_life.specs.Lives.{configs_of, is_loadable_at};
-ghost use Rattle.jh_board.specs.Closed.{is_taken, is_closed_by, count_regions, AreInRange};
+ghost use Rattle.jh_num.specs.Bits.{has_bit};
+ghost use Rattle.jh_life.specs.Lives.{is_loadable_at};
+ghost use Rattle.jh_board.specs.Closed.{is_taken, is_closed_by, all_regions, count_regions, AreInRange};
 
-use jh_cellcfg::{CellConfig, Region};
-use jh_num::{ByteSet, Range};
+use crate::cell_regions::CellRegions;
+use jh_num::{ByteSet, Range, has_bit};
 
-/// Whether the bit of that number is set.
-fn has_bit(mask: u16, index: usize) -> bool
-    requires { index < 16 }
-    ensures { result ≡ has_bit mask index }
-{
-    mask >> index & 1 == 1
-}
-
-/// Whether a cell, loadable or not, takes the region's places from root.
-fn takes_places(region: &Region, loadable: bool) -> bool
-    ensures takes { (place : ℕ) → takes loadable region.now place ≡ (result && has_place region.now place) }
-    ensures own { result ≡ true → is_comm region.now ≡ false }
-{
-    region.is_unshared() && !(loadable && region.is_loadable())
-}
-
-/// Closes the region's places, where the cell takes them.
-fn close_region(closed: &mut ByteSet, region: &Region, loadable: bool)
-    requires within { 0 < region.now.size → IsInRange region.now }
-    requires room { length closed.old.ranges < closed.old.room }
-    ensures bytes { (place : ℕ) → has_byte closed.new.ranges place ≡ (has_byte closed.old.ranges place || takes loadable region.now place) }
-    ensures few { length closed.new.ranges ≤ length closed.old.ranges + 1 }
+/// Closes the places that the cell, loadable or not, takes. It takes no memory.
+pub fn close_cell(closed: &mut ByteSet, cell: &CellRegions, loadable: bool)
+    requires within { AreInRange cell.now }
+    requires room { length closed.old.ranges + length cell.now ≤ closed.old.room }
+    ensures bytes { (place : ℕ) → has_byte closed.new.ranges place ≡ (has_byte closed.old.ranges place || is_taken loadable cell.now place) }
+    ensures few { length closed.new.ranges ≤ length closed.old.ranges + length cell.now }
     ensures room { closed.old.room ≤ closed.new.room }
 {
-    if region.size > 0 && takes_places(region, loadable) {
-        let places = region.places();
-        match closed.insert(places) {
-            Ok(()) => (),
-            Err(_) => unreachable!(),
-        }
-    }
-}
-
-/// Closes the places that a cell with these regions takes.
-pub fn close_regions(closed: &mut ByteSet, regions: &[Region], loadable: bool)
-    requires within { AreInRange regions.now }
-    requires room { length closed.old.ranges + length regions.now ≤ closed.old.room }
-    ensures bytes { (place : ℕ) → has_byte closed.new.ranges place ≡ (has_byte closed.old.ranges place || is_taken loadable regions.now place) }
-    ensures few { length closed.new.ranges ≤ length closed.old.ranges + length regions.now }
-    ensures room { closed.old.room ≤ closed.new.room }
-{
-    for k in 0..regions.len() {
-        close_region(closed, &regions[k], loadable);
+    match closed.unite(cell.taken(loadable)) {
+        Ok(()) => (),
+        Err(_) => unreachable!(),
     }
 }
 
@@ -85,19 +50,18 @@ fn open_all(closed: &mut ByteSet)
 
 /// Closes the places that the cells take, and opens all others. Bit i of `loadable` is set where the cell at
 /// index i is loadable.
-pub fn close_again(closed: &mut ByteSet, cells: &[CellConfig], loadable: u16)
+pub fn close_again(closed: &mut ByteSet, cells: &[CellRegions], loadable: u16)
     requires few { length cells.now ≤ 15 }
-    requires within { All (λ (c : TheCell). AreInRange c.memory_regions) cells.now }
+    requires within { All AreInRange cells.now }
     requires some { length closed.old.ranges < closed.old.room }
     requires room { count_regions cells.now ≤ closed.old.room }
-    ensures bytes { (lives : List Live) → configs_of lives ≡ cells.now → ((i : ℕ) → has_bit loadable i ≡ is_loadable_at lives i)
+    ensures bytes { (lives : List Live) → all_regions lives ≡ cells.now → ((i : ℕ) → has_bit loadable i ≡ is_loadable_at lives i)
         → (place : ℕ) → has_byte closed.new.ranges place ≡ is_closed_by lives place }
     ensures few { length closed.new.ranges ≤ count_regions cells.now }
     ensures room { closed.old.room ≤ closed.new.room }
 {
     open_all(closed);
     for i in 0..cells.len() {
-        let regions = cells[i].memory_regions.as_slice();
-        close_regions(closed, regions, has_bit(loadable, i));
+        close_cell(closed, &cells[i], has_bit(loadable, i));
     }
 }

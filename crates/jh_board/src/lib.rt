@@ -2,6 +2,7 @@
 #![tactic(auto)]
 
 mod board;
+mod cell_regions;
 mod cells;
 mod closed;
 mod comm_pages;

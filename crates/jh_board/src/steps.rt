@@ -22,6 +22,7 @@ ghost use Rattle.jh_board.specs.Judged.{IsJudged};
 ghost use Rattle.jh_board.specs.Means.{Means, IsReady, IsReadyFor};
 ghost use Rattle.jh_board.specs.Steps.{begins, goes_on, create_of, change_of_call, change_of_cells, changed_cells, IsNext, IsRead, IsFree, WillBeReady, IsPrepared, MayWrite, MayWriteOf, MayWriteSlot, MayCommit, MayJoin, IsSameButDevices, joined_cells, devices_held, memory_written, memory_after, slot_after, endpoints_acted_by};
 
+use crate::cell_regions::CellRegions;
 use crate::cells::LiveCells;
 use crate::devices::{change_devices, prepare_devices, write_slot_if};
 use crate::granted::devices_of;
@@ -37,7 +38,6 @@ use jh_history::{
     decides_are_of_the_open_call, devices_may_change, few_cells_live, page_write,
     pages_written_are_of_cells, places_reached_are_of_cells, sound_cells_name_a_cpu, write_device,
 };
-use jh_mmio::RegionIndex;
 use jh_num::NoMemory;
 
 /// What a Commit does to the cells that live already.
@@ -251,7 +251,7 @@ fn make_commit(held: &mut Held, act: &Act)
 /// The cells after the entry: the one that it creates joins them, with its index.
 fn make_cells(
     cells: &mut LiveCells,
-    index: &mut Option<RegionIndex>,
+    index: &mut Option<CellRegions>,
     created: Option<BoxedCell>,
     change: CellsChange,
 )

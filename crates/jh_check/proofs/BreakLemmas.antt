@@ -11,7 +11,7 @@ use Rattle.jh_check.specs.declared.rule.Rule.TheVariants.{VirtOverlap, PhysOverl
 use Rattle.jh_check.specs.declared.spans.Span.{Span}
 use Rattle.jh_check.specs.Regions.{Spot, pair_breaks, share_places, takes_pages, both_shared}
 use Rattle.jh_check.specs.Devices.{are_same_section}
-use Rattle.jh_check.specs.Spans.{takes_part, span_of, spans_meet, joins, is_within, IsIndex, AreApart}
+use Rattle.jh_check.specs.Spans.{takes_part, span_of, spans_meet, joins, is_within, IsIndex, AreApart, StandApart}
 use Rattle.jh_check.specs.Lists.{only_if, is_any}
 use Rattle.jh_check.specs.Findings.{spot, beside, beside_at, between, between_at, finding_of}
 use Rattle.jh_check.proofs.BoolLemmas.{false_from_not, not_both, and_left, and_right, and_both}
@@ -216,6 +216,23 @@ between_indexed rule a one spans w index =
     let same : r ≡ s = meeting_same rule r s x y spans index.apart p q m in
     let less : r < s = ltb-true r s o in
     omega arith)
+
+-- what meets a span doesn't begin behind it
+pub met_before : (one other : Span) → spans_meet one other ≡ true → one.end ≤ other.start → ⊥
+met_before one other m h =
+    let second : other.start < one.end = ltb-true other.start one.end (and_right (nat_lt one.start other.end) (nat_lt other.start one.end) m) in
+    omega arith
+
+-- one cell, whose regions stand apart
+pub between_stand : (rule : Rule) (a : ℕ) (one : CellConfig) → is_within rule ≡ true → StandApart rule one.memory_regions → between rule a one a one ≡ []
+between_stand rule a one w stand =
+    between_none rule a one a one (λ r s d i j t.
+    let x = get_or one.memory_regions r d in
+    let y = get_or one.memory_regions s d in
+    let order : r < s = ltb-true r s (pair_order rule (spot a one r x) (spot a one s y) w t) in
+    let first = pair_takes_part rule (spot a one r x) (spot a one s y) t in
+    let second = pair_second rule (spot a one r x) (spot a one s y) w t in
+    met_before (span_of rule r x) (span_of rule s y) (pair_meets rule (spot a one r x) (spot a one s y) t) (stand r s d order j first second))
 
 -- cells that a rule about two regions of one cell joins are one
 pub joins_same : (rule : Rule) (a b : ℕ) → is_within rule ≡ true → joins rule a b ≡ true → a ≡ b

@@ -16,13 +16,13 @@ use Rattle.jh_check.specs.declared.reach.Reaches.{Reaches}
 use Rattle.jh_check.specs.declared.reach.Window.{Window}
 use Rattle.jh_check.specs.Regions.{Spot, pair_breaks, share_places, takes_pages, both_shared}
 use Rattle.jh_check.specs.Devices.{are_same_section}
-use Rattle.jh_check.specs.Spans.{takes_part, span_of, is_within}
+use Rattle.jh_check.specs.Spans.{takes_part, span_of, is_within, StandApart}
 use Rattle.jh_check.specs.Lists.{capped, found_from, only_if}
 use Rattle.jh_check.specs.Findings.{spot, beside, beside_at, between, between_at, finding_of}
 use Rattle.jh_check.specs.Private.Reaches.{passes_shared, may_follow, reaches_for, HasOthers, InOrder, IsRising, IsReached, TellsEach, TellsPairs, IsOwn, TellsOthers, AreOf, IsIn, HasHits, IsInside, IsExtent}
 use Rattle.jh_check.proofs.BoolLemmas.{false_from_not, not_both, and_left, and_right, and_both}
 use Rattle.jh_check.proofs.ListLemmas.{append_nil, found_drop, found_end, found_none, found_none0}
-use Rattle.jh_check.proofs.BreakLemmas.{pair_order, pair_joins, pair_takes_part, pair_second, pair_meets, beside_none, joins_same, two_parts, pages_parts, overlap_second, meet_swap}
+use Rattle.jh_check.proofs.BreakLemmas.{pair_order, pair_joins, pair_takes_part, pair_second, pair_meets, beside_none, joins_same, two_parts, pages_parts, overlap_second, meet_swap, met_before}
 
 -- ---- one span after the other
 
@@ -273,14 +273,28 @@ others_pairs rule pass b cell spans reaches w has tells = λ one s d own passes 
     in
     (tells (span_of rule one.item one.region) (span_of rule s y) cx cy differ (span_some rule one.item one.region w t) (pair_meets rule one other breaks), λ f. absurd (not_both (is_within rule) w f))
 
+-- regions that stand apart break no rule about two of them
+pub others_apart : (rule : Rule) (pass : Bool) (b : ℕ) (cell : CellConfig) → is_within rule ≡ true → StandApart rule cell.memory_regions → TellsOthers rule pass b cell []
+others_apart rule pass b cell w stand = λ one s d own passes within breaks.
+    let regions = cell.memory_regions in
+    let y = get_or regions s d in
+    let other = spot b cell s y in
+    let mine = own (joins_same rule one.cell b w (pair_joins rule one other breaks)) in
+    let before : one.item < s = ltb-true one.item s (pair_order rule one other w breaks) in
+    let second = pair_second rule one other w breaks in
+    let P : Region → Type 0 = λ x. takes_part rule x ≡ true → (span_of rule one.item x).end ≤ (span_of rule s y).start in
+    let same = mine.1 ∙ get_or_default regions one.item one.region d mine.0 in
+    let behind = subst P (sym same) (λ t. stand one.item s d before within t second) (pair_takes_part rule one other breaks) in
+    absurd (met_before (span_of rule one.item one.region) (span_of rule s y) (pair_meets rule one other breaks) behind)
+
 pub rising_none : IsRising []
 rising_none = record { starts = λ i j d h k. absurd (omega arith); ends = λ i j d h k. absurd (omega arith) }
 
 -- ---- the search
 
--- where the last that begins before a span's end ends before it begins, it isn't reached
-pub unreached : (reaches : List Reach) (span : Span) (n : ℕ) → IsRising reaches → n ≤ length reaches → AllWithin (λ (reach : Reach). nat_lt reach.start span.end ≡ false) reaches n (length reaches) → ((d : Reach) → 0 < n → (get_or reaches (n - 1) d).end ≤ span.start) → IsReached reaches span → ⊥
-unreached reaches span n rising bound after last reached =
+-- a span behind the first n of them and before the others isn't reached
+pub lies_unreached : (reaches : List Reach) (span : Span) (n : ℕ) → IsRising reaches → (0 < n → (d : Reach) → (get_or reaches (n - 1) d).end ≤ span.start) → (n < length reaches → (d : Reach) → span.end ≤ (get_or reaches n d).start) → n ≤ length reaches → IsReached reaches span → ⊥
+lies_unreached reaches span n rising behind before bound reached =
     let x = reached.by in
     let k = reached.is.0 in
     let within = reached.is.1 in
@@ -289,12 +303,15 @@ unreached reaches span n rising bound after last reached =
     elim (cases_lt k n) [
       | inl h ↦
           let a = rising.ends k (n - 1) x (omega arith) (omega arith) in
-          let b = last x (omega arith) in
+          let b = behind (omega arith) x in
           let c : (get_or reaches k x).end ≤ span.start = omega arith in
           let e : x.end ≤ span.start = subst (λ (s : Reach). s.end ≤ span.start) reached.is.2 c in
           omega arith
       | inr h ↦
-          let e = ltb-false x.start span.end (subst (λ (s : Reach). nat_lt s.start span.end ≡ false) reached.is.2 (after k x h within)) in
+          let a = rising.starts n k x (omega arith) within in
+          let b = before (omega arith) x in
+          let c : span.end ≤ (get_or reaches k x).start = omega arith in
+          let e : span.end ≤ x.start = subst (λ (s : Reach). span.end ≤ s.start) reached.is.2 c in
           omega arith
     ]
 
@@ -377,29 +394,6 @@ among_parted reaches span begin m n low high bound after before x cx begins ends
 
 pub capped_none_more : (found more : List Finding) → more ≡ [] → capped found ≡ capped (found ++ more)
 capped_none_more found more e = ap capped (sym (append_nil found) ∙ ap (λ xs. found ++ xs) (sym e))
-
--- where the first begins behind a span, or the last ends before it, it isn't reached
-pub behind_unreached : (reaches : List Reach) (span : Span) → IsRising reaches → ((d : Reach) → span.end ≤ (get_or reaches 0 d).start) → IsReached reaches span → ⊥
-behind_unreached reaches span rising behind reached =
-    let x = reached.by in
-    let k = reached.is.0 in
-    let within = reached.is.1 in
-    let a = rising.starts 0 k x (omega arith) within in
-    let b = behind x in
-    let c : (get_or reaches 0 x).start ≤ x.start = subst (λ (r : Reach). (get_or reaches 0 x).start ≤ r.start) reached.is.2 a in
-    let d = reached.begins in
-    omega arith
-
-pub before_unreached : (reaches : List Reach) (span : Span) → IsRising reaches → ((d : Reach) → (get_or reaches (length reaches - 1) d).end ≤ span.start) → IsReached reaches span → ⊥
-before_unreached reaches span rising before reached =
-    let x = reached.by in
-    let k = reached.is.0 in
-    let within = reached.is.1 in
-    let a = rising.ends k (length reaches - 1) x (omega arith) (omega arith) in
-    let b = before x in
-    let c : x.end ≤ (get_or reaches (length reaches - 1) x).end = subst (λ (r : Reach). r.end ≤ (get_or reaches (length reaches - 1) x).end) reached.is.2 a in
-    let d = reached.ends in
-    omega arith
 
 -- ---- regions that lie all beyond what others reach
 

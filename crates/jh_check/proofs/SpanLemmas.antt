@@ -3,9 +3,12 @@ use Rattle.std.proofs.Common.{◌≡◌, ℕ, ◌+◌, ◌-◌, ◌<◌, ◌≤�
 use Rattle.std.specs.List.{Contains, AllWithin}
 use Rattle.std.specs.List.Sorted.{IsPartitionedBy}
 use Rattle.std.proofs.lemmas.Bool.{ltb-true, ltb-false, lt-ltb, leb-true, le-leb, cases_eq, cases_lt}
-use Rattle.std.proofs.lemmas.List.{get_or-take, get_or-drop, length-take}
+use Rattle.std.proofs.lemmas.List.{get_or_default, get_or-take, get_or-drop, length-take}
+use Rattle.jh_cellcfg.specs.declared.region.Region.{Region}
+use Rattle.jh_check.specs.declared.rule.Rule.{Rule}
+use Rattle.jh_check.specs.declared.rule.Rule.TheVariants.{VirtOverlap}
 use Rattle.jh_check.specs.declared.spans.Span.{Span}
-use Rattle.jh_check.specs.Spans.{spans_meet, AreApartTo, AreApart}
+use Rattle.jh_check.specs.Spans.{takes_part, span_of, spans_meet, AreApartTo, AreApart, LiesWithin, StandApartTo}
 use Rattle.jh_check.proofs.BoolLemmas.{and_left, and_right}
 
 -- none is apart from nothing, and one more
@@ -101,22 +104,51 @@ met_within spans other first m n low high bound after before x cx meets =
     let rest = length-drop first spans in
     (k - first, omega arith, get_or-take (n - first) (drop first spans) (k - first) x (omega arith) ∙ get_or-drop first spans (k - first) x ∙ ap (λ i. get_or spans i x) sum ∙ cx.2)
 
--- what begins where the first does or later meets none that ends before, and the other way round
-pub first_behind : (spans : List Span) (other : Span) → AreApart spans → ((d : Span) → other.end ≤ (get_or spans 0 d).start) → (x : Span) → Contains spans x → spans_meet x other ≡ true → ⊥
-first_behind spans other apart behind x cx meets =
-    let k = cx.0 in
-    let rise = starts_rise spans apart 0 k x (omega arith) cx.1 in
-    let low : (get_or spans 0 x).start ≤ x.start = subst (λ (s : Span). (get_or spans 0 x).start ≤ s.start) cx.2 rise in
-    let far = behind x in
-    let near = ltb-true x.start other.end (and_left (nat_lt x.start other.end) (nat_lt other.start x.end) meets) in
-    omega arith
-
-pub last_before : (spans : List Span) (other : Span) → AreApart spans → ((d : Span) → (get_or spans (length spans - 1) d).end ≤ other.start) → (x : Span) → Contains spans x → spans_meet x other ≡ true → ⊥
-last_before spans other apart before x cx meets =
+-- what lies behind the first n and before the others meets none
+pub between_none : (spans : List Span) (other : Span) (n : ℕ) → AreApart spans → (0 < n → (d : Span) → (get_or spans (n - 1) d).end ≤ other.start) → (n < length spans → (d : Span) → other.end ≤ (get_or spans n d).start) → n ≤ length spans → (x : Span) → Contains spans x → spans_meet x other ≡ true → ⊥
+between_none spans other n apart behind before bound x cx meets =
     let k = cx.0 in
     let within = cx.1 in
-    let rise = ends_rise spans apart k (length spans - 1) x (omega arith) (omega arith) in
-    let high : x.end ≤ (get_or spans (length spans - 1) x).end = subst (λ (s : Span). s.end ≤ (get_or spans (length spans - 1) x).end) cx.2 rise in
-    let far = before x in
-    let near = ltb-true other.start x.end (and_right (nat_lt x.start other.end) (nat_lt other.start x.end) meets) in
-    omega arith
+    let begins = ltb-true x.start other.end (and_left (nat_lt x.start other.end) (nat_lt other.start x.end) meets) in
+    let ends = ltb-true other.start x.end (and_right (nat_lt x.start other.end) (nat_lt other.start x.end) meets) in
+    elim (cases_lt k n) [
+      | inl h ↦
+          let rise = ends_rise spans apart k (n - 1) x (omega arith) (omega arith) in
+          let far = behind (omega arith) x in
+          let c : (get_or spans k x).end ≤ other.start = omega arith in
+          let e : x.end ≤ other.start = subst (λ (s : Span). s.end ≤ other.start) cx.2 c in
+          omega arith
+      | inr h ↦
+          let rise = starts_rise spans apart n k x (omega arith) within in
+          let far = before (omega arith) x in
+          let c : other.end ≤ (get_or spans k x).start = omega arith in
+          let e : other.end ≤ x.start = subst (λ (s : Span). other.end ≤ s.start) cx.2 c in
+          omega arith
+    ]
+
+-- ---- regions that stand apart in their own order
+
+pub span_ordered : (rule : Rule) (r : ℕ) (x : Region) → (span_of rule r x).start ≤ (span_of rule r x).end
+span_ordered VirtOverlap r x = let s : x.virt_start ≤ x.virt_start + x.size = omega arith in s
+span_ordered _ r x = let s : x.phys_start ≤ x.phys_start + x.size = omega arith in s
+
+pub stand_none : (rule : Rule) (regions : List Region) → StandApartTo rule regions 0 0
+stand_none rule regions = record { ends = λ i d h. absurd (omega arith); apart = λ i j d h k. absurd (omega arith) }
+
+pub stand_more : (rule : Rule) (regions : List Region) (n end more : ℕ) (x : Region) → n < length regions → x ≡ get_or regions n x → end ≤ more → (takes_part rule x ≡ true → LiesWithin (span_of rule n x) end more) → StandApartTo rule regions n end → StandApartTo rule regions (n + 1) more
+stand_more rule regions n end more x within is grows behind before =
+    let P : ℕ → Region → Type 0 = λ k y. takes_part rule y ≡ true → LiesWithin (span_of rule k y) end more in
+    let here : (d : Region) → P n (get_or regions n d) = λ d. subst (λ y. P n y) (is ∙ get_or_default regions n x d within) behind in
+    record {
+      ends = λ i d h t. elim (cases_eq i n) [
+        | inl e ↦ (subst (λ k. P k (get_or regions k d)) (sym e) (here d) t).ends
+        | inr m ↦ let a = before.ends i d (omega arith) t in omega arith
+      ];
+      apart = λ i j d h k t u. elim (cases_eq j n) [
+        | inl e ↦
+            let a = before.ends i d (omega arith) t in
+            let b = (subst (λ k. P k (get_or regions k d)) (sym e) (here d) u).starts in
+            omega arith
+        | inr m ↦ before.apart i j d h (omega arith) t u
+      ];
+    }

@@ -3,3 +3,4 @@ pub mod Bus
 pub mod Links
 pub mod Reaches
 pub mod Seats
+pub mod Sound

@@ -50,6 +50,23 @@ pub record AreApartTo (spans : List Span) (n : ℕ) : Type 0 where
 abbrev pub AreApart : List Span → Type 0
 AreApart spans = AreApartTo spans (length spans)
 
+-- it begins at the one number or behind it, and ends at the other or before it
+pub record LiesWithin (span : Span) (low high : ℕ) : Type 0 where
+  pub starts : low ≤ span.start
+  pub ends : span.end ≤ high
+
+-- of the first regions, those that take part end by `end`, and each begins behind those before it
+pub record StandApartTo (rule : Rule) (regions : List Region) (n end : ℕ) : Type 0 where
+  pub ends : (i : ℕ) (d : Region) → i < n → takes_part rule (slice_index_or regions i d) ≡ true → (span_of rule i (slice_index_or regions i d)).end ≤ end
+  pub apart : (i j : ℕ) (d : Region) → i < j → j < n → takes_part rule (slice_index_or regions i d) ≡ true → takes_part rule (slice_index_or regions j d) ≡ true
+      → (span_of rule i (slice_index_or regions i d)).end ≤ (span_of rule j (slice_index_or regions j d)).start
+
+-- of all regions
+abbrev pub StandApart : Rule → List Region → Type 0
+StandApart rule regions =
+    (i j : ℕ) (d : Region) → i < j → j < length regions → takes_part rule (slice_index_or regions i d) ≡ true → takes_part rule (slice_index_or regions j d) ≡ true
+    → (span_of rule i (slice_index_or regions i d)).end ≤ (span_of rule j (slice_index_or regions j d)).start
+
 -- the two have a number in common
 abbrev pub spans_meet : Span → Span → Bool
 spans_meet one other = nat_lt one.start other.end && nat_lt other.start one.end

@@ -2,12 +2,13 @@
 ghost use Rattle.std.specs.Prelude.{◌≡◌, ◌≤◌, ◌++◌, ◌∷◌, length, OnOk, IfOk};
 ghost use Rattle.jh_check.specs.Cells.{cells_of};
 ghost use Rattle.jh_check.specs.Lists.{capped, found_from};
+ghost use Rattle.jh_check.specs.Private.Sound.{AreSoundEach};
 ghost use Rattle.jh_check.specs.Findings.{in_regions, in_hypervisor, found_by, found_at, rules_in_order, findings};
 
 use crate::finding::Finding;
 use crate::pairing::in_pairs;
 use crate::rule::{RULES, Rule, rule_at};
-use crate::search::{in_cpus, in_devices, in_hypervisor, in_regions};
+use crate::search::{in_cpus, in_devices, in_hypervisor, in_regions, sound_cells};
 use crate::setup::Setup;
 use jh_cellcfg::{CellConfig, SystemConfig};
 use jh_num::{NoMemory, Seq};
@@ -17,24 +18,34 @@ use std::alloc::Global;
 pub const MAX_FINDINGS: usize = 1000;
 
 /// What is found by a rule that the hypervisor's memory may break too.
-fn also_in_hypervisor(found: &mut Seq<Finding>, rule: Rule, setup: &Setup) -> Result<(), NoMemory>
-    requires { length setup.now.cells.now ≤ 15 }
+fn also_in_hypervisor(
+    found: &mut Seq<Finding>,
+    rule: Rule,
+    setup: &Setup,
+    sound: &[bool],
+) -> Result<(), NoMemory>
+    requires count { length setup.now.cells.now ≤ 15 }
+    requires known { length sound.now ≡ length (cells_of setup.now) }
+    requires sound { AreSoundEach setup.now.hypervisor.now (cells_of setup.now) sound.now }
     ensures { OnOk result (capped found.new ≡ capped (found.old ++ (in_regions rule setup.now.hypervisor.now (cells_of setup.now) ++ in_hypervisor rule setup.now.hypervisor.now))) }
 {
-    in_regions(found, rule, setup)?;
+    in_regions(found, rule, setup, sound)?;
     in_hypervisor(found, rule, setup)?;
     Ok(())
 }
 
-/// What is found by the rule.
+/// What is found by the rule, where of each cell it is known whether its regions break none about one.
 #[tactic(auto, unfolding(crate::specs::Findings::found_by))]
 fn found_by(
     alloc: Global,
     found: &mut Seq<Finding>,
     rule: Rule,
     setup: &Setup,
+    sound: &[bool],
 ) -> Result<(), NoMemory>
-    requires { length setup.now.cells.now ≤ 15 }
+    requires count { length setup.now.cells.now ≤ 15 }
+    requires known { length sound.now ≡ length (cells_of setup.now) }
+    requires sound { AreSoundEach setup.now.hypervisor.now (cells_of setup.now) sound.now }
     ensures { OnOk result (capped found.new ≡ capped (found.old ++ found_by rule setup.now.hypervisor.now (cells_of setup.now))) }
 {
     match rule {
@@ -44,9 +55,9 @@ fn found_by(
         Rule::CellsOverlap => in_pairs(alloc, found, rule, setup),
         Rule::Shmem => in_devices(alloc, found, setup),
         Rule::NoCpu => in_cpus(found, setup),
-        Rule::OutOfRange => also_in_hypervisor(found, rule, setup),
-        Rule::PhysAlign => also_in_hypervisor(found, rule, setup),
-        _ => in_regions(found, rule, setup),
+        Rule::OutOfRange => also_in_hypervisor(found, rule, setup, sound),
+        Rule::PhysAlign => also_in_hypervisor(found, rule, setup, sound),
+        _ => in_regions(found, rule, setup, sound),
     }
 }
 
@@ -56,8 +67,9 @@ fn found_in(alloc: Global, setup: &Setup) -> Result<Seq<Finding>, NoMemory>
     ensures { IfOk result (λ found. capped found ≡ capped (found_from (found_at setup.now.hypervisor.now (cells_of setup.now)) 0 rules_in_order)) }
 {
     let mut found = Seq::new(alloc);
+    let sound = sound_cells(alloc, setup)?;
     for i in 0..RULES.len() {
-        found_by(alloc, &mut found, rule_at(i), setup)?;
+        found_by(alloc, &mut found, rule_at(i), setup, sound.as_slice())?;
     }
     Ok(found)
 }

@@ -51,6 +51,7 @@ fn visit(
     one: &Site,
     partner: Option<usize>,
     reaches: &Reaches,
+    near: &mut usize,
     b: u32,
     other: &CellConfig,
 ) -> Result<(), NoMemory>
@@ -65,7 +66,7 @@ fn visit(
     if !takes_part(rule, one.region) {
         return Ok(());
     }
-    if !may_meet(reaches, rule, one.item, one.region) {
+    if !may_meet(reaches, rule, one.item, one.region, near) {
         return Ok(());
     }
     let window = find_window(reaches, rule, one.item, one.region);
@@ -85,6 +86,7 @@ fn between(
     requires same { pair.now.a ≡ pair.now.b → pair.now.one.now ≡ pair.now.other.now }
     ensures { OnOk result (capped found.new ≡ capped (found.old ++ between rule pair.now.a pair.now.one.now pair.now.b pair.now.other.now)) }
 {
+    let mut near = 0;
     for (r, region) in pair.one.memory_regions.as_slice().iter().enumerate() {
         let first = Site {
             cell: pair.a,
@@ -93,7 +95,9 @@ fn between(
             region,
         };
         let partner = partner_of(partners, r);
-        visit(found, rule, &first, partner, reaches, pair.b, pair.other)?;
+        visit(
+            found, rule, &first, partner, reaches, &mut near, pair.b, pair.other,
+        )?;
     }
     Ok(())
 }

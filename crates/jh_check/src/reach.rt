@@ -6,7 +6,7 @@ ghost use Rattle.jh_check.specs.Spans.{is_within, span_of, takes_part};
 ghost use Rattle.jh_check.specs.Private.Reaches.{passes_shared, may_follow, reaches_for, HasOthers, InOrder, IsRising, IsReached, TellsEach, TellsPairs, TellsOthers, AreOf, IsIn, IsInside, IsExtent};
 
 use crate::rule::Rule;
-use crate::spans::{Span, are_apart, span_of, takes_part};
+use crate::spans::{Span, are_apart, span_of, stand_apart, takes_part};
 use jh_cellcfg::{CellConfig, Region, RegionFlags};
 use jh_num::NoMemory;
 use std::alloc::Global;
@@ -156,6 +156,26 @@ fn of_overlaps(alloc: Global, spans: &[Span]) -> Result<Vec<Reach>, NoMemory>
     }
 }
 
+/// The same of the cell's regions; none, where these stand apart.
+fn of_own(
+    alloc: Global,
+    rule: Rule,
+    pass: bool,
+    b: u32,
+    cell: &CellConfig,
+) -> Result<Vec<Reach>, NoMemory>
+    requires { is_within rule ≡ true }
+    ensures rising { IfOk result (λ reaches. IsRising reaches.items) }
+    ensures tells { IfOk result (λ reaches. TellsOthers rule pass b cell.now reaches.items) }
+{
+    let regions = cell.memory_regions.as_slice();
+    if stand_apart(rule, regions) {
+        return Ok(Vec::new(alloc));
+    }
+    let spans = sorted(alloc, rule, pass, b, regions)?;
+    of_overlaps(alloc, spans.as_slice())
+}
+
 /// How far the cell's regions reach that may follow.
 fn of_cell(
     alloc: Global,
@@ -167,12 +187,11 @@ fn of_cell(
     ensures rising { IfOk result (λ reaches. IsRising reaches.items) }
     ensures tells { IfOk result (λ reaches. TellsOthers rule pass b cell.now reaches.items) }
 {
-    let spans = sorted(alloc, rule, pass, b, cell.memory_regions.as_slice())?;
     if is_within(rule) {
-        of_overlaps(alloc, spans.as_slice())
-    } else {
-        of_each(alloc, spans.as_slice())
+        return of_own(alloc, rule, pass, b, cell);
     }
+    let spans = sorted(alloc, rule, pass, b, cell.memory_regions.as_slice())?;
+    of_each(alloc, spans.as_slice())
 }
 
 /// How far those do that aren't shared, where the rule lets some regions meet those that are.
@@ -239,48 +258,55 @@ pub(crate) fn may_reach_into(reaches: &Reaches, extent: Span) -> bool
     ensures any { result ≡ false → IsReached reaches.now.any.items extent → ⊥ }
     ensures unshared { result ≡ false → IsReached reaches.now.unshared.items extent → ⊥ }
 {
-    let any = may_reach(reaches.any.as_slice(), extent);
-    any || may_reach(reaches.unshared.as_slice(), extent)
+    let any = may_reach(reaches.any.as_slice(), extent, &mut 0);
+    any || may_reach(reaches.unshared.as_slice(), extent, &mut 0)
 }
 
-/// Whether all begin behind the span, or end before it.
-fn lies_outside(reaches: &[Reach], span: Span) -> bool
+/// Whether the span lies behind the first `n` of them and before the others.
+fn lies_behind(reaches: &[Reach], n: usize, span: Span) -> bool
     requires { IsRising reaches.now }
     ensures { result ≡ true → IsReached reaches.now span → ⊥ }
 {
-    let n = reaches.len();
-    if n == 0 {
-        return true;
-    }
-    if span.end <= u128::from(reaches[0].start) {
-        return true;
-    }
-    reaches[n - 1].end <= u128::from(span.start)
+    n <= reaches.len()
+        && (n == 0 || reaches[n - 1].end <= u128::from(span.start))
+        && (n == reaches.len() || span.end <= u128::from(reaches[n].start))
 }
 
-/// Whether the span may be reached; only then may it be told so.
-fn may_reach(reaches: &[Reach], span: Span) -> bool
+/// Whether the span may be reached; only then may it be told so. `near` is how many lay before the last span, and
+/// becomes how many lie before this one: mostly as many, or one more.
+fn may_reach(reaches: &[Reach], span: Span, near: &mut usize) -> bool
     requires { IsRising reaches.now }
     ensures { result ≡ false → IsReached reaches.now span → ⊥ }
 {
-    if lies_outside(reaches, span) {
+    if lies_behind(reaches, *near, span) {
         return false;
     }
-    let n = reaches.partition_point(|reach| u128::from(reach.start) < span.end);
-    n > 0 && reaches[n - 1].end > u128::from(span.start)
+    *near = near.saturating_add(1);
+    if lies_behind(reaches, *near, span) {
+        return false;
+    }
+    *near = reaches.partition_point(|reach| u128::from(reach.start) < span.end);
+    !lies_behind(reaches, *near, span)
 }
 
-/// Whether the region, of that number in its cell, may break the rule with one of those.
-pub(crate) fn may_meet(reaches: &Reaches, rule: Rule, item: usize, region: &Region) -> bool
+/// Whether the region, of that number in its cell, may break the rule with one of those. `near` is where the last one
+/// was looked for.
+pub(crate) fn may_meet(
+    reaches: &Reaches,
+    rule: Rule,
+    item: usize,
+    region: &Region,
+    near: &mut usize,
+) -> bool
     requires any { IsRising reaches.now.any.items }
     requires unshared { IsRising reaches.now.unshared.items }
     ensures { result ≡ false → IsReached (reaches_for rule region.now reaches.now) (span_of rule item region.now) → ⊥ }
 {
     let span = span_of(rule, item, region);
     if passes_shared(rule, region) {
-        may_reach(reaches.unshared.as_slice(), span)
+        may_reach(reaches.unshared.as_slice(), span, near)
     } else {
-        may_reach(reaches.any.as_slice(), span)
+        may_reach(reaches.any.as_slice(), span, near)
     }
 }
 

@@ -1,7 +1,9 @@
 //! The rules about one region.
-ghost use Rattle.std.specs.Prelude.{◌≡◌};
+ghost use Rattle.std.specs.Prelude.{◌≡◌, true, []};
 ghost use Rattle.std.specs.List.{list_any};
-ghost use Rattle.jh_check.specs.Regions.{is_counted_comm, is_misshapen, is_out_of_range, region_breaks, hypervisor_breaks};
+ghost use Rattle.jh_check.specs.Regions.{is_counted_comm, is_misshapen, is_out_of_range, breaks_alone, region_breaks, hypervisor_breaks};
+ghost use Rattle.jh_check.specs.Private.Sound.{breaks_in_cell, breaks_any, AreSound};
+ghost use Rattle.jh_check.specs.declared.rule.Rule.TheVariants.{Hypervisor, ExecuteWithoutRead, PhysAlign};
 
 use crate::rule::Rule;
 use jh_cellcfg::{Region, RegionFlags};
@@ -34,6 +36,27 @@ fn is_out_of_range(region: &Region) -> bool
         || !region.is_comm() && region.phys_end() > u128::from(ADDRESS_END)
 }
 
+/// Whether the region has a place of the hypervisor's memory.
+fn meets_hypervisor(region: &Region, hypervisor: &Region) -> bool
+    ensures { result ≡ breaks_alone Hypervisor hypervisor.now 0 [] region.now }
+{
+    !region.is_comm() && region.phys_meets(hypervisor)
+}
+
+/// Whether it may be executed and not read.
+fn is_execute_only(region: &Region) -> bool
+    ensures { result ≡ breaks_alone ExecuteWithoutRead region.now 0 [] region.now }
+{
+    region.has(RegionFlags::EXECUTE) && !region.has(RegionFlags::READ)
+}
+
+/// Whether its places aren't aligned to pages where its addresses are.
+fn is_misaligned(region: &Region) -> bool
+    ensures { result ≡ breaks_alone PhysAlign region.now 0 [] region.now }
+{
+    region.is_page_mapped() && !region.is_comm() && region.phys_start % PAGE_SIZE != 0
+}
+
 /// Whether the region breaks the rule, which is about one region. `earlier` are those before it in its
 /// cell, which has that number.
 #[tactic(auto, unfolding(crate::specs::Regions::region_breaks))]
@@ -50,19 +73,50 @@ pub(crate) fn region_breaks(
         return false;
     }
     match rule {
-        Rule::Hypervisor => !region.is_comm() && region.phys_meets(hypervisor),
+        Rule::Hypervisor => meets_hypervisor(region, hypervisor),
         Rule::OutOfRange => is_out_of_range(region),
         Rule::RootNotIdentity => cell == 0 && region.phys_start != region.virt_start,
         Rule::CommInRoot => cell == 0 && region.is_comm(),
         Rule::CommShape => cell != 0 && region.is_comm() && is_misshapen(earlier, region),
-        Rule::ExecuteWithoutRead => {
-            region.has(RegionFlags::EXECUTE) && !region.has(RegionFlags::READ)
-        }
-        Rule::PhysAlign => {
-            region.is_page_mapped() && !region.is_comm() && region.phys_start % PAGE_SIZE != 0
-        }
+        Rule::ExecuteWithoutRead => is_execute_only(region),
+        Rule::PhysAlign => is_misaligned(region),
         _ => false,
     }
+}
+
+/// Whether the region breaks a rule that speaks of root's regions, or one of those of other cells.
+fn breaks_in_cell(cell: u32, earlier: &[Region], region: &Region) -> bool
+    ensures { result ≡ breaks_in_cell cell earlier.now region.now }
+{
+    if cell == 0 {
+        region.phys_start != region.virt_start || region.is_comm()
+    } else {
+        region.is_comm() && is_misshapen(earlier, region)
+    }
+}
+
+/// Whether the region breaks one of the rules about one region.
+fn breaks_any(hypervisor: &Region, cell: u32, earlier: &[Region], region: &Region) -> bool
+    ensures { result ≡ breaks_any hypervisor.now cell earlier.now region.now }
+{
+    region.size > 0
+        && (meets_hypervisor(region, hypervisor)
+            || is_out_of_range(region)
+            || is_execute_only(region)
+            || is_misaligned(region)
+            || breaks_in_cell(cell, earlier, region))
+}
+
+/// Whether no region of the cell, which has that number, breaks one of the rules about one region.
+pub(crate) fn are_sound(hypervisor: &Region, cell: u32, regions: &[Region]) -> bool
+    ensures { result ≡ true → AreSound hypervisor.now cell regions.now }
+{
+    for (r, region) in regions.iter().enumerate() {
+        if breaks_any(hypervisor, cell, &regions[..r], region) {
+            return false;
+        }
+    }
+    true
 }
 
 /// Whether the hypervisor's memory breaks the rule.

@@ -1,5 +1,5 @@
 //! The search for findings, each in its order.
-ghost use Rattle.std.specs.Prelude.{◌≡◌, ◌≤◌, ◌<◌, ◌++◌, true, false, length, take, OnOk, [], ◌∷◌};
+ghost use Rattle.std.specs.Prelude.{◌≡◌, ◌≤◌, ◌<◌, ◌++◌, true, false, length, take, OnOk, IfOk, [], ◌∷◌};
 ghost use Rattle.jh_check.specs.Cells.{cells_of};
 ghost use Rattle.jh_check.specs.Sites.{spot_of};
 ghost use Rattle.jh_check.specs.Lists.{capped, only_if};
@@ -9,6 +9,7 @@ ghost use Rattle.jh_check.specs.Private.Links.{IsPartner};
 ghost use Rattle.jh_check.specs.Devices.{agrees_with_all};
 ghost use Rattle.jh_check.specs.Private.Bus.{HasBdfs};
 ghost use Rattle.jh_check.specs.Private.Seats.{HasSeats, AreByBdf};
+ghost use Rattle.jh_check.specs.Private.Sound.{AreSound, AreSoundEach};
 ghost use Rattle.jh_check.specs.Findings.{item_of, finding_of, beside, in_cell, in_regions, in_hypervisor, in_devices_of, in_devices, in_cpus};
 
 use crate::bus::{is_marked, mark, marks};
@@ -18,7 +19,7 @@ use crate::finding::{Finding, HYPERVISOR};
 use crate::links::is_noted;
 use crate::pairs::{Site, pair_breaks};
 use crate::reach::Window;
-use crate::regions::{hypervisor_breaks, region_breaks};
+use crate::regions::{are_sound, hypervisor_breaks, region_breaks};
 use crate::rule::Rule;
 use crate::seats::{Seat, seats_of};
 use crate::setup::Setup;
@@ -94,16 +95,21 @@ pub(crate) fn beside(
     Ok(())
 }
 
-/// Each region of a cell by a rule about one.
+/// Each region of a cell by a rule about one. `sound` says that none of them breaks one.
 fn in_cell(
     found: &mut Seq<Finding>,
     rule: Rule,
     hypervisor: &Region,
     a: u32,
     regions: &[Region],
+    sound: bool,
 ) -> Result<(), NoMemory>
+    requires { sound ≡ true → AreSound hypervisor.now a regions.now }
     ensures { OnOk result (capped found.new ≡ capped (found.old ++ in_cell rule hypervisor.now a regions.now)) }
 {
+    if sound {
+        return Ok(());
+    }
     for (r, region) in regions.iter().enumerate() {
         let breaks = region_breaks(rule, hypervisor, a, &regions[..r], region);
         put(found, breaks, finding(rule, a, r, 0, 0))?;
@@ -111,18 +117,35 @@ fn in_cell(
     Ok(())
 }
 
-/// Each region of all cells by such a rule.
+/// Of each cell whether no region of it breaks a rule about one region.
+pub(crate) fn sound_cells(alloc: Global, setup: &Setup) -> Result<Vec<bool>, NoMemory>
+    requires { length setup.now.cells.now ≤ 15 }
+    ensures known { IfOk result (λ sound. length sound.items ≡ length (cells_of setup.now)) }
+    ensures sound { IfOk result (λ sound. AreSoundEach setup.now.hypervisor.now (cells_of setup.now) sound.items) }
+{
+    let mut sound = Vec::new(alloc);
+    for a in 0..setup.count() {
+        let regions = setup.cell(a).memory_regions.as_slice();
+        sound.push(are_sound(setup.hypervisor, a, regions))?;
+    }
+    Ok(sound)
+}
+
+/// Each region of all cells by such a rule. Of the cells that are said to be sound none breaks one.
 pub(crate) fn in_regions(
     found: &mut Seq<Finding>,
     rule: Rule,
     setup: &Setup,
+    sound: &[bool],
 ) -> Result<(), NoMemory>
-    requires { length setup.now.cells.now ≤ 15 }
+    requires count { length setup.now.cells.now ≤ 15 }
+    requires known { length sound.now ≡ length (cells_of setup.now) }
+    requires sound { AreSoundEach setup.now.hypervisor.now (cells_of setup.now) sound.now }
     ensures { OnOk result (capped found.new ≡ capped (found.old ++ in_regions rule setup.now.hypervisor.now (cells_of setup.now))) }
 {
     for a in 0..setup.count() {
         let regions = setup.cell(a).memory_regions.as_slice();
-        in_cell(found, rule, setup.hypervisor, a, regions)?;
+        in_cell(found, rule, setup.hypervisor, a, regions, sound[a as usize])?;
     }
     Ok(())
 }

@@ -1,7 +1,7 @@
 //! An index of a cell's regions, by which pairs that can't break a rule are told at once.
 ghost use Rattle.std.specs.Prelude.{◌≡◌, ◌≢◌, ◌-◌, ◌<◌, ◌≤◌, true, length, slice_index_or, OnOk, IfOk, IfSome, Contains};
 ghost use Rattle.jh_check.specs.declared.spans.Span.{Span};
-ghost use Rattle.jh_check.specs.Spans.{takes_part, span_of, spans_meet, HasEach, HasOnly, AreApart, IsIndex};
+ghost use Rattle.jh_check.specs.Spans.{takes_part, span_of, spans_meet, HasEach, HasOnly, AreApart, LiesWithin, StandApart, IsIndex};
 
 use crate::rule::Rule;
 use jh_cellcfg::Region;
@@ -95,6 +95,36 @@ pub(crate) fn are_apart(spans: &[Span]) -> bool
     true
 }
 
+/// Where the region ends, if it takes part and begins at `end` or behind it. None, if it begins before.
+fn end_behind(rule: Rule, item: usize, region: &Region, end: u128) -> Option<u128>
+    ensures grows { IfSome result (λ more. end ≤ more) }
+    ensures behind { IfSome result (λ more. takes_part rule region.now ≡ true → LiesWithin (span_of rule item region.now) end more) }
+{
+    if !takes_part(rule, region) {
+        return Some(end);
+    }
+    let span = span_of(rule, item, region);
+    if u128::from(span.start) < end {
+        None
+    } else {
+        Some(span.end)
+    }
+}
+
+/// Whether each of the regions that take part begins behind those before it.
+pub(crate) fn stand_apart(rule: Rule, regions: &[Region]) -> bool
+    ensures { result ≡ true → StandApart rule regions.now }
+{
+    let mut end = 0;
+    for (item, region) in regions.iter().enumerate() {
+        match end_behind(rule, item, region, end) {
+            Some(more) => end = more,
+            None => return false,
+        }
+    }
+    true
+}
+
 /// The index by that rule, unless regions that take part meet each other.
 pub(crate) fn index(
     alloc: Global,
@@ -111,23 +141,18 @@ pub(crate) fn index(
     }
 }
 
-/// Whether all of the spans begin behind that one, or end before it.
-fn lie_beyond(spans: &[Span], other: Span) -> bool
+/// Whether that one lies behind the first `n` of the spans and before the others.
+fn lies_between(spans: &[Span], n: usize, other: Span) -> bool
     requires { AreApart spans.now }
     ensures { result ≡ true → (x : Span) → Contains spans.now x → spans_meet x other ≡ true → ⊥ }
 {
-    let n = spans.len();
-    if n == 0 {
-        return true;
-    }
-    if other.end <= u128::from(spans[0].start) {
-        return true;
-    }
-    spans[n - 1].end <= u128::from(other.start)
+    n <= spans.len()
+        && (n == 0 || spans[n - 1].end <= u128::from(other.start))
+        && (n == spans.len() || other.end <= u128::from(spans[n].start))
 }
 
-/// Those of the spans that meet that one, by two searches.
-fn stretch_met(spans: &[Span], other: Span) -> &[Span]
+/// Those of the spans that meet that one, by two searches. `near` becomes how many lie before it.
+fn stretch_met<'a>(spans: &'a [Span], other: Span, near: &mut usize) -> &'a [Span]
     requires { AreApart spans.now }
     ensures each { (x : Span) → Contains spans.now x → spans_meet x other ≡ true → Contains result.now x }
     ensures only { (x : Span) → Contains result.now x → Contains spans.now x }
@@ -135,18 +160,23 @@ fn stretch_met(spans: &[Span], other: Span) -> &[Span]
     let start = u128::from(other.start);
     let end = spans.partition_point(|span| u128::from(span.start) < other.end);
     let first = spans.partition_point(|span| span.end <= start);
+    *near = first;
     &spans[first.min(end)..end]
 }
 
-/// Those of the spans that meet that one. As they are apart, they stand side by side.
-pub(crate) fn met_by(spans: &[Span], other: Span) -> &[Span]
+/// Those of the spans that meet that one. As they are apart, they stand side by side. `near` is how many lay before
+/// the last one, and becomes how many lie before this one: mostly as many, or one more.
+pub(crate) fn met_by<'a>(spans: &'a [Span], other: Span, near: &mut usize) -> &'a [Span]
     requires { AreApart spans.now }
     ensures each { (x : Span) → Contains spans.now x → spans_meet x other ≡ true → Contains result.now x }
     ensures only { (x : Span) → Contains result.now x → Contains spans.now x }
 {
-    if lie_beyond(spans, other) {
-        &spans[0..0]
-    } else {
-        stretch_met(spans, other)
+    if lies_between(spans, *near, other) {
+        return &spans[0..0];
     }
+    *near = near.saturating_add(1);
+    if lies_between(spans, *near, other) {
+        return &spans[0..0];
+    }
+    stretch_met(spans, other, near)
 }

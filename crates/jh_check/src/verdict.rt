@@ -6,15 +6,16 @@ ghost use Rattle.jh_check.specs.Sites.{spot_of};
 ghost use Rattle.jh_check.specs.Lists.{is_any, found_from};
 ghost use Rattle.jh_check.specs.Spans.{is_within, IsIndex};
 ghost use Rattle.jh_check.specs.Findings.{beside, between, in_cell, in_devices_of, found_by, found_at, in_pairs, rules_in_order};
+ghost use Rattle.jh_check.specs.Private.Sound.{AreSound};
 ghost use Rattle.jh_check.specs.Verdicts.{is_invalid, is_busy, verdict_of};
 ghost use Rattle.jh_check.specs.declared.rule.Rule.TheVariants.{CellsOverlap};
 
 use crate::devices::{cpus_break, device_breaks};
 use crate::pairs::{Site, pair_breaks};
-use crate::regions::region_breaks;
+use crate::regions::{are_sound, region_breaks};
 use crate::rule::{RULES, Rule, rule_at};
 use crate::setup::Setup;
-use crate::spans::{Span, index, met_by, span_of, takes_part};
+use crate::spans::{Span, index, met_by, span_of, stand_apart, takes_part};
 use jh_cellcfg::{CellConfig, Region, SystemConfig};
 use jh_num::NoMemory;
 use std::alloc::Global;
@@ -74,19 +75,24 @@ fn any_within(alloc: Global, rule: Rule, number: u32, cell: &CellConfig) -> Resu
     requires { is_within rule ≡ true }
     ensures { IfOk result (λ breaks. breaks ≡ is_any (between rule number cell.now number cell.now)) }
 {
+    if stand_apart(rule, cell.memory_regions.as_slice()) {
+        return Ok(false);
+    }
     match index(alloc, rule, cell.memory_regions.as_slice())? {
         Some(_) => Ok(false),
         None => Ok(any_between(rule, number, cell, number, cell)),
     }
 }
 
-/// Whether a region overlaps with one of another cell, of whose places that is the index.
-fn any_met(one: &Site, spans: &[Span], b: u32, other: &CellConfig) -> bool
+/// Whether a region overlaps with one of another cell, of whose places that is the index. `near` is where the last
+/// region was looked for.
+fn any_met(one: &Site, spans: &[Span], near: &mut usize, b: u32, other: &CellConfig) -> bool
     requires { IsIndex CellsOverlap other.now.memory_regions spans.now }
     ensures { result ≡ is_any (beside CellsOverlap (spot_of one.now) b other.now) }
 {
     let regions = other.memory_regions.as_slice();
-    let met = met_by(spans, span_of(Rule::CellsOverlap, one.item, one.region));
+    let span = span_of(Rule::CellsOverlap, one.item, one.region);
+    let met = met_by(spans, span, near);
     for span in met {
         let second = Site {
             cell: b,
@@ -106,6 +112,7 @@ fn any_indexed(a: u32, one: &CellConfig, spans: &[Span], b: u32, other: &CellCon
     requires { IsIndex CellsOverlap other.now.memory_regions spans.now }
     ensures { result ≡ is_any (between CellsOverlap a one.now b other.now) }
 {
+    let mut near = 0;
     for (r, region) in one.memory_regions.as_slice().iter().enumerate() {
         let first = Site {
             cell: a,
@@ -113,7 +120,7 @@ fn any_indexed(a: u32, one: &CellConfig, spans: &[Span], b: u32, other: &CellCon
             item: r,
             region,
         };
-        if any_met(&first, spans, b, other) {
+        if any_met(&first, spans, &mut near, b, other) {
             return true;
         }
     }
@@ -137,10 +144,14 @@ fn any_overlap(
     }
 }
 
-/// Whether a region of the cell breaks a rule about one region.
-fn any_region(rule: Rule, hypervisor: &Region, a: u32, regions: &[Region]) -> bool
+/// Whether a region of the cell breaks a rule about one region. `sound` says that none does.
+fn any_region(rule: Rule, hypervisor: &Region, a: u32, regions: &[Region], sound: bool) -> bool
+    requires { sound ≡ true → AreSound hypervisor.now a regions.now }
     ensures { result ≡ is_any (in_cell rule hypervisor.now a regions.now) }
 {
+    if sound {
+        return false;
+    }
     for (r, region) in regions.iter().enumerate() {
         if region_breaks(rule, hypervisor, a, &regions[..r], region) {
             return true;
@@ -163,16 +174,19 @@ fn any_device(setup: &Setup, number: u32, cell: &CellConfig) -> bool
     false
 }
 
-/// Whether the new cell, whose number is the next, breaks the rule, overlaps with other cells aside.
+/// Whether the new cell, whose number is the next, breaks the rule, overlaps with other cells aside. `sound` says that
+/// none of its regions breaks a rule about one.
 fn breaks(
     alloc: Global,
     setup: &Setup,
     number: u32,
     new: &CellConfig,
+    sound: bool,
     rule: Rule,
 ) -> Result<bool, NoMemory>
     requires count { length setup.now.cells.now ≤ 14 }
     requires number { number ≡ length (cells_of setup.now) }
+    requires sound { sound ≡ true → AreSound setup.now.hypervisor.now number new.now.memory_regions }
     ensures { IfOk result (λ breaks. breaks ≡ list_any (is_invalid number) (found_by rule setup.now.hypervisor.now (cells_of setup.now ++ new.now ∷ []))) }
 {
     match rule {
@@ -187,6 +201,7 @@ fn breaks(
             setup.hypervisor,
             number,
             new.memory_regions.as_slice(),
+            sound,
         )),
     }
 }
@@ -197,8 +212,9 @@ fn is_invalid(alloc: Global, setup: &Setup, number: u32, new: &CellConfig) -> Re
     requires number { number ≡ length (cells_of setup.now) }
     ensures { IfOk result (λ invalid. invalid ≡ list_any (is_invalid number) (found_from (found_at setup.now.hypervisor.now (cells_of setup.now ++ new.now ∷ [])) 0 rules_in_order)) }
 {
+    let sound = are_sound(setup.hypervisor, number, new.memory_regions.as_slice());
     for i in 0..RULES.len() {
-        if breaks(alloc, setup, number, new, rule_at(i))? {
+        if breaks(alloc, setup, number, new, sound, rule_at(i))? {
             return Ok(true);
         }
     }

@@ -10,7 +10,7 @@ use Rattle.jh_image.specs.declared.fault.ImageCause.TheVariants.{ReadFault as Ca
 use Rattle.jh_image.specs.Causes.{StopsReading}
 use Rattle.jh_image.specs.Laws.{AreTold as AreAllTold}
 use Rattle.jh_image.proofs.OneLemmas.{OneSpelling}
-use Rattle.jh_image.proofs.UnrefusedLemmas.{SpellingsAreFaultless}
+use Rattle.jh_image.proofs.CauseLemmas.{SpellingsAreFaultless}
 use Rattle.jh_run.specs.Maps.{IsMapsText, Maps}
 use Rattle.jh_cli.specs.declared.status.Status.TheVariants.{Good, ReadFault}
 use Rattle.jh_cli.specs.Limits.{most_of_a_file, most_of_a_journal, journal_limit}

@@ -17,7 +17,8 @@ use std::marker::Model;
 /// The bytes of memory. Places end at `ADDRESS_END`, and each holds a byte, which is 0 until it is written.
 ///
 /// The pages of the hypervisor's range are held from opening on, a guest's page from its first write on,
-/// and held pages are never given back. Only a page that isn't held yet can want memory.
+/// and held pages are never given back. Only a page that isn't held yet can want memory: the pages of guests
+/// stand in one block, which doubles where a further page finds no room.
 #[derive(Drop)]
 pub struct Frames {
     own: Own,
@@ -250,8 +251,8 @@ impl Frames {
         missing
     }
 
-    /// Lays by a page for each that isn't held of so many from the number on.
-    fn lay_missing(&mut self, first: u64, count: u64) -> Result<(), NoMemory>
+    /// Takes room for each page that isn't held of so many from the number on.
+    fn reserve_missing(&mut self, first: u64, count: u64) -> Result<(), NoMemory>
         requires { 4096 * (first + count) ≤ ADDRESS_END }
         ensures own { self.new.own ≡ self.old.own }
         ensures pages { self.new.guest.pages ≡ self.old.guest.pages }
@@ -263,10 +264,10 @@ impl Frames {
         self.guest.reserve(missing)
     }
 
-    /// Lays by a page for each that isn't held of so many from the number on. It lays as many by as there are
+    /// Takes room for each page that isn't held of so many from the number on. It takes room for all of them
     /// without a look at them, so that they are looked up only when they are written; only where memory
     /// wants, it counts those that aren't held.
-    fn lay_enough(&mut self, first: u64, count: u64) -> Result<(), NoMemory>
+    fn reserve_enough(&mut self, first: u64, count: u64) -> Result<(), NoMemory>
         requires { 4096 * (first + count) ≤ ADDRESS_END }
         ensures own { self.new.own ≡ self.old.own }
         ensures pages { self.new.guest.pages ≡ self.old.guest.pages }
@@ -276,12 +277,12 @@ impl Frames {
     {
         match self.guest.reserve(count as usize) {
             Ok(()) => Ok(()),
-            Err(_) => self.lay_missing(first, count),
+            Err(_) => self.reserve_missing(first, count),
         }
     }
 
-    /// Makes room for a write of so many bytes from the place on: a page is laid by for each that isn't held.
-    fn make_room(&mut self, at: u64, count: usize) -> Result<(), NoMemory>
+    /// Makes room for a write of so many bytes from the place on, for each of its pages that isn't held.
+    fn reserve_for(&mut self, at: u64, count: usize) -> Result<(), NoMemory>
         requires { at + count ≤ ADDRESS_END }
         ensures bytes { (q : ℕ) → byte_at self.new q ≡ byte_at self.old q }
         ensures held { (q : ℕ) → holds self.new q ≡ holds self.old q }
@@ -293,10 +294,10 @@ impl Frames {
         ensures succeeds { missing self.old at count ≤ self.old.guest.spare → IsOk result }
     {
         let pages = pages_in(at, count);
-        self.lay_enough(at / PAGE_SIZE, pages)
+        self.reserve_enough(at / PAGE_SIZE, pages)
     }
 
-    /// Puts the bytes into their pages, page by page. Each that isn't held takes a spare one; so many are there.
+    /// Puts the bytes into their pages, page by page. For each that isn't held there is room to spare.
     fn write_pages(&mut self, at: u64, bytes: &[u8])
         requires place { at + length bytes.now ≤ ADDRESS_END }
         requires spare { missing self.old at (length bytes.now) ≤ self.old.guest.spare }
@@ -343,7 +344,7 @@ impl Frames {
         if at % PAGE_SIZE + bytes.len() as u64 <= PAGE_SIZE {
             return self.write_page(at, bytes);
         }
-        self.make_room(at, bytes.len())?;
+        self.reserve_for(at, bytes.len())?;
         self.write_pages(at, bytes);
         Ok(())
     }

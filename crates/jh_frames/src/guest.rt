@@ -1,10 +1,9 @@
 //! The pages of guests.
-ghost use Rattle.std.specs.Prelude.{◌≡◌, ◌≢◌, ℕ, ◌+◌, ◌-◌, ◌%◌, ◌/◌, ◌^◌, ◌≤◌, ◌<◌, true, false, None, Some, if◌then◌else◌, map, min, length, slice_index, is_some, option_copied, IsSome, IfSome, IfOk, OnOk, OnErr, IsOk};
+ghost use Rattle.std.specs.Prelude.{◌≡◌, ◌≢◌, ℕ, ◌+◌, ◌%◌, ◌/◌, ◌≤◌, ◌<◌, true, false, None, if◌then◌else◌, map, length, is_some, option_copied, OnOk, OnErr, IsOk};
 ghost use Rattle.std.specs.List.{range_with_len};
 ghost use Rattle.jh_num.specs.Memory.{spelled, stored};
 ghost use Rattle.indexmap.specs.IndexMap.{spare};
 ghost use Rattle.jh_frames.specs.Memory.{byte_in, guest_byte, page_at};
-ghost use Rattle.jh_frames.specs.Kept.{AreZero};
 
 use crate::page::Page;
 use indexmap::IndexMap;
@@ -13,65 +12,19 @@ use jh_num::{NoMemory, PAGE_SIZE};
 use std::alloc::Global;
 use std::marker::Model;
 
-/// Pages by number, and pages of zeros that are laid by to be held later.
+/// Pages by number, in the map's one block, which has room for further ones.
 #[derive(Drop)]
 pub struct Guest {
     pages: IndexMap<u64, Page>,
-    laid: Vec<Page>,
-    alloc: Global,
 }
 
 impl Model for Guest {
-    ghost use Rattle.std.specs.Prelude.{min, length};
     ghost use Rattle.indexmap.specs.IndexMap.{spare};
     ghost use Rattle.jh_frames.specs.Memory.{GuestView};
-    ghost use Rattle.jh_frames.specs.Kept.{AreZero};
 
     ghost Value = { GuestView };
 
-    ghost view = { λ g. record { pages = g.pages.entries; spare = min (length g.laid.items) (spare g.pages) } };
-
-    ghost invariant = { λ g. AreZero g.laid.items };
-}
-
-/// Lays pages by until there are so many.
-fn lay_by(alloc: Global, laid: &mut Vec<Page>, count: usize) -> Result<(), NoMemory>
-    requires { AreZero laid.old.items }
-    ensures zero { AreZero laid.new.items }
-    ensures ok { OnOk result (count ≤ length laid.new.items) }
-    ensures grows { length laid.old.items ≤ length laid.new.items }
-    ensures succeeds { count ≤ length laid.old.items → IsOk result }
-{
-    for _ in laid.len()..count {
-        let page = Page::zero(alloc)?;
-        laid.push(page)?;
-    }
-    Ok(())
-}
-
-/// Takes a page that was laid by.
-fn take_page(laid: &mut Vec<Page>) -> Option<Page>
-    requires { AreZero laid.old.items }
-    ensures some { 0 < length laid.old.items → IsSome result }
-    ensures zero { IfSome result (λ page. (k : ℕ) → slice_index page k ≡ 0) }
-    ensures others { AreZero laid.new.items }
-    ensures count { length laid.old.items ≤ length laid.new.items + 1 }
-{
-    laid.pop()
-}
-
-/// A page of zeros, one that was laid by where there is any.
-fn zero_page(laid: &mut Vec<Page>, alloc: Global) -> Result<Page, NoMemory>
-    requires { AreZero laid.old.items }
-    ensures zero { IfOk result (λ page. (k : ℕ) → slice_index page k ≡ 0) }
-    ensures others { AreZero laid.new.items }
-    ensures count { length laid.old.items ≤ length laid.new.items + 1 }
-    ensures succeeds { 0 < length laid.old.items → IsOk result }
-{
-    match take_page(laid) {
-        Some(page) => Ok(page),
-        None => Page::zero(alloc),
-    }
+    ghost view = { λ g. record { pages = g.pages.entries; spare = spare g.pages } };
 }
 
 /// Puts the bytes into the page of the number from the offset on. A page that isn't held comes to be held, of
@@ -79,30 +32,22 @@ fn zero_page(laid: &mut Vec<Page>, alloc: Global) -> Result<Page, NoMemory>
 #[tactic(auto, using(crate::proofs::RoomLemmas::occupied_spare))]
 fn put_page(
     pages: &mut IndexMap<u64, Page>,
-    laid: &mut Vec<Page>,
-    alloc: Global,
     number: u64,
     offset: usize,
     bytes: &[u8],
 ) -> Result<(), NoMemory>
-    requires zero { AreZero laid.old.items }
-    requires within { offset + length bytes.now ≤ 4096 }
+    requires { offset + length bytes.now ≤ 4096 }
     ensures page { OnOk result ((k : ℕ) → byte_in (page_at pages.new.entries number) k ≡ stored (byte_in (page_at pages.old.entries number)) offset bytes.now k) }
     ensures held { OnOk result (is_some (page_at pages.new.entries number) ≡ true) }
     ensures others { (other : ℕ) → other ≢ number → page_at pages.new.entries other ≡ page_at pages.old.entries other }
     ensures unchanged { OnErr result (pages.new.entries ≡ pages.old.entries) }
-    ensures laid { AreZero laid.new.items }
-    ensures succeeds { (is_some (page_at pages.old.entries number) ≡ false → 0 < min (length laid.old.items) (spare pages.old)) → IsOk result }
-    ensures spare { min (length laid.old.items) (spare pages.old) ≤ min (length laid.new.items) (spare pages.new) + (if is_some (page_at pages.old.entries number) then 0 else 1) }
-    ensures spare_at_err { OnErr result (min (length laid.old.items) (spare pages.old) ≤ min (length laid.new.items) (spare pages.new)) }
+    ensures succeeds { (is_some (page_at pages.old.entries number) ≡ false → 0 < spare pages.old) → IsOk result }
+    ensures spare { spare pages.old ≤ spare pages.new + (if is_some (page_at pages.old.entries number) then 0 else 1) }
+    ensures spare_at_err { OnErr result (spare pages.old ≤ spare pages.new) }
 {
     match pages.entry(number)? {
         Entry::Occupied(entry) => entry.into_mut().write(offset, bytes),
-        Entry::Vacant(entry) => {
-            let mut page = zero_page(laid, alloc)?;
-            page.write(offset, bytes);
-            entry.insert(page);
-        }
+        Entry::Vacant(entry) => entry.insert(Page::zero()).write(offset, bytes),
     }
     Ok(())
 }
@@ -113,8 +58,6 @@ impl Guest {
     {
         Guest {
             pages: IndexMap::new(alloc),
-            laid: Vec::new(alloc),
-            alloc,
         }
     }
 
@@ -166,8 +109,6 @@ impl Guest {
     {
         put_page(
             &mut self.pages,
-            &mut self.laid,
-            self.alloc,
             at / PAGE_SIZE,
             (at % PAGE_SIZE) as usize,
             bytes,
@@ -184,10 +125,10 @@ impl Guest {
         ensures spare { self.old.spare ≤ self.new.spare + (if is_some (page_at self.old.pages number) then 0 else 1) }
         ensures spare_at_err { OnErr result (self.old.spare ≤ self.new.spare) }
     {
-        put_page(&mut self.pages, &mut self.laid, self.alloc, number, 0, &[])
+        put_page(&mut self.pages, number, 0, &[])
     }
 
-    /// Lays so many pages by.
+    /// Takes room for so many further pages.
     pub fn reserve(&mut self, pages: usize) -> Result<(), NoMemory>
         ensures pages { self.new.pages ≡ self.old.pages }
         ensures ok { OnOk result (pages ≤ self.new.spare) }
@@ -195,6 +136,6 @@ impl Guest {
         ensures succeeds { pages ≤ self.old.spare → IsOk result }
     {
         self.pages.reserve(pages)?;
-        lay_by(self.alloc, &mut self.laid, pages)
+        Ok(())
     }
 }

@@ -1,16 +1,14 @@
 //! A page of 4,096 bytes.
-ghost use Rattle.std.specs.Prelude.{◌≡◌, ℕ, ◌+◌, ◌≤◌, ◌<◌, length, slice_index, slice_range, IfOk};
+ghost use Rattle.std.specs.Prelude.{◌≡◌, ℕ, ◌+◌, ◌≤◌, ◌<◌, length, slice_index, slice_range};
 ghost use Rattle.jh_num.specs.Memory.{spelled, stored};
 
 use crate::bytes::{number_of, put};
-use jh_num::NoMemory;
-use std::alloc::Global;
 use std::marker::Model;
 
-/// The bytes of one page.
+/// The bytes of one page, in place: a row of pages is one block of memory.
 #[derive(Drop)]
 pub struct Page {
-    bytes: Vec<u8>,
+    bytes: [u8; 4096],
 }
 
 impl Model for Page {
@@ -18,17 +16,16 @@ impl Model for Page {
 
     ghost Value = { List ℕ };
 
-    ghost view = { λ p. p.bytes.items };
+    ghost view = { λ p. p.bytes };
 
-    ghost invariant = { λ p. length p.bytes.items ≡ 4096 };
+    ghost invariant = { λ p. length p.bytes ≡ 4096 };
 }
 
 impl Page {
-    pub fn zero(alloc: Global) -> Result<Self, NoMemory>
-        ensures { IfOk result (λ p. (k : ℕ) → slice_index p k ≡ 0) }
+    pub fn zero() -> Self
+        ensures { (k : ℕ) → slice_index result k ≡ 0 }
     {
-        let bytes = vec![in alloc; 0; 4096]?;
-        Ok(Page { bytes })
+        Page { bytes: [0; 4096] }
     }
 
     pub fn get(&self, offset: usize) -> u8

@@ -1,11 +1,11 @@
 -- In a legal journal of an admitted image each act has a width that an access may have.
 use Rattle.std.proofs.Common.{◌≡◌, ℕ, zero, suc, List, [], ◌∷◌, Bool, true, false, cond, Option, Some, None, subst, eqb, sym, ◌∙◌, refl}
-use Rattle.std.specs.Prelude.{ℤ, ◌&&◌, option_map, option_and_then, slice_get, All, IfSome}
+use Rattle.std.specs.Prelude.{ℤ, ◌&&◌, option_map, option_and_then, slice_get, IfSome}
 use Rattle.std.specs.List.{AllByRecursion}
 use Rattle.std.specs.Option.{option_map_or}
 use Rattle.jh_cellcfg.specs.declared.config.CellConfig.{CellConfig}
 use Rattle.jh_cellcfg.specs.declared.live.Live.{Live}
-use Rattle.std.proofs.lemmas.List.Elements.{recursion_from_All, All-from_recursion}
+use Rattle.std.proofs.lemmas.List.Elements.{recursion_from_All}
 use Rattle.std.proofs.lemmas.Option.{none-some, same_Some}
 use Rattle.jh_script.specs.declared.image.Image.{Image}
 use Rattle.jh_script.specs.declared.op.Op.{Op}
@@ -30,9 +30,8 @@ use Rattle.jh_ivshmem.specs.Links.{pending_of}
 use Rattle.jh_cellcfg.specs.Cells.{name_of}
 use Rattle.jh_history.specs.Lives.{is_on_board, program_of, cell_in, ops_in, op_at}
 use Rattle.jh_history.specs.Facts.{Facts}
-use Rattle.jh_history.specs.History.{start, after}
 use Rattle.jh_history.specs.Wants.{pending_op, goes_on}
-use Rattle.jh_history.specs.Due.{due_at, call_of, is_idle_but, caller_act, state_act, next_act, act_of, await_of, got_by, entry_by, IsLegal, IsLegalFrom}
+use Rattle.jh_history.specs.Due.{due_at, call_of, is_idle_but, caller_act, state_act, next_act, act_of, await_of, got_by, entry_by}
 use Rattle.jh_script.specs.Operations.{IsWellFormed}
 use Rattle.jh_history.specs.Admitted.{IsAdmitted, IsWellFormedAct, IsWellFormedEntry}
 use Rattle.jh_history.proofs.AdmittedLemmas.{program_of_plain, width_le}
@@ -129,11 +128,3 @@ at_board image f cpu entry false admitted e h = absurd (none-some entry (sym (du
 
 pub due_at_plain : (image : Image) (f : Facts) (cpu : ℕ) (entry : Entry) → IsAdmitted image → due_at image f cpu ≡ Some entry → IsWellFormedEntry entry
 due_at_plain image f cpu entry admitted h = at_board image f cpu entry (is_on_board image cpu) admitted refl h
-
-plain_from : (image : Image) (f : Facts) (entries : List Entry) → IsAdmitted image → IsLegalFrom image f entries → AllByRecursion IsWellFormedEntry entries
-plain_from image f [] admitted legal = tt
-plain_from image f (entry ∷ entries) admitted legal = (due_at_plain image f entry.cpu entry admitted legal.0, plain_from image (after image f entry) entries admitted legal.1)
-
-pub legal_is_plain : (image : Image) (entries : List Entry) → IsAdmitted image → IsLegal image entries → All IsWellFormedEntry entries
-unfolding IsLegal
-legal_is_plain image entries admitted legal = All-from_recursion IsWellFormedEntry entries (plain_from image (start image) entries admitted legal)

@@ -3,5 +3,5 @@ pub mod StopLemmas
 pub mod LoadLemmas
 pub mod OrderLemmas
 pub mod OneLemmas
-pub mod UnrefusedLemmas
+pub mod ReadLemmas
 pub mod CauseLemmas

@@ -10,7 +10,6 @@ use Rattle.std.proofs.lemmas.List.Elements.{All-push}
 use Rattle.std.proofs.lemmas.List.Quantifiers.{all_pairs_push}
 use Rattle.std.proofs.lemmas.List.Folds.{list_any_at}
 use Rattle.std.proofs.lemmas.Option.{slice_get_read}
-use Rattle.jh_cellcfg.specs.declared.region.Region.{Region}
 use Rattle.jh_cellcfg.specs.declared.config.SystemConfig.{SystemConfig}
 use Rattle.jh_script.specs.declared.image.Preload.{Preload}
 use Rattle.jh_script.specs.declared.image.Program.{Program}
@@ -22,8 +21,8 @@ use Rattle.jh_image.specs.declared.board.PreloadFile.{PreloadFile}
 use Rattle.jh_image.specs.declared.board.ProgramFile.{ProgramFile}
 use Rattle.jh_image.specs.Boards.{Seat, seat_of, is_seat, are_distinct}
 use Rattle.jh_image.specs.Opening.{IsFit}
-use Rattle.jh_image.specs.Files.{Contents, IsPreloadOf, IsProgramOf, Preloads, no_preloads, one_more_preload, Programs, no_programs, one_more_program}
-use Rattle.jh_image.specs.Images.{HasPreloads, IsNextProgram}
+use Rattle.jh_image.specs.Files.{Contents, IsPreloadOf, IsProgramOf}
+use Rattle.jh_image.specs.Images.{with_system, so_far_of, with_preload, with_program, IsNextPreload, IsComplete, IsNextProgram, reads_preload, reads_program, ReadsTo, one_more_read}
 
 -- the front of a list with one item more
 front_more : {X : Type 0} (xs : List X) (i : ℕ) (x : X) → i < length xs → x ≡ get_or xs i x → take i xs ++ x ∷ [] ≡ take (i + 1) xs
@@ -31,16 +30,18 @@ front_more xs i x lt is = ap (λ y. take i xs ++ y ∷ []) is ∙ sym (take_more
 
 -- ---- preloads
 
-pub record LoadedSoFar (contents : Contents) (hypervisor : Region) (files : List PreloadFile) (count : ℕ) (preloads : List Preload) : Type 0 where
+pub record LoadedSoFar (contents : Contents) (board : List ℕ) (listing : Listing) (system : SystemConfig) (count : ℕ) (preloads : List Preload) : Type 0 where
   pub count_is : length preloads ≡ count
-  pub read : Preloads contents hypervisor (take count files) preloads
-  pub sound : All (IsSoundPreload hypervisor) preloads
+  pub within : count ≤ length listing.preloads
+  pub read : ReadsTo contents board (with_system (so_far_of listing system preloads []))
+  pub sound : All (IsSoundPreload system.hypervisor_memory) preloads
   pub apart : AllPairs IsOtherPreload preloads
 
-pub loaded_start : (contents : Contents) (hypervisor : Region) (files : List PreloadFile) → LoadedSoFar contents hypervisor files 0 []
-loaded_start contents hypervisor files = record {
+pub loaded_start : (contents : Contents) (board : List ℕ) (listing : Listing) (system : SystemConfig) → ReadsTo contents board (with_system (so_far_of listing system [] [])) → LoadedSoFar contents board listing system 0 []
+loaded_start contents board listing system read = record {
   count_is = refl;
-  read = no_preloads;
+  within = omega arith;
+  read = read;
   sound = λ k d lt. absurd (omega arith);
   apart = λ i j d lt within. absurd (omega arith);
 }
@@ -49,30 +50,50 @@ length_more : {X : Type 0} (xs : List X) (x : X) (n : ℕ) → length xs ≡ n �
 length_more [] x n e = omega arith
 length_more (y ∷ ys) x n e = let rest = length_more ys x (length ys) refl in omega arith
 
-pub loaded_more : (contents : Contents) (hypervisor : Region) (files : List PreloadFile) (i : ℕ) (file : PreloadFile) (preloads : List Preload) (preload : Preload) → i < length files → file ≡ get_or files i file
-    → IsPreloadOf contents file preload → IsFit hypervisor preloads preload → LoadedSoFar contents hypervisor files i preloads → LoadedSoFar contents hypervisor files (i + 1) (preloads ++ preload ∷ [])
-loaded_more contents hypervisor files i file preloads preload lt is of fit so_far = record {
-  count_is = length_more preloads preload i so_far.count_is;
-  read = subst (λ fs. Preloads contents hypervisor fs (preloads ++ preload ∷ [])) (front_more files i file lt is) (one_more_preload (take i files) preloads file preload so_far.read of fit);
-  sound = All-push (IsSoundPreload hypervisor) preloads preload so_far.sound fit.sound;
-  apart = all_pairs_push IsOtherPreload preloads preload so_far.apart (λ k d within. fit.apart k d within);
-}
+-- the file behind those that are read
+file_next : {X : Type 0} (files : List X) (i n : ℕ) (file : X) → n ≡ i → i < length files → file ≡ get_or files i file → slice_get files n ≡ Some file
+file_next files i n file count lt is = subst (λ k. slice_get files k ≡ Some file) (sym count) (slice_get_read files (length files) i file refl lt is)
+
+pub loaded_next : (contents : Contents) (board : List ℕ) (listing : Listing) (system : SystemConfig) (i : ℕ) (file : PreloadFile) (preloads : List Preload) → i < length listing.preloads → file ≡ get_or listing.preloads i file
+    → LoadedSoFar contents board listing system i preloads → IsNextPreload (so_far_of listing system preloads []) file
+loaded_next contents board listing system i file preloads lt is so_far = file_next listing.preloads i (length preloads) file so_far.count_is lt is
+
+pub loaded_more : (contents : Contents) (board : List ℕ) (listing : Listing) (system : SystemConfig) (i : ℕ) (file : PreloadFile) (preloads : List Preload) (preload : Preload) → i < length listing.preloads → file ≡ get_or listing.preloads i file
+    → IsPreloadOf contents file preload → IsFit system.hypervisor_memory preloads preload → LoadedSoFar contents board listing system i preloads → LoadedSoFar contents board listing system (i + 1) (preloads ++ preload ∷ [])
+loaded_more contents board listing system i file preloads preload lt is of fit so_far =
+    let before = so_far_of listing system preloads [] in
+    record {
+      count_is = length_more preloads preload i so_far.count_is;
+      within = omega arith;
+      read = one_more_read (with_system before) (with_system (with_preload before preload)) so_far.read (reads_preload before file preload (loaded_next contents board listing system i file preloads lt is so_far) of fit);
+      sound = All-push (IsSoundPreload system.hypervisor_memory) preloads preload so_far.sound fit.sound;
+      apart = all_pairs_push IsOtherPreload preloads preload so_far.apart (λ k d within. fit.apart k d within);
+    }
+
+pub loaded_all : (contents : Contents) (board : List ℕ) (listing : Listing) (system : SystemConfig) (i : ℕ) (preloads : List Preload) → length listing.preloads ≤ i → LoadedSoFar contents board listing system i preloads → length preloads ≡ length listing.preloads
+loaded_all contents board listing system i preloads le so_far =
+    let count : length preloads ≡ i = so_far.count_is in
+    let within : i ≤ length listing.preloads = so_far.within in
+    omega arith
 
 -- ---- programs
 
 abbrev pub program_seat : Program → Seat
 program_seat program = record { cell = program.cell; cpu = program.cpu }
 
-pub record ScriptsSoFar (contents : Contents) (files : List ProgramFile) (count : ℕ) (programs : List Program) : Type 0 where
+pub record ScriptsSoFar (contents : Contents) (board : List ℕ) (listing : Listing) (system : SystemConfig) (preloads : List Preload) (count : ℕ) (programs : List Program) : Type 0 where
   pub count_is : length programs ≡ count
-  pub read : Programs contents (take count files) programs
+  pub within : count ≤ length listing.programs
+  pub read : ReadsTo contents board (with_system (so_far_of listing system preloads programs))
   pub sound : All IsSoundProgram programs
-  pub seats : map program_seat programs ≡ map seat_of (take count files)
+  pub seats : map program_seat programs ≡ map seat_of (take count listing.programs)
 
-pub scripts_start : (contents : Contents) (files : List ProgramFile) → ScriptsSoFar contents files 0 []
-scripts_start contents files = record {
+pub scripts_start : (contents : Contents) (board : List ℕ) (listing : Listing) (system : SystemConfig) (preloads : List Preload) → ReadsTo contents board (with_system (so_far_of listing system preloads []))
+    → ScriptsSoFar contents board listing system preloads 0 []
+scripts_start contents board listing system preloads read = record {
   count_is = refl;
-  read = no_programs;
+  within = omega arith;
+  read = read;
   sound = λ k d lt. absurd (omega arith);
   seats = refl;
 }
@@ -80,23 +101,35 @@ scripts_start contents files = record {
 same_seat : (contents : Contents) (file : ProgramFile) (program : Program) → IsProgramOf contents file program → program_seat program ≡ seat_of file
 same_seat contents file program of = λ i. record { cell = of.cell i; cpu = of.cpu i }
 
-pub scripts_more : (contents : Contents) (files : List ProgramFile) (i : ℕ) (file : ProgramFile) (programs : List Program) (program : Program) → i < length files → file ≡ get_or files i file
-    → IsProgramOf contents file program → IsSoundProgram program → ScriptsSoFar contents files i programs → ScriptsSoFar contents files (i + 1) (programs ++ program ∷ [])
-scripts_more contents files i file programs program lt is of sound so_far = record {
-  count_is = length_more programs program i so_far.count_is;
-  read = subst (λ fs. Programs contents fs (programs ++ program ∷ [])) (front_more files i file lt is) (one_more_program (take i files) programs file program so_far.read of);
-  sound = All-push IsSoundProgram programs program so_far.sound sound;
-  seats = map_push program_seat programs program ∙ ap (λ ss. ss ++ program_seat program ∷ []) so_far.seats ∙ ap (λ s. map seat_of (take i files) ++ s ∷ []) (same_seat contents file program of)
-      ∙ sym (map_push seat_of (take i files) file) ∙ ap (map seat_of) (front_more files i file lt is);
+pub scripts_next : (contents : Contents) (board : List ℕ) (listing : Listing) (system : SystemConfig) (preloads : List Preload) (i : ℕ) (file : ProgramFile) (programs : List Program) → length preloads ≡ length listing.preloads
+    → i < length listing.programs → file ≡ get_or listing.programs i file → ScriptsSoFar contents board listing system preloads i programs → IsNextProgram (so_far_of listing system preloads programs) file
+scripts_next contents board listing system preloads i file programs all lt is so_far = record {
+  preloads = all;
+  next = file_next listing.programs i (length programs) file so_far.count_is lt is;
 }
 
-pub scripts_next : (contents : Contents) (board : List ℕ) (listing : Listing) (system : SystemConfig) (preloads : List Preload) (i : ℕ) (file : ProgramFile) (programs : List Program) → HasPreloads contents board listing system preloads → i < length listing.programs → file ≡ get_or listing.programs i file
-    → ScriptsSoFar contents listing.programs i programs → IsNextProgram contents board listing system preloads programs file
-scripts_next contents board listing system preloads i file programs loaded lt is so_far = record {
-  loaded = loaded;
-  before = subst (λ n. Programs contents (take n listing.programs) programs) (sym so_far.count_is) so_far.read;
-  next = subst (λ n. slice_get listing.programs n ≡ Some file) (sym so_far.count_is) (slice_get_read listing.programs (length listing.programs) i file refl lt is);
-}
+pub scripts_more : (contents : Contents) (board : List ℕ) (listing : Listing) (system : SystemConfig) (preloads : List Preload) (i : ℕ) (file : ProgramFile) (programs : List Program) (program : Program) → length preloads ≡ length listing.preloads
+    → i < length listing.programs → file ≡ get_or listing.programs i file → IsProgramOf contents file program → IsSoundProgram program
+    → ScriptsSoFar contents board listing system preloads i programs → ScriptsSoFar contents board listing system preloads (i + 1) (programs ++ program ∷ [])
+scripts_more contents board listing system preloads i file programs program all lt is of sound so_far =
+    let files = listing.programs in
+    let before = so_far_of listing system preloads programs in
+    record {
+      count_is = length_more programs program i so_far.count_is;
+      within = omega arith;
+      read = one_more_read (with_system before) (with_system (with_program before program)) so_far.read (reads_program before file program (scripts_next contents board listing system preloads i file programs all lt is so_far) of);
+      sound = All-push IsSoundProgram programs program so_far.sound sound;
+      seats = map_push program_seat programs program ∙ ap (λ ss. ss ++ program_seat program ∷ []) so_far.seats ∙ ap (λ s. map seat_of (take i files) ++ s ∷ []) (same_seat contents file program of)
+          ∙ sym (map_push seat_of (take i files) file) ∙ ap (map seat_of) (front_more files i file lt is);
+    }
+
+pub scripts_all : (contents : Contents) (board : List ℕ) (listing : Listing) (system : SystemConfig) (preloads : List Preload) (i : ℕ) (programs : List Program) → length preloads ≡ length listing.preloads → length listing.programs ≤ i
+    → ScriptsSoFar contents board listing system preloads i programs → IsComplete (so_far_of listing system preloads programs)
+scripts_all contents board listing system preloads i programs all le so_far =
+    let count : length programs ≡ i = so_far.count_is in
+    let within : i ≤ length listing.programs = so_far.within in
+    let programs_all : length programs ≡ length listing.programs = omega arith in
+    record { preloads = all; programs = programs_all }
 
 -- ---- programs of different CPUs
 
@@ -145,7 +178,8 @@ seats_owned programs h i j d lt within taken =
     let inside : j < length (map program_seat programs) = subst (λ n. j < n) (sym (length_seats programs)) within in
     seat_once (map program_seat programs) h i j (program_seat d) lt inside both
 
-pub scripts_owned : (contents : Contents) (files : List ProgramFile) (i : ℕ) (programs : List Program) → length files ≤ i → are_distinct (map seat_of files) ≡ true → ScriptsSoFar contents files i programs → AllPairs IsOtherProgram programs
-scripts_owned contents files i programs le h so_far =
-    let same : map program_seat programs ≡ map seat_of files = so_far.seats ∙ ap (map seat_of) (take_all i files le) in
+pub scripts_owned : (contents : Contents) (board : List ℕ) (listing : Listing) (system : SystemConfig) (preloads : List Preload) (i : ℕ) (programs : List Program) → length listing.programs ≤ i → are_distinct (map seat_of listing.programs) ≡ true
+    → ScriptsSoFar contents board listing system preloads i programs → AllPairs IsOtherProgram programs
+scripts_owned contents board listing system preloads i programs le h so_far =
+    let same : map program_seat programs ≡ map seat_of listing.programs = so_far.seats ∙ ap (map seat_of) (take_all i listing.programs le) in
     seats_owned programs (ap are_distinct same ∙ h)

@@ -1,20 +1,27 @@
 -- What stops the reading of a board.
-use Rattle.std.proofs.Common.{◌≡◌, ℕ, ◌≤◌, List, [], subst, sym, Ok, Err}
+use Rattle.std.proofs.Common.{◌≡◌, ℕ, ◌<◌, ◌≤◌, List, [], length, Some, subst, sym, Ok, Err}
 use Rattle.std.specs.Prelude.{OnOk, IfErr, IsErrAnd, Result}
+use Rattle.jh_syscfg.specs.SystemFaults.{system_fault}
+use Rattle.jh_check.specs.Lists.{capped}
 use Rattle.jh_check.specs.Findings.{findings}
 use Rattle.jh_history.specs.Admitted.{IsAdmittedSystem, root_pages, pool_pages}
 use Rattle.jh_cellcfg.specs.declared.config.SystemConfig.{SystemConfig}
+use Rattle.jh_cellcfg.specs.declared.fault.ConfigFault.{ConfigFault}
 use Rattle.jh_script.specs.declared.image.Preload.{Preload}
-use Rattle.jh_script.specs.declared.image.Program.{Program}
 use Rattle.jh_image.specs.declared.board.Listing.{Listing}
+use Rattle.jh_image.specs.declared.board.PreloadFile.{PreloadFile}
 use Rattle.jh_image.specs.declared.board.ProgramFile.{ProgramFile}
+use Rattle.jh_image.specs.declared.board.BoardFault.{BoardFault}
+use Rattle.jh_image.specs.declared.board.BoardFault.TheVariants as boards
 use Rattle.jh_image.specs.declared.fault.ImageCause.{ImageCause}
-use Rattle.jh_image.specs.declared.fault.ImageCause.TheVariants.{ReadFault, Oversize, PoolSmall, Program as BadProgram}
+use Rattle.jh_image.specs.declared.fault.ImageCause.TheVariants.{ReadFault, Oversize, Json, Member, System, Findings, PoolSmall, Preload as BadPreload, Program as BadProgram}
 use Rattle.jh_image.specs.declared.fault.ImageFault.{ImageFault}
 use Rattle.jh_image.specs.declared.fault.ImageFault.TheVariants.{Refused, NoMemory}
-use Rattle.jh_image.specs.Files.{Contents, HasBytes}
-use Rattle.jh_image.specs.Images.{IsNextProgram, IsNextFile, a_program}
-use Rattle.jh_image.specs.Causes.{StopsReading, OnRefused, HandsOutNothing, IsRefusal, IsUnsound, IsPoolSmall, IsProgramUnread}
+use Rattle.jh_image.specs.Boards.{IsListingAnswer}
+use Rattle.jh_image.specs.Opening.{IsFit}
+use Rattle.jh_image.specs.Files.{Contents, HasBytes, Lists, SpellsSystem, IsPreloadOf}
+use Rattle.jh_image.specs.Images.{SoFar, Stage, nothing, with_listing, with_system, so_far_of, IsNextPreload, IsNextProgram, IsNextFile, a_program, reads_board, reads_system, ReadsTo, nothing_read, one_more_read}
+use Rattle.jh_image.specs.Causes.{StopsReading, cannot_be_read, is_too_large, is_no_object, has_bad_member, is_no_system, has_findings, has_small_pool, is_bad_preload, is_bad_program, OnRefused, HandsOutNothing, IsRefusal, IsBoardRefusal, IsUnsound, IsPoolSmall, IsProgramUnread}
 
 -- an error that is passed up
 pub passed_up : {X E : Type 0} (r : Result X E) (e : E) (P : E → Type 0) → IsErrAnd r (λ y. y ≡ e) → P e → IfErr r P
@@ -30,30 +37,76 @@ pub on_refused : (P Q : List ℕ → ImageCause → Type 0) (fault : ImageFault)
 on_refused P Q (Refused file cause) f h = f file cause h
 on_refused P Q NoMemory f h = tt
 
--- a file whose turn comes, and that can't be read or is too large
-pub unread_stops : (contents : Contents) (board name : List ℕ) → IsNextFile contents board name → (file : List ℕ) (cause : ImageCause) → HandsOutNothing contents name file cause → StopsReading contents board file cause
-unread_stops contents board name comes file ReadFault h = subst (λ f. IsNextFile contents board f) (sym h) comes
-unread_stops contents board name comes file Oversize h = subst (λ f. StopsReading contents board f Oversize) (sym h.0) (comes, h.1)
-unread_stops contents board name comes file _ h = absurd h
+-- what stops the reading, told by the file and the cause that are refused
+refused_stops : (contents : Contents) (board name : List ℕ) (wanted : ImageCause) → StopsReading contents board name wanted → (file : List ℕ) (cause : ImageCause) → IsRefusal name wanted file cause → StopsReading contents board file cause
+refused_stops contents board name wanted stops file cause h =
+    subst (λ f. StopsReading contents board f cause) (sym h.0) (subst (λ k. StopsReading contents board name k) (sym h.1) stops)
 
--- a program whose turn comes, and that can't be read or is none
-pub program_stops : (contents : Contents) (board : List ℕ) (listing : Listing) (system : SystemConfig) (preloads : List Preload) (programs : List Program) (entry : ProgramFile) → IsNextProgram contents board listing system preloads programs entry
+-- the next file can't be read, or is too large
+pub unread_stops : (contents : Contents) (board name : List ℕ) (stage : Stage) → ReadsTo contents board stage → IsNextFile board stage name
+    → (file : List ℕ) (cause : ImageCause) → HandsOutNothing contents name file cause → StopsReading contents board file cause
+unread_stops contents board name stage read next file ReadFault h =
+    subst (λ f. StopsReading contents board f ReadFault) (sym h) (record { stage = stage; read = read; stops = cannot_be_read stage name next })
+unread_stops contents board name stage read next file Oversize h =
+    subst (λ f. StopsReading contents board f Oversize) (sym h.0) (record { stage = stage; read = read; stops = is_too_large stage name next h.1 })
+unread_stops contents board name stage read next file _ h = absurd h
+
+-- the board has a fault
+pub board_stops : (contents : Contents) (board bytes : List ℕ) (fault : BoardFault) → HasBytes contents board bytes → IsListingAnswer bytes (Err fault)
+    → (file : List ℕ) (cause : ImageCause) → IsBoardRefusal board fault file cause → StopsReading contents board file cause
+board_stops contents board bytes boards.Json has bad file cause h =
+    refused_stops contents board board Json (record { stage = nothing; read = nothing_read; stops = is_no_object bytes has bad }) file cause h
+board_stops contents board bytes (boards.Member name) has bad file cause h =
+    refused_stops contents board board (Member name) (record { stage = nothing; read = nothing_read; stops = has_bad_member bytes name has bad }) file cause h
+board_stops contents board bytes boards.NoMemory has bad file cause h = absurd h
+
+-- the board was read
+pub board_read : (contents : Contents) (board : List ℕ) (listing : Listing) → Lists contents board listing → ReadsTo contents board (with_listing listing)
+board_read contents board listing lists = one_more_read nothing (with_listing listing) nothing_read (reads_board listing lists)
+
+-- the system's bytes have a fault
+pub system_stops : (contents : Contents) (board bytes : List ℕ) (listing : Listing) (fault : ConfigFault) → ReadsTo contents board (with_listing listing) → HasBytes contents listing.system bytes → system_fault bytes ≡ Some fault
+    → (file : List ℕ) (cause : ImageCause) → IsRefusal listing.system (System fault) file cause → StopsReading contents board file cause
+system_stops contents board bytes listing fault read has first file cause h =
+    refused_stops contents board listing.system (System fault) (record { stage = with_listing listing; read = read; stops = is_no_system listing bytes fault has first }) file cause h
+
+-- the system was read, and is admitted
+pub system_read : (contents : Contents) (board : List ℕ) (listing : Listing) (system : SystemConfig) → ReadsTo contents board (with_listing listing) → SpellsSystem contents listing.system system → IsAdmittedSystem system
+    → ReadsTo contents board (with_system (so_far_of listing system [] []))
+system_read contents board listing system read spells sound =
+    one_more_read (with_listing listing) (with_system (so_far_of listing system [] [])) read (reads_system listing system spells sound)
+
+-- or isn't
+pub unsound_stops : (contents : Contents) (board : List ℕ) (listing : Listing) (system : SystemConfig) → ReadsTo contents board (with_listing listing) → SpellsSystem contents listing.system system
+    → (file : List ℕ) (cause : ImageCause) → IsUnsound board listing.system system file cause → StopsReading contents board file cause
+unsound_stops contents board listing system read spells file (Findings found) h =
+    let stops : StopsReading contents board listing.system (Findings (capped (findings system [])))
+    = record { stage = with_listing listing; read = read; stops = has_findings listing system spells h.2 } in
+    subst (λ f. StopsReading contents board f (Findings found)) (sym h.0) (subst (λ k. StopsReading contents board listing.system (Findings k)) (sym h.1) stops)
+unsound_stops contents board listing system read spells file (PoolSmall need have) h =
+    let few : pool_pages system < root_pages system = subst (λ n. pool_pages system < n) h.2 (subst (λ n. n < need) h.3 h.4) in
+    let stops : StopsReading contents board board (PoolSmall (root_pages system) (pool_pages system))
+    = record { stage = with_listing listing; read = read; stops = has_small_pool listing system spells h.1 few } in
+    subst (λ f. StopsReading contents board f (PoolSmall need have)) (sym h.0)
+    (subst (λ n. StopsReading contents board board (PoolSmall n have)) (sym h.2) (subst (λ n. StopsReading contents board board (PoolSmall (root_pages system) n)) (sym h.3) stops))
+unsound_stops contents board listing system read spells file _ h = absurd h
+
+-- the next preload has a fault
+pub preload_stops : (contents : Contents) (board : List ℕ) (so_far : SoFar) (entry : PreloadFile) (preload : Preload) (number : ℕ) → ReadsTo contents board (with_system so_far) → IsNextPreload so_far entry
+    → IsPreloadOf contents entry preload → ¬ IsFit so_far.system.hypervisor_memory so_far.preloads preload → number ≡ length so_far.preloads → StopsReading contents board board (BadPreload number)
+preload_stops contents board so_far entry preload number read next is unfit number_is =
+    subst (λ n. StopsReading contents board board (BadPreload n)) (sym number_is)
+    (record { stage = with_system so_far; read = read; stops = is_bad_preload so_far entry preload next is unfit })
+
+-- the next program can't be read, or is none
+pub program_stops : (contents : Contents) (board : List ℕ) (so_far : SoFar) (entry : ProgramFile) → ReadsTo contents board (with_system so_far) → IsNextProgram so_far entry
     → (file : List ℕ) (cause : ImageCause) → IsProgramUnread contents entry.file file cause → StopsReading contents board file cause
-program_stops contents board listing system preloads programs entry next file ReadFault h = subst (λ f. IsNextFile contents board f) (sym h) (a_program listing system preloads programs entry next)
-program_stops contents board listing system preloads programs entry next file Oversize h = subst (λ f. StopsReading contents board f Oversize) (sym h.0) (a_program listing system preloads programs entry next, h.1)
-program_stops contents board listing system preloads programs entry next file (BadProgram fault) h = record {
-  listing = listing;
-  system = system;
-  preloads = preloads;
-  programs = programs;
-  entry = entry;
-  next = next;
-  file_is = h.file_is;
-  bytes = h.bytes;
-  has = subst (λ f. HasBytes contents f h.bytes) (sym h.file_is) h.has;
-  told = h.told;
-}
-program_stops contents board listing system preloads programs entry next file _ h = absurd h
+program_stops contents board so_far entry read next file ReadFault h = unread_stops contents board entry.file (with_system so_far) read (a_program so_far entry next) file ReadFault h
+program_stops contents board so_far entry read next file Oversize h = unread_stops contents board entry.file (with_system so_far) read (a_program so_far entry next) file Oversize h
+program_stops contents board so_far entry read next file (BadProgram fault) h =
+    subst (λ f. StopsReading contents board f (BadProgram fault)) (sym h.file_is)
+    (record { stage = with_system so_far; read = read; stops = is_bad_program so_far entry h.bytes fault next h.has h.told })
+program_stops contents board so_far entry read next file _ h = absurd h
 
 -- where nothing is found, a system with a small pool isn't admitted
 small_unsound : (board name : List ℕ) (system : SystemConfig) → findings system [] ≡ [] → (file : List ℕ) (cause : ImageCause) → IsPoolSmall board system file cause → IsUnsound board name system file cause

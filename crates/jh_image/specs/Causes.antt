@@ -3,11 +3,9 @@ use Rattle.std.specs.Prelude.{◌≡◌, ◌≢◌, ⊤, ℕ, ◌<◌, List, [],
 use Rattle.jh_cellcfg.specs.declared.config.SystemConfig.{SystemConfig}
 use Rattle.jh_cellcfg.specs.declared.fault.ConfigFault.{ConfigFault}
 use Rattle.jh_syscfg.specs.SystemFaults.{system_fault}
-use Rattle.jh_check.specs.declared.finding.Finding.{Finding}
 use Rattle.jh_check.specs.Lists.{capped}
 use Rattle.jh_check.specs.Findings.{findings}
 use Rattle.jh_script.specs.declared.image.Preload.{Preload}
-use Rattle.jh_script.specs.declared.image.Program.{Program}
 use Rattle.jh_script.specs.declared.image.Image.{Image}
 use Rattle.jh_script.specs.declared.fault.ScriptFault.{ScriptFault}
 use Rattle.jh_script.specs.Programs.{program_of}
@@ -24,83 +22,36 @@ use Rattle.jh_image.specs.declared.fault.ImageFault.{ImageFault}
 use Rattle.jh_image.specs.declared.fault.ImageFault.TheVariants.{Refused, NoMemory}
 use Rattle.jh_image.specs.Boards.{IsListingAnswer}
 use Rattle.jh_image.specs.Opening.{IsFit}
-use Rattle.jh_image.specs.Files.{Contents, HasBytes, IsOversize, IsPreloadOf, Lists}
-use Rattle.jh_image.specs.Images.{HasSystem, IsNextPreload, IsNextProgram, IsNextFile, IsImage}
+use Rattle.jh_image.specs.Files.{Contents, HasBytes, IsOversize, SpellsSystem, IsPreloadOf}
+use Rattle.jh_image.specs.Images.{SoFar, Stage, nothing, with_listing, with_system, IsNextPreload, IsNextProgram, IsNextFile, ReadsTo, IsImage}
 
--- the file is the board's, and its bytes are refused for that
-pub record IsBadBoard (contents : Contents) (board file : List ℕ) (fault : BoardFault) : Type 0 where
-  pub file_is : file ≡ board
-  pub bytes : List ℕ
-  pub has : HasBytes contents board bytes
-  pub told : IsListingAnswer bytes (Err fault)
+-- why the reading stops at the stage: the file that is named, and the cause
+pub data Stops (contents : Contents) (board : List ℕ) : Stage → List ℕ → ImageCause → Type 0 where
+  -- which of the files that are next could not be read only the files know
+  cannot_be_read : (stage : Stage) (file : List ℕ) → IsNextFile board stage file → Stops contents board stage file ReadFault
+  is_too_large : (stage : Stage) (file : List ℕ) → IsNextFile board stage file → IsOversize contents file → Stops contents board stage file Oversize
+  is_no_object : (bytes : List ℕ) → HasBytes contents board bytes → IsListingAnswer bytes (Err boards.Json) → Stops contents board nothing board Json
+  has_bad_member : (bytes name : List ℕ) → HasBytes contents board bytes → IsListingAnswer bytes (Err (boards.Member name))
+      → Stops contents board nothing board (Member name)
+  is_no_system : (listing : Listing) (bytes : List ℕ) (fault : ConfigFault) → HasBytes contents listing.system bytes → system_fault bytes ≡ Some fault
+      → Stops contents board (with_listing listing) listing.system (System fault)
+  -- the check finds something in the system alone; the first thousand are told
+  has_findings : (listing : Listing) (system : SystemConfig) → SpellsSystem contents listing.system system → findings system [] ≢ []
+      → Stops contents board (with_listing listing) listing.system (Findings (capped (findings system [])))
+  -- the pool has fewer pages than root takes, which is the board's fault
+  has_small_pool : (listing : Listing) (system : SystemConfig) → SpellsSystem contents listing.system system → findings system [] ≡ []
+      → pool_pages system < root_pages system → Stops contents board (with_listing listing) board (PoolSmall (root_pages system) (pool_pages system))
+  -- preloads are told by their numbers, from 0; where one comes to stand is the board's fault
+  is_bad_preload : (so_far : SoFar) (file : PreloadFile) (preload : Preload) → IsNextPreload so_far file → IsPreloadOf contents file preload
+      → ¬ IsFit so_far.system.hypervisor_memory so_far.preloads preload → Stops contents board (with_system so_far) board (BadPreload (length so_far.preloads))
+  is_bad_program : (so_far : SoFar) (file : ProgramFile) (bytes : List ℕ) (fault : ScriptFault) → IsNextProgram so_far file → HasBytes contents file.file bytes
+      → program_of bytes ≡ Err fault → Stops contents board (with_system so_far) file.file (BadProgram fault)
 
--- the file is the system's, and its bytes have this first fault
-pub record IsBadSystem (contents : Contents) (board file : List ℕ) (fault : ConfigFault) : Type 0 where
-  pub listing : Listing
-  pub lists : Lists contents board listing
-  pub file_is : file ≡ listing.system
-  pub bytes : List ℕ
-  pub has : HasBytes contents file bytes
-  pub first : system_fault bytes ≡ Some fault
-
--- the file is the system's, and the check finds something in the system alone; the first thousand are told
-pub record HasFindings (contents : Contents) (board file : List ℕ) (found : List Finding) : Type 0 where
-  pub listing : Listing
-  pub system : SystemConfig
-  pub has : HasSystem contents board listing system
-  pub file_is : file ≡ listing.system
-  pub found_are : found ≡ capped (findings system [])
-  pub some : findings system [] ≢ []
-
--- nothing is found, and the pool has fewer pages than root takes; this names the board
-pub record IsSmall (contents : Contents) (board file : List ℕ) (need have : ℕ) : Type 0 where
-  pub listing : Listing
-  pub system : SystemConfig
-  pub has : HasSystem contents board listing system
-  pub clean : findings system [] ≡ []
-  pub file_is : file ≡ board
-  pub need_is : need ≡ root_pages system
-  pub have_is : have ≡ pool_pages system
-  pub few : have < need
-
--- the preload with this number, from 0, has a fault, and those before it have none; this names the board
-pub record IsBadPreload (contents : Contents) (board file : List ℕ) (number : ℕ) : Type 0 where
-  pub listing : Listing
-  pub system : SystemConfig
-  pub preloads : List Preload
-  pub entry : PreloadFile
-  pub next : IsNextPreload contents board listing system preloads entry
-  pub preload : Preload
-  pub is : IsPreloadOf contents entry preload
-  pub unfit : ¬ IsFit system.hypervisor_memory preloads preload
-  pub number_is : number ≡ length preloads
-  pub file_is : file ≡ board
-
--- the file is a program's, and its text has this first fault
-pub record IsBadProgram (contents : Contents) (board file : List ℕ) (fault : ScriptFault) : Type 0 where
-  pub listing : Listing
-  pub system : SystemConfig
-  pub preloads : List Preload
-  pub programs : List Program
-  pub entry : ProgramFile
-  pub next : IsNextProgram contents board listing system preloads programs entry
-  pub file_is : file ≡ entry.file
-  pub bytes : List ℕ
-  pub has : HasBytes contents file bytes
-  pub told : program_of bytes ≡ Err fault
-
--- reading the board stops at this file, for this cause; which of the files that are read could not be read only
--- the files know
-abbrev pub StopsReading : Contents → List ℕ → List ℕ → ImageCause → Type 0
-StopsReading contents board file ReadFault = IsNextFile contents board file
-StopsReading contents board file Oversize = IsNextFile contents board file × IsOversize contents file
-StopsReading contents board file Json = IsBadBoard contents board file boards.Json
-StopsReading contents board file (Member name) = IsBadBoard contents board file (boards.Member name)
-StopsReading contents board file (System fault) = IsBadSystem contents board file fault
-StopsReading contents board file (Findings found) = HasFindings contents board file found
-StopsReading contents board file (PoolSmall need have) = IsSmall contents board file need have
-StopsReading contents board file (BadPreload number) = IsBadPreload contents board file number
-StopsReading contents board file (BadProgram fault) = IsBadProgram contents board file fault
+-- the reading of the board stops, names this file, and has this cause
+pub record StopsReading (contents : Contents) (board file : List ℕ) (cause : ImageCause) : Type 0 where
+  pub stage : Stage
+  pub read : ReadsTo contents board stage
+  pub stops : Stops contents board stage file cause
 
 -- a fact of the file and the cause, unless memory ran out
 abbrev pub OnRefused : (List ℕ → ImageCause → Type 0) → ImageFault → Type 0

@@ -1,7 +1,6 @@
 -- What the files that a board names hand out.
-use Rattle.std.specs.Prelude.{◌≡◌, ℕ, ◌+◌, ◌<◌, ◌≤◌, List, [], ◌∷◌, ◌++◌, length, Ok}
+use Rattle.std.specs.Prelude.{◌≡◌, ℕ, ◌+◌, ◌<◌, ◌≤◌, List, length, Ok}
 use Rattle.jh_outside.specs.Reads.{KnownFile, HandsOut}
-use Rattle.jh_cellcfg.specs.declared.region.Region.{Region}
 use Rattle.jh_cellcfg.specs.declared.config.SystemConfig.{SystemConfig}
 use Rattle.jh_syscfg.specs.Layout.{IsSystem, IsSystemWithinLimits, system_spelling}
 use Rattle.jh_script.specs.declared.image.Preload.{Preload}
@@ -11,7 +10,6 @@ use Rattle.jh_image.specs.declared.board.Listing.{Listing}
 use Rattle.jh_image.specs.declared.board.PreloadFile.{PreloadFile}
 use Rattle.jh_image.specs.declared.board.ProgramFile.{ProgramFile}
 use Rattle.jh_image.specs.Boards.{IsListingAnswer}
-use Rattle.jh_image.specs.Opening.{IsFit}
 
 -- what files tell of each name
 abbrev pub Contents : Type 0
@@ -62,15 +60,3 @@ pub record IsProgramOf (contents : Contents) (file : ProgramFile) (program : Pro
   pub told : program_of bytes ≡ Ok program.ops
   pub cell : program.cell ≡ file.cell
   pub cpu : program.cpu ≡ file.cpu
-
--- the preloads are those of the files, one after another, and none has a fault
-pub data Preloads (contents : Contents) (hypervisor : Region) : List PreloadFile → List Preload → Type 0 where
-  no_preloads : Preloads contents hypervisor [] []
-  one_more_preload : (files : List PreloadFile) (preloads : List Preload) (file : PreloadFile) (preload : Preload) → Preloads contents hypervisor files preloads
-      → IsPreloadOf contents file preload → IsFit hypervisor preloads preload → Preloads contents hypervisor (files ++ file ∷ []) (preloads ++ preload ∷ [])
-
--- the programs are those of the files, one after another
-pub data Programs (contents : Contents) : List ProgramFile → List Program → Type 0 where
-  no_programs : Programs contents [] []
-  one_more_program : (files : List ProgramFile) (programs : List Program) (file : ProgramFile) (program : Program) → Programs contents files programs
-      → IsProgramOf contents file program → Programs contents (files ++ file ∷ []) (programs ++ program ∷ [])

@@ -1,6 +1,6 @@
--- The order in which a board's files are read: the board, the system, each preload, each program. A file's turn
--- comes where those before it were read and none of them is refused.
-use Rattle.std.specs.Prelude.{◌≡◌, ℕ, List, length, take, Some, slice_get}
+-- The order in which a board's files are read: the board, its system, each preload, each program. What is read so far,
+-- which file is next, and what its read adds.
+use Rattle.std.specs.Prelude.{◌≡◌, ℕ, List, [], ◌∷◌, ◌++◌, length, Some, slice_get}
 use Rattle.jh_cellcfg.specs.declared.config.SystemConfig.{SystemConfig}
 use Rattle.jh_script.specs.declared.image.Preload.{Preload}
 use Rattle.jh_script.specs.declared.image.Program.{Program}
@@ -9,50 +9,77 @@ use Rattle.jh_history.specs.Admitted.{IsAdmittedSystem}
 use Rattle.jh_image.specs.declared.board.Listing.{Listing}
 use Rattle.jh_image.specs.declared.board.PreloadFile.{PreloadFile}
 use Rattle.jh_image.specs.declared.board.ProgramFile.{ProgramFile}
-use Rattle.jh_image.specs.Files.{Contents, Lists, SpellsSystem, Preloads, Programs}
+use Rattle.jh_image.specs.Opening.{IsFit}
+use Rattle.jh_image.specs.Files.{Contents, Lists, SpellsSystem, IsPreloadOf, IsProgramOf}
 
--- the board and the system are read
-pub record HasSystem (contents : Contents) (board : List ℕ) (listing : Listing) (system : SystemConfig) : Type 0 where
-  pub lists : Lists contents board listing
-  pub spells : SpellsSystem contents listing.system system
+-- what is read so far, once the system is
+pub record SoFar : Type 0 where
+  pub listing : Listing
+  pub system : SystemConfig
+  pub preloads : List Preload
+  pub programs : List Program
 
--- and the system is admitted
-pub record IsReady (contents : Contents) (board : List ℕ) (listing : Listing) (system : SystemConfig) : Type 0 where
-  pub has : HasSystem contents board listing system
-  pub sound : IsAdmittedSystem system
+-- how far the reading has come: nothing is read; the board is; or its system is, and maybe files behind it
+pub data Stage : Type 0 where
+  nothing : Stage
+  with_listing : Listing → Stage
+  with_system : SoFar → Stage
 
--- the turn of this preload's file comes: the preloads before it are read, and none has a fault
-pub record IsNextPreload (contents : Contents) (board : List ℕ) (listing : Listing) (system : SystemConfig) (preloads : List Preload) (file : PreloadFile) : Type 0 where
-  pub ready : IsReady contents board listing system
-  pub before : Preloads contents system.hypervisor_memory (take (length preloads) listing.preloads) preloads
-  pub next : slice_get listing.preloads (length preloads) ≡ Some file
+abbrev pub so_far_of : Listing → SystemConfig → List Preload → List Program → SoFar
+so_far_of listing system preloads programs = record { listing = listing; system = system; preloads = preloads; programs = programs }
 
--- all preloads are read
-pub record HasPreloads (contents : Contents) (board : List ℕ) (listing : Listing) (system : SystemConfig) (preloads : List Preload) : Type 0 where
-  pub ready : IsReady contents board listing system
-  pub all : Preloads contents system.hypervisor_memory listing.preloads preloads
+-- one more is read
+abbrev pub with_preload : SoFar → Preload → SoFar
+with_preload so_far preload = record so_far { preloads = so_far.preloads ++ preload ∷ [] }
 
--- the turn of this program's file comes: all preloads and the programs before it are read
-pub record IsNextProgram (contents : Contents) (board : List ℕ) (listing : Listing) (system : SystemConfig) (preloads : List Preload) (programs : List Program) (file : ProgramFile) : Type 0 where
-  pub loaded : HasPreloads contents board listing system preloads
-  pub before : Programs contents (take (length programs) listing.programs) programs
-  pub next : slice_get listing.programs (length programs) ≡ Some file
+abbrev pub with_program : SoFar → Program → SoFar
+with_program so_far program = record so_far { programs = so_far.programs ++ program ∷ [] }
 
--- all files are read, and they make this image
-pub record MakesImage (contents : Contents) (board : List ℕ) (listing : Listing) (image : Image) : Type 0 where
-  pub loaded : HasPreloads contents board listing image.system image.preloads
-  pub all : Programs contents listing.programs image.programs
+-- ---- the next file
 
--- the file's turn comes
-pub data IsNextFile (contents : Contents) (board : List ℕ) : List ℕ → Type 0 where
-  the_board : IsNextFile contents board board
-  the_system : (listing : Listing) → Lists contents board listing → IsNextFile contents board listing.system
-  a_preload : (listing : Listing) (system : SystemConfig) (preloads : List Preload) (file : PreloadFile)
-      → IsNextPreload contents board listing system preloads file → IsNextFile contents board file.file
-  a_program : (listing : Listing) (system : SystemConfig) (preloads : List Preload) (programs : List Program) (file : ProgramFile)
-      → IsNextProgram contents board listing system preloads programs file → IsNextFile contents board file.file
+abbrev pub IsNextPreload : SoFar → PreloadFile → Type 0
+IsNextPreload so_far file = slice_get so_far.listing.preloads (length so_far.preloads) ≡ Some file
+
+-- no preload is left
+abbrev pub HasPreloads : SoFar → Type 0
+HasPreloads so_far = length so_far.preloads ≡ length so_far.listing.preloads
+
+-- no file is left
+pub record IsComplete (so_far : SoFar) : Type 0 where
+  pub preloads : HasPreloads so_far
+  pub programs : length so_far.programs ≡ length so_far.listing.programs
+
+-- a program is next where no preload is left
+pub record IsNextProgram (so_far : SoFar) (file : ProgramFile) : Type 0 where
+  pub preloads : HasPreloads so_far
+  pub next : slice_get so_far.listing.programs (length so_far.programs) ≡ Some file
+
+-- the file of this name is next
+pub data IsNextFile (board : List ℕ) : Stage → List ℕ → Type 0 where
+  the_board : IsNextFile board nothing board
+  the_system : (listing : Listing) → IsNextFile board (with_listing listing) listing.system
+  a_preload : (so_far : SoFar) (file : PreloadFile) → IsNextPreload so_far file → IsNextFile board (with_system so_far) file.file
+  a_program : (so_far : SoFar) (file : ProgramFile) → IsNextProgram so_far file → IsNextFile board (with_system so_far) file.file
+
+-- ---- reading
+
+-- the next file is read and not refused, and takes the reading from the one stage to the other
+pub data ReadsNext (contents : Contents) (board : List ℕ) : Stage → Stage → Type 0 where
+  reads_board : (listing : Listing) → Lists contents board listing → ReadsNext contents board nothing (with_listing listing)
+  reads_system : (listing : Listing) (system : SystemConfig) → SpellsSystem contents listing.system system → IsAdmittedSystem system
+      → ReadsNext contents board (with_listing listing) (with_system (so_far_of listing system [] []))
+  reads_preload : (so_far : SoFar) (file : PreloadFile) (preload : Preload) → IsNextPreload so_far file → IsPreloadOf contents file preload
+      → IsFit so_far.system.hypervisor_memory so_far.preloads preload → ReadsNext contents board (with_system so_far) (with_system (with_preload so_far preload))
+  reads_program : (so_far : SoFar) (file : ProgramFile) (program : Program) → IsNextProgram so_far file → IsProgramOf contents file program
+      → ReadsNext contents board (with_system so_far) (with_system (with_program so_far program))
+
+-- the reading comes to the stage, file by file
+pub data ReadsTo (contents : Contents) (board : List ℕ) : Stage → Type 0 where
+  nothing_read : ReadsTo contents board nothing
+  one_more_read : (before now : Stage) → ReadsTo contents board before → ReadsNext contents board before now → ReadsTo contents board now
 
 -- the board's files make this image
 pub record IsImage (contents : Contents) (board : List ℕ) (image : Image) : Type 0 where
   pub listing : Listing
-  pub makes : MakesImage contents board listing image
+  pub read : ReadsTo contents board (with_system (so_far_of listing image.system image.preloads image.programs))
+  pub complete : IsComplete (so_far_of listing image.system image.preloads image.programs)

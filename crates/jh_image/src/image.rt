@@ -1,13 +1,13 @@
 //! From a board to the image that its files make.
 ghost use Rattle.std.specs.Prelude.{◌≡◌, ◌≤◌, ◌<◌, ◌∷◌, [], true, IfOk, IfErr, OnOk, All, AllPairs, length, map};
 ghost use Rattle.jh_image.specs.declared.board.Listing.{Listing as TheListing};
-ghost use Rattle.jh_history.specs.Admitted.{IsSoundPreload, IsOtherPreload, IsSoundProgram, IsOtherProgram, IsAdmitted};
+ghost use Rattle.jh_history.specs.Admitted.{IsSoundPreload, IsOtherPreload, IsSoundProgram, IsOtherProgram, IsAdmittedSystem, IsAdmitted};
 ghost use Rattle.jh_image.specs.Boards.{are_distinct, seat_of};
 ghost use Rattle.jh_image.specs.Opening.{IsFit};
-ghost use Rattle.jh_image.specs.Files.{Lists, IsPreloadOf, Preloads, Programs};
+ghost use Rattle.jh_image.specs.Files.{IsPreloadOf};
 ghost use Rattle.jh_outside.specs.Trail.{Asks, AsksAll, AsksUntil, handed};
 ghost use Rattle.jh_image.specs.Order.{ask_for, preload_name, program_name, AsksBoard, AsksBoardUntil};
-ghost use Rattle.jh_image.specs.Images.{IsReady, HasPreloads, IsNextPreload};
+ghost use Rattle.jh_image.specs.Images.{with_listing, with_system, so_far_of, IsNextPreload, IsComplete, ReadsTo};
 ghost use Rattle.jh_image.specs.Causes.{StopsReading, OnRefused, IsImageAnswer, IsCounted};
 
 use crate::admission::check_system;
@@ -29,8 +29,9 @@ fn read_ready<F: Files>(
     board: &str,
     listing: &Listing,
 ) -> Result<SystemConfig, ImageFault>
-    requires { Lists (F.contents files.old) board.now listing.now }
-    ensures ok { IfOk result (IsReady (F.contents files.old) board.now listing.now) }
+    requires { ReadsTo (F.contents files.old) board.now (with_listing listing.now) }
+    ensures ok { IfOk result (λ system. ReadsTo (F.contents files.old) board.now (with_system (so_far_of listing.now system [] []))) }
+    ensures admitted { IfOk result IsAdmittedSystem }
     ensures err { IfErr result (OnRefused (StopsReading (F.contents files.old) board.now)) }
     ensures counted { IfErr result (IsCounted (F.faults files.old) (F.faults files.new) (F.failed files.new)) }
     ensures never_falls { F.faults files.old ≤ F.faults files.new }
@@ -52,7 +53,7 @@ fn next_preload<F: Files>(
     preloads: &[Preload],
     file: &PreloadFile,
 ) -> Result<Preload, ImageFault>
-    requires next { (listing : TheListing) × IsNextPreload (F.contents files.old) board.now listing system.now preloads.now file.now }
+    requires next { (listing : TheListing) × ReadsTo (F.contents files.old) board.now (with_system (so_far_of listing system.now preloads.now [])) × IsNextPreload (so_far_of listing system.now preloads.now []) file.now }
     requires few { length preloads.now < 64 }
     ensures ok { IfOk result (IsPreloadOf (F.contents files.old) file.now) }
     ensures fit { IfOk result (IsFit system.now.hypervisor_memory preloads.now) }
@@ -79,9 +80,10 @@ fn read_preloads<F: Files>(
     listing: &Listing,
     system: &SystemConfig,
 ) -> Result<Seq<Preload>, ImageFault>
-    requires ready { IsReady (F.contents files.old) board.now listing.now system.now }
+    requires read { ReadsTo (F.contents files.old) board.now (with_system (so_far_of listing.now system.now [] [])) }
     requires few { length listing.now.preloads ≤ 64 }
-    ensures ok { IfOk result (Preloads (F.contents files.old) system.now.hypervisor_memory listing.now.preloads) }
+    ensures ok { IfOk result (λ preloads. ReadsTo (F.contents files.old) board.now (with_system (so_far_of listing.now system.now preloads []))) }
+    ensures all { IfOk result (λ preloads. length preloads ≡ length listing.now.preloads) }
     ensures sound { IfOk result (All (IsSoundPreload system.now.hypervisor_memory)) }
     ensures apart { IfOk result (AllPairs IsOtherPreload) }
     ensures err { IfErr result (OnRefused (StopsReading (F.contents files.old) board.now)) }
@@ -109,9 +111,11 @@ fn read_programs<F: Files>(
     system: &SystemConfig,
     preloads: &[Preload],
 ) -> Result<Seq<Program>, ImageFault>
-    requires loaded { HasPreloads (F.contents files.old) board.now listing.now system.now preloads.now }
+    requires read { ReadsTo (F.contents files.old) board.now (with_system (so_far_of listing.now system.now preloads.now [])) }
+    requires all { length preloads.now ≡ length listing.now.preloads }
     requires distinct { are_distinct (map seat_of listing.now.programs) ≡ true }
-    ensures ok { IfOk result (Programs (F.contents files.old) listing.now.programs) }
+    ensures ok { IfOk result (λ programs. ReadsTo (F.contents files.old) board.now (with_system (so_far_of listing.now system.now preloads.now programs))) }
+    ensures complete { IfOk result (λ programs. IsComplete (so_far_of listing.now system.now preloads.now programs)) }
     ensures sound { IfOk result (All IsSoundProgram) }
     ensures owned { IfOk result (AllPairs IsOtherProgram) }
     ensures err { IfErr result (OnRefused (StopsReading (F.contents files.old) board.now)) }

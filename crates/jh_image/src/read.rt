@@ -4,7 +4,7 @@ ghost use Rattle.jh_history.specs.Admitted.{IsSoundProgram};
 ghost use Rattle.jh_image.specs.Boards.{are_distinct, seat_of};
 ghost use Rattle.jh_image.specs.Files.{HasBytes, Lists, SpellsSystem, IsPreloadOf, IsProgramOf};
 ghost use Rattle.jh_outside.specs.Trail.{Asks, handed};
-ghost use Rattle.jh_image.specs.Images.{HasSystem};
+ghost use Rattle.jh_image.specs.Images.{with_listing, ReadsTo};
 ghost use Rattle.jh_image.specs.Order.{ask_for};
 ghost use Rattle.jh_image.specs.Causes.{OnRefused, HandsOutNothing, IsCounted, StopsReading, IsProgramUnread};
 
@@ -77,8 +77,8 @@ pub(crate) fn read_system_file<F: Files>(
     board: &str,
     listing: &Listing,
 ) -> Result<SystemConfig, ImageFault>
-    requires { Lists (F.contents files.old) board.now listing.now }
-    ensures ok { IfOk result (HasSystem (F.contents files.old) board.now listing.now) }
+    requires { ReadsTo (F.contents files.old) board.now (with_listing listing.now) }
+    ensures ok { IfOk result (SpellsSystem (F.contents files.old) listing.now.system) }
     ensures err { IfErr result (OnRefused (StopsReading (F.contents files.old) board.now)) }
     ensures counted { IfErr result (IsCounted (F.faults files.old) (F.faults files.new) (F.failed files.new)) }
     ensures never_falls { F.faults files.old ≤ F.faults files.new }

@@ -43,7 +43,7 @@ peers_apart bdf id a b apart here there =
     never (is_peer a.bdf a.id b)
     (ap (λ n. is_peer n a.id b) name.0 ∙ ap (λ n. is_peer bdf n b) name.1 ∙ there) apart.peers
 
--- each at its place is apart from every other
+-- each at its index is apart from every other
 apart_at : (es : List Endpoint) (i j : ℕ) (d : Endpoint) → AllPairs AreApart (map (λ (o : Endpoint). o.spec) es) → i < j
     → j < length es → AreApart (get_or es i d).spec (get_or es j d).spec
 apart_at es i j d apart before within =
@@ -69,7 +69,7 @@ single test none es i k d apart within here inside other =
       ])
     ]
 
--- what a change leaves at a place
+-- what a change leaves at an index
 pub changed_at : (test : EndpointSpec → Bool) (f : Endpoint → Endpoint) (es : List Endpoint) (k : ℕ) (d : Endpoint)
     → k < length es → get_or (changed test f es) k d ≡ cond (test (get_or es k d).spec) (f (get_or es k d)) (get_or es k d)
 unfolding changed

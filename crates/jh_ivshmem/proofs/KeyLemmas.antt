@@ -29,9 +29,9 @@ first_meant : (whom : Whom) (es : List Endpoint)
 first_meant whom [] = refl
 first_meant whom (e ∷ es) = rw (key_meant whom e, first_meant whom es) refl
 
-place_is : (b : Bool) (n i : ℕ) → cond b (Some n) None ≡ Some i → n ≡ i
-place_is true n i h = cc
-place_is false n i h = cc
+some_is : (b : Bool) (n i : ℕ) → cond b (Some n) None ≡ Some i → n ≡ i
+some_is true n i h = cc
+some_is false n i h = cc
 
 not_below : (n len : ℕ) → len ≤ n → nat_lt n len ≡ false
 not_below n len past = grind (arith, nat_tests)
@@ -46,31 +46,31 @@ is_within n len i h =
       | inr past ↦ absurd (no_some i (rw (not_below n len past) at h))
     ]
 
-no_place : (b : Bool) (n : ℕ) → cond b (Some n) None ≡ None → b ≡ false
-no_place true n h = cc
-no_place false n h = refl
+none_is : (b : Bool) (n : ℕ) → cond b (Some n) None ≡ None → b ≡ false
+none_is true n h = cc
+none_is false n h = refl
 
 pub found_within : (whom : Whom) (es : List Endpoint) (i : ℕ) → position (is_key_meant whom) (map key_of es) ≡ Some i
     → i < length es
 found_within whom es i found =
-    let place = place_is (nat_lt (position_or_len (is_key_meant whom) (map key_of es)) (length (map key_of es)))
+    let index = some_is (nat_lt (position_or_len (is_key_meant whom) (map key_of es)) (length (map key_of es)))
     (position_or_len (is_key_meant whom) (map key_of es)) i found in
     let inside = is_within (position_or_len (is_key_meant whom) (map key_of es)) (length (map key_of es)) i found in
     omega (arith, length-map es key_of)
 
--- the endpoint at the place of the first key that is meant
-pub found_place : (whom : Whom) (es : List Endpoint) (i : ℕ) → position (is_key_meant whom) (map key_of es) ≡ Some i
+-- the endpoint at the index of the first key that is meant
+pub found_at : (whom : Whom) (es : List Endpoint) (i : ℕ) → position (is_key_meant whom) (map key_of es) ≡ Some i
     → find (λ (o : Endpoint). is_meant whom o.spec) es ≡ slice_get es i
-found_place whom es i found =
-    let place = place_is (nat_lt (position_or_len (is_key_meant whom) (map key_of es)) (length (map key_of es)))
+found_at whom es i found =
+    let index = some_is (nat_lt (position_or_len (is_key_meant whom) (map key_of es)) (length (map key_of es)))
     (position_or_len (is_key_meant whom) (map key_of es)) i found in
-    find_at (λ (o : Endpoint). is_meant whom o.spec) es ∙ ap (slice_get es) (sym (first_meant whom es) ∙ place)
+    find_at (λ (o : Endpoint). is_meant whom o.spec) es ∙ ap (slice_get es) (sym (first_meant whom es) ∙ index)
 
 -- none is meant where no key is
 pub found_none : (whom : Whom) (es : List Endpoint) → position (is_key_meant whom) (map key_of es) ≡ None
     → find (λ (o : Endpoint). is_meant whom o.spec) es ≡ None
 found_none whom es none =
-    let outside = no_place (nat_lt (position_or_len (is_key_meant whom) (map key_of es)) (length (map key_of es)))
+    let outside = none_is (nat_lt (position_or_len (is_key_meant whom) (map key_of es)) (length (map key_of es)))
     (position_or_len (is_key_meant whom) (map key_of es)) none in
     let past : length es ≤ position_or_len (λ (o : Endpoint). is_meant whom o.spec) es =
     (let same = first_meant whom es in let all = length-map es key_of in grind (arith, nat_tests)) in
@@ -82,7 +82,7 @@ pub found_some : (whom : Whom) (es : List Endpoint) (o : Option ℕ) → o ≡ p
 found_some whom es None is = sym (ap is_some (found_none whom es (sym is)))
 found_some whom es (Some i) is =
     elim (slice_get_cases es i).1 as (λ _. is_some (Some i) ≡ is_some (find (λ (e : Endpoint). is_meant whom e.spec) es)) [
-      | inl (e, inside, found, read) ↦ sym (ap is_some (found_place whom es i (sym is)) ∙ ap is_some found)
+      | inl (e, inside, found, read) ↦ sym (ap is_some (found_at whom es i (sym is)) ∙ ap is_some found)
       | inr past ↦ absurd (let beyond = past.0 in let within = found_within whom es i (sym is) in let no : ⊥ = omega arith in no)
     ]
 

@@ -119,7 +119,7 @@ raised_others v u e other =
 none : false ≡ true → ⊥
 none h = cc
 
--- a vector written at a place keeps what is pending, where the new one keeps it
+-- a vector written at an index keeps what is pending, where the new one keeps it
 set_keeps : (xs : List Vector) (v u : ℕ) (y : Vector) → ((get_or xs v fresh_vector).pending ≡ true → y.pending ≡ true)
     → (get_or xs u fresh_vector).pending ≡ true → (get_or (set xs v y) u fresh_vector).pending ≡ true
 set_keeps xs v u y keeps was =
@@ -171,7 +171,7 @@ either : (f : Endpoint → Endpoint) (v : ℕ) → ((o : Endpoint) → (vector_a
 either f v keeps true o h = keeps o h
 either f v keeps false o h = h
 
--- a change that keeps pending vectors keeps them at each place
+-- a change that keeps pending vectors keeps them at each index
 changed_keeps_pending : (test : EndpointSpec → Bool) (f : Endpoint → Endpoint) (list : List Endpoint) (k v : ℕ) (d : Endpoint)
     → ((o : Endpoint) → (vector_at o v).pending ≡ true → (vector_at (f o) v).pending ≡ true) → k < length list
     → (vector_at (get_or list k d) v).pending ≡ true → (vector_at (get_or (changed test f list) k d) v).pending ≡ true

@@ -1,4 +1,4 @@
--- The change of each endpoint that is meant, by a loop over all or at the place of one.
+-- The change of each endpoint that is meant, by a loop over all or at the index of one.
 use Rattle.std.proofs.Common.{ℕ, ◌≡◌, ◌+◌, ◌<◌, ◌≤◌, true, false, cond, find, position, Some, None, List, [], ◌∷◌, ◌++◌, length, map, get_or, set, take, drop, inl, inr, refl, sym, ◌∙◌, ap, subst, arith}
 use Rattle.std.proofs.lemmas.Bool.{cases_Bool}
 use Rattle.std.proofs.lemmas.List.{length-set, set-get_or, get_or-map, take_all, drop_all, append-nil}
@@ -97,7 +97,7 @@ pub record ChangesOne (cell device : ℕ) (change : Change) (es now : List Endpo
   pub list : now ≡ changed (is_device cell device) (after change) es
   pub kept : AreKept now ks
 
--- what stands at the place of the device's key
+-- what stands at the index of the device's key
 pub device_at : (cell device : ℕ) (es : List Endpoint) (ks : List Key) (i : ℕ) (e : Endpoint) → AreKept es ks
     → Some i ≡ position (is_key_meant (Device cell device)) ks → e ≡ get_or es i e → (i < length es) × (is_device cell device e.spec ≡ true)
 device_at cell device es ks i e kept is read =

@@ -187,83 +187,83 @@ keys_partitioned cell device ks order i j d le within h =
     ]
 
 -- where so many keys stand before the device
-abbrev pub IsPlace : ℕ → ℕ → List Key → ℕ → Type 0
-IsPlace cell device ks i = IsPartitionPoint (λ (key : Key). is_key_before cell device key ≡ true) (λ (key : Key). is_key_before cell device key ≡ false) ks i
+abbrev pub IsIndex : ℕ → ℕ → List Key → ℕ → Type 0
+IsIndex cell device ks i = IsPartitionPoint (λ (key : Key). is_key_before cell device key ≡ true) (λ (key : Key). is_key_before cell device key ≡ false) ks i
 
-pub place_found : (cell device : ℕ) (ks : List Key) (i : ℕ) (d : Key) → IsPlace cell device ks i → i < length ks
+pub key_at : (cell device : ℕ) (ks : List Key) (i : ℕ) (d : Key) → IsIndex cell device ks i → i < length ks
     → is_key_meant (Device cell device) (get_or ks i d) ≡ true → Some i ≡ position (is_key_meant (Device cell device)) ks
 unfolding lower
-place_found cell device ks i d place lt meant =
+key_at cell device ks i d split lt meant =
     position_here (is_key_meant (Device cell device)) ks i d lt
-    (λ j before. lower_differs cell device (get_or ks j d).cell (get_or ks j d).device (place.0 j d (omega arith) before))
+    (λ j before. lower_differs cell device (get_or ks j d).cell (get_or ks j d).device (split.0 j d (omega arith) before))
     meant
 
--- one behind the place isn't meant where the one at the place isn't
-behind_place : (cell device : ℕ) (ks : List Key) (i j : ℕ) (d : Key) → IsPlace cell device ks i → AreInOrder ks → i < j → j < length ks
+-- one behind the index isn't meant where the one at the index isn't
+behind_index : (cell device : ℕ) (ks : List Key) (i j : ℕ) (d : Key) → IsIndex cell device ks i → AreInOrder ks → i < j → j < length ks
     → is_key_meant (Device cell device) (get_or ks j d) ≡ false
 unfolding lower
-behind_place cell device ks i j d place order before within = false_from_ne_true (is_key_meant (Device cell device) (get_or ks j d)) (λ meant.
+behind_index cell device ks i j d split order before within = false_from_ne_true (is_key_meant (Device cell device) (get_or ks j d)) (λ meant.
     let both = and_parts ((get_or ks j d).cell == cell) ((get_or ks j d).device == device) meant in
     let cells = eqb-true (get_or ks j d).cell cell both.0 in
     let devices = eqb-true (get_or ks j d).device device both.1 in
     let ahead : lower cell device (get_or ks i d).cell (get_or ks i d).device ≡ true =
     sym (ap (λ n. lower n (get_or ks j d).device (get_or ks i d).cell (get_or ks i d).device) cells
     ∙ ap (λ n. lower cell n (get_or ks i d).cell (get_or ks i d).device) devices) ∙ order i j d before within in
-    both_ways (lower cell device (get_or ks i d).cell (get_or ks i d).device) (place.1 i d (omega arith) (omega arith)) ahead)
+    both_ways (lower cell device (get_or ks i d).cell (get_or ks i d).device) (split.1 i d (omega arith) (omega arith)) ahead)
 
-none_by : (cell device : ℕ) (ks : List Key) (i : ℕ) (d : Key) → IsPlace cell device ks i → AreInOrder ks
+none_by : (cell device : ℕ) (ks : List Key) (i : ℕ) (d : Key) → IsIndex cell device ks i → AreInOrder ks
     → (i < length ks → is_key_meant (Device cell device) (get_or ks i d) ≡ false) → None ≡ position (is_key_meant (Device cell device)) ks
 unfolding lower
-none_by cell device ks i d place order fails = position_nowhere (is_key_meant (Device cell device)) ks d (λ j within.
+none_by cell device ks i d split order fails = position_nowhere (is_key_meant (Device cell device)) ks d (λ j within.
     elim (cases_lt j i) as (λ _. is_key_meant (Device cell device) (get_or ks j d) ≡ false) [
-      | inl before ↦ lower_differs cell device (get_or ks j d).cell (get_or ks j d).device (place.0 j d (omega arith) before)
+      | inl before ↦ lower_differs cell device (get_or ks j d).cell (get_or ks j d).device (split.0 j d (omega arith) before)
       | inr past ↦ elim (cases_eq j i) as (λ _. is_key_meant (Device cell device) (get_or ks j d) ≡ false) [
         | inl here ↦
             let inside : i < length ks = omega arith in
             ap (λ n. is_key_meant (Device cell device) (get_or ks n d)) here ∙ fails inside
-        | inr beyond ↦ let after : i < j = omega arith in behind_place cell device ks i j d place order after within
+        | inr beyond ↦ let after : i < j = omega arith in behind_index cell device ks i j d split order after within
       ]
     ])
 
 no_key : Key
 no_key = record { cell = 0; device = 0; bdf = 0; id = 0; pending = None }
 
--- no key is the device's where the place is past the end, or the key there isn't
-pub place_past : (cell device : ℕ) (ks : List Key) (i : ℕ) → IsPlace cell device ks i → AreInOrder ks → length ks ≤ i
+-- no key is the device's where the index is past the end, or the key there isn't
+pub past_keys : (cell device : ℕ) (ks : List Key) (i : ℕ) → IsIndex cell device ks i → AreInOrder ks → length ks ≤ i
     → None ≡ position (is_key_meant (Device cell device)) ks
-place_past cell device ks i place order past = none_by cell device ks i no_key place order (λ lt. absurd (let no : ⊥ = omega arith in no))
+past_keys cell device ks i split order past = none_by cell device ks i no_key split order (λ lt. absurd (let no : ⊥ = omega arith in no))
 
-pub place_other : (cell device : ℕ) (ks : List Key) (i : ℕ) (d : Key) → IsPlace cell device ks i → AreInOrder ks
+pub other_key : (cell device : ℕ) (ks : List Key) (i : ℕ) (d : Key) → IsIndex cell device ks i → AreInOrder ks
     → is_key_meant (Device cell device) (get_or ks i d) ≡ false → None ≡ position (is_key_meant (Device cell device)) ks
-place_other cell device ks i d place order fails = none_by cell device ks i d place order (λ _. fails)
+other_key cell device ks i d split order fails = none_by cell device ks i d split order (λ _. fails)
 
--- the same place among the endpoints
+-- the same index among the endpoints
 abbrev pub StandsAt : ℕ → ℕ → List Endpoint → ℕ → Type 0
 StandsAt cell device es i = IsPartitionPoint (λ (e : Endpoint). is_before cell device e.spec ≡ true) (λ (e : Endpoint). is_before cell device e.spec ≡ false) es i
 
-stands_at : (cell device : ℕ) (es : List Endpoint) (i : ℕ) → i ≤ length es → IsPlace cell device (map key_of es) i → StandsAt cell device es i
-stands_at cell device es i bound place = (
+stands_at : (cell device : ℕ) (es : List Endpoint) (i : ℕ) → i ≤ length es → IsIndex cell device (map key_of es) i → StandsAt cell device es i
+stands_at cell device es i bound split = (
   (λ k d low before.
       let inside : k < length es = omega arith in
-      sym (ap (is_key_before cell device) (get_or-map key_of es k d (key_of d) inside)) ∙ place.0 k (key_of d) low before),
+      sym (ap (is_key_before cell device) (get_or-map key_of es k d (key_of d) inside)) ∙ split.0 k (key_of d) low before),
   (λ k d past inside.
       let counted = length-map es key_of in
       let there : k < length (map key_of es) = omega arith in
-      sym (ap (is_key_before cell device) (get_or-map key_of es k d (key_of d) inside)) ∙ place.1 k (key_of d) past there),
+      sym (ap (is_key_before cell device) (get_or-map key_of es k d (key_of d) inside)) ∙ split.1 k (key_of d) past there),
 )
 
 -- put there, an endpoint has joined
 inserted_joins : (s : EndpointSpec) (es : List Endpoint) (i : ℕ) → i ≤ length es → StandsAt s.cell s.device es i → insert es i (fresh s) ≡ joined s es
-inserted_joins s [] zero bound place = refl
-inserted_joins s [] (suc i) bound place = absurd (let no : ⊥ = omega arith in no)
-inserted_joins s (e ∷ es) zero bound place =
-    let fails : is_before s.cell s.device e.spec ≡ false = place.1 0 e (omega arith) (omega arith) in
+inserted_joins s [] zero bound split = refl
+inserted_joins s [] (suc i) bound split = absurd (let no : ⊥ = omega arith in no)
+inserted_joins s (e ∷ es) zero bound split =
+    let fails : is_before s.cell s.device e.spec ≡ false = split.1 0 e (omega arith) (omega arith) in
     sym (ap (λ b. cond b (e ∷ joined s es) (fresh s ∷ e ∷ es)) fails)
-inserted_joins s (e ∷ es) (suc i) bound place =
-    let passes : is_before s.cell s.device e.spec ≡ true = place.0 0 e (omega arith) (omega arith) in
+inserted_joins s (e ∷ es) (suc i) bound split =
+    let passes : is_before s.cell s.device e.spec ≡ true = split.0 0 e (omega arith) (omega arith) in
     ap (λ l. e ∷ l) (inserted_joins s es i (omega arith) (
-      (λ k d low before. place.0 (suc k) d (omega arith) (omega arith)),
-      (λ k d past inside. place.1 (suc k) d (omega arith) (omega arith)),
+      (λ k d low before. split.0 (suc k) d (omega arith) (omega arith)),
+      (λ k d past inside. split.1 (suc k) d (omega arith) (omega arith)),
     ))
     ∙ sym (ap (λ b. cond b (e ∷ joined s es) (fresh s ∷ e ∷ es)) passes)
 
@@ -298,7 +298,7 @@ keys_insert es i e =
 -- an endpoint that is apart from all is put where it belongs
 pub kept_insert : (s : EndpointSpec) (es : List Endpoint) (i : ℕ) → i ≤ length es → AreKept es (map key_of es) → StandsAt s.cell s.device es i
     → IsSound (fresh s) → All (λ (o : Endpoint). AreApart o.spec s) es → AreKept (insert es i (fresh s)) (insert (map key_of es) i (key_of (fresh s)))
-kept_insert s es i bound kept place sound new = record {
+kept_insert s es i bound kept split sound new = record {
   keys = keys_insert es i (fresh s);
   sound = sound_insert es i (fresh s) kept.sound sound;
   apart = pairs_map (λ (o : Endpoint). o.spec) AreApart (insert es i (fresh s))
@@ -307,8 +307,8 @@ kept_insert s es i bound kept place sound new = record {
       (λ k d past inside. apart_turned (get_or es k d).spec s (new k d inside)));
   order = pairs_map (λ (o : Endpoint). o.spec) ComesBefore (insert es i (fresh s))
       (pairs_insert (λ (a b : Endpoint). ComesBefore a.spec b.spec) es i (fresh s) bound (pairs_of (λ (o : Endpoint). o.spec) ComesBefore es kept.order)
-      (λ k d before. place.0 k d (omega arith) before)
-      (λ k d past inside. comes_before (get_or es k d).spec s (new k d inside) (place.1 k d past inside)));
+      (λ k d before. split.0 k d (omega arith) before)
+      (λ k d past inside. comes_before (get_or es k d).spec s (new k d inside) (split.1 k d past inside)));
 }
 
 -- the same for what a call has put
@@ -317,13 +317,13 @@ pub record Joins (s : EndpointSpec) (es now : List Endpoint) (keys : List Key) :
   pub kept : AreKept now keys
 
 pub joins : (s : EndpointSpec) (es now : List Endpoint) (ks keys : List Key) (e : Endpoint) (key : Key) (i : ℕ) → AreKept es ks → i ≤ length ks
-    → IsPlace s.cell s.device ks i → e ≡ fresh s → key ≡ key_of e → now ≡ insert es i e → keys ≡ insert ks i key
+    → IsIndex s.cell s.device ks i → e ≡ fresh s → key ≡ key_of e → now ≡ insert es i e → keys ≡ insert ks i key
     → IsSound (fresh s) → All (λ (o : Endpoint). AreApart o.spec s) es → Joins s es now keys
-joins s es now ks keys e key i kept bound place is_e is_key put keyed sound new =
+joins s es now ks keys e key i kept bound split is_e is_key put keyed sound new =
     let counted = length-map es key_of in
     let lengths = ap length kept.keys in
     let inside : i ≤ length es = omega arith in
-    let stands : StandsAt s.cell s.device es i = stands_at s.cell s.device es i inside (subst (λ l. IsPlace s.cell s.device l i) kept.keys place) in
+    let stands : StandsAt s.cell s.device es i = stands_at s.cell s.device es i inside (subst (λ l. IsIndex s.cell s.device l i) kept.keys split) in
     let own : AreKept es (map key_of es) = subst (AreKept es) kept.keys kept in
     let all = kept_insert s es i inside own stands sound new in
     let put_fresh : now ≡ insert es i (fresh s) = put ∙ ap (insert es i) is_e in

@@ -14,7 +14,7 @@ use crate::change::{Change, Whom};
 use crate::endpoint::Endpoint;
 use crate::key::Key;
 use crate::spec::{EndpointSpec, Slot};
-use jh_num::NoMemory;
+use jh_num::{NoMemory, make_room};
 use jh_vpci::ConfigSpace;
 use std::alloc::Global;
 use std::marker::Model;
@@ -46,21 +46,21 @@ impl Model for Endpoints {
     ghost invariant = { λ s. AreKept s.endpoints.items s.keys.items };
 }
 
-/// How many keys stand before the device.
-fn place_before(keys: &[Key], cell: u32, device: u32) -> usize
+/// The index at which the device's key stands, or would: those of lower devices stand before it.
+fn insertion_index(keys: &[Key], cell: u32, device: u32) -> usize
     requires { AreInOrder keys.now }
     ensures bound { result ≤ length keys.now }
-    ensures place { IsPartitionPoint (λ key. is_key_before cell device key ≡ true) (λ key. is_key_before cell device key ≡ false) keys.now result }
+    ensures partition { IsPartitionPoint (λ key. is_key_before cell device key ≡ true) (λ key. is_key_before cell device key ≡ false) keys.now result }
 {
     keys.partition_point(|key| key.is_before(cell, device))
 }
 
-/// Where the key of the device stands.
-fn place_of(keys: &[Key], cell: u32, device: u32) -> Option<usize>
+/// The index of the device's key.
+fn key_index(keys: &[Key], cell: u32, device: u32) -> Option<usize>
     requires { AreInOrder keys.now }
     ensures { result ≡ position (is_key_meant (Device cell device)) keys.now }
 {
-    let i = place_before(keys, cell, device);
+    let i = insertion_index(keys, cell, device);
     if i < keys.len() && keys[i].is_meant(Whom::Device { cell, device }) {
         Some(i)
     } else {
@@ -89,7 +89,7 @@ fn change_one(
     ensures room { vec_capacity endpoints.new ≡ vec_capacity endpoints.old }
     ensures key_room { vec_capacity keys.new ≡ vec_capacity keys.old }
 {
-    match place_of(keys, cell, device) {
+    match key_index(keys, cell, device) {
         Some(i) => {
             let endpoint = &mut endpoints[i];
             endpoint.apply(change);
@@ -127,30 +127,15 @@ fn earlier(one: Option<(u32, u8)>, other: Option<(u32, u8)>) -> Option<(u32, u8)
     }
 }
 
-/// Makes room for one more, where there is none.
-fn make_room<T>(list: &mut Vec<T>) -> Result<(), NoMemory>
-    ensures items { list.new.items ≡ list.old.items }
-    ensures len { vec_len list.new ≡ vec_len list.old }
-    ensures ok { OnOk result (vec_len list.new < vec_capacity list.new) }
-    ensures spare { vec_len list.old < vec_capacity list.old → IsOk result }
-    ensures capacity { vec_len list.old < vec_capacity list.old → vec_capacity list.new ≡ vec_capacity list.old }
-{
-    if list.len() < list.capacity() {
-        return Ok(());
-    }
-    list.reserve(1)?;
-    Ok(())
-}
-
 /// Puts an element at the index, where there is room.
-fn put<T: Drop>(list: &mut Vec<T>, place: usize, element: T)
-    requires place { place ≤ vec_len list.old }
+fn put<T: Drop>(list: &mut Vec<T>, index: usize, element: T)
+    requires within { index ≤ vec_len list.old }
     requires room { vec_len list.old < vec_capacity list.old }
-    ensures items { list.new.items ≡ insert list.old.items place element }
+    ensures items { list.new.items ≡ insert list.old.items index element }
     ensures len { vec_len list.new ≡ vec_len list.old + 1 }
     ensures capacity { vec_capacity list.new ≡ vec_capacity list.old }
 {
-    match list.insert(place, element) {
+    match list.insert(index, element) {
         Ok(()) => {}
         Err(_) => unreachable!(),
     }
@@ -221,13 +206,13 @@ impl Endpoints {
         Ok(())
     }
 
-    /// Where the endpoint of the device stands.
-    fn place(&self, cell: u32, device: u32) -> usize
+    /// The index of the device's endpoint.
+    fn index_of(&self, cell: u32, device: u32) -> usize
         requires there { IsSome (endpoint_at cell device self.now.list) }
         ensures value { slice_get self.now.list result ≡ endpoint_at cell device self.now.list }
         ensures bound { result < length self.now.list }
     {
-        match place_of(&self.keys, cell, device) {
+        match key_index(&self.keys, cell, device) {
             Some(i) => i,
             None => unreachable!(),
         }
@@ -237,7 +222,7 @@ impl Endpoints {
     pub fn has(&self, cell: u32, device: u32) -> bool
         ensures { result ≡ is_some (endpoint_at cell device self.now.list) }
     {
-        place_of(&self.keys, cell, device).is_some()
+        key_index(&self.keys, cell, device).is_some()
     }
 
     /// The endpoint of the device.
@@ -246,7 +231,7 @@ impl Endpoints {
         ensures value { endpoint_at cell device self.now.list ≡ Some result.now }
         ensures sound { IsSound result.now }
     {
-        &self.endpoints[self.place(cell, device)]
+        &self.endpoints[self.index_of(cell, device)]
     }
 
     /// Makes the change at each endpoint that is meant.
@@ -285,9 +270,9 @@ impl Endpoints {
         let key = Key::of(&endpoint);
         make_room(&mut self.endpoints)?;
         make_room(&mut self.keys)?;
-        let place = place_before(&self.keys, s.cell, s.device);
-        put(&mut self.endpoints, place, endpoint);
-        put(&mut self.keys, place, key);
+        let index = insertion_index(&self.keys, s.cell, s.device);
+        put(&mut self.endpoints, index, endpoint);
+        put(&mut self.keys, index, key);
         Ok(slot)
     }
 
@@ -355,7 +340,7 @@ impl Endpoints {
         ensures others { (space : Space) → besides (is_device cell device) (with_space cell device space self.old).list ≡ besides (is_device cell device) self.old.list }
         ensures* writes_back { sem 𝓛 (LendsSpace self.entry cell device result) }
     {
-        let i = self.place(cell, device);
+        let i = self.index_of(cell, device);
         let endpoint = &mut self.endpoints[i];
         &mut endpoint.space
     }

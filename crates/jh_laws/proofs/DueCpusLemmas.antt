@@ -19,8 +19,6 @@ use Rattle.jh_script.specs.declared.image.Image.{Image}
 use Rattle.jh_script.specs.declared.op.Op.{Op}
 use Rattle.jh_script.specs.declared.op.Op.TheVariants.{Read as ReadOp, Write as WriteOp, Fetch as FetchOp, Await as AwaitOp, Irq as IrqOp, Hvc as HvcOp}
 use Rattle.jh_script.specs.Operations.{IsWellFormed}
-use Rattle.jh_history.specs.declared.place.Place.{Place}
-use Rattle.jh_history.specs.declared.place.Place.TheVariants.{Physical}
 use Rattle.jh_history.specs.declared.access.Access.TheVariants.{Read as ToRead}
 use Rattle.jh_history.specs.declared.call.OpenCall.{OpenCall}
 use Rattle.jh_history.specs.declared.call.Phase.{Phase}
@@ -54,10 +52,6 @@ use Rattle.jh_laws.proofs.PendingLemmas.{next_some_holds, next_is}
 use Rattle.jh_laws.proofs.EndsLemmas.{got_of_cell, one_value, width_some, ops_plain}
 
 -- ---- what an operation comes to
-
-abbrev picked_place : Option Place → Place
-picked_place None = Physical 0
-picked_place (Some place) = place
 
 await_due : (image : Image) (f : Facts) (id width at value : ℕ) (o : Option ℕ) → IsGotBy image f id ToRead at width o → is_some (await_of width at value o) ≡ true → IsAnswered image f id ToRead at width → IsReadBy image f id ToRead at width value
 await_due image f id width at value None got due answered = absurd (false≢true (got.answered.1 answered))

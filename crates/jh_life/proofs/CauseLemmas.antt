@@ -16,7 +16,7 @@ use Rattle.jh_check.specs.Verdicts.{names, is_overlap, is_invalid, is_busy, verd
 use Rattle.jh_check.proofs.BoolLemmas.{false_from_not}
 use Rattle.jh_check.proofs.RefusalLemmas.{beyond_named, named_beyond}
 use Rattle.jh_check.proofs.RuleLemmas.{broken_from_listed, listed_from_broken}
-use Rattle.jh_shape.specs.Claims.{has_bit}
+use Rattle.jh_num.specs.Bits.{has_bit}
 use Rattle.jh_shape.specs.Pages.{pages_of}
 use Rattle.jh_life.specs.Seen.{Seen}
 use Rattle.jh_life.specs.Lives.{configs_of, cells_of}

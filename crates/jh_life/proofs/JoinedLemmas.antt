@@ -1,9 +1,9 @@
 -- Configurations, each with its mark.
-use Rattle.std.proofs.Common.{◌≡◌, ℕ, zero, suc, ◌+◌, ◌-◌, ◌<◌, nat_lt, Bool, true, false, cond, List, [], ◌∷◌, ◌++◌, length, get_or, remove, position, sum_by, Some, None, refl, sym, ap, ◌∙◌, arith}
+use Rattle.std.proofs.Common.{◌≡◌, ℕ, zero, suc, ◌+◌, ◌-◌, ◌<◌, nat_lt, Bool, true, false, cond, List, [], ◌∷◌, ◌++◌, length, get_or, map, remove, position, sum_by, Some, None, refl, sym, ap, ◌∙◌, arith}
 use Rattle.std.specs.Prelude.{option_map}
 use Rattle.std.specs.List.{position_or_len}
 use Rattle.std.proofs.lemmas.Bool.Decides.{nat_tests}
-use Rattle.std.proofs.lemmas.List.{length_push}
+use Rattle.std.proofs.lemmas.List.{length_push, map_push, get_or-map}
 use Rattle.std.proofs.lemmas.List.Sums.{sum_by_push, sum_by-remove}
 use Rattle.std.proofs.lemmas.List.Quantifiers.{all_pairs_push, all_pairs_remove}
 use Rattle.jh_num.proofs.Lists.{list_any_false, read_again}
@@ -53,8 +53,8 @@ length_removed zero (x ∷ xs) l = refl
 length_removed (suc i) (x ∷ xs) l = ap (λ n. suc n) (length_removed i xs (omega arith))
 
 -- the records stand at each change
-pub stands_push : (root : CellConfig) (configs : List CellConfig) (marks : List Bool) (taken : ℕ) (new : CellConfig) (more : ℕ) → AreSoundRecords root configs marks taken → length configs < 15 → is_known (root ∷ configs) new ≡ false → more ≡ own_pages new → AreSoundRecords root (configs ++ new ∷ []) (marks ++ false ∷ []) (taken + more)
-stands_push root configs marks taken new more h few unknown own =
+pub stands_push : (root : CellConfig) (configs : List CellConfig) (marks : List Bool) (own : List ℕ) (taken : ℕ) (new : CellConfig) (more : ℕ) → AreSoundRecords root configs marks own taken → length configs < 15 → is_known (root ∷ configs) new ≡ false → more ≡ own_pages new → AreSoundRecords root (configs ++ new ∷ []) (marks ++ false ∷ []) (own ++ more ∷ []) (taken + more)
+stands_push root configs marks own taken new more h few unknown is =
     let even = h.even in
     let a = length_push configs new in
     let b = length_push marks false in
@@ -63,25 +63,34 @@ stands_push root configs marks taken new more h few unknown own =
       few = omega arith;
       differ = all_pairs_push AreTwo (root ∷ configs) new h.differ (λ k d l.
           list_any_false (is_namesake new) (root ∷ configs) (get_or (root ∷ configs) k d) unknown (k, l, sym (read_again (root ∷ configs) k d l)));
-      pages = ap (λ n. n + more) h.pages ∙ ap (λ n. sum_by own_pages configs + n) own ∙ sym (sum_by_push own_pages configs new);
+      each = ap (λ (ns : List ℕ). ns ++ more ∷ []) h.each ∙ ap (λ (n : ℕ). map own_pages configs ++ n ∷ []) is ∙ sym (map_push own_pages configs new);
+      pages = ap (λ n. n + more) h.pages ∙ ap (λ n. sum_by own_pages configs + n) is ∙ sym (sum_by_push own_pages configs new);
     }
 
 -- those of one of them are among the pages that are taken
-pub own_among : (root : CellConfig) (configs : List CellConfig) (marks : List Bool) (taken i : ℕ) (d : CellConfig) (gone : ℕ) → AreSoundRecords root configs marks taken → i < length configs → gone ≡ own_pages (get_or configs i d) → sum_by own_pages (remove configs i) + gone ≡ taken
-own_among root configs marks taken i d gone h l own =
-    ap (λ n. sum_by own_pages (remove configs i) + n) own ∙ sum_by-remove own_pages configs i d l ∙ sym h.pages
+pub own_among : (root : CellConfig) (configs : List CellConfig) (marks : List Bool) (own : List ℕ) (taken i e gone : ℕ) → AreSoundRecords root configs marks own taken → i < length configs → gone ≡ get_or own i e → sum_by own_pages (remove configs i) + gone ≡ taken
+own_among root configs marks own taken i e gone h l is =
+    let pages : gone ≡ own_pages (get_or configs i root) = is ∙ ap (λ (ns : List ℕ). get_or ns i e) h.each ∙ get_or-map own_pages configs i root e l in
+    ap (λ n. sum_by own_pages (remove configs i) + n) pages ∙ sum_by-remove own_pages configs i root l ∙ sym h.pages
 
-pub stands_remove : (root : CellConfig) (configs : List CellConfig) (marks : List Bool) (taken i : ℕ) (d : CellConfig) (gone : ℕ) → AreSoundRecords root configs marks taken → i < length configs → gone ≡ own_pages (get_or configs i d) → AreSoundRecords root (remove configs i) (remove marks i) (taken - gone)
-stands_remove root configs marks taken i d gone h l own =
+map_removed : {X Y : Type 0} (f : X → Y) (xs : List X) (i : ℕ) → remove (map f xs) i ≡ map f (remove xs i)
+map_removed f [] zero = refl
+map_removed f [] (suc i) = refl
+map_removed f (x ∷ xs) zero = refl
+map_removed {Y = Y} f (x ∷ xs) (suc i) = ap (λ (rest : List Y). f x ∷ rest) (map_removed f xs i)
+
+pub stands_remove : (root : CellConfig) (configs : List CellConfig) (marks : List Bool) (own : List ℕ) (taken i e gone : ℕ) → AreSoundRecords root configs marks own taken → i < length configs → gone ≡ get_or own i e → AreSoundRecords root (remove configs i) (remove marks i) (remove own i) (taken - gone)
+stands_remove root configs marks own taken i e gone h l is =
     let even = h.even in
     let few = h.few in
     let a = length_removed i configs l in
     let b = length_removed i marks (omega arith) in
-    let among : sum_by own_pages (remove configs i) + gone ≡ taken = own_among root configs marks taken i d gone h l own in
+    let among : sum_by own_pages (remove configs i) + gone ≡ taken = own_among root configs marks own taken i e gone h l is in
     record {
       even = omega arith;
       few = omega arith;
       differ = all_pairs_remove AreTwo (root ∷ configs) (suc i) (omega arith) h.differ;
+      each = ap (λ (ns : List ℕ). remove ns i) h.each ∙ map_removed own_pages configs i;
       pages = omega arith;
     }
 

@@ -4,7 +4,7 @@ use Rattle.std.specs.Int.{bit_at}
 use Rattle.std.proofs.lemmas.Bool.{cases_lt}
 use Rattle.std.proofs.lemmas.Nat.Bits.{bit_at-zero}
 use Rattle.std.proofs.Math.Nat.{pow-le-pow_right, div-eq_of_lt}
-use Rattle.jh_shape.specs.Claims.{has_bit}
+use Rattle.jh_num.specs.Bits.{has_bit}
 
 pub no_bit : (k : ℕ) → has_bit 0 k ≡ false
 no_bit k = rw (bit_at-zero k) refl

@@ -9,7 +9,7 @@ use Rattle.jh_check.specs.declared.verdict.NewCell.{NewCell}
 use Rattle.jh_check.specs.declared.verdict.NewCell.TheVariants.{Clean, Invalid, Busy}
 use Rattle.jh_check.specs.Verdicts.{verdict_of}
 use Rattle.jh_check.specs.Refusals.{is_known, names_beyond, nobody, by_check, refusal_of}
-use Rattle.jh_shape.specs.Claims.{has_bit}
+use Rattle.jh_num.specs.Bits.{has_bit}
 use Rattle.jh_life.specs.Verdict.{may_have}
 
 -- other CPUs that may be given away, or another count of pages, that are the same

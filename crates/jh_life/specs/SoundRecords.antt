@@ -1,5 +1,5 @@
 -- What holds of the records of live cells at every moment.
-use Rattle.std.specs.Prelude.{◌≡◌, ℕ, ◌+◌, ◌≤◌, Bool, false, List, [], ◌∷◌, length, sum_by, AllPairs}
+use Rattle.std.specs.Prelude.{◌≡◌, ℕ, ◌+◌, ◌≤◌, Bool, false, List, [], ◌∷◌, length, map, sum_by, AllPairs}
 use Rattle.jh_cellcfg.specs.declared.config.CellConfig.{CellConfig}
 use Rattle.jh_cellcfg.specs.declared.live.Live.{Live}
 use Rattle.jh_check.specs.Refusals.{is_namesake}
@@ -16,9 +16,10 @@ abbrev pub AreTwo : CellConfig → CellConfig → Type 0
 AreTwo earlier later = is_namesake later earlier ≡ false
 
 -- each cell has a mark, there are at most 15, no two of them and root have one name or one id, and so many pages are
--- taken by them without root: their tables, and a communication page for each
-pub record AreSoundRecords (root : CellConfig) (configs : List CellConfig) (marks : List Bool) (taken : ℕ) : Type 0 where
+-- taken by each, and so many by them together: their tables, and a communication page for each
+pub record AreSoundRecords (root : CellConfig) (configs : List CellConfig) (marks : List Bool) (own : List ℕ) (taken : ℕ) : Type 0 where
   pub even : length marks ≡ length configs
   pub few : length configs ≤ 15
   pub differ : AllPairs AreTwo (root ∷ configs)
+  pub each : own ≡ map (λ (cell : CellConfig). tables_of (cell_claims cell) + 1) configs
   pub pages : taken ≡ sum_by (λ (cell : CellConfig). tables_of (cell_claims cell) + 1) configs

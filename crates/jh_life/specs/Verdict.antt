@@ -3,7 +3,7 @@ use Rattle.std.specs.Prelude.{ℕ, ℤ, Bool, ◌&&◌, not, ◌==◌, [], ◌�
 use Rattle.jh_num.specs.declared.error.TheConstants.{EPERM}
 use Rattle.jh_cellcfg.specs.declared.config.CellConfig.{CellConfig}
 use Rattle.jh_check.specs.Refusals.{refusal_of}
-use Rattle.jh_shape.specs.Claims.{has_bit}
+use Rattle.jh_num.specs.Bits.{has_bit}
 use Rattle.jh_shape.specs.Pages.{pages_of}
 use Rattle.jh_life.specs.Seen.{Seen}
 use Rattle.jh_life.specs.Lives.{configs_of}

@@ -1,9 +1,9 @@
 //! The records of the cells that live.
-ghost use Rattle.std.specs.Prelude.{vec_len, vec_capacity, ◌≡◌, ◌↔◌, ℕ, ◌+◌, ◌-◌, ◌<◌, ◌≤◌, Bool, false, [], ◌∷◌, ◌++◌, length, map, position, remove, slice_set, option_to_list, IfNone, IfOk, OnOk, OnErr, IsOk, IsTrue, AllPairs};
+ghost use Rattle.std.specs.Prelude.{◌≡◌, ◌↔◌, ℕ, ◌+◌, ◌-◌, ◌<◌, ◌≤◌, Bool, false, [], ◌∷◌, ◌++◌, length, map, position, remove, slice_set, option_to_list, IfNone, IfOk, OnOk, OnErr, IsOk, IsTrue, AllPairs};
 ghost use Rattle.std.specs.Option.{option_copied};
 ghost use Rattle.jh_cellcfg.specs.declared.live.Live.{Live};
 ghost use Rattle.jh_check.specs.Refusals.{is_known};
-ghost use Rattle.jh_shape.specs.Claims.{has_bit};
+ghost use Rattle.jh_num.specs.Bits.{has_bit};
 ghost use Rattle.jh_shape.specs.Pages.{pages_of};
 ghost use Rattle.jh_life.specs.Lives.{new_live, has_config_id, configs_of, marks_of, cells_of, is_loadable_at, number_of};
 ghost use Rattle.jh_life.specs.SoundRecords.{AreTwo};
@@ -14,8 +14,8 @@ use crate::counting::{pages_of, refusal_by_pages};
 use crate::marks::{free_cpus, mask_of};
 use jh_cellcfg::{CellConfig, SystemConfig};
 use jh_check::{refusal_of, refusal_without_cpus};
-use jh_num::NoMemory;
 use jh_num::error::EPERM;
+use jh_num::{NoMemory, make_room};
 use jh_shape::{cell_pages, tables_are_few};
 use std::alloc::Global;
 use std::marker::Model;
@@ -30,7 +30,9 @@ pub struct Cells {
     system: SystemConfig,
     configs: Vec<CellConfig>,
     marks: Vec<bool>,
-    /// How many pages the cells besides root take.
+    /// How many pages each cell besides root takes.
+    own: Vec<u64>,
+    /// How many they take together.
     taken: u64,
 }
 
@@ -44,10 +46,10 @@ impl Model for Cells {
     ghost view = { λ c. record {
       system = c.system;
       lives = joined c.configs.items c.marks.items;
-      spare = min (vec_capacity c.configs - vec_len c.configs) (vec_capacity c.marks - vec_len c.marks);
+      spare = min (min (vec_capacity c.configs - vec_len c.configs) (vec_capacity c.marks - vec_len c.marks)) (vec_capacity c.own - vec_len c.own);
     } };
 
-    ghost invariant = { λ c. AreSoundRecords c.system.root c.configs.items c.marks.items c.taken };
+    ghost invariant = { λ c. AreSoundRecords c.system.root c.configs.items c.marks.items c.own.items c.taken };
 }
 
 /// The index of the cell with the id.
@@ -55,21 +57,6 @@ fn index_of(cells: &[CellConfig], id: u32) -> Option<usize>
     ensures { result ≡ position (has_config_id id) cells.now }
 {
     cells.iter().position(|cell| cell.id == id)
-}
-
-/// Makes room for one more, where there is none.
-fn make_room<T>(list: &mut Vec<T>) -> Result<(), NoMemory>
-    ensures items { list.new.items ≡ list.old.items }
-    ensures len { vec_len list.new ≡ vec_len list.old }
-    ensures ok { OnOk result (vec_len list.new < vec_capacity list.new) }
-    ensures spare { vec_len list.old < vec_capacity list.old → IsOk result }
-    ensures capacity { vec_len list.old < vec_capacity list.old → vec_capacity list.new ≡ vec_capacity list.old }
-{
-    if list.len() < list.capacity() {
-        return Ok(());
-    }
-    list.reserve(1)?;
-    Ok(())
 }
 
 impl Cells {
@@ -89,6 +76,7 @@ impl Cells {
             system: copy_of_system(alloc, system)?,
             configs: Vec::new(alloc),
             marks: Vec::new(alloc),
+            own: Vec::new(alloc),
             taken: 0,
         })
     }
@@ -179,6 +167,7 @@ impl Cells {
     {
         self.configs.reserve(1)?;
         self.marks.reserve(1)?;
+        self.own.reserve(1)?;
         Ok(())
     }
 
@@ -194,10 +183,13 @@ impl Cells {
     {
         make_room(&mut self.configs)?;
         make_room(&mut self.marks)?;
+        make_room(&mut self.own)?;
         tables_are_few();
-        self.taken += cell_pages(&new);
+        let own = cell_pages(&new);
+        self.taken += own;
         self.configs.push_reserved(new);
         self.marks.push_reserved(false);
+        self.own.push_reserved(own);
         Ok(())
     }
 
@@ -210,8 +202,7 @@ impl Cells {
         ensures spare { self.new.spare ≡ self.old.spare + 1 }
     {
         let index = number as usize - 1;
-        let live = self.configs.as_slice();
-        let gone = cell_pages(&live[index]);
+        let gone = self.own.remove(index);
         self.taken -= gone;
         // the configuration is dropped, and its mark with it
         let _ = self.configs.remove(index);

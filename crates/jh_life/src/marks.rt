@@ -1,15 +1,9 @@
 //! Marks as bits.
 ghost use Rattle.std.specs.Prelude.{◌≡◌, ◌≢◌, ◌≤◌, ◌<◌, ℕ, false, length, slice_index_or};
-ghost use Rattle.jh_shape.specs.Claims.{has_bit};
+ghost use Rattle.jh_num.specs.Bits.{has_bit};
 ghost use Rattle.jh_life.specs.Verdict.{may_have};
 
-/// Whether the bit of that number is set.
-pub(crate) fn has_bit(mask: u16, index: usize) -> bool
-    requires { index < 16 }
-    ensures { result ≡ has_bit mask index }
-{
-    mask >> index & 1 == 1
-}
+use jh_num::has_bit;
 
 /// The mask with the bit of that number put, which wasn't set.
 fn with_bit(mask: u16, index: usize, on: bool) -> u16

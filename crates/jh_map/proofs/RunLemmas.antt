@@ -1,11 +1,10 @@
 -- The map of one region.
-use Rattle.std.proofs.Common.{◌≡◌, ℕ, zero, suc, ◌+◌, ◌-◌, ◌<◌, ◌≤◌, Bool, true, false, cond, ◌&&◌, ◌||◌, not, List, [], ◌∷◌, ◌++◌, length, get_or, map, refl, sym, ap, subst, ◌∙◌, ⊎_elim, arith}
-use Rattle.std.specs.Prelude.{All, AllPairs, Contains}
-use Rattle.std.proofs.lemmas.Bool.{and_parts, and_from, and_left, cases_Bool, cases_order, both_ways, false_from_ne_true}
+use Rattle.std.proofs.Common.{◌≡◌, ℕ, ◌+◌, ◌-◌, ◌<◌, ◌≤◌, Bool, true, false, cond, ◌&&◌, ◌||◌, not, List, [], ◌∷◌, length, get_or, map, refl, sym, ap, subst, ◌∙◌, ⊎_elim, arith}
+use Rattle.std.specs.Prelude.{All, AllPairs}
+use Rattle.std.proofs.lemmas.Bool.{and_parts, and_left, cases_Bool, cases_order, both_ways, false_from_ne_true}
 use Rattle.std.proofs.lemmas.Bool.Decides.{nat_tests}
 use Rattle.std.proofs.lemmas.List.{get_or-map, get_or_default, length-map}
 use Rattle.std.proofs.lemmas.List.Elements.{All-nil, All-cons, All-map, Contains-get_or}
-use Rattle.jh_num.specs.declared.address.TheConstants.{ADDRESS_END}
 use Rattle.jh_num.specs.declared.range.Range.{Range}
 use Rattle.jh_num.specs.Bytes.{in_range, has_byte, AreApart}
 use Rattle.jh_num.proofs.BytesLemmas.{within_range, not_empty_at, ends_before}
@@ -13,22 +12,9 @@ use Rattle.jh_num.proofs.Lists.{IsFound_from_list_any, list_any_from_Contains, C
 use Rattle.jh_cellcfg.specs.declared.region.Region.{Region}
 use Rattle.jh_cellcfg.specs.Regions.{has_address, has_place, is_comm, place_in, byte_in, virt_end, phys_end, IsInRange}
 use Rattle.jh_map.specs.declared.run.Run.{Run}
-use Rattle.jh_map.specs.Maps.{is_granted, leads_to, IsIn, IsRunOf, IsRunIn, IsTold, EndsBefore, IsMap}
+use Rattle.jh_map.specs.Maps.{is_granted, IsRunOf, IsRunIn, IsTold, EndsBefore, IsMap}
 use Rattle.jh_map.specs.Private.Places.{AreFree, run_to}
 use Rattle.jh_map.proofs.MapLemmas.{has_low, has_high, has_from, granted_has, alone}
-
--- an empty region grants nothing
-pub empty_map : (closed : ℕ → Bool) (r : Region) → r.size ≡ 0 → IsMap closed (r ∷ []) []
-empty_map closed r none = record {
-  own = All-nil (IsRunIn closed (r ∷ []));
-  whole = λ s at held granted.
-      let P : Region → Type 0 = λ x. is_granted closed x at ≡ true in
-      let has = granted_has closed r at (subst P (sym (alone r s held)) granted) in
-      let low = has_low r at has in
-      let high = has_high r at has in
-      absurd (omega arith);
-  order = λ i j d lt jl. absurd (omega arith);
-}
 
 -- one run has all that a region grants
 pub whole_map : (closed : ℕ → Bool) (r : Region) (run : Run) → IsRunOf closed r run → run.start ≡ r.virt_start → run.end ≡ virt_end r → IsMap closed (r ∷ []) (run ∷ [])

@@ -1,9 +1,8 @@
 -- Tests that are true or false. What std has of them stands in `std.proofs.lemmas.Bool` (`and_parts`,
 -- `and_from`, `or_cases`, `or_parts`, `not-true`, `false_from_ne_true`, `both_ways` ..) and in
 -- `std.proofs.Math.Bool` (`or-true`, `or-false`, `and-true`, `and-false` ..).
-use Rattle.std.proofs.Common.{◌≡◌, ℕ, ◌<◌, Bool, true, false, ◌&&◌, ◌||◌, eqb, refl, sym, ◌∙◌, arith}
-use Rattle.std.proofs.lemmas.Bool.{eq-eqb, both_ways}
-use Rattle.std.proofs.lemmas.Bool.Decides.{nat_tests}
+use Rattle.std.proofs.Common.{◌≡◌, ℕ, Bool, true, false, ◌&&◌, ◌||◌, eqb, refl, sym}
+use Rattle.std.proofs.lemmas.Bool.{eq-eqb}
 
 -- two tests, each true where the other is
 pub same_test : (a b : Bool) → (a ≡ true → b ≡ true) → (b ≡ true → a ≡ true) → a ≡ b
@@ -11,21 +10,9 @@ same_test true b h k = sym (h refl)
 same_test false true h k = k refl
 same_test false false h k = refl
 
--- a number equals itself, and one that isn't 0 is above it
+-- a number equals itself
 pub same_number : (n : ℕ) → eqb n n ≡ true
 same_number n = eq-eqb n n refl
-
-pub some_number : (n : ℕ) → eqb n 0 ≡ false → 0 < n
-some_number n h = grind (arith, nat_tests)
-
--- the first of two tests that fail together, where the second passes, and the other way round
-pub and_first_fails : (a b : Bool) → b ≡ true → (a && b) ≡ false → a ≡ false
-and_first_fails true b k h = sym k ∙ h
-and_first_fails false b k h = refl
-
-pub and_second_fails : (a b : Bool) → a ≡ true → (a && b) ≡ false → b ≡ false
-and_second_fails true b k h = h
-and_second_fails false b k h = absurd (both_ways false refl k)
 
 pub and_comm : (x y : Bool) → (x && y) ≡ (y && x)
 and_comm true true = refl

@@ -31,12 +31,6 @@ AreApartFrom_take low zero xs a = tt
 AreApartFrom_take low (suc k) [] a = tt
 AreApartFrom_take low (suc k) (x ∷ xs) a = (a.0, a.1, AreApartFrom_take (x.end + 1) k xs a.2)
 
-pub AreApartFrom_drop : (low k : ℕ) (xs : List Range) → AreApartFrom low xs → AreApartFrom low (drop k xs)
-AreApartFrom_drop low zero xs a = a
-AreApartFrom_drop low (suc k) [] a = tt
-AreApartFrom_drop low (suc k) (x ∷ xs) a =
-    AreApartFrom_drop low k xs (AreApartFrom_lower (x.end + 1) low xs (omega arith) a.2)
-
 -- no byte below the first range
 pub absent_below : (low : ℕ) (xs : List Range) (b : ℕ) → AreApartFrom low xs → b < low → has_byte xs b ≡ false
 absent_below low [] b a h = refl

@@ -2,6 +2,7 @@ pub mod BytesLemmas
 pub mod InsertLemmas
 pub mod StepsLemmas
 pub mod MeetingLemmas
+pub mod MergeLemmas
 pub mod RemoveLemmas
 pub mod ReadLemmas
 pub mod SearchLemmas

@@ -1,14 +1,14 @@
 -- What an element of a list tells of `find`, `list_any`, `filter` and `map`, and what they tell of one.
 -- What std has of them stands in `std.proofs.lemmas.List.Elements` (`Contains-append_left`,
 -- `All-contains`, `filter_passes` ..) and `.Folds` (`find-append`, `list_any-append`, `list_any_more` ..).
-use Rattle.std.proofs.Common.{◌≡◌, ℕ, zero, suc, ◌+◌, ◌<◌, Bool, true, false, cond, not, ◌||◌, List, [], ◌∷◌, ◌++◌, length, get_or, take, drop, map, Option, Some, None, refl, sym, ap, subst, ◌∙◌, inl, inr, ◌⊎◌, ⊎_elim, arith}
-use Rattle.std.specs.Prelude.{slice_get, filter, option_map, is_none, is_some}
+use Rattle.std.proofs.Common.{◌≡◌, ℕ, zero, suc, ◌+◌, ◌<◌, Bool, true, false, cond, not, ◌||◌, List, [], ◌∷◌, ◌++◌, length, get_or, drop, map, Option, Some, None, refl, sym, ap, subst, ◌∙◌, inl, inr, ◌⊎◌, ⊎_elim, arith}
+use Rattle.std.specs.Prelude.{slice_get, filter, option_map, is_none}
 use Rattle.std.specs.List.{find, list_any, list_all, Contains, All}
 use Rattle.std.proofs.lemmas.Bool.{cases_Bool, both_ways, or_left, or_right, or_cases, and_parts, and_from}
 use Rattle.std.proofs.lemmas.Option.{none-some, same_Some, slice_get-get_or, slice_get_past, get_or_from_slice_get}
 use Rattle.std.proofs.lemmas.List.{drop_more, drop_all}
-use Rattle.std.proofs.lemmas.List.Elements.{All-contains, Contains-append_left, Contains-append_right, Contains-append_cases}
-use Rattle.std.proofs.lemmas.List.Folds.{list_any_at, list_any_more, Any-from_list_any}
+use Rattle.std.proofs.lemmas.List.Elements.{All-contains}
+use Rattle.std.proofs.lemmas.List.Folds.{list_any_at, Any-from_list_any}
 
 -- an element is the first, or one of the rest
 pub Contains_head : {X : Type 0} (x : X) (xs : List X) → Contains (x ∷ xs) x
@@ -20,14 +20,6 @@ Contains_tail y ys x (k, below, is) = (suc k, omega arith, is)
 pub Contains_cases : {X : Type 0} (y : X) (ys : List X) (x : X) → Contains (y ∷ ys) x → (y ≡ x) ⊎ Contains ys x
 Contains_cases y ys x (zero, below, is) = inl is
 Contains_cases y ys x (suc k, below, is) = inr (k, omega arith, is)
-
--- the elements of a list around one of them
-pub Contains_without : {X : Type 0} (xs : List X) (c : X) (ys : List X) (x : X) → Contains (xs ++ ys) x → Contains (xs ++ c ∷ ys) x
-Contains_without xs c ys x h =
-    ⊎_elim
-    (λ l. Contains-append_left xs (c ∷ ys) x l)
-    (λ r. Contains-append_right xs (c ∷ ys) x (Contains_tail c ys x r))
-    (Contains-append_cases xs ys x h)
 
 -- the element passes, and is one of the list
 pub record IsFound {X : Type 0} (p : X → Bool) (xs : List X) (x : X) : Type 0 where
@@ -104,23 +96,6 @@ find_here p xs k x lt is passes rest =
 pub find_nowhere : {X : Type 0} (p : X → Bool) (xs : List X) → find p (drop (length xs) xs) ≡ find p xs → find p xs ≡ slice_get xs (length xs)
 find_nowhere p xs rest = sym rest ∙ ap (find p) (drop_all (length xs) xs (omega arith)) ∙ sym (slice_get_past xs (length xs) (omega arith))
 
--- a search passes an element that fails
-pub find_skip : {X : Type 0} (p : X → Bool) (xs : List X) (k : ℕ) (d : X) → k < length xs → p (get_or xs k d) ≡ false → find p (drop (k + 1) xs) ≡ find p (drop k xs)
-find_skip p xs k d lt fails = sym (ap (find p) (drop_more xs k d lt) ∙ rw fails refl)
-
--- a list without an element that fails
-pub find_without : {X : Type 0} (p : X → Bool) (xs : List X) (c : X) (ys : List X) → p c ≡ false → find p (xs ++ c ∷ ys) ≡ find p (xs ++ ys)
-find_without p [] c ys fails = rw fails refl
-find_without p (x ∷ xs) c ys fails = ap (λ o. cond (p x) (Some x) o) (find_without p xs c ys fails)
-
-pub list_any_without : {X : Type 0} (p : X → Bool) (xs : List X) (c : X) (ys : List X) → p c ≡ false → list_any p (xs ++ c ∷ ys) ≡ list_any p (xs ++ ys)
-list_any_without p [] c ys fails = rw fails refl
-list_any_without p (x ∷ xs) c ys fails = ap (λ b. p x || b) (list_any_without p xs c ys fails)
-
-pub filter_without : {X : Type 0} (p : X → Bool) (xs : List X) (c : X) (ys : List X) → p c ≡ false → filter p (xs ++ c ∷ ys) ≡ filter p (xs ++ ys)
-filter_without p [] c ys fails = rw fails refl
-filter_without p (x ∷ xs) c ys fails = ap (λ zs. cond (p x) (x ∷ zs) zs) (filter_without p xs c ys fails)
-
 -- whatever passes without an element passes with it
 pub list_any_fewer : {X : Type 0} (p : X → Bool) (xs : List X) (c : X) (ys : List X) → list_any p (xs ++ ys) ≡ true → list_any p (xs ++ c ∷ ys) ≡ true
 list_any_fewer p [] c ys h = or_right (p c) (list_any p ys) h
@@ -170,20 +145,6 @@ list_any_agree p q (y ∷ ys) h =
     ap (λ b. b || list_any p ys) (h y (Contains_head y ys))
     ∙ ap (λ b. q y || b) (list_any_agree p q ys (λ x k. h x (Contains_tail y ys x k)))
 
-pub filter_agree : {X : Type 0} (p q : X → Bool) (xs : List X) → ((x : X) → Contains xs x → p x ≡ q x) → filter p xs ≡ filter q xs
-filter_agree p q [] h = refl
-filter_agree p q (y ∷ ys) h =
-    ap (λ b. cond b (y ∷ filter p ys) (filter p ys)) (h y (Contains_head y ys))
-    ∙ ap (λ zs. cond (q y) (y ∷ zs) zs) (filter_agree p q ys (λ x k. h x (Contains_tail y ys x k)))
-
--- two tests that agree as far as a loop has come
-pub list_any_agree_more : {X : Type 0} (p q : X → Bool) (xs : List X) (i : ℕ) (d : X) → i < length xs → list_any p (take i xs) ≡ list_any q (take i xs) → p (get_or xs i d) ≡ q (get_or xs i d) → list_any p (take (i + 1) xs) ≡ list_any q (take (i + 1) xs)
-list_any_agree_more p q xs i d h e f =
-    list_any_more p xs i d h
-    ∙ ap (λ v. v || p (get_or xs i d)) e
-    ∙ ap (λ v. list_any q (take i xs) || v) f
-    ∙ sym (list_any_more q xs i d h)
-
 -- a test that passes wherever another does
 pub list_any_weaker : {X : Type 0} (p q : X → Bool) → ((x : X) → p x ≡ true → q x ≡ true) → (xs : List X) → list_any p xs ≡ true → list_any q xs ≡ true
 list_any_weaker p q h [] e = e
@@ -198,11 +159,6 @@ pub is_none_find : {X : Type 0} (p : X → Bool) (xs : List X) → is_none (find
 is_none_find p [] = refl
 is_none_find p (x ∷ xs) =
     elim (p x) as (λ b. is_none (cond b (Some x) (find p xs)) ≡ not (b || list_any p xs)) [ true ↦ refl | false ↦ is_none_find p xs ]
-
-pub is_some_find : {X : Type 0} (p : X → Bool) (xs : List X) → is_some (find p xs) ≡ list_any p xs
-is_some_find p [] = refl
-is_some_find p (x ∷ xs) =
-    elim (p x) as (λ b. is_some (cond b (Some x) (find p xs)) ≡ (b || list_any p xs)) [ true ↦ refl | false ↦ is_some_find p xs ]
 
 -- a list whose elements are mapped
 pub list_any_map : {X Y : Type 0} (f : X → Y) (p : Y → Bool) (xs : List X) → list_any p (map f xs) ≡ list_any (λ x. p (f x)) xs

@@ -4,7 +4,9 @@ ghost use Rattle.jh_num.specs.Bytes.{in_range, has_byte, AreApart};
 
 use crate::no_memory::NoMemory;
 use crate::range::Range;
-use crate::splice::{any_covers, any_meets, cut, ending_before, meeting, replace, starting_by};
+use crate::splice::{
+    any_covers, any_meets, cut, ending_before, meeting, merge, replace, starting_by,
+};
 use std::alloc::Global;
 use std::marker::Model;
 
@@ -103,6 +105,22 @@ impl ByteSet {
         };
         let right = Range { start: r.end, end };
         cut(ranges, at, upto, left, right)?;
+        Ok(())
+    }
+
+    /// Puts the bytes of the other set into this one, by one pass over both.
+    pub fn unite(&mut self, other: &ByteSet) -> Result<(), NoMemory>
+        ensures bytes { OnOk result ((at : ℕ) → has_byte self.new.ranges at ≡ (has_byte self.old.ranges at || has_byte other.now.ranges at)) }
+        ensures apart { AreApart self.new.ranges }
+        ensures few { length self.new.ranges ≤ length self.old.ranges + length other.now.ranges }
+        ensures err { OnErr result (self.new.ranges ≡ self.old.ranges) }
+        ensures succeeds { length self.old.ranges + length other.now.ranges ≤ self.old.room → IsOk result }
+        ensures room { self.old.room ≤ self.new.room }
+    {
+        let ranges = &mut self.ranges;
+        let others = other.ranges.as_slice();
+        ranges.extend_from_slice(others)?;
+        merge(ranges, others);
         Ok(())
     }
 

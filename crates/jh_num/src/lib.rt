@@ -1,19 +1,22 @@
-//! Numbers and lists that every layer speaks of: where addresses end, rights, lists as contracts see
-//! them, sets of bytes, counted descriptor reads, and want of memory.
+//! Numbers and lists that every layer speaks of: where addresses end, bits, rights, lists as contracts see
+//! them and room in them, sets of bytes, counted descriptor reads, and want of memory.
 #![tactic(auto)]
 
 mod address;
+mod bits;
 mod byte_set;
 pub mod error;
 mod laws;
 mod no_memory;
 mod range;
 mod rights;
+mod room;
 mod seq;
 mod splice;
 mod steps;
 
 pub use address::{ADDRESS_END, PAGE_SIZE};
+pub use bits::has_bit;
 pub use byte_set::ByteSet;
 pub use laws::{
     a_list_is_stored_at_its_places, addresses_end_here, errors_are_these, the_lowest_byte_is_first,
@@ -21,6 +24,7 @@ pub use laws::{
 pub use no_memory::NoMemory;
 pub use range::Range;
 pub use rights::Rights;
+pub use room::make_room;
 pub use seq::Seq;
 pub use steps::{Probe, Steps};
 

@@ -134,6 +134,23 @@ fn many_ranges_are_found_by_halving(rt: HostRuntime) -> Result<(), Fail> {
 }
 
 #[test]
+fn united_sets_join_where_they_touch(rt: HostRuntime) -> Result<(), Fail> {
+    let mut set = striped(rt.alloc(), 3)?;
+    let mut other = ByteSet::new(rt.alloc());
+    other.insert(Range { start: 2, end: 3 })?;
+    other.insert(Range { start: 5, end: 9 })?;
+    other.insert(Range { start: 12, end: 13 })?;
+    set.unite(&other)?;
+    let want = [
+        Range { start: 0, end: 3 },
+        Range { start: 4, end: 10 },
+        Range { start: 12, end: 13 },
+    ];
+    assert_eq!(rt; set.ranges(), want.as_slice());
+    Ok(())
+}
+
+#[test]
 fn nine_probes_leave_eight(rt: HostRuntime) {
     let mut steps = Steps::new();
     for at in 0..9 {

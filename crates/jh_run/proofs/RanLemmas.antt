@@ -1,48 +1,17 @@
 -- Items on a board, one after another.
-use Rattle.std.proofs.Common.{◌≡◌, ℕ, zero, suc, ◌+◌, ◌-◌, ◌<◌, ◌≤◌, List, [], ◌∷◌, ◌++◌, Bool, true, false, refl, sym, ◌∙◌, ap, subst, get_or, take, drop, length, arith, inl, inr, add-zero, add-suc, add-one}
-use Rattle.std.specs.Prelude.{IsSome}
+use Rattle.std.proofs.Common.{◌≡◌, ℕ, zero, suc, ◌+◌, ◌-◌, ◌<◌, ◌≤◌, List, [], ◌∷◌, ◌++◌, Bool, true, false, refl, ◌∙◌, ap, subst, get_or, take, drop, length, arith, add-zero, add-suc, add-one}
 use Rattle.std.proofs.lemmas.List.{take_more, take-append-drop}
 use Rattle.jh_script.specs.declared.image.Image.{Image}
-use Rattle.jh_history.specs.declared.entry.Entry.{Entry}
-use Rattle.jh_history.specs.Due.{due, IsQuiet}
+use Rattle.jh_history.specs.Due.{IsQuiet}
 use Rattle.jh_history.specs.Items.{rounds}
 use Rattle.jh_laws.specs.Runs.{IsRun, IsCutShort}
 use Rattle.jh_board.specs.BoardView.{BoardView}
-use Rattle.jh_board.specs.Turns.{Turns, Refuses}
-use Rattle.jh_board.specs.declared.turn.Turn.{Turn}
-use Rattle.jh_board.specs.declared.turn.Turn.TheVariants.{Made, Edited, NotNow, Done}
-use Rattle.jh_board.specs.declared.turn.TurnFault.TheVariants.{Full}
 use Rattle.jh_run.specs.Private.Ran.{Ran, IsSameBut}
 use Rattle.jh_run.proofs.RunLemmas.{run_append, cut_behind, cut_before, run_quiet}
-
-entries_of : (old new : BoardView) → new ≡ old → new.entries ≡ old.entries
-entries_of old new e = ap (λ (v : BoardView). v.entries) e
-
-unchanged : (old new : BoardView) → new ≡ old → IsSameBut old new
-unchanged old new e = e ∙ ap (λ (es : List Entry). let v : BoardView = record old { entries = es } in v) (sym (entries_of old new e))
 
 -- no items
 pub Ran_nil : (old : BoardView) → Ran old [] false old
 Ran_nil old = (refl, refl)
-
--- a turn is an item
-pub Ran_turn : (old : BoardView) (cpu : ℕ) (turn : Turn) (new : BoardView) → Turns old cpu turn new → Ran old (cpu ∷ []) false new
-Ran_turn old cpu (Made entry) new h = (
-  inr (entry, h.0, h.1, ap (λ (v : BoardView). v.entries) h.2),
-  h.2 ∙ ap (λ (es : List Entry). let v : BoardView = record old { entries = es } in v) (sym (ap (λ (v : BoardView). v.entries) h.2)),
-)
-Ran_turn old cpu (Edited left) new h = absurd h
-Ran_turn old cpu NotNow new h = (inl (h.0, entries_of old new h.2), unchanged old new h.2)
-Ran_turn old cpu Done new h = (inl (h.0 cpu, entries_of old new h.1), unchanged old new h.1)
-
--- a turn that the limit refuses stops the items
-pub Ran_full : (old : BoardView) (cpu : ℕ) (new : BoardView) → Refuses old cpu Full new → Ran old (cpu ∷ []) true new
-Ran_full old cpu new h =
-    let same = entries_of old new h.2 in
-    let Due : List Entry → Type 0 = λ es. IsSome (due old.image es cpu) in
-    let Long : List Entry → Type 0 = λ es. old.limit ≤ length es in
-    let long : old.limit ≤ length old.entries = omega arith in
-    (record { done = []; next = cpu; left = []; split = refl; run = same; is_due = subst Due (sym same) h.0; reached = subst Long (sym same) long }, unchanged old new h.2)
 
 kept : (old mid new : BoardView) → IsSameBut old mid → IsSameBut mid new → IsSameBut old new
 kept old mid new h k = k ∙ ap (λ (v : BoardView). let w : BoardView = record v { entries = new.entries } in w) h

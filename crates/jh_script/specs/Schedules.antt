@@ -1,6 +1,6 @@
 -- What the text of a schedule tells.
 use Rattle.std.specs.Prelude.{◌&&◌, ℕ, ◌+◌, ◌<◌, IsTrue, Bool, ◌==◌, nat_lt, if◌then◌else◌, Option, Some, None, Result, List, [], ◌∷◌, map}
-use Rattle.std.specs.Int.{bit_at}
+use Rattle.jh_num.specs.Bits.{has_bit}
 use Rattle.jh_script.specs.declared.fault.ScheduleFault.{ScheduleFault}
 use Rattle.jh_script.specs.declared.fault.ScheduleFault.TheVariants as faults
 use Rattle.jh_script.specs.Numbers.{decimal_of}
@@ -10,7 +10,7 @@ use Rattle.jh_script.specs.Limits.{most_items}
 
 -- bit n of the set says that the board has CPU n
 abbrev pub has_cpu : ℕ → ℕ → Bool
-has_cpu cpus n = bit_at cpus n == 1
+has_cpu cpus n = has_bit cpus n
 
 -- a CPU of the board; there are 16 numbers
 abbrev pub IsPresent : ℕ → ℕ → Type 0

@@ -1,6 +1,7 @@
 -- Counting numbers that pass a test.
-use Rattle.std.proofs.Common.{◌≡◌, ℕ, ◌+◌, ◌-◌, ◌<◌, ◌≤◌, zero, suc, min, Bool, true, false, cond, refl, sym, ap, ⊎_elim, ◌∙◌, arith}
-use Rattle.std.proofs.lemmas.Bool.{cases_lt}
+use Rattle.std.proofs.Common.{◌≡◌, ◌≢◌, ℕ, ◌+◌, ◌<◌, ◌≤◌, zero, suc, Bool, true, false, not, ◌&&◌, ◌||◌, nat_eq, cond, refl, sym, ap, ⊎_elim, ◌∙◌, arith}
+use Rattle.std.proofs.lemmas.Bool.{cases_lt, eq-eqb, ne_eqb}
+use Rattle.std.proofs.Math.Bool.{or-true, or-false}
 use Rattle.jh_shape.specs.Pages.{count_below}
 
 pub count_below_none : (test : ℕ → Bool) → count_below test 0 ≡ 0
@@ -29,37 +30,61 @@ count_below_agree p q (suc n) h =
     ap (λ m. m + cond (p n) 1 0) (count_below_agree p q n (λ k l. h k (omega arith)))
     ∙ ap (λ b. count_below q n + cond b 1 0) (h n (omega arith))
 
-stretch_more : (b : Bool) (a run : ℕ) → (a + cond b run 0) + cond b 1 0 ≡ a + cond b (suc run) 0
-stretch_more true a run = omega arith
-stretch_more false a run = omega arith
+mark_here : (b : Bool) (a : ℕ) → a + 1 ≡ (a + cond b 1 0) + cond b 0 1
+mark_here true a = omega arith
+mark_here false a = omega arith
 
-no_stretch : (b : Bool) (a : ℕ) → a ≡ a + cond b 0 0
-no_stretch true a = omega arith
-no_stretch false a = omega arith
+mark_there : (a b c : ℕ) → (a + b) + c ≡ (a + c) + b
+mark_there a b c = omega arith
 
--- a stretch of numbers that all pass, or all fail
-pub count_below_stretch : (test : ℕ → Bool) (from run : ℕ) (b : Bool) → ((k : ℕ) → k < run → test (from + k) ≡ b) → count_below test (from + run) ≡ count_below test from + cond b run 0
-count_below_stretch test from zero b h =
-    let e : from + 0 ≡ from = omega arith in
-    ap (λ n. count_below test n) e ∙ no_stretch b (count_below test from)
-count_below_stretch test from (suc run) b h =
-    let e : from + suc run ≡ suc (from + run) = omega arith in
-    count_below_suc test (from + run) (from + suc run) e
-    ∙ ap (λ n. n + cond (test (from + run)) 1 0) (count_below_stretch test from run b (λ k l. h k (omega arith)))
-    ∙ ap (λ v. (count_below test from + cond b run 0) + cond v 1 0) (h run (omega arith))
-    ∙ stretch_more b (count_below test from) run
-
--- none passes from `end` on
-pub count_below_until : (test : ℕ → Bool) (end all : ℕ) → ((k : ℕ) → end ≤ k → test k ≡ false) → count_below test (min end all) ≡ count_below test all
-count_below_until test end all none =
+-- one number more passes, unless it did before
+pub count_below_mark : (p q : ℕ → Bool) (n end : ℕ) → n < end → ((k : ℕ) → q k ≡ (p k || nat_eq k n)) → count_below q end ≡ count_below p end + cond (p n) 0 1
+count_below_mark p q n zero h all = absurd (omega arith)
+count_below_mark p q n (suc m) h all =
+    let other : (k : ℕ) → k ≢ n → q k ≡ p k = λ k e. all k ∙ ap (λ b. p k || b) (ne_eqb k n e) ∙ or-false (p k) in
+    let before : count_below p (suc m) ≡ count_below p m + cond (p m) 1 0 = count_below_suc p m (suc m) refl in
     ⊎_elim
-    (λ (low : end < all).
-    let least : min end all ≡ end = omega arith in
-    let whole : end + (all - end) ≡ all = omega arith in
-    let rest : count_below test (end + (all - end)) ≡ count_below test end + 0 = count_below_stretch test end (all - end) false (λ k l. none (end + k) (omega arith)) in
-    let same : count_below test end + 0 ≡ count_below test end = omega arith in
-    ap (λ n. count_below test n) least ∙ sym (rest ∙ same) ∙ ap (λ n. count_below test n) whole)
-    (λ (high : all ≤ end).
-    let least : min end all ≡ all = omega arith in
-    ap (λ n. count_below test n) least)
-    (cases_lt end all)
+    (λ (below : n < m).
+    let rest : count_below q m ≡ count_below p m + cond (p n) 0 1 = count_below_mark p q n m below all in
+    let same : q m ≡ p m = other m (λ e. absurd (omega arith)) in
+    count_below_suc q m (suc m) refl
+    ∙ ap (λ a. a + cond (q m) 1 0) rest
+    ∙ ap (λ b. (count_below p m + cond (p n) 0 1) + cond b 1 0) same
+    ∙ mark_there (count_below p m) (cond (p n) 0 1) (cond (p m) 1 0)
+    ∙ sym (ap (λ a. a + cond (p n) 0 1) before))
+    (λ (above : m ≤ n).
+    let here : m ≡ n = omega arith in
+    let rest : count_below q m ≡ count_below p m = count_below_agree q p m (λ k l. other k (λ e. absurd (omega arith))) in
+    let passes : q m ≡ true = all m ∙ ap (λ b. p m || b) (eq-eqb m n here) ∙ or-true (p m) in
+    count_below_suc q m (suc m) refl
+    ∙ ap (λ a. a + cond (q m) 1 0) rest
+    ∙ ap (λ b. count_below p m + cond b 1 0) passes
+    ∙ mark_here (p m) (count_below p m)
+    ∙ ap (λ k. (count_below p m + cond (p m) 1 0) + cond (p k) 0 1) here
+    ∙ sym (ap (λ a. a + cond (p n) 0 1) before))
+    (cases_lt n m)
+
+either_more : (b c : Bool) (x y : ℕ) → (x + y) + cond (b || c) 1 0 ≡ (x + cond b 1 0) + (y + cond (c && not b) 1 0)
+either_more true true x y = let e : (x + y) + 1 ≡ (x + 1) + (y + 0) = omega arith in e
+either_more true false x y = let e : (x + y) + 1 ≡ (x + 1) + (y + 0) = omega arith in e
+either_more false true x y = let e : (x + y) + 1 ≡ (x + 0) + (y + 1) = omega arith in e
+either_more false false x y = let e : (x + y) + 0 ≡ (x + 0) + (y + 0) = omega arith in e
+
+-- those that pass either of two tests: the first, or else the second alone
+pub count_below_either : (either p q : ℕ → Bool) (n : ℕ) → ((k : ℕ) → k < n → either k ≡ (p k || q k)) → count_below either n ≡ count_below p n + count_below (λ k. q k && not (p k)) n
+unfolding count_below
+count_below_either either p q zero h = refl
+count_below_either either p q (suc n) h =
+    ap (λ m. m + cond (either n) 1 0) (count_below_either either p q n (λ k l. h k (omega arith)))
+    ∙ ap (λ b. (count_below p n + count_below (λ k. q k && not (p k)) n) + cond b 1 0) (h n (omega arith))
+    ∙ either_more (p n) (q n) (count_below p n) (count_below (λ k. q k && not (p k)) n)
+
+-- what a count was and what it grows by
+pub grown : (first middle last more next : ℕ) → middle ≡ first + more → last ≡ middle + next → last ≡ first + (more + next)
+grown first middle last more next e f = omega arith
+
+pub grown_bound : (first last more bound : ℕ) → last ≡ first + more → last ≤ bound → more ≤ bound
+grown_bound first last more bound e l = omega arith
+
+pub grown_same : (first last more own added : ℕ) → last ≡ first + more → first ≡ own → last ≡ own + added → more ≡ added
+grown_same first last more own added e f g = omega arith

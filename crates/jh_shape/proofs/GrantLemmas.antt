@@ -19,9 +19,12 @@ use Rattle.jh_shape.specs.Suits.{AreDisjoint, IsFit, IsWhole, IsSound, IsSlot}
 use Rattle.jh_num.specs.declared.rights.Rights.{Rights}
 use Rattle.jh_shape.specs.Grants.{place_at, IsGranted, TellsGrants}
 use Rattle.jh_shape.proofs.WantLemmas.{LeafBy, found, leaf_parts}
-use Rattle.jh_shape.proofs.SteadyLemmas.{place_later}
 use Rattle.jh_num.proofs.Booleans.{same_test}
 use Rattle.jh_num.proofs.Lists.{is_none_find}
+
+-- the place of a later slot
+place_later : (region : Region) (start at : ℕ) → region.virt_start ≤ start → place_in region (start + at) ≡ place_in region start + at
+place_later region start at h = omega arith
 
 -- two tests agree on a list where a third fails
 any_agree : {X : Type 0} (p q r : X → Bool) → ((x : X) → r x ≡ false → p x ≡ q x) → (xs : List X) → list_any r xs ≡ false → list_any p xs ≡ list_any q xs

@@ -6,7 +6,8 @@ use Rattle.std.proofs.Math.Bool.{or-false}
 use Rattle.std.specs.List.{list_any}
 use Rattle.jh_cellcfg.specs.declared.config.CellConfig.{CellConfig}
 use Rattle.jh_cellcfg.specs.declared.region.Region.{Region}
-use Rattle.jh_shape.specs.Claims.{Holder, has_bit, held_from}
+use Rattle.jh_num.specs.Bits.{has_bit}
+use Rattle.jh_shape.specs.Claims.{Holder, held_from}
 use Rattle.jh_shape.specs.Shapes.{meets_in_part, are_cut}
 
 cond_append : (b : Bool) (h : Holder) (r s t : List Holder) → r ≡ s ++ t → cond b (h ∷ r) r ≡ cond b (h ∷ s) s ++ t

@@ -1,6 +1,5 @@
 pub mod HoldersLemmas
 pub mod WantLemmas
-pub mod SteadyLemmas
 pub mod CountLemmas
 pub mod PageLemmas
 pub mod OrderLemmas

@@ -1,22 +1,24 @@
 -- Marks of slots.
-use Rattle.std.proofs.Common.{◌≡◌, ◌≢◌, ℕ, ◌+◌, ◌-◌, ◌*◌, ◌/◌, ◌%◌, ◌^◌, ◌<◌, ◌≤◌, ◌==◌, zero, suc, min, max, Bool, true, false, not, ◌&&◌, ◌||◌, nat_eq, nat_le, nat_lt, List, length, get_or, set, take, replicate, refl, sym, ap, subst, ◌∙◌, ⊎_elim, arith, w64, bit_or, slice_index}
+use Rattle.std.proofs.Common.{◌≡◌, ◌≢◌, ℕ, ◌+◌, ◌-◌, ◌*◌, ◌/◌, ◌%◌, ◌^◌, ◌<◌, ◌≤◌, ◌==◌, zero, suc, min, max, Bool, true, false, not, ◌&&◌, ◌||◌, nat_eq, nat_le, nat_lt, List, [], ◌∷◌, length, get_or, set, take, replicate, refl, sym, ap, subst, ◌∙◌, ⊎_elim, arith, w64, bit_or, slice_index}
 use Rattle.std.specs.Int.{bit_at}
 use Rattle.std.specs.List.{list_any}
-use Rattle.std.proofs.lemmas.Bool.{cases_eq, eq-eqb, ne_eqb, eqb-true, and_parts, and_from, and_right, both_ways, leb-true, ltb-true, lt-ltb, le-leb, le-ltb, false_from_ne_true, not_from_true, not_from_false}
+use Rattle.std.proofs.lemmas.Bool.{cases_eq, cases_lt, eq-eqb, ne_eqb, eqb-true, and_parts, and_from, and_right, both_ways, leb-true, ltb-true, lt-ltb, le-leb, le-ltb, false_from_ne_true, not_from_true, not_from_false}
 use Rattle.std.proofs.lemmas.Bool.Decides.{nat_tests}
+use Rattle.std.proofs.lemmas.Nat.{div-add-mod'}
 use Rattle.std.proofs.lemmas.Nat.Bits.{bit_at-zero, bit_at_set_same, bit_at_set_other}
 use Rattle.std.proofs.lemmas.List.{get_or-set_same, get_or-set_other}
-use Rattle.std.proofs.lemmas.List.Folds.{list_any_more}
+use Rattle.std.proofs.lemmas.List.Folds.{list_any_more, list_any_at}
 use Rattle.std.proofs.Math.Bool.{or-true, or-false}
 use Rattle.std.proofs.Math.Nat.{add-mul, mul-le-mul_right, le-div_iff_mul-le, div-lt_iff_lt-mul, div-mul-le_self, lt-div-mul-add, lt_of_mul-lt-mul_right}
 use Rattle.jh_num.specs.declared.address.TheConstants.{ADDRESS_END}
 use Rattle.jh_num.proofs.Booleans.{same_test, or_assoc}
 use Rattle.jh_cellcfg.specs.declared.region.Region.{Region}
-use Rattle.jh_cellcfg.specs.Regions.{virt_end, place_in}
+use Rattle.jh_cellcfg.specs.Regions.{virt_end, phys_end, place_in, is_unshared}
 use Rattle.jh_shape.specs.Claims.{Claims}
 use Rattle.jh_shape.specs.Intervals.{touches, spans}
-use Rattle.jh_shape.specs.Marks.{is_marked, is_inside}
-use Rattle.jh_shape.specs.Shapes.{slot_size, is_mapped, are_cut, fits_blocks, may_be_block, is_leaf_by}
+use Rattle.jh_shape.specs.Marks.{is_marked, is_inside, marked_slots, past_slot, is_beyond, AreMarkedWithin}
+use Rattle.jh_shape.specs.Shapes.{slot_size, is_mapped, is_met_by, meets_in_part, are_cut, fits_blocks, may_be_block, is_leaf_by}
+use Rattle.jh_shape.proofs.CountLemmas.{count_below_le}
 
 -- one mark more
 pub marked : (words : List ℕ) (n k word : ℕ) → n < 64 * length words → word ≡ bit_or (slice_index words (n / 64)) (1 * 2 ^ (n % 64) % 2 ^ 64) → is_marked (set words (n / 64) word) k ≡ (is_marked words k || nat_eq k n)
@@ -76,6 +78,12 @@ slots_few (suc zero) x h l = let e : (x + (1073741824 - 1)) / 1073741824 ≤ 262
 slots_few (suc (suc zero)) x h l = let e : (x + (2097152 - 1)) / 2097152 ≤ 262144 = omega arith in e
 slots_few (suc (suc (suc n))) x h l = absurd (omega arith)
 
+pub slots_within : (level x : ℕ) → level < 3 → x ≤ ADDRESS_END → (x + (slot_size level - 1)) / slot_size level ≤ ADDRESS_END / slot_size level
+slots_within zero x h l = let e : (x + (549755813888 - 1)) / 549755813888 ≤ 1 = omega arith in e
+slots_within (suc zero) x h l = let e : (x + (1073741824 - 1)) / 1073741824 ≤ 512 = omega arith in e
+slots_within (suc (suc zero)) x h l = let e : (x + (2097152 - 1)) / 2097152 ≤ 262144 = omega arith in e
+slots_within (suc (suc (suc n))) x h l = absurd (omega arith)
+
 pub slots_fewer : (level x : ℕ) → level < 3 → x ≤ ADDRESS_END → x / slot_size level ≤ 262144
 slots_fewer zero x h l = let e : x / 549755813888 ≤ 262144 = omega arith in e
 slots_fewer (suc zero) x h l = let e : x / 1073741824 ≤ 262144 = omega arith in e
@@ -88,7 +96,7 @@ slot_below (suc zero) x h l = let e : x / 1073741824 < 512 = omega arith in e
 slot_below (suc (suc zero)) x h l = let e : x / 2097152 < 262144 = omega arith in e
 slot_below (suc (suc (suc n))) x h l = absurd (omega arith)
 
-pub place_fits : (level n : ℕ) → level < 3 → n < 262144 → n * slot_size level < 2 ^ 58
+pub place_fits : (level n : ℕ) → level < 3 → n ≤ 262144 → n * slot_size level < 2 ^ 58
 place_fits zero n h l = let e : n * 549755813888 < 2 ^ 58 = omega arith in e
 place_fits (suc zero) n h l = let e : n * 1073741824 < 2 ^ 58 = omega arith in e
 place_fits (suc (suc zero)) n h l = let e : n * 2097152 < 2 ^ 58 = omega arith in e
@@ -103,6 +111,33 @@ slot_ends n size top some h =
     let m : n + 1 ≤ top / size = omega arith in
     let e : (n + 1) * size ≤ top = (le-div_iff_mul-le {k = size} {x = n + 1} {y = top} some).0 m in
     let f = next_slot n size in omega arith
+
+-- the number of the slot of places that a slot of addresses has, where a region's places are aligned like its addresses
+pub slot_not_past : (virt size n : ℕ) → 0 < size → virt ≤ n * size → virt / size ≤ n
+slot_not_past virt size n some within =
+    let next = next_slot n size in
+    let below : virt / size < n + 1 = (div-lt_iff_lt-mul {k = size} {x = virt} {y = n + 1} some).1 (omega arith) in
+    omega arith
+
+pub place_of_slot : (phys virt size n : ℕ) → 0 < size → phys % size ≡ virt % size → virt ≤ n * size → phys + (n * size - virt) ≡ (n + phys / size - virt / size) * size
+place_of_slot phys virt size n some alike within =
+    let a = phys / size in
+    let b = virt / size in
+    let k = n + a - b in
+    let low : b ≤ n = slot_not_past virt size n some within in
+    let p : a * size + phys % size ≡ phys = div-add-mod' phys size in
+    let v : b * size + virt % size ≡ virt = div-add-mod' virt size in
+    let back : k + b ≡ n + a = omega arith in
+    let left : (k + b) * size ≡ k * size + b * size = add-mul k b size in
+    let right : (n + a) * size ≡ n * size + a * size = add-mul n a size in
+    let both : (k + b) * size ≡ (n + a) * size = ap (λ m. m * size) back in
+    omega arith
+
+pub far_slot : (level x : ℕ) → level < 3 → x < 2 ^ 64 → x / slot_size level < 2 ^ 43
+far_slot zero x h l = let e : x / 549755813888 < 2 ^ 43 = omega arith in e
+far_slot (suc zero) x h l = let e : x / 1073741824 < 2 ^ 43 = omega arith in e
+far_slot (suc (suc zero)) x h l = let e : x / 2097152 < 2 ^ 43 = omega arith in e
+far_slot (suc (suc (suc n))) x h l = absurd (omega arith)
 
 -- the slots that an interval touches
 pub touched_slots : (start end size n top : ℕ) → 0 < size → start < end → n < top / size → (nat_le (min start top / size) n && nat_lt n ((min end top + (size - 1)) / size)) ≡ touches start end (n * size) size
@@ -152,6 +187,99 @@ spanned_slots start end size n top some h =
     let d : n + 1 ≤ min end top / size = (le-div_iff_mul-le {k = size} {x = n + 1} {y = min end top} some).1 c in
     and_from (nat_le ((min start top + (size - 1)) / size) n) (nat_lt n (min end top / size)) (le-leb ((min start top + (size - 1)) / size) n (omega arith)) (lt-ltb n (min end top / size) (omega arith)))
 
+-- slots that follow one another touch no others
+pub slots_alone : (from to size n : ℕ) → touches (from * size) (to * size) (n * size) size ≡ true → (nat_le from n && nat_lt n to) ≡ true
+slots_alone from to size n h =
+    let p = and_parts (nat_lt (from * size) (to * size)) (nat_lt (from * size) (n * size + size) && nat_lt (n * size) (to * size)) h in
+    let q = and_parts (nat_lt (from * size) (n * size + size)) (nat_lt (n * size) (to * size)) p.1 in
+    let x = ltb-true (from * size) (n * size + size) q.0 in
+    let y = ltb-true (n * size) (to * size) q.1 in
+    let next = next_slot n size in
+    let low : from < n + 1 = (let l : from * size < (n + 1) * size = omega arith in lt_of_mul-lt-mul_right size {m = from} {n = n + 1} l) in
+    let high : n < to = lt_of_mul-lt-mul_right size {m = n} {n = to} y in
+    and_from (nat_le from n) (nat_lt n to) (le-leb from n (omega arith)) (lt-ltb n to high)
+
+-- what numbers within a span touch the span touches
+pub span_touches : (start end at size slot room : ℕ) → (nat_le start at && nat_le size (end - at)) ≡ true → touches at (at + size) slot room ≡ true → touches start end slot room ≡ true
+span_touches start end at size slot room h t =
+    let a = and_parts (nat_le start at) (nat_le size (end - at)) h in
+    let first = leb-true start at a.0 in
+    let last = leb-true size (end - at) a.1 in
+    let p = and_parts (nat_lt at (at + size)) (nat_lt at (slot + room) && nat_lt slot (at + size)) t in
+    let q = and_parts (nat_lt at (slot + room)) (nat_lt slot (at + size)) p.1 in
+    let x = ltb-true at (at + size) p.0 in
+    let y = ltb-true at (slot + room) q.0 in
+    let z = ltb-true slot (at + size) q.1 in
+    and_from (nat_lt start end) (nat_lt start (slot + room) && nat_lt slot end) (lt-ltb start end (omega arith))
+    (and_from (nat_lt start (slot + room)) (nat_lt slot end) (lt-ltb start (slot + room) (omega arith)) (lt-ltb slot end (omega arith)))
+
+-- a region whose numbers lie in a span, whose slots are all marked, marks no more
+as_before : (old p : Bool) → (p ≡ true → old ≡ true) → old ≡ (old || p)
+as_before true p h = refl
+as_before false true h = h refl
+as_before false false h = refl
+
+pub nothing_more_met : (limit : ℕ) (words : List ℕ) (level start end : ℕ) (region : Region) (n : ℕ) → AreMarkedWithin limit words level start end → (nat_le start region.virt_start && nat_le region.size (end - region.virt_start)) ≡ true → n < limit → is_marked words n ≡ (is_marked words n || is_met_by level (n * slot_size level) region)
+nothing_more_met limit words level start end region n all within below =
+    as_before (is_marked words n) (is_met_by level (n * slot_size level) region) (λ met.
+    let touched = and_parts (is_mapped region) (touches region.virt_start (virt_end region) (n * slot_size level) (slot_size level)) met in
+    all n below (span_touches start end region.virt_start region.size (n * slot_size level) (slot_size level) within touched.1))
+
+pub nothing_more_cut : (limit : ℕ) (words : List ℕ) (level start end : ℕ) (region : Region) (n : ℕ) → AreMarkedWithin limit words level start end → (nat_le start region.phys_start && nat_le region.size (end - region.phys_start)) ≡ true → n < limit → is_marked words n ≡ (is_marked words n || meets_in_part region (n * slot_size level) (slot_size level))
+nothing_more_cut limit words level start end region n all within below =
+    let at = n * slot_size level in
+    let size = slot_size level in
+    let touched = touches region.phys_start (phys_end region) at size in
+    let part = not (spans region.phys_start (phys_end region) at size) in
+    as_before (is_marked words n) (meets_in_part region at size) (λ cut.
+    let alone = and_parts (is_unshared region) (touched && part) cut in
+    let some = and_parts touched part alone.1 in
+    all n below (span_touches start end region.phys_start region.size at size within some.0))
+
+-- nor does one that tables don't map
+pub met_not_mapped : (words : List ℕ) (level : ℕ) (region : Region) (n : ℕ) → is_mapped region ≡ false → is_marked words n ≡ (is_marked words n || is_met_by level (n * slot_size level) region)
+met_not_mapped words level region n h =
+    sym (ap (λ b. is_marked words n || (b && touches region.virt_start (virt_end region) (n * slot_size level) (slot_size level))) h ∙ or-false (is_marked words n))
+
+-- one that they map is met in the slots that it touches
+pub met_from_span : (level : ℕ) (region : Region) (n : ℕ) (old new span : Bool) → is_mapped region ≡ true → span ≡ touches region.virt_start (virt_end region) (n * slot_size level) (slot_size level) → new ≡ (old || span) → new ≡ (old || is_met_by level (n * slot_size level) region)
+met_from_span level region n old new span h s e =
+    e ∙ ap (λ b. old || b) (s ∙ sym (ap (λ b. b && touches region.virt_start (virt_end region) (n * slot_size level) (slot_size level)) h))
+
+-- a number is below those past the end of so many slots where the slots end before it
+past_from : (limit size number top : ℕ) → 0 < size → limit < (min number top + (size - 1)) / size → limit * size < min number top
+past_from limit size number top some h =
+    let next = next_slot limit size in
+    let l : limit + 1 ≤ (min number top + (size - 1)) / size = omega arith in
+    let m : (limit + 1) * size ≤ min number top + (size - 1) = (le-div_iff_mul-le {k = size} {x = limit + 1} {y = min number top + (size - 1)} some).0 l in
+    omega arith
+
+pub past_by_end : (limit size number top : ℕ) → 0 < size → limit * size < top → nat_lt (limit * size) number ≡ nat_lt limit ((min number top + (size - 1)) / size)
+past_by_end limit size number top some low =
+    let next = next_slot limit size in
+    same_test (nat_lt (limit * size) number) (nat_lt limit ((min number top + (size - 1)) / size))
+    (λ e.
+    let l = ltb-true (limit * size) number e in
+    let m : (limit + 1) * size ≤ min number top + (size - 1) = omega arith in
+    let d : limit + 1 ≤ (min number top + (size - 1)) / size = (le-div_iff_mul-le {k = size} {x = limit + 1} {y = min number top + (size - 1)} some).1 m in
+    lt-ltb limit ((min number top + (size - 1)) / size) (omega arith))
+    (λ e.
+    let l = past_from limit size number top some (ltb-true limit ((min number top + (size - 1)) / size) e) in
+    lt-ltb (limit * size) number (omega arith))
+
+-- none is where they end with the top
+pub past_no_end : (limit size number top : ℕ) → 0 < size → top ≤ limit * size → nat_lt limit ((min number top + (size - 1)) / size) ≡ false
+past_no_end limit size number top some high =
+    false_from_ne_true (nat_lt limit ((min number top + (size - 1)) / size)) (λ e.
+    let l = past_from limit size number top some (ltb-true limit ((min number top + (size - 1)) / size) e) in
+    absurd (omega arith))
+
+-- the last of them that it spans it touches
+pub spanned_below : (x size : ℕ) → 0 < size → x / size ≤ (x + (size - 1)) / size
+spanned_below x size some =
+    let under : (x / size) * size ≤ x = div-mul-le_self x size in
+    (le-div_iff_mul-le {k = size} {x = x / size} {y = x + (size - 1)} some).1 (omega arith)
+
 -- the slot that a number lies inside of
 pub inside_only : (n size number : ℕ) → 0 < size → (number / size) * size < number → nat_eq n (number / size) ≡ is_inside (n * size) size number
 inside_only n size number some above =
@@ -185,15 +313,19 @@ inside_none n size number some begins =
     let more : (n + 1) * size ≤ q * size = mul-le-mul_right size (let l : n + 1 ≤ q = omega arith in l) in
     absurd (omega arith))
 
+-- nor below the slot that it lies in
+pub inside_above : (n size number : ℕ) → 0 < size → n < number / size → is_inside (n * size) size number ≡ false
+inside_above n size number some h =
+    let under : (number / size) * size ≤ number = div-mul-le_self number size in
+    let next = next_slot n size in
+    let more : (n + 1) * size ≤ (number / size) * size = mul-le-mul_right size (let l : n + 1 ≤ number / size = omega arith in l) in
+    and_right (nat_lt (n * size) number) (nat_lt number (n * size + size)) (le-ltb number (n * size + size) (omega arith))
+
 -- nor where it lies past the end of addresses
 pub inside_past : (n size number top : ℕ) → 0 < size → n < top / size → top ≤ number → is_inside (n * size) size number ≡ false
 inside_past n size number top some h past =
     let ends = slot_ends n size top some h in
     and_right (nat_lt (n * size) number) (nat_lt number (n * size + size)) (le-ltb number (n * size + size) (omega arith))
-
--- places are had in part where one of the ends lies inside of them
-pub ends_cut : (at size start end : ℕ) → 0 < size → start < end → (is_inside at size start || is_inside at size end) ≡ (touches start end at size && not (spans start end at size))
-ends_cut at size start end some order = grind (arith, nat_tests)
 
 -- below the last level a mapped region that blocks fit makes a leaf of each slot that it spans and nothing cuts
 above_pages : (level : ℕ) → level < 3 → (level == 3) ≡ false
@@ -248,6 +380,39 @@ pub leaf_end : (kept : ℕ → Bool) (k from to n : ℕ) (b new span : Bool) →
 leaf_end kept k from to n b new span h l s e =
     let same : is_from from n k ≡ is_from from to k = grind (arith, nat_tests) in
     e ∙ ap (λ v. b || (v && not (kept k))) (same ∙ s)
+
+-- a mark that was there
+pub marked_again : (test : ℕ → Bool) (n k : ℕ) → test n ≡ true → test k ≡ (test k || nat_eq k n)
+marked_again test n k there =
+    ⊎_elim
+    (λ (same : k ≡ n).
+    let is : test k ≡ true = ap test same ∙ there in
+    is ∙ sym (ap (λ b. b || nat_eq k n) is))
+    (λ (other : k ≢ n). sym (ap (λ b. test k || b) (ne_eqb k n other) ∙ or-false (test k)))
+    (cases_eq k n)
+
+-- how many marks there are
+pub marked_few : (words : List ℕ) (level : ℕ) → level < 3 → marked_slots words level ≤ 262144
+marked_few words level h =
+    let count : marked_slots words level ≤ ADDRESS_END / slot_size level = count_below_le (λ n. is_marked words n) (ADDRESS_END / slot_size level) in
+    let all : ADDRESS_END / slot_size level ≤ 262144 = slots_fewer level ADDRESS_END h (omega arith) in
+    omega arith
+
+-- a region of a list none of which lies beyond so many slots
+pub none_beyond : (limit room level : ℕ) (regions : List Region) (i : ℕ) (d : Region) → i < length regions → list_any (λ (region : Region). is_beyond limit level region) regions ≡ false → limit ≤ room → past_slot level (virt_end (get_or regions i d)) ≤ room
+none_beyond limit room level regions i d l none h =
+    let past = past_slot level (virt_end (get_or regions i d)) in
+    ⊎_elim
+    (λ (over : limit < past). absurd (both_ways (list_any (λ (region : Region). is_beyond limit level region) regions) none (list_any_at (λ (region : Region). is_beyond limit level region) regions i d l (lt-ltb limit past over))))
+    (λ (under : past ≤ limit). let e : past ≤ room = omega arith in e)
+    (cases_lt limit past)
+
+pub none_beyond_all : (level : ℕ) (regions : List Region) → level < 3 → list_any (λ (region : Region). is_beyond 262144 level region) regions ≡ false
+none_beyond_all level [] h = refl
+none_beyond_all level (r ∷ rs) h =
+    let few : past_slot level (virt_end r) ≤ 262144 = slots_few level (min (virt_end r) ADDRESS_END) h (omega arith) in
+    let one : is_beyond 262144 level r ≡ false = le-ltb 262144 (past_slot level (virt_end r)) few in
+    ap (λ b. b || list_any (λ (region : Region). is_beyond 262144 level region) rs) one ∙ none_beyond_all level rs h
 
 -- one element more, of a list that marks go over
 pub any_step : {X : Type 0} (p : X → Bool) (xs : List X) (i : ℕ) (d : X) (b old new : Bool) → i < length xs → old ≡ (b || list_any p (take i xs)) → new ≡ (old || p (get_or xs i d)) → new ≡ (b || list_any p (take (i + 1) xs))

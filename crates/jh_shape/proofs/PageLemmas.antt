@@ -7,7 +7,8 @@ use Rattle.std.proofs.lemmas.List.{map-append}
 use Rattle.std.proofs.lemmas.Nat.Bits.{bit_at-zero, bit_at_ones}
 use Rattle.jh_num.specs.declared.address.TheConstants.{ADDRESS_END}
 use Rattle.jh_cellcfg.specs.declared.config.CellConfig.{CellConfig}
-use Rattle.jh_shape.specs.Claims.{Claims, Holder, has_bit, held_from, one_more}
+use Rattle.jh_num.specs.Bits.{has_bit}
+use Rattle.jh_shape.specs.Claims.{Claims, Holder, held_from, one_more}
 use Rattle.jh_shape.specs.Pages.{tables_at, tables_of, holder_of}
 use Rattle.jh_shape.specs.Shapes.{slot_size, is_table}
 use Rattle.jh_shape.proofs.CountLemmas.{count_below_le}

@@ -1,7 +1,7 @@
 -- What a cell's tables are made from.
-use Rattle.std.specs.Prelude.{ℕ, ◌+◌, Bool, false, List, [], ◌∷◌, ◌++◌, Option, Some, None, nat_eq, if◌then◌else◌}
+use Rattle.std.specs.Prelude.{ℕ, ◌+◌, Bool, false, List, [], ◌∷◌, ◌++◌, Option, Some, None, if◌then◌else◌}
 use Rattle.std.specs.Borrow.{Bor}
-use Rattle.std.specs.Int.{bit_at}
+use Rattle.jh_num.specs.Bits.{has_bit}
 use Rattle.jh_cellcfg.specs.declared.config.CellConfig.{CellConfig}
 use Rattle.jh_cellcfg.specs.declared.region.Region.{Region}
 use Rattle.jh_shape.specs.declared.target.Target.{Target}
@@ -18,10 +18,6 @@ pub record Claims : Type 0 where
   pub root : Bool
   pub holders : List Holder
   pub comm : ℕ
-
--- the bit of that number is set
-abbrev pub has_bit : ℕ → ℕ → Bool
-has_bit mask index = nat_eq (bit_at mask index) 1
 
 -- the cells whose bit is set in `held`, counted from `index` on; those are loadable whose bit is set in
 -- `loadable`

@@ -1,8 +1,12 @@
 -- Slots, a bit each, 64 in a word.
-use Rattle.std.specs.Prelude.{◌≡◌, ℕ, ◌+◌, ◌*◌, ◌/◌, ◌%◌, ◌<◌, Bool, ◌&&◌, nat_eq, nat_lt, List, slice_index, IsTrue}
+use Rattle.std.specs.Prelude.{◌≡◌, ℕ, ◌+◌, ◌-◌, ◌*◌, ◌/◌, ◌%◌, ◌<◌, min, Bool, true, ◌&&◌, nat_eq, nat_lt, List, length, slice_index, IsTrue}
 use Rattle.std.specs.Int.{bit_at}
 use Rattle.jh_num.specs.declared.address.TheConstants.{ADDRESS_END}
+use Rattle.jh_cellcfg.specs.declared.region.Region.{Region}
+use Rattle.jh_cellcfg.specs.Regions.{virt_end, phys_end}
 use Rattle.jh_shape.specs.Claims.{Claims}
+use Rattle.jh_shape.specs.Intervals.{touches}
+use Rattle.jh_shape.specs.Pages.{count_below}
 use Rattle.jh_shape.specs.Shapes.{slot_size, are_cut}
 
 -- the bit of that number is set
@@ -13,11 +17,34 @@ is_marked words n = nat_eq (bit_at (slice_index words (n / 64)) (n % 64)) 1
 abbrev pub AreMarked : List ℕ → ℕ → (ℕ → Bool) → Type 0
 AreMarked words level test = (n : ℕ) → n < ADDRESS_END / slot_size level → is_marked words n ≡ test n
 
--- the slots of places are marked that other cells cut, which is asked for root alone
+-- the same of the slots below the limit alone
+abbrev pub AreMarkedBelow : ℕ → List ℕ → ℕ → (ℕ → Bool) → Type 0
+AreMarkedBelow limit words level test = (n : ℕ) → n < limit → n < ADDRESS_END / slot_size level → is_marked words n ≡ test n
+
+-- of the slots below the limit those are marked that have a number from `start` on, below `end`
+abbrev pub AreMarkedWithin : ℕ → List ℕ → ℕ → ℕ → ℕ → Type 0
+AreMarkedWithin limit words level start end = (n : ℕ) → n < limit → touches start end (n * slot_size level) (slot_size level) ≡ true → is_marked words n ≡ true
+
+-- of the slots of places that the list has, those are marked that other cells cut, which is asked for root alone
 abbrev pub AreCuts : List ℕ → ℕ → Claims → Type 0
 AreCuts words level claims =
-    IsTrue claims.root → AreMarked words level (λ n. are_cut claims.holders (n * slot_size level) (slot_size level))
+    IsTrue claims.root → AreMarkedBelow (64 * length words) words level (λ n. are_cut claims.holders (n * slot_size level) (slot_size level))
 
 -- the number lies among so many from `at` on, and isn't the first of them
 abbrev pub is_inside : ℕ → ℕ → ℕ → Bool
 is_inside at size number = nat_lt at number && nat_lt number (at + size)
+
+-- how many slots of the level below the end of addresses are marked
+abbrev pub marked_slots : List ℕ → ℕ → ℕ
+marked_slots words level = count_below (λ n. is_marked words n) (ADDRESS_END / slot_size level)
+
+-- one past the level's last slot below the end of addresses that begins before the number
+abbrev pub past_slot : ℕ → ℕ → ℕ
+past_slot level number = (min number ADDRESS_END + (slot_size level - 1)) / slot_size level
+
+-- the region has addresses in slots of that number and above; or places
+abbrev pub is_beyond : ℕ → ℕ → Region → Bool
+is_beyond limit level region = nat_lt limit (past_slot level (virt_end region))
+
+abbrev pub is_place_beyond : ℕ → ℕ → Region → Bool
+is_place_beyond limit level region = nat_lt limit (past_slot level (phys_end region))

@@ -1,139 +1,79 @@
-//! How many pages a cell's tables take. All slots of a level are told at once, by marks: those that are
-//! met, those of places that other cells cut, and the leaves.
-ghost use Rattle.std.specs.Prelude.{◌≡◌, ℕ, ◌+◌, ◌*◌, ◌^◌, ◌<◌, ◌≤◌, ◌&&◌, ◌||◌, not, false, true, length};
+//! How many pages a cell's tables take. All slots of a level are told at once, by marks: those of places that other
+//! cells cut, the leaves, and those that are met.
+ghost use Rattle.std.specs.Prelude.{◌≡◌, ℕ, ◌+◌, ◌*◌, ◌^◌, ◌<◌, ◌≤◌, ◌&&◌, ◌||◌, false, true, length};
+ghost use Rattle.std.specs.List.{list_any};
 ghost use Rattle.jh_shape.specs.Claims.{claims_of};
-ghost use Rattle.jh_shape.specs.Marks.{is_marked, AreMarked, AreCuts};
-ghost use Rattle.jh_shape.specs.Pages.{count_below, tables_at, tables_of};
-ghost use Rattle.jh_cellcfg.specs.Regions.{place_in};
-ghost use Rattle.jh_shape.specs.Shapes.{slot_size, are_cut, is_leaf, is_leaf_by, is_met};
+ghost use Rattle.jh_shape.specs.Marks.{is_beyond, is_marked, marked_slots, past_slot, AreMarked, AreMarkedBelow, AreCuts};
+ghost use Rattle.jh_shape.specs.Pages.{tables_at, tables_of};
+ghost use Rattle.jh_cellcfg.specs.Regions.{place_in, virt_end};
+ghost use Rattle.jh_shape.specs.Shapes.{slot_size, are_cut, is_aligned_alike, is_leaf, is_leaf_by, is_met};
 
-use crate::level::{FIRST_LEVEL, LAST_LEVEL, slot_of, slot_size, slots};
-use crate::marks::{WORDS, is_marked, mark};
-use crate::region::{addresses, fits_blocks, is_mapped, mark_cuts, mark_met, place_in};
-use crate::target::{Target, has_bit};
+use crate::interval::NO_SPAN;
+use crate::level::{FIRST_LEVEL, LAST_LEVEL, slot_of, slot_size};
+use crate::marks::{LOW_SLOTS, LOW_WORDS, SLOTS, WORDS, is_marked, mark, mark_span};
+use crate::region::{addresses, any_beyond, any_place_beyond, fits_blocks, is_mapped, mark_cuts};
+use crate::target::Target;
 use jh_cellcfg::Region;
-use jh_num::ADDRESS_END;
-
-/// Whether the slot is met and isn't a leaf.
-fn is_apart(met: &[u64], leaves: &[u64], n: usize) -> bool
-    requires met { n < 64 * length met.now }
-    requires leaves { n < 64 * length leaves.now }
-    ensures { result ≡ (is_marked met.now n && not (is_marked leaves.now n)) }
-{
-    is_marked(met, n) && !is_marked(leaves, n)
-}
-
-/// How many slots from `n` on, below `end`, a word without marks has, where one begins there.
-fn empty_from(words: &[u64], n: usize, end: usize) -> usize
-    requires within { n < end }
-    requires enough { end ≤ 64 * length words.now }
-    ensures bound { n + result ≤ end }
-    ensures none { (k : ℕ) → k < result → is_marked words.now (n + k) ≡ false }
-{
-    if n % 64 == 0 && words[n / 64] == 0 {
-        (end - n).min(64)
-    } else {
-        0
-    }
-}
-
-/// How many of the first so many slots are met and aren't leaves.
-fn count_apart(met: &[u64], leaves: &[u64], end: usize) -> u64
-    requires met { end ≤ 64 * length met.now }
-    requires leaves { end ≤ 64 * length leaves.now }
-    ensures value { result ≡ count_below (λ n. is_marked met.now n && not (is_marked leaves.now n)) end }
-    ensures bound { result ≤ end }
-{
-    let mut count = 0;
-    let mut n = 0;
-    'slots: while n < end {
-        let empty = empty_from(met, n, end);
-        if empty > 0 {
-            n += empty;
-        } else {
-            if is_apart(met, leaves, n) {
-                count += 1;
-            }
-            n += 1;
-        }
-    }
-    count
-}
+use jh_num::{ADDRESS_END, has_bit};
 
 impl<'a> Target<'a> {
-    /// Marks the slots of places that other cells cut, where none is marked.
-    fn fill_cuts(&self, words: &mut [u64], level: u8)
+    /// Marks the slots of places below the limit that other cells cut, where none is marked.
+    fn fill_cuts(&self, words: &mut [u64], level: u8, limit: usize)
         requires cells { length self.now.cells.now ≤ 15 }
         requires level { level < LAST_LEVEL }
-        requires enough { length words.old ≡ 4096 }
+        requires room { limit ≤ 64 * length words.old }
         requires clear { (n : ℕ) → is_marked words.old n ≡ false }
-        ensures { AreMarked words.new level (λ n. are_cut (claims_of self.now).holders (n * slot_size level) (slot_size level)) }
+        ensures { AreMarkedBelow limit words.new level (λ n. are_cut (claims_of self.now).holders (n * slot_size level) (slot_size level)) }
     {
         for (i, cell) in self.cells.iter().enumerate() {
             if has_bit(self.held, i) {
-                mark_cuts(words, level, cell.memory_regions.as_slice());
+                mark_cuts(words, level, cell.memory_regions.as_slice(), limit);
             }
         }
         if let Some(cell) = self.extra {
-            mark_cuts(words, level, cell.memory_regions.as_slice());
+            mark_cuts(words, level, cell.memory_regions.as_slice(), limit);
         }
     }
 
-    /// The same, as far as they are root's matter.
-    fn fill_cuts_of_root(&self, words: &mut [u64], level: u8)
-        requires cells { length self.now.cells.now ≤ 15 }
-        requires level { level < LAST_LEVEL }
-        requires enough { length words.old ≡ 4096 }
-        requires clear { (n : ℕ) → is_marked words.old n ≡ false }
-        ensures { AreCuts words.new level (claims_of self.now) }
-    {
-        if self.root {
-            self.fill_cuts(words, level);
-        }
-    }
-
-    /// Whether other cells cut the slot of places, which is mostly among those that are marked.
-    fn is_cut(&self, cuts: &[u64], level: u8, place: u128) -> bool
+    /// Whether other cells cut the slot of places of that number, which is mostly among those that are marked.
+    fn is_cut(&self, cuts: &[u64], level: u8, n: u64) -> bool
         requires cells { length self.now.cells.now ≤ 15 }
         requires level { level < LAST_LEVEL }
         requires root { self.now.root ≡ true }
-        requires enough { length cuts.now ≡ 4096 }
         requires cuts { AreCuts cuts.now level (claims_of self.now) }
-        requires fits { place < 2 ^ 65 }
-        ensures { result ≡ are_cut (claims_of self.now).holders place (slot_size level) }
+        ensures { result ≡ are_cut (claims_of self.now).holders (n * slot_size level) (slot_size level) }
     {
-        if place < u128::from(ADDRESS_END) {
-            let at = place as u64;
-            let n = slot_of(level, at);
-            if n * slot_size(level) == at {
-                return is_marked(cuts, n as usize);
-            }
+        if n < slot_of(level, ADDRESS_END) && n / 64 < cuts.len() as u64 {
+            return is_marked(cuts, n as usize);
         }
-        self.are_cut(place, u128::from(slot_size(level)))
+        let size = u128::from(slot_size(level));
+        self.are_cut(u128::from(n) * size, size)
     }
 
-    /// Whether blocks of the level don't serve the slot of that number, of a region that fits them.
+    /// Whether blocks of the level don't serve the slot of that number, of a region that fits them and spans it.
     fn is_kept_small(&self, cuts: &[u64], level: u8, region: &Region, n: usize) -> bool
         requires cells { length self.now.cells.now ≤ 15 }
         requires level { level < LAST_LEVEL }
-        requires enough { length cuts.now ≡ 4096 }
         requires cuts { AreCuts cuts.now level (claims_of self.now) }
         requires few { n < 262144 }
+        requires alike { is_aligned_alike level region.now ≡ true }
+        requires within { region.now.virt_start ≤ n * slot_size level }
         ensures { result ≡ (self.now.root && are_cut (claims_of self.now).holders (place_in region.now (n * slot_size level)) (slot_size level)) }
     {
-        self.root && self.is_cut(cuts, level, place_in(region, n as u64 * slot_size(level)))
+        let places = slot_of(level, region.phys_start);
+        let addresses = slot_of(level, region.virt_start);
+        self.root && self.is_cut(cuts, level, n as u64 + places - addresses)
     }
 
     /// Marks the slots that the region makes leaves.
     fn mark_leaves(&self, words: &mut [u64], cuts: &[u64], level: u8, region: &Region)
         requires cells { length self.now.cells.now ≤ 15 }
         requires level { level < LAST_LEVEL }
-        requires words { length words.old ≡ 4096 }
-        requires enough { length cuts.now ≡ 4096 }
+        requires room { past_slot level (virt_end region.now) ≤ 64 * length words.old }
         requires cuts { AreCuts cuts.now level (claims_of self.now) }
         ensures { AreMarked words.new level (λ n. is_marked words.old n || is_leaf_by (claims_of self.now) level (n * slot_size level) region.now) }
     {
-        if is_mapped(region) && fits_blocks(level, region) {
+        if region.size >= slot_size(level) && is_mapped(region) && fits_blocks(level, region) {
             let slots = addresses(region).spanned(level);
             for n in slots.from..slots.to {
                 if !self.is_kept_small(cuts, level, region, n) {
@@ -143,30 +83,12 @@ impl<'a> Target<'a> {
         }
     }
 
-    /// Marks the slots that page-mapped regions meet, where none is marked, and tells a number that each of them is
-    /// below.
-    fn fill_met(&self, words: &mut [u64], level: u8) -> usize
-        requires level { level < LAST_LEVEL }
-        requires enough { length words.old ≡ 4096 }
-        requires clear { (n : ℕ) → is_marked words.old n ≡ false }
-        ensures met { AreMarked words.new level (λ n. is_met (claims_of self.now) level (n * slot_size level)) }
-        ensures end { (n : ℕ) → result ≤ n → is_marked words.new n ≡ false }
-    {
-        let mut end = 0;
-        for region in self.regions {
-            let past = mark_met(words, level, region);
-            end = end.max(past);
-        }
-        end
-    }
-
     /// Marks the slots that are leaves, where none is marked.
     fn fill_leaves(&self, words: &mut [u64], cuts: &[u64], level: u8)
         requires cells { length self.now.cells.now ≤ 15 }
         requires level { level < LAST_LEVEL }
-        requires words { length words.old ≡ 4096 }
+        requires room { list_any (λ region. is_beyond (64 * length words.old) level region) self.now.regions.now ≡ false }
         requires clear { (n : ℕ) → is_marked words.old n ≡ false }
-        requires enough { length cuts.now ≡ 4096 }
         requires cuts { AreCuts cuts.now level (claims_of self.now) }
         ensures { AreMarked words.new level (λ n. is_leaf (claims_of self.now) level (n * slot_size level)) }
     {
@@ -175,21 +97,135 @@ impl<'a> Target<'a> {
         }
     }
 
-    /// How many slots of the level are tables. All marks stand here alone, and are lent: a list of them is large.
+    /// Marks the slots that page-mapped regions meet, and tells how many marks that adds.
+    fn add_met(&self, words: &mut [u64], level: u8) -> u64
+        requires level { level < LAST_LEVEL }
+        requires room { list_any (λ region. is_beyond (64 * length words.old) level region) self.now.regions.now ≡ false }
+        ensures met { AreMarked words.new level (λ n. is_marked words.old n || is_met (claims_of self.now) level (n * slot_size level)) }
+        ensures more { marked_slots words.new level ≡ marked_slots words.old level + result }
+        ensures bound { result ≤ 262144 }
+    {
+        let mut more = 0;
+        let mut done = NO_SPAN;
+        for region in self.regions {
+            if !done.has_all(region.virt_start, region.size) && is_mapped(region) {
+                let slots = addresses(region).touched(level);
+                more += mark_span(words, slots.from, slots.to);
+                done = slots.span(level);
+            }
+        }
+        more
+    }
+
+    /// How many slots of the level are tables: those that are met and aren't leaves. None is marked yet, and the list
+    /// has all slots of the regions.
+    fn count_in(&self, words: &mut [u64], cuts: &[u64], level: u8) -> u64
+        requires cells { length self.now.cells.now ≤ 15 }
+        requires level { level < LAST_LEVEL }
+        requires room { list_any (λ region. is_beyond (64 * length words.old) level region) self.now.regions.now ≡ false }
+        requires clear { (n : ℕ) → is_marked words.old n ≡ false }
+        requires cuts { AreCuts cuts.now level (claims_of self.now) }
+        ensures value { result ≡ tables_at (claims_of self.now) level }
+        ensures bound { result ≤ 262144 }
+    {
+        self.fill_leaves(words, cuts, level);
+        self.add_met(words, level)
+    }
+
+    /// The same in a short list, which costs less to make.
+    fn count_low(&self, cuts: &[u64], level: u8) -> u64
+        requires cells { length self.now.cells.now ≤ 15 }
+        requires level { level < LAST_LEVEL }
+        requires low { list_any (λ region. is_beyond 8192 level region) self.now.regions.now ≡ false }
+        requires cuts { AreCuts cuts.now level (claims_of self.now) }
+        ensures value { result ≡ tables_at (claims_of self.now) level }
+        ensures bound { result ≤ 262144 }
+    {
+        let mut words = [0; LOW_WORDS];
+        self.count_in(&mut words, cuts, level)
+    }
+
+    /// The same in a list that has all slots.
+    fn count_all(&self, cuts: &[u64], level: u8) -> u64
+        requires cells { length self.now.cells.now ≤ 15 }
+        requires level { level < LAST_LEVEL }
+        requires cuts { AreCuts cuts.now level (claims_of self.now) }
+        ensures value { result ≡ tables_at (claims_of self.now) level }
+        ensures bound { result ≤ 262144 }
+    {
+        let mut words = [0; WORDS];
+        self.count_in(&mut words, cuts, level)
+    }
+
+    /// The same of root, whose leaves other cells cut, in short lists.
+    fn count_root_low(&self, level: u8) -> u64
+        requires cells { length self.now.cells.now ≤ 15 }
+        requires level { level < LAST_LEVEL }
+        requires low { list_any (λ region. is_beyond 8192 level region) self.now.regions.now ≡ false }
+        ensures value { result ≡ tables_at (claims_of self.now) level }
+        ensures bound { result ≤ 262144 }
+    {
+        let mut cuts = [0; LOW_WORDS];
+        self.fill_cuts(&mut cuts, level, LOW_SLOTS);
+        self.count_low(&cuts, level)
+    }
+
+    /// The same in lists that have all slots.
+    fn count_root_all(&self, level: u8) -> u64
+        requires cells { length self.now.cells.now ≤ 15 }
+        requires level { level < LAST_LEVEL }
+        ensures value { result ≡ tables_at (claims_of self.now) level }
+        ensures bound { result ≤ 262144 }
+    {
+        let mut cuts = [0; WORDS];
+        self.fill_cuts(&mut cuts, level, SLOTS);
+        self.count_all(&cuts, level)
+    }
+
+    /// The same of root. What cuts are looked up for must lie low too: where the list lacks a place, all regions of
+    /// the other cells are asked.
+    fn count_root(&self, level: u8) -> u64
+        requires cells { length self.now.cells.now ≤ 15 }
+        requires level { level < LAST_LEVEL }
+        ensures value { result ≡ tables_at (claims_of self.now) level }
+        ensures bound { result ≤ 262144 }
+    {
+        if any_beyond(self.regions, level, LOW_SLOTS) {
+            return self.count_root_all(level);
+        }
+        if any_place_beyond(self.regions, level, LOW_SLOTS) {
+            return self.count_root_all(level);
+        }
+        self.count_root_low(level)
+    }
+
+    /// The same of a cell besides root.
+    fn count_cell(&self, level: u8) -> u64
+        requires cells { length self.now.cells.now ≤ 15 }
+        requires level { level < LAST_LEVEL }
+        requires root { self.now.root ≡ false }
+        ensures value { result ≡ tables_at (claims_of self.now) level }
+        ensures bound { result ≤ 262144 }
+    {
+        if any_beyond(self.regions, level, LOW_SLOTS) {
+            self.count_all(&[], level)
+        } else {
+            self.count_low(&[], level)
+        }
+    }
+
+    /// How many slots of the level are tables.
     fn tables_at(&self, level: u8) -> u64
         requires cells { length self.now.cells.now ≤ 15 }
         requires level { level < LAST_LEVEL }
         ensures value { result ≡ tables_at (claims_of self.now) level }
         ensures bound { result ≤ ADDRESS_END }
     {
-        let mut cuts = [0; WORDS];
-        let mut met = [0; WORDS];
-        let mut leaves = [0; WORDS];
-        self.fill_cuts_of_root(&mut cuts, level);
-        let past = self.fill_met(&mut met, level);
-        self.fill_leaves(&mut leaves, &cuts, level);
-        let end = past.min(slots(level));
-        count_apart(&met, &leaves, end)
+        if self.root {
+            self.count_root(level)
+        } else {
+            self.count_cell(level)
+        }
     }
 
     /// How many pages the tables take: the first table, and one for each slot that is a table. The

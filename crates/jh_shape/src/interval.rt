@@ -1,6 +1,7 @@
 //! Intervals of addresses or places, and slots beside them.
-ghost use Rattle.std.specs.Prelude.{◌≡◌, ℕ, ◌+◌, ◌*◌, ◌/◌, ◌^◌, ◌<◌, ◌≤◌, ◌&&◌, min, nat_le, nat_lt};
+ghost use Rattle.std.specs.Prelude.{◌≡◌, ℕ, ◌+◌, ◌-◌, ◌*◌, ◌/◌, ◌^◌, ◌<◌, ◌≤◌, ◌&&◌, true, min, nat_le, nat_lt};
 ghost use Rattle.jh_shape.specs.Intervals.{touches, spans};
+ghost use Rattle.jh_shape.specs.Marks.{past_slot};
 ghost use Rattle.jh_shape.specs.Shapes.{slot_size};
 
 use crate::level::{LAST_LEVEL, slot_of, slot_size};
@@ -20,6 +21,16 @@ pub(crate) struct Slots {
     pub(crate) to: usize,
 }
 
+/// Numbers of 64 bits from `start` on, below `end`.
+#[derive(Clone, Copy)]
+pub(crate) struct Span {
+    pub(crate) start: u64,
+    pub(crate) end: u64,
+}
+
+/// The span that has no number.
+pub(crate) const NO_SPAN: Span = Span { start: 0, end: 0 };
+
 /// The number, but none past the end of addresses.
 fn capped(number: u128) -> u64
     ensures { result ≡ min number ADDRESS_END }
@@ -28,6 +39,31 @@ fn capped(number: u128) -> u64
         number as u64
     } else {
         ADDRESS_END
+    }
+}
+
+impl Span {
+    /// Whether it has the `size` numbers from `at` on.
+    pub(crate) fn has_all(&self, at: u64, size: u64) -> bool
+        ensures { result ≡ (nat_le self.now.start at && nat_le size (self.now.end - at)) }
+    {
+        self.start <= at && size <= self.end.saturating_sub(at)
+    }
+}
+
+impl Slots {
+    /// The numbers in these slots of the level.
+    pub(crate) fn span(&self, level: u8) -> Span
+        requires level { level < LAST_LEVEL }
+        requires from { self.now.from ≤ 262144 }
+        requires to { self.now.to ≤ 262144 }
+        ensures { (n : ℕ) → touches result.start result.end (n * slot_size level) (slot_size level) ≡ true → (nat_le self.now.from n && nat_lt n self.now.to) ≡ true }
+    {
+        let size = slot_size(level);
+        Span {
+            start: self.from as u64 * size,
+            end: self.to as u64 * size,
+        }
     }
 }
 
@@ -48,24 +84,37 @@ impl Interval {
         self.start <= at && at + size <= self.end
     }
 
+    /// One past the last of the level's slots below the end of addresses that it touches.
+    pub(crate) fn past_slot(&self, level: u8) -> usize
+        requires { level < LAST_LEVEL }
+        ensures value { result ≡ past_slot level self.now.end }
+        ensures within { result ≤ ADDRESS_END / slot_size level }
+        ensures bound { result ≤ 262144 }
+    {
+        slot_of(level, capped(self.end) + (slot_size(level) - 1)) as usize
+    }
+
     /// Which of the level's slots below the end of addresses it touches.
     pub(crate) fn touched(&self, level: u8) -> Slots
         requires some { self.now.start < self.now.end }
         requires level { level < LAST_LEVEL }
+        ensures past { result.to ≡ past_slot level self.now.end }
+        ensures within { result.to ≤ ADDRESS_END / slot_size level }
+        ensures first { result.from ≤ 262144 }
         ensures bound { result.to ≤ 262144 }
         ensures slots { (n : ℕ) → n < ADDRESS_END / slot_size level → (nat_le result.from n && nat_lt n result.to) ≡ touches self.now.start self.now.end (n * slot_size level) (slot_size level) }
     {
         let from = slot_of(level, capped(self.start));
-        let to = slot_of(level, capped(self.end) + (slot_size(level) - 1));
         Slots {
             from: from as usize,
-            to: to as usize,
+            to: self.past_slot(level),
         }
     }
 
     /// Which of them it spans.
     pub(crate) fn spanned(&self, level: u8) -> Slots
         requires { level < LAST_LEVEL }
+        ensures past { result.to ≤ past_slot level self.now.end }
         ensures bound { result.to ≤ 262144 }
         ensures slots { (n : ℕ) → n < ADDRESS_END / slot_size level → (nat_le result.from n && nat_lt n result.to) ≡ spans self.now.start self.now.end (n * slot_size level) (slot_size level) }
     {

@@ -1,8 +1,8 @@
 //! The levels of the tables, and their slots.
-ghost use Rattle.std.specs.Prelude.{◌≡◌, ◌/◌, ◌<◌, ◌≤◌};
+ghost use Rattle.std.specs.Prelude.{◌≡◌, ◌/◌, ◌≤◌};
 ghost use Rattle.jh_shape.specs.Shapes.{slot_size};
 
-use jh_num::{ADDRESS_END, PAGE_SIZE};
+use jh_num::PAGE_SIZE;
 
 /// The level of a cell's first table.
 pub const FIRST_LEVEL: u8 = 1;
@@ -29,13 +29,4 @@ pub(crate) fn slot_of(level: u8, at: u64) -> u64
         2 => at / 0x20_0000,
         _ => at / 0x1000,
     }
-}
-
-/// How many slots of a level with tables there are below the end of addresses.
-pub(crate) fn slots(level: u8) -> usize
-    requires { level < LAST_LEVEL }
-    ensures value { result ≡ ADDRESS_END / slot_size level }
-    ensures bound { result ≤ 262144 }
-{
-    slot_of(level, ADDRESS_END) as usize
 }

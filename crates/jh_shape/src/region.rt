@@ -1,14 +1,14 @@
 //! A region against a slot.
-ghost use Rattle.std.specs.Prelude.{◌≡◌, ℕ, ◌+◌, ◌*◌, ◌^◌, ◌<◌, ◌≤◌, ◌||◌, length};
+ghost use Rattle.std.specs.Prelude.{◌≡◌, ◌+◌, ◌*◌, ◌^◌, ◌<◌, ◌≤◌, ◌||◌, length, nat_lt};
 ghost use Rattle.std.specs.List.{list_any};
 ghost use Rattle.jh_cellcfg.specs.Regions.{virt_end, phys_end, place_in};
 ghost use Rattle.jh_cellcfg.specs.declared.region.Region.{Region};
-ghost use Rattle.jh_shape.specs.Marks.{is_inside, is_marked, AreMarked};
+ghost use Rattle.jh_shape.specs.Marks.{is_beyond, is_inside, is_marked, is_place_beyond, AreMarkedBelow, AreMarkedWithin};
 ghost use Rattle.jh_shape.specs.Shapes.{slot_size, fits_blocks, is_mapped, is_met_by, meets_in_part, takes};
 
-use crate::interval::Interval;
+use crate::interval::{Interval, NO_SPAN, Slots, Span};
 use crate::level::{LAST_LEVEL, slot_of, slot_size};
-use crate::marks::{mark, mark_span};
+use crate::marks::{is_marked, mark};
 use jh_cellcfg::Region;
 use jh_num::ADDRESS_END;
 
@@ -112,58 +112,109 @@ pub(crate) fn fits_blocks(level: u8, region: &Region) -> bool
         && region.phys_start % size == region.virt_start % size
 }
 
-/// Marks the slots in which the region has an address, where tables map it, and tells a number that each of them is
-/// below.
-pub(crate) fn mark_met(words: &mut [u64], level: u8, region: &Region) -> usize
-    requires level { level < LAST_LEVEL }
-    requires enough { length words.old ≡ 4096 }
-    ensures marks { AreMarked words.new level (λ n. is_marked words.old n || is_met_by level (n * slot_size level) region.now) }
-    ensures end { (n : ℕ) → result ≤ n → is_marked words.new n ≡ is_marked words.old n }
+/// Whether it has addresses past that end.
+fn ends_past(region: &Region, end: u64) -> bool
+    ensures { result ≡ nat_lt end (virt_end region.now) }
 {
-    if is_mapped(region) {
-        let slots = addresses(region).touched(level);
-        mark_span(words, slots.from, slots.to);
-        slots.to
-    } else {
-        0
-    }
+    u128::from(end) < region.virt_end()
 }
 
-/// Marks the slot that the number lies in, unless it is the first there.
-fn mark_inside(words: &mut [u64], level: u8, number: u128)
+/// Whether one of them has.
+fn any_ends_past(regions: &[Region], end: u64) -> bool
+    ensures { result ≡ list_any (λ region. nat_lt end (virt_end region)) regions.now }
+{
+    regions.iter().any(|region| ends_past(region, end))
+}
+
+/// Whether one of them has addresses in slots of that number and above, of the level's below the end of addresses.
+pub(crate) fn any_beyond(regions: &[Region], level: u8, limit: usize) -> bool
     requires level { level < LAST_LEVEL }
-    requires enough { length words.old ≡ 4096 }
-    ensures { AreMarked words.new level (λ n. is_marked words.old n || is_inside (n * slot_size level) (slot_size level) number) }
+    requires limit { limit ≤ 262144 }
+    ensures { result ≡ list_any (λ region. is_beyond limit level region) regions.now }
+{
+    let end = limit as u64 * slot_size(level);
+    end < ADDRESS_END && any_ends_past(regions, end)
+}
+
+/// Whether it has places past that end.
+fn ends_past_place(region: &Region, end: u64) -> bool
+    ensures { result ≡ nat_lt end (phys_end region.now) }
+{
+    u128::from(end) < region.phys_end()
+}
+
+/// Whether one of them has.
+fn any_ends_past_place(regions: &[Region], end: u64) -> bool
+    ensures { result ≡ list_any (λ region. nat_lt end (phys_end region)) regions.now }
+{
+    regions.iter().any(|region| ends_past_place(region, end))
+}
+
+/// Whether one of them has places in slots of that number and above.
+pub(crate) fn any_place_beyond(regions: &[Region], level: u8, limit: usize) -> bool
+    requires level { level < LAST_LEVEL }
+    requires limit { limit ≤ 262144 }
+    ensures { result ≡ list_any (λ region. is_place_beyond limit level region) regions.now }
+{
+    let end = limit as u64 * slot_size(level);
+    end < ADDRESS_END && any_ends_past_place(regions, end)
+}
+
+/// Marks the slot that the number lies in, unless it is the first there, or the slot isn't below the limit.
+fn mark_inside(words: &mut [u64], level: u8, number: u128, limit: usize)
+    requires level { level < LAST_LEVEL }
+    requires room { limit ≤ 64 * length words.old }
+    ensures { AreMarkedBelow limit words.new level (λ n. is_marked words.old n || is_inside (n * slot_size level) (slot_size level) number) }
 {
     if number < u128::from(ADDRESS_END) {
         let number = number as u64;
         let n = slot_of(level, number);
-        if n * slot_size(level) < number {
-            mark(words, n as usize);
+        if n < limit as u64 {
+            if n * slot_size(level) < number {
+                mark(words, n as usize);
+            }
         }
     }
 }
 
-/// Marks the slots of places that the region, where it is for its cell alone, has in part.
-fn mark_cut(words: &mut [u64], level: u8, region: &Region)
+/// Marks the slots of places below the limit that the region, where it is for its cell alone, has in part.
+fn mark_cut(words: &mut [u64], level: u8, region: &Region, limit: usize)
     requires level { level < LAST_LEVEL }
-    requires enough { length words.old ≡ 4096 }
-    ensures { AreMarked words.new level (λ n. is_marked words.old n || meets_in_part region.now (n * slot_size level) (slot_size level)) }
+    requires room { limit ≤ 64 * length words.old }
+    ensures { AreMarkedBelow limit words.new level (λ n. is_marked words.old n || meets_in_part region.now (n * slot_size level) (slot_size level)) }
 {
     let its = places(region);
     if region.is_unshared() && its.start < its.end {
-        mark_inside(words, level, its.start);
-        mark_inside(words, level, its.end);
+        mark_inside(words, level, its.start, limit);
+        mark_inside(words, level, its.end, limit);
+    }
+}
+
+/// The places of the slot that the place lies in, where that is marked; else none.
+fn marked_around(words: &[u64], level: u8, place: u64, limit: usize) -> Span
+    requires level { level < LAST_LEVEL }
+    requires room { limit ≤ 64 * length words.now }
+    ensures { AreMarkedWithin limit words.now level result.start result.end }
+{
+    let n = slot_of(level, place) as usize;
+    if place < ADDRESS_END && n < limit && is_marked(words, n) {
+        Slots { from: n, to: n + 1 }.span(level)
+    } else {
+        NO_SPAN
     }
 }
 
 /// The same of each of them.
-pub(crate) fn mark_cuts(words: &mut [u64], level: u8, regions: &[Region])
+pub(crate) fn mark_cuts(words: &mut [u64], level: u8, regions: &[Region], limit: usize)
     requires level { level < LAST_LEVEL }
-    requires enough { length words.old ≡ 4096 }
-    ensures { AreMarked words.new level (λ n. is_marked words.old n || list_any (λ region. meets_in_part region (n * slot_size level) (slot_size level)) regions.now) }
+    requires room { limit ≤ 64 * length words.old }
+    ensures { AreMarkedBelow limit words.new level (λ n. is_marked words.old n || list_any (λ region. meets_in_part region (n * slot_size level) (slot_size level)) regions.now) }
 {
+    let mut done = NO_SPAN;
     for region in regions {
-        mark_cut(words, level, region);
+        if !done.has_all(region.phys_start, region.size) {
+            mark_cut(words, level, region, limit);
+            done = marked_around(words, level, region.phys_start, limit);
+        }
     }
 }

@@ -5,6 +5,7 @@ use crate::level::{LAST_LEVEL, slot_size};
 use crate::region::{addresses, any_in_part, any_met, any_takes, fits_blocks, is_mapped, place_in};
 use crate::want::Want;
 use jh_cellcfg::{CellConfig, Region};
+use jh_num::has_bit;
 
 /// What a cell's tables are made from: its regions, whether it is root, and the other cells.
 ///
@@ -23,15 +24,7 @@ pub struct Target<'a> {
     pub comm: u64,
 }
 
-/// Whether the bit of that number is set.
-pub(crate) fn has_bit(mask: u16, index: usize) -> bool
-    requires { index < 16 }
-    ensures { result ≡ has_bit mask index }
-{
-    mask >> index & 1 == 1
-}
-
-ghost use Rattle.jh_shape.specs.Claims.{claims_of, has_bit};
+ghost use Rattle.jh_shape.specs.Claims.{claims_of};
 
 impl<'a> Target<'a> {
     ghost use Rattle.jh_shape.specs.Claims.{held_from, one_more};

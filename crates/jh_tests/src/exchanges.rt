@@ -320,6 +320,41 @@ fn a_cell_that_is_silent_is_shut_down_after_its_time(rt: HostRuntime) -> Result<
     Ok(())
 }
 
+const IDLE: &str = "0 0 hvc 1 0x48000000 0x0 = begin
+1 0 stop
+2 0 stop
+0 0 decide = go
+0 0 commit
+0 0 finish = 1
+0 0 hvc 2 0x1 0x0 = begin
+1 0 stop
+0 0 decide = go
+0 0 settle = agreed
+0 0 commit
+0 0 finish = 0
+0 0 hvc 4 0x1 0x0 = begin
+1 0 stop
+0 0 decide = go
+0 0 settle = timeout
+2 1 stop
+0 0 commit
+0 0 finish = 0
+";
+
+#[test]
+fn a_cell_with_nothing_due_is_not_waited_for(rt: HostRuntime) -> Result<(), Fail> {
+    let case = Case {
+        timeout: 0,
+        root: "hvc 1 0x48000000 0\nhvc 2 1 0\nhvc 4 1 0\n",
+        second: "",
+        demo: "",
+        schedule: "",
+        journal: IDLE,
+    };
+    plays(&rt, rt.alloc(), &case)?;
+    Ok(())
+}
+
 const LOCKED: &str = "0 0 hvc 1 0x48000000 0x0 = begin
 1 0 stop
 2 0 stop
@@ -401,6 +436,42 @@ fn a_cell_that_receives_a_note_is_noted(rt: HostRuntime) -> Result<(), Fail> {
         demo: "await 4 0x8000000c 2\nwrite 4 0x80000010 4\n",
         schedule: "",
         journal: TOLD,
+    };
+    plays(&rt, rt.alloc(), &case)?;
+    Ok(())
+}
+
+const UNHEARD: &str = "0 0 hvc 1 0x48000000 0x0 = begin
+1 0 stop
+2 0 stop
+0 0 decide = go
+0 0 commit
+0 0 finish = 1
+0 0 hvc 2 0x1 0x0 = begin
+1 0 stop
+0 0 decide = go
+0 0 settle = agreed
+0 0 commit
+0 0 finish = 0
+0 0 hvc 1 0x48010000 0x0 = begin
+1 0 stop
+0 0 decide = go
+0 0 commit
+0 0 note 1
+0 0 noted 1 = timeout
+0 0 finish = 2
+0 0 hvc 6 0x1 0x0 = 3
+";
+
+#[test]
+fn a_cell_that_hears_no_note_fails(rt: HostRuntime) -> Result<(), Fail> {
+    let case = Case {
+        timeout: 0,
+        root: "hvc 1 0x48000000 0\nhvc 2 1 0\nhvc 1 0x48010000 0\nhvc 6 1 0\n",
+        second: "",
+        demo: "",
+        schedule: "",
+        journal: UNHEARD,
     };
     plays(&rt, rt.alloc(), &case)?;
     Ok(())

@@ -1,4 +1,6 @@
 pub mod Acts
+pub mod Calls
+pub mod Digits
 pub mod EveryText
 pub mod Lines
 pub mod Numbers

@@ -5,6 +5,7 @@ mod entries;
 mod fault;
 mod laws;
 mod map;
+mod number_text;
 mod outcomes;
 mod print;
 mod read;

@@ -1,42 +1,11 @@
 //! How the outcome of an act is spelled, and read.
-ghost use Rattle.std.specs.Prelude.{◌≡◌, ◌≤◌, IfSome, FitsSigned, Some};
+ghost use Rattle.std.specs.Prelude.{◌≡◌, ◌≤◌, IfSome, FitsSigned};
 ghost use Rattle.std.specs.Int.{w64};
 ghost use Rattle.jh_text.specs.Text.{got_text, ok_text, decision_text, settled_text, heard_text};
 ghost use Rattle.jh_text.specs.Private.Reading.{got_of, ok_of, decision_of, settled_of, heard_of};
 
 use crate::words::{answer, hexadecimal, is};
 use jh_history::{Heard, Settled};
-use std::fmt;
-
-/// What a read or a fetch gave; without a value where it was a violation.
-#[derive(Clone, Copy)]
-pub(crate) struct Got(pub(crate) Option<u64>);
-
-impl fmt::Display for Got {
-    ghost output = { λ got. Some (got_text got.0) };
-
-    fn fmt<W: fmt::Write>(&self, f: &mut fmt::Formatter<W>) -> fmt::Result {
-        match self.0 {
-            Some(value) => write!(f, "0x{value:x}"),
-            None => write!(f, "violation"),
-        }
-    }
-}
-
-/// The number with which a call is refused; without one where it goes on.
-#[derive(Clone, Copy)]
-pub(crate) struct Decision(pub(crate) Option<i64>);
-
-impl fmt::Display for Decision {
-    ghost output = { λ decision. Some (decision_text decision.0) };
-
-    fn fmt<W: fmt::Write>(&self, f: &mut fmt::Formatter<W>) -> fmt::Result {
-        match self.0 {
-            Some(number) => write!(f, "{number}"),
-            None => write!(f, "go"),
-        }
-    }
-}
 
 pub(crate) fn ok_word(ok: bool) -> &'static str
     ensures { result.now ≡ ok_text ok }

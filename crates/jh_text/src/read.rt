@@ -38,7 +38,7 @@ pub fn read_journal(alloc: Global, text: &[u8]) -> Result<Journal, JournalFault>
 /// The entry of the first line, and what stands behind the line; `None` where the text begins with the
 /// line of no entry. What `printed` holds before and after doesn't matter.
 fn first_line<'a>(
-    printed: &mut String,
+    printed: &mut Vec<u8>,
     text: &'a [u8],
 ) -> Result<Option<(Entry, &'a [u8])>, NoMemory>
     ensures readable { IfOk result (λ found. IfSome found (λ x. IsReadable x.0)) }
@@ -59,12 +59,12 @@ fn first_line<'a>(
 }
 
 /// Whether this is the entry's text, which is printed for it.
-fn is_text_of(printed: &mut String, entry: &Entry, text: &[u8]) -> Result<bool, NoMemory>
+fn is_text_of(printed: &mut Vec<u8>, entry: &Entry, text: &[u8]) -> Result<bool, NoMemory>
     ensures { IfOk result (λ same. same ≡ bytes_eq text.now (entry_text entry.now)) }
 {
     printed.clear();
     push_entry(printed, entry)?;
-    Ok(is(text, printed.as_str()))
+    Ok(text == printed.as_slice())
 }
 
 /// Whether the journal has as many entries as it may.
@@ -80,7 +80,7 @@ fn entries(alloc: Global, text: &[u8]) -> Result<Journal, JournalFault>
     ensures err { IfErr result (IsFault text.now) }
 {
     let mut journal = Journal::new(alloc);
-    let mut printed = String::new(alloc);
+    let mut printed = Vec::new(alloc);
     let mut rest = text;
     while !rest.is_empty() {
         let Some((entry, after)) = first_line(&mut printed, rest)? else {

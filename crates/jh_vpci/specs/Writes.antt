@@ -1,12 +1,9 @@
 -- What a write leaves in configuration space.
-use Rattle.std.specs.Prelude.{ℕ, ◌+◌, ◌*◌, ◌/◌, ◌%◌, ◌^◌, ◌<◌, ◌≤◌, ◌≡◌, Bool, ◌&&◌, ◌==◌, if◌then◌else◌}
+use Rattle.std.specs.Prelude.{ℕ, ◌+◌, ◌*◌, ◌/◌, ◌%◌, ◌^◌, ◌<◌, ◌≤◌, ◌≡◌, ◌&&◌, ◌==◌, if◌then◌else◌}
 use Rattle.std.specs.Int.{bit_at}
+use Rattle.jh_num.specs.Bits.{has_bit}
 use Rattle.jh_vpci.specs.Space.{Space, has_vectors}
 use Rattle.jh_vpci.specs.Words.{word_of, word_at, with_vectors}
-
--- the bit is 1
-abbrev pub has_bit : ℕ → ℕ → Bool
-has_bit word k = bit_at word k == 1
 
 -- the word with the lowest bytes of the value in place of its bytes from `at` on
 abbrev pub spliced : ℕ → ℕ → ℕ → ℕ → ℕ

@@ -2,7 +2,8 @@
 ghost use Rattle.std.specs.Prelude.{◌≡◌, ◌+◌, ◌*◌, ◌/◌, ◌%◌, ◌^◌, ◌<◌, ◌≤◌, ◌⊎◌, ◌↔◌, false, IsNone, option_map, if◌then◌else◌};
 ghost use Rattle.jh_vpci.specs.Space.{fresh, is_open, window_of, ends_of, has_vectors};
 ghost use Rattle.jh_vpci.specs.Words.{command_of, control_of, with_vectors, word_of, word_at, read_of};
-ghost use Rattle.jh_vpci.specs.Writes.{has_bit, with_word, written};
+ghost use Rattle.jh_num.specs.Bits.{has_bit};
+ghost use Rattle.jh_vpci.specs.Writes.{with_word, written};
 
 use crate::function::FunctionSpec;
 use crate::word::{bytes_at, has_bit, high, low, set, window_from, with_bytes};

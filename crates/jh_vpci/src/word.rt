@@ -1,6 +1,7 @@
 //! Parts of a word of 32 bits: the bytes of one access, and single bits.
 ghost use Rattle.std.specs.Prelude.{◌≡◌, ◌+◌, ◌*◌, ◌/◌, ◌%◌, ◌^◌, ◌<◌, ◌≤◌, if◌then◌else◌};
-ghost use Rattle.jh_vpci.specs.Writes.{has_bit, spliced};
+ghost use Rattle.jh_num.specs.Bits.{has_bit};
+ghost use Rattle.jh_vpci.specs.Writes.{spliced};
 
 use jh_num::Range;
 

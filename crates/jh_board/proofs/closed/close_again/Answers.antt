@@ -1,9 +1,7 @@
 -- One cell more.
-use Rattle.std.proofs.Common.{◌≡◌, ◌||◌, List, length, get_or, sym, ap, ◌∙◌, arith}
-use Rattle.jh_cellcfg.specs.declared.region.Region.{Region}
+use Rattle.std.proofs.Common.{◌≡◌, List, length, get_or, ap, ◌∙◌, arith}
 use Rattle.jh_num.specs.Bytes.{has_byte}
-use Rattle.jh_cellcfg.specs.declared.config.CellConfig.{CellConfig}
-use Rattle.jh_board.specs.Closed.{is_taken}
+use Rattle.jh_cellcfg.specs.declared.region.Region.{Region}
 use Rattle.jh_board.proofs.ClosedLemmas.{closed_step, closed_all, few_regions}
 use Rattle.jh_board.proofs.closed.close_again.Goals as goal
 
@@ -13,17 +11,16 @@ loop-i-preserved c =
     let i = c.loop-i.i in
     let cell = c.index-cells-i.result in
     let counts = few_regions cells i cell c.loop-i-test.true in
-    let here : length (get_or cells i cell).memory_regions ≡ length cell.memory_regions = ap (λ (x : CellConfig). length x.memory_regions) (sym c.index-cells-i.is) in
+    let here : length cell ≡ length (get_or cells i cell) = ap (λ (r : List Region). length r) c.index-cells-i.is in
     let few = c.loop-i.invariant.few in
-    let more = c.close_regions.ensures.few in
-    let len = c.as_slice-regions.ensures.len in
+    let more = c.close_cell.ensures.few in
     record {
       bytes = λ lives same marks place.
-          closed_step lives cells i c.has_bit.result cell (has_byte c.loop-i.closed.ranges place) (has_byte c.close_regions.new.closed.ranges place) place same c.loop-i-test.true c.index-cells-i.is (c.has_bit.ensures ∙ marks i)
+          closed_step lives cells i c.has_bit.result cell (has_byte c.loop-i.closed.ranges place) (has_byte c.close_cell.new.closed.ranges place) place same c.loop-i-test.true c.index-cells-i.is (c.has_bit.ensures ∙ marks i)
           (c.loop-i.invariant.bytes lives same marks place)
-          (c.close_regions.ensures.bytes place ∙ ap (λ (rs : List Region). has_byte c.loop-i.closed.ranges place || is_taken c.has_bit.result rs place) (c.as_slice-regions.ensures.value ∙ ap (λ (x : CellConfig). x.memory_regions) (sym c.index-cells-i.is)));
+          (c.close_cell.ensures.bytes place);
       few = (let sum = counts.0 in omega arith);
-      room = (let old = c.loop-i.invariant.room in let new = c.close_regions.ensures.room in omega arith);
+      room = (let old = c.loop-i.invariant.room in let new = c.close_cell.ensures.room in omega arith);
     }
 
 pub returns-clause-bytes : goal.returns-clause-bytes

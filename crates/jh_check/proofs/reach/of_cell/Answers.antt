@@ -1,30 +1,16 @@
-use Rattle.std.proofs.Common.{◌≡◌, true, List, subst}
+use Rattle.std.proofs.Common.{List, subst}
 use Rattle.std.proofs.lemmas.Result.{IfOk-weaker}
 use Rattle.jh_cellcfg.specs.declared.region.Region.{Region}
 use Rattle.jh_check.specs.declared.spans.Span.{Span}
-use Rattle.jh_check.specs.Spans.{is_within}
-use Rattle.jh_check.specs.Private.Reaches.{HasOthers, TellsEach, TellsPairs, TellsOthers}
-use Rattle.jh_check.proofs.ReachLemmas.{others_each, others_pairs}
+use Rattle.jh_check.specs.Private.Reaches.{HasOthers, TellsEach, TellsOthers}
+use Rattle.jh_check.proofs.ReachLemmas.{others_each}
 use Rattle.jh_check.proofs.reach.of_cell.Goals as goal
-
-pub returns-then-is_within-clause-tells : goal.returns-then-is_within-clause-tells
-returns-then-is_within-clause-tells c =
-    let cell = c.args.cell.now in
-    let spans = c.as_slice-then-is_within.result.now in
-    let v = c.as_slice-then-is_within.ensures.value in
-    let t = c.is_within.ensures in
-    let i = c.if-is_within.true in
-    let w : is_within c.args.rule ≡ true = cc in
-    let P : List Region → List Span → Type 0 = λ regions spans. HasOthers c.args.rule c.args.pass c.args.b regions spans in
-    let has : P cell.memory_regions c.in_ok-spans.spans.items = subst (λ regions. P regions c.in_ok-spans.spans.items) c.as_slice.ensures.value c.in_ok-spans.ensures.each in
-    let all : P cell.memory_regions spans = rw v has in
-    IfOk-weaker c.of_overlaps.result (λ reaches. TellsPairs spans reaches.items) (λ reaches. TellsOthers c.args.rule c.args.pass c.args.b cell reaches.items) (λ reaches tells. others_pairs c.args.rule c.args.pass c.args.b cell spans reaches.items w all tells) c.of_overlaps.ensures.tells
 
 pub returns-clause-tells : goal.returns-clause-tells
 returns-clause-tells c =
     let cell = c.args.cell.now in
-    let spans = c.as_slice-else-is_within.result.now in
-    let v = c.as_slice-else-is_within.ensures.value in
+    let spans = c.as_slice-2.result.now in
+    let v = c.as_slice-2.ensures.value in
     let P : List Region → List Span → Type 0 = λ regions spans. HasOthers c.args.rule c.args.pass c.args.b regions spans in
     let has : P cell.memory_regions c.in_ok-spans.spans.items = subst (λ regions. P regions c.in_ok-spans.spans.items) c.as_slice.ensures.value c.in_ok-spans.ensures.each in
     let all : P cell.memory_regions spans = rw v has in

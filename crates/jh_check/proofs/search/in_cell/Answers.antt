@@ -3,6 +3,7 @@ use Rattle.jh_cellcfg.specs.declared.region.Region.{Region}
 use Rattle.jh_check.specs.Lists.{capped}
 use Rattle.jh_check.specs.Findings.{in_cell, in_cell_at}
 use Rattle.jh_check.proofs.ListLemmas.{found_step, found_done}
+use Rattle.jh_check.proofs.ReachLemmas.{capped_none_more}
 use Rattle.jh_check.proofs.search.in_cell.Goals as goal
 
 pub loop-r-init : goal.loop-r-init
@@ -22,3 +23,6 @@ loop-r-preserved c =
 pub returns : goal.returns
 returns c =
     found_done (in_cell_at c.args.rule c.args.hypervisor.now c.args.a c.args.regions.now) c.args.regions.now c.loop-r.r c.loop-r.found _ c.loop-r-test.false c.loop-r.invariant
+
+pub returns-then-sound : goal.returns-then-sound
+returns-then-sound c = capped_none_more c.args.found.now (in_cell c.args.rule c.args.hypervisor.now c.args.a c.args.regions.now) (c.requires c.if-sound.true c.args.rule)

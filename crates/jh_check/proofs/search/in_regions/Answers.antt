@@ -1,6 +1,8 @@
-use Rattle.std.proofs.Common.{◌≡◌, ◌<◌, ◌++◌, length, get_or, refl, arith}
+use Rattle.std.proofs.Common.{◌≡◌, ◌<◌, ◌++◌, length, get_or, refl, sym, subst, arith}
+use Rattle.jh_cellcfg.specs.declared.config.CellConfig.{CellConfig}
 use Rattle.jh_check.specs.Cells.{cells_of}
 use Rattle.jh_check.specs.Lists.{capped}
+use Rattle.jh_check.specs.Private.Sound.{AreSound}
 use Rattle.jh_check.specs.Findings.{in_regions, in_regions_at}
 use Rattle.jh_check.proofs.ListLemmas.{found_step, found_done}
 use Rattle.jh_check.proofs.search.in_regions.Goals as goal
@@ -23,3 +25,11 @@ loop-a-preserved c =
 pub returns : goal.returns
 returns c =
     found_done (in_regions_at c.args.rule c.args.setup.now.hypervisor.now) (cells_of c.args.setup.now) c.loop-a.a c.loop-a.found _ (omega arith) c.loop-a.invariant
+
+pub in_cell-requires : goal.in_cell-requires
+in_cell-requires c = λ t.
+    let h = c.args.setup.now.hypervisor.now in
+    let a = c.loop-a.a in
+    let within : a < length (cells_of c.args.setup.now) = omega arith in
+    let sound = c.requires.sound a c.cell.result.now within t in
+    subst (λ regions. AreSound h a regions) (sym c.as_slice-regions.ensures.value) (subst (λ (cell : CellConfig). AreSound h a cell.memory_regions) (sym c.cell.ensures) sound)

@@ -77,7 +77,7 @@ returns c =
     let items = other.memory_regions in
     let met = c.met_by-met.result.now in
     let P : Span → Type 0 = λ y. (x : Span) → Contains c.args.spans.now x → spans_meet x y ≡ true → Contains met x in
-    let each : P (span_of CellsOverlap one.item one.region) = subst P c.span_of.ensures c.met_by-met.ensures.each in
+    let each : P (span_of CellsOverlap one.item one.region) = subst P c.span_of-span.ensures c.met_by-met.ensures.each in
     sym (ap is_any (beside_unmet one c.args.b other c.args.spans.now met c.requires each (λ x d cx.
     let Q : Span → Type 0 = λ y. pair_breaks CellsOverlap one (spot c.args.b other y.item (get_or items y.item d)) ≡ false in
     subst Q cx.2 (c.loop-span.invariant cx.0 x d (omega (arith, cx.1, c.loop-span-test.false))))))

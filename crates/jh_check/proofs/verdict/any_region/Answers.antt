@@ -1,4 +1,4 @@
-use Rattle.std.proofs.Common.{◌≡◌, ◌<◌, true, false, take, length, get_or, refl}
+use Rattle.std.proofs.Common.{◌≡◌, ◌<◌, true, false, take, length, get_or, refl, sym, ap}
 use Rattle.jh_cellcfg.specs.declared.region.Region.{Region}
 use Rattle.jh_check.specs.Regions.{region_breaks}
 use Rattle.jh_check.specs.Lists.{is_any}
@@ -36,3 +36,6 @@ loop-r-preserved c =
 
 pub returns : goal.returns
 returns c = any_done (in_cell_at c.args.rule c.args.hypervisor.now c.args.a c.args.regions.now) (c.args.regions.now) c.loop-r.r _ c.loop-r-test.false c.loop-r.invariant
+
+pub returns-then-sound : goal.returns-then-sound
+returns-then-sound c = sym (ap is_any (c.requires c.if-sound.true c.args.rule))

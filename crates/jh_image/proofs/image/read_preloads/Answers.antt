@@ -6,7 +6,7 @@ use Rattle.jh_image.specs.Order.{ask_for, preload_name}
 use Rattle.jh_outside.specs.TrailLaws.{loop-more, loop-until}
 use Rattle.jh_image.specs.Causes.{OnRefused}
 use Rattle.jh_image.proofs.StopLemmas.{on_refused, passed_up}
-use Rattle.jh_image.proofs.LoadLemmas.{LoadedSoFar, loaded_start, loaded_more}
+use Rattle.jh_image.proofs.LoadLemmas.{LoadedSoFar, loaded_start, loaded_next, loaded_more, loaded_all}
 use Rattle.jh_image.proofs.image.read_preloads.Goals as goal
 
 pub loop-file-init : goal.loop-file-init
@@ -14,13 +14,27 @@ loop-file-init g c = record {
   kept = refl;
   rises = omega arith;
   asked = no_ask c.args.files.now;
-  so_far = rw c.new-preloads.ensures (loaded_start (g.F.Files.contents c.args.files.now) c.args.system.now.hypervisor_memory c.args.listing.now.preloads);
+  so_far = rw c.new-preloads.ensures (loaded_start (g.F.Files.contents c.args.files.now) c.args.board.now c.args.listing.now c.args.system.now c.requires.read);
 }
+
+pub next_preload-requires-clause-next : goal.next_preload-requires-clause-next
+next_preload-requires-clause-next g c =
+    let contents = g.F.Files.contents c.args.files.now in
+    let board = c.args.board.now in
+    let system = c.args.system.now in
+    let listing = c.args.listing.now in
+    let i = c.loop-file.file-index in
+    let file = c.file-item.result in
+    let lt : i < length listing.preloads = rw c.as_slice-entries.ensures.value at c.loop-file-test.true in
+    let is : file ≡ get_or listing.preloads i file = rw c.as_slice-entries.ensures.value at c.file-item.is in
+    let so_far = c.loop-file.invariant.so_far in
+    rw (c.loop-file.invariant.kept, c.as_slice.ensures.value) (listing, so_far.read, loaded_next contents board listing system i file c.loop-file.preloads lt is so_far)
 
 pub loop-file-preserved : goal.loop-file-preserved
 loop-file-preserved g c =
     let contents = g.F.Files.contents c.args.files.now in
-    let hypervisor = c.args.system.now.hypervisor_memory in
+    let board = c.args.board.now in
+    let system = c.args.system.now in
     let listing = c.args.listing.now in
     let i = c.loop-file.file-index in
     let file = c.file-item.result in
@@ -32,7 +46,7 @@ loop-file-preserved g c =
       kept = cc;
       rises = omega arith;
       asked = loop-more preload_name g.F.Files.asks g.F.Files.failed c.args.files.now c.loop-file.files c.next_preload.new.files listing.preloads i file lt is c.loop-file.invariant.asked c.in_ok-preload.ensures.asked;
-      so_far = subst (λ ps. LoadedSoFar contents hypervisor listing.preloads (i + 1) ps) (sym c.in_ok-push.ensures.ok) (loaded_more contents hypervisor listing.preloads i file c.loop-file.preloads c.in_ok-preload.preload lt is of fit c.loop-file.invariant.so_far);
+      so_far = subst (λ ps. LoadedSoFar contents board listing system (i + 1) ps) (sym c.in_ok-push.ensures.ok) (loaded_more contents board listing system i file c.loop-file.preloads c.in_ok-preload.preload lt is of fit c.loop-file.invariant.so_far);
     }
 
 pub returns-in_err-preload-clause-asked_until : goal.returns-in_err-preload-clause-asked_until
@@ -56,3 +70,9 @@ returns-clause-asked g c =
     let files = c.args.listing.now.preloads in
     let le : length files ≤ c.loop-file.file-index = rw c.as_slice-entries.ensures.value at c.loop-file-test.false in
     subst (λ fs. AsksAll g.F.Files.asks g.F.Files.failed (map preload_name fs) c.args.files.now c.loop-file.files) (take_all c.loop-file.file-index files le) c.loop-file.invariant.asked
+
+pub returns-clause-all : goal.returns-clause-all
+returns-clause-all g c =
+    let listing = c.args.listing.now in
+    let le : length listing.preloads ≤ c.loop-file.file-index = rw c.as_slice-entries.ensures.value at c.loop-file-test.false in
+    loaded_all (g.F.Files.contents c.args.files.now) c.args.board.now listing c.args.system.now c.loop-file.file-index c.loop-file.preloads le c.loop-file.invariant.so_far

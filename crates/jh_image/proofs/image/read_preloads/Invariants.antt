@@ -10,5 +10,5 @@ invariant-loop-file g l = record {
   kept : g.F.Files.contents l.files ≡ g.F.Files.contents l.fn.files;
   rises : g.F.Files.faults l.fn.files ≤ g.F.Files.faults l.files;
   asked : AsksAll g.F.Files.asks g.F.Files.failed (map preload_name (take l.file-index l.fn.listing.preloads)) l.fn.files l.files;
-  so_far : LoadedSoFar (g.F.Files.contents l.fn.files) l.fn.system.hypervisor_memory l.fn.listing.preloads l.file-index l.preloads;
+  so_far : LoadedSoFar (g.F.Files.contents l.fn.files) l.fn.board l.fn.listing l.fn.system l.file-index l.preloads;
 }

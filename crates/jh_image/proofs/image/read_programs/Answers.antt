@@ -1,12 +1,13 @@
 -- The loop over the programs' files.
 use Rattle.std.proofs.Common.{◌≡◌, ◌+◌, ◌<◌, ◌≤◌, length, get_or, refl, sym, subst, arith, map, [], ◌∷◌}
 use Rattle.std.proofs.lemmas.List.{take_all}
+use Rattle.jh_image.specs.Images.{so_far_of}
 use Rattle.jh_image.specs.Causes.{IsProgramUnread, OnRefused, StopsReading}
 use Rattle.jh_image.proofs.StopLemmas.{on_refused, program_stops, passed_up}
 use Rattle.jh_outside.specs.Trail.{Asks, no_ask, AsksAll, AsksUntil}
 use Rattle.jh_image.specs.Order.{ask_for, program_name}
 use Rattle.jh_outside.specs.TrailLaws.{loop-more, loop-until}
-use Rattle.jh_image.proofs.LoadLemmas.{ScriptsSoFar, scripts_start, scripts_more, scripts_next, scripts_owned}
+use Rattle.jh_image.proofs.LoadLemmas.{ScriptsSoFar, scripts_start, scripts_more, scripts_next, scripts_all, scripts_owned}
 use Rattle.jh_image.proofs.image.read_programs.Goals as goal
 
 pub loop-file-init : goal.loop-file-init
@@ -14,7 +15,7 @@ loop-file-init g c = record {
   kept = refl;
   rises = omega arith;
   asked = no_ask c.args.files.now;
-  so_far = rw c.new-programs.ensures (scripts_start (g.F.Files.contents c.args.files.now) c.args.listing.now.programs);
+  so_far = rw c.new-programs.ensures (scripts_start (g.F.Files.contents c.args.files.now) c.args.board.now c.args.listing.now c.args.system.now c.args.preloads.now c.requires.read);
 }
 
 pub returns-in_err-program-clause-err : goal.returns-in_err-program-clause-err
@@ -28,15 +29,19 @@ returns-in_err-program-clause-err g c =
     let file = c.file-item.result in
     let lt : i < length listing.programs = rw c.as_slice-entries.ensures.value at c.loop-file-test.true in
     let is : file ≡ get_or listing.programs i file = rw c.as_slice-entries.ensures.value at c.file-item.is in
-    let next = scripts_next contents board listing system preloads i file c.loop-file.programs c.requires.loaded lt is c.loop-file.invariant.so_far in
+    let so_far = c.loop-file.invariant.so_far in
+    let next = scripts_next contents board listing system preloads i file c.loop-file.programs c.requires.all lt is so_far in
     let unread = rw c.loop-file.invariant.kept at c.in_err-program.ensures.err in
     passed_up c.from_residual.result c.in_err-program.field-0.0 (λ e. OnRefused (StopsReading contents board) e) c.from_residual.ensures.1
-    (on_refused (IsProgramUnread contents file.file) (StopsReading contents board) c.in_err-program.field-0.0 (program_stops contents board listing system preloads c.loop-file.programs file next) unread)
+    (on_refused (IsProgramUnread contents file.file) (StopsReading contents board) c.in_err-program.field-0.0 (program_stops contents board (so_far_of listing system preloads c.loop-file.programs) file so_far.read next) unread)
 
 pub loop-file-preserved : goal.loop-file-preserved
 loop-file-preserved g c =
     let contents = g.F.Files.contents c.args.files.now in
+    let board = c.args.board.now in
     let listing = c.args.listing.now in
+    let system = c.args.system.now in
+    let preloads = c.args.preloads.now in
     let i = c.loop-file.file-index in
     let file = c.file-item.result in
     let lt : i < length listing.programs = rw c.as_slice-entries.ensures.value at c.loop-file-test.true in
@@ -46,14 +51,14 @@ loop-file-preserved g c =
       kept = cc;
       rises = omega arith;
       asked = loop-more program_name g.F.Files.asks g.F.Files.failed c.args.files.now c.loop-file.files c.read_program_file.new.files listing.programs i file lt is c.loop-file.invariant.asked c.in_ok-program.ensures.asked;
-      so_far = subst (λ ps. ScriptsSoFar contents listing.programs (i + 1) ps) (sym c.in_ok-push.ensures.ok) (scripts_more contents listing.programs i file c.loop-file.programs c.in_ok-program.program lt is of c.in_ok-program.ensures.sound c.loop-file.invariant.so_far);
+      so_far = subst (λ ps. ScriptsSoFar contents board listing system preloads (i + 1) ps) (sym c.in_ok-push.ensures.ok) (scripts_more contents board listing system preloads i file c.loop-file.programs c.in_ok-program.program c.requires.all lt is of c.in_ok-program.ensures.sound c.loop-file.invariant.so_far);
     }
 
 pub returns-clause-owned : goal.returns-clause-owned
 returns-clause-owned g c =
     let listing = c.args.listing.now in
     let le : length listing.programs ≤ c.loop-file.file-index = rw c.as_slice-entries.ensures.value at c.loop-file-test.false in
-    scripts_owned (g.F.Files.contents c.args.files.now) listing.programs c.loop-file.file-index c.loop-file.programs le c.requires.distinct c.loop-file.invariant.so_far
+    scripts_owned (g.F.Files.contents c.args.files.now) c.args.board.now listing c.args.system.now c.args.preloads.now c.loop-file.file-index c.loop-file.programs le c.requires.distinct c.loop-file.invariant.so_far
 
 pub returns-in_err-program-clause-asked_until : goal.returns-in_err-program-clause-asked_until
 returns-in_err-program-clause-asked_until g c =
@@ -76,3 +81,9 @@ returns-clause-asked g c =
     let files = c.args.listing.now.programs in
     let le : length files ≤ c.loop-file.file-index = rw c.as_slice-entries.ensures.value at c.loop-file-test.false in
     subst (λ fs. AsksAll g.F.Files.asks g.F.Files.failed (map program_name fs) c.args.files.now c.loop-file.files) (take_all c.loop-file.file-index files le) c.loop-file.invariant.asked
+
+pub returns-clause-complete : goal.returns-clause-complete
+returns-clause-complete g c =
+    let listing = c.args.listing.now in
+    let le : length listing.programs ≤ c.loop-file.file-index = rw c.as_slice-entries.ensures.value at c.loop-file-test.false in
+    scripts_all (g.F.Files.contents c.args.files.now) c.args.board.now listing c.args.system.now c.args.preloads.now c.loop-file.file-index c.loop-file.programs c.requires.all le c.loop-file.invariant.so_far

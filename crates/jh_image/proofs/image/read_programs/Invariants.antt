@@ -10,5 +10,5 @@ invariant-loop-file g l = record {
   kept : g.F.Files.contents l.files ≡ g.F.Files.contents l.fn.files;
   rises : g.F.Files.faults l.fn.files ≤ g.F.Files.faults l.files;
   asked : AsksAll g.F.Files.asks g.F.Files.failed (map program_name (take l.file-index l.fn.listing.programs)) l.fn.files l.files;
-  so_far : ScriptsSoFar (g.F.Files.contents l.fn.files) l.fn.listing.programs l.file-index l.programs;
+  so_far : ScriptsSoFar (g.F.Files.contents l.fn.files) l.fn.board l.fn.listing l.fn.system l.fn.preloads l.file-index l.programs;
 }

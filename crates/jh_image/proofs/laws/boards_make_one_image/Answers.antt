@@ -1,5 +1,5 @@
 -- One file after another, in the order of reading.
-use Rattle.jh_image.proofs.OneLemmas.{image_one}
+use Rattle.jh_image.proofs.ReadLemmas.{image_one}
 use Rattle.jh_image.proofs.laws.boards_make_one_image.Goals as goal
 
 pub returns : goal.returns

@@ -1,5 +1,5 @@
 -- Each cause but one contradicts the image.
-use Rattle.jh_image.proofs.UnrefusedLemmas.{unrefused}
+use Rattle.jh_image.proofs.CauseLemmas.{unrefused}
 use Rattle.jh_image.proofs.laws.boards_that_make_an_image_are_not_refused.Goals as goal
 
 pub returns : goal.returns

@@ -1,4 +1,4 @@
--- The endpoint at the place of the device's key is changed, or none is.
+-- The endpoint at the index of the device's key is changed, or none is.
 use Rattle.std.proofs.Common.{◌∙◌, position, set, sym, ap, subst}
 use Rattle.jh_ivshmem.specs.declared.change.Whom.TheVariants.{Device}
 use Rattle.jh_ivshmem.specs.Keys.{AreInOrder, IsSound, key_of, is_key_meant}
@@ -7,8 +7,8 @@ use Rattle.jh_ivshmem.proofs.LoopLemmas.{device_at, change_found, change_none, s
 use Rattle.jh_ivshmem.proofs.OrderLemmas.{keys_in_order}
 use Rattle.jh_ivshmem.proofs.endpoints.change_one.Goals as goal
 
-pub place_of-requires : goal.place_of-requires
-place_of-requires c =
+pub key_index-requires : goal.key_index-requires
+key_index-requires c =
     subst AreInOrder (sym c.deref.ensures.value) (keys_in_order c.args.endpoints.now.items c.args.keys.now.items c.requires.kept)
 
 pub of-requires : goal.of-requires

@@ -23,7 +23,7 @@ itself : (cell device : ℕ) (list : List Endpoint) (e : Endpoint) → AllPairs 
     → endpoint_at cell device list ≡ Some e
     → changed (is_device e.spec.cell e.spec.device) (λ (o : Endpoint). record o { state = e.state }) list ≡ list
 itself cell device list e apart named =
-    let place = position_or_len (λ (o : Endpoint). is_device cell device o.spec) list in
+    let index = position_or_len (λ (o : Endpoint). is_device cell device o.spec) list in
     let there = sym (find_at (λ (o : Endpoint). is_device cell device o.spec) list) ∙ named in
     let within = slice_get_within list (position_or_len (λ (o : Endpoint). is_device cell device o.spec) list) e there in
     let read = sym (get_or_from_slice_get list (position_or_len (λ (o : Endpoint). is_device cell device o.spec) list) e e there) in

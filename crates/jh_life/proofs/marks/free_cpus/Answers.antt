@@ -1,7 +1,7 @@
 use Rattle.std.proofs.Common.{◌≡◌, ◌^◌, ◌<◌, ◌≤◌, ◌==◌, not, false, length, get_or, set, sym, ◌∙◌, ⊎_elim, arith}
 use Rattle.std.proofs.lemmas.Bool.{cases_lt, and_left}
 use Rattle.std.proofs.lemmas.List.{get_or-set_same, get_or-set_other, length-set, length-replicate}
-use Rattle.jh_shape.specs.Claims.{has_bit}
+use Rattle.jh_num.specs.Bits.{has_bit}
 use Rattle.jh_life.specs.Verdict.{may_have}
 use Rattle.jh_life.proofs.MarkLemmas.{past_end, high_bit, so_far}
 use Rattle.jh_life.proofs.marks.free_cpus.Goals as goal

@@ -1,6 +1,6 @@
 use Rattle.std.proofs.Common.{◌≡◌, ◌<◌, ◌≤◌, false, get_or, sym, ◌∙◌, ⊎_elim, arith}
 use Rattle.std.proofs.lemmas.Bool.{cases_lt}
-use Rattle.jh_shape.specs.Claims.{has_bit}
+use Rattle.jh_num.specs.Bits.{has_bit}
 use Rattle.jh_life.proofs.MarkLemmas.{no_bit, past_end, so_far}
 use Rattle.jh_life.proofs.marks.mask_of.Goals as goal
 

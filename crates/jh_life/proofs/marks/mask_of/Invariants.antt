@@ -1,5 +1,5 @@
 use Rattle.std.proofs.Common.{◌≡◌, ℕ, ◌<◌, ◌≤◌, false, slice_index_or}
-use Rattle.jh_shape.specs.Claims.{has_bit}
+use Rattle.jh_num.specs.Bits.{has_bit}
 use Rattle.jh_life.proofs.marks.mask_of.Given as goal
 
 abbrev pub invariant-loop-i : goal.invariant-loop-i

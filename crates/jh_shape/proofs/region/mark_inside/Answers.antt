@@ -4,31 +4,27 @@ use Rattle.jh_num.specs.declared.address.TheConstants.{ADDRESS_END}
 use Rattle.jh_shape.specs.Shapes.{slot_size}
 use Rattle.jh_shape.specs.Marks.{is_marked}
 use Rattle.jh_shape.proofs.LawLemmas.{size_some}
-use Rattle.jh_shape.proofs.MarkLemmas.{slots_fewer, slot_below, inside_only, inside_none, inside_past}
+use Rattle.jh_shape.proofs.MarkLemmas.{inside_only, inside_none, inside_past, inside_above}
 use Rattle.jh_shape.proofs.region.mark_inside.Goals as goal
 
-pub mark-requires : goal.mark-requires
-mark-requires c =
-    let inside : c.args.number < ADDRESS_END = let e = c.from.ensures in let f = c.if-number-from.true in omega arith in
-    let below = slot_below c.args.level c.args.number c.requires.level inside in
-    let all = slots_fewer c.args.level ADDRESS_END c.requires.level (omega arith) in
-    let is = c.slot_of-n.ensures in
-    let enough = c.requires.enough in
-    omega arith
-
 pub returns-then-n-slot_size : goal.returns-then-n-slot_size
-returns-then-n-slot_size c = λ n below.
+returns-then-n-slot_size c = λ n low below.
     let above : (c.args.number / slot_size c.args.level) * slot_size c.args.level < c.args.number = rw (c.slot_of-n.ensures, c.slot_size.ensures) at c.if-n-slot_size.true in
     c.mark.ensures n
     ∙ ap (λ v. is_marked c.args.words.now n || v)
     (rw c.slot_of-n.ensures (inside_only n (slot_size c.args.level) c.args.number (size_some c.args.level) above))
 
 pub returns-else-n-slot_size : goal.returns-else-n-slot_size
-returns-else-n-slot_size c = λ n below.
+returns-else-n-slot_size c = λ n low below.
     let begins : c.args.number ≤ (c.args.number / slot_size c.args.level) * slot_size c.args.level = rw (c.slot_of-n.ensures, c.slot_size.ensures) at c.if-n-slot_size.false in
     sym (ap (λ v. is_marked c.args.words.now n || v) (inside_none n (slot_size c.args.level) c.args.number (size_some c.args.level) begins) ∙ or-false (is_marked c.args.words.now n))
 
+pub returns-else-n-limit : goal.returns-else-n-limit
+returns-else-n-limit c = λ n low below.
+    let above : n < c.args.number / slot_size c.args.level = (let is = c.slot_of-n.ensures in let past = c.if-n-limit.false in omega arith) in
+    sym (ap (λ v. is_marked c.args.words.now n || v) (inside_above n (slot_size c.args.level) c.args.number (size_some c.args.level) above) ∙ or-false (is_marked c.args.words.now n))
+
 pub returns-else-number-from : goal.returns-else-number-from
-returns-else-number-from c = λ n below.
+returns-else-number-from c = λ n low below.
     let past : ADDRESS_END ≤ c.args.number = let e = c.from.ensures in let f = c.if-number-from.false in omega arith in
     sym (ap (λ v. is_marked c.args.words.now n || v) (inside_past n (slot_size c.args.level) c.args.number ADDRESS_END (size_some c.args.level) below past) ∙ or-false (is_marked c.args.words.now n))

@@ -1,7 +1,7 @@
-use Rattle.std.proofs.Common.{◌≡◌, string_bytes, take}
+use Rattle.std.proofs.Common.{◌≡◌, take}
 use Rattle.jh_text.specs.Text.{journal_text}
 use Rattle.jh_text.proofs.print.print_journal.Given as goal
 
 -- what is written so far are the lines of the entries so far
 abbrev pub invariant-loop-entry : goal.invariant-loop-entry
-invariant-loop-entry l = string_bytes l.text ≡ journal_text (take l.entry-index l.entry-items)
+invariant-loop-entry l = l.text.items ≡ journal_text (take l.entry-index l.entry-items)

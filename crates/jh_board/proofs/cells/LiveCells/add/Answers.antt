@@ -1,5 +1,5 @@
 -- One cell more.
-use Rattle.std.proofs.Common.{◌≡◌, ◌+◌, ◌-◌, false, ◌||◌, List, [], ◌∷◌, ◌++◌, map, sym, ap, subst, ◌∙◌, arith}
+use Rattle.std.proofs.Common.{◌≡◌, ◌+◌, ◌-◌, false, ◌||◌, List, [], ◌∷◌, ◌++◌, length, map, sym, ap, subst, ◌∙◌, arith}
 use Rattle.std.specs.Prelude.{All, min}
 use Rattle.std.proofs.lemmas.List.{map-append}
 use Rattle.std.proofs.lemmas.List.Elements.{All-push}
@@ -8,40 +8,54 @@ use Rattle.jh_cellcfg.specs.declared.live.Live.{Live}
 use Rattle.jh_cellcfg.specs.declared.region.Region.{Region}
 use Rattle.jh_life.specs.Lives.{configs_of, new_live}
 use Rattle.jh_board.specs.LiveView.{LiveView}
-use Rattle.jh_board.specs.Closed.{is_closed_by, is_taken, count_regions, AreInRange}
+use Rattle.jh_board.specs.Closed.{is_closed_by, is_taken, all_regions, count_regions, AreInRange}
 use Rattle.jh_board.proofs.ClosedLemmas.{closed_added}
-use Rattle.jh_board.proofs.CellsLemmas.{all_regions, configs_added, regions_added}
+use Rattle.jh_board.proofs.CellsLemmas.{configs_added, regions_added}
 use Rattle.jh_board.proofs.cells.LiveCells.add.Goals as goal
+
+pub close_cell-requires-clause-within : goal.close_cell-requires-clause-within
+close_cell-requires-clause-within c = subst AreInRange (sym c.requires.index) c.requires.within
+
+pub close_cell-requires-clause-room : goal.close_cell-requires-clause-room
+close_cell-requires-clause-room c =
+    let places : c.args.self.now.regions ≡ min c.self.inside.closed.room 18446744073709551615 - (c.self.inside.regions + 1) = ap (λ (v : LiveView). v.regions) (sym c.self.view_is) in
+    let own : length c.args.index ≡ length c.args.new.memory_regions = ap (λ (r : List Region). length r) c.requires.index in
+    let room = c.self.invariant.room in
+    let few = c.self.invariant.few in
+    let want = c.requires.regions in
+    omega arith
 
 pub invariant_of-self : goal.invariant_of-self
 invariant_of-self c =
     let lives = c.self.inside.cells.lives in
+    let items = c.self.inside.indexes.items in
     let new = c.args.new in
     let old = c.self.invariant in
     let all : c.add.new.self.lives ≡ lives ++ new_live new ∷ [] = c.in-Ok.ensures.ok in
     let configs : configs_of c.add.new.self.lives ≡ configs_of lives ++ new ∷ [] = ap (λ (l : List Live). configs_of l) all ∙ configs_added lives new in
     let places : c.args.self.now.regions ≡ min c.self.inside.closed.room 18446744073709551615 - (c.self.inside.regions + 1) = ap (λ (v : LiveView). v.regions) (sym c.self.view_is) in
+    let own : length c.args.index ≡ length new.memory_regions = ap (λ (r : List Region). length r) c.requires.index in
     let room = old.room in
     let few = old.few in
-    let len = c.as_slice-regions.ensures.len in
-    let closed = c.close_regions.ensures.few in
-    let more = c.close_regions.ensures.room in
+    let len = c.len.ensures in
+    let closed = c.close_cell.ensures.few in
+    let more = c.close_cell.ensures.room in
     let want = c.requires.regions in
     let count = old.regions in
-    let counted = regions_added (configs_of lives) new in
-    let recounted : count_regions (configs_of c.add.new.self.lives) ≡ count_regions (configs_of lives ++ new ∷ []) = ap (λ (cs : List CellConfig). count_regions cs) configs in
+    let counted = regions_added items c.args.index in
+    let recounted : count_regions c.push_reserved.new.self.items ≡ count_regions (items ++ c.args.index ∷ []) = ap (λ (l : List (List Region)). count_regions l) c.push_reserved.ensures.items in
     record {
       indexes = c.push_reserved.ensures.items
           ∙ ap (λ (l : List (List Region)). l ++ c.args.index ∷ []) old.indexes
           ∙ ap (λ (r : List Region). all_regions lives ++ r ∷ []) c.requires.index
           ∙ sym (map-append (λ (x : CellConfig). x.memory_regions) (configs_of lives) (new ∷ []))
           ∙ ap (λ (cs : List CellConfig). map (λ (x : CellConfig). x.memory_regions) cs) (sym configs);
-      within = subst (λ (cs : List CellConfig). All (λ (x : CellConfig). AreInRange x.memory_regions) cs) (sym configs)
-          (All-push (λ (x : CellConfig). AreInRange x.memory_regions) (configs_of lives) new old.within c.requires.within);
+      within = subst (λ (l : List (List Region)). All AreInRange l) (sym c.push_reserved.ensures.items)
+          (All-push AreInRange items c.args.index old.within (subst AreInRange (sym c.requires.index) c.requires.within));
       closed = λ place.
-          c.close_regions.ensures.bytes place
-          ∙ ap (λ b. b || is_taken false c.as_slice-regions.result.now place) (old.closed place)
-          ∙ ap (λ (rs : List Region). is_closed_by lives place || is_taken false rs place) c.as_slice-regions.ensures.value
+          c.close_cell.ensures.bytes place
+          ∙ ap (λ b. b || is_taken false c.args.index place) (old.closed place)
+          ∙ ap (λ (rs : List Region). is_closed_by lives place || is_taken false rs place) c.requires.index
           ∙ sym (closed_added lives (new_live new) place)
           ∙ ap (λ (l : List Live). is_closed_by l place) (sym all);
       few = omega arith;

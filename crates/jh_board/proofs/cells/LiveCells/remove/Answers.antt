@@ -1,40 +1,42 @@
 -- The cell at the index is the one with the id, and the others stay.
-use Rattle.std.proofs.Common.{◌≡◌, ◌+◌, ◌-◌, List, length, map, remove, sym, ap, subst, ◌∙◌, arith}
+use Rattle.std.proofs.Common.{◌≡◌, ◌+◌, ◌-◌, List, remove, refl, sym, ap, subst, ◌∙◌, arith}
 use Rattle.std.specs.Prelude.{All}
-use Rattle.std.proofs.lemmas.List.{length-map}
-use Rattle.jh_cellcfg.specs.declared.config.CellConfig.{CellConfig}
-use Rattle.jh_cellcfg.specs.declared.live.Live.{Live}
 use Rattle.jh_cellcfg.specs.declared.region.Region.{Region}
-use Rattle.jh_life.specs.Lives.{configs_of}
 use Rattle.jh_life.specs.Changes.{without}
-use Rattle.jh_board.specs.Closed.{count_regions, AreInRange}
-use Rattle.jh_board.proofs.CellsLemmas.{cell_at, removed_none, map_remove, All_removed, configs_removed, regions_left}
+use Rattle.jh_board.specs.Closed.{all_regions, count_regions, AreInRange}
+use Rattle.jh_board.proofs.CellsLemmas.{cell_at, removed_none, All_removed, lists_removed, lists_len, regions_left}
 use Rattle.jh_board.proofs.cells.LiveCells.remove.Goals as goal
-use Rattle.jh_board.proofs.cells.LiveCells.remove.Goals.{After-loadable}
 
 pub returns-in_default-clause-lives : goal.returns-in_default-clause-lives
 returns-in_default-clause-lives c = rw (← c.self.view_is) (removed_none c.self.inside.cells.lives c.args.id c.in_default.ensures.found)
 
--- the configurations that are left, and their regions
-left : (c : After-loadable) → configs_of c.drop_cell.new.self.lives ≡ remove (configs_of c.self.inside.cells.lives) c.in-Some.index
-left c = configs_removed c.self.inside.cells.lives c.drop_cell.new.self.lives c.in-Some.index (c.in-Some.index + 1 - 1) c.drop_cell.ensures.lives (omega arith)
+pub overflow_sub-self : goal.overflow_sub-self
+overflow_sub-self c =
+    let lists = c.self.inside.indexes.items in
+    let sum = regions_left c.self.inside.cells.lives lists (remove lists c.in-Some.index) c.list.result.now c.in-Some.index c.len.result c.index-list-index.result
+    c.self.invariant.indexes refl c.list.ensures.value c.in-Some.ensures.found.within c.len.ensures in
+    let count = c.self.invariant.regions in
+    omega arith
 
-counted : (c : After-loadable) → count_regions (configs_of c.drop_cell.new.self.lives) + c.len.result ≡ count_regions (configs_of c.self.inside.cells.lives)
-counted c =
+pub close_again-requires-clause-few : goal.close_again-requires-clause-few
+close_again-requires-clause-few c =
     let lives = c.self.inside.cells.lives in
-    let within = c.in-Some.ensures.found.within in
-    let len : length (configs_of lives) ≡ length lives = length-map lives (λ (x : Live). x.config) in
-    regions_left (configs_of lives) (configs_of c.drop_cell.new.self.lives) c.list.result.now c.in-Some.index c.len.result c.index-list-index.result (left c) c.list.ensures.value (omega arith) c.len.ensures
+    let few = c.list.ensures.few in
+    let count = c.list.ensures.count in
+    let lists = lists_len lives c.self.inside.indexes.items c.self.invariant.indexes in
+    let old = c.self.inside.indexes.ok.0 in
+    let gone = c.remove.ensures.len in
+    let len = c.as_slice.ensures.len in
+    omega arith
 
 pub close_again-requires-clause-within : goal.close_again-requires-clause-within
 close_again-requires-clause-within c =
-    subst (λ (cs : List CellConfig). All (λ (x : CellConfig). AreInRange x.memory_regions) cs) (sym (c.list-2.ensures.value ∙ left c))
-    (All_removed (λ (x : CellConfig). AreInRange x.memory_regions) (configs_of c.self.inside.cells.lives) c.in-Some.index c.self.invariant.within)
+    subst (λ (l : List (List Region)). All AreInRange l) (sym (c.as_slice.ensures.value ∙ c.remove.ensures.items)) (All_removed AreInRange c.self.inside.indexes.items c.in-Some.index c.self.invariant.within)
 
 pub close_again-requires-clause-room : goal.close_again-requires-clause-room
 close_again-requires-clause-room c =
-    let same : count_regions c.list-2.result.now ≡ count_regions (configs_of c.drop_cell.new.self.lives) = ap (λ (cs : List CellConfig). count_regions cs) c.list-2.ensures.value in
-    let sum = counted c in
+    let sum = regions_left c.self.inside.cells.lives c.self.inside.indexes.items c.as_slice.result.now c.list.result.now c.in-Some.index c.len.result c.index-list-index.result
+    c.self.invariant.indexes (c.as_slice.ensures.value ∙ c.remove.ensures.items) c.list.ensures.value c.in-Some.ensures.found.within c.len.ensures in
     let count = c.self.invariant.regions in
     let room = c.self.invariant.room in
     omega arith
@@ -44,25 +46,20 @@ invariant_of-self c =
     let old = c.self.invariant in
     let lives = c.self.inside.cells.lives in
     let new = c.drop_cell.new.self.lives in
-    let index : c.in-Some.index + 1 - 1 ≡ c.in-Some.index = omega arith in
-    let configs : configs_of new ≡ remove (configs_of lives) c.in-Some.index = configs_removed lives new c.in-Some.index (c.in-Some.index + 1 - 1) c.drop_cell.ensures.lives index in
-    let same : count_regions c.list-2.result.now ≡ count_regions (configs_of new) = ap (λ (cs : List CellConfig). count_regions cs) c.list-2.ensures.value in
-    let within = c.in-Some.ensures.found.within in
-    let len : length (configs_of lives) ≡ length lives = length-map lives (λ (x : Live). x.config) in
-    let sum : count_regions (configs_of new) + c.len.result ≡ count_regions (configs_of lives)
-    = regions_left (configs_of lives) (configs_of new) c.list.result.now c.in-Some.index c.len.result c.index-list-index.result configs c.list.ensures.value (omega arith) c.len.ensures in
+    let lists = c.self.inside.indexes.items in
+    let left = c.remove.new.self.items in
+    let all : left ≡ all_regions new = lists_removed lives new lists left c.in-Some.index (c.in-Some.index + 1 - 1) old.indexes c.remove.ensures.items c.drop_cell.ensures.lives (omega arith) in
+    let same : count_regions c.as_slice.result.now ≡ count_regions left = ap (λ (l : List (List Region)). count_regions l) c.as_slice.ensures.value in
+    let sum : count_regions left + c.len.result ≡ count_regions lists
+    = regions_left lives lists left c.list.result.now c.in-Some.index c.len.result c.index-list-index.result old.indexes c.remove.ensures.items c.list.ensures.value c.in-Some.ensures.found.within c.len.ensures in
     let count = old.regions in
     let few = c.close_again.ensures.few in
     let room = c.close_again.ensures.room in
     let was = old.room in
     record {
-      indexes = c.remove.ensures.items
-          ∙ ap (λ (l : List (List Region)). remove l c.in-Some.index) old.indexes
-          ∙ sym (map_remove (λ (x : CellConfig). x.memory_regions) (configs_of lives) c.in-Some.index)
-          ∙ ap (λ (cs : List CellConfig). map (λ (x : CellConfig). x.memory_regions) cs) (sym configs);
-      within = subst (λ (cs : List CellConfig). All (λ (x : CellConfig). AreInRange x.memory_regions) cs) (sym configs)
-          (All_removed (λ (x : CellConfig). AreInRange x.memory_regions) (configs_of lives) c.in-Some.index old.within);
-      closed = λ place. c.close_again.ensures.bytes new (sym c.list-2.ensures.value) c.loadable.ensures place;
+      indexes = all;
+      within = subst (λ (l : List (List Region)). All AreInRange l) (sym c.remove.ensures.items) (All_removed AreInRange lists c.in-Some.index old.within);
+      closed = λ place. c.close_again.ensures.bytes new (sym (c.as_slice.ensures.value ∙ all)) c.loadable.ensures place;
       few = omega arith;
       regions = omega arith;
       room = omega arith;

@@ -1,28 +1,33 @@
--- The cell at the index is the one with the id; the configurations stay.
+-- The cell at the index is the one with the id; the configurations and the regions stay.
 use Rattle.std.proofs.Common.{◌≡◌, ◌+◌, ◌-◌, List, map, set, sym, ap, subst, ◌∙◌, arith}
 use Rattle.std.specs.Prelude.{All}
 use Rattle.jh_cellcfg.specs.declared.config.CellConfig.{CellConfig}
 use Rattle.jh_cellcfg.specs.declared.config.SystemConfig.{SystemConfig}
+use Rattle.jh_cellcfg.specs.declared.region.Region.{Region}
 use Rattle.jh_shape.specs.Pages.{pages_of}
 use Rattle.jh_life.specs.Lives.{configs_of, marks_of}
 use Rattle.jh_life.specs.Changes.{marked}
-use Rattle.jh_board.specs.Closed.{count_regions, AreInRange}
-use Rattle.jh_board.proofs.CellsLemmas.{cell_at, marked_none, marked_same}
+use Rattle.jh_board.specs.Closed.{all_regions, count_regions, AreInRange}
+use Rattle.jh_board.proofs.CellsLemmas.{cell_at, lists_len, marked_none, marked_same}
 use Rattle.jh_board.proofs.cells.LiveCells.set_loadable.Goals as goal
-use Rattle.jh_board.proofs.cells.LiveCells.set_loadable.Goals.{After-loadable}
 
 pub returns-in_default-clause-lives : goal.returns-in_default-clause-lives
 returns-in_default-clause-lives c = rw (← c.self.view_is) (marked_none c.self.inside.cells.lives c.args.id c.args.on c.in_default.ensures.found)
 
-listed : (c : After-loadable) → c.list.result.now ≡ configs_of c.self.inside.cells.lives
-listed c = c.list.ensures.value ∙ c.set_loadable.ensures.list
+pub close_again-requires-clause-few : goal.close_again-requires-clause-few
+close_again-requires-clause-few c =
+    let few = c.live_cells_differ.ensures.few in
+    let lists = lists_len c.self.inside.cells.lives c.self.inside.indexes.items c.self.invariant.indexes in
+    let old = c.self.inside.indexes.ok.0 in
+    let len = c.as_slice.ensures.len in
+    omega arith
 
 pub close_again-requires-clause-within : goal.close_again-requires-clause-within
-close_again-requires-clause-within c = subst (λ (cs : List CellConfig). All (λ (x : CellConfig). AreInRange x.memory_regions) cs) (sym (listed c)) c.self.invariant.within
+close_again-requires-clause-within c = subst (λ (l : List (List Region)). All AreInRange l) (sym c.as_slice.ensures.value) c.self.invariant.within
 
 pub close_again-requires-clause-room : goal.close_again-requires-clause-room
 close_again-requires-clause-room c =
-    let same : count_regions c.list.result.now ≡ count_regions (configs_of c.self.inside.cells.lives) = ap (λ (cs : List CellConfig). count_regions cs) (listed c) in
+    let same : count_regions c.as_slice.result.now ≡ count_regions c.self.inside.indexes.items = ap (λ (l : List (List Region)). count_regions l) c.as_slice.ensures.value in
     let count = c.self.invariant.regions in
     let room = c.self.invariant.room in
     omega arith
@@ -30,19 +35,18 @@ close_again-requires-clause-room c =
 pub invariant_of-self : goal.invariant_of-self
 invariant_of-self c =
     let old = c.self.invariant in
-    let lives = c.self.inside.cells.lives in
     let new = c.set_loadable.new.self.lives in
-    let configs : configs_of new ≡ configs_of lives = c.set_loadable.ensures.list in
-    let same : count_regions c.list.result.now ≡ count_regions (configs_of new) = ap (λ (cs : List CellConfig). count_regions cs) c.list.ensures.value in
-    let counted : count_regions (configs_of new) ≡ count_regions (configs_of lives) = ap (λ (cs : List CellConfig). count_regions cs) configs in
+    let configs : configs_of new ≡ configs_of c.self.inside.cells.lives = c.set_loadable.ensures.list in
+    let indexes : c.self.inside.indexes.items ≡ all_regions new = old.indexes ∙ ap (λ (cs : List CellConfig). map (λ (x : CellConfig). x.memory_regions) cs) (sym configs) in
+    let same : count_regions c.as_slice.result.now ≡ count_regions c.self.inside.indexes.items = ap (λ (l : List (List Region)). count_regions l) c.as_slice.ensures.value in
     let count = old.regions in
     let few = c.close_again.ensures.few in
     let room = c.close_again.ensures.room in
     let was = old.room in
     record {
-      indexes = old.indexes ∙ ap (λ (cs : List CellConfig). map (λ (x : CellConfig). x.memory_regions) cs) (sym configs);
-      within = subst (λ (cs : List CellConfig). All (λ (x : CellConfig). AreInRange x.memory_regions) cs) (sym configs) old.within;
-      closed = λ place. c.close_again.ensures.bytes new (sym c.list.ensures.value) c.loadable.ensures place;
+      indexes = indexes;
+      within = old.within;
+      closed = λ place. c.close_again.ensures.bytes new (sym (c.as_slice.ensures.value ∙ indexes)) c.loadable.ensures place;
       few = omega arith;
       regions = omega arith;
       room = omega arith;

@@ -1,10 +1,10 @@
 -- The index is that of the cell's regions.
 use Rattle.std.proofs.Common.{◌≡◌, ℕ, Bool, Some, get_or, List, ap, sym, subst, ◌∙◌}
-use Rattle.std.specs.Prelude.{find}
+use Rattle.std.specs.Prelude.{All, find}
 use Rattle.jh_cellcfg.specs.declared.region.Region.{Region}
 use Rattle.jh_mmio.specs.Dispatch.{takes_all, unless_closed}
-use Rattle.jh_board.specs.Closed.{IsIndexOf}
-use Rattle.jh_board.proofs.CellsLemmas.{regions_some, regions_within, all_regions}
+use Rattle.jh_board.specs.Closed.{IsIndexOf, all_regions, AreInRange}
+use Rattle.jh_board.proofs.CellsLemmas.{regions_some, regions_within}
 use Rattle.jh_board.proofs.IndexLemmas.{sized_in_range}
 use Rattle.jh_board.proofs.cells.LiveCells.subpage.Goals as goal
 use Rattle.jh_board.proofs.cells.LiveCells.subpage.Goals.{After-subpage}
@@ -12,15 +12,20 @@ use Rattle.jh_board.proofs.cells.LiveCells.subpage.Goals.{After-subpage}
 index : (c : After-subpage) → IsIndexOf c.self.inside.cells.lives c.args.id (Some c.in-Some.index)
 index c = subst (IsIndexOf c.self.inside.cells.lives c.args.id) c.in-Some.is c.index_of.ensures.found
 
-own : (c : After-subpage) → c.index.result.now ≡ get_or (all_regions c.self.inside.cells.lives) c.in-Some.index c.index.result.now
-own c = c.index.ensures ∙ ap (λ (l : List (List Region)). get_or l c.in-Some.index c.index.result.now) c.self.invariant.indexes
+own : (c : After-subpage) → c.by_address.result.now ≡ get_or (all_regions c.self.inside.cells.lives) c.in-Some.index c.by_address.result.now
+own c =
+    let P : List Region → Type 0 = λ r. r ≡ get_or (all_regions c.self.inside.cells.lives) c.in-Some.index r in
+    subst P (sym c.by_address.ensures) (c.index.ensures ∙ ap (λ (l : List (List Region)). get_or l c.in-Some.index c.index.result.now) c.self.invariant.indexes)
+
+within : (c : After-subpage) → All AreInRange (all_regions c.self.inside.cells.lives)
+within c = subst (λ (l : List (List Region)). All AreInRange l) c.self.invariant.indexes c.self.invariant.within
 
 pub returns-in-Some-clause-found : goal.returns-in-Some-clause-found
 returns-in-Some-clause-found c =
     rw (← c.self.view_is)
     (subst (λ (rs : List Region). (closed : ℕ → Bool) → find (takes_all closed c.args.at c.args.width) rs ≡ unless_closed closed c.args.at c.args.width c.subpage.result)
-    (sym (regions_some c.self.inside.cells.lives c.args.id c.in-Some.index c.index.result.now (index c) (own c))) c.subpage.ensures.found)
+    (sym (regions_some c.self.inside.cells.lives c.args.id c.in-Some.index c.by_address.result.now (index c) (own c))) c.subpage.ensures.found)
 
 pub returns-in-Some-clause-within : goal.returns-in-Some-clause-within
 returns-in-Some-clause-within c =
-    sized_in_range c.args.at c.subpage.result (regions_within c.self.inside.cells.lives c.args.id c.in-Some.index c.index.result.now c.subpage.result (index c) (own c) c.self.invariant.within c.subpage.ensures.own) c.subpage.ensures.first
+    sized_in_range c.args.at c.subpage.result (regions_within c.self.inside.cells.lives c.args.id c.in-Some.index c.by_address.result.now c.subpage.result (index c) (own c) (within c) c.subpage.ensures.own) c.subpage.ensures.first

@@ -18,25 +18,25 @@ use Rattle.jh_ivshmem.proofs.endpoints.Endpoints.config_mut.Goals as goal
 found : (c : goal.After-self-2-1) → endpoint_at c.args.cell c.args.device c.args.self.now.list ≡ Some c.index_mut-endpoint.result.now
 found c =
     ap (λ (seen : Seen). endpoint_at c.args.cell c.args.device seen.list) (sym c.self.view_is)
-    ∙ sym c.place-i.ensures.value
-    ∙ slice_get_read c.self.inside.endpoints.items (length c.self.inside.endpoints.items) c.place-i.result
-    c.index_mut-endpoint.result.now refl c.place-i.ensures.bound c.index_mut-endpoint.ensures.value
+    ∙ sym c.index_of-i.ensures.value
+    ∙ slice_get_read c.self.inside.endpoints.items (length c.self.inside.endpoints.items) c.index_of-i.result
+    c.index_mut-endpoint.result.now refl c.index_of-i.ensures.bound c.index_mut-endpoint.ensures.value
 
 pub invariant_of-self-lent : goal.invariant_of-self-lent
 invariant_of-self-lent c = λ w.
-    kept_space c.self.inside.endpoints.items c.self.inside.keys.items c.place-i.result c.index_mut-endpoint.result.now w
+    kept_space c.self.inside.endpoints.items c.self.inside.keys.items c.index_of-i.result c.index_mut-endpoint.result.now w
     c.self.invariant
-    (sound_at c.self.inside.endpoints.items c.self.inside.keys.items c.place-i.result c.index_mut-endpoint.result.now
-    c.self.invariant c.place-i.ensures.bound c.index_mut-endpoint.ensures.value)
+    (sound_at c.self.inside.endpoints.items c.self.inside.keys.items c.index_of-i.result c.index_mut-endpoint.result.now
+    c.self.invariant c.index_of-i.ensures.bound c.index_mut-endpoint.ensures.value)
     c.index_mut-endpoint.ensures.value
 
 -- the list, as it is written through the result
 listed : (c : goal.After-self-2-1) (w : Space)
-    → set c.self.inside.endpoints.items c.place-i.result (record c.index_mut-endpoint.result.now { space = w })
+    → set c.self.inside.endpoints.items c.index_of-i.result (record c.index_mut-endpoint.result.now { space = w })
     ≡ changed (is_device c.args.cell c.args.device) (λ (e : Endpoint). record e { space = w }) c.self.inside.endpoints.items
 listed c w =
-    set_device c.args.cell c.args.device (λ (e : Endpoint). record e { space = w }) c.self.inside.endpoints.items c.place-i.result
-    c.index_mut-endpoint.result.now c.self.invariant.apart c.place-i.ensures.bound c.index_mut-endpoint.ensures.value
+    set_device c.args.cell c.args.device (λ (e : Endpoint). record e { space = w }) c.self.inside.endpoints.items c.index_of-i.result
+    c.index_mut-endpoint.result.now c.self.invariant.apart c.index_of-i.ensures.bound c.index_mut-endpoint.ensures.value
     (passes c.args.cell c.args.device c.args.self.now.list c.index_mut-endpoint.result.now (found c))
 
 pub returns : goal.returns

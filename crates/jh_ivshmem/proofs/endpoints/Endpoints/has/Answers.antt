@@ -10,10 +10,10 @@ use Rattle.jh_ivshmem.proofs.endpoints.Endpoints.has.Goals as goal
 pub returns : goal.returns
 returns c =
     c.is_some.ensures
-    ∙ found_some (Device c.args.cell c.args.device) c.self.inside.endpoints.items c.place_of.result
-    (c.place_of.ensures ∙ ap (position (is_key_meant (Device c.args.cell c.args.device))) (c.deref.ensures.value ∙ c.self.invariant.keys))
+    ∙ found_some (Device c.args.cell c.args.device) c.self.inside.endpoints.items c.key_index.result
+    (c.key_index.ensures ∙ ap (position (is_key_meant (Device c.args.cell c.args.device))) (c.deref.ensures.value ∙ c.self.invariant.keys))
     ∙ ap (λ (seen : Seen). is_some (endpoint_at c.args.cell c.args.device seen.list)) c.self.view_is
 
-pub place_of-requires : goal.place_of-requires
-place_of-requires c =
+pub key_index-requires : goal.key_index-requires
+key_index-requires c =
     subst AreInOrder (sym c.deref.ensures.value) (keys_in_order c.self.inside.endpoints.items c.self.inside.keys.items c.self.invariant)

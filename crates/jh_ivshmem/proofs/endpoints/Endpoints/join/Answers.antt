@@ -7,11 +7,11 @@ use Rattle.jh_ivshmem.specs.Seen.{Seen}
 use Rattle.jh_ivshmem.specs.Keys.{AreInOrder}
 use Rattle.jh_ivshmem.specs.Links.{besides, joined}
 use Rattle.jh_ivshmem.proofs.BesidesLemmas.{besides_joined, own_device}
-use Rattle.jh_ivshmem.proofs.OrderLemmas.{IsPlace, Joins, joins, keys_in_order}
+use Rattle.jh_ivshmem.proofs.OrderLemmas.{IsIndex, Joins, joins, keys_in_order}
 use Rattle.jh_ivshmem.proofs.endpoints.Endpoints.join.Goals as goal
 
-pub place_before-place-requires : goal.place_before-place-requires
-place_before-place-requires c =
+pub insertion_index-index-requires : goal.insertion_index-index-requires
+insertion_index-index-requires c =
     subst AreInOrder (sym (c.deref.ensures.value ∙ c.in_ok-make_room-2.ensures.items))
     (keys_in_order c.self.inside.endpoints.items c.self.inside.keys.items c.self.invariant)
 
@@ -19,12 +19,12 @@ joining : (c : goal.After-put-2) → Joins c.args.s c.self.inside.endpoints.item
 joining c =
     let keys = c.deref.ensures.value ∙ c.in_ok-make_room-2.ensures.items in
     joins c.args.s c.self.inside.endpoints.items c.put.new.list.items c.self.inside.keys.items c.put-2.new.list.items
-    c.new-endpoint.result c.of-key.result c.place_before-place.result c.self.invariant
-    (subst (λ (l : List Key). c.place_before-place.result ≤ length l) keys c.place_before-place.ensures.bound)
-    (subst (λ (l : List Key). IsPlace c.args.s.cell c.args.s.device l c.place_before-place.result) keys c.place_before-place.ensures.place)
+    c.new-endpoint.result c.of-key.result c.insertion_index-index.result c.self.invariant
+    (subst (λ (l : List Key). c.insertion_index-index.result ≤ length l) keys c.insertion_index-index.ensures.bound)
+    (subst (λ (l : List Key). IsIndex c.args.s.cell c.args.s.device l c.insertion_index-index.result) keys c.insertion_index-index.ensures.partition)
     c.new-endpoint.ensures c.of-key.ensures
-    (c.put.ensures.items ∙ ap (λ (l : List Endpoint). insert l c.place_before-place.result c.new-endpoint.result) c.in_ok-make_room.ensures.items)
-    (c.put-2.ensures.items ∙ ap (λ (l : List Key). insert l c.place_before-place.result c.of-key.result) c.in_ok-make_room-2.ensures.items)
+    (c.put.ensures.items ∙ ap (λ (l : List Endpoint). insert l c.insertion_index-index.result c.new-endpoint.result) c.in_ok-make_room.ensures.items)
+    (c.put-2.ensures.items ∙ ap (λ (l : List Key). insert l c.insertion_index-index.result c.of-key.result) c.in_ok-make_room-2.ensures.items)
     (record { vectors = refl; within = c.requires.within })
     (subst (λ (list : List Endpoint). All (λ (o : Endpoint). AreApart o.spec c.args.s) list)
     (sym (ap (λ (seen : Seen). seen.list) c.self.view_is)) c.requires.new)

@@ -7,14 +7,14 @@ use Rattle.jh_ivshmem.proofs.endpoints.Endpoints.named.Goals as goal
 
 pub returns-clause-value : goal.returns-clause-value
 returns-clause-value c =
-    sym c.place.ensures.value
-    ∙ slice_get_read c.args.self.now.list (length c.args.self.now.list) c.place.result c.index.result.now refl
-    c.place.ensures.bound
-    (c.index.ensures ∙ ap (λ (seen : Seen). get_or seen.list c.place.result c.index.result.now) c.self.view_is)
+    sym c.index_of.ensures.value
+    ∙ slice_get_read c.args.self.now.list (length c.args.self.now.list) c.index_of.result c.index.result.now refl
+    c.index_of.ensures.bound
+    (c.index.ensures ∙ ap (λ (seen : Seen). get_or seen.list c.index_of.result c.index.result.now) c.self.view_is)
 
 pub returns-clause-sound : goal.returns-clause-sound
 returns-clause-sound c =
-    sound_at c.self.inside.endpoints.items c.self.inside.keys.items c.place.result c.index.result.now c.self.invariant
-    (subst (λ (list : List Endpoint). c.place.result < length list) (sym (ap (λ (seen : Seen). seen.list) c.self.view_is))
-    c.place.ensures.bound)
+    sound_at c.self.inside.endpoints.items c.self.inside.keys.items c.index_of.result c.index.result.now c.self.invariant
+    (subst (λ (list : List Endpoint). c.index_of.result < length list) (sym (ap (λ (seen : Seen). seen.list) c.self.view_is))
+    c.index_of.ensures.bound)
     c.index.ensures

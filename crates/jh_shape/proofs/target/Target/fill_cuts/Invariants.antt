@@ -1,8 +1,8 @@
 use Rattle.std.proofs.Common.{◌*◌, take}
 use Rattle.jh_shape.specs.Claims.{held_from}
-use Rattle.jh_shape.specs.Marks.{AreMarked}
+use Rattle.jh_shape.specs.Marks.{AreMarkedBelow}
 use Rattle.jh_shape.specs.Shapes.{slot_size, are_cut}
 use Rattle.jh_shape.proofs.target.Target.fill_cuts.Given as goal
 
 abbrev pub invariant-loop-i : goal.invariant-loop-i
-invariant-loop-i l = AreMarked l.words l.level (λ n. are_cut (held_from l.self.held l.self.loadable 0 (take l.i l.self.cells.now)) (n * slot_size l.level) (slot_size l.level))
+invariant-loop-i l = AreMarkedBelow l.limit l.words l.level (λ n. are_cut (held_from l.self.held l.self.loadable 0 (take l.i l.self.cells.now)) (n * slot_size l.level) (slot_size l.level))

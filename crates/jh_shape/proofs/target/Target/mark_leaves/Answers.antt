@@ -2,11 +2,19 @@ use Rattle.std.proofs.Common.{◌≡◌, ℕ, ◌*◌, ◌≤◌, Bool, true, fa
 use Rattle.jh_cellcfg.specs.Regions.{virt_end, place_in}
 use Rattle.jh_shape.specs.Claims.{claims_of}
 use Rattle.jh_shape.specs.Intervals.{spans}
-use Rattle.jh_shape.specs.Marks.{is_marked}
+use Rattle.jh_shape.specs.Marks.{is_marked, past_slot}
 use Rattle.jh_shape.specs.Shapes.{slot_size, are_cut, is_mapped, fits_blocks}
 use Rattle.jh_shape.proofs.MarkLemmas.{is_from, leaf_step, leaf_skip, leaf_end, leaf_fits}
 use Rattle.jh_shape.proofs.target.Target.mark_leaves.Goals as goal
 use Rattle.jh_shape.proofs.target.Target.mark_leaves.Goals.{then-not-is_kept_small, else-not-is_kept_small}
+
+pub mark-requires : goal.mark-requires
+mark-requires c =
+    let to : c.spanned-slots.result.to ≤ past_slot c.args.level (virt_end c.args.region.now) = rw (← c.addresses.ensures.end) c.spanned-slots.ensures.past in
+    let room = c.requires.room in
+    let test = c.loop-n-test.true in
+    let len = c.loop-n.auto.words in
+    omega arith
 
 pub loop-n-preserved : goal.loop-n-preserved
 loop-n-preserved c =

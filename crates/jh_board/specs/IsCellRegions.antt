@@ -1,0 +1,9 @@
+-- What is true of the regions of every cell.
+use Rattle.std.specs.Prelude.{◌≡◌, ℕ, true, false, IfSome, IfNone}
+use Rattle.jh_board.specs.Closed.{is_taken, AreTaken}
+use Rattle.jh_board.specs.declared.cell_regions.CellRegions.TheInside.{Inside}
+
+pub record IsCellRegions (s : Inside) : Type 0 where
+  pub taken : AreTaken false s.index s.taken.ranges
+  pub kept : IfSome s.kept (λ kept. AreTaken true s.index kept.ranges)
+  pub same : IfNone s.kept ((place : ℕ) → is_taken true s.index place ≡ is_taken false s.index place)

@@ -1,0 +1,129 @@
+//! The regions of a cell, with what is found once of them.
+ghost use Rattle.std.specs.Prelude.{◌≡◌, ℕ, ◌+◌, ◌<◌, ◌≤◌, ◌&&◌, ◌||◌, AllPairs, IfOk, IfSome, IfNone, OnOk, true, false, length};
+ghost use Rattle.jh_num.specs.Bytes.{has_byte};
+ghost use Rattle.std.specs.List.{list_any};
+ghost use Rattle.jh_cellcfg.specs.declared.region.Region.{Region as TheRegion};
+ghost use Rattle.jh_cellcfg.specs.Regions.{has_place, is_comm, is_unshared, is_loadable, IsInRange};
+ghost use Rattle.jh_shape.specs.Shapes.{takes};
+ghost use Rattle.jh_mmio.specs.Index.{SharesNoAddress};
+ghost use Rattle.jh_board.specs.Closed.{is_taken, AreTaken, AreInRange};
+
+use jh_cellcfg::Region;
+use jh_mmio::RegionIndex;
+use jh_num::{ByteSet, NoMemory};
+use std::alloc::Global;
+use std::marker::Model;
+
+/// The regions of a cell by their addresses, and the places that they take from root. Contracts see the list
+/// of regions.
+#[derive(Drop)]
+pub struct CellRegions {
+    index: RegionIndex,
+    /// The places that the cell takes from root while it isn't loadable.
+    taken: ByteSet,
+    /// Those that it takes even while it is, where they aren't the same.
+    kept: Option<ByteSet>,
+}
+
+impl Model for CellRegions {
+    ghost use Rattle.std.specs.Prelude.{List};
+    ghost use Rattle.jh_cellcfg.specs.declared.region.Region.{Region as TheRegion};
+    ghost use Rattle.jh_board.specs.IsCellRegions.{IsCellRegions};
+
+    ghost Value = { List TheRegion };
+
+    ghost view = { λ s. s.index };
+
+    ghost invariant = { IsCellRegions };
+}
+
+/// Whether a cell, loadable or not, takes the region's places from root.
+fn takes_places(region: &Region, loadable: bool) -> bool
+    ensures takes { (place : ℕ) → takes loadable region.now place ≡ (result && has_place region.now place) }
+    ensures own { result ≡ true → is_comm region.now ≡ false }
+{
+    region.is_unshared() && !(loadable && region.is_loadable())
+}
+
+/// Whether one of them is root's while their cell is loadable.
+fn any_lent(regions: &[Region]) -> bool
+    ensures { result ≡ list_any (λ (r : TheRegion). is_unshared r && is_loadable r) regions.now }
+{
+    regions
+        .iter()
+        .any(|region| region.is_unshared() && region.is_loadable())
+}
+
+/// Puts in the region's places, where the cell takes them.
+fn take_region(places: &mut ByteSet, region: &Region, loadable: bool) -> Result<(), NoMemory>
+    ensures bytes { OnOk result ((0 < region.now.size → IsInRange region.now) → (place : ℕ) → has_byte places.new.ranges place ≡ (has_byte places.old.ranges place || takes loadable region.now place)) }
+    ensures few { length places.new.ranges ≤ length places.old.ranges + 1 }
+{
+    if region.size == 0 || !takes_places(region, loadable) {
+        return Ok(());
+    }
+    if region.phys_end() > u128::from(u64::MAX) {
+        return Ok(());
+    }
+    places.insert(region.places())?;
+    Ok(())
+}
+
+/// The places that a cell with these regions, loadable or not, takes from root.
+fn taken_places(alloc: Global, regions: &[Region], loadable: bool) -> Result<ByteSet, NoMemory>
+    ensures { IfOk result (λ places. AreTaken loadable regions.now places.ranges) }
+{
+    let mut places = ByteSet::new(alloc);
+    for region in regions {
+        take_region(&mut places, region, loadable)?;
+    }
+    Ok(places)
+}
+
+/// The places that the cell takes even while it is loadable, where they aren't those that it takes while it isn't.
+fn kept_places(alloc: Global, regions: &[Region]) -> Result<Option<ByteSet>, NoMemory>
+    ensures kept { IfOk result (λ kept. IfSome kept (λ places. AreTaken true regions.now places.ranges)) }
+    ensures same { IfOk result (λ kept. IfNone kept ((place : ℕ) → is_taken true regions.now place ≡ is_taken false regions.now place)) }
+{
+    if any_lent(regions) {
+        let places = taken_places(alloc, regions, true)?;
+        Ok(Some(places))
+    } else {
+        Ok(None)
+    }
+}
+
+impl CellRegions {
+    /// The regions of a cell, of which no two share an address.
+    pub fn new(alloc: Global, regions: &[Region]) -> Result<Self, NoMemory>
+        requires { AllPairs SharesNoAddress regions.now }
+        ensures { IfOk result (λ cell. cell ≡ regions.now) }
+    {
+        let index = RegionIndex::new(alloc, regions)?;
+        let taken = taken_places(alloc, regions, false)?;
+        let kept = kept_places(alloc, regions)?;
+        Ok(CellRegions { index, taken, kept })
+    }
+
+    /// The regions by their addresses.
+    pub fn by_address(&self) -> &RegionIndex
+        ensures { result.now ≡ self.now }
+    {
+        &self.index
+    }
+
+    /// The places that the cell, loadable or not, takes from root.
+    pub fn taken(&self, loadable: bool) -> &ByteSet
+        requires { AreInRange self.now }
+        ensures bytes { (place : ℕ) → has_byte result.now.ranges place ≡ is_taken loadable self.now place }
+        ensures few { length result.now.ranges ≤ length self.now }
+    {
+        if !loadable {
+            return &self.taken;
+        }
+        match &self.kept {
+            Some(kept) => kept,
+            None => &self.taken,
+        }
+    }
+}

@@ -1,0 +1,34 @@
+-- Cells of which no region breaks a rule about one region.
+use Rattle.std.specs.Prelude.{◌≡◌, ℕ, ◌<◌, Bool, true, false, ◌&&◌, ◌||◌, not, ◌==◌, if◌then◌else◌, List, [], length, slice_index_or}
+use Rattle.jh_cellcfg.specs.declared.region.Region.{Region}
+use Rattle.jh_cellcfg.specs.declared.config.CellConfig.{CellConfig}
+use Rattle.jh_cellcfg.specs.Regions.{is_comm, has_size}
+use Rattle.jh_check.specs.declared.rule.Rule.{Rule}
+use Rattle.jh_check.specs.declared.rule.Rule.TheVariants.{Hypervisor, OutOfRange, ExecuteWithoutRead, PhysAlign}
+use Rattle.jh_check.specs.Regions.{is_misshapen, breaks_alone}
+use Rattle.jh_check.specs.Findings.{in_cell}
+
+-- the region breaks a rule that speaks of root's regions, or one of those of other cells
+abbrev pub breaks_in_cell : ℕ → List Region → Region → Bool
+breaks_in_cell cell earlier region =
+    if cell == 0 then not (region.phys_start == region.virt_start) || is_comm region else is_comm region && is_misshapen earlier region
+
+-- the region, which has a size, breaks one of the rules about one region
+abbrev pub breaks_one : Region → ℕ → List Region → Region → Bool
+breaks_one h cell earlier region =
+    breaks_alone Hypervisor h cell earlier region
+    || (breaks_alone OutOfRange h cell earlier region
+    || (breaks_alone ExecuteWithoutRead h cell earlier region
+    || (breaks_alone PhysAlign h cell earlier region || breaks_in_cell cell earlier region)))
+
+abbrev pub breaks_any : Region → ℕ → List Region → Region → Bool
+breaks_any h cell earlier region = has_size region && breaks_one h cell earlier region
+
+-- no region of the cell of that number breaks one of them
+abbrev pub AreSound : Region → ℕ → List Region → Type 0
+AreSound h cell regions = (rule : Rule) → in_cell rule h cell regions ≡ []
+
+-- each of the cells that is said to be sound is
+abbrev pub AreSoundEach : Region → List CellConfig → List Bool → Type 0
+AreSoundEach h all sound =
+    (a : ℕ) (c : CellConfig) → a < length all → slice_index_or sound a false ≡ true → AreSound h a (slice_index_or all a c).memory_regions

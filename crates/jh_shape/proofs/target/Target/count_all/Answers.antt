@@ -1,0 +1,14 @@
+use Rattle.std.proofs.Common.{ℕ, ◌*◌, ap, ◌∙◌}
+use Rattle.std.proofs.lemmas.List.{length-replicate}
+use Rattle.std.specs.List.{list_any}
+use Rattle.jh_cellcfg.specs.declared.region.Region.{Region}
+use Rattle.jh_shape.specs.Marks.{is_beyond}
+use Rattle.jh_shape.proofs.MarkLemmas.{none_beyond_all, unmarked}
+use Rattle.jh_shape.proofs.target.Target.count_all.Goals as goal
+
+pub count_in-requires-clause-room : goal.count_in-requires-clause-room
+count_in-requires-clause-room c =
+    ap (λ (len : ℕ). list_any (λ (region : Region). is_beyond (64 * len) c.args.level region) c.args.self.now.regions.now) (length-replicate {A = ℕ} 4096 0) ∙ none_beyond_all c.args.level c.args.self.now.regions.now c.requires.level
+
+pub count_in-requires-clause-clear : goal.count_in-requires-clause-clear
+count_in-requires-clause-clear c = λ n. unmarked 4096 n

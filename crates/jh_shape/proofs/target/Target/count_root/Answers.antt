@@ -1,0 +1,5 @@
+use Rattle.std.proofs.Common.{sym, ◌∙◌}
+use Rattle.jh_shape.proofs.target.Target.count_root.Goals as goal
+
+pub count_root_low-requires-clause-low : goal.count_root_low-requires-clause-low
+count_root_low-requires-clause-low c = sym c.any_beyond.ensures ∙ c.if-any_beyond.false
