@@ -19,12 +19,14 @@ use crate::held::Held;
 use crate::indexed::IndexedImage;
 use crate::memory::Memory;
 use crate::overview::{cell_at, map_of};
-use crate::state::{NextStep, is_quiet, next_step};
+use crate::state::{find_create, is_quiet, next_entry};
 use crate::steps::make;
 use crate::turn::{Turn, TurnFault};
 use jh_cellcfg::CellConfig;
 use jh_cpu::Cpu;
-use jh_history::{DeviceChange, Entry, Journal, devices_may_change, legal_journals_are_sound};
+use jh_history::{
+    DeviceChange, DueEntry, Entry, Journal, devices_may_change, legal_journals_are_sound,
+};
 use jh_ivshmem::Endpoints;
 use jh_map::Run;
 use jh_num::{NoMemory, Seq, Steps};
@@ -74,14 +76,11 @@ fn advance(
 {
     image.has_few_cpus();
     legal_journals_are_sound();
-    let Some(step) = next_step(image, held, cpu)? else {
+    let found = find_create(image, held, cpu)?;
+    let Some(due) = next_entry(image, held, &found, cpu)? else {
         return Ok(None);
     };
-    let NextStep {
-        entry,
-        reach,
-        found,
-    } = step;
+    let DueEntry { entry, reach } = due;
     if journal.len() >= limit as usize {
         return Err(TurnFault::Full);
     }

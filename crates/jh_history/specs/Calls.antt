@@ -1,5 +1,5 @@
 -- The management call that is open, by its phases.
-use Rattle.std.specs.Prelude.{ℕ, ℤ, pos, Bool, false, ◌+◌, ◌-◌, ◌^◌, ◌==◌, ◌&&◌, not, min, List, [], ◌∷◌, find, Option, Some, None, option_map, if◌then◌else◌}
+use Rattle.std.specs.Prelude.{ℕ, ℤ, pos, Bool, true, false, ◌+◌, ◌-◌, ◌^◌, ◌==◌, ◌&&◌, not, min, List, [], ◌∷◌, find, Option, Some, None, option_map, if◌then◌else◌}
 use Rattle.jh_num.specs.declared.error.TheConstants.{EPERM}
 use Rattle.jh_cellcfg.specs.declared.config.CellConfig.{CellConfig}
 use Rattle.jh_cellcfg.specs.declared.live.Live.{Live}
@@ -92,6 +92,17 @@ phase_after cells coming cell call phase Commit = after_commit call phase cells
 phase_after cells coming cell call phase (Note id) = after_note phase
 phase_after cells coming cell call phase (Noted id how) = after_noted phase cells
 phase_after cells coming cell call phase act = counted cell call phase
+
+-- the act opens a call, takes the open one a phase further, or closes it
+abbrev pub is_of_call : Act → Bool
+is_of_call (Begin code a b) = true
+is_of_call (Decide refused) = true
+is_of_call (Settle how) = true
+is_of_call Commit = true
+is_of_call (Note id) = true
+is_of_call (Noted id how) = true
+is_of_call (Finish answer) = true
+is_of_call _ = false
 
 -- the call after an entry: opened by a Begin, closed by a Finish, and a phase further by the others
 abbrev pub call_by : List Live → Option CellConfig → Option OpenCall → Entry → Act → Option OpenCall

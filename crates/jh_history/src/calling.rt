@@ -1,10 +1,11 @@
 //! What an entry does to the management call that is open.
-ghost use Rattle.std.specs.Prelude.{◌≡◌, ℕ, List};
+ghost use Rattle.std.specs.Prelude.{◌≡◌, ℕ, List, Option, false};
 ghost use Rattle.jh_call.specs.declared.call.Call.TheVariants.{Create};
+ghost use Rattle.jh_cellcfg.specs.declared.config.CellConfig.{CellConfig as TheConfig};
 ghost use Rattle.jh_cellcfg.specs.declared.live.Live.{Live as TheLive};
 ghost use Rattle.jh_history.specs.Phases.{configs_of};
 ghost use Rattle.jh_history.specs.Commits.{created, created_at, created_by};
-ghost use Rattle.jh_history.specs.Calls.{one_more, is_told_by, first_told, behind, telling, decided, after_settle, after_commit, after_note, after_noted, counted, phase_after, call_by};
+ghost use Rattle.jh_history.specs.Calls.{one_more, is_told_by, first_told, behind, telling, decided, after_settle, after_commit, after_note, after_noted, counted, phase_after, call_by, is_of_call};
 
 use crate::boxed::BoxedCell;
 use crate::call::{OpenCall, Phase};
@@ -178,36 +179,32 @@ fn after_noted(phase: Phase, cells: &[CellConfig]) -> Phase
     }
 }
 
-/// The phase after an entry of the cell that is none of the call's own.
-fn counted(cell: u32, call: &Call, phase: Phase) -> Phase
-    ensures { result ≡ counted cell call.now phase }
+/// Counts an entry of the cell that is none of the call's own, where the phase waits for that cell.
+fn count(phase: &mut Phase, call: &Call, cell: u32)
+    ensures { phase.new ≡ counted cell call.now phase.old }
 {
     match phase {
         Phase::ToSettle { waited } => {
             if is_named(call, u64::from(cell)) {
-                Phase::ToSettle {
-                    waited: one_more(waited),
-                }
-            } else {
-                Phase::ToSettle { waited }
+                *waited = one_more(*waited);
             }
         }
-        Phase::ToNoted {
-            id,
-            about,
-            answer,
-            waited,
-        } => {
-            let waited = if cell == id { one_more(waited) } else { waited };
-            Phase::ToNoted {
-                id,
-                about,
-                answer,
-                waited,
+        Phase::ToNoted { id, waited, .. } => {
+            if *id == cell {
+                *waited = one_more(*waited);
             }
         }
-        phase => phase,
+        _ => {}
     }
+}
+
+/// The phase after an entry of the cell that is none of the call's own.
+fn counted(cell: u32, call: &Call, phase: Phase) -> Phase
+    ensures { result ≡ counted cell call.now phase }
+{
+    let mut phase = phase;
+    count(&mut phase, call, cell);
+    phase
 }
 
 /// A phase after which no cell was created.
@@ -266,6 +263,39 @@ fn goes_on(
             phase: next.phase,
         }),
         created: next.created,
+    }
+}
+
+/// Whether the act opens a call, takes the open one a phase further, or closes it.
+pub fn is_of_call(act: &Act) -> bool
+    ensures { result ≡ is_of_call act.now }
+{
+    match act {
+        Act::Begin { .. }
+        | Act::Decide { .. }
+        | Act::Settle { .. }
+        | Act::Commit
+        | Act::Note { .. }
+        | Act::Noted { .. }
+        | Act::Finish { .. } => true,
+        Act::Read { .. }
+        | Act::Write { .. }
+        | Act::Fetch { .. }
+        | Act::Await { .. }
+        | Act::Irq { .. }
+        | Act::Hvc { .. }
+        | Act::Stop => false,
+    }
+}
+
+/// Makes of the open call what it is after an entry that is none of the call's own: where a phase waits for the
+/// entry's cell, the entry is counted.
+pub fn count_entry(call: &mut Option<OpenCall>, entry: &Entry)
+    requires { is_of_call entry.now.act ≡ false }
+    ensures { (lives : List TheLive) (coming : Option TheConfig) → call.new ≡ call_by lives coming call.old entry.now entry.now.act }
+{
+    if let Some(begun) = call {
+        count(&mut begun.phase, &begun.call, entry.cell);
     }
 }
 
