@@ -34,6 +34,8 @@ use jh_script::Image;
 use std::alloc::Global;
 use std::marker::Model;
 
+/// A board: an image, what holds after the entries that were made so far, and these. Contracts see it as the image, the
+/// most entries that its journal may have, and the entries.
 #[derive(Drop)]
 pub struct Board {
     image: IndexedImage,
@@ -88,6 +90,7 @@ fn advance(
     make(image, held, &entry, &reach, found)?;
     match journal.push(entry) {
         Ok(()) => Ok(Some(entry)),
+        // its room was reserved
         Err(_) => unreachable!(),
     }
 }

@@ -135,6 +135,7 @@ fn coming_of(
     devices_may_change();
     match creation_by(image, held, found, begun.caller, at)? {
         Creation::Comes { config } => Ok(Some(config)),
+        // what comes of it is what the entry says
         Creation::Refused { .. } => unreachable!(),
     }
 }
@@ -267,6 +268,7 @@ fn make_cells(
                 sound_cells_name_a_cpu(config.get());
                 cells.add(config.into_inner(), index);
             }
+            // it was made ready when the create was decided
             None => unreachable!(),
         },
         None => change_cells(cells, change),

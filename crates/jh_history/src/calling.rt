@@ -5,7 +5,7 @@ ghost use Rattle.jh_cellcfg.specs.declared.config.CellConfig.{CellConfig as TheC
 ghost use Rattle.jh_cellcfg.specs.declared.live.Live.{Live as TheLive};
 ghost use Rattle.jh_history.specs.Phases.{configs_of};
 ghost use Rattle.jh_history.specs.Commits.{created, created_at, created_by};
-ghost use Rattle.jh_history.specs.Calls.{one_more, is_told_by, first_told, behind, telling, decided, after_settle, after_commit, after_note, after_noted, counted, phase_after, call_by, is_of_call};
+ghost use Rattle.jh_history.specs.Calls.{one_more, is_told_by, first_told, behind, telling, decided, after_settle, after_commit, after_note, after_noted, counted, phase_after, call_by, is_of_call, waits_for};
 
 use crate::boxed::BoxedCell;
 use crate::call::{OpenCall, Phase};
@@ -179,22 +179,27 @@ fn after_noted(phase: Phase, cells: &[CellConfig]) -> Phase
     }
 }
 
+/// Whether the phase waits for an answer of the cell.
+fn waits_for(phase: &Phase, call: &Call, cell: u32) -> bool
+    ensures { result ≡ waits_for cell call.now phase.now }
+{
+    match phase {
+        Phase::ToSettle { .. } => is_named(call, u64::from(cell)),
+        Phase::ToNoted { id, .. } => cell == *id,
+        _ => false,
+    }
+}
+
 /// Counts an entry of the cell that is none of the call's own, where the phase waits for that cell.
 fn count(phase: &mut Phase, call: &Call, cell: u32)
     ensures { phase.new ≡ counted cell call.now phase.old }
 {
-    match phase {
-        Phase::ToSettle { waited } => {
-            if is_named(call, u64::from(cell)) {
-                *waited = one_more(*waited);
-            }
+    if waits_for(phase, call, cell) {
+        match phase {
+            Phase::ToSettle { waited } => *waited = one_more(*waited),
+            Phase::ToNoted { waited, .. } => *waited = one_more(*waited),
+            _ => {}
         }
-        Phase::ToNoted { id, waited, .. } => {
-            if *id == cell {
-                *waited = one_more(*waited);
-            }
-        }
-        _ => {}
     }
 }
 
