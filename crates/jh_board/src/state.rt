@@ -208,7 +208,11 @@ fn create_to_decide(held: &Held) -> Option<(u8, u64)> {
 }
 
 /// What comes of the create that the CPU decides next.
-pub fn find_create(image: &IndexedImage, held: &Held, cpu: u8) -> Result<Option<JudgedCreate>, NoMemory>
+pub fn find_create(
+    image: &IndexedImage,
+    held: &Held,
+    cpu: u8,
+) -> Result<Option<JudgedCreate>, NoMemory>
     requires { cpu < 16 }
     ensures { IfOk result (λ found. IfSome found (IsJudged image.now held.now)) }
 {

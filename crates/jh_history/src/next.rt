@@ -206,7 +206,9 @@ fn act_of<K: Known>(known: &K, cell: u32, op: Op, reach: &Reach) -> Option<Act>
 /// The CPU's act as an entry, in the name of its owner, with what it reaches.
 fn due_by(cpu: u8, cell: u32, act: Option<Act>, reach: Reach) -> Option<DueEntry>
     ensures entry { option_map (λ (due : TheDue). due.entry) result ≡ option_map (entry_by cpu cell) act }
-    ensures reach { IfSome result (λ due. due.reach ≡ reach) }
+    ensures reached { (i : TheImage) (f : Facts) → IfSome act (λ act. IsReachOfAct i f cell act reach) → IfSome result (λ due. IsReachOfEntry i f due.entry due.reach) }
+    ensures cpu { IfSome result (λ due. due.entry.cpu ≡ cpu) }
+    ensures plain { IfSome act IsWellFormedAct → IfSome result (λ due. IsWellFormedAct due.entry.act) }
 {
     match act {
         None => None,
@@ -222,6 +224,7 @@ fn state_due<K: Known>(known: &K, cpu: u8, state: Cpu) -> Option<DueEntry>
     requires { cpu < 16 }
     ensures entry { (i : TheImage) (f : Facts) → K.Knows known.now i f → option_map (λ (due : TheDue). due.entry) result ≡ option_map (entry_by cpu state.owner) (state_act i f state cpu) }
     ensures reached { (i : TheImage) (f : Facts) → K.Knows known.now i f → IfSome result (λ due. IsReachOfEntry i f due.entry due.reach) }
+    ensures cpu { IfSome result (λ due. due.entry.cpu ≡ cpu) }
     ensures plain { IfSome result (λ due. IsWellFormedAct due.entry.act) }
 {
     if state.asked {
@@ -351,6 +354,7 @@ fn next_due<K: Known>(known: &K, cpu: u8, state: Cpu) -> Result<Option<DueEntry>
     requires { cpu < 16 }
     ensures entry { (i : TheImage) (f : Facts) → K.Knows known.now i f → IfOk result (λ due. option_map (λ (due : TheDue). due.entry) due ≡ entry_of i f state cpu) }
     ensures reached { (i : TheImage) (f : Facts) → K.Knows known.now i f → IfOk result (λ due. IfSome due (λ due. IsReachOfEntry i f due.entry due.reach)) }
+    ensures cpu { IfOk result (λ due. IfSome due (λ due. due.entry.cpu ≡ cpu)) }
     ensures plain { IfOk result (λ due. IfSome due (λ due. IsWellFormedAct due.entry.act)) }
 {
     match call_of(known, cpu) {
