@@ -80,7 +80,7 @@ fn telling(about: u64, answer: i64, told: Option<u32>) -> Phase
 }
 
 /// The phase after a Decide that goes on.
-fn go_on(call: &Call, coming: Option<BoxedCell>) -> Phase
+fn after_decide(call: &Call, coming: Option<BoxedCell>) -> Phase
     ensures { result ≡ decided call.now coming None }
 {
     match *call {
@@ -98,7 +98,7 @@ fn decided(call: &Call, coming: Option<BoxedCell>, refused: Option<i64>) -> Phas
 {
     match refused {
         Some(answer) => Phase::ToFinish { answer },
-        None => go_on(call, coming),
+        None => after_decide(call, coming),
     }
 }
 
@@ -245,7 +245,7 @@ fn phase_after(
 }
 
 /// The open call after an entry of it, or of another CPU.
-fn goes_on(
+fn after_entry(
     cells: &[CellConfig],
     coming: Option<BoxedCell>,
     begun: OpenCall,
@@ -330,7 +330,7 @@ pub fn call_after(
             created: None,
         },
         _ => match call {
-            Some(begun) => goes_on(cells, coming, begun, entry),
+            Some(begun) => after_entry(cells, coming, begun, entry),
             None => Called {
                 call: None,
                 created: None,

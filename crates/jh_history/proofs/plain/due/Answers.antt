@@ -19,7 +19,7 @@ returns-in-Some c =
     let P : Option DueEntry → Type 0 = λ due. option_map (λ (due : DueEntry). due.entry) due ≡ due_at c.args.image.now f c.args.cpu in
     rw (← c.as_slice.ensures) (subst P c.in-Some.is (c.in_ok-due.ensures.due c.args.image.now f stands))
 
-pub returns : goal.returns-in-None
+pub returns : goal.returns
 returns c =
     let legal : IsLegal c.args.image.now c.as_slice.result.now = rw c.as_slice.ensures c.requires.legal in
     let f = facts c.args.image.now c.as_slice.result.now in
