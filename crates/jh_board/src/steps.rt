@@ -35,7 +35,7 @@ use jh_cellcfg::CellConfig;
 use jh_history::{
     Act, BoxedCell, Called, Creation, DeviceChange, Entry, Known, OpenCall, PageWrite, Reach,
     a_cell_that_comes_may_live, call_after, changing_cell, count_entry, cpus_after,
-    decides_are_of_the_open_call, devices_may_change, few_cells_live, is_of_call, page_write,
+    decides_are_of_the_open_call, devices_may_change, few_cells_live, is_call, page_write,
     pages_written_are_of_cells, places_reached_are_of_cells, sound_cells_name_a_cpu, write_device,
 };
 use jh_num::NoMemory;
@@ -299,7 +299,7 @@ fn make_call(held: &mut Held, entry: &Entry, coming: Option<BoxedCell>)
     ensures call { held.new.call ≡ call_by held.old.cells.lives coming held.old.call entry.now entry.now.act }
     ensures ready { IsReady held.old held.new.call → IsReady held.new held.new.call }
 {
-    if !is_of_call(&entry.act) {
+    if !is_call(&entry.act) {
         count_entry(&mut held.call, entry);
         return;
     }

@@ -104,15 +104,15 @@ phase_after cells coming cell call phase (Noted id how) = after_noted phase cell
 phase_after cells coming cell call phase act = counted cell call phase
 
 -- the act opens a call, takes the open one a phase further, or closes it
-abbrev pub is_of_call : Act → Bool
-is_of_call (Begin code a b) = true
-is_of_call (Decide refused) = true
-is_of_call (Settle how) = true
-is_of_call Commit = true
-is_of_call (Note id) = true
-is_of_call (Noted id how) = true
-is_of_call (Finish answer) = true
-is_of_call _ = false
+abbrev pub is_call : Act → Bool
+is_call (Begin code a b) = true
+is_call (Decide refused) = true
+is_call (Settle how) = true
+is_call Commit = true
+is_call (Note id) = true
+is_call (Noted id how) = true
+is_call (Finish answer) = true
+is_call _ = false
 
 -- the call after an entry: opened by a Begin, closed by a Finish, and a phase further by the others
 abbrev pub call_by : List Live → Option CellConfig → Option OpenCall → Entry → Act → Option OpenCall
