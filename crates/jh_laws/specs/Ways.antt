@@ -11,7 +11,6 @@ use Rattle.jh_history.specs.declared.entry.Settled.TheVariants.{Agreed, Denied, 
 use Rattle.jh_history.specs.declared.entry.Heard.{Heard}
 use Rattle.jh_history.specs.declared.entry.Act.{Act}
 use Rattle.jh_history.specs.declared.entry.Act.TheVariants.{Begin, Decide, Settle, Commit, Note, Noted, Finish}
-use Rattle.jh_history.specs.Calls.{is_call}
 
 -- ---- acts
 
