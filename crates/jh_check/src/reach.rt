@@ -1,9 +1,9 @@
 //! How far the regions of a cell reach, by which those that meet none of them are told at once.
-ghost use Rattle.std.specs.Prelude.{◌≡◌, ◌≢◌, ◌<◌, ◌≤◌, ◌^◌, ℕ, true, false, length, OnOk, IfOk, Contains};
+ghost use Rattle.std.specs.Prelude.{◌≡◌, ◌≢◌, ◌<◌, ◌≤◌, ◌-◌, ◌^◌, ℕ, true, false, length, slice_index_or, OnOk, IfOk, IfSome, Contains};
 ghost use Rattle.jh_check.specs.declared.spans.Span.{Span};
 ghost use Rattle.jh_check.specs.declared.reach.Reach.{Reach};
-ghost use Rattle.jh_check.specs.Spans.{is_within, span_of, takes_part};
-ghost use Rattle.jh_check.specs.Private.Reaches.{passes_shared, may_follow, reaches_for, HasOthers, InOrder, IsRising, IsReached, TellsEach, TellsPairs, TellsOthers, AreOf, IsIn, IsInside, IsExtent};
+ghost use Rattle.jh_check.specs.Spans.{is_within, joins, span_of, takes_part, LiesWithin};
+ghost use Rattle.jh_check.specs.Private.Reaches.{passes_shared, may_follow, unshared_of, reaches_for, extent_for, HasOthers, InOrder, IsRising, IsReached, IsGap, AreGaps, TellsEach, TellsPairs, TellsOthers, AreOf, IsIn, IsInside, AreExtents};
 
 use crate::rule::Rule;
 use crate::spans::{Span, are_apart, span_of, stand_apart, takes_part};
@@ -32,8 +32,31 @@ pub(crate) struct Window {
 pub(crate) struct Reaches {
     /// With a region that may meet none of them.
     pub(crate) any: Vec<Reach>,
-    /// With a region that may meet those that are shared.
-    pub(crate) unshared: Vec<Reach>,
+    /// With a region that may meet those that are shared, if that differs.
+    pub(crate) unshared: Option<Vec<Reach>>,
+}
+
+/// No span is reached that begins at `start` or behind it and ends at `end` or before it. `behind` of the reaches lie
+/// before it.
+#[derive(Clone, Copy, PartialEq, Eq, Debug)]
+pub(crate) struct Gap {
+    pub(crate) behind: usize,
+    pub(crate) start: u128,
+    pub(crate) end: u128,
+}
+
+/// A gap among the reaches of each kind.
+#[derive(Clone, Copy, PartialEq, Eq, Debug)]
+pub(crate) struct Gaps {
+    pub(crate) any: Gap,
+    pub(crate) unshared: Gap,
+}
+
+/// What has all regions that take part, of each kind by which they are looked for.
+#[derive(Clone, Copy, PartialEq, Eq, Debug)]
+pub(crate) struct Extents {
+    pub(crate) any: Span,
+    pub(crate) unshared: Span,
 }
 
 /// Whether the rule is about two regions of one cell.
@@ -94,7 +117,7 @@ fn sorted(
     ensures each { IfOk result (λ spans. HasOthers rule pass b regions.now spans.items) }
     ensures order { IfOk result (λ spans. InOrder spans.items) }
 {
-    let mut spans = Vec::new(alloc);
+    let mut spans = Vec::with_capacity(alloc, regions.len())?;
     for (item, region) in regions.iter().enumerate() {
         let follows = may_follow(rule, pass, b, region);
         push(&mut spans, follows, span_of(rule, item, region))?;
@@ -194,14 +217,41 @@ fn of_cell(
     of_each(alloc, spans.as_slice())
 }
 
-/// How far those do that aren't shared, where the rule lets some regions meet those that are.
-fn of_unshared(alloc: Global, rule: Rule, b: u32, cell: &CellConfig) -> Result<Vec<Reach>, NoMemory>
-    ensures rising { IfOk result (λ reaches. IsRising reaches.items) }
-    ensures tells { IfOk result (λ reaches. TellsOthers rule true b cell.now reaches.items) }
+/// Whether a region is shared, where the rule lets some meet those that are.
+fn may_pass(rule: Rule, regions: &[Region]) -> bool {
+    match rule {
+        Rule::CellsOverlap => regions
+            .iter()
+            .any(|region| region.has(RegionFlags::ROOTSHARED)),
+        _ => false,
+    }
+}
+
+/// How far those do that aren't shared. None, where the rule lets no region meet those that are, or none is.
+fn of_unshared(
+    alloc: Global,
+    rule: Rule,
+    b: u32,
+    cell: &CellConfig,
+) -> Result<Option<Vec<Reach>>, NoMemory>
+    ensures rising { IfOk result (λ unshared. IfSome unshared (λ reaches. IsRising reaches.items)) }
+    ensures tells { IfOk result (λ unshared. IfSome unshared (λ reaches. TellsOthers rule true b cell.now reaches.items)) }
+{
+    if !may_pass(rule, cell.memory_regions.as_slice()) {
+        return Ok(None);
+    }
+    let reaches = of_cell(alloc, rule, true, b, cell)?;
+    Ok(Some(reaches))
+}
+
+/// Whether the rule may be broken by a region of the cell of that number as the other of a pair.
+fn is_other(rule: Rule, b: u32) -> bool
+    ensures { result ≡ false → (a : ℕ) → joins rule a b ≡ true → ⊥ }
 {
     match rule {
-        Rule::CellsOverlap => of_cell(alloc, rule, true, b, cell),
-        _ => Ok(Vec::new(alloc)),
+        Rule::SubpageTaken => b == 0,
+        Rule::CellsOverlap => b > 1,
+        _ => true,
     }
 }
 
@@ -214,99 +264,211 @@ pub(crate) fn measure(
 ) -> Result<Reaches, NoMemory>
     ensures { IfOk result (λ reaches. AreOf rule b cell.now reaches) }
 {
+    if !is_other(rule, b) {
+        return Ok(Reaches {
+            any: Vec::new(alloc),
+            unshared: None,
+        });
+    }
     let any = of_cell(alloc, rule, false, b, cell)?;
     let unshared = of_unshared(alloc, rule, b, cell)?;
     Ok(Reaches { any, unshared })
 }
 
-/// The extent, made so wide that it has the region, where that takes part.
-fn widened(extent: Span, rule: Rule, item: usize, region: &Region) -> Span
-    ensures start { result.start ≤ extent.start }
-    ensures end { extent.end ≤ result.end }
-    ensures own { takes_part rule region.now ≡ true → IsInside (span_of rule item region.now) result }
+/// Those by which a region is looked for that may meet shared ones.
+fn unshared_of(reaches: &Reaches) -> &[Reach]
+    ensures { result.now ≡ unshared_of reaches.now }
+{
+    match &reaches.unshared {
+        Some(unshared) => unshared.as_slice(),
+        None => reaches.any.as_slice(),
+    }
+}
+
+/// Those by which the region is looked for.
+fn reaches_for<'a>(reaches: &'a Reaches, rule: Rule, region: &Region) -> &'a [Reach]
+    ensures { result.now ≡ reaches_for rule region.now reaches.now }
+{
+    if passes_shared(rule, region) {
+        unshared_of(reaches)
+    } else {
+        reaches.any.as_slice()
+    }
+}
+
+/// The least that has both.
+fn joined(one: Span, other: Span) -> Span
+    ensures one { IsInside one result }
+    ensures other { IsInside other result }
+{
+    Span {
+        start: one.start.min(other.start),
+        end: one.end.max(other.end),
+        item: other.item,
+    }
+}
+
+/// The extents, one of them made so wide that it has the region, where that takes part.
+fn widened(extents: Extents, rule: Rule, item: usize, region: &Region) -> Extents
+    ensures any { IsInside extents.any result.any }
+    ensures unshared { IsInside extents.unshared result.unshared }
+    ensures own { takes_part rule region.now ≡ true → IsInside (span_of rule item region.now) (extent_for rule region.now result) }
 {
     if !takes_part(rule, region) {
-        return extent;
+        return extents;
     }
     let span = span_of(rule, item, region);
-    Span {
-        start: span.start.min(extent.start),
-        end: span.end.max(extent.end),
-        item,
+    if passes_shared(rule, region) {
+        Extents {
+            any: extents.any,
+            unshared: joined(extents.unshared, span),
+        }
+    } else {
+        Extents {
+            any: joined(extents.any, span),
+            unshared: extents.unshared,
+        }
     }
 }
 
 /// What has all regions that take part: from the least of their starts to the farthest of their ends.
-pub(crate) fn extent_of(rule: Rule, regions: &[Region]) -> Span
-    ensures { IsExtent rule regions.now result }
+pub(crate) fn extents_of(rule: Rule, regions: &[Region]) -> Extents
+    ensures { AreExtents rule regions.now result }
 {
-    let mut extent = Span {
+    let none = Span {
         start: u64::MAX,
         end: 0,
         item: 0,
     };
+    let mut extents = Extents {
+        any: none,
+        unshared: none,
+    };
     for (item, region) in regions.iter().enumerate() {
-        extent = widened(extent, rule, item, region);
+        extents = widened(extents, rule, item, region);
     }
-    extent
+    extents
 }
 
-/// Whether one of those may reach into the extent; only then may a region within it break the rule with one of them.
-pub(crate) fn may_reach_into(reaches: &Reaches, extent: Span) -> bool
-    requires any { IsRising reaches.now.any.items }
-    requires unshared { IsRising reaches.now.unshared.items }
-    ensures any { result ≡ false → IsReached reaches.now.any.items extent → ⊥ }
-    ensures unshared { result ≡ false → IsReached reaches.now.unshared.items extent → ⊥ }
+/// How far the first `n` of them reach.
+fn end_before(reaches: &[Reach], n: usize) -> u128
+    requires { n ≤ length reaches.now }
+    ensures { 0 < n → (d : Reach) → (slice_index_or reaches.now (n - 1) d).end ≤ result }
 {
-    let any = may_reach(reaches.any.as_slice(), extent, &mut 0);
-    any || may_reach(reaches.unshared.as_slice(), extent, &mut 0)
+    if n == 0 { 0 } else { reaches[n - 1].end }
 }
 
-/// Whether the span lies behind the first `n` of them and before the others.
-fn lies_behind(reaches: &[Reach], n: usize, span: Span) -> bool
+/// Where the one behind the first `n` of them begins, if there is one.
+fn start_behind(reaches: &[Reach], n: usize) -> u128
+    ensures { n < length reaches.now → (d : Reach) → result ≤ (slice_index_or reaches.now n d).start }
+{
+    if n < reaches.len() {
+        u128::from(reaches[n].start)
+    } else {
+        u128::MAX
+    }
+}
+
+/// The gap between the first `n` of them and the others.
+fn gap_behind(reaches: &[Reach], n: usize) -> Gap
     requires { IsRising reaches.now }
-    ensures { result ≡ true → IsReached reaches.now span → ⊥ }
+    ensures { IsGap reaches.now result }
 {
-    n <= reaches.len()
-        && (n == 0 || reaches[n - 1].end <= u128::from(span.start))
-        && (n == reaches.len() || span.end <= u128::from(reaches[n].start))
+    let behind = n.min(reaches.len());
+    let start = end_before(reaches, behind);
+    let end = start_behind(reaches, behind);
+    Gap { behind, start, end }
 }
 
-/// Whether the span may be reached; only then may it be told so. `near` is how many lay before the last span, and
-/// becomes how many lie before this one: mostly as many, or one more.
-fn may_reach(reaches: &[Reach], span: Span, near: &mut usize) -> bool
+/// The gap between those that begin before the span's end and the others.
+fn gap_near(reaches: &[Reach], span: Span) -> Gap
+    requires { IsRising reaches.now }
+    ensures { IsGap reaches.now result }
+{
+    let n = reaches.partition_point(|reach| u128::from(reach.start) < span.end);
+    gap_behind(reaches, n)
+}
+
+/// The first gap of each kind.
+pub(crate) fn first_gaps(reaches: &Reaches) -> Gaps
+    requires any { IsRising reaches.now.any.items }
+    requires unshared { IsRising (unshared_of reaches.now) }
+    ensures { AreGaps reaches.now result }
+{
+    let any = gap_behind(reaches.any.as_slice(), 0);
+    let unshared = gap_behind(unshared_of(reaches), 0);
+    Gaps { any, unshared }
+}
+
+/// Whether the span lies in the gap.
+fn lies_in(gap: Gap, span: Span) -> bool
+    ensures { result ≡ true → LiesWithin span gap.start gap.end }
+{
+    gap.start <= u128::from(span.start) && span.end <= gap.end
+}
+
+/// Whether the span may be reached, where no gap near it is known.
+fn is_near(reaches: &[Reach], span: Span) -> bool
     requires { IsRising reaches.now }
     ensures { result ≡ false → IsReached reaches.now span → ⊥ }
 {
-    if lies_behind(reaches, *near, span) {
-        return false;
-    }
-    *near = near.saturating_add(1);
-    if lies_behind(reaches, *near, span) {
-        return false;
-    }
-    *near = reaches.partition_point(|reach| u128::from(reach.start) < span.end);
-    !lies_behind(reaches, *near, span)
+    let gap = gap_near(reaches, span);
+    !lies_in(gap, span)
 }
 
-/// Whether the region, of that number in its cell, may break the rule with one of those. `near` is where the last one
-/// was looked for.
+/// Whether one of those may reach into the extents; only then may a region within them break the rule with one.
+pub(crate) fn may_reach_into(reaches: &Reaches, extents: Extents) -> bool
+    requires any { IsRising reaches.now.any.items }
+    requires unshared { IsRising (unshared_of reaches.now) }
+    ensures any { result ≡ false → IsReached reaches.now.any.items extents.any → ⊥ }
+    ensures unshared { result ≡ false → IsReached (unshared_of reaches.now) extents.unshared → ⊥ }
+{
+    let any = is_near(reaches.any.as_slice(), extents.any);
+    any || is_near(unshared_of(reaches), extents.unshared)
+}
+
+/// Whether the span may be reached; only then may it be told so. The gap becomes one near the span: mostly it is the
+/// same, or the next.
+fn may_reach(reaches: &[Reach], span: Span, gap: &mut Gap) -> bool
+    requires rising { IsRising reaches.now }
+    requires gap { IsGap reaches.now gap.old }
+    ensures gap { IsGap reaches.now gap.new }
+    ensures told { result ≡ false → IsReached reaches.now span → ⊥ }
+{
+    if lies_in(*gap, span) {
+        return false;
+    }
+    *gap = gap_behind(reaches, gap.behind.saturating_add(1));
+    if lies_in(*gap, span) {
+        return false;
+    }
+    *gap = gap_near(reaches, span);
+    !lies_in(*gap, span)
+}
+
+/// Whether the region, of that number in its cell, may break the rule with one of those. The gaps become ones near it.
 pub(crate) fn may_meet(
     reaches: &Reaches,
     rule: Rule,
     item: usize,
     region: &Region,
-    near: &mut usize,
+    gaps: &mut Gaps,
 ) -> bool
     requires any { IsRising reaches.now.any.items }
-    requires unshared { IsRising reaches.now.unshared.items }
-    ensures { result ≡ false → IsReached (reaches_for rule region.now reaches.now) (span_of rule item region.now) → ⊥ }
+    requires unshared { IsRising (unshared_of reaches.now) }
+    requires gaps { AreGaps reaches.now gaps.old }
+    ensures gaps { AreGaps reaches.now gaps.new }
+    ensures told { result ≡ false → takes_part rule region.now ≡ true → IsReached reaches.now.any.items (span_of rule item region.now)
+        → IsReached (reaches_for rule region.now reaches.now) (span_of rule item region.now) → ⊥ }
 {
     let span = span_of(rule, item, region);
+    if lies_in(gaps.any, span) || !takes_part(rule, region) {
+        return false;
+    }
     if passes_shared(rule, region) {
-        may_reach(reaches.unshared.as_slice(), span, near)
+        may_reach(unshared_of(reaches), span, &mut gaps.unshared)
     } else {
-        may_reach(reaches.any.as_slice(), span, near)
+        may_reach(reaches.any.as_slice(), span, &mut gaps.any)
     }
 }
 
@@ -338,7 +500,7 @@ fn around(reaches: &[Reach]) -> Window
 /// the rule is about one cell.
 pub(crate) fn find_window(reaches: &Reaches, rule: Rule, item: usize, region: &Region) -> Window
     requires any { IsRising reaches.now.any.items }
-    requires unshared { IsRising reaches.now.unshared.items }
+    requires unshared { IsRising (unshared_of reaches.now) }
     ensures all { is_within rule ≡ true → (s : ℕ) → s < 2 ^ 64 → IsIn result s }
     ensures told { is_within rule ≡ false → (x : Reach) → Contains (reaches_for rule region.now reaches.now) x
         → x.start < (span_of rule item region.now).end → (span_of rule item region.now).start < x.end → IsIn result x.item }
@@ -350,9 +512,5 @@ pub(crate) fn find_window(reaches: &Reaches, rule: Rule, item: usize, region: &R
         };
     }
     let span = span_of(rule, item, region);
-    if passes_shared(rule, region) {
-        window_of(reaches.unshared.as_slice(), span)
-    } else {
-        window_of(reaches.any.as_slice(), span)
-    }
+    window_of(reaches_for(reaches, rule, region), span)
 }
