@@ -14,16 +14,16 @@ use Rattle.jh_check.specs.declared.spans.Span.{Span}
 use Rattle.jh_check.specs.declared.reach.Reach.{Reach}
 use Rattle.jh_check.specs.declared.reach.Reaches.{Reaches}
 use Rattle.jh_check.specs.declared.reach.Window.{Window}
-use Rattle.jh_check.specs.declared.reach.Extents.{Extents}
+use Rattle.jh_check.specs.declared.gaps.Extents.{Extents}
 use Rattle.jh_check.specs.Regions.{Spot, pair_breaks, share_places, takes_pages, both_shared}
 use Rattle.jh_check.specs.Devices.{are_same_section}
 use Rattle.jh_check.specs.Spans.{joins, takes_part, span_of, is_within, StandApart}
 use Rattle.jh_check.specs.Lists.{capped, found_from, only_if}
-use Rattle.jh_check.specs.Findings.{spot, beside, beside_at, between, between_at, finding_of}
+use Rattle.jh_check.specs.Findings.{spot, beside, beside_at, between, between_at, from_cell, finding_of}
 use Rattle.jh_check.specs.Private.Reaches.{passes_shared, may_follow, unshared_of, reaches_for, HasOthers, InOrder, IsRising, IsReached, TellsEach, TellsPairs, IsOwn, TellsOthers, AreOf, IsIn, HasHits, IsInside, AreExtents}
 use Rattle.jh_check.proofs.BoolLemmas.{false_from_not, not_both, and_left, and_right, and_both}
 use Rattle.jh_check.proofs.ListLemmas.{append_nil, found_drop, found_end, found_none, found_none0}
-use Rattle.jh_check.proofs.BreakLemmas.{pair_order, pair_joins, pair_takes_part, pair_second, pair_meets, beside_none, joins_same, two_parts, pages_parts, overlap_second, meet_swap, met_before}
+use Rattle.jh_check.proofs.BreakLemmas.{pair_order, pair_joins, pair_takes_part, pair_second, pair_meets, beside_none, between_apart, joins_same, two_parts, pages_parts, overlap_second, meet_swap, met_before}
 
 -- ---- one span after the other
 
@@ -450,3 +450,29 @@ between_beyond rule a one b other reaches extents of same wide any unshared =
     let x = get_or one.memory_regions r none in
     beside_unreached rule (spot a one r x) b other reaches of (own_spot a one r none b other h same) (λ takes all reached.
     beyond_by (passes_shared rule x) reaches (span_of rule r x) extents (wide r none h h takes) any unshared reached))
+
+-- a rule about one cell finds nothing where none of its regions reaches another
+between_alone : (rule : Rule) (a : ℕ) (one : CellConfig) (b : ℕ) (other : CellConfig) (reaches : Reaches) → AreOf rule b other reaches → (a ≡ b → one ≡ other) → length reaches.any.items ≡ 0 → between rule a one b other ≡ []
+unfolding between
+between_alone rule a one b other reaches of same none =
+    let region : Region = record { phys_start = 0; virt_start = 0; size = 0; flags = 0 } in
+    found_none0 (between_at rule a one b other) one.memory_regions region (λ r h.
+    let x = get_or one.memory_regions r region in
+    beside_unreached rule (spot a one r x) b other reaches of (own_spot a one r region b other h same) (λ takes reached any.
+    let within = reached.is.1 in
+    absurd (omega arith)))
+
+pub cell_alone : (rule : Rule) (all : List CellConfig) (a : ℕ) (one : CellConfig) (reaches : Reaches) → is_within rule ≡ true → one ≡ get_or all a one → AreOf rule a one reaches → length reaches.any.items ≡ 0 → from_cell rule all a one ≡ []
+unfolding from_cell
+cell_alone rule all a one reaches within is of none =
+    found_none0 (between rule a one) all one (λ b h.
+    let other = get_or all b one in
+    elim (cases_Bool (joins rule a b)) [
+      | inl j ↦
+          let e = joins_same rule a b within j in
+          let same : one ≡ other = is ∙ ap (λ k. get_or all k one) e in
+          let its = subst (λ x. AreOf rule a x reaches) same of in
+          let there = subst (λ k. AreOf rule k other reaches) e its in
+          between_alone rule a one b other reaches there (λ f. same) none
+      | inr n ↦ between_apart rule a one b other n
+    ])

@@ -1,19 +1,18 @@
 //! The search for pairs of regions, which passes over regions that meet none of another cell.
-ghost use Rattle.std.specs.Prelude.{◌≡◌, ◌≤◌, ◌++◌, length, slice_index_or, OnOk, IfOk};
+ghost use Rattle.std.specs.Prelude.{◌≡◌, ◌<◌, ◌≤◌, ◌++◌, true, length, slice_index_or, OnOk, IfOk};
 ghost use Rattle.jh_check.specs.Cells.{cells_of};
 ghost use Rattle.jh_check.specs.Lists.{capped};
-ghost use Rattle.jh_check.specs.Spans.{joins};
+ghost use Rattle.jh_check.specs.Spans.{joins, is_within};
 ghost use Rattle.jh_check.specs.Private.Reaches.{IsOwn, AreOf, AreOfEach, AreExtents};
 ghost use Rattle.jh_check.specs.Private.Links.{ArePartners};
 ghost use Rattle.jh_check.specs.Findings.{spot, beside, between, from_cell, in_pairs};
 
 use crate::checking::MAX_FINDINGS;
 use crate::finding::Finding;
+use crate::gaps::{Extents, extents_of, first_gaps, may_meet, may_reach_into};
 use crate::links::{find_partners, holders_of, partner_of};
 use crate::pairs::Site;
-use crate::reach::{
-    Extents, Reaches, extents_of, find_window, first_gaps, may_meet, may_reach_into, measure,
-};
+use crate::reach::{Reaches, find_window, is_within, measure};
 use crate::rule::Rule;
 use crate::search::beside;
 use crate::setup::Setup;
@@ -144,6 +143,14 @@ fn join(
     }
 }
 
+/// Whether the rule is about one cell, and none of this one's regions reaches another.
+fn stands_alone(rule: Rule, reaches: &Reaches) -> bool
+    ensures within { result ≡ true → is_within rule ≡ true }
+    ensures none { result ≡ true → length reaches.now.any.items ≡ 0 }
+{
+    is_within(rule) && reaches.any.is_empty()
+}
+
 /// The regions of a cell with those of each.
 fn from_cell(
     alloc: Global,
@@ -157,9 +164,13 @@ fn from_cell(
     requires count { length setup.now.cells.now ≤ 15 }
     requires known { length each.now ≡ length (cells_of setup.now) }
     requires each { AreOfEach rule (cells_of setup.now) each.now }
+    requires among { a < length (cells_of setup.now) }
     requires one { one.now ≡ slice_index_or (cells_of setup.now) a one.now }
     ensures { OnOk result (capped found.new ≡ capped (found.old ++ from_cell rule (cells_of setup.now) a one.now)) }
 {
+    if stands_alone(rule, &each[a as usize]) {
+        return Ok(());
+    }
     let holders = holders_of(alloc, rule, one)?;
     let extents = extents_of(rule, one.memory_regions.as_slice());
     for b in 0..setup.count() {

@@ -10,9 +10,9 @@ use Rattle.jh_check.specs.declared.spans.Span.{Span}
 use Rattle.jh_check.specs.declared.reach.Reach.{Reach}
 use Rattle.jh_check.specs.declared.reach.Reaches.{Reaches}
 use Rattle.jh_check.specs.declared.reach.Window.{Window}
-use Rattle.jh_check.specs.declared.reach.Gap.{Gap}
-use Rattle.jh_check.specs.declared.reach.Gaps.{Gaps}
-use Rattle.jh_check.specs.declared.reach.Extents.{Extents}
+use Rattle.jh_check.specs.declared.gaps.Gap.{Gap}
+use Rattle.jh_check.specs.declared.gaps.Gaps.{Gaps}
+use Rattle.jh_check.specs.declared.gaps.Extents.{Extents}
 use Rattle.jh_check.specs.Regions.{Spot, pair_breaks}
 use Rattle.jh_check.specs.Spans.{takes_part, span_of, spans_meet, is_within, LiesWithin}
 use Rattle.jh_check.specs.Findings.{spot}

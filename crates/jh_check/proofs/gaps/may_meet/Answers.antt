@@ -1,6 +1,6 @@
 use Rattle.std.proofs.Common.{subst}
 use Rattle.jh_check.specs.Private.Reaches.{IsGap}
-use Rattle.jh_check.proofs.reach.may_meet.Goals as goal
+use Rattle.jh_check.proofs.gaps.may_meet.Goals as goal
 
 pub returns-then-passes_shared-clause-gaps : goal.returns-then-passes_shared-clause-gaps
 returns-then-passes_shared-clause-gaps c = record {

@@ -1,6 +1,6 @@
 use Rattle.std.proofs.Common.{arith}
 use Rattle.jh_check.proofs.ReachLemmas.{lies_unreached}
-use Rattle.jh_check.proofs.reach.gap_behind.Goals as goal
+use Rattle.jh_check.proofs.gaps.gap_behind.Goals as goal
 
 pub returns : goal.returns
 returns c = λ span lies.
