@@ -163,23 +163,32 @@ pub(crate) fn may_reach_into(reaches: &Reaches, extents: Extents) -> bool
     any || is_near(unshared_of(reaches), extents.unshared)
 }
 
-/// Whether the span may be reached; only then may it be told so. The gap becomes one near the span: mostly it is the
-/// same, or the next.
+/// Whether the span, which doesn't lie in the gap, may be reached; only then may it be told so. The gap becomes one near
+/// the span: mostly it is the next.
 fn may_reach(reaches: &[Reach], span: Span, gap: &mut Gap) -> bool
     requires rising { IsRising reaches.now }
-    requires gap { IsGap reaches.now gap.old }
     ensures gap { IsGap reaches.now gap.new }
     ensures told { result ≡ false → IsReached reaches.now span → ⊥ }
 {
-    if lies_in(*gap, span) {
-        return false;
-    }
     *gap = gap_behind(reaches, gap.behind.saturating_add(1));
     if lies_in(*gap, span) {
         return false;
     }
     *gap = gap_near(reaches, span);
     !lies_in(*gap, span)
+}
+
+/// The same of those by which a region is looked for that may meet shared ones, unless the span lies in the gap.
+fn may_reach_unshared(reaches: &Reaches, span: Span, gap: &mut Gap) -> bool
+    requires rising { IsRising (unshared_of reaches.now) }
+    requires gap { IsGap (unshared_of reaches.now) gap.old }
+    ensures gap { IsGap (unshared_of reaches.now) gap.new }
+    ensures told { result ≡ false → IsReached (unshared_of reaches.now) span → ⊥ }
+{
+    if lies_in(*gap, span) {
+        return false;
+    }
+    may_reach(unshared_of(reaches), span, gap)
 }
 
 /// Whether the region, of that number in its cell, may break the rule with one of those. The gaps become ones near it.
@@ -202,7 +211,7 @@ pub(crate) fn may_meet(
         return false;
     }
     if passes_shared(rule, region) {
-        may_reach(unshared_of(reaches), span, &mut gaps.unshared)
+        may_reach_unshared(reaches, span, &mut gaps.unshared)
     } else {
         may_reach(reaches.any.as_slice(), span, &mut gaps.any)
     }
