@@ -342,6 +342,27 @@ lies_unreached reaches span n rising behind before bound reached =
           omega arith
     ]
 
+-- where those before one of them end before the span, and those behind it begin behind it, no other reaches it
+pub last_reaches : (reaches : List Reach) (span : Span) (n : ℕ) (x d : Reach) → IsRising reaches → n < length reaches → (0 < n → (d : Reach) → (get_or reaches (n - 1) d).end ≤ span.start) → (n + 1 < length reaches → (d : Reach) → span.end ≤ (get_or reaches (n + 1) d).start) → Contains reaches x → x.start < span.end → span.start < x.end → get_or reaches n d ≡ x
+last_reaches reaches span n x d rising bound behind before cx begins ends =
+    let k = cx.0 in
+    let within = cx.1 in
+    elim (cases_order k n) [
+      | inl e ↦ sym (ap (λ j. get_or reaches j d) e) ∙ get_or_default reaches k d x within ∙ cx.2
+      | inr (inl h) ↦
+          let a = rising.ends k (n - 1) x (omega arith) (omega arith) in
+          let b = behind (omega arith) x in
+          let c : (get_or reaches k x).end ≤ span.start = omega arith in
+          let e : x.end ≤ span.start = subst (λ (s : Reach). s.end ≤ span.start) cx.2 c in
+          absurd (omega arith)
+      | inr (inr h) ↦
+          let a = rising.starts (n + 1) k x (omega arith) within in
+          let b = before (omega arith) x in
+          let c : span.end ≤ (get_or reaches k x).start = omega arith in
+          let e : span.end ≤ x.start = subst (λ (s : Reach). span.end ≤ s.start) cx.2 c in
+          absurd (omega arith)
+    ]
+
 -- a region that breaks the rule with one of the cell is reached by all, and by those by which it is looked for
 reached_any : (rule : Rule) (b : ℕ) (other : CellConfig) (reaches : Reaches) (one : Spot) (s : ℕ) (d : Region) → AreOf rule b other reaches → IsOwn one b other → s < length other.memory_regions → pair_breaks rule one (spot b other s (get_or other.memory_regions s d)) ≡ true → IsReached reaches.any.items (span_of rule one.item one.region)
 reached_any rule b other reaches one s d of own within breaks = (of.any one s d own (λ e. absurd (false≢true e)) within breaks).0

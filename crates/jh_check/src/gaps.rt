@@ -1,10 +1,9 @@
 //! The gaps between how far regions of a cell reach, by which those that meet none of them are told at once.
-ghost use Rattle.std.specs.Prelude.{◌≡◌, ◌<◌, ◌≤◌, ◌-◌, true, false, length, slice_index_or};
-ghost use Rattle.jh_check.specs.declared.reach.Reach.{Reach};
+ghost use Rattle.std.specs.Prelude.{◌≡◌, true, false};
 ghost use Rattle.jh_check.specs.Spans.{span_of, takes_part, LiesWithin};
 ghost use Rattle.jh_check.specs.Private.Reaches.{unshared_of, reaches_for, extent_for, IsRising, IsReached, IsGap, AreGaps, IsInside, AreExtents};
 
-use crate::reach::{Reach, Reaches, passes_shared, unshared_of};
+use crate::reach::{Reach, Reaches, end_before, passes_shared, start_behind, unshared_of};
 use crate::rule::Rule;
 use crate::spans::{Span, span_of, takes_part};
 use jh_cellcfg::Region;
@@ -86,25 +85,6 @@ pub(crate) fn extents_of(rule: Rule, regions: &[Region]) -> Extents
     extents
 }
 
-/// How far the first `n` of them reach.
-fn end_before(reaches: &[Reach], n: usize) -> u128
-    requires { n ≤ length reaches.now }
-    ensures { 0 < n → (d : Reach) → (slice_index_or reaches.now (n - 1) d).end ≤ result }
-{
-    if n == 0 { 0 } else { reaches[n - 1].end }
-}
-
-/// Where the one behind the first `n` of them begins, if there is one.
-fn start_behind(reaches: &[Reach], n: usize) -> u128
-    ensures { n < length reaches.now → (d : Reach) → result ≤ (slice_index_or reaches.now n d).start }
-{
-    if n < reaches.len() {
-        u128::from(reaches[n].start)
-    } else {
-        u128::MAX
-    }
-}
-
 /// The gap between the first `n` of them and the others.
 fn gap_behind(reaches: &[Reach], n: usize) -> Gap
     requires { IsRising reaches.now }
@@ -163,16 +143,31 @@ pub(crate) fn may_reach_into(reaches: &Reaches, extents: Extents) -> bool
     any || is_near(unshared_of(reaches), extents.unshared)
 }
 
+/// Whether the last of those before the gap begins before the span's end, and those behind the gap don't.
+fn is_last(reaches: &[Reach], gap: Gap, span: Span) -> bool {
+    span.end <= gap.end
+        && 0 < gap.behind
+        && gap.behind <= reaches.len()
+        && u128::from(reaches[gap.behind - 1].start) < span.end
+}
+
 /// Whether the span, which doesn't lie in the gap, may be reached; only then may it be told so. The gap becomes one near
-/// the span: mostly it is the next.
+/// the span: mostly it stays the same, or becomes the next.
 fn may_reach(reaches: &[Reach], span: Span, gap: &mut Gap) -> bool
     requires rising { IsRising reaches.now }
+    requires gap { IsGap reaches.now gap.old }
     ensures gap { IsGap reaches.now gap.new }
     ensures told { result ≡ false → IsReached reaches.now span → ⊥ }
 {
+    if is_last(reaches, *gap, span) {
+        return true;
+    }
     *gap = gap_behind(reaches, gap.behind.saturating_add(1));
     if lies_in(*gap, span) {
         return false;
+    }
+    if is_last(reaches, *gap, span) {
+        return true;
     }
     *gap = gap_near(reaches, span);
     !lies_in(*gap, span)
@@ -214,5 +209,14 @@ pub(crate) fn may_meet(
         may_reach_unshared(reaches, span, &mut gaps.unshared)
     } else {
         may_reach(reaches.any.as_slice(), span, &mut gaps.any)
+    }
+}
+
+/// How many lie before the gap of those by which the region is looked for.
+pub(crate) fn behind(gaps: &Gaps, rule: Rule, region: &Region) -> usize {
+    if passes_shared(rule, region) {
+        gaps.unshared.behind
+    } else {
+        gaps.any.behind
     }
 }

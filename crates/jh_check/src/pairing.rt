@@ -9,7 +9,7 @@ ghost use Rattle.jh_check.specs.Findings.{spot, beside, between, from_cell, in_p
 
 use crate::checking::MAX_FINDINGS;
 use crate::finding::Finding;
-use crate::gaps::{Extents, extents_of, first_gaps, may_meet, may_reach_into};
+use crate::gaps::{Extents, behind, extents_of, first_gaps, may_meet, may_reach_into};
 use crate::links::{find_partners, holders_of, partner_of};
 use crate::pairs::Site;
 use crate::reach::{Reaches, find_window, is_within, measure};
@@ -42,7 +42,8 @@ struct Pair<'a> {
     other: &'a CellConfig,
 }
 
-/// A region of the one cell with each of the other's, if there is room for a finding.
+/// A region of the one cell with each of the other's, if there is room for a finding. `near` is how many of the
+/// reaches may lie before its end.
 #[tactic(auto, using(crate::proofs::ListLemmas::append_nil, crate::proofs::ListLemmas::capped_full))]
 fn visit(
     found: &mut Seq<Finding>,
@@ -50,6 +51,7 @@ fn visit(
     pair: &Pair,
     partners: &[Option<usize>],
     reaches: &Reaches,
+    near: usize,
     item: usize,
     region: &Region,
 ) -> Result<(), NoMemory>
@@ -68,7 +70,7 @@ fn visit(
         region,
     };
     let partner = partner_of(partners, item);
-    let window = find_window(reaches, rule, item, region);
+    let window = find_window(reaches, rule, item, region, near);
     beside(found, rule, &first, partner, window, pair.b, pair.other)
 }
 
@@ -90,7 +92,8 @@ fn between(
         if !may_meet(reaches, rule, r, region, &mut gaps) {
             continue;
         }
-        visit(found, rule, pair, partners, reaches, r, region)?;
+        let near = behind(&gaps, rule, region);
+        visit(found, rule, pair, partners, reaches, near, r, region)?;
     }
     Ok(())
 }

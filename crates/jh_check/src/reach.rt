@@ -1,5 +1,5 @@
 //! How far the regions of a cell reach, by which those that meet none of them are told at once.
-ghost use Rattle.std.specs.Prelude.{◌≡◌, ◌≢◌, ◌<◌, ◌^◌, ℕ, true, false, OnOk, IfOk, IfSome, Contains};
+ghost use Rattle.std.specs.Prelude.{◌≡◌, ◌≢◌, ◌<◌, ◌≤◌, ◌-◌, ◌^◌, ℕ, true, false, length, slice_index_or, OnOk, IfOk, IfSome, Contains};
 ghost use Rattle.jh_check.specs.declared.spans.Span.{Span};
 ghost use Rattle.jh_check.specs.declared.reach.Reach.{Reach};
 ghost use Rattle.jh_check.specs.Spans.{is_within, joins, span_of};
@@ -273,11 +273,50 @@ fn reaches_for<'a>(reaches: &'a Reaches, rule: Rule, region: &Region) -> &'a [Re
     }
 }
 
-/// The numbers of those that reach the span, and maybe of others.
-fn window_of(reaches: &[Reach], span: Span) -> Window
+/// How far the first `n` of them reach.
+pub(crate) fn end_before(reaches: &[Reach], n: usize) -> u128
+    requires { n ≤ length reaches.now }
+    ensures { 0 < n → (d : Reach) → (slice_index_or reaches.now (n - 1) d).end ≤ result }
+{
+    if n == 0 { 0 } else { reaches[n - 1].end }
+}
+
+/// Where the one behind the first `n` of them begins, if there is one.
+pub(crate) fn start_behind(reaches: &[Reach], n: usize) -> u128
+    ensures { n < length reaches.now → (d : Reach) → result ≤ (slice_index_or reaches.now n d).start }
+{
+    if n < reaches.len() {
+        u128::from(reaches[n].start)
+    } else {
+        u128::MAX
+    }
+}
+
+/// Whether none but the one of that number may reach the span.
+fn is_only(reaches: &[Reach], k: usize, span: Span) -> bool
+    requires { IsRising reaches.now }
+    ensures within { result ≡ true → k < length reaches.now }
+    ensures only { result ≡ true → (x d : Reach) → Contains reaches.now x → x.start < span.end → span.start < x.end → slice_index_or reaches.now k d ≡ x }
+{
+    if k >= reaches.len() {
+        return false;
+    }
+    end_before(reaches, k) <= u128::from(span.start) && span.end <= start_behind(reaches, k + 1)
+}
+
+/// The numbers of those that reach the span, and maybe of others. `near` is how many may lie before its end.
+fn window_of(reaches: &[Reach], span: Span, near: usize) -> Window
     requires { IsRising reaches.now }
     ensures { (x : Reach) → Contains reaches.now x → x.start < span.end → span.start < x.end → IsIn result x.item }
 {
+    let k = near.saturating_sub(1);
+    if is_only(reaches, k, span) {
+        let item = reaches[k].item;
+        return Window {
+            first: item,
+            last: item,
+        };
+    }
     let start = u128::from(span.start);
     let end = reaches.partition_point(|reach| u128::from(reach.start) < span.end);
     let begin = reaches.partition_point(|reach| reach.end <= start);
@@ -298,8 +337,14 @@ fn around(reaches: &[Reach]) -> Window
 }
 
 /// The numbers of those regions with which the region, of that number in its cell, may break the rule: of all, where
-/// the rule is about one cell.
-pub(crate) fn find_window(reaches: &Reaches, rule: Rule, item: usize, region: &Region) -> Window
+/// the rule is about one cell. `near` is how many may lie before its end.
+pub(crate) fn find_window(
+    reaches: &Reaches,
+    rule: Rule,
+    item: usize,
+    region: &Region,
+    near: usize,
+) -> Window
     requires any { IsRising reaches.now.any.items }
     requires unshared { IsRising (unshared_of reaches.now) }
     ensures all { is_within rule ≡ true → (s : ℕ) → s < 2 ^ 64 → IsIn result s }
@@ -313,5 +358,5 @@ pub(crate) fn find_window(reaches: &Reaches, rule: Rule, item: usize, region: &R
         };
     }
     let span = span_of(rule, item, region);
-    window_of(reaches_for(reaches, rule, region), span)
+    window_of(reaches_for(reaches, rule, region), span, near)
 }
