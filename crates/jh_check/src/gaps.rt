@@ -159,14 +159,16 @@ fn may_reach(reaches: &[Reach], span: Span, gap: &mut Gap) -> bool
     ensures gap { IsGap reaches.now gap.new }
     ensures told { result ≡ false → IsReached reaches.now span → ⊥ }
 {
-    if is_last(reaches, *gap, span) {
-        return true;
-    }
-    *gap = gap_behind(reaches, gap.behind.saturating_add(1));
-    if lies_in(*gap, span) {
+    let next = gap_behind(reaches, gap.behind.saturating_add(1));
+    if lies_in(next, span) {
+        *gap = next;
         return false;
     }
     if is_last(reaches, *gap, span) {
+        return true;
+    }
+    *gap = next;
+    if is_last(reaches, next, span) {
         return true;
     }
     *gap = gap_near(reaches, span);
