@@ -1,5 +1,5 @@
 -- How far spans reach, one span after the other, and what is told by it.
-use Rattle.std.proofs.Common.{◌≡◌, ◌≢◌, ℕ, zero, suc, ◌+◌, ◌^◌, leb, take, drop, length-drop, ◌-◌, ◌<◌, ◌≤◌, Bool, true, false, ◌&&◌, not, ◌==◌, nat_lt, if◌then◌else◌, List, [], ◌∷◌, ◌++◌, length, get_or, refl, sym, ap, subst, ◌∙◌, inl, inr, arith}
+use Rattle.std.proofs.Common.{◌≡◌, ◌≢◌, ℕ, zero, suc, ◌+◌, ◌^◌, leb, take, drop, length-drop, ◌-◌, ◌<◌, ◌≤◌, Bool, true, false, ◌&&◌, not, ◌==◌, nat_lt, if◌then◌else◌, Some, None, IfSome, List, [], ◌∷◌, ◌++◌, length, get_or, refl, sym, ap, subst, ◌∙◌, inl, inr, arith}
 use Rattle.std.specs.List.{Contains, AllWithin}
 use Rattle.std.specs.List.Sorted.{IsNonDecreasingBy}
 use Rattle.std.proofs.lemmas.Bool.{false≢true, cases_Bool, ltb-true, ltb-false, leb-true, cases_eq, cases_lt, cases_order}
@@ -14,15 +14,16 @@ use Rattle.jh_check.specs.declared.spans.Span.{Span}
 use Rattle.jh_check.specs.declared.reach.Reach.{Reach}
 use Rattle.jh_check.specs.declared.reach.Reaches.{Reaches}
 use Rattle.jh_check.specs.declared.reach.Window.{Window}
+use Rattle.jh_check.specs.declared.gaps.Extents.{Extents}
 use Rattle.jh_check.specs.Regions.{Spot, pair_breaks, share_places, takes_pages, both_shared}
 use Rattle.jh_check.specs.Devices.{are_same_section}
-use Rattle.jh_check.specs.Spans.{takes_part, span_of, is_within, StandApart}
+use Rattle.jh_check.specs.Spans.{joins, takes_part, span_of, is_within, StandApart}
 use Rattle.jh_check.specs.Lists.{capped, found_from, only_if}
-use Rattle.jh_check.specs.Findings.{spot, beside, beside_at, between, between_at, finding_of}
-use Rattle.jh_check.specs.Private.Reaches.{passes_shared, may_follow, reaches_for, HasOthers, InOrder, IsRising, IsReached, TellsEach, TellsPairs, IsOwn, TellsOthers, AreOf, IsIn, HasHits, IsInside, IsExtent}
+use Rattle.jh_check.specs.Findings.{spot, beside, beside_at, between, between_at, from_cell, finding_of}
+use Rattle.jh_check.specs.Private.Reaches.{passes_shared, may_follow, unshared_of, reaches_for, HasOthers, InOrder, IsRising, IsReached, TellsEach, TellsPairs, IsOwn, TellsOthers, AreOf, IsIn, HasHits, IsInside, AreExtents}
 use Rattle.jh_check.proofs.BoolLemmas.{false_from_not, not_both, and_left, and_right, and_both}
 use Rattle.jh_check.proofs.ListLemmas.{append_nil, found_drop, found_end, found_none, found_none0}
-use Rattle.jh_check.proofs.BreakLemmas.{pair_order, pair_joins, pair_takes_part, pair_second, pair_meets, beside_none, joins_same, two_parts, pages_parts, overlap_second, meet_swap, met_before}
+use Rattle.jh_check.proofs.BreakLemmas.{pair_order, pair_joins, pair_takes_part, pair_second, pair_meets, beside_none, between_apart, joins_same, two_parts, pages_parts, overlap_second, meet_swap, met_before}
 
 -- ---- one span after the other
 
@@ -207,8 +208,12 @@ pairs_tell spans reaches n far end low all = λ x y cx cy differ some meets.
 
 -- ---- regions
 
+not_shared : (pass x y : Bool) → (pass ≡ true → x ≡ true) → not (x && y) ≡ true → not (pass && y) ≡ true
+not_shared false x y p h = refl
+not_shared true x y p h = subst (λ b. not (b && y) ≡ true) (p refl) h
+
 -- the second region of a pair that breaks the rule may follow
-pub pair_follows : (rule : Rule) (pass : Bool) (one other : Spot) → passes_shared rule one.region ≡ pass → pair_breaks rule one other ≡ true → may_follow rule pass other.cell other.region ≡ true
+pub pair_follows : (rule : Rule) (pass : Bool) (one other : Spot) → (pass ≡ true → passes_shared rule one.region ≡ true) → pair_breaks rule one other ≡ true → may_follow rule pass other.cell other.region ≡ true
 unfolding pair_breaks
 pair_follows VirtOverlap pass one other p h = pair_second VirtOverlap one other refl h
 pair_follows PhysOverlap pass one other p h = pair_second PhysOverlap one other refl h
@@ -223,7 +228,7 @@ pair_follows CellsOverlap pass one other p h =
     let rest = not (both_shared x y) && apart in
     let k = (two_parts (nat_lt 0 one.cell) (nat_lt one.cell other.cell) (share_places x y && rest) h).1 in
     let n : not (has_flags 0x80 x && has_flags 0x80 y) ≡ true = and_left (not (both_shared x y)) apart (and_right (share_places x y) rest k) in
-    let m : not (pass && has_flags 0x80 y) ≡ true = subst (λ b. not (b && has_flags 0x80 y) ≡ true) p n in
+    let m = not_shared pass (has_flags 0x80 x) (has_flags 0x80 y) p n in
     let w = overlap_second one other h in
     and_both (has_size y) (not (is_comm y) && not (pass && has_flags 0x80 y)) (and_left (has_size y) (not (is_comm y)) w) (and_both (not (is_comm y)) (not (pass && has_flags 0x80 y)) (and_right (has_size y) (not (is_comm y)) w) m)
 pair_follows _ pass one other p h = absurd (false≢true h)
@@ -287,6 +292,28 @@ others_apart rule pass b cell w stand = λ one s d own passes within breaks.
     let behind = subst P (sym same) (λ t. stand one.item s d before within t second) (pair_takes_part rule one other breaks) in
     absurd (met_before (span_of rule one.item one.region) (span_of rule s y) (pair_meets rule one other breaks) behind)
 
+-- those of a cell whose regions are in no pair as the other tell nothing
+pub others_none : (rule : Rule) (pass : Bool) (b : ℕ) (cell : CellConfig) → ((a : ℕ) → joins rule a b ≡ true → ⊥) → TellsOthers rule pass b cell []
+others_none rule pass b cell apart = λ one s d own passes within breaks.
+    absurd (apart one.cell (pair_joins rule one (spot b cell s (get_or cell.memory_regions s d)) breaks))
+
+-- what is so of all, and of others where these are known, is so of those of a region that may meet shared ones
+of_either : (P : List Reach → Type 0) (reaches : Reaches) → P reaches.any.items → IfSome reaches.unshared (λ unshared. P unshared.items) → P (unshared_of reaches)
+of_either P reaches any own =
+    (elim reaches.unshared as (λ u. IfSome u (λ unshared. P unshared.items) → P (elim u [ None ↦ reaches.any.items | Some unshared ↦ unshared.items ])) [
+      | None ↦ λ h. any
+      | Some unshared ↦ λ h. h
+    ]) own
+
+-- those of all regions and of unshared ones, if there are any, tell of the cell
+pub measured : (rule : Rule) (b : ℕ) (cell : CellConfig) (reaches : Reaches) → IsRising reaches.any.items → TellsOthers rule false b cell reaches.any.items → IfSome reaches.unshared (λ unshared. IsRising unshared.items) → IfSome reaches.unshared (λ unshared. TellsOthers rule true b cell unshared.items) → AreOf rule b cell reaches
+measured rule b cell reaches rises any unshared_rises unshared = record {
+  any_rises = rises;
+  any = any;
+  unshared_rises = of_either (λ xs. IsRising xs) reaches rises unshared_rises;
+  unshared = of_either (λ xs. TellsOthers rule true b cell xs) reaches (λ one s d own passes within breaks. any one s d own (λ e. absurd (false≢true e)) within breaks) unshared;
+}
+
 pub rising_none : IsRising []
 rising_none = record { starts = λ i j d h k. absurd (omega arith); ends = λ i j d h k. absurd (omega arith) }
 
@@ -315,23 +342,42 @@ lies_unreached reaches span n rising behind before bound reached =
           omega arith
     ]
 
--- a region that breaks the rule with one of the cell is reached by those by which it is looked for
+-- where those before one of them end before the span, and those behind it begin behind it, no other reaches it
+pub last_reaches : (reaches : List Reach) (span : Span) (n : ℕ) (x d : Reach) → IsRising reaches → n < length reaches → (0 < n → (d : Reach) → (get_or reaches (n - 1) d).end ≤ span.start) → (n + 1 < length reaches → (d : Reach) → span.end ≤ (get_or reaches (n + 1) d).start) → Contains reaches x → x.start < span.end → span.start < x.end → get_or reaches n d ≡ x
+last_reaches reaches span n x d rising bound behind before cx begins ends =
+    let k = cx.0 in
+    let within = cx.1 in
+    elim (cases_order k n) [
+      | inl e ↦ sym (ap (λ j. get_or reaches j d) e) ∙ get_or_default reaches k d x within ∙ cx.2
+      | inr (inl h) ↦
+          let a = rising.ends k (n - 1) x (omega arith) (omega arith) in
+          let b = behind (omega arith) x in
+          let c : (get_or reaches k x).end ≤ span.start = omega arith in
+          let e : x.end ≤ span.start = subst (λ (s : Reach). s.end ≤ span.start) cx.2 c in
+          absurd (omega arith)
+      | inr (inr h) ↦
+          let a = rising.starts (n + 1) k x (omega arith) within in
+          let b = before (omega arith) x in
+          let c : span.end ≤ (get_or reaches k x).start = omega arith in
+          let e : span.end ≤ x.start = subst (λ (s : Reach). span.end ≤ s.start) cx.2 c in
+          absurd (omega arith)
+    ]
+
+-- a region that breaks the rule with one of the cell is reached by all, and by those by which it is looked for
+reached_any : (rule : Rule) (b : ℕ) (other : CellConfig) (reaches : Reaches) (one : Spot) (s : ℕ) (d : Region) → AreOf rule b other reaches → IsOwn one b other → s < length other.memory_regions → pair_breaks rule one (spot b other s (get_or other.memory_regions s d)) ≡ true → IsReached reaches.any.items (span_of rule one.item one.region)
+reached_any rule b other reaches one s d of own within breaks = (of.any one s d own (λ e. absurd (false≢true e)) within breaks).0
+
 reached_for : (rule : Rule) (b : ℕ) (other : CellConfig) (reaches : Reaches) (one : Spot) (s : ℕ) (d : Region) → AreOf rule b other reaches → IsOwn one b other → s < length other.memory_regions → pair_breaks rule one (spot b other s (get_or other.memory_regions s d)) ≡ true → (reached : IsReached (reaches_for rule one.region reaches) (span_of rule one.item one.region)) × (is_within rule ≡ false → reached.by.item ≡ s)
 reached_for rule b other reaches one s d of own within breaks =
     elim (cases_Bool (passes_shared rule one.region)) [
-      | inl p ↦ rw p (of.unshared one s d own p within breaks)
-      | inr p ↦ rw p (of.any one s d own p within breaks)
+      | inl p ↦ rw p (of.unshared one s d own (λ e. p) within breaks)
+      | inr p ↦ rw p (of.any one s d own (λ e. absurd (false≢true e)) within breaks)
     ]
 
--- nothing is found of a region that takes no part, or isn't reached
-pub beside_apart : (rule : Rule) (one : Spot) (b : ℕ) (other : CellConfig) → takes_part rule one.region ≡ false → beside rule one b other ≡ []
-beside_apart rule one b other h =
-    beside_none rule one b other (λ s d within breaks.
-    not_both (takes_part rule one.region) (pair_takes_part rule one (spot b other s (get_or other.memory_regions s d)) breaks) h)
-
-pub beside_unreached : (rule : Rule) (one : Spot) (b : ℕ) (other : CellConfig) (reaches : Reaches) → AreOf rule b other reaches → IsOwn one b other → (IsReached (reaches_for rule one.region reaches) (span_of rule one.item one.region) → ⊥) → beside rule one b other ≡ []
+-- nothing is found of a region that takes no part, or isn't reached by both
+pub beside_unreached : (rule : Rule) (one : Spot) (b : ℕ) (other : CellConfig) (reaches : Reaches) → AreOf rule b other reaches → IsOwn one b other → (takes_part rule one.region ≡ true → IsReached reaches.any.items (span_of rule one.item one.region) → IsReached (reaches_for rule one.region reaches) (span_of rule one.item one.region) → ⊥) → beside rule one b other ≡ []
 beside_unreached rule one b other reaches of own unreached =
-    beside_none rule one b other (λ s d within breaks. unreached (reached_for rule b other reaches one s d of own within breaks).0)
+    beside_none rule one b other (λ s d within breaks. unreached (pair_takes_part rule one (spot b other s (get_or other.memory_regions s d)) breaks) (reached_any rule b other reaches one s d of own within breaks) (reached_for rule b other reaches one s d of own within breaks).0)
 
 -- a window in which those are that reach it has the numbers of those that break the rule with it
 pub window_hits : (rule : Rule) (one : Spot) (b : ℕ) (other : CellConfig) (reaches : Reaches) (window : Window) → AreOf rule b other reaches → IsOwn one b other → (is_within rule ≡ true → (s : ℕ) → s < 2 ^ 64 → IsIn window s) → (is_within rule ≡ false → (x : Reach) → Contains (reaches_for rule one.region reaches) x → x.start < (span_of rule one.item one.region).end → (span_of rule one.item one.region).start < x.end → IsIn window x.item) → HasHits rule one b other window
@@ -413,17 +459,41 @@ wider reaches span extent inside reached =
     let b = reached.ends in
     record { by = reached.by; is = reached.is; begins = omega arith; ends = omega arith }
 
-beyond_by : (b : Bool) (reaches : Reaches) (span extent : Span) → IsInside span extent → (IsReached reaches.any.items extent → ⊥) → (IsReached reaches.unshared.items extent → ⊥) → IsReached (if b then reaches.unshared.items else reaches.any.items) span → ⊥
-beyond_by true reaches span extent inside any unshared reached = unshared (wider reaches.unshared.items span extent inside reached)
-beyond_by false reaches span extent inside any unshared reached = any (wider reaches.any.items span extent inside reached)
+beyond_by : (b : Bool) (reaches : Reaches) (span : Span) (extents : Extents) → IsInside span (if b then extents.unshared else extents.any) → (IsReached reaches.any.items extents.any → ⊥) → (IsReached (unshared_of reaches) extents.unshared → ⊥) → IsReached (if b then unshared_of reaches else reaches.any.items) span → ⊥
+beyond_by true reaches span extents inside any unshared reached = unshared (wider (unshared_of reaches) span extents.unshared inside reached)
+beyond_by false reaches span extents inside any unshared reached = any (wider reaches.any.items span extents.any inside reached)
 
-pub between_beyond : (rule : Rule) (a : ℕ) (one : CellConfig) (b : ℕ) (other : CellConfig) (reaches : Reaches) (extent : Span) → AreOf rule b other reaches → (a ≡ b → one ≡ other) → IsExtent rule one.memory_regions extent → (IsReached reaches.any.items extent → ⊥) → (IsReached reaches.unshared.items extent → ⊥) → between rule a one b other ≡ []
+pub between_beyond : (rule : Rule) (a : ℕ) (one : CellConfig) (b : ℕ) (other : CellConfig) (reaches : Reaches) (extents : Extents) → AreOf rule b other reaches → (a ≡ b → one ≡ other) → AreExtents rule one.memory_regions extents → (IsReached reaches.any.items extents.any → ⊥) → (IsReached (unshared_of reaches) extents.unshared → ⊥) → between rule a one b other ≡ []
 unfolding between
-between_beyond rule a one b other reaches extent of same wide any unshared =
+between_beyond rule a one b other reaches extents of same wide any unshared =
     let none : Region = record { phys_start = 0; virt_start = 0; size = 0; flags = 0 } in
     found_none0 (between_at rule a one b other) one.memory_regions none (λ r h.
     let x = get_or one.memory_regions r none in
-    elim (cases_Bool (takes_part rule x)) [
-      | inl takes ↦ beside_unreached rule (spot a one r x) b other reaches of (own_spot a one r none b other h same) (λ reached. beyond_by (passes_shared rule x) reaches (span_of rule r x) extent (wide r none h h takes) any unshared reached)
-      | inr aside ↦ beside_apart rule (spot a one r x) b other aside
+    beside_unreached rule (spot a one r x) b other reaches of (own_spot a one r none b other h same) (λ takes all reached.
+    beyond_by (passes_shared rule x) reaches (span_of rule r x) extents (wide r none h h takes) any unshared reached))
+
+-- a rule about one cell finds nothing where none of its regions reaches another
+between_alone : (rule : Rule) (a : ℕ) (one : CellConfig) (b : ℕ) (other : CellConfig) (reaches : Reaches) → AreOf rule b other reaches → (a ≡ b → one ≡ other) → length reaches.any.items ≡ 0 → between rule a one b other ≡ []
+unfolding between
+between_alone rule a one b other reaches of same none =
+    let region : Region = record { phys_start = 0; virt_start = 0; size = 0; flags = 0 } in
+    found_none0 (between_at rule a one b other) one.memory_regions region (λ r h.
+    let x = get_or one.memory_regions r region in
+    beside_unreached rule (spot a one r x) b other reaches of (own_spot a one r region b other h same) (λ takes reached any.
+    let within = reached.is.1 in
+    absurd (omega arith)))
+
+pub cell_alone : (rule : Rule) (all : List CellConfig) (a : ℕ) (one : CellConfig) (reaches : Reaches) → is_within rule ≡ true → one ≡ get_or all a one → AreOf rule a one reaches → length reaches.any.items ≡ 0 → from_cell rule all a one ≡ []
+unfolding from_cell
+cell_alone rule all a one reaches within is of none =
+    found_none0 (between rule a one) all one (λ b h.
+    let other = get_or all b one in
+    elim (cases_Bool (joins rule a b)) [
+      | inl j ↦
+          let e = joins_same rule a b within j in
+          let same : one ≡ other = is ∙ ap (λ k. get_or all k one) e in
+          let its = subst (λ x. AreOf rule a x reaches) same of in
+          let there = subst (λ k. AreOf rule k other reaches) e its in
+          between_alone rule a one b other reaches there (λ f. same) none
+      | inr n ↦ between_apart rule a one b other n
     ])

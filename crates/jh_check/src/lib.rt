@@ -5,6 +5,7 @@ mod bus;
 mod checking;
 mod devices;
 mod finding;
+mod gaps;
 mod laws;
 mod links;
 mod pairing;
