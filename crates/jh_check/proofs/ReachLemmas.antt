@@ -380,10 +380,10 @@ beside_unreached rule one b other reaches of own unreached =
     beside_none rule one b other (λ s d within breaks. unreached (pair_takes_part rule one (spot b other s (get_or other.memory_regions s d)) breaks) (reached_any rule b other reaches one s d of own within breaks) (reached_for rule b other reaches one s d of own within breaks).0)
 
 -- a window in which those are that reach it has the numbers of those that break the rule with it
-pub window_hits : (rule : Rule) (one : Spot) (b : ℕ) (other : CellConfig) (reaches : Reaches) (window : Window) → AreOf rule b other reaches → IsOwn one b other → (is_within rule ≡ true → (s : ℕ) → s < 2 ^ 64 → IsIn window s) → (is_within rule ≡ false → (x : Reach) → Contains (reaches_for rule one.region reaches) x → x.start < (span_of rule one.item one.region).end → (span_of rule one.item one.region).start < x.end → IsIn window x.item) → HasHits rule one b other window
+pub window_hits : (rule : Rule) (one : Spot) (b : ℕ) (other : CellConfig) (reaches : Reaches) (window : Window) → AreOf rule b other reaches → IsOwn one b other → (is_within rule ≡ true → (s : ℕ) → one.item < s → s < 2 ^ 64 → IsIn window s) → (is_within rule ≡ false → (x : Reach) → Contains (reaches_for rule one.region reaches) x → x.start < (span_of rule one.item one.region).end → (span_of rule one.item one.region).start < x.end → IsIn window x.item) → HasHits rule one b other window
 window_hits rule one b other reaches window of own all told = λ s d within small breaks.
     elim (cases_Bool (is_within rule)) [
-      | inl w ↦ all w s small
+      | inl w ↦ all w s (ltb-true one.item s (pair_order rule one (spot b other s (get_or other.memory_regions s d)) w breaks)) small
       | inr w ↦
           let r = reached_for rule b other reaches one s d of own within breaks in
           subst (λ n. IsIn window n) (r.1 w) (told w r.0.by r.0.is r.0.begins r.0.ends)

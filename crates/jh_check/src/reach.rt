@@ -336,8 +336,8 @@ fn around(reaches: &[Reach]) -> Window
     Window { first, last }
 }
 
-/// The numbers of those regions with which the region, of that number in its cell, may break the rule: of all, where
-/// the rule is about one cell. `near` is how many may lie before its end.
+/// The numbers of those regions with which the region, of that number in its cell, may break the rule: of all behind
+/// it, where the rule is about one cell. `near` is how many may lie before its end.
 pub(crate) fn find_window(
     reaches: &Reaches,
     rule: Rule,
@@ -347,13 +347,13 @@ pub(crate) fn find_window(
 ) -> Window
     requires any { IsRising reaches.now.any.items }
     requires unshared { IsRising (unshared_of reaches.now) }
-    ensures all { is_within rule ≡ true → (s : ℕ) → s < 2 ^ 64 → IsIn result s }
+    ensures all { is_within rule ≡ true → (s : ℕ) → item < s → s < 2 ^ 64 → IsIn result s }
     ensures told { is_within rule ≡ false → (x : Reach) → Contains (reaches_for rule region.now reaches.now) x
         → x.start < (span_of rule item region.now).end → (span_of rule item region.now).start < x.end → IsIn result x.item }
 {
     if is_within(rule) {
         return Window {
-            first: 0,
+            first: item.saturating_add(1),
             last: usize::MAX,
         };
     }
