@@ -6,7 +6,7 @@ ghost use Rattle.jh_check.specs.Spans.{is_within, joins, span_of};
 ghost use Rattle.jh_check.specs.Private.Reaches.{passes_shared, may_follow, unshared_of, reaches_for, HasOthers, InOrder, IsRising, TellsEach, TellsPairs, TellsOthers, AreOf, IsIn};
 
 use crate::rule::Rule;
-use crate::spans::{Span, are_apart, span_of, stand_apart};
+use crate::spans::{Span, span_of, stand_apart};
 use jh_cellcfg::{CellConfig, Region, RegionFlags};
 use jh_num::NoMemory;
 use std::alloc::Global;
@@ -122,38 +122,27 @@ fn of_each(alloc: Global, spans: &[Span]) -> Result<Vec<Reach>, NoMemory>
     Ok(reaches)
 }
 
-/// To each span, how far two of those reach that begin no later.
+/// How far two of those reach that begin no later than a span, for each span beyond whose start they do.
 fn of_pairs(alloc: Global, spans: &[Span]) -> Result<Vec<Reach>, NoMemory>
     requires { InOrder spans.now }
     ensures rising { IfOk result (λ reaches. IsRising reaches.items) }
     ensures tells { IfOk result (λ reaches. TellsPairs spans.now reaches.items) }
 {
-    let mut reaches = Vec::with_capacity(alloc, spans.len())?;
+    let mut reaches = Vec::new(alloc);
     let mut farthest = 0;
     let mut end = 0;
     for span in spans {
         end = span.end.min(farthest).max(end);
         farthest = span.end.max(farthest);
-        reaches.push(Reach {
-            start: span.start,
-            end,
-            item: span.item,
-        })?;
+        if u128::from(span.start) < end {
+            reaches.push(Reach {
+                start: span.start,
+                end,
+                item: span.item,
+            })?;
+        }
     }
     Ok(reaches)
-}
-
-/// The same; none, where no two of the spans meet.
-fn of_overlaps(alloc: Global, spans: &[Span]) -> Result<Vec<Reach>, NoMemory>
-    requires { InOrder spans.now }
-    ensures rising { IfOk result (λ reaches. IsRising reaches.items) }
-    ensures tells { IfOk result (λ reaches. TellsPairs spans.now reaches.items) }
-{
-    if are_apart(spans) {
-        Ok(Vec::new(alloc))
-    } else {
-        of_pairs(alloc, spans)
-    }
 }
 
 /// The same of the cell's regions; none, where these stand apart.
@@ -173,7 +162,7 @@ fn of_own(
         return Ok(Vec::new(alloc));
     }
     let spans = sorted(alloc, rule, pass, b, regions)?;
-    of_overlaps(alloc, spans.as_slice())
+    of_pairs(alloc, spans.as_slice())
 }
 
 /// How far the cell's regions reach that may follow.

@@ -55,10 +55,10 @@ pub record IsReached (reaches : List Reach) (span : Span) : Type 0 where
 abbrev pub TellsEach : List Span → List Reach → Type 0
 TellsEach spans reaches = (x z : Span) → Contains spans x → spans_meet x z ≡ true → (reached : IsReached reaches z) × (reached.by.item ≡ x.item)
 
--- one of the spans that meets another of them is reached
+-- one of the spans that meets another of them is reached, where neither is empty
 abbrev pub TellsPairs : List Span → List Reach → Type 0
 TellsPairs spans reaches =
-    (x y : Span) → Contains spans x → Contains spans y → x.item ≢ y.item → x.start < x.end → spans_meet x y ≡ true → IsReached reaches x
+    (x y : Span) → Contains spans x → Contains spans y → x.item ≢ y.item → x.start < x.end → y.start < y.end → spans_meet x y ≡ true → IsReached reaches x
 
 -- if the region is of the cell of that number, it is the one of its own number there
 abbrev pub IsOwn : Spot → ℕ → CellConfig → Type 0
