@@ -97,11 +97,12 @@ reach_more spans reaches n end more x within is farther far before =
 abbrev pub place : ℕ → Span
 place start = record { start = start; end = start + 1; item = 0 }
 
--- the first of the spans: `far` is how far one of them reaches, and `end` how far two do; where one begins and another
--- before it reaches beyond, that place is reached
-pub record ArePairsTo (spans : List Span) (reaches : List Reach) (n far end : ℕ) : Type 0 where
+-- the first of the spans: `far` is how far one of them reaches, `end` how far two do, and `last` the greatest of their
+-- numbers; where one begins and another before it reaches beyond, that place is reached, by a number below neither's
+pub record ArePairsTo (spans : List Span) (reaches : List Reach) (n far end last : ℕ) : Type 0 where
+  pub items : (k : ℕ) (e : Span) → k < n → (get_or spans k e).item ≤ last
   pub single : (k : ℕ) (e : Span) → k < n → (get_or spans k e).end ≤ far
-  pub pairs : (i j : ℕ) (e : Span) → i < j → j < n → (get_or spans j e).start < (get_or spans i e).end → (get_or spans j e).start < (get_or spans j e).end → IsReached reaches (place (get_or spans j e).start)
+  pub pairs : (i j : ℕ) (e : Span) → i < j → j < n → (get_or spans j e).start < (get_or spans i e).end → (get_or spans j e).start < (get_or spans j e).end → (reached : IsReached reaches (place (get_or spans j e).start)) × ((get_or spans i e).item ≤ reached.by.item) × ((get_or spans j e).item ≤ reached.by.item)
   pub before : (k m : ℕ) (d : Reach) (e : Span) → k < length reaches → n ≤ m → m < length spans → (get_or reaches k d).start ≤ (get_or spans m e).start
   pub below : (k : ℕ) (d : Reach) → k < length reaches → (get_or reaches k d).end ≤ end
   pub rising : IsRising reaches
@@ -109,8 +110,9 @@ pub record ArePairsTo (spans : List Span) (reaches : List Reach) (n far end : �
 pub rising_none : IsRising []
 rising_none = record { starts = λ i j d h k. absurd (omega arith); ends = λ i j d h k. absurd (omega arith) }
 
-pub pairs_none : (spans : List Span) → ArePairsTo spans [] 0 0 0
+pub pairs_none : (spans : List Span) → ArePairsTo spans [] 0 0 0 0
 pairs_none spans = record {
+  items = λ k e h. absurd (omega arith);
   single = λ k e h. absurd (omega arith);
   pairs = λ i j e h k a b. absurd (omega arith);
   before = λ k m d e h a b. absurd (omega arith);
@@ -118,19 +120,20 @@ pairs_none spans = record {
   rising = rising_none;
 }
 
-single_more : (spans : List Span) (n far farther : ℕ) (x : Span) → n < length spans → x ≡ get_or spans n x → far ≤ farther → x.end ≤ farther → ((k : ℕ) (e : Span) → k < n → (get_or spans k e).end ≤ far) → (k : ℕ) (e : Span) → k < n + 1 → (get_or spans k e).end ≤ farther
-single_more spans n far farther x within is grows reaches_x single k e h =
+single_more : (key : Span → ℕ) (spans : List Span) (n far farther : ℕ) (x : Span) → n < length spans → x ≡ get_or spans n x → far ≤ farther → key x ≤ farther → ((k : ℕ) (e : Span) → k < n → key (get_or spans k e) ≤ far) → (k : ℕ) (e : Span) → k < n + 1 → key (get_or spans k e) ≤ farther
+single_more key spans n far farther x within is grows reaches_x single k e h =
     elim (cases_eq k n) [
-      | inl f ↦ subst (λ j. (get_or spans j e).end ≤ farther) (sym f) (subst (λ (s : Span). s.end ≤ farther) (is ∙ get_or_default spans n x e within) reaches_x)
+      | inl f ↦ subst (λ j. key (get_or spans j e) ≤ farther) (sym f) (subst (λ (s : Span). key s ≤ farther) (is ∙ get_or_default spans n x e within) reaches_x)
       | inr m ↦ let b = single k e (omega arith) in omega arith
     ]
 
 -- one more, beyond whose start two of them don't reach
-pub pairs_same : (spans : List Span) (reaches : List Reach) (n far end farther more : ℕ) (x : Span) → n < length spans → x ≡ get_or spans n x → far ≤ farther → x.end ≤ farther → end ≤ more → ((low : ℕ) → low < far → low < x.end → low < more) → more ≤ x.start → ArePairsTo spans reaches n far end → ArePairsTo spans reaches (n + 1) farther more
-pairs_same spans reaches n far end farther more x within is grows reaches_x rises both none before =
+pub pairs_same : (spans : List Span) (reaches : List Reach) (n far end last farther more later : ℕ) (x : Span) → n < length spans → x ≡ get_or spans n x → far ≤ farther → x.end ≤ farther → end ≤ more → last ≤ later → x.item ≤ later → ((low : ℕ) → low < far → low < x.end → low < more) → more ≤ x.start → ArePairsTo spans reaches n far end last → ArePairsTo spans reaches (n + 1) farther more later
+pairs_same spans reaches n far end last farther more later x within is grows reaches_x rises counts counts_x both none before =
     let same : (e : Span) → x ≡ get_or spans n e = λ e. is ∙ get_or_default spans n x e within in
     record {
-      single = single_more spans n far farther x within is grows reaches_x before.single;
+      items = single_more (λ (s : Span). s.item) spans n last later x within is counts counts_x before.items;
+      single = single_more (λ (s : Span). s.end) spans n far farther x within is grows reaches_x before.single;
       pairs = λ i j e h k a b. elim (cases_eq j n) [
         | inl f ↦
             let s : get_or spans j e ≡ x = ap (λ j. get_or spans j e) f ∙ sym (same e) in
@@ -149,7 +152,7 @@ pairs_same spans reaches n far end farther more x within is grows reaches_x rise
     }
 
 -- what is reached still is by more
-reached_more : (reaches more : List Reach) (span : Span) → IsReached reaches span → IsReached (reaches ++ more) span
+abbrev reached_more : (reaches more : List Reach) (span : Span) → IsReached reaches span → IsReached (reaches ++ more) span
 reached_more reaches more span reached = record {
   by = reached.by;
   is = Contains-append_left reaches more reached.by reached.is;
@@ -158,19 +161,24 @@ reached_more reaches more span reached = record {
 }
 
 -- one more, beyond whose start two of them do
-pub pairs_more : (spans : List Span) (reaches : List Reach) (n far end farther more : ℕ) (x : Span) → InOrder spans → n < length spans → x ≡ get_or spans n x → far ≤ farther → x.end ≤ farther → end ≤ more → x.start < more → ArePairsTo spans reaches n far end → ArePairsTo spans (reaches ++ (record { start = x.start; end = more; item = x.item }) ∷ []) (n + 1) farther more
-pairs_more spans reaches n far end farther more x order within is grows reaches_x rises some before =
-    let y : Reach = record { start = x.start; end = more; item = x.item } in
+pub pairs_more : (spans : List Span) (reaches : List Reach) (n far end last farther more later : ℕ) (x : Span) → InOrder spans → n < length spans → x ≡ get_or spans n x → far ≤ farther → x.end ≤ farther → end ≤ more → last ≤ later → x.item ≤ later → x.start < more → ArePairsTo spans reaches n far end last → ArePairsTo spans (reaches ++ (record { start = x.start; end = more; item = later }) ∷ []) (n + 1) farther more later
+pairs_more spans reaches n far end last farther more later x order within is grows reaches_x rises counts counts_x some before =
+    let y : Reach = record { start = x.start; end = more; item = later } in
     let same : (e : Span) → x ≡ get_or spans n e = λ e. is ∙ get_or_default spans n x e within in
     let size : length (reaches ++ y ∷ []) ≡ length reaches + 1 = length_push reaches y in
     let here : IsReached (reaches ++ y ∷ []) (place x.start) = record { by = y; is = Contains-push reaches y; begins = omega arith; ends = some } in
     record {
-      single = single_more spans n far farther x within is grows reaches_x before.single;
+      items = single_more (λ (s : Span). s.item) spans n last later x within is counts counts_x before.items;
+      single = single_more (λ (s : Span). s.end) spans n far farther x within is grows reaches_x before.single;
       pairs = λ i j e h k a b. elim (cases_eq j n) [
         | inl f ↦
             let s : x ≡ get_or spans j e = same e ∙ ap (λ j. get_or spans j e) (sym f) in
-            subst (λ (s : Span). IsReached (reaches ++ y ∷ []) (place s.start)) s here
-        | inr m ↦ reached_more reaches (y ∷ []) (place (get_or spans j e).start) (before.pairs i j e h (omega arith) a b)
+            let first = before.items i e (omega arith) in
+            let low : (get_or spans i e).item ≤ later = omega arith in
+            subst (λ (s : Span). (reached : IsReached (reaches ++ y ∷ []) (place s.start)) × ((get_or spans i e).item ≤ reached.by.item) × (s.item ≤ reached.by.item)) s (here, low, counts_x)
+        | inr m ↦
+            let r = before.pairs i j e h (omega arith) a b in
+            (reached_more reaches (y ∷ []) (place (get_or spans j e).start) r.0, r.1, r.2)
       ];
       before = λ k m d e h a b.
           one_more reaches y (length reaches) (λ j r. r.start ≤ (get_or spans m e).start) refl (λ j d i. before.before j m d e i (omega arith) b) (subst (λ (s : Span). s.start ≤ (get_or spans m e).start) (sym (same e)) (order n m e (omega arith) b)) k d (omega arith);
@@ -212,14 +220,14 @@ reach_tells spans reaches n end low all = λ x z cx meets.
     (record { by = by; is = (k, here, get_or_default reaches k by none here); begins = omega arith; ends = omega arith }, c)
 
 -- what has a place is reached where that is
-reached_at : (reaches : List Reach) (span : Span) (start : ℕ) → span.start ≤ start → start < span.end → IsReached reaches (place start) → IsReached reaches span
+abbrev reached_at : (reaches : List Reach) (span : Span) (start : ℕ) → span.start ≤ start → start < span.end → IsReached reaches (place start) → IsReached reaches span
 reached_at reaches span start low high reached =
     let a = reached.begins in
     let b = reached.ends in
     record { by = reached.by; is = reached.is; begins = omega arith; ends = omega arith }
 
-pub pairs_tell : (spans : List Span) (reaches : List Reach) (n far end : ℕ) → length spans ≤ n → InOrder spans → ArePairsTo spans reaches n far end → TellsPairs spans reaches
-pairs_tell spans reaches n far end low order all = λ x y cx cy differ some other meets.
+pub pairs_tell : (spans : List Span) (reaches : List Reach) (n far end last : ℕ) → length spans ≤ n → InOrder spans → ArePairsTo spans reaches n far end last → TellsPairs spans reaches
+pairs_tell spans reaches n far end last low order all = λ x y cx cy differ some other meets.
     let p = cx.0 in
     let q = cy.0 in
     let first : x.start < y.end = ltb-true x.start y.end (and_left (nat_lt x.start y.end) (nat_lt y.start x.end) meets) in
@@ -228,14 +236,16 @@ pairs_tell spans reaches n far end low order all = λ x y cx cy differ some othe
     let wy = cy.1 in
     let ex : get_or spans p x ≡ x = cx.2 in
     let ey : get_or spans q x ≡ y = get_or_default spans q x y cy.1 ∙ cy.2 in
-    let P : Span → Span → Type 0 = λ s t. t.start < s.end → t.start < t.end → IsReached reaches (place t.start) in
+    let P : Span → Span → Type 0 = λ s t. t.start < s.end → t.start < t.end → (reached : IsReached reaches (place t.start)) × (s.item ≤ reached.by.item) × (t.item ≤ reached.by.item) in
     elim (cases_order p q) [
       | inl e ↦ absurd (differ (ap (λ (s : Span). s.item) (sym cx.2 ∙ ap (λ k. get_or spans k x) e ∙ ey)))
       | inr (inl h) ↦
           let o : x.start ≤ y.start = subst (λ (t : Span). x.start ≤ t.start) ey (subst (λ (s : Span). s.start ≤ (get_or spans q x).start) ex (order p q x (omega arith) wy)) in
-          reached_at reaches x y.start o second (subst (λ t. P x t) ey (subst (λ s. P s (get_or spans q x)) ex (all.pairs p q x h (omega arith))) second other)
+          let r = subst (λ t. P x t) ey (subst (λ s. P s (get_or spans q x)) ex (all.pairs p q x h (omega arith))) second other in
+          (reached_at reaches x y.start o second r.0, r.2)
       | inr (inr h) ↦
-          reached_at reaches x x.start (omega arith) some (subst (λ t. P y t) ex (subst (λ s. P s (get_or spans p x)) ey (all.pairs q p x h (omega arith))) first some)
+          let r = subst (λ t. P y t) ex (subst (λ s. P s (get_or spans p x)) ey (all.pairs q p x h (omega arith))) first some in
+          (reached_at reaches x x.start (omega arith) some r.0, r.1)
     ]
 
 -- ---- regions
@@ -290,7 +300,8 @@ others_each rule pass b cell spans reaches has tells = λ one s d own passes wit
     let other = spot b cell s y in
     let f = pair_follows rule pass one other passes breaks in
     let t = tells (span_of rule s y) (span_of rule one.item one.region) (has s d within f) (meet_swap (span_of rule one.item one.region) (span_of rule s y) (pair_meets rule one other breaks)) in
-    (t.0, λ w. t.1 ∙ span_item rule s y)
+    let same : t.0.by.item ≡ s = t.1 ∙ span_item rule s y in
+    (t.0, λ w. same, omega arith)
 
 pub others_pairs : (rule : Rule) (pass : Bool) (b : ℕ) (cell : CellConfig) (spans : List Span) (reaches : List Reach) → is_within rule ≡ true → HasOthers rule pass b cell.memory_regions spans → TellsPairs spans reaches → TellsOthers rule pass b cell reaches
 others_pairs rule pass b cell spans reaches w has tells = λ one s d own passes within breaks.
@@ -308,7 +319,8 @@ others_pairs rule pass b cell spans reaches w has tells = λ one s d own passes 
     let g : one.item ≡ s = sym (span_item rule one.item one.region) ∙ e ∙ span_item rule s y in
     omega arith
     in
-    (tells (span_of rule one.item one.region) (span_of rule s y) cx cy differ (span_some rule one.item one.region w t) (span_some rule s y w (pair_second rule one other w breaks)) (pair_meets rule one other breaks), λ f. absurd (not_both (is_within rule) w f))
+    let r = tells (span_of rule one.item one.region) (span_of rule s y) cx cy differ (span_some rule one.item one.region w t) (span_some rule s y w (pair_second rule one other w breaks)) (pair_meets rule one other breaks) in
+    (r.0, λ f. absurd (not_both (is_within rule) w f), subst (λ n. n ≤ r.0.by.item) (span_item rule s y) r.1)
 
 -- regions that stand apart break no rule about two of them
 pub others_apart : (rule : Rule) (pass : Bool) (b : ℕ) (cell : CellConfig) → is_within rule ≡ true → StandApart rule cell.memory_regions → TellsOthers rule pass b cell []
@@ -396,7 +408,7 @@ last_reaches reaches span n x d rising bound behind before cx begins ends =
 reached_any : (rule : Rule) (b : ℕ) (other : CellConfig) (reaches : Reaches) (one : Spot) (s : ℕ) (d : Region) → AreOf rule b other reaches → IsOwn one b other → s < length other.memory_regions → pair_breaks rule one (spot b other s (get_or other.memory_regions s d)) ≡ true → IsReached reaches.any.items (span_of rule one.item one.region)
 reached_any rule b other reaches one s d of own within breaks = (of.any one s d own (λ e. absurd (false≢true e)) within breaks).0
 
-reached_for : (rule : Rule) (b : ℕ) (other : CellConfig) (reaches : Reaches) (one : Spot) (s : ℕ) (d : Region) → AreOf rule b other reaches → IsOwn one b other → s < length other.memory_regions → pair_breaks rule one (spot b other s (get_or other.memory_regions s d)) ≡ true → (reached : IsReached (reaches_for rule one.region reaches) (span_of rule one.item one.region)) × (is_within rule ≡ false → reached.by.item ≡ s)
+reached_for : (rule : Rule) (b : ℕ) (other : CellConfig) (reaches : Reaches) (one : Spot) (s : ℕ) (d : Region) → AreOf rule b other reaches → IsOwn one b other → s < length other.memory_regions → pair_breaks rule one (spot b other s (get_or other.memory_regions s d)) ≡ true → (reached : IsReached (reaches_for rule one.region reaches) (span_of rule one.item one.region)) × (is_within rule ≡ false → reached.by.item ≡ s) × (s ≤ reached.by.item)
 reached_for rule b other reaches one s d of own within breaks =
     elim (cases_Bool (passes_shared rule one.region)) [
       | inl p ↦ rw p (of.unshared one s d own (λ e. p) within breaks)
@@ -409,13 +421,14 @@ beside_unreached rule one b other reaches of own unreached =
     beside_none rule one b other (λ s d within breaks. unreached (pair_takes_part rule one (spot b other s (get_or other.memory_regions s d)) breaks) (reached_any rule b other reaches one s d of own within breaks) (reached_for rule b other reaches one s d of own within breaks).0)
 
 -- a window in which those are that reach it has the numbers of those that break the rule with it
-pub window_hits : (rule : Rule) (one : Spot) (b : ℕ) (other : CellConfig) (reaches : Reaches) (window : Window) → AreOf rule b other reaches → IsOwn one b other → (is_within rule ≡ true → (s : ℕ) → one.item < s → s < 2 ^ 64 → IsIn window s) → (is_within rule ≡ false → (x : Reach) → Contains (reaches_for rule one.region reaches) x → x.start < (span_of rule one.item one.region).end → (span_of rule one.item one.region).start < x.end → IsIn window x.item) → HasHits rule one b other window
-window_hits rule one b other reaches window of own all told = λ s d within small breaks.
+pub window_hits : (rule : Rule) (one : Spot) (b : ℕ) (other : CellConfig) (reaches : Reaches) (window : Window) → AreOf rule b other reaches → IsOwn one b other → (is_within rule ≡ true → (x : Reach) (s : ℕ) → Contains (reaches_for rule one.region reaches) x → x.start < (span_of rule one.item one.region).end → (span_of rule one.item one.region).start < x.end → one.item < s → s ≤ x.item → IsIn window s) → (is_within rule ≡ false → (x : Reach) → Contains (reaches_for rule one.region reaches) x → x.start < (span_of rule one.item one.region).end → (span_of rule one.item one.region).start < x.end → IsIn window x.item) → HasHits rule one b other window
+window_hits rule one b other reaches window of own behind told = λ s d within small breaks.
+    let r = reached_for rule b other reaches one s d of own within breaks in
     elim (cases_Bool (is_within rule)) [
-      | inl w ↦ all w s (ltb-true one.item s (pair_order rule one (spot b other s (get_or other.memory_regions s d)) w breaks)) small
-      | inr w ↦
-          let r = reached_for rule b other reaches one s d of own within breaks in
-          subst (λ n. IsIn window n) (r.1 w) (told w r.0.by r.0.is r.0.begins r.0.ends)
+      | inl w ↦
+          let low = ltb-true one.item s (pair_order rule one (spot b other s (get_or other.memory_regions s d)) w breaks) in
+          behind w r.0.by s r.0.is r.0.begins r.0.ends low r.2
+      | inr w ↦ subst (λ n. IsIn window n) (r.1 w) (told w r.0.by r.0.is r.0.begins r.0.ends)
     ]
 
 -- the items that are passed over give nothing

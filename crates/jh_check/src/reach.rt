@@ -1,5 +1,5 @@
 //! How far the regions of a cell reach, by which those that meet none of them are told at once.
-ghost use Rattle.std.specs.Prelude.{◌≡◌, ◌≢◌, ◌<◌, ◌≤◌, ◌-◌, ◌^◌, ℕ, true, false, length, slice_index_or, OnOk, IfOk, IfSome, Contains};
+ghost use Rattle.std.specs.Prelude.{◌≡◌, ◌≢◌, ◌<◌, ◌≤◌, ◌-◌, ℕ, true, false, length, slice_index_or, OnOk, IfOk, IfSome, Contains};
 ghost use Rattle.jh_check.specs.declared.spans.Span.{Span};
 ghost use Rattle.jh_check.specs.declared.reach.Reach.{Reach};
 ghost use Rattle.jh_check.specs.Spans.{is_within, joins, span_of};
@@ -12,7 +12,7 @@ use jh_num::NoMemory;
 use std::alloc::Global;
 
 /// The region with that number begins at `start`. Of those that begin no later, the one that reaches farthest does to
-/// `end`, or the one that does next to it.
+/// `end`. Where two of a cell meet, the one next to it does, and the number is the greatest of theirs.
 #[derive(Clone, Copy, PartialEq, Eq, Debug)]
 pub(crate) struct Reach {
     pub(crate) start: u64,
@@ -131,14 +131,16 @@ fn of_pairs(alloc: Global, spans: &[Span]) -> Result<Vec<Reach>, NoMemory>
     let mut reaches = Vec::new(alloc);
     let mut farthest = 0;
     let mut end = 0;
+    let mut item = 0;
     for span in spans {
         end = span.end.min(farthest).max(end);
         farthest = span.end.max(farthest);
+        item = span.item.max(item);
         if u128::from(span.start) < end {
             reaches.push(Reach {
                 start: span.start,
                 end,
-                item: span.item,
+                item,
             })?;
         }
     }
@@ -325,8 +327,18 @@ fn around(reaches: &[Reach]) -> Window
     Window { first, last }
 }
 
-/// The numbers of those regions with which the region, of that number in its cell, may break the rule: of all behind
-/// it, where the rule is about one cell. `near` is how many may lie before its end.
+/// Those of the window behind that number.
+fn behind(window: Window, item: usize) -> Window
+    ensures { (s : ℕ) → item < s → s ≤ window.last → IsIn result s }
+{
+    Window {
+        first: item.saturating_add(1),
+        last: window.last,
+    }
+}
+
+/// The numbers of those regions with which the region, of that number in its cell, may break the rule: only of ones
+/// behind it, where the rule is about one cell. `near` is how many may lie before its end.
 pub(crate) fn find_window(
     reaches: &Reaches,
     rule: Rule,
@@ -336,16 +348,16 @@ pub(crate) fn find_window(
 ) -> Window
     requires any { IsRising reaches.now.any.items }
     requires unshared { IsRising (unshared_of reaches.now) }
-    ensures all { is_within rule ≡ true → (s : ℕ) → item < s → s < 2 ^ 64 → IsIn result s }
+    ensures behind { is_within rule ≡ true → (x : Reach) (s : ℕ) → Contains (reaches_for rule region.now reaches.now) x
+        → x.start < (span_of rule item region.now).end → (span_of rule item region.now).start < x.end → item < s → s ≤ x.item → IsIn result s }
     ensures told { is_within rule ≡ false → (x : Reach) → Contains (reaches_for rule region.now reaches.now) x
         → x.start < (span_of rule item region.now).end → (span_of rule item region.now).start < x.end → IsIn result x.item }
 {
-    if is_within(rule) {
-        return Window {
-            first: item.saturating_add(1),
-            last: usize::MAX,
-        };
-    }
     let span = span_of(rule, item, region);
-    window_of(reaches_for(reaches, rule, region), span, near)
+    let window = window_of(reaches_for(reaches, rule, region), span, near);
+    if is_within(rule) {
+        behind(window, item)
+    } else {
+        window
+    }
 }
