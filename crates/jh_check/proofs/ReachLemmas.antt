@@ -4,6 +4,7 @@ use Rattle.std.specs.List.{Contains, AllWithin}
 use Rattle.std.specs.List.Sorted.{IsNonDecreasingBy}
 use Rattle.std.proofs.lemmas.Bool.{false≢true, cases_Bool, ltb-true, ltb-false, leb-true, cases_eq, cases_lt, cases_order}
 use Rattle.std.proofs.lemmas.List.{get_or_default, get_or_append_left, get_or_push, length_push, get_or-take, get_or-drop, length-take}
+use Rattle.std.proofs.lemmas.List.Elements.{Contains-append_left, Contains-push}
 use Rattle.jh_cellcfg.specs.declared.region.Region.{Region}
 use Rattle.jh_cellcfg.specs.declared.config.CellConfig.{CellConfig}
 use Rattle.jh_cellcfg.specs.Regions.{has_flags, is_page_mapped, is_comm, has_size}
@@ -45,23 +46,22 @@ one_more reaches y n P count before here k d h =
     ]
 
 -- a list that rises still does with one more that isn't below
-rises_more : (reaches : List Reach) (y : Reach) (n : ℕ) → length reaches ≡ n → IsNonDecreasingBy (λ (reach : Reach). reach.end) reaches → ((k : ℕ) (d : Reach) → k < n → (get_or reaches k d).end ≤ y.end) → IsNonDecreasingBy (λ (reach : Reach). reach.end) (reaches ++ y ∷ [])
-rises_more reaches y n count rising below = λ i j d h k.
+rises_more : (key : Reach → ℕ) (reaches : List Reach) (y : Reach) (n : ℕ) → length reaches ≡ n → IsNonDecreasingBy key reaches → ((k : ℕ) (d : Reach) → k < n → key (get_or reaches k d) ≤ key y) → IsNonDecreasingBy key (reaches ++ y ∷ [])
+rises_more key reaches y n count rising below = λ i j d h k.
     let size : length (reaches ++ y ∷ []) ≡ length reaches + 1 = length_push reaches y in
     let last = get_or_push reaches y d n count in
+    let P : Reach → Reach → Type 0 = λ s t. key s ≤ key t in
     elim (cases_eq j n) [
       | inl e ↦ elim (cases_eq i n) [
-        | inl f ↦ subst (λ j. (get_or (reaches ++ y ∷ []) i d).end ≤ (get_or (reaches ++ y ∷ []) j d).end) (f ∙ sym e) (omega arith)
+        | inl f ↦ subst (λ j. P (get_or (reaches ++ y ∷ []) i d) (get_or (reaches ++ y ∷ []) j d)) (f ∙ sym e) (omega arith)
         | inr m ↦
             let first = get_or_append_left reaches (y ∷ []) d i (omega arith) in
-            let b : (get_or reaches i d).end ≤ y.end = below i d (omega arith) in
-            let P : Reach → Reach → Type 0 = λ s t. s.end ≤ t.end in
+            let b : key (get_or reaches i d) ≤ key y = below i d (omega arith) in
             subst (λ j. P (get_or (reaches ++ y ∷ []) i d) (get_or (reaches ++ y ∷ []) j d)) (sym e) (subst (λ s. P s (get_or (reaches ++ y ∷ []) n d)) (sym first) (subst (λ t. P (get_or reaches i d) t) (sym last) b))
       ]
       | inr m ↦
           let first = get_or_append_left reaches (y ∷ []) d i (omega arith) in
           let second = get_or_append_left reaches (y ∷ []) d j (omega arith) in
-          let P : Reach → Reach → Type 0 = λ s t. s.end ≤ t.end in
           subst (λ s. P s (get_or (reaches ++ y ∷ []) j d)) (sym first) (subst (λ t. P (get_or reaches i d) t) (sym second) (rising i j d h (omega arith)))
     ]
 
@@ -90,48 +90,104 @@ reach_more spans reaches n end more x within is farther far before =
           one_more reaches y n (λ j r. (get_or spans j e).end ≤ r.end) before.count (λ j d i. before.ends j d e i) (subst (λ (s : Span). s.end ≤ more) (same e) far) k d h;
       below = λ k d h.
           one_more reaches y n (λ j r. r.end ≤ more) before.count (λ j d i. let b = before.below j d i in omega arith) (omega arith) k d h;
-      rising = rises_more reaches y n before.count before.rising (λ k d h. let b = before.below k d h in omega arith);
+      rising = rises_more (λ (reach : Reach). reach.end) reaches y n before.count before.rising (λ k d h. let b = before.below k d h in omega arith);
     }
 
--- the same where two reach: `far` is how far one does, and `end` how far two do
-pub record ArePairsTo (spans : List Span) (reaches : List Reach) (n far end : ℕ) : Type 0 where
-  pub count : length reaches ≡ n
-  pub starts : (k : ℕ) (d : Reach) (e : Span) → k < n → (get_or reaches k d).start ≡ (get_or spans k e).start
-  pub single : (k : ℕ) (e : Span) → k < n → (get_or spans k e).end ≤ far
-  pub pairs : (i j : ℕ) (d : Reach) (e : Span) (low : ℕ) → i < j → j < n → low < (get_or spans i e).end → low < (get_or spans j e).end → low < (get_or reaches j d).end
-  pub below : (k : ℕ) (d : Reach) → k < n → (get_or reaches k d).end ≤ end
-  pub rising : IsNonDecreasingBy (λ (reach : Reach). reach.end) reaches
+-- the span of the one place there
+abbrev pub place : ℕ → Span
+place start = record { start = start; end = start + 1; item = 0 }
 
-pub pairs_none : (spans : List Span) → ArePairsTo spans [] 0 0 0
+-- the first of the spans: `far` is how far one of them reaches, `end` how far two do, and `last` the greatest of their
+-- numbers; where one begins and another before it reaches beyond, that place is reached, by a number below neither's
+pub record ArePairsTo (spans : List Span) (reaches : List Reach) (n far end last : ℕ) : Type 0 where
+  pub items : (k : ℕ) (e : Span) → k < n → (get_or spans k e).item ≤ last
+  pub single : (k : ℕ) (e : Span) → k < n → (get_or spans k e).end ≤ far
+  pub pairs : (i j : ℕ) (e : Span) → i < j → j < n → (get_or spans j e).start < (get_or spans i e).end → (get_or spans j e).start < (get_or spans j e).end → (reached : IsReached reaches (place (get_or spans j e).start)) × ((get_or spans i e).item ≤ reached.by.item) × ((get_or spans j e).item ≤ reached.by.item)
+  pub before : (k m : ℕ) (d : Reach) (e : Span) → k < length reaches → n ≤ m → m < length spans → (get_or reaches k d).start ≤ (get_or spans m e).start
+  pub below : (k : ℕ) (d : Reach) → k < length reaches → (get_or reaches k d).end ≤ end
+  pub rising : IsRising reaches
+
+pub rising_none : IsRising []
+rising_none = record { starts = λ i j d h k. absurd (omega arith); ends = λ i j d h k. absurd (omega arith) }
+
+pub pairs_none : (spans : List Span) → ArePairsTo spans [] 0 0 0 0
 pairs_none spans = record {
-  count = refl;
-  starts = λ k d e h. absurd (omega arith);
+  items = λ k e h. absurd (omega arith);
   single = λ k e h. absurd (omega arith);
-  pairs = λ i j d e low h k. absurd (omega arith);
+  pairs = λ i j e h k a b. absurd (omega arith);
+  before = λ k m d e h a b. absurd (omega arith);
   below = λ k d h. absurd (omega arith);
-  rising = λ i j d h k. absurd (omega arith);
+  rising = rising_none;
 }
 
-pub pairs_more : (spans : List Span) (reaches : List Reach) (n far end farther more : ℕ) (x : Span) → n < length spans → x ≡ get_or spans n x → far ≤ farther → x.end ≤ farther → end ≤ more → ((low : ℕ) → low < far → low < x.end → low < more) → ArePairsTo spans reaches n far end → ArePairsTo spans (reaches ++ (record { start = x.start; end = more; item = x.item }) ∷ []) (n + 1) farther more
-pairs_more spans reaches n far end farther more x within is grows reaches_x rises both before =
-    let y : Reach = record { start = x.start; end = more; item = x.item } in
+single_more : (key : Span → ℕ) (spans : List Span) (n far farther : ℕ) (x : Span) → n < length spans → x ≡ get_or spans n x → far ≤ farther → key x ≤ farther → ((k : ℕ) (e : Span) → k < n → key (get_or spans k e) ≤ far) → (k : ℕ) (e : Span) → k < n + 1 → key (get_or spans k e) ≤ farther
+single_more key spans n far farther x within is grows reaches_x single k e h =
+    elim (cases_eq k n) [
+      | inl f ↦ subst (λ j. key (get_or spans j e) ≤ farther) (sym f) (subst (λ (s : Span). key s ≤ farther) (is ∙ get_or_default spans n x e within) reaches_x)
+      | inr m ↦ let b = single k e (omega arith) in omega arith
+    ]
+
+-- one more, beyond whose start two of them don't reach
+pub pairs_same : (spans : List Span) (reaches : List Reach) (n far end last farther more later : ℕ) (x : Span) → n < length spans → x ≡ get_or spans n x → far ≤ farther → x.end ≤ farther → end ≤ more → last ≤ later → x.item ≤ later → ((low : ℕ) → low < far → low < x.end → low < more) → more ≤ x.start → ArePairsTo spans reaches n far end last → ArePairsTo spans reaches (n + 1) farther more later
+pairs_same spans reaches n far end last farther more later x within is grows reaches_x rises counts counts_x both none before =
+    let same : (e : Span) → x ≡ get_or spans n e = λ e. is ∙ get_or_default spans n x e within in
+    record {
+      items = single_more (λ (s : Span). s.item) spans n last later x within is counts counts_x before.items;
+      single = single_more (λ (s : Span). s.end) spans n far farther x within is grows reaches_x before.single;
+      pairs = λ i j e h k a b. elim (cases_eq j n) [
+        | inl f ↦
+            let s : get_or spans j e ≡ x = ap (λ j. get_or spans j e) f ∙ sym (same e) in
+            let P : Span → Type 0 = λ s. s.start < (get_or spans i e).end in
+            let Q : Span → Type 0 = λ s. s.start < s.end in
+            let first = before.single i e (omega arith) in
+            let low : x.start < (get_or spans i e).end = subst P s a in
+            let high : x.start < x.end = subst Q s b in
+            let c : x.start < more = both x.start (omega arith) high in
+            absurd (omega arith)
+        | inr m ↦ before.pairs i j e h (omega arith) a b
+      ];
+      before = λ k m d e h a b. before.before k m d e h (omega arith) b;
+      below = λ k d h. let b = before.below k d h in omega arith;
+      rising = before.rising;
+    }
+
+-- what is reached still is by more
+abbrev reached_more : (reaches more : List Reach) (span : Span) → IsReached reaches span → IsReached (reaches ++ more) span
+reached_more reaches more span reached = record {
+  by = reached.by;
+  is = Contains-append_left reaches more reached.by reached.is;
+  begins = reached.begins;
+  ends = reached.ends;
+}
+
+-- one more, beyond whose start two of them do
+pub pairs_more : (spans : List Span) (reaches : List Reach) (n far end last farther more later : ℕ) (x : Span) → InOrder spans → n < length spans → x ≡ get_or spans n x → far ≤ farther → x.end ≤ farther → end ≤ more → last ≤ later → x.item ≤ later → x.start < more → ArePairsTo spans reaches n far end last → ArePairsTo spans (reaches ++ (record { start = x.start; end = more; item = later }) ∷ []) (n + 1) farther more later
+pairs_more spans reaches n far end last farther more later x order within is grows reaches_x rises counts counts_x some before =
+    let y : Reach = record { start = x.start; end = more; item = later } in
     let same : (e : Span) → x ≡ get_or spans n e = λ e. is ∙ get_or_default spans n x e within in
     let size : length (reaches ++ y ∷ []) ≡ length reaches + 1 = length_push reaches y in
+    let here : IsReached (reaches ++ y ∷ []) (place x.start) = record { by = y; is = Contains-push reaches y; begins = omega arith; ends = some } in
     record {
-      count = size ∙ ap (λ m. m + 1) before.count;
-      starts = λ k d e h.
-          one_more reaches y n (λ j r. r.start ≡ (get_or spans j e).start) before.count (λ j d i. before.starts j d e i) (ap (λ (s : Span). s.start) (same e)) k d h;
-      single = λ k e h. elim (cases_eq k n) [
-        | inl f ↦ subst (λ j. (get_or spans j e).end ≤ farther) (sym f) (subst (λ (s : Span). s.end ≤ farther) (same e) reaches_x)
-        | inr m ↦ let b = before.single k e (omega arith) in omega arith
+      items = single_more (λ (s : Span). s.item) spans n last later x within is counts counts_x before.items;
+      single = single_more (λ (s : Span). s.end) spans n far farther x within is grows reaches_x before.single;
+      pairs = λ i j e h k a b. elim (cases_eq j n) [
+        | inl f ↦
+            let s : x ≡ get_or spans j e = same e ∙ ap (λ j. get_or spans j e) (sym f) in
+            let first = before.items i e (omega arith) in
+            let low : (get_or spans i e).item ≤ later = omega arith in
+            subst (λ (s : Span). (reached : IsReached (reaches ++ y ∷ []) (place s.start)) × ((get_or spans i e).item ≤ reached.by.item) × (s.item ≤ reached.by.item)) s (here, low, counts_x)
+        | inr m ↦
+            let r = before.pairs i j e h (omega arith) a b in
+            (reached_more reaches (y ∷ []) (place (get_or spans j e).start) r.0, r.1, r.2)
       ];
-      pairs = λ i j d e low h k p q.
-          one_more reaches y n (λ j r. i < j → low < (get_or spans j e).end → low < r.end) before.count (λ j d m h q. before.pairs i j d e low h m p q) (λ h q.
-          let b = before.single i e h in
-          both low (omega arith) (subst (λ (s : Span). low < s.end) (sym (same e)) q)) j d k h q;
+      before = λ k m d e h a b.
+          one_more reaches y (length reaches) (λ j r. r.start ≤ (get_or spans m e).start) refl (λ j d i. before.before j m d e i (omega arith) b) (subst (λ (s : Span). s.start ≤ (get_or spans m e).start) (sym (same e)) (order n m e (omega arith) b)) k d (omega arith);
       below = λ k d h.
-          one_more reaches y n (λ j r. r.end ≤ more) before.count (λ j d i. let b = before.below j d i in omega arith) (omega arith) k d h;
-      rising = rises_more reaches y n before.count before.rising (λ k d h. let b = before.below k d h in omega arith);
+          one_more reaches y (length reaches) (λ j r. r.end ≤ more) refl (λ j d i. let b = before.below j d i in omega arith) (omega arith) k d (omega arith);
+      rising = record {
+        starts = rises_more (λ (reach : Reach). reach.start) reaches y (length reaches) refl before.rising.starts (λ k d h. subst (λ (s : Span). (get_or reaches k d).start ≤ s.start) (sym is) (before.before k n d x h (omega arith) within));
+        ends = rises_more (λ (reach : Reach). reach.end) reaches y (length reaches) refl before.rising.ends (λ k d h. let b = before.below k d h in omega arith);
+      };
     }
 
 -- ---- at the end of all
@@ -150,12 +206,6 @@ reach_rises spans reaches n end low high order all = record {
   ends = all.rising;
 }
 
-pub pairs_rise : (spans : List Span) (reaches : List Reach) (n far end : ℕ) → length spans ≤ n → n ≤ length spans → InOrder spans → ArePairsTo spans reaches n far end → IsRising reaches
-pairs_rise spans reaches n far end low high order all = record {
-  starts = starts_rise spans reaches n all.count low high all.starts order;
-  ends = all.rising;
-}
-
 pub reach_tells : (spans : List Span) (reaches : List Reach) (n end : ℕ) → length spans ≤ n → IsReachTo spans reaches n end → TellsEach spans reaches
 reach_tells spans reaches n end low all = λ x z cx meets.
     let none : Reach = record { start = 0; end = 0; item = 0 } in
@@ -169,41 +219,33 @@ reach_tells spans reaches n end low all = λ x z cx meets.
     let c : by.item ≡ x.item = subst (λ (s : Span). by.item ≡ s.item) cx.2 (all.items k none x (let w = cx.1 in omega arith)) in
     (record { by = by; is = (k, here, get_or_default reaches k by none here); begins = omega arith; ends = omega arith }, c)
 
-pub pairs_tell : (spans : List Span) (reaches : List Reach) (n far end : ℕ) → length spans ≤ n → ArePairsTo spans reaches n far end → TellsPairs spans reaches
-pairs_tell spans reaches n far end low all = λ x y cx cy differ some meets.
-    let none : Reach = record { start = 0; end = 0; item = 0 } in
+-- what has a place is reached where that is
+abbrev reached_at : (reaches : List Reach) (span : Span) (start : ℕ) → span.start ≤ start → start < span.end → IsReached reaches (place start) → IsReached reaches span
+reached_at reaches span start low high reached =
+    let a = reached.begins in
+    let b = reached.ends in
+    record { by = reached.by; is = reached.is; begins = omega arith; ends = omega arith }
+
+pub pairs_tell : (spans : List Span) (reaches : List Reach) (n far end last : ℕ) → length spans ≤ n → InOrder spans → ArePairsTo spans reaches n far end last → TellsPairs spans reaches
+pairs_tell spans reaches n far end last low order all = λ x y cx cy differ some other meets.
     let p = cx.0 in
     let q = cy.0 in
     let first : x.start < y.end = ltb-true x.start y.end (and_left (nat_lt x.start y.end) (nat_lt y.start x.end) meets) in
     let second : y.start < x.end = ltb-true y.start x.end (and_right (nat_lt x.start y.end) (nat_lt y.start x.end) meets) in
-    let count = all.count in
     let wx = cx.1 in
     let wy = cy.1 in
+    let ex : get_or spans p x ≡ x = cx.2 in
     let ey : get_or spans q x ≡ y = get_or_default spans q x y cy.1 ∙ cy.2 in
-    let of_x : x.start < (get_or spans p x).end = subst (λ (s : Span). x.start < s.end) (sym cx.2) some in
-    let of_y : x.start < (get_or spans q x).end = subst (λ (s : Span). x.start < s.end) (sym ey) first in
+    let P : Span → Span → Type 0 = λ s t. t.start < s.end → t.start < t.end → (reached : IsReached reaches (place t.start)) × (s.item ≤ reached.by.item) × (t.item ≤ reached.by.item) in
     elim (cases_order p q) [
       | inl e ↦ absurd (differ (ap (λ (s : Span). s.item) (sym cx.2 ∙ ap (λ k. get_or spans k x) e ∙ ey)))
       | inr (inl h) ↦
-          let by = get_or reaches q none in
-          let here : q < length reaches = omega arith in
-          let a : by.start ≡ y.start = subst (λ (s : Span). by.start ≡ s.start) ey (all.starts q none x (omega arith)) in
-          record {
-            by = by;
-            is = (q, here, get_or_default reaches q by none here);
-            begins = omega arith;
-            ends = all.pairs p q none x x.start h (omega arith) of_x of_y;
-          }
+          let o : x.start ≤ y.start = subst (λ (t : Span). x.start ≤ t.start) ey (subst (λ (s : Span). s.start ≤ (get_or spans q x).start) ex (order p q x (omega arith) wy)) in
+          let r = subst (λ t. P x t) ey (subst (λ s. P s (get_or spans q x)) ex (all.pairs p q x h (omega arith))) second other in
+          (reached_at reaches x y.start o second r.0, r.2)
       | inr (inr h) ↦
-          let by = get_or reaches p none in
-          let here : p < length reaches = omega arith in
-          let a : by.start ≡ x.start = subst (λ (s : Span). by.start ≡ s.start) cx.2 (all.starts p none x (omega arith)) in
-          record {
-            by = by;
-            is = (p, here, get_or_default reaches p by none here);
-            begins = omega arith;
-            ends = all.pairs q p none x x.start h (omega arith) of_y of_x;
-          }
+          let r = subst (λ t. P y t) ex (subst (λ s. P s (get_or spans p x)) ey (all.pairs q p x h (omega arith))) first some in
+          (reached_at reaches x x.start (omega arith) some r.0, r.1)
     ]
 
 -- ---- regions
@@ -258,7 +300,8 @@ others_each rule pass b cell spans reaches has tells = λ one s d own passes wit
     let other = spot b cell s y in
     let f = pair_follows rule pass one other passes breaks in
     let t = tells (span_of rule s y) (span_of rule one.item one.region) (has s d within f) (meet_swap (span_of rule one.item one.region) (span_of rule s y) (pair_meets rule one other breaks)) in
-    (t.0, λ w. t.1 ∙ span_item rule s y)
+    let same : t.0.by.item ≡ s = t.1 ∙ span_item rule s y in
+    (t.0, λ w. same, omega arith)
 
 pub others_pairs : (rule : Rule) (pass : Bool) (b : ℕ) (cell : CellConfig) (spans : List Span) (reaches : List Reach) → is_within rule ≡ true → HasOthers rule pass b cell.memory_regions spans → TellsPairs spans reaches → TellsOthers rule pass b cell reaches
 others_pairs rule pass b cell spans reaches w has tells = λ one s d own passes within breaks.
@@ -276,7 +319,8 @@ others_pairs rule pass b cell spans reaches w has tells = λ one s d own passes 
     let g : one.item ≡ s = sym (span_item rule one.item one.region) ∙ e ∙ span_item rule s y in
     omega arith
     in
-    (tells (span_of rule one.item one.region) (span_of rule s y) cx cy differ (span_some rule one.item one.region w t) (pair_meets rule one other breaks), λ f. absurd (not_both (is_within rule) w f))
+    let r = tells (span_of rule one.item one.region) (span_of rule s y) cx cy differ (span_some rule one.item one.region w t) (span_some rule s y w (pair_second rule one other w breaks)) (pair_meets rule one other breaks) in
+    (r.0, λ f. absurd (not_both (is_within rule) w f), subst (λ n. n ≤ r.0.by.item) (span_item rule s y) r.1)
 
 -- regions that stand apart break no rule about two of them
 pub others_apart : (rule : Rule) (pass : Bool) (b : ℕ) (cell : CellConfig) → is_within rule ≡ true → StandApart rule cell.memory_regions → TellsOthers rule pass b cell []
@@ -313,9 +357,6 @@ measured rule b cell reaches rises any unshared_rises unshared = record {
   unshared_rises = of_either (λ xs. IsRising xs) reaches rises unshared_rises;
   unshared = of_either (λ xs. TellsOthers rule true b cell xs) reaches (λ one s d own passes within breaks. any one s d own (λ e. absurd (false≢true e)) within breaks) unshared;
 }
-
-pub rising_none : IsRising []
-rising_none = record { starts = λ i j d h k. absurd (omega arith); ends = λ i j d h k. absurd (omega arith) }
 
 -- ---- the search
 
@@ -367,7 +408,7 @@ last_reaches reaches span n x d rising bound behind before cx begins ends =
 reached_any : (rule : Rule) (b : ℕ) (other : CellConfig) (reaches : Reaches) (one : Spot) (s : ℕ) (d : Region) → AreOf rule b other reaches → IsOwn one b other → s < length other.memory_regions → pair_breaks rule one (spot b other s (get_or other.memory_regions s d)) ≡ true → IsReached reaches.any.items (span_of rule one.item one.region)
 reached_any rule b other reaches one s d of own within breaks = (of.any one s d own (λ e. absurd (false≢true e)) within breaks).0
 
-reached_for : (rule : Rule) (b : ℕ) (other : CellConfig) (reaches : Reaches) (one : Spot) (s : ℕ) (d : Region) → AreOf rule b other reaches → IsOwn one b other → s < length other.memory_regions → pair_breaks rule one (spot b other s (get_or other.memory_regions s d)) ≡ true → (reached : IsReached (reaches_for rule one.region reaches) (span_of rule one.item one.region)) × (is_within rule ≡ false → reached.by.item ≡ s)
+reached_for : (rule : Rule) (b : ℕ) (other : CellConfig) (reaches : Reaches) (one : Spot) (s : ℕ) (d : Region) → AreOf rule b other reaches → IsOwn one b other → s < length other.memory_regions → pair_breaks rule one (spot b other s (get_or other.memory_regions s d)) ≡ true → (reached : IsReached (reaches_for rule one.region reaches) (span_of rule one.item one.region)) × (is_within rule ≡ false → reached.by.item ≡ s) × (s ≤ reached.by.item)
 reached_for rule b other reaches one s d of own within breaks =
     elim (cases_Bool (passes_shared rule one.region)) [
       | inl p ↦ rw p (of.unshared one s d own (λ e. p) within breaks)
@@ -380,13 +421,14 @@ beside_unreached rule one b other reaches of own unreached =
     beside_none rule one b other (λ s d within breaks. unreached (pair_takes_part rule one (spot b other s (get_or other.memory_regions s d)) breaks) (reached_any rule b other reaches one s d of own within breaks) (reached_for rule b other reaches one s d of own within breaks).0)
 
 -- a window in which those are that reach it has the numbers of those that break the rule with it
-pub window_hits : (rule : Rule) (one : Spot) (b : ℕ) (other : CellConfig) (reaches : Reaches) (window : Window) → AreOf rule b other reaches → IsOwn one b other → (is_within rule ≡ true → (s : ℕ) → s < 2 ^ 64 → IsIn window s) → (is_within rule ≡ false → (x : Reach) → Contains (reaches_for rule one.region reaches) x → x.start < (span_of rule one.item one.region).end → (span_of rule one.item one.region).start < x.end → IsIn window x.item) → HasHits rule one b other window
-window_hits rule one b other reaches window of own all told = λ s d within small breaks.
+pub window_hits : (rule : Rule) (one : Spot) (b : ℕ) (other : CellConfig) (reaches : Reaches) (window : Window) → AreOf rule b other reaches → IsOwn one b other → (is_within rule ≡ true → (x : Reach) (s : ℕ) → Contains (reaches_for rule one.region reaches) x → x.start < (span_of rule one.item one.region).end → (span_of rule one.item one.region).start < x.end → one.item < s → s ≤ x.item → IsIn window s) → (is_within rule ≡ false → (x : Reach) → Contains (reaches_for rule one.region reaches) x → x.start < (span_of rule one.item one.region).end → (span_of rule one.item one.region).start < x.end → IsIn window x.item) → HasHits rule one b other window
+window_hits rule one b other reaches window of own behind told = λ s d within small breaks.
+    let r = reached_for rule b other reaches one s d of own within breaks in
     elim (cases_Bool (is_within rule)) [
-      | inl w ↦ all w s small
-      | inr w ↦
-          let r = reached_for rule b other reaches one s d of own within breaks in
-          subst (λ n. IsIn window n) (r.1 w) (told w r.0.by r.0.is r.0.begins r.0.ends)
+      | inl w ↦
+          let low = ltb-true one.item s (pair_order rule one (spot b other s (get_or other.memory_regions s d)) w breaks) in
+          behind w r.0.by s r.0.is r.0.begins r.0.ends low r.2
+      | inr w ↦ subst (λ n. IsIn window n) (r.1 w) (told w r.0.by r.0.is r.0.begins r.0.ends)
     ]
 
 -- the items that are passed over give nothing

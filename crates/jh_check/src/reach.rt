@@ -1,18 +1,18 @@
 //! How far the regions of a cell reach, by which those that meet none of them are told at once.
-ghost use Rattle.std.specs.Prelude.{◌≡◌, ◌≢◌, ◌<◌, ◌≤◌, ◌-◌, ◌^◌, ℕ, true, false, length, slice_index_or, OnOk, IfOk, IfSome, Contains};
+ghost use Rattle.std.specs.Prelude.{◌≡◌, ◌≢◌, ◌<◌, ◌≤◌, ◌-◌, ℕ, true, false, length, slice_index_or, OnOk, IfOk, IfSome, Contains};
 ghost use Rattle.jh_check.specs.declared.spans.Span.{Span};
 ghost use Rattle.jh_check.specs.declared.reach.Reach.{Reach};
 ghost use Rattle.jh_check.specs.Spans.{is_within, joins, span_of};
 ghost use Rattle.jh_check.specs.Private.Reaches.{passes_shared, may_follow, unshared_of, reaches_for, HasOthers, InOrder, IsRising, TellsEach, TellsPairs, TellsOthers, AreOf, IsIn};
 
 use crate::rule::Rule;
-use crate::spans::{Span, are_apart, span_of, stand_apart};
+use crate::spans::{Span, span_of, stand_apart};
 use jh_cellcfg::{CellConfig, Region, RegionFlags};
 use jh_num::NoMemory;
 use std::alloc::Global;
 
 /// The region with that number begins at `start`. Of those that begin no later, the one that reaches farthest does to
-/// `end`, or the one that does next to it.
+/// `end`. Where two of a cell meet, the one next to it does, and the number is the greatest of theirs.
 #[derive(Clone, Copy, PartialEq, Eq, Debug)]
 pub(crate) struct Reach {
     pub(crate) start: u64,
@@ -122,38 +122,29 @@ fn of_each(alloc: Global, spans: &[Span]) -> Result<Vec<Reach>, NoMemory>
     Ok(reaches)
 }
 
-/// To each span, how far two of those reach that begin no later.
+/// How far two of those reach that begin no later than a span, for each span beyond whose start they do.
 fn of_pairs(alloc: Global, spans: &[Span]) -> Result<Vec<Reach>, NoMemory>
     requires { InOrder spans.now }
     ensures rising { IfOk result (λ reaches. IsRising reaches.items) }
     ensures tells { IfOk result (λ reaches. TellsPairs spans.now reaches.items) }
 {
-    let mut reaches = Vec::with_capacity(alloc, spans.len())?;
+    let mut reaches = Vec::new(alloc);
     let mut farthest = 0;
     let mut end = 0;
+    let mut item = 0;
     for span in spans {
         end = span.end.min(farthest).max(end);
         farthest = span.end.max(farthest);
-        reaches.push(Reach {
-            start: span.start,
-            end,
-            item: span.item,
-        })?;
+        item = span.item.max(item);
+        if u128::from(span.start) < end {
+            reaches.push(Reach {
+                start: span.start,
+                end,
+                item,
+            })?;
+        }
     }
     Ok(reaches)
-}
-
-/// The same; none, where no two of the spans meet.
-fn of_overlaps(alloc: Global, spans: &[Span]) -> Result<Vec<Reach>, NoMemory>
-    requires { InOrder spans.now }
-    ensures rising { IfOk result (λ reaches. IsRising reaches.items) }
-    ensures tells { IfOk result (λ reaches. TellsPairs spans.now reaches.items) }
-{
-    if are_apart(spans) {
-        Ok(Vec::new(alloc))
-    } else {
-        of_pairs(alloc, spans)
-    }
 }
 
 /// The same of the cell's regions; none, where these stand apart.
@@ -173,7 +164,7 @@ fn of_own(
         return Ok(Vec::new(alloc));
     }
     let spans = sorted(alloc, rule, pass, b, regions)?;
-    of_overlaps(alloc, spans.as_slice())
+    of_pairs(alloc, spans.as_slice())
 }
 
 /// How far the cell's regions reach that may follow.
@@ -336,8 +327,18 @@ fn around(reaches: &[Reach]) -> Window
     Window { first, last }
 }
 
-/// The numbers of those regions with which the region, of that number in its cell, may break the rule: of all, where
-/// the rule is about one cell. `near` is how many may lie before its end.
+/// Those of the window behind that number.
+fn behind(window: Window, item: usize) -> Window
+    ensures { (s : ℕ) → item < s → s ≤ window.last → IsIn result s }
+{
+    Window {
+        first: item.saturating_add(1),
+        last: window.last,
+    }
+}
+
+/// The numbers of those regions with which the region, of that number in its cell, may break the rule: only of ones
+/// behind it, where the rule is about one cell. `near` is how many may lie before its end.
 pub(crate) fn find_window(
     reaches: &Reaches,
     rule: Rule,
@@ -347,16 +348,16 @@ pub(crate) fn find_window(
 ) -> Window
     requires any { IsRising reaches.now.any.items }
     requires unshared { IsRising (unshared_of reaches.now) }
-    ensures all { is_within rule ≡ true → (s : ℕ) → s < 2 ^ 64 → IsIn result s }
+    ensures behind { is_within rule ≡ true → (x : Reach) (s : ℕ) → Contains (reaches_for rule region.now reaches.now) x
+        → x.start < (span_of rule item region.now).end → (span_of rule item region.now).start < x.end → item < s → s ≤ x.item → IsIn result s }
     ensures told { is_within rule ≡ false → (x : Reach) → Contains (reaches_for rule region.now reaches.now) x
         → x.start < (span_of rule item region.now).end → (span_of rule item region.now).start < x.end → IsIn result x.item }
 {
-    if is_within(rule) {
-        return Window {
-            first: 0,
-            last: usize::MAX,
-        };
-    }
     let span = span_of(rule, item, region);
-    window_of(reaches_for(reaches, rule, region), span, near)
+    let window = window_of(reaches_for(reaches, rule, region), span, near);
+    if is_within(rule) {
+        behind(window, item)
+    } else {
+        window
+    }
 }

@@ -55,22 +55,24 @@ pub record IsReached (reaches : List Reach) (span : Span) : Type 0 where
 abbrev pub TellsEach : List Span → List Reach → Type 0
 TellsEach spans reaches = (x z : Span) → Contains spans x → spans_meet x z ≡ true → (reached : IsReached reaches z) × (reached.by.item ≡ x.item)
 
--- one of the spans that meets another of them is reached
+-- one of the spans that meets another of them is reached, by a number that isn't below the other's, where neither is
+-- empty
 abbrev pub TellsPairs : List Span → List Reach → Type 0
 TellsPairs spans reaches =
-    (x y : Span) → Contains spans x → Contains spans y → x.item ≢ y.item → x.start < x.end → spans_meet x y ≡ true → IsReached reaches x
+    (x y : Span) → Contains spans x → Contains spans y → x.item ≢ y.item → x.start < x.end → y.start < y.end → spans_meet x y ≡ true
+    → (reached : IsReached reaches x) × (y.item ≤ reached.by.item)
 
 -- if the region is of the cell of that number, it is the one of its own number there
 abbrev pub IsOwn : Spot → ℕ → CellConfig → Type 0
 IsOwn one b other = one.cell ≡ b → (one.item < length other.memory_regions) × (one.region ≡ slice_index_or other.memory_regions one.item one.region)
 
--- a region that breaks the rule with one of the cell is reached, and, where the rule is about two cells, by the
--- reach of that one's number; where `pass` holds, each region that may meet shared ones
+-- a region that breaks the rule with one of the cell is reached, by that one's number, or, where the rule is about one
+-- cell, by a number that isn't below it; where `pass` holds, each region that may meet shared ones
 abbrev pub TellsOthers : Rule → Bool → ℕ → CellConfig → List Reach → Type 0
 TellsOthers rule pass b other reaches =
     (one : Spot) (s : ℕ) (d : Region) → IsOwn one b other → (pass ≡ true → passes_shared rule one.region ≡ true) → s < length other.memory_regions
     → pair_breaks rule one (spot b other s (slice_index_or other.memory_regions s d)) ≡ true
-    → (reached : IsReached reaches (span_of rule one.item one.region)) × (is_within rule ≡ false → reached.by.item ≡ s)
+    → (reached : IsReached reaches (span_of rule one.item one.region)) × (is_within rule ≡ false → reached.by.item ≡ s) × (s ≤ reached.by.item)
 
 -- those by which a region is looked for that may meet shared ones: all, where no others are known
 abbrev pub unshared_of : Reaches → List Reach
