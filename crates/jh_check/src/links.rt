@@ -47,7 +47,23 @@ fn put(partners: &mut Vec<Option<usize>>, item: usize, mate: usize)
     partners[item] = Some(mate);
 }
 
-/// Notes the sections of those two devices as partners, if the devices are linked.
+/// Whether so many sections of the two devices seem to be noted as partners, as the first and the last are.
+fn seem_noted(
+    partners: &[Option<usize>],
+    device: &PciDevice,
+    mate: &PciDevice,
+    count: usize,
+) -> bool
+    requires { count < 258 }
+{
+    let start = device.shmem_regions_start as usize;
+    let mate_start = mate.shmem_regions_start as usize;
+    let last = count.saturating_sub(1);
+    is_noted(partner_of(partners, start), mate_start)
+        && is_noted(partner_of(partners, start + last), mate_start + last)
+}
+
+/// Notes the sections of those two devices as partners, if the devices are linked and they aren't noted yet.
 fn note(partners: &mut Vec<Option<usize>>, one: &CellConfig, n: usize, other: &CellConfig, m: usize)
     requires one { n < length one.now.pci_devices }
     requires other { m < length other.now.pci_devices }
@@ -59,9 +75,13 @@ fn note(partners: &mut Vec<Option<usize>>, one: &CellConfig, n: usize, other: &C
     if !are_linked(device, mate) {
         return;
     }
+    let count = section_count(device).min(section_count(mate));
+    if seem_noted(partners.as_slice(), device, mate, count) {
+        return;
+    }
     let start = device.shmem_regions_start as usize;
     let mate_start = mate.shmem_regions_start as usize;
-    for k in 0..section_count(device).min(section_count(mate)) {
+    for k in 0..count {
         put(partners, start + k, mate_start + k);
     }
 }
