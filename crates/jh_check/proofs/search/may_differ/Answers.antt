@@ -1,4 +1,4 @@
-use Rattle.std.proofs.Common.{◌≡◌, true, take, sym, subst, ◌∙◌}
+use Rattle.std.proofs.Common.{◌≡◌, true, take, subst}
 use Rattle.std.proofs.lemmas.Bool.{not-false}
 use Rattle.jh_check.specs.Cells.{cells_of}
 use Rattle.jh_check.specs.Devices.{agrees_with_all}
@@ -7,7 +7,7 @@ use Rattle.jh_check.proofs.search.may_differ.Goals as goal
 
 pub returns-then-not-is_marked : goal.returns-then-not-is_marked
 returns-then-not-is_marked c = λ f.
-    agrees_unmarked (take c.args.a (cells_of c.args.setup.now)) c.args.marks.now c.args.cell.now.memory_regions c.args.device.now c.requires.bdfs (sym c.is_marked.ensures ∙ c.if-not-is_marked.true)
+    agrees_unmarked (take c.args.a (cells_of c.args.setup.now)) c.args.marks.now c.args.cell.now.memory_regions c.args.device.now c.requires.bdfs (c.is_marked.ensures c.if-not-is_marked.true)
 
 pub returns : goal.returns
 returns c = λ f.
