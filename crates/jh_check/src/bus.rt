@@ -1,6 +1,6 @@
 //! The bdfs at which devices of cells stand, by which most devices are told at once to be linked with none, and to be
 //! the first of their cell there.
-ghost use Rattle.std.specs.Prelude.{◌≡◌, ◌≢◌, ◌+◌, ◌<◌, ℕ, true, false, length, slice_index_or, IfOk};
+ghost use Rattle.std.specs.Prelude.{◌≡◌, ◌≢◌, ◌+◌, ◌<◌, ℕ, false, length, slice_index_or, IfOk};
 
 use jh_cellcfg::PciDevice;
 use jh_num::NoMemory;

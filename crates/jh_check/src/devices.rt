@@ -235,7 +235,7 @@ fn is_same_memory(one: &Region, other: &Region) -> bool
 }
 
 /// Whether all at the same offset are the same memory.
-fn are_same_memory(ones: &[Region], others: &[Region]) -> bool
+pub(crate) fn are_same_memory(ones: &[Region], others: &[Region]) -> bool
     ensures { result ≡ are_same_memory ones.now others.now }
 {
     if ones.len() != others.len() {

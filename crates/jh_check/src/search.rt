@@ -8,6 +8,7 @@ ghost use Rattle.jh_check.specs.Private.Reaches.{HasHits};
 ghost use Rattle.jh_check.specs.Private.Links.{IsPartner};
 ghost use Rattle.jh_check.specs.Devices.{agrees_with_all};
 ghost use Rattle.jh_check.specs.Private.Bus.{HasBdfs};
+ghost use Rattle.jh_check.specs.Private.Fits.{AreSure, IsSeated};
 ghost use Rattle.jh_cellcfg.specs.declared.config.PciDevice.{PciDevice};
 ghost use Rattle.jh_check.specs.Private.Seats.{HasSeats, AreByBdf};
 ghost use Rattle.jh_check.specs.Private.Sound.{AreSound, AreSoundEach};
@@ -17,6 +18,7 @@ use crate::bus::{is_marked, is_marked_by, mark, marks};
 use crate::checking::MAX_FINDINGS;
 use crate::devices::{agrees_with_linked, cpus_break, device_breaks};
 use crate::finding::{Finding, HYPERVISOR};
+use crate::fits::{is_sure, sure_fits};
 use crate::links::is_noted;
 use crate::pairs::{Site, pair_breaks};
 use crate::reach::Window;
@@ -165,11 +167,12 @@ pub(crate) fn in_hypervisor(
 }
 
 /// Whether the device may not fit one that is linked with it, of a cell with a lower number. The bdfs of the devices
-/// of these are marked.
+/// of these are marked, and those are told at which all devices fit each other.
 fn may_differ(
     setup: &Setup,
     marks: &[u8],
     seats: &[Seat],
+    sure: &[bool],
     a: u32,
     cell: &CellConfig,
     device: &PciDevice,
@@ -179,9 +182,15 @@ fn may_differ(
     requires bdfs { HasBdfs (take a (cells_of setup.now)) marks.now }
     requires seats { HasSeats (cells_of setup.now) seats.now }
     requires order { AreByBdf seats.now }
+    requires told { length sure.now ≡ 65536 }
+    requires sure { AreSure (cells_of setup.now) seats.now sure.now }
+    requires seated { IsSeated (cells_of setup.now) seats.now a cell.now device.now }
     ensures { result ≡ false → agrees_with_all (take a (cells_of setup.now)) cell.now.memory_regions device.now ≡ true }
 {
     if !is_marked(marks, device) {
+        return false;
+    }
+    if is_sure(sure, device) {
         return false;
     }
     !agrees_with_linked(setup, a, cell.memory_regions.as_slice(), device, seats)
@@ -193,15 +202,19 @@ fn in_devices_of(
     setup: &Setup,
     marks: &mut Vec<u8>,
     seats: &[Seat],
+    sure: &[bool],
     a: u32,
     cell: &CellConfig,
 ) -> Result<(), NoMemory>
-    requires count { a ≤ length (cells_of setup.now) }
     requires few { a < 255 }
     requires length { length marks.old.items ≡ 65536 }
     requires bdfs { HasBdfs (take a (cells_of setup.now)) marks.old.items }
     requires seats { HasSeats (cells_of setup.now) seats.now }
     requires order { AreByBdf seats.now }
+    requires told { length sure.now ≡ 65536 }
+    requires sure { AreSure (cells_of setup.now) seats.now sure.now }
+    requires among { a < length (cells_of setup.now) }
+    requires one { cell.now ≡ slice_index_or (cells_of setup.now) a cell.now }
     ensures told { OnOk result (capped found.new ≡ capped (found.old ++ in_devices_of (take a (cells_of setup.now)) a cell.now)) }
     ensures length { OnOk result (length marks.new.items ≡ 65536) }
     ensures kept { OnOk result ((bdf : ℕ) → 0 < slice_index_or marks.old.items bdf 0 → 0 < slice_index_or marks.new.items bdf 0) }
@@ -210,7 +223,7 @@ fn in_devices_of(
     let devices = cell.pci_devices.as_slice();
     for (n, device) in devices.iter().enumerate() {
         let known = marks.as_slice();
-        let doubted = may_differ(setup, known, seats, a, cell, device);
+        let doubted = may_differ(setup, known, seats, sure, a, cell, device);
         let repeated = is_marked_by(known, a, device);
         let breaks = device_breaks(setup, a, cell, &devices[..n], device, repeated, doubted);
         put(found, breaks, finding(Rule::Shmem, a, n, 0, 0))?;
@@ -230,9 +243,18 @@ pub(crate) fn in_devices(
 {
     let each = seats_of(alloc, setup)?;
     let seats = each.as_slice();
+    let sure = sure_fits(alloc, setup, seats)?;
     let mut marks = marks(alloc)?;
     for a in 0..setup.count() {
-        in_devices_of(found, setup, &mut marks, seats, a, setup.cell(a))?;
+        in_devices_of(
+            found,
+            setup,
+            &mut marks,
+            seats,
+            sure.as_slice(),
+            a,
+            setup.cell(a),
+        )?;
     }
     Ok(())
 }

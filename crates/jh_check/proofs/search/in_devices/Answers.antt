@@ -1,6 +1,6 @@
-use Rattle.std.proofs.Common.{◌≡◌, ◌<◌, ◌++◌, List, length, take, get_or, refl, sym, subst, arith}
-use Rattle.jh_check.specs.Private.Bus.{HasBdfs}
+use Rattle.std.proofs.Common.{◌≡◌, ◌<◌, ◌++◌, length, get_or, refl, sym, subst, arith}
 use Rattle.jh_check.specs.Private.Seats.{HasSeats, AreByBdf}
+use Rattle.jh_check.specs.Private.Fits.{AreSure}
 use Rattle.jh_check.specs.Cells.{cells_of}
 use Rattle.jh_check.specs.Lists.{capped}
 use Rattle.jh_check.specs.Findings.{in_devices, in_devices_at}
@@ -36,3 +36,10 @@ in_devices_of-requires-clause-seats c = subst (λ seats. HasSeats (cells_of c.ar
 
 pub in_devices_of-requires-clause-order : goal.in_devices_of-requires-clause-order
 in_devices_of-requires-clause-order c = subst AreByBdf (sym c.as_slice-seats.ensures.value) c.in_ok-each.ensures.order
+
+pub sure_fits-requires-clause-order : goal.sure_fits-requires-clause-order
+sure_fits-requires-clause-order c = subst AreByBdf (sym c.as_slice-seats.ensures.value) c.in_ok-each.ensures.order
+
+pub in_devices_of-requires-clause-sure : goal.in_devices_of-requires-clause-sure
+in_devices_of-requires-clause-sure c =
+    subst (λ sure. AreSure (cells_of c.args.setup.now) c.as_slice-seats.result.now sure) (sym c.as_slice.ensures.value) c.in_ok-sure.ensures.sure

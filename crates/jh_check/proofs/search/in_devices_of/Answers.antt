@@ -4,6 +4,8 @@ use Rattle.jh_check.specs.Cells.{cells_of}
 use Rattle.jh_check.specs.Lists.{capped}
 use Rattle.jh_check.specs.Findings.{in_devices_of, device_at}
 use Rattle.jh_check.specs.Private.Bus.{HasBdfs, AreMarkedBy}
+use Rattle.jh_check.specs.Private.Fits.{IsSeated}
+use Rattle.jh_check.proofs.FitLemmas.{seated}
 use Rattle.jh_check.proofs.BusLemmas.{still_marked, marked_more, once_unmarked}
 use Rattle.jh_check.proofs.ListLemmas.{found_step, found_done}
 use Rattle.jh_check.proofs.search.in_devices_of.Goals as goal
@@ -69,6 +71,33 @@ returns-clause-each c = λ device cd.
 pub may_differ-doubted-requires-clause-bdfs : goal.may_differ-doubted-requires-clause-bdfs
 may_differ-doubted-requires-clause-bdfs c =
     subst (λ marks. HasBdfs (take c.args.a (cells_of c.args.setup.now)) marks) (sym c.as_slice-known.ensures.value) (λ cell device cc cd. c.loop-n.invariant.kept device.bdf (c.requires.bdfs cell device cc cd))
+
+pub may_differ-doubted-requires-clause-seated : goal.may_differ-doubted-requires-clause-seated
+may_differ-doubted-requires-clause-seated c =
+    let none : PciDevice = record {
+      kind = 0;
+      iommu = 0;
+      domain = 0;
+      bdf = 0;
+      bar_mask = [];
+      caps_start = 0;
+      num_caps = 0;
+      num_msi_vectors = 0;
+      msi_bits = 0;
+      num_msix_vectors = 0;
+      msix_region_size = 0;
+      msix_address = 0;
+      shmem_regions_start = 0;
+      shmem_dev_id = 0;
+      shmem_peers = 0;
+      shmem_protocol = 0;
+    } in
+    let v = c.as_slice-devices.ensures.value in
+    let t = c.loop-n-test.true in
+    let h : c.loop-n.n < length c.args.cell.now.pci_devices = rw v at t in
+    let all = cells_of c.args.setup.now in
+    subst (λ (xs : List PciDevice). IsSeated all c.args.seats.now c.args.a c.args.cell.now (get_or xs c.loop-n.n none)) (sym v) (
+    seated all c.args.seats.now c.args.a c.loop-n.n c.args.cell.now none c.requires.among c.requires.one c.requires.seats h)
 
 pub device_breaks-breaks-requires-clause-repeated : goal.device_breaks-breaks-requires-clause-repeated
 device_breaks-breaks-requires-clause-repeated c = λ f.
