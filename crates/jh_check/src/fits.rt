@@ -1,5 +1,5 @@
 //! The bdfs at which all devices of different cells are known to fit each other, by one look at each.
-ghost use Rattle.std.specs.Prelude.{◌≡◌, ◌==◌, ◌≤◌, ℕ, true, false, length, slice_index_or, IfOk};
+ghost use Rattle.std.specs.Prelude.{◌≡◌, ◌==◌, ◌≤◌, ◌<◌, ℕ, true, false, length, slice_index_or, IfOk};
 ghost use Rattle.std.specs.List.{list_any};
 ghost use Rattle.jh_check.specs.declared.seats.Seat.{Seat};
 ghost use Rattle.jh_check.specs.Cells.{cells_of};
@@ -123,14 +123,18 @@ fn look(setup: &Setup, seats: &[Seat], bdf: u16, sure: &mut Vec<bool>)
     ensures length { length sure.new.items ≡ 65536 }
     ensures sure { AreSure (cells_of setup.now) seats.now sure.new.items }
 {
-    let at = bdf as usize;
-    if sure[at] {
-        return;
-    }
     if !fit_each_other(setup, at_bdf(seats, bdf)) {
         return;
     }
-    sure[at] = true;
+    sure[bdf as usize] = true;
+}
+
+/// Whether the seat of that number is the second at its bdf.
+fn is_second(seats: &[Seat], i: usize) -> bool
+    requires above { 0 < i }
+    requires within { i < length seats.now }
+{
+    seats[i].bdf == seats[i - 1].bdf && (i == 1 || seats[i].bdf != seats[i - 2].bdf)
 }
 
 /// Of each bdf whether the devices there are known to fit each other.
@@ -142,7 +146,7 @@ pub(crate) fn sure_fits(alloc: Global, setup: &Setup, seats: &[Seat]) -> Result<
 {
     let mut sure = none_sure(alloc)?;
     for i in 1..seats.len() {
-        if seats[i].bdf != seats[i - 1].bdf {
+        if !is_second(seats, i) {
             continue;
         }
         look(setup, seats, seats[i].bdf, &mut sure);
