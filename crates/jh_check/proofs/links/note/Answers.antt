@@ -3,7 +3,6 @@ use Rattle.std.specs.List.{Contains}
 use Rattle.std.proofs.lemmas.List.{get_or_default}
 use Rattle.jh_cellcfg.specs.declared.config.PciDevice.{PciDevice}
 use Rattle.jh_check.specs.Devices.{are_linked, section_count}
-use Rattle.jh_check.specs.Private.Links.{ArePartners}
 use Rattle.jh_check.proofs.LinkLemmas.{partners_more}
 use Rattle.jh_check.proofs.links.note.Goals as goal
 
