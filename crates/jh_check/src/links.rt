@@ -9,9 +9,18 @@ use jh_cellcfg::{CellConfig, PciDevice};
 use jh_num::NoMemory;
 use std::alloc::Global;
 
-/// To each bdf, the number of an ivshmem device that may have it.
+/// How many bdfs there are up to the last at which one of the devices stands.
+fn bdfs_of(devices: &[PciDevice]) -> usize {
+    let mut end = 0;
+    for device in devices {
+        end = end.max(bdf_of(device) + 1);
+    }
+    end
+}
+
+/// To each bdf up to the devices' last, the number of an ivshmem device that may have it.
 fn holders_among(alloc: Global, devices: &[PciDevice]) -> Result<Vec<u16>, NoMemory> {
-    let mut holders = vec![in alloc; 0; MAX_BDFS]?;
+    let mut holders = vec![in alloc; 0; bdfs_of(devices)]?;
     for n in 0..devices.len().min(MAX_BDFS) {
         let bdf = bdf_of(&devices[n]);
         if devices[n].is_shmem() && bdf < holders.len() {
@@ -21,8 +30,8 @@ fn holders_among(alloc: Global, devices: &[PciDevice]) -> Result<Vec<u16>, NoMem
     Ok(holders)
 }
 
-/// To each bdf, the number of a device of the cell that may be linked with one of another; none, where the rule
-/// doesn't ask or the cell has no device.
+/// To each bdf up to the last, the number of a device of the cell that may be linked with one of another; none, where
+/// the rule doesn't ask or the cell has no device.
 pub(crate) fn holders_of(
     alloc: Global,
     rule: Rule,
