@@ -5,6 +5,7 @@ mod bus;
 mod checking;
 mod devices;
 mod finding;
+mod fits;
 mod gaps;
 mod laws;
 mod links;
