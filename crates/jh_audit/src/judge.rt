@@ -27,6 +27,7 @@ fn try_entry(board: &mut Board, entry: &Entry) -> Result<Option<Entry>, NoMemory
     }
     match board.make_due(entry.cpu) {
         Ok(made) => Ok(made),
+        // the board's limit is above the number of entries
         Err(TurnFault::Full) => unreachable!(),
         Err(TurnFault::NoMemory) => Err(NoMemory),
     }

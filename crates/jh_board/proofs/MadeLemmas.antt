@@ -1,5 +1,6 @@
 -- What the entry's act does to the live cells and to the call that is open, put together.
-use Rattle.std.proofs.Common.{◌≡◌, ℕ, ◌≤◌, List, Option, Some, None, refl, arith}
+use Rattle.std.proofs.Common.{◌≡◌, ℕ, ◌≤◌, List, Option, Some, None, false, refl, arith}
+use Rattle.std.proofs.lemmas.Bool.{true≢false}
 use Rattle.std.specs.Option.{option_map_or}
 use Rattle.jh_cellcfg.specs.declared.config.CellConfig.{CellConfig}
 use Rattle.jh_cellcfg.specs.declared.live.Live.{Live}
@@ -12,7 +13,7 @@ use Rattle.jh_history.specs.declared.entry.Entry.{Entry}
 use Rattle.jh_history.specs.declared.entry.Act.{Act}
 use Rattle.jh_history.specs.declared.entry.Act.TheVariants.{Read, Write, Fetch, Await, Irq, Hvc, Begin, Stop, Decide, Settle, Commit, Note, Noted, Finish}
 use Rattle.jh_history.specs.Commits.{committed_cells, cells_by, created, created_at, created_by}
-use Rattle.jh_history.specs.Calls.{call_by}
+use Rattle.jh_history.specs.Calls.{call_by, is_call}
 use Rattle.jh_history.specs.Endpoints.{changing_at, changing_by}
 use Rattle.jh_board.specs.declared.held.Held.{Held}
 use Rattle.jh_board.specs.declared.steps.CellsChange.{CellsChange}
@@ -82,6 +83,23 @@ cells_made (Some o) cells act = cells_open o cells act
 none_made : (call : Option OpenCall) (act : Act) → ((o : OpenCall) → created_at o.call o.phase act ≡ None) → created_by call act ≡ None
 none_made None act h = refl
 none_made (Some o) act h = h o
+
+-- an act that is none of the call's own makes no cell, and changes none
+pub nothing_made : (call : Option OpenCall) (cells : List Live) (act : Act) → is_call act ≡ false → (created_by call act ≡ None) × (cells_by call cells act ≡ cells)
+nothing_made call cells (Read width at got) other = (none_made call (Read width at got) (λ o. refl), refl)
+nothing_made call cells (Write width at value ok) other = (none_made call (Write width at value ok) (λ o. refl), refl)
+nothing_made call cells (Fetch at got) other = (none_made call (Fetch at got) (λ o. refl), refl)
+nothing_made call cells (Await width at value ok) other = (none_made call (Await width at value ok) (λ o. refl), refl)
+nothing_made call cells (Irq device vector) other = (none_made call (Irq device vector) (λ o. refl), refl)
+nothing_made call cells (Hvc code a b answer) other = (none_made call (Hvc code a b answer) (λ o. refl), refl)
+nothing_made call cells (Begin code a b) other = absurd (true≢false other)
+nothing_made call cells Stop other = (none_made call Stop (λ o. refl), refl)
+nothing_made call cells (Decide refused) other = absurd (true≢false other)
+nothing_made call cells (Settle how) other = absurd (true≢false other)
+nothing_made call cells Commit other = absurd (true≢false other)
+nothing_made call cells (Note id) other = absurd (true≢false other)
+nothing_made call cells (Noted id how) other = absurd (true≢false other)
+nothing_made call cells (Finish answer) other = absurd (true≢false other)
 
 -- the live cells and the index stay as they are, where no cell comes and none changes
 abbrev pub KeepsCells : Held → Held → Option CellConfig → CellsChange → Type 0

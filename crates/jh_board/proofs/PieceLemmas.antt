@@ -37,6 +37,11 @@ pub row_of_memory : (memory : MemoryView) (a n : ℕ) → map (byte_of memory) (
 row_of_memory memory a zero = refl
 row_of_memory memory a (suc n) = ap (λ (bs : List ℕ). byte_at memory.physical a ∷ bs) (row_of_memory memory (a + 1) n)
 
+-- the bytes at places of a communication page in a row
+pub row_of_comm : (memory : MemoryView) (cell offset n : ℕ) → map (byte_of memory) (places_in_row (Page cell offset) n) ≡ bytes_from (comm_byte memory.comms cell) offset n
+row_of_comm memory cell offset zero = refl
+row_of_comm memory cell offset (suc n) = ap (λ (bs : List ℕ). comm_byte memory.comms cell offset ∷ bs) (row_of_comm memory cell (offset + 1) n)
+
 -- zeros spell nothing
 pub zeros_spell_nothing : (offset n : ℕ) → spelled (bytes_from (λ k. 0) offset n) ≡ 0
 zeros_spell_nothing offset zero = refl

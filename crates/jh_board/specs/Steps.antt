@@ -157,11 +157,6 @@ pub record IsNext (image : Image) (held : Held) (entry : Entry) : Type 0 where
   pub sound : IsSound image facts
   pub due : due_at image facts entry.cpu ≡ Some entry
 
--- the act begins a management call
-abbrev pub begins : Act → Bool
-begins (Begin code a b) = true
-begins act = false
-
 -- with this configuration as the one that a create reads, the open call goes on by the entry as it has to
 abbrev pub IsRead : Image → Facts → Entry → Option CellConfig → Type 0
 IsRead image facts entry coming = call_by facts.cells coming facts.call entry entry.act ≡ call_after image facts entry

@@ -19,7 +19,7 @@ abbrev pub MakesDue : BoardView → ℕ → Option Entry → BoardView → Type 
 MakesDue old cpu None new = (due old.image old.entries cpu ≡ None) × (new ≡ old)
 MakesDue old cpu (Some entry) new = (due old.image old.entries cpu ≡ Some entry) × (length old.entries < old.limit) × (new ≡ record old { entries = old.entries ++ entry ∷ [] })
 
--- from old, a turn of the CPU may answer this and leave new; no table is edited yet
+-- from old, a turn of the CPU may answer this and leave new; no turn edits tables
 abbrev pub Turns : BoardView → ℕ → Turn → BoardView → Type 0
 Turns old cpu (Made entry) new = (due old.image old.entries cpu ≡ Some entry) × (length old.entries < old.limit) × (new ≡ record old { entries = old.entries ++ entry ∷ [] })
 Turns old cpu (Edited left) new = ⊥

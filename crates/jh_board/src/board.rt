@@ -19,12 +19,14 @@ use crate::held::Held;
 use crate::indexed::IndexedImage;
 use crate::memory::Memory;
 use crate::overview::{cell_at, map_of};
-use crate::state::{NextStep, is_quiet, next_step};
+use crate::state::{find_create, is_quiet, next_entry};
 use crate::steps::make;
 use crate::turn::{Turn, TurnFault};
 use jh_cellcfg::CellConfig;
 use jh_cpu::Cpu;
-use jh_history::{DeviceChange, Entry, Journal, devices_may_change, legal_journals_are_sound};
+use jh_history::{
+    DeviceChange, DueEntry, Entry, Journal, devices_may_change, legal_journals_are_sound,
+};
 use jh_ivshmem::Endpoints;
 use jh_map::Run;
 use jh_num::{NoMemory, Seq, Steps};
@@ -32,6 +34,8 @@ use jh_script::Image;
 use std::alloc::Global;
 use std::marker::Model;
 
+/// A board: an image, what holds after the entries that were made so far, and these. Contracts see it as the image, the
+/// most entries that its journal may have, and the entries.
 #[derive(Drop)]
 pub struct Board {
     image: IndexedImage,
@@ -74,14 +78,11 @@ fn advance(
 {
     image.has_few_cpus();
     legal_journals_are_sound();
-    let Some(step) = next_step(image, held, cpu)? else {
+    let found = find_create(image, held, cpu)?;
+    let Some(due) = next_entry(image, held, &found, cpu)? else {
         return Ok(None);
     };
-    let NextStep {
-        entry,
-        reach,
-        found,
-    } = step;
+    let DueEntry { entry, reach } = due;
     if journal.len() >= limit as usize {
         return Err(TurnFault::Full);
     }
@@ -89,6 +90,7 @@ fn advance(
     make(image, held, &entry, &reach, found)?;
     match journal.push(entry) {
         Ok(()) => Ok(Some(entry)),
+        // its room was reserved
         Err(_) => unreachable!(),
     }
 }

@@ -209,6 +209,7 @@ impl LiveCells {
         self.regions += new.memory_regions.len();
         match self.cells.add(new) {
             Ok(()) => (),
+            // there is room, since the cell was made ready
             Err(_) => unreachable!(),
         }
         self.indexes.push_reserved(index);

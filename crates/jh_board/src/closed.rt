@@ -19,6 +19,7 @@ pub fn close_cell(closed: &mut ByteSet, cell: &CellRegions, loadable: bool)
 {
     match closed.unite(cell.taken(loadable)) {
         Ok(()) => (),
+        // there is room for all of them
         Err(_) => unreachable!(),
     }
 }
@@ -40,9 +41,11 @@ fn open_all(closed: &mut ByteSet)
     };
     match closed.remove(all) {
         Ok(()) => (),
+        // what takes all away needs no room
         Err(_) => unreachable!(),
     }
     if let Some(range) = closed.ranges().first() {
+        // no range ends behind the last place, and none below it is left
         ends_within(*range);
         unreachable!()
     }

@@ -1,5 +1,6 @@
 //! Bytes of communication pages; a page that isn't held is zero.
 ghost use Rattle.std.specs.Prelude.{◌≡◌, ◌≢◌, ℕ, ◌+◌, ◌^◌, ◌<◌, ◌≤◌, ◌++◌, OnOk};
+ghost use Rattle.jh_num.specs.Memory.{spelled};
 ghost use Rattle.jh_history.specs.Pages.{page_after};
 ghost use Rattle.jh_board.specs.Pages.{bytes_from, comm_byte, HoldsComm};
 
@@ -26,6 +27,14 @@ impl Model for CommPages {
     ghost view = { λ p. p.pages.entries };
 }
 
+/// So many bytes of the communication page of the cell with the id, from the offset on.
+#[derive(Clone, Copy)]
+pub struct Word {
+    pub cell: u32,
+    pub offset: usize,
+    pub count: usize,
+}
+
 impl CommPages {
     /// No page is held.
     pub fn new(alloc: Global) -> Self
@@ -43,6 +52,19 @@ impl CommPages {
     {
         match self.pages.get(&cell) {
             Some(page) => page.byte(offset),
+            None => 0,
+        }
+    }
+
+    /// The number that the bytes of the word spell, the lowest first.
+    pub fn value(&self, word: Word) -> u64
+        requires within { word.offset + word.count ≤ 4096 }
+        requires few { word.count ≤ 8 }
+        ensures spells { result ≡ spelled (bytes_from (comm_byte self.now word.cell) word.offset word.count) }
+        ensures fits { result < 256 ^ word.count }
+    {
+        match self.pages.get(&word.cell) {
+            Some(page) => page.value(word.offset, word.count),
             None => 0,
         }
     }

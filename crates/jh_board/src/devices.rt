@@ -99,6 +99,7 @@ fn change_device(
     };
     match change.apply(endpoints, spec) {
         Ok(slot) => memory.write_slot(&slot),
+        // there is room, and the device may change
         Err(_) => unreachable!(),
     }
 }

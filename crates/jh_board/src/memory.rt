@@ -7,7 +7,7 @@ ghost use Rattle.jh_history.specs.Pages.{with_page};
 ghost use Rattle.jh_history.specs.Places.{number_of, places_in_row, places_of_run, IsRun, with_byte, written, over};
 ghost use Rattle.jh_board.specs.Pages.{byte_at, byte_of, HoldsComm, HoldsPlace, HoldsSlot, MayHold};
 
-use crate::comm_pages::CommPages;
+use crate::comm_pages::{CommPages, Word};
 use crate::physical::{Physical, Piece};
 use jh_history::{Bytes, PageWrite, Place, Places, Run, slot_places, value_of};
 use jh_ivshmem::Slot;
@@ -50,6 +50,30 @@ fn piece_of(places: &Places) -> Option<Piece>
     }
 }
 
+/// The word of a communication page that the places are, if they are one.
+fn word_of(places: &Places) -> Option<Word>
+    ensures within { IfSome result (λ word. word.offset + word.count ≤ 4096) }
+    ensures few { IfSome result (λ word. word.count ≤ 8) }
+    ensures places { IfSome result (λ word. places.now ≡ places_in_row (ThePlace.Page word.cell word.offset) word.count) }
+{
+    let (low, high) = places.runs();
+    match low.first {
+        Place::Page { cell, offset } => {
+            let count = usize::from(low.count);
+            if high.count == 0 && offset <= 4096 - count as u64 {
+                Some(Word {
+                    cell,
+                    offset: offset as usize,
+                    count,
+                })
+            } else {
+                None
+            }
+        }
+        Place::Physical(_) => None,
+    }
+}
+
 impl Memory {
     /// Memory of zeros, where no page is held.
     pub fn new(alloc: Global) -> Self
@@ -66,8 +90,11 @@ impl Memory {
         ensures value { result ≡ spelled (map (byte_of self.now) places.now) }
         ensures fits { result < 256 ^ length places.now }
     {
-        match piece_of(places) {
-            Some(piece) => self.physical.value(piece),
+        if let Some(piece) = piece_of(places) {
+            return self.physical.value(piece);
+        }
+        match word_of(places) {
+            Some(word) => self.comms.value(word),
             None => value_of(self, places),
         }
     }

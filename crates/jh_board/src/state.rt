@@ -7,7 +7,7 @@ ghost use Rattle.jh_history.specs.Facts.{Facts};
 ghost use Rattle.jh_history.specs.Wants.{IsReachOfEntry};
 ghost use Rattle.jh_board.specs.Means.{Means};
 ghost use Rattle.jh_board.specs.Judged.{IsJudged};
-ghost use Rattle.jh_board.specs.declared.state.NextStep.{NextStep as TheStep};
+ghost use Rattle.jh_history.specs.declared.next.DueEntry.{DueEntry as TheDue};
 
 use crate::granted::{reach, row_of_root};
 use crate::held::Held;
@@ -16,8 +16,8 @@ use jh_call::Call;
 use jh_cellcfg::CellConfig;
 use jh_cpu::Cpu;
 use jh_history::{
-    Creation, Entry, Known, OpenCall, Phase, Places, Reach, RootBytes, Wanted, is_any_locked,
-    is_any_other_locked, is_due, judged, next_of, none_due, reach_of, read_config,
+    Creation, DueEntry, Known, OpenCall, Phase, Places, Reach, RootBytes, Wanted, is_any_locked,
+    is_any_other_locked, is_due, judged, next_of, none_due, read_config,
     rows_are_read_byte_by_byte,
 };
 use jh_ivshmem::Endpoints;
@@ -198,14 +198,6 @@ impl<'a> Known for State<'a> {
     }
 }
 
-/// The entry that a CPU makes next, what its access reaches, and what was found of the create that it decides.
-#[derive(Drop)]
-pub struct NextStep {
-    pub entry: Entry,
-    pub reach: Reach,
-    pub found: Option<JudgedCreate>,
-}
-
 /// Who is about to decide a create, and where it reads its configuration.
 fn create_to_decide(held: &Held) -> Option<(u8, u64)> {
     let begun = held.call.as_ref()?;
@@ -216,7 +208,11 @@ fn create_to_decide(held: &Held) -> Option<(u8, u64)> {
 }
 
 /// What comes of the create that the CPU decides next.
-fn find_create(image: &IndexedImage, held: &Held, cpu: u8) -> Result<Option<JudgedCreate>, NoMemory>
+pub fn find_create(
+    image: &IndexedImage,
+    held: &Held,
+    cpu: u8,
+) -> Result<Option<JudgedCreate>, NoMemory>
     requires { cpu < 16 }
     ensures { IfOk result (λ found. IfSome found (IsJudged image.now held.now)) }
 {
@@ -236,25 +232,21 @@ fn find_create(image: &IndexedImage, held: &Held, cpu: u8) -> Result<Option<Judg
     }))
 }
 
-/// What the CPU does next. Only what a create reads takes memory.
-pub fn next_step(image: &IndexedImage, held: &Held, cpu: u8) -> Result<Option<NextStep>, NoMemory>
-    requires { cpu < 16 }
-    ensures due { (f : Facts) → Means image.now held.now f → IfOk result (λ step. option_map (λ (s : TheStep). s.entry) step ≡ due_at image.now f cpu) }
-    ensures reached { (f : Facts) → Means image.now held.now f → IfOk result (λ step. IfSome step (λ s. IsReachOfEntry image.now f s.entry s.reach)) }
-    ensures cpu { IfOk result (λ step. IfSome step (λ s. s.entry.cpu ≡ cpu)) }
-    ensures found { IfOk result (λ step. IfSome step (λ s. IfSome s.found (IsJudged image.now held.now))) }
+/// The entry that the CPU makes next, and what its access reaches, where this was found of a create. Only what a create
+/// reads takes memory.
+pub fn next_entry(
+    image: &IndexedImage,
+    held: &Held,
+    found: &Option<JudgedCreate>,
+    cpu: u8,
+) -> Result<Option<DueEntry>, NoMemory>
+    requires cpu { cpu < 16 }
+    requires found { IfSome found.now (IsJudged image.now held.now) }
+    ensures due { (f : Facts) → Means image.now held.now f → IfOk result (λ due. option_map (λ (due : TheDue). due.entry) due ≡ due_at image.now f cpu) }
+    ensures reached { (f : Facts) → Means image.now held.now f → IfOk result (λ due. IfSome due (λ due. IsReachOfEntry image.now f due.entry due.reach)) }
+    ensures cpu { IfOk result (λ due. IfSome due (λ due. due.entry.cpu ≡ cpu)) }
 {
-    let found = find_create(image, held, cpu)?;
-    let state = State::new(image, held, &found);
-    let reach = reach_of(&state, cpu);
-    match next_of(&state, cpu, &reach)? {
-        Some(entry) => Ok(Some(NextStep {
-            entry,
-            reach,
-            found,
-        })),
-        None => Ok(None),
-    }
+    next_of(&State::new(image, held, found), cpu)
 }
 
 /// What comes of a create by the caller, of the configuration at the address: as it was found, or else as it is

@@ -20,7 +20,7 @@ ghost use Rattle.jh_history.specs.Wants.{IsReachOfEntry};
 ghost use Rattle.jh_board.specs.Pages.{byte_of, HoldsComm, HoldsPlace};
 ghost use Rattle.jh_board.specs.Judged.{IsJudged};
 ghost use Rattle.jh_board.specs.Means.{Means, IsReady, IsReadyFor};
-ghost use Rattle.jh_board.specs.Steps.{begins, goes_on, create_of, change_of_call, change_of_cells, changed_cells, IsNext, IsRead, IsFree, WillBeReady, IsPrepared, MayWrite, MayWriteOf, MayWriteSlot, MayCommit, MayJoin, IsSameButDevices, joined_cells, devices_held, memory_written, memory_after, slot_after, endpoints_acted_by};
+ghost use Rattle.jh_board.specs.Steps.{goes_on, create_of, change_of_call, change_of_cells, changed_cells, IsNext, IsRead, IsFree, WillBeReady, IsPrepared, MayWrite, MayWriteOf, MayWriteSlot, MayCommit, MayJoin, IsSameButDevices, joined_cells, devices_held, memory_written, memory_after, slot_after, endpoints_acted_by};
 
 use crate::cell_regions::CellRegions;
 use crate::cells::LiveCells;
@@ -34,8 +34,8 @@ use jh_call::Call;
 use jh_cellcfg::CellConfig;
 use jh_history::{
     Act, BoxedCell, Called, Creation, DeviceChange, Entry, Known, OpenCall, PageWrite, Reach,
-    a_cell_that_comes_may_live, call_after, changing_cell, cpus_after,
-    decides_are_of_the_open_call, devices_may_change, few_cells_live, page_write,
+    a_cell_that_comes_may_live, call_after, changing_cell, count_entry, cpus_after,
+    decides_are_of_the_open_call, devices_may_change, few_cells_live, is_call, page_write,
     pages_written_are_of_cells, places_reached_are_of_cells, sound_cells_name_a_cpu, write_device,
 };
 use jh_num::NoMemory;
@@ -135,6 +135,7 @@ fn coming_of(
     devices_may_change();
     match creation_by(image, held, found, begun.caller, at)? {
         Creation::Comes { config } => Ok(Some(config)),
+        // what comes of it is what the entry says
         Creation::Refused { .. } => unreachable!(),
     }
 }
@@ -267,6 +268,7 @@ fn make_cells(
                 sound_cells_name_a_cpu(config.get());
                 cells.add(config.into_inner(), index);
             }
+            // it was made ready when the create was decided
             None => unreachable!(),
         },
         None => change_cells(cells, change),
@@ -284,14 +286,8 @@ fn make_page(memory: &mut Memory, write: Option<PageWrite>)
     }
 }
 
-/// Whether the act begins a management call.
-fn begins_call(act: &Act) -> bool
-    ensures { result ≡ begins act.now }
-{
-    matches!(act, Act::Begin { .. })
-}
-
-/// The open call after the entry, and the live cells. Where no call is open most entries change neither.
+/// The open call after the entry, and the live cells. Most entries are none of the call's own, and change no more of it
+/// than that they are counted.
 fn make_call(held: &mut Held, entry: &Entry, coming: Option<BoxedCell>)
     requires { IfSome (created_by held.old.call entry.now.act) (MayJoin held.old.cells held.old.index) }
     ensures memory { held.new.memory ≡ held.old.memory }
@@ -303,7 +299,8 @@ fn make_call(held: &mut Held, entry: &Entry, coming: Option<BoxedCell>)
     ensures call { held.new.call ≡ call_by held.old.cells.lives coming held.old.call entry.now entry.now.act }
     ensures ready { IsReady held.old held.new.call → IsReady held.new held.new.call }
 {
-    if held.call.is_none() && !begins_call(&entry.act) {
+    if !is_call(&entry.act) {
+        count_entry(&mut held.call, entry);
         return;
     }
     let change = change_of_cells(held.call.as_ref(), &entry.act);

@@ -1,14 +1,15 @@
--- Devices whose bdf on the bus isn't marked are linked with none.
-use Rattle.std.proofs.Common.{◌≡◌, ℕ, suc, ◌+◌, ◌<◌, Bool, true, false, ◌&&◌, not, ◌==◌, List, [], ◌∷◌, length, get_or, take, refl, sym, ap, subst, ◌∙◌, inl, inr, arith}
-use Rattle.std.specs.List.{Contains, list_all}
+-- Devices whose bdf on the bus isn't marked are linked with none, and those whose bdf isn't marked by their own cell are
+-- the first of it there.
+use Rattle.std.proofs.Common.{◌≡◌, ◌≢◌, ℕ, suc, ◌+◌, ◌<◌, Bool, true, false, ◌&&◌, not, ◌==◌, List, [], ◌∷◌, length, get_or, take, refl, sym, ap, subst, ◌∙◌, inl, inr, arith}
+use Rattle.std.specs.List.{Contains, list_all, list_any}
 use Rattle.std.proofs.lemmas.Bool.{eqb-true, not_from_false, or_left, cases_eq}
 use Rattle.std.proofs.lemmas.List.{get_or-take, get_or_default, length-take}
 use Rattle.jh_cellcfg.specs.declared.region.Region.{Region}
 use Rattle.jh_cellcfg.specs.declared.config.PciDevice.{PciDevice}
 use Rattle.jh_cellcfg.specs.declared.config.CellConfig.{CellConfig}
-use Rattle.jh_check.specs.Devices.{is_shmem, are_linked, are_same_memory, sections_of, agrees_with, agrees_with_all}
-use Rattle.jh_check.specs.Private.Bus.{HasBdfs}
-use Rattle.jh_check.proofs.BoolLemmas.{false_from_not, not_both, and_right, and_both}
+use Rattle.jh_check.specs.Devices.{is_shmem, are_linked, are_same_memory, sections_of, agrees_with, agrees_with_all, is_twice}
+use Rattle.jh_check.specs.Private.Bus.{HasBdfs, AreMarkedBy}
+use Rattle.jh_check.proofs.BoolLemmas.{false_from_not, and_right, and_both, or_none}
 
 -- all pass a test where each does
 pub all_each : {X : Type 0} (p : X → Bool) (xs : List X) → ((x : X) → Contains xs x → p x ≡ true) → list_all p xs ≡ true
@@ -16,25 +17,32 @@ all_each p [] h = refl
 all_each p (x ∷ xs) h =
     and_both (p x) (list_all p xs) (h x (0, omega arith, refl)) (all_each p xs (λ y cy. let within = cy.1 in h y (suc cy.0, omega arith, cy.2)))
 
-unlinked : (marks : List Bool) (device other : PciDevice) → get_or marks device.bdf false ≡ false → get_or marks other.bdf false ≡ true → are_linked device other ≡ false
+-- none passes a test where each doesn't
+none_each : {X : Type 0} (p : X → Bool) (xs : List X) → ((x : X) → Contains xs x → p x ≡ false) → list_any p xs ≡ false
+none_each p [] h = refl
+none_each p (x ∷ xs) h =
+    or_none (p x) (list_any p xs) (h x (0, omega arith, refl)) (none_each p xs (λ y cy. let within = cy.1 in h y (suc cy.0, omega arith, cy.2)))
+
+unlinked : (marks : List ℕ) (device other : PciDevice) → get_or marks device.bdf 0 ≡ 0 → 0 < get_or marks other.bdf 0 → are_linked device other ≡ false
 unlinked marks device other unmarked marked =
     false_from_not (are_linked device other) (λ t.
     let both = and_right (is_shmem device) (is_shmem other && (device.bdf == other.bdf)) t in
     let e = eqb-true device.bdf other.bdf (and_right (is_shmem other) (device.bdf == other.bdf) both) in
-    not_both (get_or marks other.bdf false) marked (subst (λ bdf. get_or marks bdf false ≡ false) e unmarked))
+    let none : get_or marks other.bdf 0 ≡ 0 = subst (λ bdf. get_or marks bdf 0 ≡ 0) e unmarked in
+    omega arith)
 
-pub agrees_unmarked : (cells : List CellConfig) (marks : List Bool) (regions : List Region) (device : PciDevice) → HasBdfs cells marks → get_or marks device.bdf false ≡ false → agrees_with_all cells regions device ≡ true
+pub agrees_unmarked : (cells : List CellConfig) (marks : List ℕ) (regions : List Region) (device : PciDevice) → HasBdfs cells marks → get_or marks device.bdf 0 ≡ 0 → agrees_with_all cells regions device ≡ true
 agrees_unmarked cells marks regions device has unmarked =
     all_each (λ (cell : CellConfig). list_all (λ (other : PciDevice). agrees_with regions device cell.memory_regions other) cell.pci_devices) cells (λ cell cc.
     all_each (λ (other : PciDevice). agrees_with regions device cell.memory_regions other) cell.pci_devices (λ other co.
     let rest = (device.shmem_peers == other.shmem_peers) && (not (device.shmem_dev_id == other.shmem_dev_id) && are_same_memory (sections_of regions device) (sections_of cell.memory_regions other)) in
     or_left (not (are_linked device other)) rest (not_from_false (are_linked device other) (unlinked marks device other unmarked (has cell other cc co)))))
 
-pub bdfs_none : (marks : List Bool) → HasBdfs [] marks
+pub bdfs_none : (marks : List ℕ) → HasBdfs [] marks
 bdfs_none marks = λ cell device cc cd. absurd (let h = cc.1 in omega arith)
 
 -- one cell more
-pub bdfs_more : (all : List CellConfig) (a : ℕ) (one : CellConfig) (old new : List Bool) → a < length all → one ≡ get_or all a one → HasBdfs (take a all) old → ((bdf : ℕ) → get_or old bdf false ≡ true → get_or new bdf false ≡ true) → ((device : PciDevice) → Contains one.pci_devices device → get_or new device.bdf false ≡ true) → HasBdfs (take (a + 1) all) new
+pub bdfs_more : (all : List CellConfig) (a : ℕ) (one : CellConfig) (old new : List ℕ) → a < length all → one ≡ get_or all a one → HasBdfs (take a all) old → ((bdf : ℕ) → 0 < get_or old bdf 0 → 0 < get_or new bdf 0) → ((device : PciDevice) → Contains one.pci_devices device → 0 < get_or new device.bdf 0) → HasBdfs (take (a + 1) all) new
 bdfs_more all a one old new within is before kept each = λ cell device cc cd.
     let k = cc.0 in
     let h = cc.1 in
@@ -47,3 +55,42 @@ bdfs_more all a one old new within is before kept each = λ cell device cc cd.
           each device (subst (λ (c : CellConfig). Contains c.pci_devices device) (sym same) cd)
       | inr n ↦ kept device.bdf (before cell device (k, omega arith, get_or-take a all k cell (omega arith) ∙ e) cd)
     ]
+
+-- ---- one device more
+
+-- a bdf stays marked where that of a device is marked
+pub still_marked : (old new : List ℕ) (cell at bdf : ℕ) → ((b : ℕ) → b ≢ at → get_or new b 0 ≡ get_or old b 0) → get_or new at 0 ≡ cell + 1 → 0 < get_or old bdf 0 → 0 < get_or new bdf 0
+still_marked old new cell at bdf others own marked =
+    elim (cases_eq bdf at) [
+      | inl e ↦ let here : get_or new bdf 0 ≡ cell + 1 = ap (λ b. get_or new b 0) e ∙ own in omega arith
+      | inr n ↦ let there : get_or new bdf 0 ≡ get_or old bdf 0 = others bdf n in omega arith
+    ]
+
+-- so do those of the cell's devices before it, and its own is marked
+pub marked_more : (old new : List ℕ) (cell n : ℕ) (devices : List PciDevice) (none : PciDevice) → n < length devices → ((b : ℕ) → b ≢ (get_or devices n none).bdf → get_or new b 0 ≡ get_or old b 0) → get_or new (get_or devices n none).bdf 0 ≡ cell + 1 → AreMarkedBy cell devices n old → AreMarkedBy cell devices (n + 1) new
+marked_more old new cell n devices none within others own before = λ k d h.
+    elim (cases_eq k n) [
+      | inl e ↦
+          let same : get_or devices n none ≡ get_or devices k d = get_or_default devices n none d within ∙ ap (λ j. get_or devices j d) (sym e) in
+          subst (λ (x : PciDevice). get_or new x.bdf 0 ≡ cell + 1) same own
+      | inr m ↦
+          let was = before k d (omega arith) in
+          elim (cases_eq (get_or devices k d).bdf (get_or devices n none).bdf) [
+            | inl e ↦ ap (λ b. get_or new b 0) e ∙ own
+            | inr o ↦ others (get_or devices k d).bdf o ∙ was
+          ]
+    ]
+
+-- a device whose bdf the cell hasn't marked is none of those over again
+pub once_unmarked : (marks : List ℕ) (cell n : ℕ) (devices : List PciDevice) (device : PciDevice) → AreMarkedBy cell devices n marks → get_or marks device.bdf 0 ≢ cell + 1 → is_twice (take n devices) device ≡ false
+once_unmarked marks cell n devices device each unmarked =
+    none_each (λ (other : PciDevice). is_shmem other && (other.bdf == device.bdf)) (take n devices) (λ other co.
+    false_from_not (is_shmem other && (other.bdf == device.bdf)) (λ t.
+    let k = co.0 in
+    let h = co.1 in
+    let size = length-take n devices in
+    let low : k < n = omega arith in
+    let is : get_or devices k other ≡ other = sym (get_or-take n devices k other low) ∙ co.2 in
+    let e = eqb-true other.bdf device.bdf (and_right (is_shmem other) (other.bdf == device.bdf) t) in
+    let marked : get_or marks other.bdf 0 ≡ cell + 1 = subst (λ (d : PciDevice). get_or marks d.bdf 0 ≡ cell + 1) is (each k other low) in
+    unmarked (subst (λ b. get_or marks b 0 ≡ cell + 1) e marked)))

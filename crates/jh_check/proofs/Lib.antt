@@ -8,6 +8,7 @@ pub mod SoundLemmas
 pub mod BusLemmas
 pub mod LinkLemmas
 pub mod SeatLemmas
+pub mod FitLemmas
 pub mod VerdictLemmas
 pub mod Tested
 pub mod FoundLemmas

@@ -1,9 +1,10 @@
 -- How far spans reach, one span after the other, and what is told by it.
-use Rattle.std.proofs.Common.{◌≡◌, ◌≢◌, ℕ, zero, suc, ◌+◌, ◌^◌, leb, take, drop, length-drop, ◌-◌, ◌<◌, ◌≤◌, Bool, true, false, ◌&&◌, not, ◌==◌, nat_lt, if◌then◌else◌, List, [], ◌∷◌, ◌++◌, length, get_or, refl, sym, ap, subst, ◌∙◌, inl, inr, arith}
+use Rattle.std.proofs.Common.{◌≡◌, ◌≢◌, ℕ, zero, suc, ◌+◌, ◌^◌, leb, take, drop, length-drop, ◌-◌, ◌<◌, ◌≤◌, Bool, true, false, ◌&&◌, not, ◌==◌, nat_lt, if◌then◌else◌, Some, None, IfSome, List, [], ◌∷◌, ◌++◌, length, get_or, refl, sym, ap, subst, ◌∙◌, inl, inr, arith}
 use Rattle.std.specs.List.{Contains, AllWithin}
 use Rattle.std.specs.List.Sorted.{IsNonDecreasingBy}
 use Rattle.std.proofs.lemmas.Bool.{false≢true, cases_Bool, ltb-true, ltb-false, leb-true, cases_eq, cases_lt, cases_order}
 use Rattle.std.proofs.lemmas.List.{get_or_default, get_or_append_left, get_or_push, length_push, get_or-take, get_or-drop, length-take}
+use Rattle.std.proofs.lemmas.List.Elements.{Contains-append_left, Contains-push}
 use Rattle.jh_cellcfg.specs.declared.region.Region.{Region}
 use Rattle.jh_cellcfg.specs.declared.config.CellConfig.{CellConfig}
 use Rattle.jh_cellcfg.specs.Regions.{has_flags, is_page_mapped, is_comm, has_size}
@@ -14,15 +15,16 @@ use Rattle.jh_check.specs.declared.spans.Span.{Span}
 use Rattle.jh_check.specs.declared.reach.Reach.{Reach}
 use Rattle.jh_check.specs.declared.reach.Reaches.{Reaches}
 use Rattle.jh_check.specs.declared.reach.Window.{Window}
+use Rattle.jh_check.specs.declared.gaps.Extents.{Extents}
 use Rattle.jh_check.specs.Regions.{Spot, pair_breaks, share_places, takes_pages, both_shared}
 use Rattle.jh_check.specs.Devices.{are_same_section}
-use Rattle.jh_check.specs.Spans.{takes_part, span_of, is_within, StandApart}
+use Rattle.jh_check.specs.Spans.{joins, takes_part, span_of, is_within, StandApart}
 use Rattle.jh_check.specs.Lists.{capped, found_from, only_if}
-use Rattle.jh_check.specs.Findings.{spot, beside, beside_at, between, between_at, finding_of}
-use Rattle.jh_check.specs.Private.Reaches.{passes_shared, may_follow, reaches_for, HasOthers, InOrder, IsRising, IsReached, TellsEach, TellsPairs, IsOwn, TellsOthers, AreOf, IsIn, HasHits, IsInside, IsExtent}
+use Rattle.jh_check.specs.Findings.{spot, beside, beside_at, between, between_at, from_cell, finding_of}
+use Rattle.jh_check.specs.Private.Reaches.{passes_shared, may_follow, unshared_of, reaches_for, HasOthers, InOrder, IsRising, IsReached, TellsEach, TellsPairs, IsOwn, TellsOthers, AreOf, IsIn, HasHits, IsInside, AreExtents}
 use Rattle.jh_check.proofs.BoolLemmas.{false_from_not, not_both, and_left, and_right, and_both}
 use Rattle.jh_check.proofs.ListLemmas.{append_nil, found_drop, found_end, found_none, found_none0}
-use Rattle.jh_check.proofs.BreakLemmas.{pair_order, pair_joins, pair_takes_part, pair_second, pair_meets, beside_none, joins_same, two_parts, pages_parts, overlap_second, meet_swap, met_before}
+use Rattle.jh_check.proofs.BreakLemmas.{pair_order, pair_joins, pair_takes_part, pair_second, pair_meets, beside_none, between_apart, joins_same, two_parts, pages_parts, overlap_second, meet_swap, met_before}
 
 -- ---- one span after the other
 
@@ -44,23 +46,22 @@ one_more reaches y n P count before here k d h =
     ]
 
 -- a list that rises still does with one more that isn't below
-rises_more : (reaches : List Reach) (y : Reach) (n : ℕ) → length reaches ≡ n → IsNonDecreasingBy (λ (reach : Reach). reach.end) reaches → ((k : ℕ) (d : Reach) → k < n → (get_or reaches k d).end ≤ y.end) → IsNonDecreasingBy (λ (reach : Reach). reach.end) (reaches ++ y ∷ [])
-rises_more reaches y n count rising below = λ i j d h k.
+rises_more : (key : Reach → ℕ) (reaches : List Reach) (y : Reach) (n : ℕ) → length reaches ≡ n → IsNonDecreasingBy key reaches → ((k : ℕ) (d : Reach) → k < n → key (get_or reaches k d) ≤ key y) → IsNonDecreasingBy key (reaches ++ y ∷ [])
+rises_more key reaches y n count rising below = λ i j d h k.
     let size : length (reaches ++ y ∷ []) ≡ length reaches + 1 = length_push reaches y in
     let last = get_or_push reaches y d n count in
+    let P : Reach → Reach → Type 0 = λ s t. key s ≤ key t in
     elim (cases_eq j n) [
       | inl e ↦ elim (cases_eq i n) [
-        | inl f ↦ subst (λ j. (get_or (reaches ++ y ∷ []) i d).end ≤ (get_or (reaches ++ y ∷ []) j d).end) (f ∙ sym e) (omega arith)
+        | inl f ↦ subst (λ j. P (get_or (reaches ++ y ∷ []) i d) (get_or (reaches ++ y ∷ []) j d)) (f ∙ sym e) (omega arith)
         | inr m ↦
             let first = get_or_append_left reaches (y ∷ []) d i (omega arith) in
-            let b : (get_or reaches i d).end ≤ y.end = below i d (omega arith) in
-            let P : Reach → Reach → Type 0 = λ s t. s.end ≤ t.end in
+            let b : key (get_or reaches i d) ≤ key y = below i d (omega arith) in
             subst (λ j. P (get_or (reaches ++ y ∷ []) i d) (get_or (reaches ++ y ∷ []) j d)) (sym e) (subst (λ s. P s (get_or (reaches ++ y ∷ []) n d)) (sym first) (subst (λ t. P (get_or reaches i d) t) (sym last) b))
       ]
       | inr m ↦
           let first = get_or_append_left reaches (y ∷ []) d i (omega arith) in
           let second = get_or_append_left reaches (y ∷ []) d j (omega arith) in
-          let P : Reach → Reach → Type 0 = λ s t. s.end ≤ t.end in
           subst (λ s. P s (get_or (reaches ++ y ∷ []) j d)) (sym first) (subst (λ t. P (get_or reaches i d) t) (sym second) (rising i j d h (omega arith)))
     ]
 
@@ -89,48 +90,104 @@ reach_more spans reaches n end more x within is farther far before =
           one_more reaches y n (λ j r. (get_or spans j e).end ≤ r.end) before.count (λ j d i. before.ends j d e i) (subst (λ (s : Span). s.end ≤ more) (same e) far) k d h;
       below = λ k d h.
           one_more reaches y n (λ j r. r.end ≤ more) before.count (λ j d i. let b = before.below j d i in omega arith) (omega arith) k d h;
-      rising = rises_more reaches y n before.count before.rising (λ k d h. let b = before.below k d h in omega arith);
+      rising = rises_more (λ (reach : Reach). reach.end) reaches y n before.count before.rising (λ k d h. let b = before.below k d h in omega arith);
     }
 
--- the same where two reach: `far` is how far one does, and `end` how far two do
-pub record ArePairsTo (spans : List Span) (reaches : List Reach) (n far end : ℕ) : Type 0 where
-  pub count : length reaches ≡ n
-  pub starts : (k : ℕ) (d : Reach) (e : Span) → k < n → (get_or reaches k d).start ≡ (get_or spans k e).start
-  pub single : (k : ℕ) (e : Span) → k < n → (get_or spans k e).end ≤ far
-  pub pairs : (i j : ℕ) (d : Reach) (e : Span) (low : ℕ) → i < j → j < n → low < (get_or spans i e).end → low < (get_or spans j e).end → low < (get_or reaches j d).end
-  pub below : (k : ℕ) (d : Reach) → k < n → (get_or reaches k d).end ≤ end
-  pub rising : IsNonDecreasingBy (λ (reach : Reach). reach.end) reaches
+-- the span of the one place there
+abbrev pub place : ℕ → Span
+place start = record { start = start; end = start + 1; item = 0 }
 
-pub pairs_none : (spans : List Span) → ArePairsTo spans [] 0 0 0
+-- the first of the spans: `far` is how far one of them reaches, `end` how far two do, and `last` the greatest of their
+-- numbers; where one begins and another before it reaches beyond, that place is reached, by a number below neither's
+pub record ArePairsTo (spans : List Span) (reaches : List Reach) (n far end last : ℕ) : Type 0 where
+  pub items : (k : ℕ) (e : Span) → k < n → (get_or spans k e).item ≤ last
+  pub single : (k : ℕ) (e : Span) → k < n → (get_or spans k e).end ≤ far
+  pub pairs : (i j : ℕ) (e : Span) → i < j → j < n → (get_or spans j e).start < (get_or spans i e).end → (get_or spans j e).start < (get_or spans j e).end → (reached : IsReached reaches (place (get_or spans j e).start)) × ((get_or spans i e).item ≤ reached.by.item) × ((get_or spans j e).item ≤ reached.by.item)
+  pub before : (k m : ℕ) (d : Reach) (e : Span) → k < length reaches → n ≤ m → m < length spans → (get_or reaches k d).start ≤ (get_or spans m e).start
+  pub below : (k : ℕ) (d : Reach) → k < length reaches → (get_or reaches k d).end ≤ end
+  pub rising : IsRising reaches
+
+pub rising_none : IsRising []
+rising_none = record { starts = λ i j d h k. absurd (omega arith); ends = λ i j d h k. absurd (omega arith) }
+
+pub pairs_none : (spans : List Span) → ArePairsTo spans [] 0 0 0 0
 pairs_none spans = record {
-  count = refl;
-  starts = λ k d e h. absurd (omega arith);
+  items = λ k e h. absurd (omega arith);
   single = λ k e h. absurd (omega arith);
-  pairs = λ i j d e low h k. absurd (omega arith);
+  pairs = λ i j e h k a b. absurd (omega arith);
+  before = λ k m d e h a b. absurd (omega arith);
   below = λ k d h. absurd (omega arith);
-  rising = λ i j d h k. absurd (omega arith);
+  rising = rising_none;
 }
 
-pub pairs_more : (spans : List Span) (reaches : List Reach) (n far end farther more : ℕ) (x : Span) → n < length spans → x ≡ get_or spans n x → far ≤ farther → x.end ≤ farther → end ≤ more → ((low : ℕ) → low < far → low < x.end → low < more) → ArePairsTo spans reaches n far end → ArePairsTo spans (reaches ++ (record { start = x.start; end = more; item = x.item }) ∷ []) (n + 1) farther more
-pairs_more spans reaches n far end farther more x within is grows reaches_x rises both before =
-    let y : Reach = record { start = x.start; end = more; item = x.item } in
+single_more : (key : Span → ℕ) (spans : List Span) (n far farther : ℕ) (x : Span) → n < length spans → x ≡ get_or spans n x → far ≤ farther → key x ≤ farther → ((k : ℕ) (e : Span) → k < n → key (get_or spans k e) ≤ far) → (k : ℕ) (e : Span) → k < n + 1 → key (get_or spans k e) ≤ farther
+single_more key spans n far farther x within is grows reaches_x single k e h =
+    elim (cases_eq k n) [
+      | inl f ↦ subst (λ j. key (get_or spans j e) ≤ farther) (sym f) (subst (λ (s : Span). key s ≤ farther) (is ∙ get_or_default spans n x e within) reaches_x)
+      | inr m ↦ let b = single k e (omega arith) in omega arith
+    ]
+
+-- one more, beyond whose start two of them don't reach
+pub pairs_same : (spans : List Span) (reaches : List Reach) (n far end last farther more later : ℕ) (x : Span) → n < length spans → x ≡ get_or spans n x → far ≤ farther → x.end ≤ farther → end ≤ more → last ≤ later → x.item ≤ later → ((low : ℕ) → low < far → low < x.end → low < more) → more ≤ x.start → ArePairsTo spans reaches n far end last → ArePairsTo spans reaches (n + 1) farther more later
+pairs_same spans reaches n far end last farther more later x within is grows reaches_x rises counts counts_x both none before =
+    let same : (e : Span) → x ≡ get_or spans n e = λ e. is ∙ get_or_default spans n x e within in
+    record {
+      items = single_more (λ (s : Span). s.item) spans n last later x within is counts counts_x before.items;
+      single = single_more (λ (s : Span). s.end) spans n far farther x within is grows reaches_x before.single;
+      pairs = λ i j e h k a b. elim (cases_eq j n) [
+        | inl f ↦
+            let s : get_or spans j e ≡ x = ap (λ j. get_or spans j e) f ∙ sym (same e) in
+            let P : Span → Type 0 = λ s. s.start < (get_or spans i e).end in
+            let Q : Span → Type 0 = λ s. s.start < s.end in
+            let first = before.single i e (omega arith) in
+            let low : x.start < (get_or spans i e).end = subst P s a in
+            let high : x.start < x.end = subst Q s b in
+            let c : x.start < more = both x.start (omega arith) high in
+            absurd (omega arith)
+        | inr m ↦ before.pairs i j e h (omega arith) a b
+      ];
+      before = λ k m d e h a b. before.before k m d e h (omega arith) b;
+      below = λ k d h. let b = before.below k d h in omega arith;
+      rising = before.rising;
+    }
+
+-- what is reached still is by more
+abbrev reached_more : (reaches more : List Reach) (span : Span) → IsReached reaches span → IsReached (reaches ++ more) span
+reached_more reaches more span reached = record {
+  by = reached.by;
+  is = Contains-append_left reaches more reached.by reached.is;
+  begins = reached.begins;
+  ends = reached.ends;
+}
+
+-- one more, beyond whose start two of them do
+pub pairs_more : (spans : List Span) (reaches : List Reach) (n far end last farther more later : ℕ) (x : Span) → InOrder spans → n < length spans → x ≡ get_or spans n x → far ≤ farther → x.end ≤ farther → end ≤ more → last ≤ later → x.item ≤ later → x.start < more → ArePairsTo spans reaches n far end last → ArePairsTo spans (reaches ++ (record { start = x.start; end = more; item = later }) ∷ []) (n + 1) farther more later
+pairs_more spans reaches n far end last farther more later x order within is grows reaches_x rises counts counts_x some before =
+    let y : Reach = record { start = x.start; end = more; item = later } in
     let same : (e : Span) → x ≡ get_or spans n e = λ e. is ∙ get_or_default spans n x e within in
     let size : length (reaches ++ y ∷ []) ≡ length reaches + 1 = length_push reaches y in
+    let here : IsReached (reaches ++ y ∷ []) (place x.start) = record { by = y; is = Contains-push reaches y; begins = omega arith; ends = some } in
     record {
-      count = size ∙ ap (λ m. m + 1) before.count;
-      starts = λ k d e h.
-          one_more reaches y n (λ j r. r.start ≡ (get_or spans j e).start) before.count (λ j d i. before.starts j d e i) (ap (λ (s : Span). s.start) (same e)) k d h;
-      single = λ k e h. elim (cases_eq k n) [
-        | inl f ↦ subst (λ j. (get_or spans j e).end ≤ farther) (sym f) (subst (λ (s : Span). s.end ≤ farther) (same e) reaches_x)
-        | inr m ↦ let b = before.single k e (omega arith) in omega arith
+      items = single_more (λ (s : Span). s.item) spans n last later x within is counts counts_x before.items;
+      single = single_more (λ (s : Span). s.end) spans n far farther x within is grows reaches_x before.single;
+      pairs = λ i j e h k a b. elim (cases_eq j n) [
+        | inl f ↦
+            let s : x ≡ get_or spans j e = same e ∙ ap (λ j. get_or spans j e) (sym f) in
+            let first = before.items i e (omega arith) in
+            let low : (get_or spans i e).item ≤ later = omega arith in
+            subst (λ (s : Span). (reached : IsReached (reaches ++ y ∷ []) (place s.start)) × ((get_or spans i e).item ≤ reached.by.item) × (s.item ≤ reached.by.item)) s (here, low, counts_x)
+        | inr m ↦
+            let r = before.pairs i j e h (omega arith) a b in
+            (reached_more reaches (y ∷ []) (place (get_or spans j e).start) r.0, r.1, r.2)
       ];
-      pairs = λ i j d e low h k p q.
-          one_more reaches y n (λ j r. i < j → low < (get_or spans j e).end → low < r.end) before.count (λ j d m h q. before.pairs i j d e low h m p q) (λ h q.
-          let b = before.single i e h in
-          both low (omega arith) (subst (λ (s : Span). low < s.end) (sym (same e)) q)) j d k h q;
+      before = λ k m d e h a b.
+          one_more reaches y (length reaches) (λ j r. r.start ≤ (get_or spans m e).start) refl (λ j d i. before.before j m d e i (omega arith) b) (subst (λ (s : Span). s.start ≤ (get_or spans m e).start) (sym (same e)) (order n m e (omega arith) b)) k d (omega arith);
       below = λ k d h.
-          one_more reaches y n (λ j r. r.end ≤ more) before.count (λ j d i. let b = before.below j d i in omega arith) (omega arith) k d h;
-      rising = rises_more reaches y n before.count before.rising (λ k d h. let b = before.below k d h in omega arith);
+          one_more reaches y (length reaches) (λ j r. r.end ≤ more) refl (λ j d i. let b = before.below j d i in omega arith) (omega arith) k d (omega arith);
+      rising = record {
+        starts = rises_more (λ (reach : Reach). reach.start) reaches y (length reaches) refl before.rising.starts (λ k d h. subst (λ (s : Span). (get_or reaches k d).start ≤ s.start) (sym is) (before.before k n d x h (omega arith) within));
+        ends = rises_more (λ (reach : Reach). reach.end) reaches y (length reaches) refl before.rising.ends (λ k d h. let b = before.below k d h in omega arith);
+      };
     }
 
 -- ---- at the end of all
@@ -149,12 +206,6 @@ reach_rises spans reaches n end low high order all = record {
   ends = all.rising;
 }
 
-pub pairs_rise : (spans : List Span) (reaches : List Reach) (n far end : ℕ) → length spans ≤ n → n ≤ length spans → InOrder spans → ArePairsTo spans reaches n far end → IsRising reaches
-pairs_rise spans reaches n far end low high order all = record {
-  starts = starts_rise spans reaches n all.count low high all.starts order;
-  ends = all.rising;
-}
-
 pub reach_tells : (spans : List Span) (reaches : List Reach) (n end : ℕ) → length spans ≤ n → IsReachTo spans reaches n end → TellsEach spans reaches
 reach_tells spans reaches n end low all = λ x z cx meets.
     let none : Reach = record { start = 0; end = 0; item = 0 } in
@@ -168,47 +219,43 @@ reach_tells spans reaches n end low all = λ x z cx meets.
     let c : by.item ≡ x.item = subst (λ (s : Span). by.item ≡ s.item) cx.2 (all.items k none x (let w = cx.1 in omega arith)) in
     (record { by = by; is = (k, here, get_or_default reaches k by none here); begins = omega arith; ends = omega arith }, c)
 
-pub pairs_tell : (spans : List Span) (reaches : List Reach) (n far end : ℕ) → length spans ≤ n → ArePairsTo spans reaches n far end → TellsPairs spans reaches
-pairs_tell spans reaches n far end low all = λ x y cx cy differ some meets.
-    let none : Reach = record { start = 0; end = 0; item = 0 } in
+-- what has a place is reached where that is
+abbrev reached_at : (reaches : List Reach) (span : Span) (start : ℕ) → span.start ≤ start → start < span.end → IsReached reaches (place start) → IsReached reaches span
+reached_at reaches span start low high reached =
+    let a = reached.begins in
+    let b = reached.ends in
+    record { by = reached.by; is = reached.is; begins = omega arith; ends = omega arith }
+
+pub pairs_tell : (spans : List Span) (reaches : List Reach) (n far end last : ℕ) → length spans ≤ n → InOrder spans → ArePairsTo spans reaches n far end last → TellsPairs spans reaches
+pairs_tell spans reaches n far end last low order all = λ x y cx cy differ some other meets.
     let p = cx.0 in
     let q = cy.0 in
     let first : x.start < y.end = ltb-true x.start y.end (and_left (nat_lt x.start y.end) (nat_lt y.start x.end) meets) in
     let second : y.start < x.end = ltb-true y.start x.end (and_right (nat_lt x.start y.end) (nat_lt y.start x.end) meets) in
-    let count = all.count in
     let wx = cx.1 in
     let wy = cy.1 in
+    let ex : get_or spans p x ≡ x = cx.2 in
     let ey : get_or spans q x ≡ y = get_or_default spans q x y cy.1 ∙ cy.2 in
-    let of_x : x.start < (get_or spans p x).end = subst (λ (s : Span). x.start < s.end) (sym cx.2) some in
-    let of_y : x.start < (get_or spans q x).end = subst (λ (s : Span). x.start < s.end) (sym ey) first in
+    let P : Span → Span → Type 0 = λ s t. t.start < s.end → t.start < t.end → (reached : IsReached reaches (place t.start)) × (s.item ≤ reached.by.item) × (t.item ≤ reached.by.item) in
     elim (cases_order p q) [
       | inl e ↦ absurd (differ (ap (λ (s : Span). s.item) (sym cx.2 ∙ ap (λ k. get_or spans k x) e ∙ ey)))
       | inr (inl h) ↦
-          let by = get_or reaches q none in
-          let here : q < length reaches = omega arith in
-          let a : by.start ≡ y.start = subst (λ (s : Span). by.start ≡ s.start) ey (all.starts q none x (omega arith)) in
-          record {
-            by = by;
-            is = (q, here, get_or_default reaches q by none here);
-            begins = omega arith;
-            ends = all.pairs p q none x x.start h (omega arith) of_x of_y;
-          }
+          let o : x.start ≤ y.start = subst (λ (t : Span). x.start ≤ t.start) ey (subst (λ (s : Span). s.start ≤ (get_or spans q x).start) ex (order p q x (omega arith) wy)) in
+          let r = subst (λ t. P x t) ey (subst (λ s. P s (get_or spans q x)) ex (all.pairs p q x h (omega arith))) second other in
+          (reached_at reaches x y.start o second r.0, r.2)
       | inr (inr h) ↦
-          let by = get_or reaches p none in
-          let here : p < length reaches = omega arith in
-          let a : by.start ≡ x.start = subst (λ (s : Span). by.start ≡ s.start) cx.2 (all.starts p none x (omega arith)) in
-          record {
-            by = by;
-            is = (p, here, get_or_default reaches p by none here);
-            begins = omega arith;
-            ends = all.pairs q p none x x.start h (omega arith) of_y of_x;
-          }
+          let r = subst (λ t. P y t) ex (subst (λ s. P s (get_or spans p x)) ey (all.pairs q p x h (omega arith))) first some in
+          (reached_at reaches x x.start (omega arith) some r.0, r.1)
     ]
 
 -- ---- regions
 
+not_shared : (pass x y : Bool) → (pass ≡ true → x ≡ true) → not (x && y) ≡ true → not (pass && y) ≡ true
+not_shared false x y p h = refl
+not_shared true x y p h = subst (λ b. not (b && y) ≡ true) (p refl) h
+
 -- the second region of a pair that breaks the rule may follow
-pub pair_follows : (rule : Rule) (pass : Bool) (one other : Spot) → passes_shared rule one.region ≡ pass → pair_breaks rule one other ≡ true → may_follow rule pass other.cell other.region ≡ true
+pub pair_follows : (rule : Rule) (pass : Bool) (one other : Spot) → (pass ≡ true → passes_shared rule one.region ≡ true) → pair_breaks rule one other ≡ true → may_follow rule pass other.cell other.region ≡ true
 unfolding pair_breaks
 pair_follows VirtOverlap pass one other p h = pair_second VirtOverlap one other refl h
 pair_follows PhysOverlap pass one other p h = pair_second PhysOverlap one other refl h
@@ -223,7 +270,7 @@ pair_follows CellsOverlap pass one other p h =
     let rest = not (both_shared x y) && apart in
     let k = (two_parts (nat_lt 0 one.cell) (nat_lt one.cell other.cell) (share_places x y && rest) h).1 in
     let n : not (has_flags 0x80 x && has_flags 0x80 y) ≡ true = and_left (not (both_shared x y)) apart (and_right (share_places x y) rest k) in
-    let m : not (pass && has_flags 0x80 y) ≡ true = subst (λ b. not (b && has_flags 0x80 y) ≡ true) p n in
+    let m = not_shared pass (has_flags 0x80 x) (has_flags 0x80 y) p n in
     let w = overlap_second one other h in
     and_both (has_size y) (not (is_comm y) && not (pass && has_flags 0x80 y)) (and_left (has_size y) (not (is_comm y)) w) (and_both (not (is_comm y)) (not (pass && has_flags 0x80 y)) (and_right (has_size y) (not (is_comm y)) w) m)
 pair_follows _ pass one other p h = absurd (false≢true h)
@@ -253,7 +300,8 @@ others_each rule pass b cell spans reaches has tells = λ one s d own passes wit
     let other = spot b cell s y in
     let f = pair_follows rule pass one other passes breaks in
     let t = tells (span_of rule s y) (span_of rule one.item one.region) (has s d within f) (meet_swap (span_of rule one.item one.region) (span_of rule s y) (pair_meets rule one other breaks)) in
-    (t.0, λ w. t.1 ∙ span_item rule s y)
+    let same : t.0.by.item ≡ s = t.1 ∙ span_item rule s y in
+    (t.0, λ w. same, omega arith)
 
 pub others_pairs : (rule : Rule) (pass : Bool) (b : ℕ) (cell : CellConfig) (spans : List Span) (reaches : List Reach) → is_within rule ≡ true → HasOthers rule pass b cell.memory_regions spans → TellsPairs spans reaches → TellsOthers rule pass b cell reaches
 others_pairs rule pass b cell spans reaches w has tells = λ one s d own passes within breaks.
@@ -271,7 +319,8 @@ others_pairs rule pass b cell spans reaches w has tells = λ one s d own passes 
     let g : one.item ≡ s = sym (span_item rule one.item one.region) ∙ e ∙ span_item rule s y in
     omega arith
     in
-    (tells (span_of rule one.item one.region) (span_of rule s y) cx cy differ (span_some rule one.item one.region w t) (pair_meets rule one other breaks), λ f. absurd (not_both (is_within rule) w f))
+    let r = tells (span_of rule one.item one.region) (span_of rule s y) cx cy differ (span_some rule one.item one.region w t) (span_some rule s y w (pair_second rule one other w breaks)) (pair_meets rule one other breaks) in
+    (r.0, λ f. absurd (not_both (is_within rule) w f), subst (λ n. n ≤ r.0.by.item) (span_item rule s y) r.1)
 
 -- regions that stand apart break no rule about two of them
 pub others_apart : (rule : Rule) (pass : Bool) (b : ℕ) (cell : CellConfig) → is_within rule ≡ true → StandApart rule cell.memory_regions → TellsOthers rule pass b cell []
@@ -287,8 +336,27 @@ others_apart rule pass b cell w stand = λ one s d own passes within breaks.
     let behind = subst P (sym same) (λ t. stand one.item s d before within t second) (pair_takes_part rule one other breaks) in
     absurd (met_before (span_of rule one.item one.region) (span_of rule s y) (pair_meets rule one other breaks) behind)
 
-pub rising_none : IsRising []
-rising_none = record { starts = λ i j d h k. absurd (omega arith); ends = λ i j d h k. absurd (omega arith) }
+-- those of a cell whose regions are in no pair as the other tell nothing
+pub others_none : (rule : Rule) (pass : Bool) (b : ℕ) (cell : CellConfig) → ((a : ℕ) → joins rule a b ≡ true → ⊥) → TellsOthers rule pass b cell []
+others_none rule pass b cell apart = λ one s d own passes within breaks.
+    absurd (apart one.cell (pair_joins rule one (spot b cell s (get_or cell.memory_regions s d)) breaks))
+
+-- what is so of all, and of others where these are known, is so of those of a region that may meet shared ones
+of_either : (P : List Reach → Type 0) (reaches : Reaches) → P reaches.any.items → IfSome reaches.unshared (λ unshared. P unshared.items) → P (unshared_of reaches)
+of_either P reaches any own =
+    (elim reaches.unshared as (λ u. IfSome u (λ unshared. P unshared.items) → P (elim u [ None ↦ reaches.any.items | Some unshared ↦ unshared.items ])) [
+      | None ↦ λ h. any
+      | Some unshared ↦ λ h. h
+    ]) own
+
+-- those of all regions and of unshared ones, if there are any, tell of the cell
+pub measured : (rule : Rule) (b : ℕ) (cell : CellConfig) (reaches : Reaches) → IsRising reaches.any.items → TellsOthers rule false b cell reaches.any.items → IfSome reaches.unshared (λ unshared. IsRising unshared.items) → IfSome reaches.unshared (λ unshared. TellsOthers rule true b cell unshared.items) → AreOf rule b cell reaches
+measured rule b cell reaches rises any unshared_rises unshared = record {
+  any_rises = rises;
+  any = any;
+  unshared_rises = of_either (λ xs. IsRising xs) reaches rises unshared_rises;
+  unshared = of_either (λ xs. TellsOthers rule true b cell xs) reaches (λ one s d own passes within breaks. any one s d own (λ e. absurd (false≢true e)) within breaks) unshared;
+}
 
 -- ---- the search
 
@@ -315,32 +383,52 @@ lies_unreached reaches span n rising behind before bound reached =
           omega arith
     ]
 
--- a region that breaks the rule with one of the cell is reached by those by which it is looked for
-reached_for : (rule : Rule) (b : ℕ) (other : CellConfig) (reaches : Reaches) (one : Spot) (s : ℕ) (d : Region) → AreOf rule b other reaches → IsOwn one b other → s < length other.memory_regions → pair_breaks rule one (spot b other s (get_or other.memory_regions s d)) ≡ true → (reached : IsReached (reaches_for rule one.region reaches) (span_of rule one.item one.region)) × (is_within rule ≡ false → reached.by.item ≡ s)
-reached_for rule b other reaches one s d of own within breaks =
-    elim (cases_Bool (passes_shared rule one.region)) [
-      | inl p ↦ rw p (of.unshared one s d own p within breaks)
-      | inr p ↦ rw p (of.any one s d own p within breaks)
+-- where those before one of them end before the span, and those behind it begin behind it, no other reaches it
+pub last_reaches : (reaches : List Reach) (span : Span) (n : ℕ) (x d : Reach) → IsRising reaches → n < length reaches → (0 < n → (d : Reach) → (get_or reaches (n - 1) d).end ≤ span.start) → (n + 1 < length reaches → (d : Reach) → span.end ≤ (get_or reaches (n + 1) d).start) → Contains reaches x → x.start < span.end → span.start < x.end → get_or reaches n d ≡ x
+last_reaches reaches span n x d rising bound behind before cx begins ends =
+    let k = cx.0 in
+    let within = cx.1 in
+    elim (cases_order k n) [
+      | inl e ↦ sym (ap (λ j. get_or reaches j d) e) ∙ get_or_default reaches k d x within ∙ cx.2
+      | inr (inl h) ↦
+          let a = rising.ends k (n - 1) x (omega arith) (omega arith) in
+          let b = behind (omega arith) x in
+          let c : (get_or reaches k x).end ≤ span.start = omega arith in
+          let e : x.end ≤ span.start = subst (λ (s : Reach). s.end ≤ span.start) cx.2 c in
+          absurd (omega arith)
+      | inr (inr h) ↦
+          let a = rising.starts (n + 1) k x (omega arith) within in
+          let b = before (omega arith) x in
+          let c : span.end ≤ (get_or reaches k x).start = omega arith in
+          let e : span.end ≤ x.start = subst (λ (s : Reach). span.end ≤ s.start) cx.2 c in
+          absurd (omega arith)
     ]
 
--- nothing is found of a region that takes no part, or isn't reached
-pub beside_apart : (rule : Rule) (one : Spot) (b : ℕ) (other : CellConfig) → takes_part rule one.region ≡ false → beside rule one b other ≡ []
-beside_apart rule one b other h =
-    beside_none rule one b other (λ s d within breaks.
-    not_both (takes_part rule one.region) (pair_takes_part rule one (spot b other s (get_or other.memory_regions s d)) breaks) h)
+-- a region that breaks the rule with one of the cell is reached by all, and by those by which it is looked for
+reached_any : (rule : Rule) (b : ℕ) (other : CellConfig) (reaches : Reaches) (one : Spot) (s : ℕ) (d : Region) → AreOf rule b other reaches → IsOwn one b other → s < length other.memory_regions → pair_breaks rule one (spot b other s (get_or other.memory_regions s d)) ≡ true → IsReached reaches.any.items (span_of rule one.item one.region)
+reached_any rule b other reaches one s d of own within breaks = (of.any one s d own (λ e. absurd (false≢true e)) within breaks).0
 
-pub beside_unreached : (rule : Rule) (one : Spot) (b : ℕ) (other : CellConfig) (reaches : Reaches) → AreOf rule b other reaches → IsOwn one b other → (IsReached (reaches_for rule one.region reaches) (span_of rule one.item one.region) → ⊥) → beside rule one b other ≡ []
+reached_for : (rule : Rule) (b : ℕ) (other : CellConfig) (reaches : Reaches) (one : Spot) (s : ℕ) (d : Region) → AreOf rule b other reaches → IsOwn one b other → s < length other.memory_regions → pair_breaks rule one (spot b other s (get_or other.memory_regions s d)) ≡ true → (reached : IsReached (reaches_for rule one.region reaches) (span_of rule one.item one.region)) × (is_within rule ≡ false → reached.by.item ≡ s) × (s ≤ reached.by.item)
+reached_for rule b other reaches one s d of own within breaks =
+    elim (cases_Bool (passes_shared rule one.region)) [
+      | inl p ↦ rw p (of.unshared one s d own (λ e. p) within breaks)
+      | inr p ↦ rw p (of.any one s d own (λ e. absurd (false≢true e)) within breaks)
+    ]
+
+-- nothing is found of a region that takes no part, or isn't reached by both
+pub beside_unreached : (rule : Rule) (one : Spot) (b : ℕ) (other : CellConfig) (reaches : Reaches) → AreOf rule b other reaches → IsOwn one b other → (takes_part rule one.region ≡ true → IsReached reaches.any.items (span_of rule one.item one.region) → IsReached (reaches_for rule one.region reaches) (span_of rule one.item one.region) → ⊥) → beside rule one b other ≡ []
 beside_unreached rule one b other reaches of own unreached =
-    beside_none rule one b other (λ s d within breaks. unreached (reached_for rule b other reaches one s d of own within breaks).0)
+    beside_none rule one b other (λ s d within breaks. unreached (pair_takes_part rule one (spot b other s (get_or other.memory_regions s d)) breaks) (reached_any rule b other reaches one s d of own within breaks) (reached_for rule b other reaches one s d of own within breaks).0)
 
 -- a window in which those are that reach it has the numbers of those that break the rule with it
-pub window_hits : (rule : Rule) (one : Spot) (b : ℕ) (other : CellConfig) (reaches : Reaches) (window : Window) → AreOf rule b other reaches → IsOwn one b other → (is_within rule ≡ true → (s : ℕ) → s < 2 ^ 64 → IsIn window s) → (is_within rule ≡ false → (x : Reach) → Contains (reaches_for rule one.region reaches) x → x.start < (span_of rule one.item one.region).end → (span_of rule one.item one.region).start < x.end → IsIn window x.item) → HasHits rule one b other window
-window_hits rule one b other reaches window of own all told = λ s d within small breaks.
+pub window_hits : (rule : Rule) (one : Spot) (b : ℕ) (other : CellConfig) (reaches : Reaches) (window : Window) → AreOf rule b other reaches → IsOwn one b other → (is_within rule ≡ true → (x : Reach) (s : ℕ) → Contains (reaches_for rule one.region reaches) x → x.start < (span_of rule one.item one.region).end → (span_of rule one.item one.region).start < x.end → one.item < s → s ≤ x.item → IsIn window s) → (is_within rule ≡ false → (x : Reach) → Contains (reaches_for rule one.region reaches) x → x.start < (span_of rule one.item one.region).end → (span_of rule one.item one.region).start < x.end → IsIn window x.item) → HasHits rule one b other window
+window_hits rule one b other reaches window of own behind told = λ s d within small breaks.
+    let r = reached_for rule b other reaches one s d of own within breaks in
     elim (cases_Bool (is_within rule)) [
-      | inl w ↦ all w s small
-      | inr w ↦
-          let r = reached_for rule b other reaches one s d of own within breaks in
-          subst (λ n. IsIn window n) (r.1 w) (told w r.0.by r.0.is r.0.begins r.0.ends)
+      | inl w ↦
+          let low = ltb-true one.item s (pair_order rule one (spot b other s (get_or other.memory_regions s d)) w breaks) in
+          behind w r.0.by s r.0.is r.0.begins r.0.ends low r.2
+      | inr w ↦ subst (λ n. IsIn window n) (r.1 w) (told w r.0.by r.0.is r.0.begins r.0.ends)
     ]
 
 -- the items that are passed over give nothing
@@ -413,17 +501,41 @@ wider reaches span extent inside reached =
     let b = reached.ends in
     record { by = reached.by; is = reached.is; begins = omega arith; ends = omega arith }
 
-beyond_by : (b : Bool) (reaches : Reaches) (span extent : Span) → IsInside span extent → (IsReached reaches.any.items extent → ⊥) → (IsReached reaches.unshared.items extent → ⊥) → IsReached (if b then reaches.unshared.items else reaches.any.items) span → ⊥
-beyond_by true reaches span extent inside any unshared reached = unshared (wider reaches.unshared.items span extent inside reached)
-beyond_by false reaches span extent inside any unshared reached = any (wider reaches.any.items span extent inside reached)
+beyond_by : (b : Bool) (reaches : Reaches) (span : Span) (extents : Extents) → IsInside span (if b then extents.unshared else extents.any) → (IsReached reaches.any.items extents.any → ⊥) → (IsReached (unshared_of reaches) extents.unshared → ⊥) → IsReached (if b then unshared_of reaches else reaches.any.items) span → ⊥
+beyond_by true reaches span extents inside any unshared reached = unshared (wider (unshared_of reaches) span extents.unshared inside reached)
+beyond_by false reaches span extents inside any unshared reached = any (wider reaches.any.items span extents.any inside reached)
 
-pub between_beyond : (rule : Rule) (a : ℕ) (one : CellConfig) (b : ℕ) (other : CellConfig) (reaches : Reaches) (extent : Span) → AreOf rule b other reaches → (a ≡ b → one ≡ other) → IsExtent rule one.memory_regions extent → (IsReached reaches.any.items extent → ⊥) → (IsReached reaches.unshared.items extent → ⊥) → between rule a one b other ≡ []
+pub between_beyond : (rule : Rule) (a : ℕ) (one : CellConfig) (b : ℕ) (other : CellConfig) (reaches : Reaches) (extents : Extents) → AreOf rule b other reaches → (a ≡ b → one ≡ other) → AreExtents rule one.memory_regions extents → (IsReached reaches.any.items extents.any → ⊥) → (IsReached (unshared_of reaches) extents.unshared → ⊥) → between rule a one b other ≡ []
 unfolding between
-between_beyond rule a one b other reaches extent of same wide any unshared =
+between_beyond rule a one b other reaches extents of same wide any unshared =
     let none : Region = record { phys_start = 0; virt_start = 0; size = 0; flags = 0 } in
     found_none0 (between_at rule a one b other) one.memory_regions none (λ r h.
     let x = get_or one.memory_regions r none in
-    elim (cases_Bool (takes_part rule x)) [
-      | inl takes ↦ beside_unreached rule (spot a one r x) b other reaches of (own_spot a one r none b other h same) (λ reached. beyond_by (passes_shared rule x) reaches (span_of rule r x) extent (wide r none h h takes) any unshared reached)
-      | inr aside ↦ beside_apart rule (spot a one r x) b other aside
+    beside_unreached rule (spot a one r x) b other reaches of (own_spot a one r none b other h same) (λ takes all reached.
+    beyond_by (passes_shared rule x) reaches (span_of rule r x) extents (wide r none h h takes) any unshared reached))
+
+-- a rule about one cell finds nothing where none of its regions reaches another
+between_alone : (rule : Rule) (a : ℕ) (one : CellConfig) (b : ℕ) (other : CellConfig) (reaches : Reaches) → AreOf rule b other reaches → (a ≡ b → one ≡ other) → length reaches.any.items ≡ 0 → between rule a one b other ≡ []
+unfolding between
+between_alone rule a one b other reaches of same none =
+    let region : Region = record { phys_start = 0; virt_start = 0; size = 0; flags = 0 } in
+    found_none0 (between_at rule a one b other) one.memory_regions region (λ r h.
+    let x = get_or one.memory_regions r region in
+    beside_unreached rule (spot a one r x) b other reaches of (own_spot a one r region b other h same) (λ takes reached any.
+    let within = reached.is.1 in
+    absurd (omega arith)))
+
+pub cell_alone : (rule : Rule) (all : List CellConfig) (a : ℕ) (one : CellConfig) (reaches : Reaches) → is_within rule ≡ true → one ≡ get_or all a one → AreOf rule a one reaches → length reaches.any.items ≡ 0 → from_cell rule all a one ≡ []
+unfolding from_cell
+cell_alone rule all a one reaches within is of none =
+    found_none0 (between rule a one) all one (λ b h.
+    let other = get_or all b one in
+    elim (cases_Bool (joins rule a b)) [
+      | inl j ↦
+          let e = joins_same rule a b within j in
+          let same : one ≡ other = is ∙ ap (λ k. get_or all k one) e in
+          let its = subst (λ x. AreOf rule a x reaches) same of in
+          let there = subst (λ k. AreOf rule k other reaches) e its in
+          between_alone rule a one b other reaches there (λ f. same) none
+      | inr n ↦ between_apart rule a one b other n
     ])

@@ -1,5 +1,5 @@
 -- The seats of devices: those of one bdf stand side by side, and tell of all that are linked.
-use Rattle.std.proofs.Common.{◌≡◌, ℕ, ◌+◌, ◌-◌, ◌<◌, ◌≤◌, Bool, true, false, ◌&&◌, not, ◌==◌, nat_lt, leb, List, length, get_or, take, drop, length-drop, sym, ap, subst, ◌∙◌, inl, inr, arith}
+use Rattle.std.proofs.Common.{◌≡◌, ℕ, ◌+◌, ◌-◌, ◌<◌, ◌≤◌, true, false, ◌&&◌, not, ◌==◌, nat_lt, leb, List, length, get_or, take, drop, length-drop, sym, ap, subst, ◌∙◌, inl, inr, arith}
 use Rattle.std.specs.List.{Contains, AllWithin, list_all}
 use Rattle.std.proofs.lemmas.Bool.{cases_Bool, cases_lt, ltb-true, leb-false, eqb-true, not_from_false, or_left}
 use Rattle.std.proofs.lemmas.List.{get_or-take, get_or-drop, length-take}
@@ -39,8 +39,8 @@ seat_within seats bdf begin m n low high bound after before x cx is =
 -- ---- linked devices
 
 -- a device of one of the cells is linked with none, or its seat tells that it fits
-agrees_seated : (cells : List CellConfig) (number : ℕ) (regions : List Region) (device : PciDevice) (seats run : List Seat) → HasSeats cells seats → ((x : Seat) → Contains seats x → x.bdf ≡ device.bdf → Contains run x) → ((x : Seat) → Contains run x → AgreesAt cells number regions device x) → (k : ℕ) (cell : CellConfig) (other : PciDevice) → k < number → k < length cells → Contains (get_or cells k cell).pci_devices other → agrees_with regions device (get_or cells k cell).memory_regions other ≡ true
-agrees_seated cells number regions device seats run has found agree k cell other low within co =
+agrees_seated : (cells : List CellConfig) (number : ℕ) (regions : List Region) (device : PciDevice) (seats : List Seat) → HasSeats cells seats → ((x : Seat) → Contains seats x → x.bdf ≡ device.bdf → AgreesAt cells number regions device x) → (k : ℕ) (cell : CellConfig) (other : PciDevice) → k < number → k < length cells → Contains (get_or cells k cell).pci_devices other → agrees_with regions device (get_or cells k cell).memory_regions other ≡ true
+agrees_seated cells number regions device seats has agree k cell other low within co =
     let there = get_or cells k cell in
     let n = co.0 in
     let rest = (device.shmem_peers == other.shmem_peers) && (not (device.shmem_dev_id == other.shmem_dev_id) && are_same_memory (sections_of regions device) (sections_of there.memory_regions other)) in
@@ -49,13 +49,13 @@ agrees_seated cells number regions device seats run has found agree k cell other
           let both = and_right (is_shmem device) (is_shmem other && (device.bdf == other.bdf)) t in
           let e = eqb-true device.bdf other.bdf (and_right (is_shmem other) (device.bdf == other.bdf) both) in
           let seated : Contains seats (seat_of k n other) = subst (λ (d : PciDevice). Contains seats (seat_of k n d)) co.2 (has k cell within n other co.1) in
-          let fits = agree (seat_of k n other) (found (seat_of k n other) seated (sym e)) cell other low co.1 in
+          let fits = agree (seat_of k n other) seated (sym e) cell other low co.1 in
           subst (λ (d : PciDevice). agrees_with regions device there.memory_regions d ≡ true) co.2 fits
       | inr f ↦ or_left (not (are_linked device other)) rest (not_from_false (are_linked device other) f)
     ]
 
-pub agrees_linked : (cells : List CellConfig) (number : ℕ) (regions : List Region) (device : PciDevice) (seats run : List Seat) → number ≤ length cells → HasSeats cells seats → ((x : Seat) → Contains seats x → x.bdf ≡ device.bdf → Contains run x) → ((x : Seat) → Contains run x → AgreesAt cells number regions device x) → agrees_with_all (take number cells) regions device ≡ true
-agrees_linked cells number regions device seats run bound has found agree =
+pub agrees_linked : (cells : List CellConfig) (number : ℕ) (regions : List Region) (device : PciDevice) (seats : List Seat) → number ≤ length cells → HasSeats cells seats → ((x : Seat) → Contains seats x → x.bdf ≡ device.bdf → AgreesAt cells number regions device x) → agrees_with_all (take number cells) regions device ≡ true
+agrees_linked cells number regions device seats bound has agree =
     all_each (λ (cell : CellConfig). list_all (λ (other : PciDevice). agrees_with regions device cell.memory_regions other) cell.pci_devices) (take number cells) (λ cell cc.
     all_each (λ (other : PciDevice). agrees_with regions device cell.memory_regions other) cell.pci_devices (λ other co.
     let k = cc.0 in
@@ -64,5 +64,5 @@ agrees_linked cells number regions device seats run bound has found agree =
     let low : k < number = omega arith in
     let here : get_or cells k cell ≡ cell = sym (get_or-take number cells k cell low) ∙ cc.2 in
     let P : CellConfig → Type 0 = λ (c : CellConfig). Contains c.pci_devices other → agrees_with regions device c.memory_regions other ≡ true in
-    let there : P (get_or cells k cell) = λ c. agrees_seated cells number regions device seats run has found agree k cell other low (omega arith) c in
+    let there : P (get_or cells k cell) = λ c. agrees_seated cells number regions device seats has agree k cell other low (omega arith) c in
     subst P here there co))

@@ -1,5 +1,6 @@
 -- Definitions that mirror the code: clauses of private functions alone cite them, and no public clause rests on them.
 pub mod Bus
+pub mod Fits
 pub mod Links
 pub mod Reaches
 pub mod Seats

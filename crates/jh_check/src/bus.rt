@@ -1,6 +1,6 @@
-//! The bdfs at which devices of cells stand, by which most devices are told at once to be linked with none.
-ghost use Rattle.std.specs.Prelude.{◌≡◌, ◌<◌, ℕ, true, false, length, slice_index_or, IfOk, Contains};
-ghost use Rattle.jh_cellcfg.specs.declared.config.PciDevice.{PciDevice};
+//! The bdfs at which devices of cells stand, by which most devices are told at once to be linked with none, and to be
+//! the first of their cell there.
+ghost use Rattle.std.specs.Prelude.{◌≡◌, ◌≢◌, ◌+◌, ◌<◌, ℕ, false, length, slice_index_or, IfOk};
 
 use jh_cellcfg::PciDevice;
 use jh_num::NoMemory;
@@ -17,30 +17,48 @@ pub(crate) fn bdf_of(device: &PciDevice) -> usize
     usize::from(device.bdf)
 }
 
-/// A mark for each bdf.
-pub(crate) fn marks(alloc: Global) -> Result<Vec<bool>, NoMemory>
+/// A mark for each bdf, which no cell has put yet.
+pub(crate) fn marks(alloc: Global) -> Result<Vec<u8>, NoMemory>
     ensures { IfOk result (λ marks. length marks.items ≡ 65536) }
 {
-    let marks = vec![in alloc; false; MAX_BDFS]?;
+    let marks = vec![in alloc; 0; MAX_BDFS]?;
     Ok(marks)
 }
 
-/// Marks the bdfs of these devices.
-pub(crate) fn mark(marks: &mut Vec<bool>, devices: &[PciDevice])
-    requires { length marks.old.items ≡ 65536 }
-    ensures length { length marks.new.items ≡ 65536 }
-    ensures kept { (bdf : ℕ) → slice_index_or marks.old.items bdf false ≡ true → slice_index_or marks.new.items bdf false ≡ true }
-    ensures each { (device : PciDevice) → Contains devices.now device → slice_index_or marks.new.items device.bdf false ≡ true }
+/// The mark of the cell of that number.
+fn mark_of(cell: u32) -> u8
+    requires { cell < 255 }
+    ensures { result ≡ cell + 1 }
 {
-    for device in devices {
-        marks[bdf_of(device)] = true;
-    }
+    cell as u8 + 1
+}
+
+/// Puts the cell's mark to the bdf of the device.
+pub(crate) fn mark(marks: &mut Vec<u8>, cell: u32, device: &PciDevice)
+    requires length { length marks.old.items ≡ 65536 }
+    requires few { cell < 255 }
+    ensures length { length marks.new.items ≡ 65536 }
+    ensures others { (bdf : ℕ) → bdf ≢ device.now.bdf → slice_index_or marks.new.items bdf 0 ≡ slice_index_or marks.old.items bdf 0 }
+    ensures own { slice_index_or marks.new.items device.now.bdf 0 ≡ cell + 1 }
+{
+    let at = bdf_of(device);
+    let own = mark_of(cell);
+    marks[at] = own;
 }
 
 /// Whether the bdf of the device is marked.
-pub(crate) fn is_marked(marks: &[bool], device: &PciDevice) -> bool
+pub(crate) fn is_marked(marks: &[u8], device: &PciDevice) -> bool
     requires { length marks.now ≡ 65536 }
-    ensures { result ≡ slice_index_or marks.now device.now.bdf false }
+    ensures { result ≡ false → slice_index_or marks.now device.now.bdf 0 ≡ 0 }
 {
-    marks[bdf_of(device)]
+    marks[bdf_of(device)] != 0
+}
+
+/// Whether it is marked by the cell of that number.
+pub(crate) fn is_marked_by(marks: &[u8], cell: u32, device: &PciDevice) -> bool
+    requires length { length marks.now ≡ 65536 }
+    requires few { cell < 255 }
+    ensures { result ≡ false → slice_index_or marks.now device.now.bdf 0 ≢ cell + 1 }
+{
+    marks[bdf_of(device)] == mark_of(cell)
 }

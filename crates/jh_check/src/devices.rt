@@ -220,6 +220,14 @@ fn is_twice(earlier: &[PciDevice], device: &PciDevice) -> bool
         .any(|other| other.is_shmem() && other.bdf == device.bdf)
 }
 
+/// The same, where `repeated` says that one may.
+fn is_repeated(earlier: &[PciDevice], device: &PciDevice, repeated: bool) -> bool
+    requires { repeated ≡ false → is_twice earlier.now device.now ≡ false }
+    ensures { result ≡ is_twice earlier.now device.now }
+{
+    repeated && is_twice(earlier, device)
+}
+
 fn is_same_memory(one: &Region, other: &Region) -> bool
     ensures { result ≡ is_same_memory one.now other.now }
 {
@@ -227,7 +235,7 @@ fn is_same_memory(one: &Region, other: &Region) -> bool
 }
 
 /// Whether all at the same offset are the same memory.
-fn are_same_memory(ones: &[Region], others: &[Region]) -> bool
+pub(crate) fn are_same_memory(ones: &[Region], others: &[Region]) -> bool
     ensures { result ≡ are_same_memory ones.now others.now }
 {
     if ones.len() != others.len() {
@@ -368,7 +376,8 @@ fn has_good_sections(device: &PciDevice, sections: &[Region]) -> bool
 }
 
 /// Whether the device is an ivshmem device that breaks a rule. It is of `cell`, which has that number;
-/// `earlier` are the devices before it there, and `doubted` says that one of a cell with a lower number may not fit it.
+/// `earlier` are the devices before it there, of which `repeated` says that one may have its number, and `doubted` that one
+/// of a cell with a lower number may not fit it.
 #[tactic(auto, unfolding(crate::specs::Devices::device_breaks))]
 pub(crate) fn device_breaks(
     setup: &Setup,
@@ -376,9 +385,11 @@ pub(crate) fn device_breaks(
     cell: &CellConfig,
     earlier: &[PciDevice],
     device: &PciDevice,
+    repeated: bool,
     doubted: bool,
 ) -> bool
     requires number { number ≤ length (cells_of setup.now) }
+    requires repeated { repeated ≡ false → is_twice earlier.now device.now ≡ false }
     requires doubted { doubted ≡ false → agrees_with_all (take number (cells_of setup.now)) cell.now.memory_regions device.now ≡ true }
     ensures { result ≡ device_breaks (take number (cells_of setup.now)) cell.now earlier.now device.now }
 {
@@ -388,7 +399,7 @@ pub(crate) fn device_breaks(
             && has_good_bars(device)
             && has_all_sections(regions, device)
             && has_good_sections(device, sections_of(regions, device))
-            && !is_twice(earlier, device)
+            && !is_repeated(earlier, device, repeated)
             && agrees_with_lower(setup, number, regions, device, doubted))
 }
 

@@ -5,6 +5,8 @@ mod bus;
 mod checking;
 mod devices;
 mod finding;
+mod fits;
+mod gaps;
 mod laws;
 mod links;
 mod pairing;

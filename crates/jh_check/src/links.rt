@@ -9,9 +9,18 @@ use jh_cellcfg::{CellConfig, PciDevice};
 use jh_num::NoMemory;
 use std::alloc::Global;
 
-/// To each bdf, the number of an ivshmem device that may have it.
+/// How many bdfs there are up to the last at which one of the devices stands.
+fn bdfs_of(devices: &[PciDevice]) -> usize {
+    let mut end = 0;
+    for device in devices {
+        end = end.max(bdf_of(device) + 1);
+    }
+    end
+}
+
+/// To each bdf up to the devices' last, the number of an ivshmem device that may have it.
 fn holders_among(alloc: Global, devices: &[PciDevice]) -> Result<Vec<u16>, NoMemory> {
-    let mut holders = vec![in alloc; 0; MAX_BDFS]?;
+    let mut holders = vec![in alloc; 0; bdfs_of(devices)]?;
     for n in 0..devices.len().min(MAX_BDFS) {
         let bdf = bdf_of(&devices[n]);
         if devices[n].is_shmem() && bdf < holders.len() {
@@ -21,8 +30,8 @@ fn holders_among(alloc: Global, devices: &[PciDevice]) -> Result<Vec<u16>, NoMem
     Ok(holders)
 }
 
-/// To each bdf, the number of a device of the cell that may be linked with one of another; none, where the rule
-/// doesn't ask or the cell has no device.
+/// To each bdf up to the last, the number of a device of the cell that may be linked with one of another; none, where
+/// the rule doesn't ask or the cell has no device.
 pub(crate) fn holders_of(
     alloc: Global,
     rule: Rule,
@@ -47,7 +56,23 @@ fn put(partners: &mut Vec<Option<usize>>, item: usize, mate: usize)
     partners[item] = Some(mate);
 }
 
-/// Notes the sections of those two devices as partners, if the devices are linked.
+/// Whether so many sections of the two devices seem to be noted as partners, as the first and the last are.
+fn seem_noted(
+    partners: &[Option<usize>],
+    device: &PciDevice,
+    mate: &PciDevice,
+    count: usize,
+) -> bool
+    requires { count < 258 }
+{
+    let start = device.shmem_regions_start as usize;
+    let mate_start = mate.shmem_regions_start as usize;
+    let last = count.saturating_sub(1);
+    is_noted(partner_of(partners, start), mate_start)
+        && is_noted(partner_of(partners, start + last), mate_start + last)
+}
+
+/// Notes the sections of those two devices as partners, if the devices are linked and they aren't noted yet.
 fn note(partners: &mut Vec<Option<usize>>, one: &CellConfig, n: usize, other: &CellConfig, m: usize)
     requires one { n < length one.now.pci_devices }
     requires other { m < length other.now.pci_devices }
@@ -59,9 +84,13 @@ fn note(partners: &mut Vec<Option<usize>>, one: &CellConfig, n: usize, other: &C
     if !are_linked(device, mate) {
         return;
     }
+    let count = section_count(device).min(section_count(mate));
+    if seem_noted(partners.as_slice(), device, mate, count) {
+        return;
+    }
     let start = device.shmem_regions_start as usize;
     let mate_start = mate.shmem_regions_start as usize;
-    for k in 0..section_count(device).min(section_count(mate)) {
+    for k in 0..count {
         put(partners, start + k, mate_start + k);
     }
 }

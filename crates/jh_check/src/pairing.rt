@@ -1,23 +1,22 @@
 //! The search for pairs of regions, which passes over regions that meet none of another cell.
-ghost use Rattle.std.specs.Prelude.{◌≡◌, ◌≤◌, ◌++◌, length, slice_index_or, OnOk, IfOk};
+ghost use Rattle.std.specs.Prelude.{◌≡◌, ◌<◌, ◌≤◌, ◌++◌, true, length, slice_index_or, OnOk, IfOk};
 ghost use Rattle.jh_check.specs.Cells.{cells_of};
-ghost use Rattle.jh_check.specs.Sites.{spot_of};
 ghost use Rattle.jh_check.specs.Lists.{capped};
-ghost use Rattle.jh_check.specs.Spans.{joins};
-ghost use Rattle.jh_check.specs.Private.Reaches.{IsOwn, AreOf, AreOfEach, IsExtent};
-ghost use Rattle.jh_check.specs.Private.Links.{ArePartners, IsPartner};
-ghost use Rattle.jh_check.specs.Findings.{beside, between, from_cell, in_pairs};
+ghost use Rattle.jh_check.specs.Spans.{joins, is_within};
+ghost use Rattle.jh_check.specs.Private.Reaches.{IsOwn, AreOf, AreOfEach, AreExtents};
+ghost use Rattle.jh_check.specs.Private.Links.{ArePartners};
+ghost use Rattle.jh_check.specs.Findings.{spot, beside, between, from_cell, in_pairs};
 
 use crate::checking::MAX_FINDINGS;
 use crate::finding::Finding;
+use crate::gaps::{Extents, behind, extents_of, first_gaps, may_meet, may_reach_into};
 use crate::links::{find_partners, holders_of, partner_of};
 use crate::pairs::Site;
-use crate::reach::{Reaches, extent_of, find_window, may_meet, may_reach_into, measure};
+use crate::reach::{Reaches, find_window, is_within, measure};
 use crate::rule::Rule;
 use crate::search::beside;
 use crate::setup::Setup;
-use crate::spans::{Span, takes_part};
-use jh_cellcfg::CellConfig;
+use jh_cellcfg::{CellConfig, Region};
 use jh_num::{NoMemory, Seq};
 use std::alloc::Global;
 
@@ -43,37 +42,39 @@ struct Pair<'a> {
     other: &'a CellConfig,
 }
 
-/// A region with each of a cell, if it may meet one of them and there is room for a finding.
+/// A region of the one cell with each of the other's, if there is room for a finding. `near` is how many of the
+/// reaches may lie before its end.
 #[tactic(auto, using(crate::proofs::ListLemmas::append_nil, crate::proofs::ListLemmas::capped_full))]
 fn visit(
     found: &mut Seq<Finding>,
     rule: Rule,
-    one: &Site,
-    partner: Option<usize>,
+    pair: &Pair,
+    partners: &[Option<usize>],
     reaches: &Reaches,
-    near: &mut usize,
-    b: u32,
-    other: &CellConfig,
+    near: usize,
+    item: usize,
+    region: &Region,
 ) -> Result<(), NoMemory>
-    requires partner { IsPartner (spot_of one.now) other.now partner }
-    requires reaches { AreOf rule b other.now reaches.now }
-    requires own { IsOwn (spot_of one.now) b other.now }
-    ensures { OnOk result (capped found.new ≡ capped (found.old ++ beside rule (spot_of one.now) b other.now)) }
+    requires partners { ArePartners pair.now.one.now pair.now.other.now partners.now }
+    requires reaches { AreOf rule pair.now.b pair.now.other.now reaches.now }
+    requires own { IsOwn (spot pair.now.a pair.now.one.now item region.now) pair.now.b pair.now.other.now }
+    ensures { OnOk result (capped found.new ≡ capped (found.old ++ beside rule (spot pair.now.a pair.now.one.now item region.now) pair.now.b pair.now.other.now)) }
 {
     if found.len() >= MAX_FINDINGS {
         return Ok(());
     }
-    if !takes_part(rule, one.region) {
-        return Ok(());
-    }
-    if !may_meet(reaches, rule, one.item, one.region, near) {
-        return Ok(());
-    }
-    let window = find_window(reaches, rule, one.item, one.region);
-    beside(found, rule, one, partner, window, b, other)
+    let first = Site {
+        cell: pair.a,
+        config: pair.one,
+        item,
+        region,
+    };
+    let partner = partner_of(partners, item);
+    let window = find_window(reaches, rule, item, region, near);
+    beside(found, rule, &first, partner, window, pair.b, pair.other)
 }
 
-/// Each region of a cell with each of another.
+/// Each region of a cell with each of another; those are passed over that may meet none of them.
 fn between(
     found: &mut Seq<Finding>,
     rule: Rule,
@@ -86,23 +87,18 @@ fn between(
     requires same { pair.now.a ≡ pair.now.b → pair.now.one.now ≡ pair.now.other.now }
     ensures { OnOk result (capped found.new ≡ capped (found.old ++ between rule pair.now.a pair.now.one.now pair.now.b pair.now.other.now)) }
 {
-    let mut near = 0;
+    let mut gaps = first_gaps(reaches);
     for (r, region) in pair.one.memory_regions.as_slice().iter().enumerate() {
-        let first = Site {
-            cell: pair.a,
-            config: pair.one,
-            item: r,
-            region,
-        };
-        let partner = partner_of(partners, r);
-        visit(
-            found, rule, &first, partner, reaches, &mut near, pair.b, pair.other,
-        )?;
+        if !may_meet(reaches, rule, r, region, &mut gaps) {
+            continue;
+        }
+        let near = behind(&gaps, rule, region);
+        visit(found, rule, pair, partners, reaches, near, r, region)?;
     }
     Ok(())
 }
 
-/// The same, unless the one cell's regions lie all beyond what the other's reach. `extent` has them all.
+/// The same, unless the one cell's regions lie all beyond what the other's reach. `extents` have them all.
 fn compare(
     alloc: Global,
     found: &mut Seq<Finding>,
@@ -110,14 +106,14 @@ fn compare(
     pair: &Pair,
     holders: &[u16],
     reaches: &Reaches,
-    extent: Span,
+    extents: Extents,
 ) -> Result<(), NoMemory>
     requires reaches { AreOf rule pair.now.b pair.now.other.now reaches.now }
     requires same { pair.now.a ≡ pair.now.b → pair.now.one.now ≡ pair.now.other.now }
-    requires extent { IsExtent rule pair.now.one.now.memory_regions extent }
+    requires extents { AreExtents rule pair.now.one.now.memory_regions extents }
     ensures { OnOk result (capped found.new ≡ capped (found.old ++ between rule pair.now.a pair.now.one.now pair.now.b pair.now.other.now)) }
 {
-    if !may_reach_into(reaches, extent) {
+    if !may_reach_into(reaches, extents) {
         return Ok(());
     }
     let partners = find_partners(alloc, holders, pair.one, pair.other)?;
@@ -133,21 +129,29 @@ fn join(
     pair: &Pair,
     holders: &[u16],
     reaches: &Reaches,
-    extent: Span,
+    extents: Extents,
 ) -> Result<(), NoMemory>
     requires reaches { AreOf rule pair.now.b pair.now.other.now reaches.now }
     requires same { pair.now.a ≡ pair.now.b → pair.now.one.now ≡ pair.now.other.now }
-    requires extent { IsExtent rule pair.now.one.now.memory_regions extent }
+    requires extents { AreExtents rule pair.now.one.now.memory_regions extents }
     ensures { OnOk result (capped found.new ≡ capped (found.old ++ between rule pair.now.a pair.now.one.now pair.now.b pair.now.other.now)) }
 {
     if found.len() >= MAX_FINDINGS {
         return Ok(());
     }
     if joins(rule, pair.a, pair.b) {
-        compare(alloc, found, rule, pair, holders, reaches, extent)
+        compare(alloc, found, rule, pair, holders, reaches, extents)
     } else {
         Ok(())
     }
+}
+
+/// Whether the rule is about one cell, and none of this one's regions reaches another.
+fn stands_alone(rule: Rule, reaches: &Reaches) -> bool
+    ensures within { result ≡ true → is_within rule ≡ true }
+    ensures none { result ≡ true → length reaches.now.any.items ≡ 0 }
+{
+    is_within(rule) && reaches.any.is_empty()
 }
 
 /// The regions of a cell with those of each.
@@ -163,11 +167,15 @@ fn from_cell(
     requires count { length setup.now.cells.now ≤ 15 }
     requires known { length each.now ≡ length (cells_of setup.now) }
     requires each { AreOfEach rule (cells_of setup.now) each.now }
+    requires among { a < length (cells_of setup.now) }
     requires one { one.now ≡ slice_index_or (cells_of setup.now) a one.now }
     ensures { OnOk result (capped found.new ≡ capped (found.old ++ from_cell rule (cells_of setup.now) a one.now)) }
 {
+    if stands_alone(rule, &each[a as usize]) {
+        return Ok(());
+    }
     let holders = holders_of(alloc, rule, one)?;
-    let extent = extent_of(rule, one.memory_regions.as_slice());
+    let extents = extents_of(rule, one.memory_regions.as_slice());
     for b in 0..setup.count() {
         let pair = Pair {
             a,
@@ -182,7 +190,7 @@ fn from_cell(
             &pair,
             holders.as_slice(),
             &each[b as usize],
-            extent,
+            extents,
         )?;
     }
     Ok(())

@@ -1,18 +1,18 @@
 //! How far the regions of a cell reach, by which those that meet none of them are told at once.
-ghost use Rattle.std.specs.Prelude.{◌≡◌, ◌≢◌, ◌<◌, ◌≤◌, ◌^◌, ℕ, true, false, length, OnOk, IfOk, Contains};
+ghost use Rattle.std.specs.Prelude.{◌≡◌, ◌≢◌, ◌<◌, ◌≤◌, ◌-◌, ℕ, true, false, length, slice_index_or, OnOk, IfOk, IfSome, Contains};
 ghost use Rattle.jh_check.specs.declared.spans.Span.{Span};
 ghost use Rattle.jh_check.specs.declared.reach.Reach.{Reach};
-ghost use Rattle.jh_check.specs.Spans.{is_within, span_of, takes_part};
-ghost use Rattle.jh_check.specs.Private.Reaches.{passes_shared, may_follow, reaches_for, HasOthers, InOrder, IsRising, IsReached, TellsEach, TellsPairs, TellsOthers, AreOf, IsIn, IsInside, IsExtent};
+ghost use Rattle.jh_check.specs.Spans.{is_within, joins, span_of};
+ghost use Rattle.jh_check.specs.Private.Reaches.{passes_shared, may_follow, unshared_of, reaches_for, HasOthers, InOrder, IsRising, TellsEach, TellsPairs, TellsOthers, AreOf, IsIn};
 
 use crate::rule::Rule;
-use crate::spans::{Span, are_apart, span_of, stand_apart, takes_part};
+use crate::spans::{Span, span_of, stand_apart};
 use jh_cellcfg::{CellConfig, Region, RegionFlags};
 use jh_num::NoMemory;
 use std::alloc::Global;
 
 /// The region with that number begins at `start`. Of those that begin no later, the one that reaches farthest does to
-/// `end`, or the one that does next to it.
+/// `end`. Where two of a cell meet, the one next to it does, and the number is the greatest of theirs.
 #[derive(Clone, Copy, PartialEq, Eq, Debug)]
 pub(crate) struct Reach {
     pub(crate) start: u64,
@@ -32,12 +32,12 @@ pub(crate) struct Window {
 pub(crate) struct Reaches {
     /// With a region that may meet none of them.
     pub(crate) any: Vec<Reach>,
-    /// With a region that may meet those that are shared.
-    pub(crate) unshared: Vec<Reach>,
+    /// With a region that may meet those that are shared, if that differs.
+    pub(crate) unshared: Option<Vec<Reach>>,
 }
 
 /// Whether the rule is about two regions of one cell.
-fn is_within(rule: Rule) -> bool
+pub(crate) fn is_within(rule: Rule) -> bool
     ensures { result ≡ is_within rule }
 {
     match rule {
@@ -48,7 +48,7 @@ fn is_within(rule: Rule) -> bool
 }
 
 /// Whether the rule lets the region meet those that are shared.
-fn passes_shared(rule: Rule, region: &Region) -> bool
+pub(crate) fn passes_shared(rule: Rule, region: &Region) -> bool
     ensures { result ≡ passes_shared rule region.now }
 {
     match rule {
@@ -94,7 +94,7 @@ fn sorted(
     ensures each { IfOk result (λ spans. HasOthers rule pass b regions.now spans.items) }
     ensures order { IfOk result (λ spans. InOrder spans.items) }
 {
-    let mut spans = Vec::new(alloc);
+    let mut spans = Vec::with_capacity(alloc, regions.len())?;
     for (item, region) in regions.iter().enumerate() {
         let follows = may_follow(rule, pass, b, region);
         push(&mut spans, follows, span_of(rule, item, region))?;
@@ -122,38 +122,29 @@ fn of_each(alloc: Global, spans: &[Span]) -> Result<Vec<Reach>, NoMemory>
     Ok(reaches)
 }
 
-/// To each span, how far two of those reach that begin no later.
+/// How far two of those reach that begin no later than a span, for each span beyond whose start they do.
 fn of_pairs(alloc: Global, spans: &[Span]) -> Result<Vec<Reach>, NoMemory>
     requires { InOrder spans.now }
     ensures rising { IfOk result (λ reaches. IsRising reaches.items) }
     ensures tells { IfOk result (λ reaches. TellsPairs spans.now reaches.items) }
 {
-    let mut reaches = Vec::with_capacity(alloc, spans.len())?;
+    let mut reaches = Vec::new(alloc);
     let mut farthest = 0;
     let mut end = 0;
+    let mut item = 0;
     for span in spans {
         end = span.end.min(farthest).max(end);
         farthest = span.end.max(farthest);
-        reaches.push(Reach {
-            start: span.start,
-            end,
-            item: span.item,
-        })?;
+        item = span.item.max(item);
+        if u128::from(span.start) < end {
+            reaches.push(Reach {
+                start: span.start,
+                end,
+                item,
+            })?;
+        }
     }
     Ok(reaches)
-}
-
-/// The same; none, where no two of the spans meet.
-fn of_overlaps(alloc: Global, spans: &[Span]) -> Result<Vec<Reach>, NoMemory>
-    requires { InOrder spans.now }
-    ensures rising { IfOk result (λ reaches. IsRising reaches.items) }
-    ensures tells { IfOk result (λ reaches. TellsPairs spans.now reaches.items) }
-{
-    if are_apart(spans) {
-        Ok(Vec::new(alloc))
-    } else {
-        of_pairs(alloc, spans)
-    }
 }
 
 /// The same of the cell's regions; none, where these stand apart.
@@ -173,7 +164,7 @@ fn of_own(
         return Ok(Vec::new(alloc));
     }
     let spans = sorted(alloc, rule, pass, b, regions)?;
-    of_overlaps(alloc, spans.as_slice())
+    of_pairs(alloc, spans.as_slice())
 }
 
 /// How far the cell's regions reach that may follow.
@@ -194,14 +185,41 @@ fn of_cell(
     of_each(alloc, spans.as_slice())
 }
 
-/// How far those do that aren't shared, where the rule lets some regions meet those that are.
-fn of_unshared(alloc: Global, rule: Rule, b: u32, cell: &CellConfig) -> Result<Vec<Reach>, NoMemory>
-    ensures rising { IfOk result (λ reaches. IsRising reaches.items) }
-    ensures tells { IfOk result (λ reaches. TellsOthers rule true b cell.now reaches.items) }
+/// Whether a region is shared, where the rule lets some meet those that are.
+fn may_pass(rule: Rule, regions: &[Region]) -> bool {
+    match rule {
+        Rule::CellsOverlap => regions
+            .iter()
+            .any(|region| region.has(RegionFlags::ROOTSHARED)),
+        _ => false,
+    }
+}
+
+/// How far those do that aren't shared. None, where the rule lets no region meet those that are, or none is.
+fn of_unshared(
+    alloc: Global,
+    rule: Rule,
+    b: u32,
+    cell: &CellConfig,
+) -> Result<Option<Vec<Reach>>, NoMemory>
+    ensures rising { IfOk result (λ unshared. IfSome unshared (λ reaches. IsRising reaches.items)) }
+    ensures tells { IfOk result (λ unshared. IfSome unshared (λ reaches. TellsOthers rule true b cell.now reaches.items)) }
+{
+    if !may_pass(rule, cell.memory_regions.as_slice()) {
+        return Ok(None);
+    }
+    let reaches = of_cell(alloc, rule, true, b, cell)?;
+    Ok(Some(reaches))
+}
+
+/// Whether the rule may be broken by a region of the cell of that number as the other of a pair.
+fn is_other(rule: Rule, b: u32) -> bool
+    ensures { result ≡ false → (a : ℕ) → joins rule a b ≡ true → ⊥ }
 {
     match rule {
-        Rule::CellsOverlap => of_cell(alloc, rule, true, b, cell),
-        _ => Ok(Vec::new(alloc)),
+        Rule::SubpageTaken => b == 0,
+        Rule::CellsOverlap => b > 1,
+        _ => true,
     }
 }
 
@@ -214,107 +232,82 @@ pub(crate) fn measure(
 ) -> Result<Reaches, NoMemory>
     ensures { IfOk result (λ reaches. AreOf rule b cell.now reaches) }
 {
+    if !is_other(rule, b) {
+        return Ok(Reaches {
+            any: Vec::new(alloc),
+            unshared: None,
+        });
+    }
     let any = of_cell(alloc, rule, false, b, cell)?;
     let unshared = of_unshared(alloc, rule, b, cell)?;
     Ok(Reaches { any, unshared })
 }
 
-/// The extent, made so wide that it has the region, where that takes part.
-fn widened(extent: Span, rule: Rule, item: usize, region: &Region) -> Span
-    ensures start { result.start ≤ extent.start }
-    ensures end { extent.end ≤ result.end }
-    ensures own { takes_part rule region.now ≡ true → IsInside (span_of rule item region.now) result }
+/// Those by which a region is looked for that may meet shared ones.
+pub(crate) fn unshared_of(reaches: &Reaches) -> &[Reach]
+    ensures { result.now ≡ unshared_of reaches.now }
 {
-    if !takes_part(rule, region) {
-        return extent;
-    }
-    let span = span_of(rule, item, region);
-    Span {
-        start: span.start.min(extent.start),
-        end: span.end.max(extent.end),
-        item,
+    match &reaches.unshared {
+        Some(unshared) => unshared.as_slice(),
+        None => reaches.any.as_slice(),
     }
 }
 
-/// What has all regions that take part: from the least of their starts to the farthest of their ends.
-pub(crate) fn extent_of(rule: Rule, regions: &[Region]) -> Span
-    ensures { IsExtent rule regions.now result }
+/// Those by which the region is looked for.
+fn reaches_for<'a>(reaches: &'a Reaches, rule: Rule, region: &Region) -> &'a [Reach]
+    ensures { result.now ≡ reaches_for rule region.now reaches.now }
 {
-    let mut extent = Span {
-        start: u64::MAX,
-        end: 0,
-        item: 0,
-    };
-    for (item, region) in regions.iter().enumerate() {
-        extent = widened(extent, rule, item, region);
-    }
-    extent
-}
-
-/// Whether one of those may reach into the extent; only then may a region within it break the rule with one of them.
-pub(crate) fn may_reach_into(reaches: &Reaches, extent: Span) -> bool
-    requires any { IsRising reaches.now.any.items }
-    requires unshared { IsRising reaches.now.unshared.items }
-    ensures any { result ≡ false → IsReached reaches.now.any.items extent → ⊥ }
-    ensures unshared { result ≡ false → IsReached reaches.now.unshared.items extent → ⊥ }
-{
-    let any = may_reach(reaches.any.as_slice(), extent, &mut 0);
-    any || may_reach(reaches.unshared.as_slice(), extent, &mut 0)
-}
-
-/// Whether the span lies behind the first `n` of them and before the others.
-fn lies_behind(reaches: &[Reach], n: usize, span: Span) -> bool
-    requires { IsRising reaches.now }
-    ensures { result ≡ true → IsReached reaches.now span → ⊥ }
-{
-    n <= reaches.len()
-        && (n == 0 || reaches[n - 1].end <= u128::from(span.start))
-        && (n == reaches.len() || span.end <= u128::from(reaches[n].start))
-}
-
-/// Whether the span may be reached; only then may it be told so. `near` is how many lay before the last span, and
-/// becomes how many lie before this one: mostly as many, or one more.
-fn may_reach(reaches: &[Reach], span: Span, near: &mut usize) -> bool
-    requires { IsRising reaches.now }
-    ensures { result ≡ false → IsReached reaches.now span → ⊥ }
-{
-    if lies_behind(reaches, *near, span) {
-        return false;
-    }
-    *near = near.saturating_add(1);
-    if lies_behind(reaches, *near, span) {
-        return false;
-    }
-    *near = reaches.partition_point(|reach| u128::from(reach.start) < span.end);
-    !lies_behind(reaches, *near, span)
-}
-
-/// Whether the region, of that number in its cell, may break the rule with one of those. `near` is where the last one
-/// was looked for.
-pub(crate) fn may_meet(
-    reaches: &Reaches,
-    rule: Rule,
-    item: usize,
-    region: &Region,
-    near: &mut usize,
-) -> bool
-    requires any { IsRising reaches.now.any.items }
-    requires unshared { IsRising reaches.now.unshared.items }
-    ensures { result ≡ false → IsReached (reaches_for rule region.now reaches.now) (span_of rule item region.now) → ⊥ }
-{
-    let span = span_of(rule, item, region);
     if passes_shared(rule, region) {
-        may_reach(reaches.unshared.as_slice(), span, near)
+        unshared_of(reaches)
     } else {
-        may_reach(reaches.any.as_slice(), span, near)
+        reaches.any.as_slice()
     }
 }
 
-/// The numbers of those that reach the span, and maybe of others.
-fn window_of(reaches: &[Reach], span: Span) -> Window
+/// How far the first `n` of them reach.
+pub(crate) fn end_before(reaches: &[Reach], n: usize) -> u128
+    requires { n ≤ length reaches.now }
+    ensures { 0 < n → (d : Reach) → (slice_index_or reaches.now (n - 1) d).end ≤ result }
+{
+    if n == 0 { 0 } else { reaches[n - 1].end }
+}
+
+/// Where the one behind the first `n` of them begins, if there is one.
+pub(crate) fn start_behind(reaches: &[Reach], n: usize) -> u128
+    ensures { n < length reaches.now → (d : Reach) → result ≤ (slice_index_or reaches.now n d).start }
+{
+    if n < reaches.len() {
+        u128::from(reaches[n].start)
+    } else {
+        u128::MAX
+    }
+}
+
+/// Whether none but the one of that number may reach the span.
+fn is_only(reaches: &[Reach], k: usize, span: Span) -> bool
+    requires { IsRising reaches.now }
+    ensures within { result ≡ true → k < length reaches.now }
+    ensures only { result ≡ true → (x d : Reach) → Contains reaches.now x → x.start < span.end → span.start < x.end → slice_index_or reaches.now k d ≡ x }
+{
+    if k >= reaches.len() {
+        return false;
+    }
+    end_before(reaches, k) <= u128::from(span.start) && span.end <= start_behind(reaches, k + 1)
+}
+
+/// The numbers of those that reach the span, and maybe of others. `near` is how many may lie before its end.
+fn window_of(reaches: &[Reach], span: Span, near: usize) -> Window
     requires { IsRising reaches.now }
     ensures { (x : Reach) → Contains reaches.now x → x.start < span.end → span.start < x.end → IsIn result x.item }
 {
+    let k = near.saturating_sub(1);
+    if is_only(reaches, k, span) {
+        let item = reaches[k].item;
+        return Window {
+            first: item,
+            last: item,
+        };
+    }
     let start = u128::from(span.start);
     let end = reaches.partition_point(|reach| u128::from(reach.start) < span.end);
     let begin = reaches.partition_point(|reach| reach.end <= start);
@@ -334,25 +327,37 @@ fn around(reaches: &[Reach]) -> Window
     Window { first, last }
 }
 
-/// The numbers of those regions with which the region, of that number in its cell, may break the rule: of all, where
-/// the rule is about one cell.
-pub(crate) fn find_window(reaches: &Reaches, rule: Rule, item: usize, region: &Region) -> Window
+/// Those of the window behind that number.
+fn behind(window: Window, item: usize) -> Window
+    ensures { (s : ℕ) → item < s → s ≤ window.last → IsIn result s }
+{
+    Window {
+        first: item.saturating_add(1),
+        last: window.last,
+    }
+}
+
+/// The numbers of those regions with which the region, of that number in its cell, may break the rule: only of ones
+/// behind it, where the rule is about one cell. `near` is how many may lie before its end.
+pub(crate) fn find_window(
+    reaches: &Reaches,
+    rule: Rule,
+    item: usize,
+    region: &Region,
+    near: usize,
+) -> Window
     requires any { IsRising reaches.now.any.items }
-    requires unshared { IsRising reaches.now.unshared.items }
-    ensures all { is_within rule ≡ true → (s : ℕ) → s < 2 ^ 64 → IsIn result s }
+    requires unshared { IsRising (unshared_of reaches.now) }
+    ensures behind { is_within rule ≡ true → (x : Reach) (s : ℕ) → Contains (reaches_for rule region.now reaches.now) x
+        → x.start < (span_of rule item region.now).end → (span_of rule item region.now).start < x.end → item < s → s ≤ x.item → IsIn result s }
     ensures told { is_within rule ≡ false → (x : Reach) → Contains (reaches_for rule region.now reaches.now) x
         → x.start < (span_of rule item region.now).end → (span_of rule item region.now).start < x.end → IsIn result x.item }
 {
-    if is_within(rule) {
-        return Window {
-            first: 0,
-            last: usize::MAX,
-        };
-    }
     let span = span_of(rule, item, region);
-    if passes_shared(rule, region) {
-        window_of(reaches.unshared.as_slice(), span)
+    let window = window_of(reaches_for(reaches, rule, region), span, near);
+    if is_within(rule) {
+        behind(window, item)
     } else {
-        window_of(reaches.any.as_slice(), span)
+        window
     }
 }

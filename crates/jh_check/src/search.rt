@@ -1,5 +1,5 @@
 //! The search for findings, each in its order.
-ghost use Rattle.std.specs.Prelude.{◌≡◌, ◌≤◌, ◌<◌, ◌++◌, true, false, length, take, OnOk, IfOk, [], ◌∷◌};
+ghost use Rattle.std.specs.Prelude.{◌≡◌, ◌≤◌, ◌<◌, ◌++◌, ℕ, true, false, length, take, slice_index_or, Contains, OnOk, IfOk, [], ◌∷◌};
 ghost use Rattle.jh_check.specs.Cells.{cells_of};
 ghost use Rattle.jh_check.specs.Sites.{spot_of};
 ghost use Rattle.jh_check.specs.Lists.{capped, only_if};
@@ -8,14 +8,17 @@ ghost use Rattle.jh_check.specs.Private.Reaches.{HasHits};
 ghost use Rattle.jh_check.specs.Private.Links.{IsPartner};
 ghost use Rattle.jh_check.specs.Devices.{agrees_with_all};
 ghost use Rattle.jh_check.specs.Private.Bus.{HasBdfs};
+ghost use Rattle.jh_check.specs.Private.Fits.{AreSure, IsSeated};
+ghost use Rattle.jh_cellcfg.specs.declared.config.PciDevice.{PciDevice};
 ghost use Rattle.jh_check.specs.Private.Seats.{HasSeats, AreByBdf};
 ghost use Rattle.jh_check.specs.Private.Sound.{AreSound, AreSoundEach};
 ghost use Rattle.jh_check.specs.Findings.{item_of, finding_of, beside, in_cell, in_regions, in_hypervisor, in_devices_of, in_devices, in_cpus};
 
-use crate::bus::{is_marked, mark, marks};
+use crate::bus::{is_marked, is_marked_by, mark, marks};
 use crate::checking::MAX_FINDINGS;
 use crate::devices::{agrees_with_linked, cpus_break, device_breaks};
 use crate::finding::{Finding, HYPERVISOR};
+use crate::fits::{is_sure, sure_fits};
 use crate::links::is_noted;
 use crate::pairs::{Site, pair_breaks};
 use crate::reach::Window;
@@ -164,11 +167,12 @@ pub(crate) fn in_hypervisor(
 }
 
 /// Whether the device may not fit one that is linked with it, of a cell with a lower number. The bdfs of the devices
-/// of these are marked.
+/// of these are marked, and those are told at which all devices fit each other.
 fn may_differ(
     setup: &Setup,
-    marks: &[bool],
+    marks: &[u8],
     seats: &[Seat],
+    sure: &[bool],
     a: u32,
     cell: &CellConfig,
     device: &PciDevice,
@@ -178,35 +182,52 @@ fn may_differ(
     requires bdfs { HasBdfs (take a (cells_of setup.now)) marks.now }
     requires seats { HasSeats (cells_of setup.now) seats.now }
     requires order { AreByBdf seats.now }
+    requires told { length sure.now ≡ 65536 }
+    requires sure { AreSure (cells_of setup.now) seats.now sure.now }
+    requires seated { IsSeated (cells_of setup.now) seats.now a cell.now device.now }
     ensures { result ≡ false → agrees_with_all (take a (cells_of setup.now)) cell.now.memory_regions device.now ≡ true }
 {
     if !is_marked(marks, device) {
         return false;
     }
+    if is_sure(sure, device) {
+        return false;
+    }
     !agrees_with_linked(setup, a, cell.memory_regions.as_slice(), device, seats)
 }
 
-/// Each device of a cell, where the bdfs of the devices of those with lower numbers are marked.
+/// Each device of a cell, where the bdfs of the devices of those with lower numbers are marked; its own are then too.
 fn in_devices_of(
     found: &mut Seq<Finding>,
     setup: &Setup,
-    marks: &[bool],
+    marks: &mut Vec<u8>,
     seats: &[Seat],
+    sure: &[bool],
     a: u32,
     cell: &CellConfig,
 ) -> Result<(), NoMemory>
-    requires count { a ≤ length (cells_of setup.now) }
-    requires length { length marks.now ≡ 65536 }
-    requires bdfs { HasBdfs (take a (cells_of setup.now)) marks.now }
+    requires few { a < 255 }
+    requires length { length marks.old.items ≡ 65536 }
+    requires bdfs { HasBdfs (take a (cells_of setup.now)) marks.old.items }
     requires seats { HasSeats (cells_of setup.now) seats.now }
     requires order { AreByBdf seats.now }
-    ensures { OnOk result (capped found.new ≡ capped (found.old ++ in_devices_of (take a (cells_of setup.now)) a cell.now)) }
+    requires told { length sure.now ≡ 65536 }
+    requires sure { AreSure (cells_of setup.now) seats.now sure.now }
+    requires among { a < length (cells_of setup.now) }
+    requires one { cell.now ≡ slice_index_or (cells_of setup.now) a cell.now }
+    ensures told { OnOk result (capped found.new ≡ capped (found.old ++ in_devices_of (take a (cells_of setup.now)) a cell.now)) }
+    ensures length { OnOk result (length marks.new.items ≡ 65536) }
+    ensures kept { OnOk result ((bdf : ℕ) → 0 < slice_index_or marks.old.items bdf 0 → 0 < slice_index_or marks.new.items bdf 0) }
+    ensures each { OnOk result ((device : PciDevice) → Contains cell.now.pci_devices device → 0 < slice_index_or marks.new.items device.bdf 0) }
 {
     let devices = cell.pci_devices.as_slice();
     for (n, device) in devices.iter().enumerate() {
-        let doubted = may_differ(setup, marks, seats, a, cell, device);
-        let breaks = device_breaks(setup, a, cell, &devices[..n], device, doubted);
+        let known = marks.as_slice();
+        let doubted = may_differ(setup, known, seats, sure, a, cell, device);
+        let repeated = is_marked_by(known, a, device);
+        let breaks = device_breaks(setup, a, cell, &devices[..n], device, repeated, doubted);
         put(found, breaks, finding(Rule::Shmem, a, n, 0, 0))?;
+        mark(marks, a, device);
     }
     Ok(())
 }
@@ -222,11 +243,18 @@ pub(crate) fn in_devices(
 {
     let each = seats_of(alloc, setup)?;
     let seats = each.as_slice();
+    let sure = sure_fits(alloc, setup, seats)?;
     let mut marks = marks(alloc)?;
     for a in 0..setup.count() {
-        let cell = setup.cell(a);
-        in_devices_of(found, setup, marks.as_slice(), seats, a, cell)?;
-        mark(&mut marks, cell.pci_devices.as_slice());
+        in_devices_of(
+            found,
+            setup,
+            &mut marks,
+            seats,
+            sure.as_slice(),
+            a,
+            setup.cell(a),
+        )?;
     }
     Ok(())
 }

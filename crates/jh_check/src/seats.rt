@@ -10,10 +10,11 @@ use jh_cellcfg::PciDevice;
 use jh_num::NoMemory;
 use std::alloc::Global;
 
-/// A device's bdf, the number of its cell, and its own number there.
+/// A device's bdf, its number among its peers, the number of its cell, and its own number there.
 #[derive(Clone, Copy, PartialEq, Eq, Debug)]
 pub(crate) struct Seat {
     pub(crate) bdf: u16,
+    pub(crate) id: u8,
     pub(crate) cell: u32,
     pub(crate) item: usize,
 }
@@ -26,6 +27,7 @@ fn push_seats(seats: &mut Vec<Seat>, cell: u32, devices: &[PciDevice]) -> Result
     for (item, device) in devices.iter().enumerate() {
         seats.push(Seat {
             bdf: device.bdf,
+            id: device.shmem_dev_id,
             cell,
             item,
         })?;

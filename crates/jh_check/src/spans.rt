@@ -84,7 +84,7 @@ fn is_behind(spans: &[Span], k: usize) -> bool
 }
 
 /// Whether each ends before those behind it begin.
-pub(crate) fn are_apart(spans: &[Span]) -> bool
+fn are_apart(spans: &[Span]) -> bool
     ensures { result ≡ true → AreApart spans.now }
 {
     for k in 0..spans.len() {

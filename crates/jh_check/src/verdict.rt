@@ -167,7 +167,7 @@ fn any_device(setup: &Setup, number: u32, cell: &CellConfig) -> bool
 {
     let devices = cell.pci_devices.as_slice();
     for (n, device) in devices.iter().enumerate() {
-        if device_breaks(setup, number, cell, &devices[..n], device, true) {
+        if device_breaks(setup, number, cell, &devices[..n], device, true, true) {
             return true;
         }
     }

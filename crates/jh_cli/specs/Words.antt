@@ -68,7 +68,7 @@ soak_of [] = None
 soak_of (rounds ∷ []) = Some (SoakOf rounds)
 soak_of (rounds ∷ other ∷ more) = None
 
--- the command of this word with these operands; those that aren't built yet have none
+-- the command of this word with these operands; `tables` is none
 abbrev pub asked_for : List ℕ → List (List ℕ) → Option Asked
 asked_for word operands =
     if is_word word (codes "check") then check_of operands

@@ -31,6 +31,7 @@ fn obey<F: Files>(alloc: Global, command: Command<'_>, files: &mut F) -> Result<
         Command::Play { board, schedule } => play(alloc, files, board, schedule),
         Command::Map { board, schedule } => map(alloc, files, board, schedule),
         Command::Audit { board, journal } => audit(alloc, files, board, journal),
+        // these two have been told apart already
         Command::Run { .. } | Command::Soak { .. } => unreachable!(),
     }
 }

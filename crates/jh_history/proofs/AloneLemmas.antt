@@ -26,7 +26,7 @@ use Rattle.jh_history.specs.declared.entry.Act.TheVariants.{Read, Write, Fetch, 
 use Rattle.jh_history.specs.Facts.{Facts}
 use Rattle.jh_history.specs.Lives.{is_on_board, cell_in, program_of, ops_in, op_at}
 use Rattle.jh_history.specs.Cpus.{change_of, changed, acted}
-use Rattle.jh_history.specs.Calls.{call_by}
+use Rattle.jh_history.specs.Calls.{call_by, is_call}
 use Rattle.jh_history.specs.Commits.{cells_by}
 use Rattle.jh_history.specs.Pages.{failing, unless_good, page_write_by, with_page_write}
 use Rattle.jh_history.specs.Bytes.{byte_written, byte_after}
@@ -38,7 +38,7 @@ use Rattle.jh_history.specs.History.{start, after, facts, coming_of}
 use Rattle.jh_history.specs.Wants.{pending_op, goes_on}
 use Rattle.jh_history.specs.Admitted.{HasNoCall, IsNoCall}
 use Rattle.jh_history.specs.Due.{due_at, state_act, next_act, act_of, await_of, got_by, entry_by, IsLegal, IsLegalFrom}
-use Rattle.jh_history.specs.Alone.{IsAlone, IsByRoot, is_phase}
+use Rattle.jh_history.specs.Alone.{IsAlone, IsByRoot}
 use Rattle.jh_history.proofs.AdmittedLemmas.{program_of_all}
 use Rattle.jh_history.proofs.DueLemmas.{due_at_absent, due_at_present}
 use Rattle.jh_history.proofs.LegalLemmas.{due_split, IsLegal_begin}
@@ -50,7 +50,7 @@ alone_start image = record { cells = refl; call = refl; owners = λ cpu. refl }
 
 -- what is due is no phase
 abbrev IsOwn : Act → Type 0
-IsOwn act = is_phase act ≡ false
+IsOwn act = is_call act ≡ false
 
 own_if : (b : Bool) (o : Option Act) → IfSome o IsOwn → IfSome (cond b o None) IsOwn
 own_if true o own = own
@@ -120,7 +120,7 @@ pub due_at_roots : (image : Image) (f : Facts) (cpu : ℕ) (entry : Entry) → H
 due_at_roots image f cpu entry silent alone h = roots_at image f cpu entry (is_on_board image cpu) silent alone refl h
 
 -- what such an entry does
-cells_kept : (call : Option OpenCall) (cells : List Live) (act : Act) → is_phase act ≡ false → cells_by call cells act ≡ cells
+cells_kept : (call : Option OpenCall) (cells : List Live) (act : Act) → is_call act ≡ false → cells_by call cells act ≡ cells
 cells_kept call cells (Read width at got) own = refl
 cells_kept call cells (Write width at value ok) own = refl
 cells_kept call cells (Fetch at got) own = refl
@@ -136,7 +136,7 @@ cells_kept call cells (Note id) own = absurd (both_ways true own refl)
 cells_kept call cells (Noted id how) own = absurd (both_ways true own refl)
 cells_kept call cells (Finish answer) own = absurd (both_ways true own refl)
 
-call_kept : (cells : List Live) (coming : Option CellConfig) (entry : Entry) (act : Act) → is_phase act ≡ false → call_by cells coming None entry act ≡ None
+call_kept : (cells : List Live) (coming : Option CellConfig) (entry : Entry) (act : Act) → is_call act ≡ false → call_by cells coming None entry act ≡ None
 call_kept cells coming entry (Read width at got) own = refl
 call_kept cells coming entry (Write width at value ok) own = refl
 call_kept cells coming entry (Fetch at got) own = refl
@@ -153,7 +153,7 @@ call_kept cells coming entry (Noted id how) own = absurd (both_ways true own ref
 call_kept cells coming entry (Finish answer) own = absurd (both_ways true own refl)
 
 -- it changes its own CPU alone
-pub acted_own : (image : Image) (call : Option OpenCall) (act : Act) (own i : ℕ) (cpu : Cpu) → is_phase act ≡ false → acted image call act own i cpu ≡ cond (eqb i own) (changed (change_of act) cpu) cpu
+pub acted_own : (image : Image) (call : Option OpenCall) (act : Act) (own i : ℕ) (cpu : Cpu) → is_call act ≡ false → acted image call act own i cpu ≡ cond (eqb i own) (changed (change_of act) cpu) cpu
 acted_own image call (Read width at got) own i cpu h = refl
 acted_own image call (Write width at value ok) own i cpu h = refl
 acted_own image call (Fetch at got) own i cpu h = refl
@@ -192,7 +192,7 @@ unless_fails : (good : Bool) → unless_good good None ≡ None
 unless_fails true = refl
 unless_fails false = refl
 
-no_page : (image : Image) (f : Facts) (entry : Entry) (act : Act) → entry.cell ≡ image.system.root.id → is_phase act ≡ false → page_write_by image f entry act ≡ None
+no_page : (image : Image) (f : Facts) (entry : Entry) (act : Act) → entry.cell ≡ image.system.root.id → is_call act ≡ false → page_write_by image f entry act ≡ None
 no_page image f entry (Read width at got) is own = ap (unless_good (is_some got)) (none_fails image f entry is) ∙ unless_fails (is_some got)
 no_page image f entry (Write width at value ok) is own = ap (unless_good ok) (none_fails image f entry is) ∙ unless_fails ok
 no_page image f entry (Fetch at got) is own = ap (unless_good (is_some got)) (none_fails image f entry is) ∙ unless_fails (is_some got)
@@ -209,7 +209,7 @@ no_page image f entry (Noted id how) is own = absurd (both_ways true own refl)
 no_page image f entry (Finish answer) is own = absurd (both_ways true own refl)
 
 -- nor does it change the devices of a cell as a Commit does
-unchanged : (cells : List Live) (o : OpenCall) (act : Act) → is_phase act ≡ false → changing_at cells o act ≡ None
+unchanged : (cells : List Live) (o : OpenCall) (act : Act) → is_call act ≡ false → changing_at cells o act ≡ None
 unchanged cells o (Read width at got) own = refl
 unchanged cells o (Write width at value ok) own = refl
 unchanged cells o (Fetch at got) own = refl
@@ -225,11 +225,11 @@ unchanged cells o (Note id) own = refl
 unchanged cells o (Noted id how) own = refl
 unchanged cells o (Finish answer) own = refl
 
-unchanged_by : (cells : List Live) (call : Option OpenCall) (act : Act) → is_phase act ≡ false → changing_by cells call act ≡ None
+unchanged_by : (cells : List Live) (call : Option OpenCall) (act : Act) → is_call act ≡ false → changing_by cells call act ≡ None
 unchanged_by cells None act own = refl
 unchanged_by cells (Some o) act own = unchanged cells o act own
 
-pub specs_unchanged : (f : Facts) (act : Act) → is_phase act ≡ false → specs_changing f act ≡ []
+pub specs_unchanged : (f : Facts) (act : Act) → is_call act ≡ false → specs_changing f act ≡ []
 specs_unchanged f act own = ap (λ (o : Option CellConfig). option_map_or specs_of o []) (unchanged_by f.cells f.call act own)
 
 -- so the bytes are those that its write leaves

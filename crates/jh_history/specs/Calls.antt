@@ -1,5 +1,5 @@
 -- The management call that is open, by its phases.
-use Rattle.std.specs.Prelude.{ℕ, ℤ, pos, Bool, false, ◌+◌, ◌-◌, ◌^◌, ◌==◌, ◌&&◌, not, min, List, [], ◌∷◌, find, Option, Some, None, option_map, if◌then◌else◌}
+use Rattle.std.specs.Prelude.{ℕ, ℤ, pos, Bool, true, false, ◌+◌, ◌-◌, ◌^◌, ◌==◌, ◌&&◌, not, min, List, [], ◌∷◌, find, Option, Some, None, option_map, if◌then◌else◌}
 use Rattle.jh_num.specs.declared.error.TheConstants.{EPERM}
 use Rattle.jh_cellcfg.specs.declared.config.CellConfig.{CellConfig}
 use Rattle.jh_cellcfg.specs.declared.live.Live.{Live}
@@ -77,11 +77,21 @@ abbrev pub after_noted : Phase → List Live → Phase
 after_noted (ToNoted id about answer waited) cells = telling about answer (first_told about (behind id cells))
 after_noted phase cells = phase
 
+-- the phase waits for an answer of the cell with the id
+abbrev pub waits_for : ℕ → Call → Phase → Bool
+waits_for cell call (ToSettle waited) = is_named call cell
+waits_for cell call (ToNoted id about answer waited) = cell == id
+waits_for cell call phase = false
+
+-- one entry more that it has waited
+abbrev pub waited_on : Phase → Phase
+waited_on (ToSettle waited) = ToSettle (one_more waited)
+waited_on (ToNoted id about answer waited) = ToNoted id about answer (one_more waited)
+waited_on phase = phase
+
 -- a phase that waits for a cell's answer counts the entries of that cell's CPUs
 abbrev pub counted : ℕ → Call → Phase → Phase
-counted cell call (ToSettle waited) = if is_named call cell then ToSettle (one_more waited) else ToSettle waited
-counted cell call (ToNoted id about answer waited) = if cell == id then ToNoted id about answer (one_more waited) else ToNoted id about answer waited
-counted cell call phase = phase
+counted cell call phase = if waits_for cell call phase then waited_on phase else phase
 
 -- the phase of the open call after the act of the cell's CPU, where these cells live besides root, and a create reads
 -- this configuration
@@ -92,6 +102,17 @@ phase_after cells coming cell call phase Commit = after_commit call phase cells
 phase_after cells coming cell call phase (Note id) = after_note phase
 phase_after cells coming cell call phase (Noted id how) = after_noted phase cells
 phase_after cells coming cell call phase act = counted cell call phase
+
+-- the act opens a call, takes the open one a phase further, or closes it
+abbrev pub is_call : Act → Bool
+is_call (Begin code a b) = true
+is_call (Decide refused) = true
+is_call (Settle how) = true
+is_call Commit = true
+is_call (Note id) = true
+is_call (Noted id how) = true
+is_call (Finish answer) = true
+is_call _ = false
 
 -- the call after an entry: opened by a Begin, closed by a Finish, and a phase further by the others
 abbrev pub call_by : List Live → Option CellConfig → Option OpenCall → Entry → Act → Option OpenCall

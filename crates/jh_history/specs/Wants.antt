@@ -1,5 +1,5 @@
 -- The access that a CPU's next entry makes, and what it reaches.
-use Rattle.std.specs.Prelude.{◌≡◌, ℕ, Bool, not, ◌&&◌, Option, Some, None, option_and_then, if◌then◌else◌}
+use Rattle.std.specs.Prelude.{◌≡◌, ℕ, Bool, not, ◌&&◌, Option, Some, None, if◌then◌else◌}
 use Rattle.jh_cpu.specs.declared.cpu.Cpu.{Cpu}
 use Rattle.jh_script.specs.declared.image.Image.{Image}
 use Rattle.jh_script.specs.declared.op.Op.{Op}
@@ -39,17 +39,6 @@ goes_on state = not state.asked && not state.stopped && is_running state.mode
 -- the operation that a CPU in this state is about to make: none at its program's end
 abbrev pub pending_op : Image → Facts → Cpu → ℕ → Option Op
 pending_op image facts state cpu = if goes_on state then op_at image facts state cpu else None
-
--- it is what the access reaches that a CPU in this state is about to make, if it makes one
-abbrev pub IsReachIn : Image → Facts → Cpu → ℕ → Reach → Type 0
-IsReachIn image facts state cpu found = (op : Op) → pending_op image facts state cpu ≡ Some op → IsReachOf image facts state.owner op found
-
-abbrev pub IsReachAt : Image → Facts → ℕ → Reach → Type 0
-IsReachAt image facts cpu found = IsReachIn image facts (facts.cpu cpu) cpu found
-
--- the access that the CPU is about to make
-abbrev pub wanted_at : Image → Facts → ℕ → Option Wanted
-wanted_at image facts cpu = option_and_then wanted_of (pending_op image facts (facts.cpu cpu) cpu)
 
 -- it is what the act reaches, made by the cell, where it is a write
 abbrev pub IsReachOfAct : Image → Facts → ℕ → Act → Reach → Type 0

@@ -1,10 +1,11 @@
 //! What an entry does to the management call that is open.
-ghost use Rattle.std.specs.Prelude.{◌≡◌, ℕ, List};
+ghost use Rattle.std.specs.Prelude.{◌≡◌, ℕ, List, Option, false};
 ghost use Rattle.jh_call.specs.declared.call.Call.TheVariants.{Create};
+ghost use Rattle.jh_cellcfg.specs.declared.config.CellConfig.{CellConfig as TheConfig};
 ghost use Rattle.jh_cellcfg.specs.declared.live.Live.{Live as TheLive};
 ghost use Rattle.jh_history.specs.Phases.{configs_of};
 ghost use Rattle.jh_history.specs.Commits.{created, created_at, created_by};
-ghost use Rattle.jh_history.specs.Calls.{one_more, is_told_by, first_told, behind, telling, decided, after_settle, after_commit, after_note, after_noted, counted, phase_after, call_by};
+ghost use Rattle.jh_history.specs.Calls.{one_more, is_told_by, first_told, behind, telling, decided, after_settle, after_commit, after_note, after_noted, counted, phase_after, call_by, is_call, waits_for};
 
 use crate::boxed::BoxedCell;
 use crate::call::{OpenCall, Phase};
@@ -79,7 +80,7 @@ fn telling(about: u64, answer: i64, told: Option<u32>) -> Phase
 }
 
 /// The phase after a Decide that goes on.
-fn go_on(call: &Call, coming: Option<BoxedCell>) -> Phase
+fn after_decide(call: &Call, coming: Option<BoxedCell>) -> Phase
     ensures { result ≡ decided call.now coming None }
 {
     match *call {
@@ -97,7 +98,7 @@ fn decided(call: &Call, coming: Option<BoxedCell>, refused: Option<i64>) -> Phas
 {
     match refused {
         Some(answer) => Phase::ToFinish { answer },
-        None => go_on(call, coming),
+        None => after_decide(call, coming),
     }
 }
 
@@ -178,36 +179,37 @@ fn after_noted(phase: Phase, cells: &[CellConfig]) -> Phase
     }
 }
 
+/// Whether the phase waits for an answer of the cell.
+fn waits_for(phase: &Phase, call: &Call, cell: u32) -> bool
+    ensures { result ≡ waits_for cell call.now phase.now }
+{
+    match phase {
+        Phase::ToSettle { .. } => is_named(call, u64::from(cell)),
+        Phase::ToNoted { id, .. } => cell == *id,
+        _ => false,
+    }
+}
+
+/// Counts an entry of the cell that is none of the call's own, where the phase waits for that cell.
+fn count(phase: &mut Phase, call: &Call, cell: u32)
+    ensures { phase.new ≡ counted cell call.now phase.old }
+{
+    if waits_for(phase, call, cell) {
+        match phase {
+            Phase::ToSettle { waited } => *waited = one_more(*waited),
+            Phase::ToNoted { waited, .. } => *waited = one_more(*waited),
+            _ => {}
+        }
+    }
+}
+
 /// The phase after an entry of the cell that is none of the call's own.
 fn counted(cell: u32, call: &Call, phase: Phase) -> Phase
     ensures { result ≡ counted cell call.now phase }
 {
-    match phase {
-        Phase::ToSettle { waited } => {
-            if is_named(call, u64::from(cell)) {
-                Phase::ToSettle {
-                    waited: one_more(waited),
-                }
-            } else {
-                Phase::ToSettle { waited }
-            }
-        }
-        Phase::ToNoted {
-            id,
-            about,
-            answer,
-            waited,
-        } => {
-            let waited = if cell == id { one_more(waited) } else { waited };
-            Phase::ToNoted {
-                id,
-                about,
-                answer,
-                waited,
-            }
-        }
-        phase => phase,
-    }
+    let mut phase = phase;
+    count(&mut phase, call, cell);
+    phase
 }
 
 /// A phase after which no cell was created.
@@ -243,7 +245,7 @@ fn phase_after(
 }
 
 /// The open call after an entry of it, or of another CPU.
-fn goes_on(
+fn after_entry(
     cells: &[CellConfig],
     coming: Option<BoxedCell>,
     begun: OpenCall,
@@ -266,6 +268,39 @@ fn goes_on(
             phase: next.phase,
         }),
         created: next.created,
+    }
+}
+
+/// Whether the act opens a call, takes the open one a phase further, or closes it.
+pub fn is_call(act: &Act) -> bool
+    ensures { result ≡ is_call act.now }
+{
+    match act {
+        Act::Begin { .. }
+        | Act::Decide { .. }
+        | Act::Settle { .. }
+        | Act::Commit
+        | Act::Note { .. }
+        | Act::Noted { .. }
+        | Act::Finish { .. } => true,
+        Act::Read { .. }
+        | Act::Write { .. }
+        | Act::Fetch { .. }
+        | Act::Await { .. }
+        | Act::Irq { .. }
+        | Act::Hvc { .. }
+        | Act::Stop => false,
+    }
+}
+
+/// Makes of the open call what it is after an entry that is none of the call's own: where a phase waits for the
+/// entry's cell, the entry is counted.
+pub fn count_entry(call: &mut Option<OpenCall>, entry: &Entry)
+    requires { is_call entry.now.act ≡ false }
+    ensures { (lives : List TheLive) (coming : Option TheConfig) → call.new ≡ call_by lives coming call.old entry.now entry.now.act }
+{
+    if let Some(begun) = call {
+        count(&mut begun.phase, &begun.call, entry.cell);
     }
 }
 
@@ -295,7 +330,7 @@ pub fn call_after(
             created: None,
         },
         _ => match call {
-            Some(begun) => goes_on(cells, coming, begun, entry),
+            Some(begun) => after_entry(cells, coming, begun, entry),
             None => Called {
                 call: None,
                 created: None,

@@ -1,5 +1,5 @@
-//! What an admitted image gives of root, its regions and its CPUs, that root is the one cell yet, and how rows of bytes are
-//! read. Each function does nothing; its contract is the law.
+//! What an admitted image gives of root, its regions and its CPUs, that root lives alone where no program has a hypercall,
+//! and how rows of bytes are read. Each function does nothing; its contract is the law.
 ghost use Rattle.std.specs.Prelude.{◌≡◌, ◌<◌, ◌≤◌, ℕ, List, ◌∷◌, ◌++◌, map, Option, None, Some, option_map, IsTrue};
 ghost use Rattle.jh_num.specs.declared.address.TheConstants.{ADDRESS_END};
 ghost use Rattle.jh_history.specs.declared.place.Place.{Place as ThePlace};

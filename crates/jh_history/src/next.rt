@@ -7,9 +7,10 @@ ghost use Rattle.jh_check.specs.Refusals.{any_below};
 ghost use Rattle.jh_history.specs.Access.{read_of, is_reached};
 ghost use Rattle.jh_history.specs.declared.access.Reach.{Reach as TheReach};
 ghost use Rattle.jh_history.specs.Facts.{Facts};
-ghost use Rattle.jh_history.specs.Wants.{wanted_of, goes_on, pending_op, wanted_at, IsReachOf, IsReachIn, IsReachAt, IsReachOfAct, IsReachOfEntry};
+ghost use Rattle.jh_history.specs.Wants.{wanted_of, goes_on, pending_op, IsReachOf, IsReachOfAct, IsReachOfEntry};
 ghost use Rattle.jh_history.specs.Grants.{devices_of};
-ghost use Rattle.jh_history.specs.Due.{irq_of, act_of, await_of, state_act, call_of, is_other_due, is_idle_but, caller_act, next_act, entry_by, due_at};
+ghost use Rattle.jh_history.specs.Due.{irq_of, act_of, await_of, state_act, call_of, is_other_due, is_idle_but, caller_act, next_act, entry_by, entry_of, due_at};
+ghost use Rattle.jh_history.specs.declared.next.DueEntry.{DueEntry as TheDue};
 ghost use Rattle.jh_history.specs.Admitted.{IsWellFormedAct};
 
 use crate::access::{Access, Reach, Wanted};
@@ -23,6 +24,13 @@ use crate::phases::{is_phase_due, phase_act};
 use jh_cpu::Cpu;
 use jh_num::NoMemory;
 use jh_script::Op;
+
+/// The entry that a CPU makes next, and what its access reaches; nothing where it makes none.
+#[derive(Drop)]
+pub struct DueEntry {
+    pub entry: Entry,
+    pub reach: Reach,
+}
 
 /// The access that the operation makes.
 fn wanted_of(op: Op) -> Option<Wanted>
@@ -70,25 +78,13 @@ fn pending_op<K: Known>(known: &K, cpu: u8, state: Cpu) -> Option<Op>
     }
 }
 
-/// The access that the CPU's next entry makes.
-pub fn access_of<K: Known>(known: &K, cpu: u8) -> Option<Wanted>
-    requires { cpu < 16 }
-    ensures wanted { (i : TheImage) (f : Facts) → K.Knows known.now i f → result ≡ wanted_at i f cpu }
-    ensures few { IfSome result (λ wanted. wanted.width ≤ 8) }
+/// What the cell's operation reaches; nothing where it makes no access.
+fn reach_of<K: Known>(known: &K, cell: u32, op: Op) -> Reach
+    requires { IsWellFormed op }
+    ensures { (i : TheImage) (f : Facts) → K.Knows known.now i f → IsReachOf i f cell op result }
 {
-    match pending_op(known, cpu, known.cpu(cpu)) {
-        Some(op) => wanted_of(op),
-        None => None,
-    }
-}
-
-/// What the access reaches that the CPU's next entry makes; nothing where it makes none.
-pub fn reach_of<K: Known>(known: &K, cpu: u8) -> Reach
-    requires { cpu < 16 }
-    ensures { (i : TheImage) (f : Facts) → K.Knows known.now i f → IsReachAt i f cpu result }
-{
-    match access_of(known, cpu) {
-        Some(wanted) => known.reach(known.cpu(cpu).owner, &wanted),
+    match wanted_of(op) {
+        Some(wanted) => known.reach(cell, &wanted),
         None => Reach::Nothing,
     }
 }
@@ -207,21 +203,37 @@ fn act_of<K: Known>(known: &K, cell: u32, op: Op, reach: &Reach) -> Option<Act>
     }
 }
 
-/// What a CPU in this state does next that has no call open; `reach` is what the access reaches that it is
-/// about to make.
-fn state_act<K: Known>(known: &K, cpu: u8, state: Cpu, reach: &Reach) -> Option<Act>
+/// The CPU's act as an entry, in the name of its owner, with what it reaches.
+fn due_by(cpu: u8, cell: u32, act: Option<Act>, reach: Reach) -> Option<DueEntry>
+    ensures entry { option_map (λ (due : TheDue). due.entry) result ≡ option_map (entry_by cpu cell) act }
+    ensures reached { (i : TheImage) (f : Facts) → IfSome act (λ act. IsReachOfAct i f cell act reach) → IfSome result (λ due. IsReachOfEntry i f due.entry due.reach) }
+    ensures cpu { IfSome result (λ due. due.entry.cpu ≡ cpu) }
+    ensures plain { IfSome act IsWellFormedAct → IfSome result (λ due. IsWellFormedAct due.entry.act) }
+{
+    match act {
+        None => None,
+        Some(act) => Some(DueEntry {
+            entry: Entry { cpu, cell, act },
+            reach,
+        }),
+    }
+}
+
+/// What a CPU in this state does next that has no call open.
+fn state_due<K: Known>(known: &K, cpu: u8, state: Cpu) -> Option<DueEntry>
     requires { cpu < 16 }
-    ensures act { (i : TheImage) (f : Facts) → K.Knows known.now i f → IsReachIn i f state cpu reach.now → result ≡ state_act i f state cpu }
-    ensures reached { (i : TheImage) (f : Facts) → K.Knows known.now i f → IsReachIn i f state cpu reach.now → IfSome result (λ act. IsReachOfAct i f state.owner act reach.now) }
-    ensures plain { IfSome result IsWellFormedAct }
+    ensures entry { (i : TheImage) (f : Facts) → K.Knows known.now i f → option_map (λ (due : TheDue). due.entry) result ≡ option_map (entry_by cpu state.owner) (state_act i f state cpu) }
+    ensures reached { (i : TheImage) (f : Facts) → K.Knows known.now i f → IfSome result (λ due. IsReachOfEntry i f due.entry due.reach) }
+    ensures cpu { IfSome result (λ due. due.entry.cpu ≡ cpu) }
+    ensures plain { IfSome result (λ due. IsWellFormedAct due.entry.act) }
 {
     if state.asked {
-        return Some(Act::Stop);
+        return due_by(cpu, state.owner, Some(Act::Stop), Reach::Nothing);
     }
-    match pending_op(known, cpu, state) {
-        Some(op) => act_of(known, state.owner, op, reach),
-        None => None,
-    }
+    let op = pending_op(known, cpu, state)?;
+    let reach = reach_of(known, state.owner, op);
+    let act = act_of(known, state.owner, op, &reach);
+    due_by(cpu, state.owner, act, reach)
 }
 
 /// Whether an await of the value is due, where its read got this: it is where it read the value, or
@@ -337,21 +349,20 @@ fn is_caller_due<K: Known>(known: &K, state: Cpu, begun: &OpenCall) -> bool
     goes_on(state) && is_phase_due(known, begun)
 }
 
-/// What a CPU in this state does next; `reach` is what the access reaches that it is about to make.
-fn next_act<K: Known>(
-    known: &K,
-    cpu: u8,
-    state: Cpu,
-    reach: &Reach,
-) -> Result<Option<Act>, NoMemory>
+/// What a CPU in this state does next.
+fn next_due<K: Known>(known: &K, cpu: u8, state: Cpu) -> Result<Option<DueEntry>, NoMemory>
     requires { cpu < 16 }
-    ensures act { (i : TheImage) (f : Facts) → K.Knows known.now i f → IsReachIn i f state cpu reach.now → IfOk result (λ act. act ≡ next_act i f state cpu) }
-    ensures reached { (i : TheImage) (f : Facts) → K.Knows known.now i f → IsReachIn i f state cpu reach.now → IfOk result (λ act. IfSome act (λ act. IsReachOfAct i f state.owner act reach.now)) }
-    ensures plain { IfOk result (λ act. IfSome act IsWellFormedAct) }
+    ensures entry { (i : TheImage) (f : Facts) → K.Knows known.now i f → IfOk result (λ due. option_map (λ (due : TheDue). due.entry) due ≡ entry_of i f state cpu) }
+    ensures reached { (i : TheImage) (f : Facts) → K.Knows known.now i f → IfOk result (λ due. IfSome due (λ due. IsReachOfEntry i f due.entry due.reach)) }
+    ensures cpu { IfOk result (λ due. IfSome due (λ due. due.entry.cpu ≡ cpu)) }
+    ensures plain { IfOk result (λ due. IfSome due (λ due. IsWellFormedAct due.entry.act)) }
 {
     match call_of(known, cpu) {
-        Some(begun) => caller_act(known, state, begun),
-        None => Ok(state_act(known, cpu, state, reach)),
+        Some(begun) => {
+            let act = caller_act(known, state, begun)?;
+            Ok(due_by(cpu, state.owner, act, Reach::Nothing))
+        }
+        None => Ok(state_due(known, cpu, state)),
     }
 }
 
@@ -366,31 +377,19 @@ fn is_next_due<K: Known>(known: &K, cpu: u8, state: Cpu) -> bool
     }
 }
 
-/// The CPU's act as an entry, in the name of its owner.
-fn entry_by(cpu: u8, cell: u32, act: Option<Act>) -> Option<Entry>
-    ensures { result ≡ option_map (entry_by cpu cell) act }
-{
-    match act {
-        None => None,
-        Some(act) => Some(Entry { cpu, cell, act }),
-    }
-}
-
-/// The entry that the CPU makes next; `reach` is what its access reaches, where it makes one. Only what a
-/// create reads takes memory.
-pub fn next_of<K: Known>(known: &K, cpu: u8, reach: &Reach) -> Result<Option<Entry>, NoMemory>
+/// The entry that the CPU makes next, and what its access reaches. Only what a create reads takes memory.
+pub fn next_of<K: Known>(known: &K, cpu: u8) -> Result<Option<DueEntry>, NoMemory>
     requires { cpu < 16 }
-    ensures due { (i : TheImage) (f : Facts) → K.Knows known.now i f → IsReachAt i f cpu reach.now → IfOk result (λ entry. entry ≡ due_at i f cpu) }
-    ensures reached { (i : TheImage) (f : Facts) → K.Knows known.now i f → IsReachAt i f cpu reach.now → IfOk result (λ entry. IfSome entry (λ entry. IsReachOfEntry i f entry reach.now)) }
-    ensures cpu { IfOk result (λ entry. IfSome entry (λ entry. entry.cpu ≡ cpu)) }
-    ensures plain { IfOk result (λ entry. IfSome entry (λ entry. IsWellFormedAct entry.act)) }
+    ensures due { (i : TheImage) (f : Facts) → K.Knows known.now i f → IfOk result (λ due. option_map (λ (due : TheDue). due.entry) due ≡ due_at i f cpu) }
+    ensures reached { (i : TheImage) (f : Facts) → K.Knows known.now i f → IfOk result (λ due. IfSome due (λ due. IsReachOfEntry i f due.entry due.reach)) }
+    ensures cpu { IfOk result (λ due. IfSome due (λ due. due.entry.cpu ≡ cpu)) }
+    ensures plain { IfOk result (λ due. IfSome due (λ due. IsWellFormedAct due.entry.act)) }
 {
-    if !known.has_cpu(cpu) {
-        return Ok(None);
+    if known.has_cpu(cpu) {
+        next_due(known, cpu, known.cpu(cpu))
+    } else {
+        Ok(None)
     }
-    let state = known.cpu(cpu);
-    let act = next_act(known, cpu, state, reach)?;
-    Ok(entry_by(cpu, state.owner, act))
 }
 
 /// Whether an entry is due to the CPU.

@@ -11,8 +11,7 @@ ghost use Rattle.jh_history.specs.Pages.{named_cell};
 ghost use Rattle.jh_history.specs.declared.entry.Settled.{Settled as TheSettled};
 ghost use Rattle.jh_history.specs.declared.entry.Heard.{Heard as TheHeard};
 ghost use Rattle.jh_history.specs.declared.entry.Act.TheVariants.{Settle, Noted};
-ghost use Rattle.jh_history.specs.Alone.{is_phase};
-ghost use Rattle.jh_history.specs.Calls.{is_named};
+ghost use Rattle.jh_history.specs.Calls.{is_named, is_call};
 ghost use Rattle.jh_cellcfg.specs.Cells.{is_passive};
 ghost use Rattle.jh_history.specs.Due.{is_idle_but};
 
@@ -271,7 +270,7 @@ fn decision<K: Known>(known: &K, caller: u8, call: &Call) -> Result<Option<i64>,
 /// How the cell settled, as an act.
 fn settle(how: Option<Settled>) -> Option<Act>
     ensures act { result ≡ option_map (λ (how : TheSettled). Settle how) how }
-    ensures phase { IfSome result (λ act. is_phase act ≡ true) }
+    ensures phase { IfSome result (λ act. is_call act ≡ true) }
 {
     match how {
         Some(how) => Some(Act::Settle { how }),
@@ -282,7 +281,7 @@ fn settle(how: Option<Settled>) -> Option<Act>
 /// What the cell heard, as an act.
 fn noted(id: u32, how: Option<Heard>) -> Option<Act>
     ensures act { result ≡ option_map (λ (how : TheHeard). Noted id how) how }
-    ensures phase { IfSome result (λ act. is_phase act ≡ true) }
+    ensures phase { IfSome result (λ act. is_call act ≡ true) }
 {
     match how {
         Some(how) => Some(Act::Noted { id, how }),
@@ -294,7 +293,7 @@ fn noted(id: u32, how: Option<Heard>) -> Option<Act>
 /// says nothing.
 pub(crate) fn phase_act<K: Known>(known: &K, begun: &OpenCall) -> Result<Option<Act>, NoMemory>
     ensures act { (i : TheImage) (f : Facts) → K.Knows known.now i f → IfOk result (λ act. act ≡ phase_act i f (is_idle_but i f begun.now.caller) begun.now.caller begun.now.call begun.now.phase) }
-    ensures phase { IfOk result (λ act. IfSome act (λ act. is_phase act ≡ true)) }
+    ensures phase { IfOk result (λ act. IfSome act (λ act. is_call act ≡ true)) }
 {
     match &begun.phase {
         Phase::ToDecide => {

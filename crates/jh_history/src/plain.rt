@@ -42,7 +42,7 @@ use crate::entry::{Act, Entry};
 use crate::journal::Journal;
 use crate::laws::admitted_roots_are_sound;
 use crate::live_cells::LiveCells;
-use crate::next::{next_of, none_due, reach_of};
+use crate::next::{next_of, none_due};
 use crate::pages::page_write;
 use crate::reading::read_config;
 use crate::sound::legal_journals_are_sound;
@@ -418,8 +418,10 @@ pub fn due(
     admitted_roots_are_sound(image);
     legal_journals_are_sound();
     let plain = Plain::after(alloc, image, journal.as_slice())?;
-    let reach = reach_of(&plain, cpu);
-    next_of(&plain, cpu, &reach)
+    match next_of(&plain, cpu)? {
+        Some(due) => Ok(Some(due.entry)),
+        None => Ok(None),
+    }
 }
 
 /// Whether nothing is due to any CPU after the journal, by the plain definition.

@@ -38,10 +38,11 @@ use Rattle.jh_history.specs.Facts.{Facts}
 use Rattle.jh_history.specs.Lives.{is_on_board, op_at, program_of}
 use Rattle.jh_history.specs.Grants.{reach}
 use Rattle.jh_history.specs.Cpus.{change_of, changed, is_running}
-use Rattle.jh_history.specs.Alone.{IsAlone, IsByRoot, is_phase}
+use Rattle.jh_history.specs.Alone.{IsAlone, IsByRoot}
 use Rattle.jh_history.specs.History.{start, after, facts}
 use Rattle.jh_history.specs.Due.{due_at, act_of, await_of, irq_of, got_by, entry_by, IsLegal, IsLegalFrom}
 use Rattle.jh_history.specs.Admitted.{IsAdmitted, IsNoCall, HasNoCall}
+use Rattle.jh_history.specs.Calls.{is_call}
 use Rattle.jh_history.proofs.DueLemmas.{due_at_absent, due_at_present}
 use Rattle.jh_history.proofs.FactsLemmas.{cpu_after_holds}
 use Rattle.jh_history.proofs.AloneLemmas.{acted_own, alone_start, alone_after}
@@ -231,7 +232,7 @@ changed_access image f cell (Noted id how) state access = absurd access
 changed_access image f cell (Finish answer) state access = absurd access
 
 -- so it is no phase of a call
-pub access_own : (image : Image) (f : Facts) (cell : ℕ) (act : Act) → IsAccess image f cell act → is_phase act ≡ false
+pub access_own : (image : Image) (f : Facts) (cell : ℕ) (act : Act) → IsAccess image f cell act → is_call act ≡ false
 access_own image f cell (Read width at got) access = refl
 access_own image f cell (Write width at value ok) access = refl
 access_own image f cell (Fetch at got) access = refl

@@ -89,9 +89,9 @@ Drops f entry id n v = ((entry.cell ≡ id) × (entry.act ≡ Irq n v)) ⊎ Clea
 
 -- ---- what cells do to one another by devices
 
--- the endpoint, behind an entry of another cell than its own, is as it was before, but for vectors that the entry raises,
--- and for interrupt control, which a raise in one-shot mode turns off: its configuration space, its state, and the words
--- and masks of its vectors are its own cell's
+-- the endpoint, behind an entry of another cell than its own, has the configuration space and the state that it had before;
+-- its interrupt control is another only where the entry raises a vector of it, which turns it off in one-shot mode; and what
+-- was pending is pending still
 pub record IsKeptByOthers (image : Image) (f : Facts) (entry : Entry) (before behind : Endpoint) : Type 0 where
   pub spec : behind.spec ≡ before.spec
   pub space : behind.space ≡ before.space

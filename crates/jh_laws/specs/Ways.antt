@@ -24,17 +24,6 @@ is_phase (Noted id how) = true
 is_phase (Finish answer) = true
 is_phase _ = false
 
--- an act of a call
-abbrev pub is_call : Act → Bool
-is_call (Begin code a b) = true
-is_call (Decide refused) = true
-is_call (Settle how) = true
-is_call Commit = true
-is_call (Note id) = true
-is_call (Noted id how) = true
-is_call (Finish answer) = true
-is_call _ = false
-
 abbrev pub is_decide : Act → Bool
 is_decide (Decide refused) = true
 is_decide _ = false

@@ -24,7 +24,7 @@ Serves origin cpu = IsTrue (is_on_board origin.image cpu)
 abbrev pub entries_of : Running → List Entry
 entries_of running = running.board.entries
 
--- at these entries a turn of the CPU may answer so, and leave those; no table is edited yet
+-- at these entries a turn of the CPU may answer so, and leave those; no turn edits tables
 abbrev pub IsTurnAnswer : Origin → ℕ → List Entry → List Entry → RunTurn → Type 0
 IsTurnAnswer origin cpu before after (Made entry) = (due origin.image before cpu ≡ Some entry) × (length before < origin.limit) × (after ≡ before ++ entry ∷ [])
 IsTurnAnswer origin cpu before after (Edited left) = ⊥

@@ -111,5 +111,6 @@ pub fn drive<R: Wait, G: Gate>(
         }
         round = round.saturating_add(1);
     }
+    // the rounds have no end of their own
     unreachable!()
 }

@@ -29,6 +29,7 @@ fn push_cell_map(
 {
     match board.map_of(cell.id)? {
         Some(runs) => push_map(alloc, text, cell, runs.as_slice()),
+        // the cell lives
         None => unreachable!(),
     }
 }
@@ -41,6 +42,7 @@ fn print_maps(alloc: Global, board: &Board) -> Result<Vec<u8>, NoMemory>
     for place in 0..board.count() {
         match board.cell(place) {
             Some(cell) => push_cell_map(alloc, board, cell, &mut text)?,
+            // there are so many cells
             None => unreachable!(),
         }
     }

@@ -6,7 +6,7 @@ ghost use Rattle.std.specs.List.{join_with_byte};
 
 use crate::number_text::{push_decimal, push_hexadecimal, push_signed};
 use crate::outcomes::{heard_word, ok_word, settled_word};
-use jh_history::{Act, Entry, Journal};
+use jh_history::{Act, Entry, Heard, Journal};
 use jh_num::NoMemory;
 use std::alloc::Global;
 
@@ -57,11 +57,7 @@ fn push_act(text: &mut Vec<u8>, act: Act) -> Result<(), NoMemory>
             text.extend_from_slice(b"write ")?;
             push_attempt(text, width, at, value, ok)?;
         }
-        Act::Fetch { at, got } => {
-            text.extend_from_slice(b"fetch ")?;
-            push_hexadecimal(text, at)?;
-            push_got(text, got)?;
-        }
+        Act::Fetch { at, got } => push_fetch(text, at, got)?,
         Act::Await {
             width,
             at,
@@ -71,12 +67,7 @@ fn push_act(text: &mut Vec<u8>, act: Act) -> Result<(), NoMemory>
             text.extend_from_slice(b"await ")?;
             push_attempt(text, width, at, value, ok)?;
         }
-        Act::Irq { device, vector } => {
-            text.extend_from_slice(b"irq = ")?;
-            push_decimal(text, u64::from(device))?;
-            text.push(b' ')?;
-            push_decimal(text, u64::from(vector))?;
-        }
+        Act::Irq { device, vector } => push_irq(text, device, vector)?,
         Act::Hvc { code, a, b, answer } => {
             push_call(text, code, a, b)?;
             push_signed(text, answer)?;
@@ -96,12 +87,7 @@ fn push_act(text: &mut Vec<u8>, act: Act) -> Result<(), NoMemory>
             text.extend_from_slice(b"note ")?;
             push_decimal(text, u64::from(id))?;
         }
-        Act::Noted { id, how } => {
-            text.extend_from_slice(b"noted ")?;
-            push_decimal(text, u64::from(id))?;
-            text.extend_from_slice(b" = ")?;
-            text.extend_from_slice(heard_word(how).as_bytes())?;
-        }
+        Act::Noted { id, how } => push_noted(text, id, how)?,
         Act::Finish { answer } => {
             text.extend_from_slice(b"finish = ")?;
             push_signed(text, answer)?;
@@ -119,6 +105,36 @@ fn push_read(text: &mut Vec<u8>, width: u8, at: u64, got: Option<u64>) -> Result
     text.push(b' ')?;
     push_hexadecimal(text, at)?;
     push_got(text, got)
+}
+
+/// Puts the words of a fetch at the end.
+fn push_fetch(text: &mut Vec<u8>, at: u64, got: Option<u64>) -> Result<(), NoMemory>
+    ensures { OnOk result (text.new.items ≡ text.old.items ++ join_with_byte 32 (act_words (Act.Fetch at got))) }
+{
+    text.extend_from_slice(b"fetch ")?;
+    push_hexadecimal(text, at)?;
+    push_got(text, got)
+}
+
+/// Puts the words of an interrupt at the end.
+fn push_irq(text: &mut Vec<u8>, device: u32, vector: u8) -> Result<(), NoMemory>
+    ensures { OnOk result (text.new.items ≡ text.old.items ++ join_with_byte 32 (act_words (Act.Irq device vector))) }
+{
+    text.extend_from_slice(b"irq = ")?;
+    push_decimal(text, u64::from(device))?;
+    text.push(b' ')?;
+    push_decimal(text, u64::from(vector))
+}
+
+/// Puts the words at the end that tell how a cell met the note of a change.
+fn push_noted(text: &mut Vec<u8>, id: u32, how: Heard) -> Result<(), NoMemory>
+    ensures { OnOk result (text.new.items ≡ text.old.items ++ join_with_byte 32 (act_words (Act.Noted id how))) }
+{
+    text.extend_from_slice(b"noted ")?;
+    push_decimal(text, u64::from(id))?;
+    text.extend_from_slice(b" = ")?;
+    text.extend_from_slice(heard_word(how).as_bytes())?;
+    Ok(())
 }
 
 /// Puts what a write or a wait tells behind its name at the end.

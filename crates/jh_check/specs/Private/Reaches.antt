@@ -1,5 +1,5 @@
 -- How far the regions of a cell reach, by which those that meet none of them are told at once.
-use Rattle.std.specs.Prelude.{◌≡◌, ◌≢◌, ℕ, ◌^◌, ◌<◌, ◌≤◌, Bool, true, false, ◌&&◌, not, ◌==◌, if◌then◌else◌, List, length, slice_index_or, Contains}
+use Rattle.std.specs.Prelude.{◌≡◌, ◌≢◌, ℕ, ◌^◌, ◌<◌, ◌≤◌, Bool, true, false, ◌&&◌, not, ◌==◌, if◌then◌else◌, Some, None, List, length, slice_index_or, Contains}
 use Rattle.std.specs.List.Sorted.{IsNonDecreasingBy}
 use Rattle.jh_cellcfg.specs.declared.region.Region.{Region}
 use Rattle.jh_cellcfg.specs.declared.config.CellConfig.{CellConfig}
@@ -10,8 +10,11 @@ use Rattle.jh_check.specs.declared.spans.Span.{Span}
 use Rattle.jh_check.specs.declared.reach.Reach.{Reach}
 use Rattle.jh_check.specs.declared.reach.Reaches.{Reaches}
 use Rattle.jh_check.specs.declared.reach.Window.{Window}
+use Rattle.jh_check.specs.declared.gaps.Gap.{Gap}
+use Rattle.jh_check.specs.declared.gaps.Gaps.{Gaps}
+use Rattle.jh_check.specs.declared.gaps.Extents.{Extents}
 use Rattle.jh_check.specs.Regions.{Spot, pair_breaks}
-use Rattle.jh_check.specs.Spans.{takes_part, span_of, spans_meet, is_within}
+use Rattle.jh_check.specs.Spans.{takes_part, span_of, spans_meet, is_within, LiesWithin}
 use Rattle.jh_check.specs.Findings.{spot}
 
 -- the rule lets the region meet those that are shared
@@ -52,47 +55,65 @@ pub record IsReached (reaches : List Reach) (span : Span) : Type 0 where
 abbrev pub TellsEach : List Span → List Reach → Type 0
 TellsEach spans reaches = (x z : Span) → Contains spans x → spans_meet x z ≡ true → (reached : IsReached reaches z) × (reached.by.item ≡ x.item)
 
--- one of the spans that meets another of them is reached
+-- one of the spans that meets another of them is reached, by a number that isn't below the other's, where neither is
+-- empty
 abbrev pub TellsPairs : List Span → List Reach → Type 0
 TellsPairs spans reaches =
-    (x y : Span) → Contains spans x → Contains spans y → x.item ≢ y.item → x.start < x.end → spans_meet x y ≡ true → IsReached reaches x
+    (x y : Span) → Contains spans x → Contains spans y → x.item ≢ y.item → x.start < x.end → y.start < y.end → spans_meet x y ≡ true
+    → (reached : IsReached reaches x) × (y.item ≤ reached.by.item)
 
 -- if the region is of the cell of that number, it is the one of its own number there
 abbrev pub IsOwn : Spot → ℕ → CellConfig → Type 0
 IsOwn one b other = one.cell ≡ b → (one.item < length other.memory_regions) × (one.region ≡ slice_index_or other.memory_regions one.item one.region)
 
--- a region that breaks the rule with one of the cell is reached, and, where the rule is about two cells, by the
--- reach of that one's number
+-- a region that breaks the rule with one of the cell is reached, by that one's number, or, where the rule is about one
+-- cell, by a number that isn't below it; where `pass` holds, each region that may meet shared ones
 abbrev pub TellsOthers : Rule → Bool → ℕ → CellConfig → List Reach → Type 0
 TellsOthers rule pass b other reaches =
-    (one : Spot) (s : ℕ) (d : Region) → IsOwn one b other → passes_shared rule one.region ≡ pass → s < length other.memory_regions
+    (one : Spot) (s : ℕ) (d : Region) → IsOwn one b other → (pass ≡ true → passes_shared rule one.region ≡ true) → s < length other.memory_regions
     → pair_breaks rule one (spot b other s (slice_index_or other.memory_regions s d)) ≡ true
-    → (reached : IsReached reaches (span_of rule one.item one.region)) × (is_within rule ≡ false → reached.by.item ≡ s)
+    → (reached : IsReached reaches (span_of rule one.item one.region)) × (is_within rule ≡ false → reached.by.item ≡ s) × (s ≤ reached.by.item)
+
+-- those by which a region is looked for that may meet shared ones: all, where no others are known
+abbrev pub unshared_of : Reaches → List Reach
+unshared_of reaches = elim reaches.unshared [ None ↦ reaches.any.items | Some unshared ↦ unshared.items ]
 
 -- those by which the region is looked for
 abbrev pub reaches_for : Rule → Region → Reaches → List Reach
-reaches_for rule region reaches = if passes_shared rule region then reaches.unshared.items else reaches.any.items
+reaches_for rule region reaches = if passes_shared rule region then unshared_of reaches else reaches.any.items
+
+-- what lies in the gap isn't reached
+abbrev pub IsGap : List Reach → Gap → Type 0
+IsGap reaches gap = (span : Span) → LiesWithin span gap.start gap.end → IsReached reaches span → ⊥
+
+pub record AreGaps (reaches : Reaches) (gaps : Gaps) : Type 0 where
+  pub any : IsGap reaches.any.items gaps.any
+  pub unshared : IsGap (unshared_of reaches) gaps.unshared
 
 -- the one is within the other
 pub record IsInside (span extent : Span) : Type 0 where
   pub starts : extent.start ≤ span.start
   pub ends : span.end ≤ extent.end
 
--- each of the first regions that takes part is within it, and each of all
-abbrev pub IsExtentTo : Rule → List Region → ℕ → Span → Type 0
-IsExtentTo rule regions n extent =
-    (r : ℕ) (d : Region) → r < n → r < length regions → takes_part rule (slice_index_or regions r d) ≡ true
-    → IsInside (span_of rule r (slice_index_or regions r d)) extent
+-- that by which the region is looked for
+abbrev pub extent_for : Rule → Region → Extents → Span
+extent_for rule region extents = if passes_shared rule region then extents.unshared else extents.any
 
-abbrev pub IsExtent : Rule → List Region → Span → Type 0
-IsExtent rule regions extent = IsExtentTo rule regions (length regions) extent
+-- each of the first regions that takes part is within its own, and each of all
+abbrev pub AreExtentsTo : Rule → List Region → ℕ → Extents → Type 0
+AreExtentsTo rule regions n extents =
+    (r : ℕ) (d : Region) → r < n → r < length regions → takes_part rule (slice_index_or regions r d) ≡ true
+    → IsInside (span_of rule r (slice_index_or regions r d)) (extent_for rule (slice_index_or regions r d) extents)
+
+abbrev pub AreExtents : Rule → List Region → Extents → Type 0
+AreExtents rule regions extents = AreExtentsTo rule regions (length regions) extents
 
 -- they tell of the cell, which has that number
 pub record AreOf (rule : Rule) (b : ℕ) (other : CellConfig) (reaches : Reaches) : Type 0 where
   pub any_rises : IsRising reaches.any.items
   pub any : TellsOthers rule false b other reaches.any.items
-  pub unshared_rises : IsRising reaches.unshared.items
-  pub unshared : TellsOthers rule true b other reaches.unshared.items
+  pub unshared_rises : IsRising (unshared_of reaches)
+  pub unshared : TellsOthers rule true b other (unshared_of reaches)
 
 -- so do those of each cell
 abbrev pub AreOfEach : Rule → List CellConfig → List Reaches → Type 0

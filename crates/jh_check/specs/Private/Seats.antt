@@ -9,7 +9,7 @@ use Rattle.jh_check.specs.Devices.{agrees_with}
 
 -- the seat of the device that has that number in the cell of that number
 abbrev pub seat_of : ℕ → ℕ → PciDevice → Seat
-seat_of cell item device = record { bdf = device.bdf; cell = cell; item = item }
+seat_of cell item device = record { bdf = device.bdf; id = device.shmem_dev_id; cell = cell; item = item }
 
 -- each device of a cell has its seat among them
 abbrev pub HasSeatsOf : ℕ → List PciDevice → List Seat → Type 0

@@ -1,16 +1,36 @@
 -- The call and the cells change as the act says.
-use Rattle.std.proofs.Common.{◌≡◌, ◌∙◌, Option, sym, ap, subst, arith}
+use Rattle.std.proofs.Common.{◌≡◌, ◌∙◌, Option, refl, sym, ap, subst, arith}
+use Rattle.std.specs.Prelude.{IfSome}
 use Rattle.std.specs.Option.{option_map_or}
 use Rattle.jh_cellcfg.specs.declared.config.CellConfig.{CellConfig}
 use Rattle.jh_history.specs.declared.call.OpenCall.{OpenCall}
 use Rattle.jh_history.specs.Commits.{created_by}
 use Rattle.jh_history.specs.Calls.{call_by}
+use Rattle.jh_history.specs.DueFacts.{NamesCpu}
 use Rattle.jh_board.specs.declared.held.Held.{Held}
 use Rattle.jh_board.specs.declared.steps.CellsChange.{CellsChange}
 use Rattle.jh_board.specs.Means.{IsReady}
 use Rattle.jh_board.specs.Steps.{change_of_cells, changed_cells, joined_cells}
-use Rattle.jh_board.proofs.MadeLemmas.{cells_made, ready_made, KeepsCells}
+use Rattle.jh_board.proofs.KeptLemmas.{ready_kept}
+use Rattle.jh_board.proofs.MadeLemmas.{cells_made, nothing_made, ready_made, KeepsCells}
 use Rattle.jh_board.proofs.steps.make_call.Goals as goal
+
+pub returns-then-not-is_call-clause-lives : goal.returns-then-not-is_call-clause-lives
+returns-then-not-is_call-clause-lives c =
+    let held = c.args.held.now in
+    sym (nothing_made held.call held.cells.lives c.args.entry.now.act (sym c.is_call.ensures ∙ c.if-not-is_call.true)).1
+
+pub returns-then-not-is_call-clause-named : goal.returns-then-not-is_call-clause-named
+returns-then-not-is_call-clause-named c =
+    let held = c.args.held.now in
+    let P : Option CellConfig → Type 0 = λ config. IfSome config NamesCpu in
+    subst P (sym (nothing_made held.call held.cells.lives c.args.entry.now.act (sym c.is_call.ensures ∙ c.if-not-is_call.true)).0) tt
+
+pub returns-then-not-is_call-clause-ready : goal.returns-then-not-is_call-clause-ready
+returns-then-not-is_call-clause-ready c = λ h.
+    let old : Held = c.args.held.now in
+    let new : Held = record old { call = c.count_entry.new.call } in
+    ready_kept old new c.count_entry.new.call refl refl (omega arith) (λ q held. held) h
 
 pub returns-clause-lives : goal.returns-clause-lives
 returns-clause-lives c =

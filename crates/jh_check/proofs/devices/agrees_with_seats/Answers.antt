@@ -10,7 +10,7 @@ pub loop-seat-preserved : goal.loop-seat-preserved
 loop-seat-preserved c =
     let seats = c.args.seats.now in
     let i = c.loop-seat.seat-index in
-    let none : Seat = record { bdf = 0; cell = 0; item = 0 } in
+    let none : Seat = record { bdf = 0; id = 0; cell = 0; item = 0 } in
     let P : Seat → Type 0 = λ s. AgreesAt (cells_of c.args.setup.now) c.args.number c.args.regions.now c.args.device.now s in
     λ k d h. elim (cases_eq k i) [
       | inl e ↦

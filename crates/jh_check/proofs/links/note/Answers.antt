@@ -3,7 +3,6 @@ use Rattle.std.specs.List.{Contains}
 use Rattle.std.proofs.lemmas.List.{get_or_default}
 use Rattle.jh_cellcfg.specs.declared.config.PciDevice.{PciDevice}
 use Rattle.jh_check.specs.Devices.{are_linked, section_count}
-use Rattle.jh_check.specs.Private.Links.{ArePartners}
 use Rattle.jh_check.proofs.LinkLemmas.{partners_more}
 use Rattle.jh_check.proofs.links.note.Goals as goal
 
@@ -38,7 +37,7 @@ loop-k-preserved c =
     let linked : are_linked d e ≡ true = rw (sym v) (rw (sym w) (sym c.are_linked.ensures ∙ c.if-not-are_linked.false)) in
     let first = c.section_count.ensures.value in
     let second = c.section_count-2.ensures.value in
-    let least = c.min-k-end.ensures in
+    let least = c.min-count.ensures in
     let t = c.loop-k-test.true in
     let h : c.loop-k.k < section_count (get_or c.as_slice.result.now c.args.n none) = rw (sym first) (omega arith) in
     let i : c.loop-k.k < section_count (get_or c.as_slice-2.result.now c.args.m none) = rw (sym second) (omega arith) in

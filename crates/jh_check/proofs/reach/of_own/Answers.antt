@@ -20,4 +20,4 @@ returns-clause-tells c =
     let P : List Region → List Span → Type 0 = λ regions spans. HasOthers c.args.rule c.args.pass c.args.b regions spans in
     let has : P cell.memory_regions c.in_ok-spans.spans.items = subst (λ regions. P regions c.in_ok-spans.spans.items) c.as_slice-regions.ensures.value c.in_ok-spans.ensures.each in
     let all : P cell.memory_regions spans = rw v has in
-    IfOk-weaker c.of_overlaps.result (λ reaches. TellsPairs spans reaches.items) (λ reaches. TellsOthers c.args.rule c.args.pass c.args.b cell reaches.items) (λ reaches tells. others_pairs c.args.rule c.args.pass c.args.b cell spans reaches.items c.requires all tells) c.of_overlaps.ensures.tells
+    IfOk-weaker c.of_pairs.result (λ reaches. TellsPairs spans reaches.items) (λ reaches. TellsOthers c.args.rule c.args.pass c.args.b cell reaches.items) (λ reaches tells. others_pairs c.args.rule c.args.pass c.args.b cell spans reaches.items c.requires all tells) c.of_pairs.ensures.tells

@@ -1,4 +1,5 @@
-use Rattle.std.proofs.Common.{nat_lt, leb, arith, rules}
+use Rattle.std.proofs.Common.{◌≡◌, nat_lt, leb, get_or, ap, ◌∙◌, arith, rules}
+use Rattle.std.proofs.lemmas.List.{get_or_default}
 use Rattle.std.proofs.lemmas.List.Sorted.{IsPartitionPoint-from_clause, IsPartitionedBy-ltb, IsPartitionedBy-leb}
 use Rattle.jh_check.specs.declared.reach.Reach.{Reach}
 use Rattle.jh_check.proofs.ReachLemmas.{among_parted}
@@ -13,3 +14,13 @@ returns c =
     let begins = IsPartitionPoint-from_clause (λ (reach : Reach). nat_lt reach.start span.end) reaches n c.partition_point-end.ensures.partitioned (IsPartitionedBy-ltb (λ (reach : Reach). reach.start) reaches span.end c.requires.starts) (λ a r q k. search rules) in
     let ends = IsPartitionPoint-from_clause (λ (reach : Reach). leb reach.end span.start) reaches m c.partition_point-begin.ensures.partitioned (IsPartitionedBy-leb (λ (reach : Reach). reach.end) reaches span.start c.requires.ends) (λ a r q k. search rules) in
     λ x cx b e. c.around.ensures x (among_parted reaches span c.min.result m n (omega (arith, c.min.ensures)) (omega (arith, c.min.ensures)) c.partition_point-end.ensures.bound begins.1 ends.0 x cx b e)
+
+pub returns-then-is_only : goal.returns-then-is_only
+returns-then-is_only c = λ x cx b e.
+    let reaches = c.args.reaches.now in
+    let k = c.saturating_sub-k.result in
+    let none : Reach = record { start = 0; item = 0; end = 0 } in
+    let same = get_or_default reaches k none x (c.is_only.ensures.within c.if-is_only.true) in
+    let is = c.is_only.ensures.only c.if-is_only.true x x cx b e in
+    let item : (get_or reaches k none).item ≡ x.item = ap (λ (r : Reach). r.item) (same ∙ is) in
+    (omega arith, omega arith)

@@ -1,8 +1,6 @@
-use Rattle.std.proofs.Common.{◌≡◌, ◌<◌, ◌++◌, List, length, take, get_or, refl, sym, subst, arith}
-use Rattle.jh_check.specs.Private.Bus.{HasBdfs}
+use Rattle.std.proofs.Common.{◌≡◌, ◌<◌, ◌++◌, length, get_or, refl, sym, subst, arith}
 use Rattle.jh_check.specs.Private.Seats.{HasSeats, AreByBdf}
-use Rattle.std.specs.List.{Contains}
-use Rattle.jh_cellcfg.specs.declared.config.PciDevice.{PciDevice}
+use Rattle.jh_check.specs.Private.Fits.{AreSure}
 use Rattle.jh_check.specs.Cells.{cells_of}
 use Rattle.jh_check.specs.Lists.{capped}
 use Rattle.jh_check.specs.Findings.{in_devices, in_devices_at}
@@ -18,26 +16,30 @@ pub loop-a-preserved : goal.loop-a-preserved
 loop-a-preserved c =
     let found = in_devices_at (cells_of c.args.setup.now) in
     let all = cells_of c.args.setup.now in
-    let v = c.cell-cell.ensures in
+    let v = c.cell.ensures in
     let h : c.loop-a.a < length all = omega arith in
-    let a = c.in_ok-in_devices_of.ensures in
-    let e : capped c.in_devices_of.new.found ≡ capped (c.loop-a.found ++ found c.loop-a.a (get_or all c.loop-a.a c.cell-cell.result.now)) = cc in
-    let told = found_step found all c.loop-a.a c.cell-cell.result.now c.loop-a.found c.in_devices_of.new.found _ h e c.loop-a.invariant.told in
+    let a = c.in_ok-in_devices_of.ensures.told in
+    let e : capped c.in_devices_of.new.found ≡ capped (c.loop-a.found ++ found c.loop-a.a (get_or all c.loop-a.a c.cell.result.now)) = cc in
+    let told = found_step found all c.loop-a.a c.cell.result.now c.loop-a.found c.in_devices_of.new.found _ h e c.loop-a.invariant.told in
     record {
       told = told;
-      length = c.mark.ensures.length;
-      bdfs = bdfs_more all c.loop-a.a c.cell-cell.result.now c.loop-a.marks.items c.mark.new.marks.items h v c.loop-a.invariant.bdfs c.mark.ensures.kept (λ device cd. c.mark.ensures.each device (subst (λ (xs : List PciDevice). Contains xs device) (sym c.as_slice-in-loop-a.ensures.value) cd));
+      length = c.in_ok-in_devices_of.ensures.length;
+      bdfs = bdfs_more all c.loop-a.a c.cell.result.now c.loop-a.marks.items c.in_devices_of.new.marks.items h v c.loop-a.invariant.bdfs c.in_ok-in_devices_of.ensures.kept c.in_ok-in_devices_of.ensures.each;
     }
 
 pub returns : goal.returns
 returns c =
     found_done (in_devices_at (cells_of c.args.setup.now)) (cells_of c.args.setup.now) c.loop-a.a c.loop-a.found _ (omega arith) c.loop-a.invariant.told
 
-pub in_devices_of-requires-clause-bdfs : goal.in_devices_of-requires-clause-bdfs
-in_devices_of-requires-clause-bdfs c = subst (λ marks. HasBdfs (take c.loop-a.a (cells_of c.args.setup.now)) marks) (sym c.as_slice.ensures.value) c.loop-a.invariant.bdfs
-
 pub in_devices_of-requires-clause-seats : goal.in_devices_of-requires-clause-seats
 in_devices_of-requires-clause-seats c = subst (λ seats. HasSeats (cells_of c.args.setup.now) seats) (sym c.as_slice-seats.ensures.value) c.in_ok-each.ensures.each
 
 pub in_devices_of-requires-clause-order : goal.in_devices_of-requires-clause-order
 in_devices_of-requires-clause-order c = subst AreByBdf (sym c.as_slice-seats.ensures.value) c.in_ok-each.ensures.order
+
+pub sure_fits-requires-clause-order : goal.sure_fits-requires-clause-order
+sure_fits-requires-clause-order c = subst AreByBdf (sym c.as_slice-seats.ensures.value) c.in_ok-each.ensures.order
+
+pub in_devices_of-requires-clause-sure : goal.in_devices_of-requires-clause-sure
+in_devices_of-requires-clause-sure c =
+    subst (λ sure. AreSure (cells_of c.args.setup.now) c.as_slice-seats.result.now sure) (sym c.as_slice.ensures.value) c.in_ok-sure.ensures.sure

@@ -1,13 +1,18 @@
-use Rattle.std.proofs.Common.{◌≡◌, true, take, sym, subst, ◌∙◌}
+use Rattle.std.proofs.Common.{◌≡◌, true, take, subst, sym, ◌∙◌}
 use Rattle.std.proofs.lemmas.Bool.{not-false}
 use Rattle.jh_check.specs.Cells.{cells_of}
 use Rattle.jh_check.specs.Devices.{agrees_with_all}
 use Rattle.jh_check.proofs.BusLemmas.{agrees_unmarked}
+use Rattle.jh_check.proofs.FitLemmas.{agrees_sure}
 use Rattle.jh_check.proofs.search.may_differ.Goals as goal
 
 pub returns-then-not-is_marked : goal.returns-then-not-is_marked
 returns-then-not-is_marked c = λ f.
-    agrees_unmarked (take c.args.a (cells_of c.args.setup.now)) c.args.marks.now c.args.cell.now.memory_regions c.args.device.now c.requires.bdfs (sym c.is_marked.ensures ∙ c.if-not-is_marked.true)
+    agrees_unmarked (take c.args.a (cells_of c.args.setup.now)) c.args.marks.now c.args.cell.now.memory_regions c.args.device.now c.requires.bdfs (c.is_marked.ensures c.if-not-is_marked.true)
+
+pub returns-then-is_sure : goal.returns-then-is_sure
+returns-then-is_sure c = λ f.
+    agrees_sure (cells_of c.args.setup.now) c.args.a c.args.cell.now c.args.device.now c.args.seats.now c.args.sure.now c.requires.count c.requires.seats c.requires.sure (sym c.is_sure.ensures ∙ c.if-is_sure.true) c.requires.seated
 
 pub returns : goal.returns
 returns c = λ f.

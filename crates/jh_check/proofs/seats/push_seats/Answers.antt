@@ -1,10 +1,9 @@
-use Rattle.std.proofs.Common.{◌≡◌, ◌<◌, ◌++◌, [], ◌∷◌, length, get_or, inl, inr, sym, subst, arith}
+use Rattle.std.proofs.Common.{◌++◌, [], ◌∷◌, get_or, inl, inr, sym, subst, arith}
 use Rattle.std.specs.List.{Contains}
 use Rattle.std.proofs.lemmas.Bool.{cases_eq}
 use Rattle.std.proofs.lemmas.List.{get_or_default}
 use Rattle.std.proofs.lemmas.List.Elements.{Contains-push, Contains-append_left}
 use Rattle.jh_cellcfg.specs.declared.config.PciDevice.{PciDevice}
-use Rattle.jh_check.specs.declared.seats.Seat.{Seat}
 use Rattle.jh_check.specs.Private.Seats.{seat_of}
 use Rattle.jh_check.proofs.seats.push_seats.Goals as goal
 

@@ -1,9 +1,9 @@
--- The bytes of a piece are those of its places.
+-- The bytes of a piece, or of a word, are those of its places.
 use Rattle.std.proofs.Common.{ap, sym, ◌∙◌}
 use Rattle.jh_num.specs.Memory.{spelled}
-use Rattle.jh_history.specs.declared.place.Place.TheVariants.{Physical}
+use Rattle.jh_history.specs.declared.place.Place.TheVariants.{Physical, Page}
 use Rattle.jh_board.specs.Pages.{MemoryView}
-use Rattle.jh_board.proofs.PieceLemmas.{row_of_memory, fits_in_row}
+use Rattle.jh_board.proofs.PieceLemmas.{row_of_memory, row_of_comm, fits_in_row}
 use Rattle.jh_board.proofs.memory.Memory.value.Goals as goal
 
 pub returns-in-Some-clause-value : goal.returns-in-Some-clause-value
@@ -13,3 +13,14 @@ returns-in-Some-clause-value c =
 
 pub returns-in-Some-clause-fits : goal.returns-in-Some-clause-fits
 returns-in-Some-clause-fits c = fits_in_row c.value.result c.in-Some.piece.count (Physical c.in-Some.piece.at) c.args.places.now c.in-Some.ensures.places c.value.ensures.fits
+
+pub returns-in-Some-word_of-clause-value : goal.returns-in-Some-word_of-clause-value
+returns-in-Some-word_of-clause-value c =
+    let memory : MemoryView = record { physical = c.self.inside.physical; comms = c.self.inside.comms } in
+    let word = c.in-Some-word_of.word in
+    rw (c.in-Some-word_of.ensures.places, ← c.self.view_is) (c.value-in-Some-word_of.ensures.spells ∙ ap spelled (sym (row_of_comm memory word.cell word.offset word.count)))
+
+pub returns-in-Some-word_of-clause-fits : goal.returns-in-Some-word_of-clause-fits
+returns-in-Some-word_of-clause-fits c =
+    let word = c.in-Some-word_of.word in
+    fits_in_row c.value-in-Some-word_of.result word.count (Page word.cell word.offset) c.args.places.now c.in-Some-word_of.ensures.places c.value-in-Some-word_of.ensures.fits

@@ -1,0 +1,11 @@
+use Rattle.std.proofs.Common.{arith}
+use Rattle.jh_check.proofs.ReachLemmas.{lies_unreached}
+use Rattle.jh_check.proofs.gaps.gap_behind.Goals as goal
+
+pub returns : goal.returns
+returns c = λ span lies.
+    let n = c.min-behind.result in
+    let m = c.min-behind.ensures in
+    let low = lies.starts in
+    let high = lies.ends in
+    lies_unreached c.args.reaches.now span n c.requires (λ h d. let e = c.end_before-start.ensures h d in omega arith) (λ h d. let e = c.start_behind-end.ensures h d in omega arith) (omega (arith, m))

@@ -1,0 +1,57 @@
+-- The bdfs at which all devices of different cells are known to fit each other.
+use Rattle.std.specs.Prelude.{◌≡◌, ◌≢◌, ℕ, ◌<◌, Bool, true, false, ◌&&◌, not, ◌==◌, List, length, slice_index_or, Contains}
+use Rattle.jh_cellcfg.specs.declared.region.Region.{Region}
+use Rattle.jh_cellcfg.specs.declared.config.PciDevice.{PciDevice}
+use Rattle.jh_cellcfg.specs.declared.config.CellConfig.{CellConfig}
+use Rattle.jh_check.specs.declared.seats.Seat.{Seat}
+use Rattle.jh_check.specs.Devices.{are_same_memory, sections_of}
+
+-- the seat is that of the device, which is of the cell
+pub record IsAt (cells : List CellConfig) (seat : Seat) (cell : CellConfig) (device : PciDevice) : Type 0 where
+  pub among : seat.cell < length cells
+  pub cell_is : slice_index_or cells seat.cell cell ≡ cell
+  pub within : seat.item < length cell.pci_devices
+  pub device_is : slice_index_or cell.pci_devices seat.item device ≡ device
+
+-- the seat is that of the device, which is of the cell of that number
+pub record IsSeated (cells : List CellConfig) (seats : List Seat) (number : ℕ) (cell : CellConfig) (device : PciDevice) : Type 0 where
+  pub seat : Seat
+  pub is : Contains seats seat
+  pub owner : seat.cell ≡ number
+  pub place : seat.bdf ≡ device.bdf
+  pub stands : IsAt cells seat cell device
+
+-- the other has that number among its peers, and as many peers and the same memory as the one
+abbrev pub is_like : List Region → PciDevice → List Region → PciDevice → ℕ → Bool
+is_like regions device other_regions other id =
+    (other.shmem_dev_id == id) && ((device.shmem_peers == other.shmem_peers) && are_same_memory (sections_of regions device) (sections_of other_regions other))
+
+-- so has the device of the seat, if there is one
+abbrev pub LikeAt : List CellConfig → List Region → PciDevice → Seat → Type 0
+LikeAt cells regions device seat =
+    (c : CellConfig) (d : PciDevice) → seat.cell < length cells → seat.item < length (slice_index_or cells seat.cell c).pci_devices
+    → is_like regions device (slice_index_or cells seat.cell c).memory_regions (slice_index_or (slice_index_or cells seat.cell c).pci_devices seat.item d) seat.id ≡ true
+
+-- so have those of the first seats, and no two have one number
+pub record AreLike (cells : List CellConfig) (regions : List Region) (device : PciDevice) (run : List Seat) (n : ℕ) : Type 0 where
+  pub each : (k : ℕ) (d : Seat) → k < n → LikeAt cells regions device (slice_index_or run k d)
+  pub ids : (j k : ℕ) (d : Seat) → j < k → k < n → (slice_index_or run j d).id ≢ (slice_index_or run k d).id
+
+-- what is asked of two linked devices of different cells
+abbrev pub fits : List Region → PciDevice → List Region → PciDevice → Bool
+fits regions device other_regions other =
+    (device.shmem_peers == other.shmem_peers) && (not (device.shmem_dev_id == other.shmem_dev_id) && are_same_memory (sections_of regions device) (sections_of other_regions other))
+
+-- the devices of the two seats fit each other
+abbrev pub FitAt : List CellConfig → Seat → Seat → Type 0
+FitAt cells x y =
+    (c : CellConfig) (d : PciDevice) (e : CellConfig) (f : PciDevice) → IsAt cells x c d → IsAt cells y e f → fits c.memory_regions d e.memory_regions f ≡ true
+
+-- so do those of all seats of different cells
+abbrev pub FitEachOther : List CellConfig → List Seat → Type 0
+FitEachOther cells run = (x y : Seat) → Contains run x → Contains run y → x.cell ≢ y.cell → FitAt cells x y
+
+-- so do those at each bdf that is told
+abbrev pub AreSure : List CellConfig → List Seat → List Bool → Type 0
+AreSure cells seats sure =
+    (bdf : ℕ) → slice_index_or sure bdf false ≡ true → (x y : Seat) → Contains seats x → Contains seats y → x.bdf ≡ bdf → y.bdf ≡ bdf → x.cell ≢ y.cell → FitAt cells x y

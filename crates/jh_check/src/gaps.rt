@@ -1,0 +1,224 @@
+//! The gaps between how far regions of a cell reach, by which those that meet none of them are told at once.
+ghost use Rattle.std.specs.Prelude.{◌≡◌, true, false};
+ghost use Rattle.jh_check.specs.Spans.{span_of, takes_part, LiesWithin};
+ghost use Rattle.jh_check.specs.Private.Reaches.{unshared_of, reaches_for, extent_for, IsRising, IsReached, IsGap, AreGaps, IsInside, AreExtents};
+
+use crate::reach::{Reach, Reaches, end_before, passes_shared, start_behind, unshared_of};
+use crate::rule::Rule;
+use crate::spans::{Span, span_of, takes_part};
+use jh_cellcfg::Region;
+
+/// No span is reached that begins at `start` or behind it and ends at `end` or before it. `behind` of the reaches lie
+/// before it.
+#[derive(Clone, Copy)]
+pub(crate) struct Gap {
+    pub(crate) behind: usize,
+    pub(crate) start: u128,
+    pub(crate) end: u128,
+}
+
+/// A gap among the reaches of each kind.
+#[derive(Clone, Copy)]
+pub(crate) struct Gaps {
+    pub(crate) any: Gap,
+    pub(crate) unshared: Gap,
+}
+
+/// What has all regions that take part, of each kind by which they are looked for.
+#[derive(Clone, Copy)]
+pub(crate) struct Extents {
+    pub(crate) any: Span,
+    pub(crate) unshared: Span,
+}
+
+/// The least that has both.
+fn joined(one: Span, other: Span) -> Span
+    ensures one { IsInside one result }
+    ensures other { IsInside other result }
+{
+    Span {
+        start: one.start.min(other.start),
+        end: one.end.max(other.end),
+        item: other.item,
+    }
+}
+
+/// The extents, one of them made so wide that it has the region, where that takes part.
+fn widened(extents: Extents, rule: Rule, item: usize, region: &Region) -> Extents
+    ensures any { IsInside extents.any result.any }
+    ensures unshared { IsInside extents.unshared result.unshared }
+    ensures own { takes_part rule region.now ≡ true → IsInside (span_of rule item region.now) (extent_for rule region.now result) }
+{
+    if !takes_part(rule, region) {
+        return extents;
+    }
+    let span = span_of(rule, item, region);
+    if passes_shared(rule, region) {
+        Extents {
+            any: extents.any,
+            unshared: joined(extents.unshared, span),
+        }
+    } else {
+        Extents {
+            any: joined(extents.any, span),
+            unshared: extents.unshared,
+        }
+    }
+}
+
+/// What has all regions that take part: from the least of their starts to the farthest of their ends.
+pub(crate) fn extents_of(rule: Rule, regions: &[Region]) -> Extents
+    ensures { AreExtents rule regions.now result }
+{
+    let none = Span {
+        start: u64::MAX,
+        end: 0,
+        item: 0,
+    };
+    let mut extents = Extents {
+        any: none,
+        unshared: none,
+    };
+    for (item, region) in regions.iter().enumerate() {
+        extents = widened(extents, rule, item, region);
+    }
+    extents
+}
+
+/// The gap between the first `n` of them and the others.
+fn gap_behind(reaches: &[Reach], n: usize) -> Gap
+    requires { IsRising reaches.now }
+    ensures { IsGap reaches.now result }
+{
+    let behind = n.min(reaches.len());
+    let start = end_before(reaches, behind);
+    let end = start_behind(reaches, behind);
+    Gap { behind, start, end }
+}
+
+/// The gap between those that begin before the span's end and the others.
+fn gap_near(reaches: &[Reach], span: Span) -> Gap
+    requires { IsRising reaches.now }
+    ensures { IsGap reaches.now result }
+{
+    let n = reaches.partition_point(|reach| u128::from(reach.start) < span.end);
+    gap_behind(reaches, n)
+}
+
+/// The first gap of each kind.
+pub(crate) fn first_gaps(reaches: &Reaches) -> Gaps
+    requires any { IsRising reaches.now.any.items }
+    requires unshared { IsRising (unshared_of reaches.now) }
+    ensures { AreGaps reaches.now result }
+{
+    let any = gap_behind(reaches.any.as_slice(), 0);
+    let unshared = gap_behind(unshared_of(reaches), 0);
+    Gaps { any, unshared }
+}
+
+/// Whether the span lies in the gap.
+fn lies_in(gap: Gap, span: Span) -> bool
+    ensures { result ≡ true → LiesWithin span gap.start gap.end }
+{
+    gap.start <= u128::from(span.start) && span.end <= gap.end
+}
+
+/// Whether the span may be reached, where no gap near it is known.
+fn is_near(reaches: &[Reach], span: Span) -> bool
+    requires { IsRising reaches.now }
+    ensures { result ≡ false → IsReached reaches.now span → ⊥ }
+{
+    let gap = gap_near(reaches, span);
+    !lies_in(gap, span)
+}
+
+/// Whether one of those may reach into the extents; only then may a region within them break the rule with one.
+pub(crate) fn may_reach_into(reaches: &Reaches, extents: Extents) -> bool
+    requires any { IsRising reaches.now.any.items }
+    requires unshared { IsRising (unshared_of reaches.now) }
+    ensures any { result ≡ false → IsReached reaches.now.any.items extents.any → ⊥ }
+    ensures unshared { result ≡ false → IsReached (unshared_of reaches.now) extents.unshared → ⊥ }
+{
+    let any = is_near(reaches.any.as_slice(), extents.any);
+    any || is_near(unshared_of(reaches), extents.unshared)
+}
+
+/// Whether the last of those before the gap begins before the span's end, and those behind the gap don't.
+fn is_last(reaches: &[Reach], gap: Gap, span: Span) -> bool {
+    span.end <= gap.end
+        && 0 < gap.behind
+        && gap.behind <= reaches.len()
+        && u128::from(reaches[gap.behind - 1].start) < span.end
+}
+
+/// Whether the span, which doesn't lie in the gap, may be reached; only then may it be told so. The gap becomes one near
+/// the span: mostly it stays the same, or becomes the next.
+fn may_reach(reaches: &[Reach], span: Span, gap: &mut Gap) -> bool
+    requires rising { IsRising reaches.now }
+    requires gap { IsGap reaches.now gap.old }
+    ensures gap { IsGap reaches.now gap.new }
+    ensures told { result ≡ false → IsReached reaches.now span → ⊥ }
+{
+    let next = gap_behind(reaches, gap.behind.saturating_add(1));
+    if lies_in(next, span) {
+        *gap = next;
+        return false;
+    }
+    if is_last(reaches, *gap, span) {
+        return true;
+    }
+    *gap = next;
+    if is_last(reaches, next, span) {
+        return true;
+    }
+    *gap = gap_near(reaches, span);
+    !lies_in(*gap, span)
+}
+
+/// The same of those by which a region is looked for that may meet shared ones, unless the span lies in the gap.
+fn may_reach_unshared(reaches: &Reaches, span: Span, gap: &mut Gap) -> bool
+    requires rising { IsRising (unshared_of reaches.now) }
+    requires gap { IsGap (unshared_of reaches.now) gap.old }
+    ensures gap { IsGap (unshared_of reaches.now) gap.new }
+    ensures told { result ≡ false → IsReached (unshared_of reaches.now) span → ⊥ }
+{
+    if lies_in(*gap, span) {
+        return false;
+    }
+    may_reach(unshared_of(reaches), span, gap)
+}
+
+/// Whether the region, of that number in its cell, may break the rule with one of those. The gaps become ones near it.
+pub(crate) fn may_meet(
+    reaches: &Reaches,
+    rule: Rule,
+    item: usize,
+    region: &Region,
+    gaps: &mut Gaps,
+) -> bool
+    requires any { IsRising reaches.now.any.items }
+    requires unshared { IsRising (unshared_of reaches.now) }
+    requires gaps { AreGaps reaches.now gaps.old }
+    ensures gaps { AreGaps reaches.now gaps.new }
+    ensures told { result ≡ false → takes_part rule region.now ≡ true → IsReached reaches.now.any.items (span_of rule item region.now)
+        → IsReached (reaches_for rule region.now reaches.now) (span_of rule item region.now) → ⊥ }
+{
+    let span = span_of(rule, item, region);
+    if lies_in(gaps.any, span) || !takes_part(rule, region) {
+        return false;
+    }
+    if passes_shared(rule, region) {
+        may_reach_unshared(reaches, span, &mut gaps.unshared)
+    } else {
+        may_reach(reaches.any.as_slice(), span, &mut gaps.any)
+    }
+}
+
+/// How many lie before the gap of those by which the region is looked for.
+pub(crate) fn behind(gaps: &Gaps, rule: Rule, region: &Region) -> usize {
+    if passes_shared(rule, region) {
+        gaps.unshared.behind
+    } else {
+        gaps.any.behind
+    }
+}
