@@ -87,8 +87,8 @@ fn refusal_by(
     refusal_with(alloc, image, cells, may, config, pages)
 }
 
-/// The cell comes, unless it is refused.
-fn unless_refused(config: BoxedCell, refusal: Option<i64>) -> Creation
+/// What comes of a configuration that was read and is refused for this: the cell, where it isn't refused.
+pub fn unless_refused(config: BoxedCell, refusal: Option<i64>) -> Creation
     ensures { result ≡ unless_refused config refusal }
 {
     match refusal {
@@ -100,7 +100,7 @@ fn unless_refused(config: BoxedCell, refusal: Option<i64>) -> Creation
 /// What comes of a create by the caller which has read this, beside 15 cells at most. Nothing is told where a CPU
 /// may be given away beside 15 of them: each has a CPU for itself, and the caller is another. It takes memory for an
 /// index of the new cell's regions, and for nothing else.
-pub fn judged(
+pub(crate) fn judged(
     alloc: Global,
     image: &Image,
     cells: &[CellConfig],

@@ -18,9 +18,9 @@ fn with_bit(mask: u16, index: usize, on: bool) -> u16
     mask
 }
 
-/// The marks as a mask, the first as its lowest bit.
-pub(crate) fn mask_of(marks: &[bool]) -> u16
-    requires { length marks.now ≤ 15 }
+/// The marks as a mask, the first as its lowest bit; at most 16 of them.
+pub fn mask_of(marks: &[bool]) -> u16
+    requires { length marks.now ≤ 16 }
     ensures { (i : ℕ) → has_bit result i ≡ slice_index_or marks.now i false }
 {
     let mut mask = 0;
