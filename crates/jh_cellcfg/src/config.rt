@@ -77,14 +77,14 @@ impl CellConfig {
         }
     }
 
-    /// The characters of its name, without the zero bytes behind them.
+    /// The characters of the cell's name, without the zero bytes behind them.
     pub fn name(&self) -> &[u8]
         ensures { result.now ≡ name_of self.now }
     {
         &self.name[..name_len(&self.name)]
     }
 
-    /// Whether the CPU is one of its own. Each CPU past the bitmap's end isn't.
+    /// Whether the CPU is one of the cell's own. No CPU past the bitmap's end is.
     pub fn has_cpu(&self, cpu: u8) -> bool
         ensures { result ≡ is_cpu_set self.now.cpu_set cpu }
     {
@@ -173,7 +173,7 @@ const SHMEM: u8 = 3;
 impl PciDevice {
     ghost use Rattle.jh_cellcfg.specs.Devices.{is_shmem};
 
-    /// Whether it is an ivshmem device.
+    /// Whether the device is an ivshmem device, by its kind, 3.
     pub fn is_shmem(&self) -> bool
         ensures { result ≡ is_shmem self.now }
     {
