@@ -130,7 +130,7 @@ fn held_at_opening(alloc: Global, image: &Image) -> Result<Held, NoMemory>
     })
 }
 
-/// The same in a box, so that a board is small to move and to drop.
+/// What is held at opening, in a box, so that a board is small to move and to drop.
 fn open_held(alloc: Global, image: &Image) -> Result<Box<Held>, NoMemory>
     requires { IsAdmitted image.now }
     ensures { IfOk result (λ held. Means image.now held.value (facts image.now [])) }
@@ -140,7 +140,8 @@ fn open_held(alloc: Global, image: &Image) -> Result<Box<Held>, NoMemory>
 }
 
 impl Board {
-    /// A board of the image, with an empty journal.
+    /// A board of the image, with an empty journal that may have `limit` entries. For want of memory the image comes
+    /// back.
     pub fn open(alloc: Global, image: Image, limit: u32) -> Result<Self, Image>
         requires admitted { IsAdmitted image }
         ensures ok { IfOk result (λ board. board ≡ record { image = image; limit = limit; entries = [] }) }
