@@ -26,7 +26,7 @@ pub enum Phase {
     ToCreate {
         config: BoxedCell,
     },
-    /// The cell has agreed.
+    /// The cell has agreed to shut down, or its time is over.
     ToCommit,
     /// The cell `id` is told that the cell `about` was created or destroyed; the call will end with the
     /// answer.
@@ -35,7 +35,7 @@ pub enum Phase {
         about: u64,
         answer: i64,
     },
-    /// It was told, and its CPUs have made so many entries since.
+    /// The cell `id` was told, and its CPUs have made so many entries since.
     ToNoted {
         id: u32,
         about: u64,
