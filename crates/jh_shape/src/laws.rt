@@ -37,7 +37,7 @@ pub fn loadable_cells_change_no_shape(_target: &Target, _loadable: u16)
     ensures pages { tables_of (claims_of (record _target.now { loadable = _loadable })) ≡ tables_of (claims_of _target.now) }
 {}
 
-/// Nor does the place of the communication page.
+/// The place of the communication page changes neither which slots are tables nor any count of pages.
 pub fn the_communication_page_changes_no_count(_target: &Target, _comm: u64)
     ensures tables { (level start : ℕ) → is_table (claims_of (record _target.now { comm = _comm })) level start ≡ is_table (claims_of _target.now) level start }
     ensures pages { tables_of (claims_of (record _target.now { comm = _comm })) ≡ tables_of (claims_of _target.now) }
