@@ -29,7 +29,7 @@ struct Next {
     created: Option<BoxedCell>,
 }
 
-/// One more, or still the last number of 64 bits.
+/// The number and one, or still the last number of 64 bits.
 fn one_more(n: u64) -> u64
     ensures { result ≡ one_more n }
 {

@@ -305,7 +305,7 @@ fn is_other_due<K: Known>(known: &K, caller: u8, cpu: u8) -> bool
     known.has_cpu(cpu) && cpu != caller && is_state_due(known, cpu, known.cpu(cpu))
 }
 
-/// Whether any CPU is.
+/// Whether any CPU of the board other than the caller has something due by its own program.
 fn any_other_due<K: Known>(known: &K, caller: u8) -> bool
     ensures { (i : TheImage) (f : Facts) → K.Knows known.now i f → result ≡ any_below (is_other_due i f caller) 16 }
 {

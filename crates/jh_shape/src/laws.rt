@@ -20,7 +20,7 @@ pub fn a_new_cell_frees_no_page(_root: &[Region], _cells: &[CellConfig], _new: &
     ensures { pages_of _root.now _cells.now ≤ pages_of _root.now (_cells.now ++ _new.now ∷ []) }
 {}
 
-/// Without one of them, whichever it is, they take no more.
+/// Without one of the live cells, whichever it is, they take no more pages.
 pub fn fewer_cells_take_no_more_pages(
     _root: &[Region],
     _before: &[CellConfig],
