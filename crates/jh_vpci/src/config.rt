@@ -152,8 +152,8 @@ impl ConfigSpace {
         self.enabled = has_bit(word, 31);
     }
 
-    #[tactic(auto, unfolding(crate::specs::Writes::with_word))]
     /// Puts the word at the offset, as far as its bits can be written.
+    #[tactic(auto, unfolding(crate::specs::Writes::with_word))]
     fn put(&mut self, offset: u16, word: u32)
         ensures { self.new ≡ with_word self.old offset word }
     {
