@@ -226,7 +226,8 @@ impl Board {
         self.image.pool_pages()
     }
 
-    /// Makes the entry that is due to the CPU, if one is. No other CPU is asked.
+    /// Makes the entry that is due to the CPU, if one is. Other CPUs are asked only where its call waits for a cell
+    /// that says nothing.
     pub fn make_due(&mut self, cpu: u8) -> Result<Option<Entry>, TurnFault>
         requires { IsTrue (is_on_board self.old.image cpu) }
         ensures ok { IfOk result (λ made. MakesDue self.old cpu made self.new) }

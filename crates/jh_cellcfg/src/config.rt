@@ -19,7 +19,7 @@ pub struct CellConfig {
     pub flags: u32,
     pub vpci_irq_base: u32,
     pub cpu_reset_address: u64,
-    /// How many entries of the cell's CPUs the hypervisor waits for a reply; 0 waits without end.
+    /// How many entries of the cell's CPUs the hypervisor waits for a reply at most; 0 sets no such limit.
     pub msg_reply_timeout: u64,
     /// The bytes of a console record.
     pub console: [u8; 32],

@@ -18,7 +18,7 @@ pub struct OpenCall {
 #[derive(Drop)]
 pub enum Phase {
     ToDecide,
-    /// The cell was asked to shut down. Its CPUs have made so many entries since.
+    /// The cell was asked to shut down, unless it is passive. Its CPUs have made so many entries since.
     ToSettle {
         waited: u64,
     },

@@ -85,7 +85,7 @@ pub trait Known {
         ensures told { (i : Image) (f : Facts) → Knows self.now i f → result ≡ op_at i f state cpu }
         ensures plain { IfSome result IsWellFormed };
 
-    /// What the cell's access reaches. It is asked once a turn, and only for the access that the CPU's next entry makes.
+    /// What the cell's access reaches. For a CPU whose entry isn't made it is asked only where the CPU is at an await.
     fn reach(&self, cell: u32, wanted: &Wanted) -> Reach
         requires { wanted.now.width ≤ 8 }
         ensures { (i : Image) (f : Facts) → Knows self.now i f → result ≡ reach_of i f cell wanted.now };
