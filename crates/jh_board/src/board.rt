@@ -219,7 +219,7 @@ impl Board {
         self.held.cells.used()
     }
 
-    /// How many pages the pool has.
+    /// How many pages of 4,096 bytes the pool has, which is the hypervisor's memory.
     pub fn size(&self) -> u32
         ensures { result ≡ pool_pages self.now.image.system }
     {

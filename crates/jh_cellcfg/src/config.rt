@@ -93,7 +93,7 @@ impl CellConfig {
         byte & (1u8 << (cpu % 8)) != 0
     }
 
-    /// Whether all these flags are set.
+    /// Whether all these flags of the cell are set.
     pub fn has(&self, flags: CellFlags) -> bool
         ensures { result ≡ has_cell_flags flags.0 self.now }
     {

@@ -19,7 +19,7 @@ pub struct Region {
 impl Region {
     ghost use Rattle.jh_cellcfg.specs.Regions.{has_flags, has_address, has_place, virt_end, phys_end, virt_meet, phys_meet, allows_unaligned, allows_width, is_page_mapped, is_comm, is_unshared, is_loadable, is_device, may_have_blocks, rights_of};
 
-    /// Whether all these flags are set.
+    /// Whether all these flags of the region are set.
     pub fn has(&self, flags: RegionFlags) -> bool
         ensures { result ≡ has_flags flags.0 self.now }
     {

@@ -56,7 +56,7 @@ pub enum Creation {
 }
 
 impl Creation {
-    /// What the create is refused for.
+    /// The number that the create is refused with; `None` where its cell comes.
     pub fn refusal(&self) -> Option<i64>
         ensures { result ≡ refused_by self.now }
     {

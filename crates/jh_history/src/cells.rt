@@ -220,7 +220,8 @@ fn are_kept(image: &Image, cells: &LiveCells, cell: u32, places: &Places) -> boo
     is_run_kept(image, cells, cell, high)
 }
 
-/// The memory that the cell's access reaches.
+/// The places of memory that the cell's access reaches, where these cells live besides root; `None` where some byte
+/// isn't granted.
 pub(crate) fn memory_in(
     image: &Image,
     cells: &LiveCells,
@@ -300,7 +301,7 @@ fn behind_in(
     }
 }
 
-/// What the cell's access reaches.
+/// What the cell's access reaches, where these cells live besides root, and all have these endpoints.
 #[tactic(auto, using(crate::proofs::ReachLemmas::reaches_memory, crate::proofs::ReachLemmas::reaches_behind))]
 pub(crate) fn reach_in(
     image: &Image,

@@ -57,14 +57,14 @@ fn word_at<K: Known>(known: &K, cell: u32, offset: u64) -> u32
     known.value(&Places::new(run, none)) as u32
 }
 
-/// The state of the live cell.
+/// The state word of the communication page of the live cell.
 pub(crate) fn state_word<K: Known>(known: &K, cell: u32) -> u32
     ensures { (i : TheImage) (f : Facts) → K.Knows known.now i f → result ≡ state_word f cell }
 {
     word_at(known, cell, STATE_AT)
 }
 
-/// What the live cell replied.
+/// The reply in the communication page of the live cell; 0 where it didn't reply.
 fn reply_word<K: Known>(known: &K, cell: u32) -> u32
     ensures { (i : TheImage) (f : Facts) → K.Knows known.now i f → result ≡ reply_word f cell }
 {

@@ -346,7 +346,7 @@ impl Endpoints {
         &mut endpoint.space
     }
 
-    /// What a register of the endpoint reads.
+    /// What a register of the endpoint reads: 0 of the doorbell, and at an offset that has no register.
     pub fn read(&self, cell: u32, device: u32, bar: u8, at: u32) -> u32
         requires there { IsSome (endpoint_at cell device self.now.list) }
         requires bar { bar < 2 }
