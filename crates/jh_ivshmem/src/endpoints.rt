@@ -159,14 +159,14 @@ fn drop_key(keys: &mut Vec<Key>, whom: Whom)
     keys.retain(|key| !key.is_meant(whom));
 }
 
-/// Whether the register is the doorbell.
+/// Whether the register is the doorbell: offset 0x0c of BAR 0.
 fn is_doorbell(bar: u8, at: u32) -> bool
     ensures { result ≡ ((bar == 0) && (at == 0x0c)) }
 {
     bar == 0 && at == 0x0c
 }
 
-/// Whether the register is the state.
+/// Whether the register is the state: offset 0x10 of BAR 0.
 fn is_state(bar: u8, at: u32) -> bool
     ensures { result ≡ ((bar == 0) && (at == 0x10)) }
 {
@@ -291,7 +291,8 @@ impl Endpoints {
         slot
     }
 
-    /// The others of its link learn that its state becomes the value, where it was another.
+    /// The others of the endpoint's link learn that its state becomes the value, where it was another, by their vector
+    /// 0. The answer is the write of the value to its word of the state table.
     fn tell(&mut self, cell: u32, device: u32, value: u32) -> Slot
         requires there { IsSome (endpoint_at cell device self.old.list) }
         ensures list { ForEndpoint cell device self.old.list (λ e. self.new.list ≡ told_of e value self.old.list) }
@@ -345,7 +346,7 @@ impl Endpoints {
         &mut endpoint.space
     }
 
-    /// What a register of the endpoint reads.
+    /// What a register of the endpoint reads: 0 of the doorbell, and at an offset that has no register.
     pub fn read(&self, cell: u32, device: u32, bar: u8, at: u32) -> u32
         requires there { IsSome (endpoint_at cell device self.now.list) }
         requires bar { bar < 2 }
@@ -387,7 +388,7 @@ impl Endpoints {
         }
     }
 
-    /// Rings the doorbell of the endpoint's link.
+    /// Raises vector `v` of the peer of the number `target` on the endpoint's link, maybe the endpoint itself.
     fn ring(&mut self, cell: u32, device: u32, target: u16, v: u16)
         requires there { IsSome (endpoint_at cell device self.old.list) }
         ensures list { ForEndpoint cell device self.old.list (λ e. self.new.list ≡ rung e.spec.bdf target v self.old.list) }
@@ -397,7 +398,7 @@ impl Endpoints {
         self.change(Whom::Peer { bdf, id: target }, Change::Raise(v));
     }
 
-    /// Writes the state register of the endpoint.
+    /// Writes the state register of the endpoint, and tells the write to the state table where the value is another.
     fn set_state(&mut self, cell: u32, device: u32, value: u32) -> Option<Slot>
         requires there { IsSome (endpoint_at cell device self.old.list) }
         ensures list { ForEndpoint cell device self.old.list (λ e. self.new.list ≡ state_written e value self.old.list) }
@@ -410,15 +411,16 @@ impl Endpoints {
         if had == value { None } else { Some(slot) }
     }
 
-    /// The cell's pending vector of the lowest device, then of the lowest number: the device and the
-    /// vector.
+    /// The cell's pending vector of the lowest device, then of the lowest number: the device and the vector. `None`
+    /// where no vector of the cell is pending.
     pub fn pending(&self, cell: u32) -> Option<(u32, u8)>
         ensures { result ≡ pending_of cell self.now.list }
     {
         first_pending(&self.keys, cell)
     }
 
-    /// The same, and the vector is no longer pending.
+    /// Takes the cell's pending vector of the lowest device, then of the lowest number: the device and the vector,
+    /// which is pending no longer. `None` where no vector of the cell is pending.
     pub fn take(&mut self, cell: u32) -> Option<(u32, u8)>
         ensures value { result ≡ pending_of cell self.old.list }
         ensures list { self.new.list ≡ taken_of cell (pending_of cell self.old.list) self.old.list }

@@ -19,6 +19,7 @@ pub(crate) struct Key {
 impl Key {
     ghost use Rattle.jh_ivshmem.specs.Keys.{key_of, IsSound, is_key_apart, is_key_before, is_key_meant, pending_by};
 
+    /// The names of the endpoint, and its lowest pending vector.
     pub(crate) fn of(endpoint: &Endpoint) -> Key
         requires sound { IsSound endpoint.now }
         ensures { result ≡ key_of endpoint.now }

@@ -38,7 +38,7 @@ fn is_free(owned: u16, caller: u8, cpu: usize) -> bool
     has_bit(owned, cpu) && cpu != usize::from(caller)
 }
 
-/// Which CPUs it may have.
+/// Of each of the 16 CPUs, whether a new cell may have it: it is of the mask, and not the caller's.
 pub(crate) fn free_cpus(owned: u16, caller: u8) -> [bool; 16]
     ensures { (cpu : ℕ) → slice_index_or result cpu false ≡ may_have owned caller cpu }
 {

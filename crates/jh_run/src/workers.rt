@@ -158,7 +158,7 @@ fn spread<'s, E, R: Threads + Wait + Sync, G: Gate + Sync>(
     finish(rt, shared, own, gate, children)
 }
 
-/// So many marks, none of them set.
+/// As many marks as `count`, none of them set.
 fn marks(alloc: Global, count: usize) -> Result<Vec<AtomicBool>, NoMemory>
     ensures { IfOk result (λ marks. vec_len marks ≡ count) }
 {
@@ -169,7 +169,8 @@ fn marks(alloc: Global, count: usize) -> Result<Vec<AtomicBool>, NoMemory>
     Ok(marks)
 }
 
-/// A thread for each port but the last, as far as threads can be started.
+/// Starts a thread for each port but the last, as far as threads can be started, drives all others here, and waits for
+/// the threads.
 pub fn drive_all<R: Threads + Wait + Sync, G: Gate + Sync>(
     rt: &R,
     alloc: Global,
