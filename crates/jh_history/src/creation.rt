@@ -88,7 +88,7 @@ fn refusal_by(
     refusal_with(alloc, image, cells, may, config, pages)
 }
 
-/// What comes of a configuration that was read and is refused for this: the cell, where it isn't refused.
+/// What comes of a configuration that was read: the cell, unless it is refused.
 pub fn unless_refused(config: BoxedCell, refusal: Option<i64>) -> Creation
     ensures { result ≡ unless_refused config refusal }
 {

@@ -19,8 +19,10 @@ use jh_vpci::ConfigSpace;
 use std::alloc::Global;
 use std::marker::Model;
 
+/// Where the doorbell register stands in BAR 0.
 const DOORBELL: u32 = 0x0c;
 
+/// Where the state register stands in BAR 0.
 const STATE: u32 = 0x10;
 
 /// The endpoints, in the order of their cells and in each of its devices. One is found by halving; all of
@@ -163,14 +165,14 @@ fn drop_key(keys: &mut Vec<Key>, whom: Whom)
 fn is_doorbell(bar: u8, at: u32) -> bool
     ensures { result ≡ ((bar == 0) && (at == 0x0c)) }
 {
-    bar == 0 && at == 0x0c
+    bar == 0 && at == DOORBELL
 }
 
 /// Whether the register is the state: offset 0x10 of BAR 0.
 fn is_state(bar: u8, at: u32) -> bool
     ensures { result ≡ ((bar == 0) && (at == 0x10)) }
 {
-    bar == 0 && at == 0x10
+    bar == 0 && at == STATE
 }
 
 /// The cell's pending vector of the lowest device, by the keys.
