@@ -26,8 +26,9 @@ pub use bytes::{
     bytes_are_the_last_written, entries_write_their_bytes, memory_opens_with_the_preloads,
 };
 pub use calls::{
-    calls_are_decided_by_their_cause, calls_go_phase_by_phase, cells_are_heard_by_their_words,
-    one_call_is_open, quiet_journals_have_no_open_call, suspended_cpus_make_no_entry,
+    a_create_answers_the_new_cells_id, calls_are_decided_by_their_cause, calls_go_phase_by_phase,
+    cells_are_heard_by_their_words, one_call_is_open, quiet_journals_have_no_open_call,
+    suspended_cpus_make_no_entry,
 };
 pub use cells::{cpus_belong_to_live_cells, the_check_holds_of_live_cells};
 pub use commits::{cells_live_from_commit_to_commit, configurations_are_read_at_the_decide};
