@@ -24,7 +24,8 @@ pub record LegalJournal : Type 0 where
   pub silent : HasNoCall image
   pub legal : IsLegal image entries
 
--- an entry of such a journal, with the entries before it and the rest behind it
+-- an entry of a legal journal of an image where root lives alone, and has no registers, with the entries before it and
+-- the rest behind it
 pub record Moment : Type 0 where
   pub image : Image
   pub before : List Entry
@@ -35,33 +36,38 @@ pub record Moment : Type 0 where
   pub silent : HasNoCall image
   pub legal : IsLegal image (before ++ entry ∷ rest)
 
--- the byte at the place, and the CPU, after the entries
+-- the byte at the place after the entries
 abbrev pub byte_at : Image → List Entry → Place → ℕ
 byte_at image entries place = (facts image entries).byte place
 
+-- the state of the CPU after the entries
 abbrev pub cpu_at : Image → List Entry → ℕ → Cpu
 cpu_at image entries cpu = (facts image entries).cpu cpu
 
--- the same, just before the entry and just behind it
+-- the byte at the place just before the entry
 abbrev pub byte_before : Moment → Place → ℕ
 byte_before m = byte_at m.image m.before
 
+-- the byte at the place just behind the entry
 abbrev pub byte_behind : Moment → Place → ℕ
 byte_behind m = byte_at m.image (m.before ++ m.entry ∷ [])
 
+-- the state of the CPU just before the entry
 abbrev pub cpu_before : Moment → ℕ → Cpu
 cpu_before m = cpu_at m.image m.before
 
+-- the state of the CPU just behind the entry
 abbrev pub cpu_behind : Moment → ℕ → Cpu
 cpu_behind m = cpu_at m.image (m.before ++ m.entry ∷ [])
 
--- all entries, with it and the rest
+-- all entries of the journal: those before the entry, the entry, and the rest
 abbrev pub entries_of : Moment → List Entry
 entries_of m = m.before ++ m.entry ∷ m.rest
 
--- the cell whose CPU makes the entry, and the cell of a journal's CPUs: root is the one cell that there is
+-- the cell whose CPU makes the entry: root is the one cell that there is
 abbrev pub cell_of : Moment → CellConfig
 cell_of m = m.image.system.root
 
+-- the cell of the journal's CPUs: root is the one cell that there is
 abbrev pub root_of : LegalJournal → CellConfig
 root_of j = j.image.system.root

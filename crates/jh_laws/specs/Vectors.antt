@@ -21,8 +21,8 @@ use Rattle.jh_laws.specs.Ends.{IsAnsweredByRegister}
 abbrev pub IsPendingIn : Facts → ℕ → ℕ → ℕ → Type 0
 IsPendingIn f id n v = is_pending id n v f.endpoints ≡ true
 
--- it is the one that the cell's next interrupt takes: no pending vector of the cell is of a lower device, nor a lower one of
--- the same device
+-- the vector is the one that the cell's next interrupt takes: no pending vector of the cell is of a lower device, nor a
+-- lower one of the same device
 pub record IsNext (f : Facts) (id n v : ℕ) : Type 0 where
   pub pending : IsPendingIn f id n v
   pub device : (m u : ℕ) → IsPendingIn f id m u → n ≤ m
@@ -67,7 +67,7 @@ ChangesState image f entry e =
     ((value : ℕ) × PutsRegister image f entry.cell entry.act 0x10 value e × (value ≢ e.state))
     ⊎ (Clears f entry e.spec.cell × (e.state ≢ 0))
 
--- the entry tells the peer of it, which is another of its link
+-- the entry tells the peer that the state of another endpoint of its link becomes another
 pub record NotifiesPeer (image : Image) (f : Facts) (entry : Entry) (peer : Endpoint) : Type 0 where
   pub one : Endpoint
   pub there : Contains f.endpoints one

@@ -15,12 +15,12 @@ use Rattle.jh_run.specs.declared.ended.Ended.TheVariants.{Quiet as EndedQuiet, F
 use Rattle.jh_run.specs.declared.run_turn.Halt.{Halt}
 use Rattle.jh_run.specs.declared.run_turn.Halt.TheVariants.{Full, NoMemory}
 
--- the stop that is told so
+-- the stop that the halt tells: without one the board is quiet
 abbrev pub stop_of : Option Halt → Stop
 stop_of None = Quiet
 stop_of (Some halt) = Halted halt
 
--- why no turn follows this one, if so
+-- the stop that this turn tells, after which no turn follows, if it tells one
 abbrev pub stop_after : RunTurn → Option Stop
 stop_after (Made entry) = None
 stop_after (Edited left) = None
@@ -28,23 +28,23 @@ stop_after NotNow = None
 stop_after Done = Some Quiet
 stop_after (TurnHalted halt) = Some (Halted halt)
 
--- the stop at which a run ends so
+-- the stop of a run that ended so
 abbrev pub end_stop : Ended → Stop
 end_stop EndedQuiet = Quiet
 end_stop EndedFull = Halted Full
 
--- the entries tell why: they are quiet, or at the limit and not quiet. Want of memory comes at any
+-- the entries tell why turns stopped: they are quiet, or at the limit and not quiet; want of memory comes at any
 abbrev pub ExplainsStop : Origin → Stop → List Entry → Type 0
 ExplainsStop origin Quiet entries = IsQuiet origin.image entries
 ExplainsStop origin (Halted Full) entries = (length entries ≡ origin.limit) × ¬ IsQuiet origin.image entries
 ExplainsStop origin (Halted NoMemory) entries = Unit {0}
 
 module _ {T A : Type 0} {G : Ghosts T Entry A} where
-  -- what the port has seen tells why
+  -- what the port has seen tells why turns stopped
   abbrev pub Shows : Origin → Stop → Port T Entry A G → Type 0
   Shows origin stop port = ExplainsStop origin stop (seen_by port)
 
-  -- what one of the ports has seen tells why
+  -- what one of the ports has seen tells why turns stopped
   pub record SomeShows (origin : Origin) (stop : Stop) (ports : List (Port T Entry A G)) : Type 0 where
     pub port : Port T Entry A G
     pub one : Contains ports port

@@ -9,11 +9,11 @@ use Rattle.jh_run.specs.declared.run_turn.RunTurn.{RunTurn}
 use Rattle.jh_run.specs.declared.run_turn.RunTurn.TheVariants.{Made, Edited, NotNow, Done, Halted}
 use Rattle.jh_run.specs.declared.running.Running.{Running}
 
--- an entry is its CPU's
+-- the CPU that made the entry, whose it is
 abbrev pub whose_entry : Entry → ℕ
 whose_entry entry = entry.cpu
 
--- what no turn changes
+-- what no turn of the running board changes
 abbrev pub origin_of : Running → Origin
 origin_of running = record { image = running.board.image; limit = running.board.limit }
 
@@ -21,6 +21,7 @@ origin_of running = record { image = running.board.image; limit = running.board.
 abbrev pub Serves : Origin → ℕ → Type 0
 Serves origin cpu = IsTrue (is_on_board origin.image cpu)
 
+-- the entries of the running board
 abbrev pub entries_of : Running → List Entry
 entries_of running = running.board.entries
 
