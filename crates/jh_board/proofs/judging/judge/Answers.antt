@@ -1,5 +1,5 @@
 -- What the verdict says of what was read.
-use Rattle.std.proofs.Common.{◌≡◌, ℕ, ℤ, Option, ◌==◌, ◌&&◌, not, Bool, true, false, List, [], ◌∷◌, ◌++◌, ap, sym, refl, ◌∙◌}
+use Rattle.std.proofs.Common.{◌≡◌, ℕ, ℤ, Option, ◌==◌, ◌&&◌, not, Bool, true, false, List, [], ◌∷◌, ◌++◌, ap, refl, ◌∙◌}
 use Rattle.jh_num.specs.Bits.{has_bit}
 use Rattle.jh_cellcfg.specs.declared.config.CellConfig.{CellConfig}
 use Rattle.jh_cellcfg.specs.declared.config.SystemConfig.{SystemConfig}
