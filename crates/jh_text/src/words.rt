@@ -19,7 +19,9 @@ pub(crate) fn split_once(bytes: &[u8], byte: u8) -> Option<(&[u8], &[u8])>
     Some((&bytes[..at], &bytes[at + 1..]))
 }
 
-/// Where the first such byte stands.
+/// Where the first such byte stands. Inlined into a long function, the search would step at each byte all numbers
+/// that are made of the index, most of them in memory.
+#[inline(never)]
 fn place_of(bytes: &[u8], byte: u8) -> Option<usize>
     ensures value { result ≡ position (λ b. b == byte) bytes.now }
     ensures within { IfSome result (λ at. at < length bytes.now) }
