@@ -1,7 +1,7 @@
 -- Each entry is an access of its CPU.
 use Rattle.std.proofs.Common.{false}
 use Rattle.jh_laws.proofs.CpuLemmas.{cpu_by, cpu_other, cpu_position}
-use Rattle.jh_laws.proofs.cpus.entries_move_their_cpu.Goals as goal
+use Rattle.jh_laws.proofs.root_alone.entries_of_root_alone_move_their_cpu.Goals as goal
 
 pub returns-clause-position : goal.returns-clause-position
 returns-clause-position c = λ m. cpu_position m.image m.before m.rest m.entry (record { admitted = m.admitted; bare = m.bare; silent = m.silent }) m.legal

@@ -2,7 +2,7 @@
 use Rattle.std.proofs.Common.{ap}
 use Rattle.jh_history.specs.Facts.{Facts}
 use Rattle.jh_history.proofs.FactsLemmas.{facts_nil}
-use Rattle.jh_laws.proofs.cpus.cpus_open_at_their_beginning.Goals as goal
+use Rattle.jh_laws.proofs.opening.cpus_open_at_their_beginning.Goals as goal
 
 pub returns-clause-owner : goal.returns-clause-owner
 returns-clause-owner c = λ image cpu. ap (λ (f : Facts). (f.cpu cpu).owner) (facts_nil image)

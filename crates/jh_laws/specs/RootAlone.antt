@@ -1,4 +1,4 @@
--- The journals that laws speak of, and what stands before and behind an entry of one.
+-- The legal journals in which root lives alone, and what stands before and behind an entry of one.
 use Rattle.std.specs.Prelude.{◌≢◌, ℕ, List, [], ◌∷◌, ◌++◌, All}
 use Rattle.jh_cellcfg.specs.declared.config.CellConfig.{CellConfig}
 use Rattle.jh_cellcfg.specs.declared.config.PciDevice.{PciDevice}
@@ -16,7 +16,7 @@ pub record HasNoDevice (image : Image) : Type 0 where
 
 -- a legal journal of an image that a board may be opened with, whose root has no ivshmem device, and whose programs have
 -- no hypercall: of one where root lives alone, and has no registers
-pub record LegalJournal : Type 0 where
+pub record RootAloneJournal : Type 0 where
   pub image : Image
   pub entries : List Entry
   pub admitted : IsAdmitted image
@@ -25,7 +25,7 @@ pub record LegalJournal : Type 0 where
   pub legal : IsLegal image entries
 
 -- an entry of such a journal, with the entries before it and the rest behind it
-pub record Moment : Type 0 where
+pub record RootAloneMoment : Type 0 where
   pub image : Image
   pub before : List Entry
   pub entry : Entry
@@ -43,25 +43,25 @@ abbrev pub cpu_at : Image → List Entry → ℕ → Cpu
 cpu_at image entries cpu = (facts image entries).cpu cpu
 
 -- the same, just before the entry and just behind it
-abbrev pub byte_before : Moment → Place → ℕ
+abbrev pub byte_before : RootAloneMoment → Place → ℕ
 byte_before m = byte_at m.image m.before
 
-abbrev pub byte_behind : Moment → Place → ℕ
+abbrev pub byte_behind : RootAloneMoment → Place → ℕ
 byte_behind m = byte_at m.image (m.before ++ m.entry ∷ [])
 
-abbrev pub cpu_before : Moment → ℕ → Cpu
+abbrev pub cpu_before : RootAloneMoment → ℕ → Cpu
 cpu_before m = cpu_at m.image m.before
 
-abbrev pub cpu_behind : Moment → ℕ → Cpu
+abbrev pub cpu_behind : RootAloneMoment → ℕ → Cpu
 cpu_behind m = cpu_at m.image (m.before ++ m.entry ∷ [])
 
 -- all entries, with it and the rest
-abbrev pub entries_of : Moment → List Entry
+abbrev pub entries_of : RootAloneMoment → List Entry
 entries_of m = m.before ++ m.entry ∷ m.rest
 
 -- the cell whose CPU makes the entry, and the cell of a journal's CPUs: root is the one cell that there is
-abbrev pub cell_of : Moment → CellConfig
+abbrev pub cell_of : RootAloneMoment → CellConfig
 cell_of m = m.image.system.root
 
-abbrev pub root_of : LegalJournal → CellConfig
+abbrev pub root_of : RootAloneJournal → CellConfig
 root_of j = j.image.system.root

@@ -3,7 +3,7 @@ use Rattle.std.proofs.Common.{[]}
 use Rattle.std.proofs.lemmas.List.Elements.{recursion_from_All}
 use Rattle.jh_laws.specs.Writes.{WritesNot}
 use Rattle.jh_laws.proofs.ByteLemmas.{byte_last, byte_rest}
-use Rattle.jh_laws.proofs.bytes.bytes_are_the_last_written.Goals as goal
+use Rattle.jh_laws.proofs.root_alone.bytes_of_root_alone_are_the_last_written.Goals as goal
 
 pub returns-clause-last : goal.returns-clause-last
 returns-clause-last c = λ m place byte writes none.

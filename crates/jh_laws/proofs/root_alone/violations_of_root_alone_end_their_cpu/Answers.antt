@@ -4,7 +4,7 @@ use Rattle.std.proofs.lemmas.List.Elements.{All-from_recursion}
 use Rattle.jh_history.specs.declared.entry.Entry.{Entry}
 use Rattle.jh_laws.proofs.ByteLemmas.{byte_violation}
 use Rattle.jh_laws.proofs.CpuLemmas.{cpu_by, violation_rest}
-use Rattle.jh_laws.proofs.cpus.violations_end_their_cpu.Goals as goal
+use Rattle.jh_laws.proofs.root_alone.violations_of_root_alone_end_their_cpu.Goals as goal
 
 pub returns-clause-bytes : goal.returns-clause-bytes
 returns-clause-bytes c = λ m place h. byte_violation m.image m.before m.rest m.entry place (record { admitted = m.admitted; bare = m.bare; silent = m.silent }) m.legal h

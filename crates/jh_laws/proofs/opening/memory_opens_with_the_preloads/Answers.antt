@@ -1,6 +1,6 @@
 -- By the list of preloads, which are apart.
 use Rattle.jh_laws.proofs.ByteLemmas.{opening_byte, opening_page, opening_zero}
-use Rattle.jh_laws.proofs.bytes.memory_opens_with_the_preloads.Goals as goal
+use Rattle.jh_laws.proofs.opening.memory_opens_with_the_preloads.Goals as goal
 
 pub returns-clause-put : goal.returns-clause-put
 returns-clause-put c = λ image preload k admitted bare held lt. opening_byte image preload k admitted bare held lt
