@@ -10,7 +10,7 @@ ghost use Rattle.jh_ivshmem.specs.declared.change.Whom.TheVariants.{Device};
 ghost use Rattle.jh_ivshmem.specs.Keys.{AreKept, AreInOrder, IsSound, is_key_apart, is_key_before, is_key_meant, pending_by};
 ghost use Rattle.jh_ivshmem.specs.Links.{endpoint_at, ForEndpoint, besides, joined, told_of, rung, state_written, written, slot_written, reset_of, left_by, pending_of, taken_of, earlier};
 
-use crate::change::{Change, Whom};
+use crate::change::{EndpointChange, Whom};
 use crate::endpoint::Endpoint;
 use crate::key::Key;
 use crate::spec::{EndpointSpec, Slot};
@@ -81,7 +81,7 @@ fn change_one(
     keys: &mut Vec<Key>,
     cell: u32,
     device: u32,
-    change: Change,
+    change: EndpointChange,
 )
     requires kept { AreKept endpoints.old.items keys.old.items }
     ensures list { endpoints.new.items ≡ changed (is_device cell device) (after change) endpoints.old.items }
@@ -100,7 +100,12 @@ fn change_one(
 }
 
 /// Makes the change at each endpoint that is meant.
-fn change_each(endpoints: &mut Vec<Endpoint>, keys: &mut Vec<Key>, whom: Whom, change: Change)
+fn change_each(
+    endpoints: &mut Vec<Endpoint>,
+    keys: &mut Vec<Key>,
+    whom: Whom,
+    change: EndpointChange,
+)
     requires kept { AreKept endpoints.old.items keys.old.items }
     ensures list { endpoints.new.items ≡ changed (is_meant whom) (after change) endpoints.old.items }
     ensures kept { AreKept endpoints.new.items keys.new.items }
@@ -235,7 +240,7 @@ impl Endpoints {
     }
 
     /// Makes the change at each endpoint that is meant.
-    fn change(&mut self, whom: Whom, change: Change)
+    fn change(&mut self, whom: Whom, change: EndpointChange)
         ensures list { self.new.list ≡ changed (is_meant whom) (after change) self.old.list }
         ensures spare { self.new.spare ≡ self.old.spare }
     {
@@ -305,7 +310,7 @@ impl Endpoints {
                 bdf: spec.bdf,
                 id: spec.id,
             };
-            self.change(whom, Change::Raise(0));
+            self.change(whom, EndpointChange::Raise(0));
         }
         spec.slot(value)
     }
@@ -321,7 +326,7 @@ impl Endpoints {
         ensures spare { self.new.spare ≡ self.old.spare }
     {
         let slot = self.tell(cell, device, 0);
-        self.change(Whom::Device { cell, device }, Change::Reset);
+        self.change(Whom::Device { cell, device }, EndpointChange::Reset);
         slot
     }
 
@@ -381,7 +386,7 @@ impl Endpoints {
         } else {
             self.change(
                 Whom::Device { cell, device },
-                Change::Write { bar, at, value },
+                EndpointChange::Write { bar, at, value },
             );
             None
         }
@@ -394,7 +399,7 @@ impl Endpoints {
         ensures spare { self.new.spare ≡ self.old.spare }
     {
         let bdf = self.named(cell, device).spec.bdf;
-        self.change(Whom::Peer { bdf, id: target }, Change::Raise(v));
+        self.change(Whom::Peer { bdf, id: target }, EndpointChange::Raise(v));
     }
 
     /// Writes the state register of the endpoint.
@@ -406,7 +411,7 @@ impl Endpoints {
     {
         let had = self.named(cell, device).state;
         let slot = self.tell(cell, device, value);
-        self.change(Whom::Device { cell, device }, Change::State(value));
+        self.change(Whom::Device { cell, device }, EndpointChange::State(value));
         if had == value { None } else { Some(slot) }
     }
 
@@ -427,7 +432,7 @@ impl Endpoints {
     {
         let next = self.pending(cell);
         if let Some((device, v)) = next {
-            self.change(Whom::Device { cell, device }, Change::Take(v));
+            self.change(Whom::Device { cell, device }, EndpointChange::Take(v));
         }
         next
     }
