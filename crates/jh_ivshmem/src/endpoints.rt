@@ -23,8 +23,8 @@ const DOORBELL: u32 = 0x0c;
 
 const STATE: u32 = 0x10;
 
-/// The endpoints, in the order of their cells and in each of its devices. One is found by halving; all of
-/// a link, or a pending vector, by one pass over the keys; joining and leaving move those behind.
+/// The endpoints, in the order of their cells and in each of its devices. One is found by halving, and so
+/// are those of a cell; all of a link by one pass over the keys; joining and leaving move those behind.
 #[derive(Drop)]
 pub struct Endpoints {
     endpoints: Vec<Endpoint>,
@@ -121,17 +121,6 @@ fn change_each(
     }
 }
 
-/// The earlier of two pending vectors: the one of the lower device.
-fn earlier(one: Option<(u32, u8)>, other: Option<(u32, u8)>) -> Option<(u32, u8)>
-    ensures { result ≡ earlier one other }
-{
-    match (one, other) {
-        (None, other) => other,
-        (one, None) => one,
-        (Some(a), Some(b)) => { if b.0 < a.0 { Some(b) } else { Some(a) } }
-    }
-}
-
 /// Puts an element at the index, where there is room.
 fn put<T: Drop>(list: &mut Vec<T>, index: usize, element: T)
     requires within { index ≤ vec_len list.old }
@@ -178,12 +167,17 @@ fn is_state(bar: u8, at: u32) -> bool
     bar == 0 && at == 0x10
 }
 
-/// The cell's pending vector of the lowest device, by the keys.
+/// The cell's pending vector of the lowest device, by the keys. The cell's own stand side by side.
 fn first_pending(keys: &[Key], cell: u32) -> Option<(u32, u8)>
+    requires { AreInOrder keys.now }
     ensures { result ≡ fold (λ best key. earlier best (pending_by cell key)) None keys.now }
 {
-    keys.iter()
-        .fold(None, |best, key| earlier(best, key.pending_for(cell)))
+    for i in insertion_index(keys, cell, 0)..keys.len() {
+        if keys[i].ends_search(cell) {
+            return keys[i].pending_for(cell);
+        }
+    }
+    None
 }
 
 impl Endpoints {
