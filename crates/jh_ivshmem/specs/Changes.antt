@@ -1,7 +1,7 @@
 -- One change of each endpoint that is meant.
 use Rattle.std.specs.Prelude.{Bool, List, map, if◌then◌else◌}
-use Rattle.jh_ivshmem.specs.declared.change.Change.{Change}
-use Rattle.jh_ivshmem.specs.declared.change.Change.TheVariants.{Raise, Write, State, Reset, Take}
+use Rattle.jh_ivshmem.specs.declared.change.EndpointChange.{EndpointChange}
+use Rattle.jh_ivshmem.specs.declared.change.EndpointChange.TheVariants.{Raise, Write, State, Reset, Take}
 use Rattle.jh_ivshmem.specs.declared.change.Whom.{Whom}
 use Rattle.jh_ivshmem.specs.declared.change.Whom.TheVariants.{Device, Peer, Others}
 use Rattle.jh_ivshmem.specs.declared.endpoint.Endpoint.{Endpoint}
@@ -22,7 +22,7 @@ is_meant (Peer bdf id) spec = is_peer bdf id spec
 is_meant (Others bdf id) spec = is_other bdf id spec
 
 -- the endpoint after the change
-abbrev pub after : Change → Endpoint → Endpoint
+abbrev pub after : EndpointChange → Endpoint → Endpoint
 after (Raise v) e = raised v e
 after (Write bar at value) e = register_written bar at value e
 after (State value) e = record e { state = value }

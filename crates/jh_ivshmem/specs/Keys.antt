@@ -1,5 +1,5 @@
 -- What is kept beside the endpoints, so that a scan doesn't touch them.
-use Rattle.std.specs.Prelude.{ℕ, ◌≡◌, Bool, true, ◌&&◌, ◌||◌, ◌==◌, not, nat_lt, Option, None, option_map, if◌then◌else◌, List, All, AllPairs, length, map}
+use Rattle.std.specs.Prelude.{ℕ, ◌≡◌, Bool, true, ◌&&◌, ◌||◌, ◌==◌, not, nat_lt, Option, None, is_some, option_map, if◌then◌else◌, List, All, AllPairs, length, map}
 use Rattle.jh_ivshmem.specs.declared.endpoint.Endpoint.{Endpoint}
 use Rattle.jh_ivshmem.specs.declared.spec.EndpointSpec.{EndpointSpec}
 use Rattle.jh_ivshmem.specs.declared.key.Key.{Key}
@@ -47,6 +47,10 @@ is_key_meant (Others bdf id) key = (key.bdf == bdf) && not (key.id == id)
 -- what the key tells of a pending vector of the cell
 abbrev pub pending_by : ℕ → Key → Option (ℕ × ℕ)
 pending_by cell key = if key.cell == cell then option_map (λ v. (key.device, v)) key.pending else None
+
+-- the key is another cell's, or has a pending vector
+abbrev pub is_search_end : ℕ → Key → Bool
+is_search_end cell key = not (key.cell == cell) || is_some key.pending
 
 -- the key's endpoint is neither the same device of the same cell nor the same number of one link
 abbrev pub is_key_apart : EndpointSpec → Key → Bool

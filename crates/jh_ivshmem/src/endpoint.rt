@@ -1,7 +1,7 @@
 //! One endpoint.
 ghost use Rattle.std.specs.Prelude.{◌≡◌, ◌<◌, ◌≤◌, ◌+◌, length, position, IfSome};
 
-use crate::change::Change;
+use crate::change::EndpointChange;
 use crate::spec::EndpointSpec;
 use crate::vector::Vector;
 use jh_vpci::ConfigSpace;
@@ -149,16 +149,16 @@ impl Endpoint {
     }
 
     /// Makes the change.
-    pub(crate) fn apply(&mut self, change: Change)
+    pub(crate) fn apply(&mut self, change: EndpointChange)
         requires sound { IsSound self.old }
         ensures { self.new ≡ after change self.old }
     {
         match change {
-            Change::Raise(v) => self.raise(v),
-            Change::Write { bar, at, value } => self.write(bar, at, value),
-            Change::State(value) => self.state = value,
-            Change::Reset => self.clear(),
-            Change::Take(v) => self.take(v),
+            EndpointChange::Raise(v) => self.raise(v),
+            EndpointChange::Write { bar, at, value } => self.write(bar, at, value),
+            EndpointChange::State(value) => self.state = value,
+            EndpointChange::Reset => self.clear(),
+            EndpointChange::Take(v) => self.take(v),
         }
     }
 }
