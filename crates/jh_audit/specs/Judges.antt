@@ -9,7 +9,8 @@ use Rattle.jh_audit.specs.declared.compared.Compared.TheVariants.{Same, Differs}
 use Rattle.jh_audit.specs.declared.verdict.Verdict.{Verdict}
 use Rattle.jh_audit.specs.declared.verdict.Verdict.TheVariants.{Legal, Illegal}
 
--- the entry in this line, counted from 1, is the first that isn't the one due to its CPU, and this is what was
+-- the entry in this line, counted from 1, is the first that isn't the one due to its CPU, and `expected` is the entry
+-- that was due
 pub record IsFirstIllegal (image : Image) (entries : List Entry) (line : ℕ) (expected : Option Entry) : Type 0 where
   pub before : List Entry
   pub entry : Entry
@@ -20,12 +21,13 @@ pub record IsFirstIllegal (image : Image) (entries : List Entry) (line : ℕ) (e
   pub was_due : expected ≡ due image before entry.cpu
   pub differs : expected ≢ Some entry
 
--- the verdict is that of the journal
+-- the verdict on the journal: it is legal, with whether it is quiet; or it isn't, with its first illegal entry
 abbrev pub Judges : Image → List Entry → Verdict → Type 0
 Judges image entries (Legal quiet) = IsLegal image entries × (IsTrue quiet ↔ IsQuiet image entries)
 Judges image entries (Illegal line expected) = IsFirstIllegal image entries line expected
 
--- from old, whose entries are legal, the entry is the one due to its CPU and was made; or it isn't, and this is what was due
+-- from `old` the entry is the one due to its CPU, and is made; or it isn't, behind legal entries, and what was due is
+-- told
 abbrev pub Compares : BoardView → Entry → Compared → BoardView → Type 0
 Compares old entry Same new = (due old.image old.entries entry.cpu ≡ Some entry) × (new ≡ record old { entries = old.entries ++ entry ∷ [] })
 Compares old entry (Differs expected) new = IsLegal old.image old.entries × (due old.image old.entries entry.cpu ≡ expected) × (expected ≢ Some entry)

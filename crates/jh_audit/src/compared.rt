@@ -5,8 +5,9 @@ use jh_history::Entry;
 /// What is found of one entry of a journal.
 #[derive(Clone, Copy, PartialEq, Eq, Debug)]
 pub enum Compared {
-    /// It is the one that was due.
+    /// The entry is the one that was due to its CPU.
     Same,
-    /// It isn't: `expected` is what was due to its CPU, and nothing where the board lacks the CPU.
+    /// The entry isn't the one: `expected` is what was due to its CPU, `None` where nothing was or the board lacks the
+    /// CPU.
     Differs { expected: Option<Entry> },
 }

@@ -102,7 +102,8 @@ fn judge_entries(board: &mut Board, entries: &[Entry]) -> Result<Verdict, NoMemo
     Ok(whole_verdict(board))
 }
 
-/// Judges the journal by the image.
+/// Judges the journal by the image: whether each entry is the one that was due, else which is the first that isn't. It
+/// makes the entries anew on a board.
 pub fn audit(alloc: Global, image: Image, journal: &Journal) -> Result<Verdict, NoMemory>
     requires admitted { IsAdmitted image }
     requires few { length journal.now.entries ≤ max_entries }

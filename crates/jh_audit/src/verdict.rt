@@ -7,7 +7,7 @@ use jh_history::Entry;
 pub enum Verdict {
     /// Each entry is the one that was due; `quiet` tells whether nothing is due after the last.
     Legal { quiet: bool },
-    /// The entry in this line, from 1, is the first that wasn't due; `expected` is what was due to its
-    /// CPU there, and nothing where the board lacks the CPU.
+    /// The entry in this line, from 1, is the first that wasn't due; `expected` is what was due to its CPU there,
+    /// `None` where nothing was or the board lacks the CPU.
     Illegal { line: u32, expected: Option<Entry> },
 }

@@ -17,7 +17,7 @@ use Rattle.jh_history.specs.Lives.{live_in}
 abbrev pub is_taken : Bool → List Region → ℕ → Bool
 is_taken loadable regions place = list_any (λ (r : Region). takes loadable r place) regions
 
--- one of the cells that live besides root does
+-- one of the cells that live besides root takes the place from root
 abbrev pub is_closed_by : List Live → ℕ → Bool
 is_closed_by lives place = is_closed (map holder_of_live lives) place
 
@@ -43,11 +43,12 @@ pub record AreTaken (loadable : Bool) (regions : List Region) (ranges : List Ran
 abbrev pub live_regions : List Live → ℕ → List Region
 live_regions lives id = option_map_or (λ (c : CellConfig). c.memory_regions) (live_in lives id) []
 
--- the cell with the id is the one at the index, or none is
+-- the first of the cells with the id is the one at the index
 pub record IsAt (lives : List Live) (id k : ℕ) : Type 0 where
   pub within : k < length lives
   pub found : find (has_id id) lives ≡ slice_get lives k
 
+-- the index is that of the first cell with the id, or there is none where no cell has it
 abbrev pub IsIndexOf : List Live → ℕ → Option ℕ → Type 0
 IsIndexOf lives id None = find (has_id id) lives ≡ None
 IsIndexOf lives id (Some k) = IsAt lives id k

@@ -3,6 +3,8 @@ use Rattle.std.specs.Prelude.{◌≡◌, ℕ, true, false, IfSome, IfNone}
 use Rattle.jh_board.specs.Closed.{is_taken, AreTaken}
 use Rattle.jh_board.specs.declared.cell_regions.CellRegions.TheInside.{Inside}
 
+-- the ranges of a cell's regions have what it takes from root: while it isn't loadable, and while it is, where these
+-- are kept; where they aren't, both are the same
 pub record IsCellRegions (s : Inside) : Type 0 where
   pub taken : AreTaken false s.index s.taken.ranges
   pub kept : IfSome s.kept (λ kept. AreTaken true s.index kept.ranges)

@@ -4,6 +4,7 @@ use Rattle.jh_history.specs.Admitted.{IsAdmitted}
 use Rattle.jh_board.specs.Indexed.{AreRootPrograms}
 use Rattle.jh_board.specs.declared.indexed.IndexedImage.TheInside.{Inside}
 
+-- the image is admitted, and its index has root's programs and root's regions
 pub record IsIndexed (s : Inside) : Type 0 where
   pub admitted : IsAdmitted s.image
   pub programs : AreRootPrograms s.image s.programs

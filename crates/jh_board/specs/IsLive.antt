@@ -6,6 +6,8 @@ use Rattle.jh_life.specs.Lives.{configs_of}
 use Rattle.jh_board.specs.Closed.{is_closed_by, all_regions, count_regions, AreInRange}
 use Rattle.jh_board.specs.declared.cells.LiveCells.TheInside.{Inside}
 
+-- what is kept beside the live cells is theirs: their regions, what they close to root, and how many pages all cells
+-- take
 pub record IsLive (s : Inside) : Type 0 where
   pub indexes : s.indexes.items ≡ all_regions s.cells.lives
   pub within : All AreInRange s.indexes.items

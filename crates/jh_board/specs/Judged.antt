@@ -7,6 +7,6 @@ use Rattle.jh_board.specs.declared.held.Held.{Held}
 use Rattle.jh_board.specs.declared.state.JudgedCreate.{JudgedCreate}
 use Rattle.jh_board.specs.Means.{Means}
 
--- it is what comes of the create where what is held stands
+-- what was found is what comes of the create, by whatever facts that stand for what is held
 abbrev pub IsJudged : Image → Held → JudgedCreate → Type 0
 IsJudged image held found = (f : Facts) → Means image held f → found.creation ≡ creation_of image f found.caller found.at

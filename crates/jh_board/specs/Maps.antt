@@ -33,7 +33,7 @@ IsMapOrNone image lives id (Some runs) = IsSome (cell_in image lives id) × IsMa
 
 -- ---- what a map tells of grants
 
--- they are the rights that the access needs
+-- the rights have the one that the access needs
 abbrev pub is_right : Access → Rights → Bool
 is_right Read rights = rights.read
 is_right Write rights = rights.write
@@ -43,7 +43,7 @@ is_right Fetch rights = rights.execute
 abbrev pub is_told : Access → ℕ → Run → Bool
 is_told access at run = (nat_le run.start at && nat_lt at run.end) && (run.page && is_right access run.rights)
 
--- where it tells that the address of the cell leads
+-- the place to which the run leads the address of the cell with the id
 abbrev pub place_told : ℕ → ℕ → Run → Place
 place_told id at run = if run.comm then Page id (run.place + (at - run.start)) else Physical (run.place + (at - run.start))
 

@@ -31,11 +31,12 @@ pub record IsReadyFor (held : Held) (config : CellConfig) : Type 0 where
   pub endpoints : length (specs_of config) ≤ held.endpoints.spare
   pub words : HoldsWords held config
 
+-- what is held is ready for what the phase goes on to do: for the cell that a create is about to make
 abbrev pub IsReadyIn : Held → Phase → Type 0
 IsReadyIn held (ToCreate config) = IsReadyFor held config
 IsReadyIn held phase = Unit {0}
 
--- a create that is about to make its cell is ready for it
+-- what is held is ready for what the open call goes on to do: for the cell that a create is about to make
 abbrev pub IsReady : Held → Option OpenCall → Type 0
 IsReady held None = Unit {0}
 IsReady held (Some o) = IsReadyIn held o.phase

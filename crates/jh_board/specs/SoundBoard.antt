@@ -6,6 +6,7 @@ use Rattle.jh_history.specs.Admitted.{IsAdmitted}
 use Rattle.jh_board.specs.Means.{Means}
 use Rattle.jh_board.specs.declared.board.Board.TheInside.{Inside}
 
+-- the board's image is admitted, its journal is legal and within the limit, and what is held is as the facts say
 pub record IsSoundBoard (b : Inside) : Type 0 where
   pub admitted : IsAdmitted b.image
   pub legal : IsLegal b.image b.journal.entries

@@ -17,7 +17,7 @@ use Rattle.jh_history.specs.declared.access.Reach.TheVariants.{Memory, Subpage, 
 use Rattle.jh_history.specs.declared.call.OpenCall.{OpenCall}
 use Rattle.jh_history.specs.declared.entry.Entry.{Entry}
 use Rattle.jh_history.specs.declared.entry.Act.{Act}
-use Rattle.jh_history.specs.declared.entry.Act.TheVariants.{Write, Irq, Begin, Decide, Commit}
+use Rattle.jh_history.specs.declared.entry.Act.TheVariants.{Write, Irq, Decide, Commit}
 use Rattle.jh_history.specs.declared.device_change.DeviceChange.TheVariants.{Join}
 use Rattle.jh_history.specs.declared.place.Place.{Place}
 use Rattle.jh_history.specs.Admitted.{IsAdmitted}
@@ -41,12 +41,12 @@ use Rattle.jh_board.specs.LiveView.{LiveView}
 use Rattle.jh_board.specs.Means.{Means, HoldsWords, IsReady, IsReadyFor}
 use Rattle.jh_board.specs.Pages.{MemoryView, MayHold, HoldsPlace, HoldsSlot}
 
--- a Decide that goes on
+-- the act is a Decide that goes on
 abbrev pub goes_on : Act → Bool
 goes_on (Decide None) = true
 goes_on act = false
 
--- where a create reads its configuration
+-- the address at which a create reads its configuration
 abbrev pub create_of : Call → Option ℕ
 create_of (Create at) = Some at
 create_of call = None
@@ -58,6 +58,7 @@ change_of_call (Loadable id) = Mark id true
 change_of_call (Destroy id) = Remove id
 change_of_call call = Keep
 
+-- what the act does to the cells that live already: the Commit of the open call changes them, and no other act
 abbrev pub change_of_cells : Option OpenCall → Act → CellsChange
 change_of_cells call Commit = option_map_or (λ (o : OpenCall). change_of_call o.call) call Keep
 change_of_cells call act = Keep
@@ -76,14 +77,14 @@ MayWrite memory (Config bytes) = Unit {0}
 MayWrite memory (Window register) = Unit {0}
 MayWrite memory Nothing = Unit {0}
 
--- so may what the act writes, where it is a write
+-- where the act is a write, each place that it reaches may be written
 abbrev pub MayWriteOf : MemoryView → Act → Reach → Type 0
 MayWriteOf memory (Write width at value ok) found = MayWrite memory found
 MayWriteOf memory act found = Unit {0}
 
 -- ---- devices
 
--- the devices of the cell, by what is held
+-- the devices of the cell with the id, by what is held
 abbrev pub devices_held : Image → Held → ℕ → Devices
 devices_held image held id = devices_in image held.cells.lives held.endpoints.list id
 
@@ -93,7 +94,7 @@ memory_written byte (Memory places) value = written byte places value
 memory_written byte (Subpage places) value = written byte places value
 memory_written byte _ value = byte
 
--- those after what the act writes to memory
+-- the bytes after what the act writes to memory: a write that succeeds changes those that it reaches
 abbrev pub memory_after : (Place → ℕ) → Act → Reach → Place → ℕ
 memory_after byte (Write width at value true) found = memory_written byte found value
 memory_after byte act found = byte
@@ -109,10 +110,11 @@ endpoints_acted_by devices (Write width at value true) found = endpoints_put dev
 endpoints_acted_by devices (Irq device vector) found = taken_of devices.cell (pending_of devices.cell devices.endpoints) devices.endpoints
 endpoints_acted_by devices act found = devices.endpoints
 
--- the pages of the word that the act writes are held
+-- the word of a state table, if there is one to write, ends below 2^64, and its pages are held
 abbrev pub MayPut : MemoryView → Option Slot → Type 0
 MayPut memory slot = IfSome slot (λ (s : Slot). (s.place + 4 < 2 ^ 64) × HoldsSlot memory s)
 
+-- the word of a state table that the cell's act writes, if it writes one, ends below 2^64, and its pages are held
 abbrev pub MayWriteSlot : Image → Held → ℕ → Act → Reach → Type 0
 MayWriteSlot image held id act found = MayPut held.memory (slot_after (devices_held image held id) act found)
 
@@ -122,6 +124,7 @@ pub record MayCommitDevices (held : Held) (config : CellConfig) : Type 0 where
   pub room : change_by held.call ≡ Join → length (specs_of config) ≤ held.endpoints.spare
   pub words : HoldsWords held config
 
+-- what is held has all that the act needs for the devices that it changes, where it is a Commit that changes some
 abbrev pub MayCommit : Held → Act → Type 0
 MayCommit held act = IfSome (changing_by held.cells.lives held.call act) (MayCommitDevices held)
 
@@ -161,7 +164,7 @@ pub record IsNext (image : Image) (held : Held) (entry : Entry) : Type 0 where
 abbrev pub IsRead : Image → Facts → Entry → Option CellConfig → Type 0
 IsRead image facts entry coming = call_by facts.cells coming facts.call entry entry.act ≡ call_after image facts entry
 
--- no cell is about to come, where a create reads the configuration of one
+-- where the configuration of a cell comes, the open call isn't yet about to make one: whatever is held is ready for it
 abbrev pub IsFree : Facts → Option CellConfig → Type 0
 IsFree facts coming = IfSome coming (λ config. (held : Held) → IsReady held facts.call)
 

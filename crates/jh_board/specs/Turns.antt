@@ -14,7 +14,8 @@ abbrev pub Advances : Image → ℕ → List Entry → ℕ → Option Entry → 
 Advances image limit old cpu None new = (due image old cpu ≡ None) × (new ≡ old)
 Advances image limit old cpu (Some entry) new = (due image old cpu ≡ Some entry) × (length old < limit) × (new ≡ old ++ entry ∷ [])
 
--- from old, this is made for the CPU, the entry that is due to it, and leaves new
+-- what is made for the CPU from `old` is the entry that is due to it, and leaves `new`; or nothing is due, and nothing
+-- changes
 abbrev pub MakesDue : BoardView → ℕ → Option Entry → BoardView → Type 0
 MakesDue old cpu None new = (due old.image old.entries cpu ≡ None) × (new ≡ old)
 MakesDue old cpu (Some entry) new = (due old.image old.entries cpu ≡ Some entry) × (length old.entries < old.limit) × (new ≡ record old { entries = old.entries ++ entry ∷ [] })

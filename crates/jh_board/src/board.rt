@@ -130,7 +130,7 @@ fn held_at_opening(alloc: Global, image: &Image) -> Result<Held, NoMemory>
     })
 }
 
-/// The same in a box, so that a board is small to move and to drop.
+/// What is held at opening, in a box, so that a board is small to move and to drop.
 fn open_held(alloc: Global, image: &Image) -> Result<Box<Held>, NoMemory>
     requires { IsAdmitted image.now }
     ensures { IfOk result (λ held. Means image.now held.value (facts image.now [])) }
@@ -140,7 +140,8 @@ fn open_held(alloc: Global, image: &Image) -> Result<Box<Held>, NoMemory>
 }
 
 impl Board {
-    /// A board of the image, with an empty journal.
+    /// A board of the image, with an empty journal that may have `limit` entries. For want of memory the image comes
+    /// back.
     pub fn open(alloc: Global, image: Image, limit: u32) -> Result<Self, Image>
         requires admitted { IsAdmitted image }
         ensures ok { IfOk result (λ board. board ≡ record { image = image; limit = limit; entries = [] }) }
@@ -218,14 +219,15 @@ impl Board {
         self.held.cells.used()
     }
 
-    /// How many pages the pool has.
+    /// How many pages of 4,096 bytes the pool has, which is the hypervisor's memory.
     pub fn size(&self) -> u32
         ensures { result ≡ pool_pages self.now.image.system }
     {
         self.image.pool_pages()
     }
 
-    /// Makes the entry that is due to the CPU, if one is. No other CPU is asked.
+    /// Makes the entry that is due to the CPU, if one is. Other CPUs are asked only where its call waits for a cell
+    /// that says nothing.
     pub fn make_due(&mut self, cpu: u8) -> Result<Option<Entry>, TurnFault>
         requires { IsTrue (is_on_board self.old.image cpu) }
         ensures ok { IfOk result (λ made. MakesDue self.old cpu made self.new) }

@@ -21,7 +21,7 @@ pub struct CellRegions {
     index: RegionIndex,
     /// The places that the cell takes from root while it isn't loadable.
     taken: ByteSet,
-    /// Those that it takes even while it is, where they aren't the same.
+    /// The places that the cell takes even while it is loadable, where they aren't those that it takes while it isn't.
     kept: Option<ByteSet>,
 }
 
@@ -45,7 +45,7 @@ fn takes_places(region: &Region, loadable: bool) -> bool
     region.is_unshared() && !(loadable && region.is_loadable())
 }
 
-/// Whether one of them is root's while their cell is loadable.
+/// Whether one of the regions is unshared and root's while the cell is loadable.
 fn any_lent(regions: &[Region]) -> bool
     ensures { result ≡ list_any (λ (r : TheRegion). is_unshared r && is_loadable r) regions.now }
 {

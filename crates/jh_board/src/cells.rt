@@ -94,7 +94,7 @@ impl LiveCells {
         })
     }
 
-    /// The records of the cells, by which a new one is judged.
+    /// The records of root and of the cells that live besides it.
     pub fn cells(&self) -> &Cells
         ensures system { result.now.system ≡ self.now.system }
         ensures lives { result.now.lives ≡ self.now.lives }
@@ -124,7 +124,7 @@ impl LiveCells {
         self.used
     }
 
-    /// The configuration of the cell with the id.
+    /// The configuration of the cell with the id that lives besides root; `None` where no such cell lives.
     pub fn live(&self, id: u64) -> Option<&CellConfig>
         ensures { option_copied result ≡ live_in self.now.lives id }
     {

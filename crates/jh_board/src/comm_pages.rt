@@ -36,7 +36,7 @@ pub struct Word {
 }
 
 impl CommPages {
-    /// No page is held.
+    /// Communication pages, of which none is held.
     pub fn new(alloc: Global) -> Self
         ensures { (cell offset : ℕ) → comm_byte result cell offset ≡ 0 }
     {
@@ -46,7 +46,7 @@ impl CommPages {
         }
     }
 
-    /// The byte of the cell's page.
+    /// The byte at the offset of the page of the cell with the id; 0 where the page isn't held, and past its end.
     pub fn read(&self, cell: u32, offset: u64) -> u8
         ensures { result ≡ comm_byte self.now cell offset }
     {
@@ -69,7 +69,7 @@ impl CommPages {
         }
     }
 
-    /// Puts so many bytes of the cell's page, from the offset on, behind those of the buffer.
+    /// Puts `count` bytes of the cell's page, from the offset on, behind those of the buffer.
     pub fn append(
         &self,
         bytes: &mut Vec<u8>,

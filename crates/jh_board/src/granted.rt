@@ -88,7 +88,8 @@ fn keeps(image: &IndexedImage, cells: &LiveCells, cell: u32, places: &Places) ->
     keeps_run(cells, low) || keeps_run(cells, high)
 }
 
-/// The memory that the cell's access reaches, where these cells live besides root.
+/// The places of memory that the cell's access reaches, where these cells live besides root; `None` where some byte
+/// isn't granted.
 pub fn memory(image: &IndexedImage, cells: &LiveCells, cell: u32, wanted: &Wanted) -> Option<Places>
     requires { wanted.now.width ≤ 8 }
     ensures { memory_or_nothing result ≡ reach_by (granted_in image.now cells.now.lives cell wanted.now.access) wanted.now.at wanted.now.width }
@@ -142,7 +143,7 @@ fn whole(image: &IndexedImage, cells: &LiveCells, cell: u32, wanted: &Wanted) ->
     }
 }
 
-/// The same, where the cell is kept from none of the bytes of the access.
+/// The subpage region of the cell that has the whole access, where the cell is kept from none of the access's bytes.
 fn open_whole(image: &IndexedImage, cells: &LiveCells, cell: u32, wanted: &Wanted) -> Option<Region>
     requires some { 0 < wanted.now.width }
     requires few { wanted.now.width ≤ 8 }

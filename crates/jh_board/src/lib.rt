@@ -11,6 +11,7 @@ mod devices;
 mod granted;
 mod held;
 mod indexed;
+mod judging;
 mod laws;
 mod memory;
 mod overview;

@@ -51,6 +51,7 @@ impl Page {
         Ok(Page { bytes })
     }
 
+    /// The byte at the offset, which is below 4,096.
     pub fn get(&self, offset: usize) -> u8
         requires { offset < 4096 }
         ensures { result ≡ slice_index self.now offset }
@@ -72,7 +73,7 @@ impl Page {
         value
     }
 
-    /// Puts so many of its bytes, from the offset on, behind those of the buffer.
+    /// Puts `count` bytes of the page, from the offset on, behind those of the buffer.
     pub fn append(&self, bytes: &mut Vec<u8>, offset: usize, count: usize) -> Result<(), NoMemory>
         requires { offset + count ≤ 4096 }
         ensures { OnOk result (bytes.new.items ≡ bytes.old.items ++ bytes_from (slice_index self.now) offset count) }
@@ -81,6 +82,7 @@ impl Page {
         Ok(())
     }
 
+    /// Writes the byte at the offset, which is below 4,096.
     pub fn set(&mut self, offset: usize, byte: u8)
         requires { offset < 4096 }
         ensures at { slice_index self.new offset ≡ byte }
@@ -89,7 +91,7 @@ impl Page {
         self.bytes[offset] = byte;
     }
 
-    /// Puts the bytes from the offset on.
+    /// Writes the bytes over those from the offset on, all of them within the page.
     pub fn put(&mut self, offset: usize, bytes: &[u8])
         requires { offset + length bytes.now ≤ 4096 }
         ensures { (k : ℕ) → slice_index self.new k ≡ stored (slice_index self.old) offset bytes.now k }

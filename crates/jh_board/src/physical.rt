@@ -42,6 +42,7 @@ fn append_zeros(bytes: &mut Vec<u8>, count: usize) -> Result<(), NoMemory>
 }
 
 impl Physical {
+    /// Physical memory of zeros, of which no page is held.
     pub fn new(alloc: Global) -> Self
         ensures { (place : ℕ) → byte_at result place ≡ 0 }
     {
@@ -85,7 +86,7 @@ impl Physical {
         }
     }
 
-    /// Puts so many bytes, from the address on, behind those of the buffer.
+    /// Puts `count` bytes, from the place `at` on, behind those of the buffer.
     pub fn append(&self, bytes: &mut Vec<u8>, at: u64, count: usize) -> Result<(), NoMemory>
         requires { at + count < 2 ^ 64 }
         ensures { OnOk result (bytes.new.items ≡ bytes.old.items ++ bytes_from (byte_at self.now) at count) }
@@ -101,7 +102,8 @@ impl Physical {
         Ok(())
     }
 
-    /// Puts the bytes, all into the page of the first.
+    /// Writes the bytes over those from the place `at` on, all of them in the page of the first, which is held from
+    /// then on.
     pub fn put(&mut self, at: u64, bytes: &[u8]) -> Result<(), NoMemory>
         requires { at % 4096 + length bytes.now ≤ 4096 }
         ensures ok { OnOk result ((q : ℕ) → byte_at self.new q ≡ stored (byte_at self.old) at bytes.now q) }
@@ -146,7 +148,8 @@ impl Physical {
         }
     }
 
-    /// Puts the bytes from `at` on.
+    /// Writes the bytes over those from the place `at` on, in as many pages as they reach. For want of memory some may
+    /// be written.
     pub fn store(&mut self, at: u64, bytes: &[u8]) -> Result<(), NoMemory>
         requires { at + length bytes.now < 2 ^ 64 }
         ensures { OnOk result ((q : ℕ) → byte_at self.new q ≡ stored (byte_at self.old) at bytes.now q) }

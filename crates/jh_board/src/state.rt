@@ -12,13 +12,13 @@ ghost use Rattle.jh_history.specs.declared.next.DueEntry.{DueEntry as TheDue};
 use crate::granted::{reach, row_of_root};
 use crate::held::Held;
 use crate::indexed::IndexedImage;
+use crate::judging::judge;
 use jh_call::Call;
 use jh_cellcfg::CellConfig;
 use jh_cpu::Cpu;
 use jh_history::{
     Creation, DueEntry, Known, OpenCall, Phase, Places, Reach, RootBytes, Wanted, is_any_locked,
-    is_any_other_locked, is_due, judged, next_of, none_due, read_config,
-    rows_are_read_byte_by_byte,
+    is_any_other_locked, is_due, next_of, none_due, read_config, rows_are_read_byte_by_byte,
 };
 use jh_ivshmem::Endpoints;
 use jh_num::NoMemory;
@@ -68,22 +68,14 @@ impl<'a> State<'a> {
     fn creation(&self, caller: u8, at: u64) -> Result<Creation, NoMemory>
         ensures { (i : Image) (f : Facts) → (i ≡ self.now.image) × Means i self.now.held f → IfOk result (λ creation. creation ≡ creation_of i f caller at) }
     {
-        let cells = self.held.cells.list();
-        if is_any_locked(&self.held.memory, cells) {
+        if is_any_locked(&self.held.memory, self.held.cells.list()) {
             return Ok(Creation::Refused { number: EPERM });
         }
-        let read = read_config(self.held.alloc, self, at)?;
-        let alloc = self.held.alloc;
-        match judged(
-            alloc,
-            self.image.image(),
-            cells,
-            &self.held.cpus,
-            caller,
-            read,
-        )? {
-            Some(creation) => Ok(creation),
-            None => Err(NoMemory),
+        // root's grants are those of an admitted image
+        self.image.has_few_cpus();
+        match read_config(self.held.alloc, self, at)? {
+            Creation::Comes { config } => judge(self.image, self.held, caller, config),
+            refused => Ok(refused),
         }
     }
 }

@@ -75,7 +75,7 @@ fn change_of_cells(call: Option<&OpenCall>, act: &Act) -> CellsChange
     }
 }
 
-/// Changes the cells so.
+/// Makes the change at the cells that live already.
 fn change_cells(cells: &mut LiveCells, change: CellsChange)
     ensures system { cells.new.system ≡ cells.old.system }
     ensures lives { cells.new.lives ≡ changed_cells change cells.old.lives }

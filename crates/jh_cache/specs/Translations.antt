@@ -21,11 +21,11 @@ without test list = filter (λ (t : Translation). not (test t)) list
 abbrev pub newest : ℕ → List Translation → List Translation
 newest count list = drop (length list - count) list
 
--- with one translation more, in place of another of the same tag and page; 64 are held at most
+-- the list with one translation more, in place of another of the same tag and page; 64 are held at most
 abbrev pub filled : Translation → List Translation → List Translation
 filled t list = newest 63 (without (is_for t.tag t.page) list) ++ t ∷ []
 
--- without the translations of the tag
+-- the list without the translations of the tag
 abbrev pub flushed : ℕ → List Translation → List Translation
 flushed tag list = without (λ (t : Translation). t.tag == tag) list
 

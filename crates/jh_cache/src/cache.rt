@@ -28,6 +28,7 @@ impl Model for Cache {
     ghost invariant = { λ c. (cpu : ℕ) → length (row_of c.rows.items cpu) ≤ 64 };
 }
 
+/// Drops the translations of the tag from each of the lists.
 fn flush_each(rows: &mut [Row], tag: u8)
     ensures { rows.new ≡ map (flushed tag) rows.old }
 {

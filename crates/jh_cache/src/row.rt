@@ -39,7 +39,7 @@ fn has(list: &VecDeque<Translation>, tag: u8, page: u64) -> bool
     list.iter().any(|t| t.is_for(tag, page))
 }
 
-/// Takes the translation of the page out, where there is one.
+/// Takes the translation of the page in the tables with the tag out, where there is one.
 fn take_out(list: &mut VecDeque<Translation>, tag: u8, page: u64)
     ensures items { list.new.items ≡ without (is_for tag page) list.old.items }
     ensures few { length list.new.items ≤ length list.old.items }
@@ -82,6 +82,7 @@ fn found(list: &[Translation], tag: u8, page: u64) -> Option<Hit>
 }
 
 impl Row {
+    /// A list without a translation, which has room for 64.
     pub fn new(alloc: Global) -> Result<Self, NoMemory>
         ensures { IfOk result (λ row. row ≡ []) }
     {
@@ -89,6 +90,8 @@ impl Row {
         Ok(Row { translations })
     }
 
+    /// What is cached for the page that begins at the address `page`, in the tables with the tag; `None` where nothing
+    /// is.
     pub fn look(&self, tag: u8, page: u64) -> Option<Hit>
         ensures { result ≡ looked self.now tag page }
     {
@@ -99,6 +102,8 @@ impl Row {
         }
     }
 
+    /// Puts the translation last. It takes the place of another of the same tag and page, else of the oldest where 64
+    /// are held. It takes no memory.
     pub fn fill(&mut self, translation: Translation)
         ensures value { self.new ≡ filled translation self.old }
         ensures few { length self.new ≤ 64 }
@@ -108,6 +113,7 @@ impl Row {
         append(&mut self.translations, translation);
     }
 
+    /// Drops the translations of the tag, and no other.
     pub fn flush(&mut self, tag: u8)
         ensures value { self.new ≡ flushed tag self.old }
         ensures few { length self.new ≤ 64 }

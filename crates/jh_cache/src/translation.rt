@@ -13,7 +13,7 @@ pub struct Translation {
 }
 
 impl Translation {
-    /// It is of that page in the tables with that tag.
+    /// Whether this is what a walk found for that page, in the tables with that tag.
     pub fn is_for(&self, tag: u8, page: u64) -> bool
         ensures { result ≡ is_for tag page self.now }
     {

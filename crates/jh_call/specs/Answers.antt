@@ -21,7 +21,7 @@ use Rattle.jh_call.specs.declared.seen.Seen.{Seen}
 use Rattle.jh_call.specs.declared.seen.CpuSeen.{CpuSeen}
 use Rattle.jh_call.specs.declared.seen.CpuSeen.TheVariants.{Absent, Foreign, Fine, Failed}
 
--- what only root may ask
+-- root alone may make the call
 abbrev pub is_roots : Call → Bool
 is_roots (Create at) = true
 is_roots (Start id) = true
@@ -32,6 +32,7 @@ is_roots (State id) = true
 is_roots (CpuInfo cpu kind) = false
 is_roots Unknown = false
 
+-- what a request for information about the hypervisor is answered, by its kind
 abbrev pub info_of : ℕ → Seen → ℤ
 info_of kind seen =
     if kind == 0 then pos seen.size
@@ -39,16 +40,19 @@ info_of kind seen =
     else (if kind == 4 then pos seen.cells
     else EINVAL))
 
+-- what a request for the state of a cell is answered, by the cell's state word, if a live cell has the id
 abbrev pub state_told : Option ℕ → ℤ
 state_told None = ENOENT
 state_told (Some state) = if nat_le state 4 then pos state else EINVAL
 
+-- what a request for information about a CPU is answered, by its kind and by what is seen of the CPU
 abbrev pub cpu_told : ℕ → CpuSeen → ℤ
 cpu_told kind Absent = EINVAL
 cpu_told kind Foreign = EPERM
 cpu_told kind Fine = if kind == 0 then pos 0 else EINVAL
 cpu_told kind Failed = if kind == 0 then pos 2 else EINVAL
 
+-- what the call is answered at once, by what is seen; of calls that manage cells only those of cells besides root are
 abbrev pub answer_of : Call → Seen → ℤ
 answer_of (Create at) seen = EPERM
 answer_of (Start id) seen = EPERM

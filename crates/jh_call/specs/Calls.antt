@@ -14,6 +14,7 @@ use Rattle.std.specs.Prelude.{ℕ, Bool, true, false, ◌==◌, if◌then◌else
 use Rattle.jh_call.specs.declared.call.Call.{Call}
 use Rattle.jh_call.specs.declared.call.Call.TheVariants.{Create, Start, Loadable, Destroy, Info, State, CpuInfo, Unknown}
 
+-- the call of the code and the two words
 abbrev pub decoded : ℕ → ℕ → ℕ → Call
 decoded code a b =
     if code == 1 then Create a
@@ -25,7 +26,7 @@ decoded code a b =
     else (if code == 7 then CpuInfo a b
     else Unknown))))))
 
--- the calls that change which cells there are or what they do, which root alone may make
+-- the call manages cells: it changes which cells there are or what they do, which root alone may do
 abbrev pub is_management : Call → Bool
 is_management (Create at) = true
 is_management (Start id) = true

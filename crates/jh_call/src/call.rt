@@ -24,7 +24,7 @@ pub enum Call {
     Unknown,
 }
 
-/// The call with the code and its two words.
+/// The call of the code with its two words. Codes 1 to 7 are those of Jailhouse's `hypercall.h`; any other is unknown.
 pub fn decode(code: u64, a: u64, b: u64) -> Call
     ensures { result ≡ decoded code a b }
 {

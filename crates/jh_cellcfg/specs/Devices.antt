@@ -2,6 +2,6 @@
 use Rattle.std.specs.Prelude.{Bool, ◌==◌}
 use Rattle.jh_cellcfg.specs.declared.config.PciDevice.{PciDevice}
 
--- it is an ivshmem device
+-- the device is an ivshmem device: its kind is 3
 abbrev pub is_shmem : PciDevice → Bool
 is_shmem device = device.kind == 3

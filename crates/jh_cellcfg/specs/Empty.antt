@@ -5,7 +5,7 @@ use Rattle.jh_cellcfg.specs.declared.config.Console.{Console}
 use Rattle.jh_cellcfg.specs.declared.config.SystemConfig.{SystemConfig}
 use Rattle.jh_cellcfg.specs.declared.region.Region.{Region}
 
--- with this id; all else is 0, or an empty list
+-- the cell that has this id, and 0 or nothing in each other field
 abbrev pub empty_cell : ℕ → CellConfig
 empty_cell id = record {
   name = replicate 32 0;
@@ -25,10 +25,11 @@ empty_cell id = record {
   stream_ids = [];
 }
 
+-- the console whose fields are all 0
 abbrev pub no_console : Console
 no_console = record { address = 0; size = 0; kind = 0; flags = 0; divider = 0; gate_nr = 0; clock_reg = 0 }
 
--- with this memory of the hypervisor and this root; all else is 0
+-- the system that has this memory of the hypervisor and this root, and 0 in all else
 abbrev pub bare_system : Region → CellConfig → SystemConfig
 bare_system memory root = record {
   flags = 0;

@@ -15,7 +15,7 @@ abbrev pub fault_of : {X : Type 0} → Result X ConfigFault → Option ConfigFau
 fault_of (Ok x) = None
 fault_of (Err fault) = Some fault
 
--- the same, where want of memory is no fault
+-- the fault that a call answered, if it answered one other than want of memory
 abbrev pub refusal : {X : Type 0} → Result X ConfigFault → Option ConfigFault
 refusal (Ok x) = None
 refusal (Err NoMemory) = None
@@ -31,10 +31,11 @@ first_of [] = None
 first_of (None ∷ rest) = first_of rest
 first_of (Some fault ∷ rest) = Some fault
 
+-- the fault of the part's count, where it is above the most that the part may have
 abbrev pub over : Part → ℕ → ℕ → Option ConfigFault
 over part most found = fault_if (nat_lt most found) (Count part found)
 
--- the first count that is past its limit
+-- the fault of the first count that isn't within its limits
 unfoldable pub count_fault : Counts → Option ConfigFault
 count_fault n = first_of (
     fault_if (n.cpu_set == 0) (Count CpuSet 0)
@@ -49,10 +50,11 @@ count_fault n = first_of (
     ∷ over Total 65536 (whole_size n)
     ∷ [])
 
--- the number of two or four bytes at a place
+-- the number of the two bytes at the place, the lowest first
 abbrev pub u16_at : List ℕ → ℕ → ℕ
 u16_at bytes place = from_le_bytes w16 (slice_range bytes place (place + 2))
 
+-- the number of the four bytes at the place, the lowest first
 abbrev pub u32_at : List ℕ → ℕ → ℕ
 u32_at bytes place = from_le_bytes w32 (slice_range bytes place (place + 4))
 
@@ -73,7 +75,7 @@ counts_at body = record {
 unfoldable pub limits_fault : List ℕ → Counts → Option ConfigFault
 limits_fault name counts = first_of (fault_if (not (is_name name)) Name ∷ count_fault counts ∷ [])
 
--- the bytes are fewer than needed, or more
+-- the fault of bytes that are fewer than needed, or more
 unfoldable pub length_fault : ℕ → ℕ → Option ConfigFault
 length_fault need len = first_of (
     fault_if (nat_lt len need) (Short need)
@@ -87,17 +89,18 @@ body_fault front body = first_of (
     ∷ length_fault (front + 124 + parts_size (counts_at body)) (front + length body)
     ∷ [])
 
--- the fault of what stands before the name
+-- the first fault of what stands before the header's name: of the signature and the revision
 unfoldable pub start_fault : List ℕ → Option ConfigFault
 start_fault bytes = first_of (
     fault_if (not (starts_with nat_eq bytes (codes "JHCELL"))) Signature
     ∷ fault_if (not (u16_at bytes 6 == 13)) (Revision (u16_at bytes 6))
     ∷ [])
 
--- the first fault of a whole header, and the size of the whole by its counts
+-- the first fault of a whole header, from its signature to the total of its counts
 abbrev pub header_fault : List ℕ → Option ConfigFault
 header_fault header = first_of (start_fault header ∷ limits_fault (slice_range header 8 40) (counts_at (drop 8 header)) ∷ [])
 
+-- how many bytes the whole configuration has, by the counts of its header
 abbrev pub header_size : List ℕ → ℕ
 header_size header = whole_size (counts_at (drop 8 header))
 

@@ -5,10 +5,11 @@ use Rattle.jh_cellcfg.specs.declared.config.CellConfig.{CellConfig}
 use Rattle.jh_cellcfg.specs.declared.header.Counts.{Counts}
 use Rattle.jh_cellcfg.specs.Spelling.{counts_of}
 
--- ASCII from the space to the tilde
+-- the byte is a printable character: ASCII from the space to the tilde
 abbrev pub is_printable : ℕ → Bool
 is_printable byte = nat_le 0x20 byte && nat_le byte 0x7e
 
+-- the byte is 0
 abbrev pub is_zero : ℕ → Bool
 is_zero byte = byte == 0
 
@@ -17,17 +18,18 @@ abbrev pub is_name_to : List ℕ → Option ℕ → Bool
 is_name_to name None = false
 is_name_to name (Some len) = nat_lt 0 len && list_all is_printable (take len name) && list_all is_zero (drop len name)
 
--- 1 to 31 printable characters, and then zero bytes
+-- the bytes are printable characters, one at least, and then zero bytes, one at least: of 32 bytes at most 31 are
+-- characters
 unfoldable pub is_name : List ℕ → Bool
 is_name name = is_name_to name (position is_zero name)
 
--- the bytes of the parts, which stand behind the header
+-- how many bytes the parts have, which stand behind the header
 abbrev pub parts_size : Counts → ℕ
 parts_size n =
     n.cpu_set + 32 * n.memory_regions + 12 * n.cache_regions + 32 * n.irqchips + 4 * n.pio_regions
     + 56 * n.pci_devices + 8 * n.pci_caps + 4 * n.stream_ids
 
--- the bytes of the whole, from the signature on
+-- how many bytes the whole configuration has, from the signature on
 abbrev pub whole_size : Counts → ℕ
 whole_size n = 132 + parts_size n
 
@@ -44,6 +46,7 @@ pub record AreWithinLimits (n : Counts) : Type 0 where
   pub stream_ids : n.stream_ids ≤ 1024
   pub total : whole_size n ≤ 65536
 
+-- the configuration is within its limits: its name, the counts of its parts, and the size of the whole
 pub record IsWithinLimits (c : CellConfig) : Type 0 where
   pub name : IsTrue (is_name c.name)
   pub counts : AreWithinLimits (counts_of c)

@@ -10,26 +10,28 @@ use Rattle.jh_cellcfg.specs.declared.config.CellConfig.{CellConfig}
 use Rattle.jh_cellcfg.specs.declared.header.Counts.{Counts}
 use Rattle.jh_cellcfg.specs.Faults.{u16_at, u32_at, counts_at}
 
--- the number of one byte or of eight at a place
+-- the number of the one byte at the place
 abbrev pub u8_at : List ℕ → ℕ → ℕ
 u8_at bytes place = slice_index bytes place
 
+-- the number of the eight bytes at the place, the lowest first
 abbrev pub u64_at : List ℕ → ℕ → ℕ
 u64_at bytes place = from_le_bytes w64 (slice_range bytes place (place + 8))
 
--- so many records of so many bytes each, one behind another
+-- the records that stand one behind another, so many of them and each of so many bytes
 abbrev pub records : {X : Type 0} → (List ℕ → X) → ℕ → ℕ → List ℕ → List X
 records read size zero bytes = []
 records read size (suc n) bytes = read (take size bytes) ∷ records read size n (drop size bytes)
 
+-- the number of the first four bytes, the lowest first
 abbrev pub word_of : List ℕ → ℕ
 word_of bytes = u32_at bytes 0
 
--- a record that is kept as it is
+-- the bytes of a record that is kept as it is
 abbrev pub same_bytes : List ℕ → List ℕ
 same_bytes bytes = bytes
 
--- a memory region: 32 bytes
+-- the memory region that 32 bytes tell
 abbrev pub region_of : List ℕ → Region
 region_of bytes = record {
   phys_start = u64_at bytes 0;
@@ -38,7 +40,7 @@ region_of bytes = record {
   flags = u64_at bytes 24;
 }
 
--- an interrupt controller: 32 bytes
+-- the interrupt controller that 32 bytes tell
 abbrev pub irqchip_of : List ℕ → Irqchip
 irqchip_of bytes = record {
   address = u64_at bytes 0;
@@ -47,7 +49,7 @@ irqchip_of bytes = record {
   pin_bitmap = records word_of 4 4 (drop 16 bytes);
 }
 
--- a PCI device: 56 bytes
+-- the PCI device that 56 bytes tell
 abbrev pub device_of : List ℕ → PciDevice
 device_of bytes = record {
   kind = u8_at bytes 0;

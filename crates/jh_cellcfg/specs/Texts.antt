@@ -17,6 +17,7 @@ count_text PciCaps = codes "num_pci_caps"
 count_text StreamIds = codes "num_stream_ids"
 count_text Total = codes "total"
 
+-- the words for a fault of a configuration
 abbrev pub fault_text : ConfigFault → List ℕ
 fault_text (Short need) = codes "short " ++ decimal need
 fault_text Signature = codes "signature"

@@ -10,23 +10,26 @@ use Rattle.jh_cellcfg.specs.declared.config.CellConfig.{CellConfig}
 use Rattle.jh_cellcfg.specs.declared.header.Counts.{Counts}
 use Rattle.jh_cellcfg.specs.declared.header.Header.{Header}
 
--- so many numbers of 32 bits
+-- the list is of so many numbers, each of 32 bits
 pub record IsWordArray (size : ℕ) (words : List ℕ) : Type 0 where
   pub count : length words ≡ size
   pub each : AllByRecursion (λ n. n < 2 ^ 32) words
 
+-- the fields of the memory region have the values of their types
 pub record IsRegion (r : Region) : Type 0 where
   pub phys_start : r.phys_start < 2 ^ 64
   pub virt_start : r.virt_start < 2 ^ 64
   pub size : r.size < 2 ^ 64
   pub flags : r.flags < 2 ^ 64
 
+-- the fields of the interrupt controller have the values of their types
 pub record IsIrqchip (i : Irqchip) : Type 0 where
   pub address : i.address < 2 ^ 64
   pub id : i.id < 2 ^ 32
   pub pin_base : i.pin_base < 2 ^ 32
   pub pin_bitmap : IsWordArray 4 i.pin_bitmap
 
+-- the fields of the PCI device have the values of their types
 pub record IsDevice (d : PciDevice) : Type 0 where
   pub kind : d.kind < 2 ^ 8
   pub iommu : d.iommu < 2 ^ 8
@@ -45,6 +48,7 @@ pub record IsDevice (d : PciDevice) : Type 0 where
   pub shmem_peers : d.shmem_peers < 2 ^ 8
   pub shmem_protocol : d.shmem_protocol < 2 ^ 16
 
+-- the fields of the console have the values of their types
 pub record IsConsole (c : Console) : Type 0 where
   pub address : c.address < 2 ^ 64
   pub size : c.size < 2 ^ 32
@@ -54,6 +58,7 @@ pub record IsConsole (c : Console) : Type 0 where
   pub gate_nr : c.gate_nr < 2 ^ 32
   pub clock_reg : c.clock_reg < 2 ^ 64
 
+-- the counts of a header are numbers of 32 bits
 pub record AreCounts (n : Counts) : Type 0 where
   pub cpu_set : n.cpu_set < 2 ^ 32
   pub memory_regions : n.memory_regions < 2 ^ 32
@@ -64,6 +69,7 @@ pub record AreCounts (n : Counts) : Type 0 where
   pub pci_caps : n.pci_caps < 2 ^ 32
   pub stream_ids : n.stream_ids < 2 ^ 32
 
+-- the fields of the header have the values of their types
 pub record IsHeader (h : Header) : Type 0 where
   pub name : length h.name ≡ 32
   pub id : h.id < 2 ^ 32
@@ -74,6 +80,7 @@ pub record IsHeader (h : Header) : Type 0 where
   pub msg_reply_timeout : h.msg_reply_timeout < 2 ^ 64
   pub console : length h.console ≡ 32
 
+-- the fields of the cell's configuration have the values of their types
 pub record IsCell (c : CellConfig) : Type 0 where
   pub name : length c.name ≡ 32
   pub id : c.id < 2 ^ 32

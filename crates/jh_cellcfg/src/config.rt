@@ -19,7 +19,7 @@ pub struct CellConfig {
     pub flags: u32,
     pub vpci_irq_base: u32,
     pub cpu_reset_address: u64,
-    /// How many entries of the cell's CPUs the hypervisor waits for a reply; 0 waits without end.
+    /// How many entries of the cell's CPUs the hypervisor waits for a reply at most; 0 sets no such limit.
     pub msg_reply_timeout: u64,
     /// The bytes of a console record.
     pub console: [u8; 32],
@@ -77,14 +77,14 @@ impl CellConfig {
         }
     }
 
-    /// The characters of its name, without the zero bytes behind them.
+    /// The characters of the cell's name, without the zero bytes behind them.
     pub fn name(&self) -> &[u8]
         ensures { result.now ≡ name_of self.now }
     {
         &self.name[..name_len(&self.name)]
     }
 
-    /// Whether the CPU is one of its own. Each CPU past the bitmap's end isn't.
+    /// Whether the CPU is one of the cell's own. No CPU past the bitmap's end is.
     pub fn has_cpu(&self, cpu: u8) -> bool
         ensures { result ≡ is_cpu_set self.now.cpu_set cpu }
     {
@@ -93,7 +93,7 @@ impl CellConfig {
         byte & (1u8 << (cpu % 8)) != 0
     }
 
-    /// Whether all these flags are set.
+    /// Whether all these flags of the cell are set.
     pub fn has(&self, flags: CellFlags) -> bool
         ensures { result ≡ has_cell_flags flags.0 self.now }
     {
@@ -173,7 +173,7 @@ const SHMEM: u8 = 3;
 impl PciDevice {
     ghost use Rattle.jh_cellcfg.specs.Devices.{is_shmem};
 
-    /// Whether it is an ivshmem device.
+    /// Whether the device is an ivshmem device, by its kind, 3.
     pub fn is_shmem(&self) -> bool
         ensures { result ≡ is_shmem self.now }
     {

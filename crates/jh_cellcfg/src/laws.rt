@@ -13,7 +13,7 @@ pub fn one_spelling()
     ensures { (a b : CellConfig) → IsCell a → IsCell b → IsWithinLimits a → IsWithinLimits b → spelling a ≡ spelling b → a ≡ b }
 {}
 
-/// So are two with the same bytes from the name on.
+/// Two configurations with the same bytes from the name on are one.
 pub fn one_body()
     ensures { (a b : CellConfig) → IsCell a → IsCell b → IsWithinLimits a → IsWithinLimits b → body_bytes a ≡ body_bytes b → a ≡ b }
 {}
@@ -23,7 +23,7 @@ pub fn spelling_has_no_fault()
     ensures { (config : CellConfig) → IsCell config → IsWithinLimits config → first_fault (spelling config) ≡ None }
 {}
 
-/// Nor has a configuration from its name on, whatever number of bytes stands before.
+/// The bytes of a configuration from its name on have no fault, whatever number of bytes stands before.
 pub fn body_has_no_fault()
     ensures { (front : ℕ) (config : CellConfig) → IsCell config → IsWithinLimits config → body_fault front (body_bytes config) ≡ None }
 {}
@@ -40,7 +40,7 @@ pub fn no_fault_is_a_spelling()
         → (config : CellConfig) × IsCell config × IsWithinLimits config × (bytes ≡ spelling config) }
 {}
 
-/// So do the bytes of a body, whatever number of bytes stands before.
+/// Bytes from a name on that have no fault are those of a configuration, whatever number of bytes stands before.
 pub fn no_fault_is_a_body()
     ensures { (front : ℕ) (body : List ℕ) → All (λ byte. byte < 256) body → 124 ≤ length body → body_fault front body ≡ None
         → (config : CellConfig) × IsCell config × IsWithinLimits config × (body ≡ body_bytes config) }
@@ -51,7 +51,7 @@ pub fn a_spelling_tells_its_configuration()
     ensures { (config : CellConfig) → IsCell config → IsWithinLimits config → config_of (spelling config) ≡ config }
 {}
 
-/// So do the bytes from the name on.
+/// The bytes from a configuration's name on tell it: each field stands where it is looked for.
 pub fn a_body_tells_its_configuration()
     ensures { (config : CellConfig) → IsCell config → IsWithinLimits config → config_of_body (body_bytes config) ≡ config }
 {}

@@ -19,6 +19,7 @@ pub fn is_name(name: &[u8; 32]) -> bool
     }
 }
 
+/// The index of the first byte that is 0, if there is one.
 fn first_zero(bytes: &[u8]) -> Option<usize>
     ensures place { result ≡ position is_zero bytes.now }
     ensures within { IfSome result (λ place. place < length bytes.now) }
@@ -26,18 +27,21 @@ fn first_zero(bytes: &[u8]) -> Option<usize>
     bytes.iter().position(|byte| *byte == 0)
 }
 
+/// Whether all bytes are printable characters, 0x20 to 0x7e.
 fn are_printable(bytes: &[u8]) -> bool
     ensures { result ≡ list_all is_printable bytes.now }
 {
     bytes.iter().all(|byte| *byte >= 0x20 && *byte <= 0x7e)
 }
 
+/// Whether all bytes are 0.
 fn are_zero(bytes: &[u8]) -> bool
     ensures { result ≡ list_all is_zero bytes.now }
 {
     bytes.iter().all(|byte| *byte == 0)
 }
 
+/// Refuses a count above `most`, by the part that it counts.
 fn within(part: Part, most: u32, found: u32) -> Result<(), ConfigFault>
     ensures ok { OnOk result (found ≤ most) }
     ensures past { OnErr result (most < found) }

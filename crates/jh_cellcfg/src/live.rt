@@ -13,6 +13,7 @@ pub struct Live {
 impl Live {
     ghost use Rattle.jh_cellcfg.specs.Lives.{id_of, has_id};
 
+    /// The id that the cell's configuration gives it.
     pub fn id(&self) -> u32
         ensures { result ≡ id_of self.now }
     {

@@ -118,6 +118,7 @@ fn check_start(bytes: &[u8]) -> Result<(), ConfigFault>
     Ok(())
 }
 
+/// Reads a cell's configuration, all of the bytes, or tells their first fault.
 fn read_whole(alloc: Global, bytes: &[u8]) -> Result<CellConfig, ConfigFault>
     ensures typed { IfOk result IsCell }
     ensures limits { IfOk result IsWithinLimits }
@@ -149,7 +150,8 @@ pub fn read_cell(alloc: Global, bytes: &[u8]) -> Result<CellConfig, ConfigFault>
     read_whole(alloc, bytes)
 }
 
-/// The bytes of the whole, by its header.
+/// How many bytes the whole configuration has, by its header; or the header's first fault, from the signature to the
+/// total.
 pub fn cell_size(header: &[u8; 132]) -> Result<u32, ConfigFault>
     ensures size { IfOk result (λ size. size ≡ header_size header.now) }
     ensures fault { fault_of result ≡ header_fault header.now }

@@ -9,6 +9,7 @@ pub struct Reader<'a> {
 }
 
 impl<'a> Reader<'a> {
+    /// Takes the byte at the front.
     pub fn u8(&mut self) -> u8
         requires { 1 ≤ length self.old.rest.now }
         ensures taken { self.old.rest.now ≡ result ∷ self.new.rest.now }
@@ -19,6 +20,7 @@ impl<'a> Reader<'a> {
         front[0]
     }
 
+    /// Takes two bytes at the front: their number, the lowest byte first.
     pub fn u16(&mut self) -> u16
         requires { 2 ≤ length self.old.rest.now }
         ensures taken { self.old.rest.now ≡ u16_bytes result ++ self.new.rest.now }
@@ -29,6 +31,7 @@ impl<'a> Reader<'a> {
         u16::from_le_bytes([front[0], front[1]])
     }
 
+    /// Takes four bytes at the front: their number, the lowest byte first.
     pub fn u32(&mut self) -> u32
         requires { 4 ≤ length self.old.rest.now }
         ensures taken { self.old.rest.now ≡ u32_bytes result ++ self.new.rest.now }
@@ -39,6 +42,7 @@ impl<'a> Reader<'a> {
         u32::from_le_bytes([front[0], front[1], front[2], front[3]])
     }
 
+    /// Takes eight bytes at the front: their number, the lowest byte first.
     pub fn u64(&mut self) -> u64
         requires { 8 ≤ length self.old.rest.now }
         ensures taken { self.old.rest.now ≡ u64_bytes result ++ self.new.rest.now }
@@ -51,7 +55,7 @@ impl<'a> Reader<'a> {
         ])
     }
 
-    /// So many bytes, as they are.
+    /// Takes `N` bytes at the front, and copies them as they are.
     pub fn array<const N: usize>(&mut self) -> [u8; N]
         requires { N ≤ length self.old.rest.now }
         ensures taken { self.old.rest.now ≡ result ++ self.new.rest.now }
@@ -63,7 +67,7 @@ impl<'a> Reader<'a> {
         bytes.copy_from_slice(front);
         bytes
     }
-    /// So many bytes, which stay where they are.
+    /// Takes `count` bytes at the front as a slice, without copying them.
     pub fn bytes(&mut self, count: usize) -> &'a [u8]
         requires { count ≤ length self.old.rest.now }
         ensures taken { self.old.rest.now ≡ result.now ++ self.new.rest.now }

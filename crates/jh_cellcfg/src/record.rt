@@ -281,7 +281,7 @@ impl Record for Header {
     }
 }
 
-/// So many records at the front.
+/// Takes `count` records at the front, one after the other.
 pub(crate) fn read_list<R: Record>(
     alloc: Global,
     count: usize,

@@ -19,7 +19,7 @@ pub struct Region {
 impl Region {
     ghost use Rattle.jh_cellcfg.specs.Regions.{has_flags, has_address, has_place, virt_end, phys_end, virt_meet, phys_meet, allows_unaligned, allows_width, is_page_mapped, is_comm, is_unshared, is_loadable, is_device, may_have_blocks, rights_of};
 
-    /// Whether all these flags are set.
+    /// Whether all these flags of the region are set.
     pub fn has(&self, flags: RegionFlags) -> bool
         ensures { result ≡ has_flags flags.0 self.now }
     {
@@ -40,21 +40,21 @@ impl Region {
         place >= self.phys_start && place - self.phys_start < self.size
     }
 
-    /// One past its last address.
+    /// One past the region's last address, without overflow.
     pub fn virt_end(&self) -> u128
         ensures { result ≡ virt_end self.now }
     {
         u128::from(self.virt_start) + u128::from(self.size)
     }
 
-    /// One past its last physical place, COMM_REGION aside.
+    /// One past the region's last physical place, without overflow and COMM_REGION aside.
     pub fn phys_end(&self) -> u128
         ensures { result ≡ phys_end self.now }
     {
         u128::from(self.phys_start) + u128::from(self.size)
     }
 
-    /// Its addresses.
+    /// The region's addresses: from `virt_start` on, before `virt_start + size`.
     pub fn addresses(&self) -> Range
         requires { virt_end self.now < 2 ^ 64 }
         ensures start { result.start ≡ self.now.virt_start }
@@ -66,7 +66,7 @@ impl Region {
         }
     }
 
-    /// Its physical places, COMM_REGION aside.
+    /// The region's physical places, COMM_REGION aside: from `phys_start` on, before `phys_start + size`.
     pub fn places(&self) -> Range
         requires { phys_end self.now < 2 ^ 64 }
         ensures start { result.start ≡ self.now.phys_start }
@@ -106,50 +106,51 @@ impl Region {
         self.virt_start % PAGE_SIZE == 0 && self.size % PAGE_SIZE == 0
     }
 
-    /// Whether its addresses lie in the cell's communication page.
+    /// Whether the region's addresses lie in the cell's communication page, by COMM_REGION.
     pub fn is_comm(&self) -> bool
         ensures { result ≡ is_comm self.now }
     {
         self.has(RegionFlags::COMM_REGION)
     }
 
-    /// Whether the cell holds its places for itself.
+    /// Whether the cell holds the region's places for itself: by neither COMM_REGION nor ROOTSHARED.
     pub fn is_unshared(&self) -> bool
         ensures { result ≡ is_unshared self.now }
     {
         !self.is_comm() && !self.has(RegionFlags::ROOTSHARED)
     }
 
-    /// Whether root keeps its places while the cell is loadable.
+    /// Whether root keeps the region's places while the cell is loadable, by LOADABLE.
     pub fn is_loadable(&self) -> bool
         ensures { result ≡ is_loadable self.now }
     {
         self.has(RegionFlags::LOADABLE)
     }
 
-    /// Whether it is memory of a device.
+    /// Whether the region is memory of a device, by IO.
     pub fn is_device(&self) -> bool
         ensures { result ≡ is_device self.now }
     {
         self.has(RegionFlags::IO)
     }
 
-    /// Whether blocks larger than a page may map it.
+    /// Whether blocks larger than a page may map the region: not by NO_HUGEPAGES.
     pub fn may_have_blocks(&self) -> bool
         ensures { result ≡ may_have_blocks self.now }
     {
         !self.has(RegionFlags::NO_HUGEPAGES)
     }
 
-    /// Whether an access to it, as a subpage region, may begin anywhere. Else it must begin at a
-    /// multiple of its width.
+    /// Whether an access to the region, as a subpage region, may begin anywhere, by IO_UNALIGNED. Else it must begin at
+    /// a multiple of its width.
     pub fn allows_unaligned(&self) -> bool
         ensures { result ≡ allows_unaligned self.now }
     {
         self.has(RegionFlags::IO_UNALIGNED)
     }
 
-    /// Whether it lets accesses of that many bytes through, as a subpage region.
+    /// Whether the region, as a subpage region, lets accesses of `width` bytes through: 1, 2, 4 or 8 by IO_8, IO_16,
+    /// IO_32 or IO_64, and of no other width.
     pub fn allows_width(&self, width: u8) -> bool
         ensures { result ≡ allows_width width self.now }
     {
@@ -162,7 +163,7 @@ impl Region {
         }
     }
 
-    /// What may be done with its bytes.
+    /// What may be done with the region's bytes, by READ, WRITE and EXECUTE.
     pub fn rights(&self) -> Rights
         ensures { result ≡ rights_of self.now }
     {

@@ -23,31 +23,35 @@ impl Writer {
         }
     }
 
+    /// Puts the byte at the end.
     pub fn u8(self, n: u8) -> Result<Writer, NoMemory>
         ensures { IfOk result (λ more. more.written.items ≡ self.written.items ++ u8_bytes n) }
     {
         self.bytes(&[n])
     }
 
+    /// Puts the number at the end in two bytes, the lowest first.
     pub fn u16(self, n: u16) -> Result<Writer, NoMemory>
         ensures { IfOk result (λ more. more.written.items ≡ self.written.items ++ u16_bytes n) }
     {
         self.bytes(&n.to_le_bytes())
     }
 
+    /// Puts the number at the end in four bytes, the lowest first.
     pub fn u32(self, n: u32) -> Result<Writer, NoMemory>
         ensures { IfOk result (λ more. more.written.items ≡ self.written.items ++ u32_bytes n) }
     {
         self.bytes(&n.to_le_bytes())
     }
 
+    /// Puts the number at the end in eight bytes, the lowest first.
     pub fn u64(self, n: u64) -> Result<Writer, NoMemory>
         ensures { IfOk result (λ more. more.written.items ≡ self.written.items ++ u64_bytes n) }
     {
         self.bytes(&n.to_le_bytes())
     }
 
-    /// Numbers of 32 bits, one after the other.
+    /// Puts the numbers at the end one after the other, each in four bytes, the lowest first.
     pub fn words(self, words: &[u32]) -> Result<Writer, NoMemory>
         ensures { IfOk result (λ more. more.written.items ≡ self.written.items ++ flat_map u32_bytes words.now) }
     {
@@ -58,7 +62,7 @@ impl Writer {
         Ok(more)
     }
 
-    /// The bytes as they are.
+    /// Puts the bytes at the end as they are.
     pub fn bytes(self, bytes: &[u8]) -> Result<Writer, NoMemory>
         ensures { IfOk result (λ more. more.written.items ≡ self.written.items ++ bytes.now) }
     {

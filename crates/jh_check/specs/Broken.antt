@@ -14,10 +14,11 @@ use Rattle.jh_check.specs.Findings.{finding_of}
 use Rattle.jh_check.specs.Laws.{IsItem}
 use Rattle.jh_check.specs.Clean.{IsDevice, IsShmem, AreLinked, IsGoodDevice, AgreesWith, IsSameSection, IsSoundBitmap}
 
--- an address, or a place, is in both
+-- an address is in both regions
 abbrev pub MeetAtAddress : Region → Region → Type 0
 MeetAtAddress x y = (at : ℕ) × (has_address x at ≡ true) × (has_address y at ≡ true)
 
+-- a place is in both regions
 abbrev pub MeetAtPlace : Region → Region → Type 0
 MeetAtPlace x y = (place : ℕ) × (has_place x place ≡ true) × (has_place y place ≡ true)
 
@@ -37,11 +38,11 @@ pub record IsLocated (all : List CellConfig) (at : Located) : Type 0 where
 abbrev pub AreOfOne : Located → Located → Type 0
 AreOfOne one other = (one.a ≡ other.a) × (one.r < other.r)
 
--- neither is a communication region
+-- neither of the two regions is a communication region, so that both have places
 abbrev pub HavePlaces : Region → Region → Type 0
 HavePlaces x y = (is_comm x ≡ false) × (is_comm y ≡ false)
 
--- two regions break a rule about two
+-- the two regions break a rule about two regions
 abbrev pub BreakTogether : Rule → Located → Located → Type 0
 BreakTogether VirtOverlap one other = AreOfOne one other × MeetAtAddress one.region other.region
 BreakTogether PhysOverlap one other = AreOfOne one other × HavePlaces one.region other.region × MeetAtPlace one.region other.region
@@ -55,7 +56,7 @@ BreakTogether _ one other = ⊥
 abbrev pub HasEarlierComm : Located → Type 0
 HasEarlierComm at = (s : ℕ) × (y : Region) × (s < at.r) × IsItem at.cell s y × (0 < y.size) × (is_comm y ≡ true)
 
--- a region that isn't empty breaks a rule about one
+-- the region, where it isn't empty, breaks a rule about one region
 abbrev pub BreaksAlone : Rule → Region → Located → Type 0
 BreaksAlone Hypervisor h at = (is_comm at.region ≡ false) × MeetAtPlace at.region h
 BreaksAlone OutOfRange h at =
@@ -84,7 +85,7 @@ pub record StandsAmong (all : List CellConfig) (a : ℕ) (cell : CellConfig) (n 
 
 -- ---- findings
 
--- the finding tells of two regions
+-- the finding tells of two regions that break the rule together
 pub record TellsOfTwo (rule : Rule) (all : List CellConfig) (finding : Finding) : Type 0 where
   pub one : Located
   pub other : Located
@@ -93,7 +94,7 @@ pub record TellsOfTwo (rule : Rule) (all : List CellConfig) (finding : Finding) 
   pub breaks : BreakTogether rule one other
   pub told : finding ≡ finding_of rule one.a one.r other.a other.r
 
--- of one region
+-- the finding tells of one region that isn't empty and breaks the rule
 pub record TellsOfOne (rule : Rule) (memory : Region) (all : List CellConfig) (finding : Finding) : Type 0 where
   pub at : Located
   pub is_at : IsLocated all at
@@ -101,12 +102,12 @@ pub record TellsOfOne (rule : Rule) (memory : Region) (all : List CellConfig) (f
   pub breaks : BreaksAlone rule memory at
   pub told : finding ≡ finding_of rule at.a at.r 0 0
 
--- of the hypervisor's memory
+-- the finding tells of the hypervisor's memory, which breaks the rule
 pub record TellsOfMemory (rule : Rule) (memory : Region) (finding : Finding) : Type 0 where
   pub breaks : BreaksMemory rule memory
   pub told : finding ≡ finding_of rule 16 0 0 0
 
--- of an ivshmem device
+-- the finding tells of an ivshmem device that breaks what is asked of it in its own cell or beside others
 pub record TellsOfDevice (all : List CellConfig) (finding : Finding) : Type 0 where
   pub a : ℕ
   pub cell : CellConfig
@@ -118,7 +119,7 @@ pub record TellsOfDevice (all : List CellConfig) (finding : Finding) : Type 0 wh
   pub breaks : (IsGoodDevice cell device → StandsAmong all a cell n device → ⊥)
   pub told : finding ≡ finding_of Shmem a n 0 0
 
--- of a cell's CPUs
+-- the finding tells of a cell whose CPU set has no byte other than 0, or has one behind the second
 pub record TellsOfCpus (all : List CellConfig) (finding : Finding) : Type 0 where
   pub a : ℕ
   pub cell : CellConfig
@@ -126,7 +127,7 @@ pub record TellsOfCpus (all : List CellConfig) (finding : Finding) : Type 0 wher
   pub breaks : IsSoundBitmap cell.cpu_set → ⊥
   pub told : finding ≡ finding_of NoCpu a 0 0 0
 
--- by its rule
+-- the finding tells what breaks the rule
 abbrev pub IsFoundBy : Rule → Region → List CellConfig → Finding → Type 0
 IsFoundBy VirtOverlap h all f = TellsOfTwo VirtOverlap all f
 IsFoundBy PhysOverlap h all f = TellsOfTwo PhysOverlap all f

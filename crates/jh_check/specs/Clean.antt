@@ -24,11 +24,11 @@ PlacesAreSingle system cells =
 abbrev pub EachRegion : SystemConfig → List CellConfig → (Region → Type 0) → Type 0
 EachRegion system cells P = EachCell system cells (λ cell. EachItem cell (λ r x. 0 < x.size → P x))
 
--- what may be executed may be read
+-- the region may be read where it may be executed
 abbrev pub IsReadable : Region → Type 0
 IsReadable region = has_flags 0x4 region ≡ true → has_flags 0x1 region ≡ true
 
--- whole pages of addresses have whole pages of places
+-- the places of a page-mapped region that is no communication region begin at a multiple of 4,096
 abbrev pub IsAligned : Region → Type 0
 IsAligned region = is_page_mapped region ≡ true → is_comm region ≡ false → region.phys_start % PAGE_SIZE ≡ 0
 
@@ -44,7 +44,7 @@ pub record IsSoundMemory (memory : Region) : Type 0 where
 abbrev pub RootIsIdentity : SystemConfig → Type 0
 RootIsIdentity system = EachItem system.root (λ r x. 0 < x.size → x.phys_start ≡ x.virt_start)
 
--- none of them is a communication region
+-- no region of root that isn't empty is a communication region
 abbrev pub RootHasNoComm : SystemConfig → Type 0
 RootHasNoComm system = EachItem system.root (λ r x. 0 < x.size → is_comm x ≡ false)
 
@@ -54,7 +54,7 @@ pub record IsCommPage (cell : CellConfig) (r : ℕ) (region : Region) : Type 0 w
   pub aligned : region.virt_start % PAGE_SIZE ≡ 0
   pub only : EachItem cell (λ s y. 0 < y.size → is_comm y ≡ true → s ≡ r)
 
--- so is that of each cell besides root
+-- the communication region of each cell besides root is one aligned page, and the cell's only one
 abbrev pub CommsArePages : SystemConfig → List CellConfig → Type 0
 CommsArePages system cells =
     EachOtherCell system cells (λ cell. EachItem cell (λ r x. 0 < x.size → is_comm x ≡ true → IsCommPage cell r x))
@@ -79,11 +79,11 @@ EachDevice cell P = (n : ℕ) (device : PciDevice) → IsDevice cell n device �
 abbrev pub EachTwoDevices : CellConfig → CellConfig → (ℕ → ℕ → PciDevice → PciDevice → Type 0) → Type 0
 EachTwoDevices one other P = (m n : ℕ) (d e : PciDevice) → IsDevice one m d → IsDevice other n e → P m n d e
 
--- it is an ivshmem device
+-- the device is an ivshmem device: its kind is 3
 abbrev pub IsShmem : PciDevice → Type 0
 IsShmem device = device.kind ≡ 3
 
--- two devices of different cells are linked
+-- the two devices are ivshmem devices with one `bdf`, and so are linked where they are of different cells
 pub record AreLinked (one other : PciDevice) : Type 0 where
   pub one_kind : IsShmem one
   pub other_kind : IsShmem other
@@ -95,14 +95,14 @@ pub record IsSection (cell : CellConfig) (device : PciDevice) (k : ℕ) (region 
   pub number : k < 2 + device.shmem_peers
   pub item : IsItem cell (device.shmem_regions_start + k) region
 
--- 1 to 16 pages, which are read alone
+-- the region may be a state table: it has 4,096 to 65,536 bytes, which may be read and not written
 pub record IsStateTable (region : Region) : Type 0 where
   pub some : 4096 ≤ region.size
   pub few : region.size ≤ 65536
   pub read : has_flags 0x1 region ≡ true
   pub no_write : has_flags 0x2 region ≡ false
 
--- no communication region, never root's while the cell is loaded, and whole pages
+-- the region may be a section: it is no communication region and not loadable, and it is page-mapped
 pub record IsSectionRegion (region : Region) : Type 0 where
   pub no_comm : is_comm region ≡ false
   pub no_loadable : is_loadable region ≡ false
@@ -110,14 +110,15 @@ pub record IsSectionRegion (region : Region) : Type 0 where
 
 -- what is asked of an ivshmem device in its own cell
 pub record IsGoodDevice (cell : CellConfig) (device : PciDevice) : Type 0 where
-  -- 2 to 16 peers, of which it is one
+  -- the device has 2 to 16 peers, and a number below them
   pub peers : 2 ≤ device.shmem_peers
   pub few : device.shmem_peers ≤ 16
   pub own : device.shmem_dev_id < device.shmem_peers
-  -- its registers are a page, the table of its vectors is half a kilobyte
+  -- the device has at most 16 vectors, and the BARs that go with them: a page of registers, and half a kilobyte for
+  -- vectors
   pub vectors : device.num_msix_vectors ≤ 16
   pub bars : device.bar_mask ≡ bars_of device
-  -- its sections exist
+  -- all sections of the device are regions of the cell
   pub exist : device.shmem_regions_start + (2 + device.shmem_peers) ≤ length cell.memory_regions
   pub table : (x : Region) → IsSection cell device 0 x → IsStateTable x
   pub plain : (k : ℕ) (x : Region) → IsSection cell device k x → IsSectionRegion x
@@ -128,6 +129,7 @@ pub record IsGoodDevice (cell : CellConfig) (device : PciDevice) : Type 0 where
   pub row : (j k : ℕ) (x y : Region) → j < k → IsSection cell device j x → IsSection cell device k y → 0 < x.size → 0 < y.size
       → ((i : ℕ) (z : Region) → j < i → i < k → IsSection cell device i z → z.size ≡ 0) → y.virt_start ≡ virt_end x
 
+-- each ivshmem device of each cell is as is asked of it in its own cell
 abbrev pub DevicesAreGood : SystemConfig → List CellConfig → Type 0
 DevicesAreGood system cells = EachCell system cells (λ cell. EachDevice cell (λ device. IsShmem device → IsGoodDevice cell device))
 
@@ -143,6 +145,7 @@ pub record AgreesWith (cell : CellConfig) (device : PciDevice) (other_cell : Cel
   pub numbers : device.shmem_dev_id ≢ other.shmem_dev_id
   pub memory : (k : ℕ) (x : Region) → IsSection cell device k x → (y : Region) × IsSection other_cell other k y × (x.size ≡ y.size) × (0 < x.size → x.phys_start ≡ y.phys_start)
 
+-- each two linked devices of different cells have as many peers, different numbers and the same memory
 abbrev pub LinksAgree : SystemConfig → List CellConfig → Type 0
 LinksAgree system cells =
     EachTwoCells system cells (λ a b. b < a) (λ one other. EachTwoDevices one other (λ m n d e. AreLinked d e → AgreesWith one d other e))
@@ -173,11 +176,12 @@ CellsShareAsTheySay system cells =
 
 -- ---- CPUs
 
--- a byte of the bitmap names a CPU, and none behind the second does: these are the CPUs from 16 on
+-- a byte of the CPU set isn't 0, and all behind the second are: those would name the CPUs from 16 on
 pub record IsSoundBitmap (set : List ℕ) : Type 0 where
   pub some : (i : ℕ) × (slice_index set i ≢ 0)
   pub few : (i : ℕ) → 2 ≤ i → slice_index set i ≡ 0
 
+-- each cell's CPU set has a byte that isn't 0, and none behind the second, where the CPUs from 16 on would be named
 abbrev pub CpusAreFew : SystemConfig → List CellConfig → Type 0
 CpusAreFew system cells = EachCell system cells (λ cell. IsSoundBitmap cell.cpu_set)
 
@@ -204,7 +208,7 @@ pub record IsClean (system : SystemConfig) (cells : List CellConfig) : Type 0 wh
 
 -- ---- what it gives
 
--- no address is one of both
+-- no address is one of both regions
 abbrev pub SharesNoAddress : Region → Region → Type 0
 SharesNoAddress x y = GiveTogetherOnlyIf x y ⊥
 
@@ -219,7 +223,8 @@ pub record IsSoundRegion (hypervisor region : Region) : Type 0 where
   pub readable : IsReadable region
   pub aligned : IsAligned region
 
--- each region of root, and each two of them
+-- root is sound: the hypervisor's memory and each region of root that isn't empty are, and no two regions of root have
+-- an address or a place together
 pub record IsSoundRoot (system : SystemConfig) : Type 0 where
   pub memory : IsSoundMemory system.hypervisor_memory
   pub regions : All (λ (r : Region). 0 < r.size → IsSoundRegion system.hypervisor_memory r) system.root.memory_regions
@@ -250,6 +255,7 @@ pub record MayJoin (cell : CellConfig) (device : PciDevice) : Type 0 where
   pub vectors : device.num_msix_vectors ≤ 16
   pub table : (x : Region) × IsItem cell device.shmem_regions_start x × (x.phys_start + 4 * device.shmem_dev_id + 4 ≤ phys_end x) × (phys_end x ≤ ADDRESS_END)
 
+-- each ivshmem device of each cell can be an endpoint
 abbrev pub EndpointsMayJoin : SystemConfig → List CellConfig → Type 0
 EndpointsMayJoin system cells = EachCell system cells (λ cell. EachDevice cell (λ device. IsShmem device → MayJoin cell device))
 

@@ -48,7 +48,7 @@ GiveTogetherOnlyIf x y P = (at : ℕ) → has_address x at ≡ true → has_addr
 abbrev pub MeetOnlyIf : Region → Region → Type 0 → Type 0
 MeetOnlyIf x y P = (place : ℕ) → has_place x place ≡ true → has_place y place ≡ true → P
 
--- no place is one of both
+-- no place is one of both regions
 abbrev pub SharesNoPlace : Region → Region → Type 0
 SharesNoPlace x y = MeetOnlyIf x y ⊥
 

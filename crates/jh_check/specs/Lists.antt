@@ -2,16 +2,16 @@
 use Rattle.std.specs.Prelude.{ℕ, ◌+◌, Bool, true, false, List, [], ◌∷◌, ◌++◌, take, if◌then◌else◌}
 use Rattle.jh_check.specs.declared.finding.Finding.{Finding}
 
--- what is found at each item in turn; they are numbered from `n` on
+-- what is found at each item in turn, where the items are numbered from `n` on
 unfoldable pub found_from : {X : Type 0} → (ℕ → X → List Finding) → ℕ → List X → List Finding
 found_from found n [] = []
 found_from found n (item ∷ items) = found n item ++ found_from found (n + 1) items
 
--- the finding, where the test says so
+-- the finding alone, where the test holds, and else none
 unfoldable pub only_if : Bool → Finding → List Finding
 only_if test finding = if test then finding ∷ [] else []
 
--- the first thousand
+-- the first thousand of the findings
 unfoldable pub capped : List Finding → List Finding
 capped found = take 1000 found
 

@@ -3,10 +3,11 @@ use Rattle.std.specs.Prelude.{◌≡◌, ◌^◌, ◌<◌, ◌≤◌, ℕ, List,
 use Rattle.jh_cellcfg.specs.declared.config.CellConfig.{CellConfig}
 use Rattle.jh_check.specs.declared.finding.Finding.{Finding}
 
--- what decides where all before it is equal
+-- the one number is below the other, or both are equal and the rest decides
 abbrev pub Then : ℕ → ℕ → Type 0 → Type 0
 Then m n rest = (m < n) ⊎ ((m ≡ n) × rest)
 
+-- the one finding precedes the other: by its rule, then the one cell, the other, the one item, the other
 abbrev pub Precedes : Finding → Finding → Type 0
 Precedes f g =
     Then f.number g.number (Then f.cell g.cell (Then f.other_cell g.other_cell (Then f.item g.item (f.other_item < g.other_item))))

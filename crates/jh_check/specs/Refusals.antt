@@ -14,20 +14,20 @@ use Rattle.jh_check.specs.Verdicts.{verdict_of}
 abbrev pub is_namesake : CellConfig → CellConfig → Bool
 is_namesake new cell = (cell.id == new.id) || pointwise nat_eq (name_of cell) (name_of new)
 
--- one of the cells has
+-- one of the cells has the new one's id or its name
 abbrev pub is_known : List CellConfig → CellConfig → Bool
 is_known cells new = list_any (is_namesake new) cells
 
--- a number below that one passes the test
+-- a number below the given one passes the test
 unfoldable pub any_below : (ℕ → Bool) → ℕ → Bool
 any_below test zero = false
 any_below test (suc n) = any_below test n || test n
 
--- the CPU is named, and mustn't be
+-- the set names the CPU, which may not be given away
 abbrev pub is_beyond : (ℕ → Bool) → List ℕ → ℕ → Bool
 is_beyond may set cpu = is_cpu_set set cpu && not (may cpu)
 
--- a CPU is; those past the set's end aren't named
+-- the set names a CPU that may not be given away; those past the set's end aren't named
 unfoldable pub names_beyond : (ℕ → Bool) → List ℕ → Bool
 names_beyond may set = any_below (is_beyond may set) (8 * length set)
 
@@ -35,7 +35,7 @@ names_beyond may set = any_below (is_beyond may set) (8 * length set)
 abbrev pub nobody : ℕ → Bool
 nobody cpu = false
 
--- by what the check says of the new cell
+-- the number that the check's verdict refuses the new cell with, or else what other causes say
 abbrev pub by_check : NewCell → Option ℤ → Option ℤ
 by_check Invalid rest = Some EINVAL
 by_check Busy rest = Some EBUSY
@@ -49,7 +49,7 @@ refusal_of system live new may pages pool =
     else (if names_beyond may new.cpu_set then Some EBUSY
     else by_check (verdict_of system live new) (if nat_lt pool pages then Some ENOMEM else None))
 
--- nothing of it holds: no namesake lives, the caller may give away each CPU that is named, the check finds nothing
+-- the new cell is accepted: no namesake lives, the caller may give away each CPU that is named, the check finds nothing
 -- that names the new cell, and the pages suffice
 pub record IsAccepted (system : SystemConfig) (live : List CellConfig) (new : CellConfig) (may : ℕ → Bool) (pages pool : ℕ) : Type 0 where
   pub unknown : is_known (system.root ∷ live) new ≡ false

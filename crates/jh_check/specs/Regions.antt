@@ -18,15 +18,15 @@ pub record Spot : Type 0 where
   pub item : ℕ
   pub region : Region
 
--- both are shared with root
+-- both regions are shared with root
 abbrev pub both_shared : Region → Region → Bool
 both_shared one other = has_flags 0x80 one && has_flags 0x80 other
 
--- neither is a communication region, and a place is in both
+-- neither of the two regions is a communication region, and a place is in both
 abbrev pub share_places : Region → Region → Bool
 share_places one other = not (is_comm one) && (not (is_comm other) && phys_meet one other)
 
--- a subpage region that the cell holds unshared, and a page-mapped region with one of its places
+-- the one region is a subpage region that is held unshared, and the other a page-mapped region with one of its places
 abbrev pub takes_pages : Region → Region → Bool
 takes_pages one other = is_unshared one && (not (is_page_mapped one) && (is_page_mapped other && phys_meet one other))
 
@@ -43,7 +43,7 @@ pair_breaks CellsOverlap one other =
     && (nat_lt one.cell other.cell && (share_places one.region other.region && (not (both_shared one.region other.region) && not (are_same_section one.config one.item other.config other.item))))
 pair_breaks _ one other = false
 
--- a communication region that counts
+-- the region is a communication region that counts: it has a size
 abbrev pub is_counted_comm : Region → Bool
 is_counted_comm region = has_size region && is_comm region
 
@@ -52,7 +52,7 @@ abbrev pub is_misshapen : List Region → Region → Bool
 is_misshapen earlier region =
     not (region.size == PAGE_SIZE) || (not (region.virt_start % PAGE_SIZE == 0) || list_any is_counted_comm earlier)
 
--- it ends past the addresses, or its places do
+-- the region ends past the addresses, or its places do where it has any
 abbrev pub is_out_of_range : Region → Bool
 is_out_of_range region = nat_lt ADDRESS_END (virt_end region) || (not (is_comm region) && nat_lt ADDRESS_END (phys_end region))
 
@@ -70,6 +70,7 @@ breaks_alone ExecuteWithoutRead h cell earlier region = has_flags 0x4 region && 
 breaks_alone PhysAlign h cell earlier region = is_page_mapped region && (not (is_comm region) && not (region.phys_start % PAGE_SIZE == 0))
 breaks_alone _ h cell earlier region = false
 
+-- the region has a size, and breaks the rule about one region
 unfoldable pub region_breaks : Rule → Region → ℕ → List Region → Region → Bool
 region_breaks rule h cell earlier region = has_size region && breaks_alone rule h cell earlier region
 
@@ -77,7 +78,7 @@ region_breaks rule h cell earlier region = has_size region && breaks_alone rule 
 abbrev pub most_memory : ℕ
 most_memory = 64 * 2 ^ 20
 
--- the hypervisor's memory is empty, above that, or ends past the places; or isn't whole pages
+-- the hypervisor's memory breaks the rule: it is empty, above 64 MiB, or ends past the places; or it isn't whole pages
 unfoldable pub hypervisor_breaks : Rule → Region → Bool
 hypervisor_breaks OutOfRange h = (h.size == 0) || (nat_lt most_memory h.size || nat_lt ADDRESS_END (phys_end h))
 hypervisor_breaks PhysAlign h = has_size h && (not (h.phys_start % PAGE_SIZE == 0) || not (h.size % PAGE_SIZE == 0))

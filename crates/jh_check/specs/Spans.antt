@@ -27,12 +27,12 @@ joins SubpageTaken a b = not (a == 0) && (b == 0)
 joins CellsOverlap a b = nat_lt 0 a && nat_lt a b
 joins _ a b = false
 
--- its addresses, or else its places
+-- the region's span as the rule compares it: its addresses, or else its places
 abbrev pub span_of : Rule → ℕ → Region → Span
 span_of VirtOverlap item region = record { start = region.virt_start; end = virt_end region; item = item }
 span_of _ item region = record { start = region.phys_start; end = phys_end region; item = item }
 
--- each region that takes part has its span among them
+-- each region that takes part has its span among these
 abbrev pub HasEach : Rule → List Region → List Span → Type 0
 HasEach rule regions spans =
     (r : ℕ) (d : Region) → r < length regions → takes_part rule (slice_index_or regions r d) ≡ true → Contains spans (span_of rule r (slice_index_or regions r d))
@@ -41,16 +41,16 @@ HasEach rule regions spans =
 abbrev pub HasOnly : List Region → List Span → Type 0
 HasOnly regions spans = (x : Span) → Contains spans x → x.item < length regions
 
--- the first of them end behind their starts, and each ends before those behind it begin
+-- the first of the spans end nowhere before their starts, and each ends before those behind it begin
 pub record AreApartTo (spans : List Span) (n : ℕ) : Type 0 where
   pub ordered : (i : ℕ) (d : Span) → i < n → (slice_index_or spans i d).start ≤ (slice_index_or spans i d).end
   pub apart : (i j : ℕ) (d : Span) → i < j → j < n → (slice_index_or spans i d).end ≤ (slice_index_or spans j d).start
 
--- all of them
+-- the spans end nowhere before their starts, and each ends before those behind it begin
 abbrev pub AreApart : List Span → Type 0
 AreApart spans = AreApartTo spans (length spans)
 
--- it begins at the one number or behind it, and ends at the other or before it
+-- the span begins at the one number or behind it, and ends at the other or before it
 pub record LiesWithin (span : Span) (low high : ℕ) : Type 0 where
   pub starts : low ≤ span.start
   pub ends : span.end ≤ high
@@ -61,16 +61,17 @@ pub record StandApartTo (rule : Rule) (regions : List Region) (n end : ℕ) : Ty
   pub apart : (i j : ℕ) (d : Region) → i < j → j < n → takes_part rule (slice_index_or regions i d) ≡ true → takes_part rule (slice_index_or regions j d) ≡ true
       → (span_of rule i (slice_index_or regions i d)).end ≤ (span_of rule j (slice_index_or regions j d)).start
 
--- of all regions
+-- of the regions that take part each begins behind those before it
 abbrev pub StandApart : Rule → List Region → Type 0
 StandApart rule regions =
     (i j : ℕ) (d : Region) → i < j → j < length regions → takes_part rule (slice_index_or regions i d) ≡ true → takes_part rule (slice_index_or regions j d) ≡ true
     → (span_of rule i (slice_index_or regions i d)).end ≤ (span_of rule j (slice_index_or regions j d)).start
 
--- the two have a number in common
+-- the two spans, where neither is empty, have a number in common
 abbrev pub spans_meet : Span → Span → Bool
 spans_meet one other = nat_lt one.start other.end && nat_lt other.start one.end
 
+-- the spans are those of the regions that take part, each of one of the regions, and stand apart
 pub record IsIndex (rule : Rule) (regions : List Region) (spans : List Span) : Type 0 where
   pub each : HasEach rule regions spans
   pub only : HasOnly regions spans

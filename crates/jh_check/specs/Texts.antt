@@ -5,10 +5,11 @@ use Rattle.jh_check.specs.declared.finding.Finding.{Finding}
 use Rattle.jh_check.specs.declared.rule.Rule.{Rule}
 use Rattle.jh_check.specs.declared.rule.Rule.TheVariants.{VirtOverlap, PhysOverlap, Hypervisor, OutOfRange, RootNotIdentity, CommInRoot, CommShape, ExecuteWithoutRead, SubpageTaken, CellsOverlap, Shmem, NoCpu, PhysAlign}
 
--- the rule of that number
+-- the rule of that number, if there is one
 abbrev pub rule_of : ℕ → Option Rule
 rule_of number = if number == 0 || nat_lt 13 number then None else Some (slice_index_or rules_in_order (number - 1) VirtOverlap)
 
+-- the name of the rule
 abbrev pub name_of : Rule → List ℕ
 name_of VirtOverlap = codes "VirtOverlap"
 name_of PhysOverlap = codes "PhysOverlap"
@@ -24,11 +25,11 @@ name_of Shmem = codes "Shmem"
 name_of NoCpu = codes "NoCpu"
 name_of PhysAlign = codes "PhysAlign"
 
--- a region of a cell, or the hypervisor's memory
+-- the words for a region of a cell, or for the hypervisor's memory
 abbrev pub place_text : ℕ → ℕ → List ℕ
 place_text cell item = if cell == 16 then codes "h" else decimal cell ++ (codes "." ++ decimal item)
 
--- what the rule is broken by: two regions, a device, a cell, or a region
+-- the words for what breaks the rule: two regions, a device, a cell, or a region
 abbrev pub items_text : Rule → Finding → List ℕ
 items_text VirtOverlap f = place_text f.cell f.item ++ (codes " " ++ place_text f.other_cell f.other_item)
 items_text PhysOverlap f = place_text f.cell f.item ++ (codes " " ++ place_text f.other_cell f.other_item)
@@ -38,10 +39,11 @@ items_text Shmem f = decimal f.cell ++ (codes ".d" ++ decimal f.item)
 items_text NoCpu f = decimal f.cell
 items_text _ f = place_text f.cell f.item
 
--- `NUMBER NAME ITEMS`; a number that no rule has is told alone
+-- the words for a finding of the rule: `NUMBER NAME ITEMS`; a number that no rule has is told alone
 abbrev pub text_by : Option Rule → Finding → List ℕ
 text_by None f = decimal f.number
 text_by (Some rule) f = decimal f.number ++ (codes " " ++ (name_of rule ++ (codes " " ++ items_text rule f)))
 
+-- the words for a finding, without a line feed
 abbrev pub finding_text : Finding → List ℕ
 finding_text f = text_by (rule_of f.number) f

@@ -9,23 +9,27 @@ use Rattle.jh_check.specs.declared.verdict.NewCell.{NewCell}
 use Rattle.jh_check.specs.declared.verdict.NewCell.TheVariants.{Clean, Invalid, Busy}
 use Rattle.jh_check.specs.Findings.{findings}
 
--- the finding is about that cell, which isn't root
+-- the finding names the cell of that number, which isn't root
 abbrev pub names : ℕ → Finding → Bool
 names cell finding = (finding.cell == cell) || (finding.other_cell == cell)
 
--- it says that two cells have a place in common
+-- the finding says that two cells have a place in common
 abbrev pub is_overlap : Finding → Bool
 is_overlap finding = finding.number == 10
 
+-- the finding names the cell, and isn't that two cells have a place in common
 abbrev pub is_invalid : ℕ → Finding → Bool
 is_invalid cell finding = names cell finding && not (is_overlap finding)
 
+-- the finding names the cell, and is that two cells have a place in common
 abbrev pub is_busy : ℕ → Finding → Bool
 is_busy cell finding = names cell finding && is_overlap finding
 
+-- the verdict by whether a finding makes the new cell invalid, and else whether one makes it busy
 abbrev pub verdict_by : Bool → Bool → NewCell
 verdict_by invalid busy = if invalid then Invalid else (if busy then Busy else Clean)
 
+-- the verdict on a new cell, which comes last: by the findings that name it
 unfoldable pub verdict_of : SystemConfig → List CellConfig → CellConfig → NewCell
 verdict_of system live new =
     let all = findings system (live ++ new ∷ []) in

@@ -54,7 +54,7 @@ pub(crate) fn is_marked(marks: &[u8], device: &PciDevice) -> bool
     marks[bdf_of(device)] != 0
 }
 
-/// Whether it is marked by the cell of that number.
+/// Whether the bdf of the device is marked by the cell of that number.
 pub(crate) fn is_marked_by(marks: &[u8], cell: u32, device: &PciDevice) -> bool
     requires length { length marks.now ≡ 65536 }
     requires few { cell < 255 }

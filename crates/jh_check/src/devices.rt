@@ -15,14 +15,14 @@ const PAGE_BAR: u32 = 0xffff_f000;
 
 const VECTORS_BAR: u32 = 0xffff_fe00;
 
-/// Whether the devices, which are of different cells, are linked.
+/// Whether the devices, which are of different cells, are linked: both are ivshmem devices, with one bdf.
 pub(crate) fn are_linked(one: &PciDevice, other: &PciDevice) -> bool
     ensures { result ≡ are_linked one.now other.now }
 {
     one.is_shmem() && other.is_shmem() && one.bdf == other.bdf
 }
 
-/// How many sections the device has.
+/// How many sections the device has: the state table, the read/write section, and an output for each peer.
 pub(crate) fn section_count(device: &PciDevice) -> usize
     ensures value { result ≡ section_count device.now }
     ensures bound { result < 258 }
@@ -30,7 +30,7 @@ pub(crate) fn section_count(device: &PciDevice) -> usize
     2 + usize::from(device.shmem_peers)
 }
 
-/// Whether the region of that number is one of its sections.
+/// Whether the region of the number `item` is one of the device's sections.
 fn is_section(device: &PciDevice, item: usize) -> bool
     ensures { result ≡ is_section device.now item }
 {
@@ -50,7 +50,7 @@ fn are_sections_of(item: usize, other_item: usize, one: &PciDevice, other: &PciD
             == other_item - other.shmem_regions_start as usize
 }
 
-/// Whether the other region is a section of one of these devices at the same offset.
+/// Whether the two regions are sections at the same offset of the one device and of one of the others, linked with it.
 fn any_section(item: usize, one: &PciDevice, other_item: usize, others: &[PciDevice]) -> bool
     ensures { result ≡ list_any (λ e. are_sections_of item other_item one.now e) others.now }
 {
@@ -59,7 +59,8 @@ fn any_section(item: usize, one: &PciDevice, other_item: usize, others: &[PciDev
         .any(|other| are_sections_of(item, other_item, one, other))
 }
 
-/// The same, where the region is a section of the one device at all: most aren't.
+/// Whether the two regions are sections at the same offset of the one device and of one of the others, linked with it.
+/// Most regions are no section of the one, and are told so at once.
 fn has_section(item: usize, one: &PciDevice, other_item: usize, others: &[PciDevice]) -> bool
     ensures { result ≡ list_any (λ e. are_sections_of item other_item one.now e) others.now }
 {
@@ -85,7 +86,8 @@ pub(crate) fn are_same_section(
     ))
 }
 
-/// Those of the device's sections that exist.
+/// The device's sections among the regions of its cell: the 2 + `shmem_peers` from `shmem_regions_start` on, as far as
+/// these exist.
 pub fn sections_of<'a>(regions: &'a [Region], device: &PciDevice) -> &'a [Region]
     ensures { result.now ≡ sections_of regions.now device.now }
 {
@@ -94,12 +96,14 @@ pub fn sections_of<'a>(regions: &'a [Region], device: &PciDevice) -> &'a [Region
     &rest[..section_count(device).min(rest.len())]
 }
 
+/// Whether the device has 2 to 16 peers, and its number among them is below how many they are.
 fn has_good_peers(device: &PciDevice) -> bool
     ensures { result ≡ has_good_peers device.now }
 {
     2 <= device.shmem_peers && device.shmem_peers <= 16 && device.shmem_dev_id < device.shmem_peers
 }
 
+/// Whether the device has at most 16 vectors, and the masks of the BARs that go with them.
 fn has_good_bars(device: &PciDevice) -> bool
     ensures { result ≡ has_good_bars device.now }
 {
@@ -111,12 +115,14 @@ fn has_good_bars(device: &PciDevice) -> bool
     device.num_msix_vectors <= 16 && device.bar_mask == [PAGE_BAR, vectors, 0, 0, 0, 0]
 }
 
+/// Whether all of the device's sections are regions of its cell.
 fn has_all_sections(regions: &[Region], device: &PciDevice) -> bool
     ensures { result ≡ has_all_sections regions.now device.now }
 {
     device.shmem_regions_start as usize + section_count(device) <= regions.len()
 }
 
+/// Whether the region may be a state table: 4,096 to 65,536 bytes, which may be read and not written.
 fn is_good_table(region: &Region) -> bool
     ensures { result ≡ is_good_table region.now }
 {
@@ -126,6 +132,7 @@ fn is_good_table(region: &Region) -> bool
         && !region.has(RegionFlags::WRITE)
 }
 
+/// Whether there is a first section, and it may be a state table.
 fn has_good_table(sections: &[Region]) -> bool
     ensures { result ≡ has_good_table sections.now }
 {
@@ -135,26 +142,28 @@ fn has_good_table(sections: &[Region]) -> bool
     }
 }
 
+/// Whether the region may be a section: page-mapped, and neither a communication region nor loadable.
 fn is_section_region(region: &Region) -> bool
     ensures { result ≡ is_section_region region.now }
 {
     !region.is_comm() && !region.is_loadable() && region.is_page_mapped()
 }
 
+/// Whether each of the sections is page-mapped, and neither a communication region nor loadable.
 fn are_plain(sections: &[Region]) -> bool
     ensures { result ≡ list_all is_section_region sections.now }
 {
     sections.iter().all(is_section_region)
 }
 
-/// Whether the output section of that peer is the device's own, or can't be written.
+/// Whether the output section of that peer is the device's own, or lacks WRITE.
 fn is_read_only(own: u8, peer: usize, section: &Region) -> bool
     ensures { result ≡ (peer == own || not (has_flags 0x2 section.now)) }
 {
     peer == usize::from(own) || !section.has(RegionFlags::WRITE)
 }
 
-/// Whether the output sections of other peers can't be written.
+/// Whether the output sections of the peers other than `own` lack WRITE.
 fn are_read_only(own: u8, sections: &[Region]) -> bool
     ensures { result ≡ are_read_only own 0 sections.now }
 {
@@ -199,7 +208,7 @@ fn follows(mut end: u128, sections: &[Region]) -> bool
     true
 }
 
-/// Whether those that have a size follow each other without a gap.
+/// Whether the sections that have a size follow each other without a gap in addresses.
 fn are_in_a_row(sections: &[Region]) -> bool
     ensures { result ≡ are_in_a_row sections.now }
 {
@@ -211,7 +220,7 @@ fn are_in_a_row(sections: &[Region]) -> bool
     true
 }
 
-/// Whether an earlier ivshmem device of the cell has its number.
+/// Whether an earlier ivshmem device of the cell has the device's bdf.
 fn is_twice(earlier: &[PciDevice], device: &PciDevice) -> bool
     ensures { result ≡ is_twice earlier.now device.now }
 {
@@ -220,7 +229,7 @@ fn is_twice(earlier: &[PciDevice], device: &PciDevice) -> bool
         .any(|other| other.is_shmem() && other.bdf == device.bdf)
 }
 
-/// The same, where `repeated` says that one may.
+/// Whether an earlier ivshmem device of the cell has the device's bdf, where `repeated` says that one may have it.
 fn is_repeated(earlier: &[PciDevice], device: &PciDevice, repeated: bool) -> bool
     requires { repeated ≡ false → is_twice earlier.now device.now ≡ false }
     ensures { result ≡ is_twice earlier.now device.now }
@@ -228,13 +237,14 @@ fn is_repeated(earlier: &[PciDevice], device: &PciDevice, repeated: bool) -> boo
     repeated && is_twice(earlier, device)
 }
 
+/// Whether the two sections are of one size and, unless it is 0, at one physical place.
 fn is_same_memory(one: &Region, other: &Region) -> bool
     ensures { result ≡ is_same_memory one.now other.now }
 {
     one.size == other.size && (one.size == 0 || one.phys_start == other.phys_start)
 }
 
-/// Whether all at the same offset are the same memory.
+/// Whether the sections are as many as the others, and those at the same offset are the same memory.
 pub(crate) fn are_same_memory(ones: &[Region], others: &[Region]) -> bool
     ensures { result ≡ are_same_memory ones.now others.now }
 {
@@ -267,7 +277,7 @@ fn agrees_with(
             )
 }
 
-/// Whether each device of a cell with a lower number does.
+/// Whether each device of that cell, which has a lower number, fits this one, if they are linked.
 fn agrees_with_cell(regions: &[Region], device: &PciDevice, cell: &CellConfig) -> bool
     ensures { result ≡ list_all (λ other. agrees_with regions.now device.now cell.now.memory_regions other) cell.now.pci_devices }
 {
@@ -279,7 +289,7 @@ fn agrees_with_cell(regions: &[Region], device: &PciDevice, cell: &CellConfig) -
     ))
 }
 
-/// Whether the device of that seat does, if it is of a cell with a lower number than that.
+/// Whether the device of that seat fits this one, if they are linked and it is of a cell below that number.
 fn agrees_with_seat(
     setup: &Setup,
     number: u32,
@@ -304,7 +314,7 @@ fn agrees_with_seat(
         )
 }
 
-/// Whether those of these seats do.
+/// Whether the devices of these seats that are of cells below that number fit this one, if they are linked.
 fn agrees_with_seats(
     setup: &Setup,
     number: u32,
@@ -323,7 +333,8 @@ fn agrees_with_seats(
     true
 }
 
-/// Whether each device of each cell with a lower number than that does, as the seats of all cells' devices tell.
+/// Whether each device of the cells below that number fits this one, if they are linked, as the seats of all cells'
+/// devices tell.
 pub(crate) fn agrees_with_linked(
     setup: &Setup,
     number: u32,
@@ -339,8 +350,8 @@ pub(crate) fn agrees_with_linked(
     agrees_with_seats(setup, number, regions, device, at_bdf(seats, device.bdf))
 }
 
-/// Whether each device of each cell with a lower number than that does. `doubted` says that one of them
-/// may not.
+/// Whether each device of the cells below that number fits this one, if they are linked. `doubted` says that one of
+/// them may not.
 fn agrees_with_lower(
     setup: &Setup,
     number: u32,
@@ -375,9 +386,9 @@ fn has_good_sections(device: &PciDevice, sections: &[Region]) -> bool
         && are_in_a_row(sections)
 }
 
-/// Whether the device is an ivshmem device that breaks a rule. It is of `cell`, which has that number;
-/// `earlier` are the devices before it there, of which `repeated` says that one may have its number, and `doubted` that one
-/// of a cell with a lower number may not fit it.
+/// Whether the device is an ivshmem device that breaks a rule. It is of `cell`, which has that number; `earlier` are
+/// the devices before it there, of which `repeated` says that one may have its bdf, and `doubted` that one of a cell
+/// with a lower number may not fit it.
 #[tactic(auto, unfolding(crate::specs::Devices::device_breaks))]
 pub(crate) fn device_breaks(
     setup: &Setup,
@@ -403,6 +414,7 @@ pub(crate) fn device_breaks(
             && agrees_with_lower(setup, number, regions, device, doubted))
 }
 
+/// Whether all bytes are 0.
 pub(crate) fn are_zero(bytes: &[u8]) -> bool
     ensures { result ≡ list_all is_zero bytes.now }
 {

@@ -75,7 +75,7 @@ fn are_like(setup: &Setup, regions: &[Region], device: &PciDevice, run: &[Seat])
     true
 }
 
-/// Whether they are all like the device of that seat.
+/// Whether the devices of these seats are all like that of the seat `first`, and no two have one number.
 fn are_like_at(setup: &Setup, first: &Seat, run: &[Seat]) -> bool
     requires { length setup.now.cells.now ≤ 15 }
     ensures { result ≡ true → FitEachOther (cells_of setup.now) run.now }
@@ -105,7 +105,7 @@ fn fit_each_other(setup: &Setup, run: &[Seat]) -> bool
     }
 }
 
-/// Tells of no bdf yet.
+/// A mark for each bdf, none of which is set.
 fn none_sure(alloc: Global) -> Result<Vec<bool>, NoMemory>
     ensures length { IfOk result (λ sure. length sure.items ≡ 65536) }
     ensures none { IfOk result (λ sure. (bdf : ℕ) → slice_index_or sure.items bdf false ≡ false) }
@@ -114,7 +114,7 @@ fn none_sure(alloc: Global) -> Result<Vec<bool>, NoMemory>
     Ok(sure)
 }
 
-/// Tells of that bdf, if the devices there are found to fit each other.
+/// Marks the bdf, if the devices there are found to fit each other.
 fn look(setup: &Setup, seats: &[Seat], bdf: u16, sure: &mut Vec<bool>)
     requires count { length setup.now.cells.now ≤ 15 }
     requires order { AreByBdf seats.now }
@@ -154,7 +154,7 @@ pub(crate) fn sure_fits(alloc: Global, setup: &Setup, seats: &[Seat]) -> Result<
     Ok(sure)
 }
 
-/// Whether those at the bdf of the device are.
+/// Whether the devices at the bdf of this one are known to fit each other.
 pub(crate) fn is_sure(sure: &[bool], device: &PciDevice) -> bool
     requires { length sure.now ≡ 65536 }
     ensures { result ≡ slice_index_or sure.now device.now.bdf false }

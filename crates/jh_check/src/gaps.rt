@@ -132,7 +132,7 @@ fn is_near(reaches: &[Reach], span: Span) -> bool
     !lies_in(gap, span)
 }
 
-/// Whether one of those may reach into the extents; only then may a region within them break the rule with one.
+/// Whether one of the reaches may extend into the extents; only then may a region within them break the rule with one.
 pub(crate) fn may_reach_into(reaches: &Reaches, extents: Extents) -> bool
     requires any { IsRising reaches.now.any.items }
     requires unshared { IsRising (unshared_of reaches.now) }
@@ -175,7 +175,8 @@ fn may_reach(reaches: &[Reach], span: Span, gap: &mut Gap) -> bool
     !lies_in(*gap, span)
 }
 
-/// The same of those by which a region is looked for that may meet shared ones, unless the span lies in the gap.
+/// Whether the span of a region that may meet shared ones may be reached. The gap becomes one near the span, unless the
+/// span lies in it already.
 fn may_reach_unshared(reaches: &Reaches, span: Span, gap: &mut Gap) -> bool
     requires rising { IsRising (unshared_of reaches.now) }
     requires gap { IsGap (unshared_of reaches.now) gap.old }

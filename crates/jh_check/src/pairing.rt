@@ -98,7 +98,8 @@ fn between(
     Ok(())
 }
 
-/// The same, unless the one cell's regions lie all beyond what the other's reach. `extents` have them all.
+/// Each region of a cell with each of another, unless the one cell's regions lie all beyond what the other's reach.
+/// `extents` have all regions of the one cell.
 fn compare(
     alloc: Global,
     found: &mut Seq<Finding>,
@@ -120,7 +121,8 @@ fn compare(
     between(found, rule, pair, partners.as_slice(), reaches)
 }
 
-/// The same, if the rule speaks of the two cells and there is room for a finding.
+/// Each region of a cell with each of another, if the rule speaks of the two cells and there is room for a finding.
+/// `extents` have all regions of the one cell.
 #[tactic(auto, using(crate::proofs::ListLemmas::append_nil, crate::proofs::ListLemmas::capped_full))]
 fn join(
     alloc: Global,
@@ -154,7 +156,7 @@ fn stands_alone(rule: Rule, reaches: &Reaches) -> bool
     is_within(rule) && reaches.any.is_empty()
 }
 
-/// The regions of a cell with those of each.
+/// The regions of a cell with those of each cell, itself too.
 fn from_cell(
     alloc: Global,
     found: &mut Seq<Finding>,

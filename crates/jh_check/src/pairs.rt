@@ -17,20 +17,21 @@ pub(crate) struct Site<'a> {
     pub(crate) region: &'a Region,
 }
 
-/// Whether neither is a communication region and a place is in both.
+/// Whether neither region is a communication region and a place is in both.
 fn share_places(one: &Region, other: &Region) -> bool
     ensures { result ≡ share_places one.now other.now }
 {
     !one.is_comm() && !other.is_comm() && one.phys_meets(other)
 }
 
-/// Whether the one is an unshared subpage region with a place of the other's pages.
+/// Whether the one region is an unshared subpage region that has a place of the other, which is page-mapped.
 fn takes_pages(one: &Region, other: &Region) -> bool
     ensures { result ≡ takes_pages one.now other.now }
 {
     one.is_unshared() && !one.is_page_mapped() && other.is_page_mapped() && one.phys_meets(other)
 }
 
+/// Whether both regions are shared with root, by ROOTSHARED.
 fn both_shared(one: &Region, other: &Region) -> bool
     ensures { result ≡ both_shared one.now other.now }
 {

@@ -147,7 +147,8 @@ fn of_pairs(alloc: Global, spans: &[Span]) -> Result<Vec<Reach>, NoMemory>
     Ok(reaches)
 }
 
-/// The same of the cell's regions; none, where these stand apart.
+/// How far two of the cell's regions reach that begin no later than a third, for each that begins before their end;
+/// none, where the regions stand apart.
 fn of_own(
     alloc: Global,
     rule: Rule,
@@ -195,7 +196,8 @@ fn may_pass(rule: Rule, regions: &[Region]) -> bool {
     }
 }
 
-/// How far those do that aren't shared. None, where the rule lets no region meet those that are, or none is.
+/// How far the cell's regions reach that aren't shared. None, where the rule lets no region meet those that are, or
+/// none is.
 fn of_unshared(
     alloc: Global,
     rule: Rule,
@@ -243,7 +245,7 @@ pub(crate) fn measure(
     Ok(Reaches { any, unshared })
 }
 
-/// Those by which a region is looked for that may meet shared ones.
+/// The reaches by which a region is looked for that may meet shared ones.
 pub(crate) fn unshared_of(reaches: &Reaches) -> &[Reach]
     ensures { result.now ≡ unshared_of reaches.now }
 {
@@ -253,7 +255,7 @@ pub(crate) fn unshared_of(reaches: &Reaches) -> &[Reach]
     }
 }
 
-/// Those by which the region is looked for.
+/// The reaches by which the region is looked for.
 fn reaches_for<'a>(reaches: &'a Reaches, rule: Rule, region: &Region) -> &'a [Reach]
     ensures { result.now ≡ reaches_for rule region.now reaches.now }
 {
@@ -264,7 +266,7 @@ fn reaches_for<'a>(reaches: &'a Reaches, rule: Rule, region: &Region) -> &'a [Re
     }
 }
 
-/// How far the first `n` of them reach.
+/// How far the first `n` of the reaches go; 0 where `n` is 0.
 pub(crate) fn end_before(reaches: &[Reach], n: usize) -> u128
     requires { n ≤ length reaches.now }
     ensures { 0 < n → (d : Reach) → (slice_index_or reaches.now (n - 1) d).end ≤ result }
@@ -272,7 +274,7 @@ pub(crate) fn end_before(reaches: &[Reach], n: usize) -> u128
     if n == 0 { 0 } else { reaches[n - 1].end }
 }
 
-/// Where the one behind the first `n` of them begins, if there is one.
+/// Where the reach behind the first `n` of them begins; 2^128 - 1 where there is none.
 pub(crate) fn start_behind(reaches: &[Reach], n: usize) -> u128
     ensures { n < length reaches.now → (d : Reach) → result ≤ (slice_index_or reaches.now n d).start }
 {
@@ -314,7 +316,7 @@ fn window_of(reaches: &[Reach], span: Span, near: usize) -> Window
     around(&reaches[begin.min(end)..end])
 }
 
-/// From the least of their numbers to the greatest.
+/// The numbers of regions from the least that one of the reaches has to the greatest.
 fn around(reaches: &[Reach]) -> Window
     ensures { (x : Reach) → Contains reaches.now x → IsIn result x.item }
 {
@@ -327,7 +329,7 @@ fn around(reaches: &[Reach]) -> Window
     Window { first, last }
 }
 
-/// Those of the window behind that number.
+/// The numbers of the window that are greater than that one.
 fn behind(window: Window, item: usize) -> Window
     ensures { (s : ℕ) → item < s → s ≤ window.last → IsIn result s }
 {

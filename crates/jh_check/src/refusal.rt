@@ -20,7 +20,7 @@ fn is_namesake(new: &CellConfig, cell: &CellConfig) -> bool
     cell.id == new.id || cell.name() == new.name()
 }
 
-/// Whether one of the cells has.
+/// Whether one of the cells has the new one's id or name.
 fn any_namesake(cells: &[CellConfig], new: &CellConfig) -> bool
     ensures { result ≡ list_any (λ cell. is_namesake new.now cell) cells.now }
 {
@@ -42,7 +42,7 @@ fn is_beyond(may: &[bool; 16], cell: &CellConfig, cpu: usize) -> bool
     cell.has_cpu(cpu as u8) && !may[cpu]
 }
 
-/// Whether one of the first 16 is.
+/// Whether one of the first 16 CPUs is named and mustn't be.
 fn any_beyond(may: &[bool; 16], cell: &CellConfig) -> bool
     ensures { result ≡ any_below (is_beyond (λ i. slice_index_or may.now i false) cell.now.cpu_set) 16 }
 {

@@ -9,10 +9,10 @@ use crate::rule::Rule;
 use jh_cellcfg::{Region, RegionFlags};
 use jh_num::{ADDRESS_END, PAGE_SIZE};
 
-/// The most that the hypervisor's memory may have.
+/// The most bytes that the hypervisor's memory may have: 64 MiB.
 const MAX_HYPERVISOR_SIZE: u64 = 0x400_0000;
 
-/// Whether one of them is a communication region.
+/// Whether one of the regions has a size and is a communication region.
 fn has_comm(regions: &[Region]) -> bool
     ensures { result ≡ list_any is_counted_comm regions.now }
 {
@@ -28,7 +28,7 @@ fn is_misshapen(earlier: &[Region], region: &Region) -> bool
     region.size != PAGE_SIZE || region.virt_start % PAGE_SIZE != 0 || has_comm(earlier)
 }
 
-/// Whether it ends past the last address, or past the last place.
+/// Whether the region ends past the last address or, where it is no communication region, past the last place.
 fn is_out_of_range(region: &Region) -> bool
     ensures { result ≡ is_out_of_range region.now }
 {
@@ -36,21 +36,21 @@ fn is_out_of_range(region: &Region) -> bool
         || !region.is_comm() && region.phys_end() > u128::from(ADDRESS_END)
 }
 
-/// Whether the region has a place of the hypervisor's memory.
+/// Whether the region is no communication region and has a place of the hypervisor's memory.
 fn meets_hypervisor(region: &Region, hypervisor: &Region) -> bool
     ensures { result ≡ breaks_alone Hypervisor hypervisor.now 0 [] region.now }
 {
     !region.is_comm() && region.phys_meets(hypervisor)
 }
 
-/// Whether it may be executed and not read.
+/// Whether the region may be executed and not read.
 fn is_execute_only(region: &Region) -> bool
     ensures { result ≡ breaks_alone ExecuteWithoutRead region.now 0 [] region.now }
 {
     region.has(RegionFlags::EXECUTE) && !region.has(RegionFlags::READ)
 }
 
-/// Whether its places aren't aligned to pages where its addresses are.
+/// Whether the region is page-mapped and no communication region, and its places don't begin at a multiple of 4,096.
 fn is_misaligned(region: &Region) -> bool
     ensures { result ≡ breaks_alone PhysAlign region.now 0 [] region.now }
 {

@@ -8,29 +8,30 @@ ghost use Rattle.jh_check.specs.declared.rule.Rule.TheVariants.{VirtOverlap};
 pub enum Rule {
     /// Two regions of a cell have an address in common.
     VirtOverlap,
-    /// Two regions of a cell have a place in common.
+    /// Two regions of a cell, neither a communication region, have a place in common.
     PhysOverlap,
-    /// A region has a place of the hypervisor's memory.
+    /// A region that is no communication region has a place of the hypervisor's memory.
     Hypervisor,
-    /// A region, or the hypervisor's memory, ends past the last address.
+    /// A region ends past the last address or place; the hypervisor's memory does, is empty, or is above 64 MiB.
     OutOfRange,
     /// A region of root isn't mapped to itself.
     RootNotIdentity,
     /// Root has a communication region.
     CommInRoot,
-    /// A communication region isn't one page, or isn't the first.
+    /// A communication region of a cell besides root isn't one page at a multiple of 4,096, or isn't the first there.
     CommShape,
     /// A region may be executed and not read.
     ExecuteWithoutRead,
-    /// A cell's subpage region takes a part of root's pages.
+    /// An unshared subpage region of a cell besides root has a place of a page-mapped region of root.
     SubpageTaken,
-    /// Two cells hold a place.
+    /// Two cells besides root have a place in common, not both ROOTSHARED and not in the same section of linked
+    /// devices.
     CellsOverlap,
     /// An ivshmem device breaks a rule of its own.
     Shmem,
-    /// A cell has no CPU, or one that no board has.
+    /// A cell has no CPU, or one above 15.
     NoCpu,
-    /// Whole pages of addresses have places that aren't.
+    /// A page-mapped region's places don't begin at a multiple of 4,096, or the hypervisor's memory isn't whole pages.
     PhysAlign,
 }
 
@@ -62,6 +63,7 @@ pub(crate) fn rule_at(place: usize) -> Rule
 impl Rule {
     ghost use Rattle.jh_check.specs.Findings.{number_of};
 
+    /// The rule's number, from 1 to 13.
     pub(crate) fn number(&self) -> u8
         ensures { result ≡ number_of self.now }
     {

@@ -37,6 +37,7 @@ fn item_of(n: usize) -> u32
     n.min(u32::MAX as usize) as u32
 }
 
+/// The finding that the rule is broken by the one item and the other, told by the numbers of their cells and their own.
 #[tactic(auto, unfolding(crate::specs::Findings::finding_of))]
 fn finding(rule: Rule, cell: u32, item: usize, other_cell: u32, other_item: usize) -> Finding
     ensures { result ≡ finding_of rule cell item other_cell other_item }
@@ -134,7 +135,7 @@ pub(crate) fn sound_cells(alloc: Global, setup: &Setup) -> Result<Vec<bool>, NoM
     Ok(sound)
 }
 
-/// Each region of all cells by such a rule. Of the cells that are said to be sound none breaks one.
+/// Each region of all cells by a rule about one region. Of the cells that `sound` marks no region breaks one.
 pub(crate) fn in_regions(
     found: &mut Seq<Finding>,
     rule: Rule,
@@ -153,7 +154,7 @@ pub(crate) fn in_regions(
     Ok(())
 }
 
-/// The hypervisor's memory.
+/// The hypervisor's memory by the rule, as of cell 16.
 #[tactic(auto, unfolding(crate::specs::Findings::in_hypervisor))]
 pub(crate) fn in_hypervisor(
     found: &mut Seq<Finding>,
@@ -232,7 +233,7 @@ fn in_devices_of(
     Ok(())
 }
 
-/// Each device of all cells.
+/// Each device of all cells by the rule of ivshmem devices.
 pub(crate) fn in_devices(
     alloc: Global,
     found: &mut Seq<Finding>,
@@ -259,7 +260,7 @@ pub(crate) fn in_devices(
     Ok(())
 }
 
-/// The CPUs of all cells.
+/// The CPUs of all cells by the rule of CPUs.
 pub(crate) fn in_cpus(found: &mut Seq<Finding>, setup: &Setup) -> Result<(), NoMemory>
     requires { length setup.now.cells.now ≤ 15 }
     ensures { OnOk result (capped found.new ≡ capped (found.old ++ in_cpus (cells_of setup.now))) }

@@ -49,7 +49,7 @@ pub(crate) fn seats_of(alloc: Global, setup: &Setup) -> Result<Vec<Seat>, NoMemo
     Ok(seats)
 }
 
-/// Those of that bdf, which stand side by side.
+/// The seats of devices with that bdf, which stand side by side.
 pub(crate) fn at_bdf(seats: &[Seat], bdf: u16) -> &[Seat]
     requires { AreByBdf seats.now }
     ensures { (x : Seat) → Contains seats.now x → x.bdf ≡ bdf → Contains result.now x }

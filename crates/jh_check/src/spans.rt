@@ -83,7 +83,7 @@ fn is_behind(spans: &[Span], k: usize) -> bool
     start <= spans[k].end && (k == 0 || spans[k - 1].end <= start)
 }
 
-/// Whether each ends before those behind it begin.
+/// Whether each of the spans ends before those behind it begin.
 fn are_apart(spans: &[Span]) -> bool
     ensures { result ≡ true → AreApart spans.now }
 {

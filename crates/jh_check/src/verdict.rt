@@ -52,7 +52,7 @@ fn any_beside(rule: Rule, one: &Site, b: u32, other: &CellConfig) -> bool
     false
 }
 
-/// Whether a region of the one cell does with one of the other.
+/// Whether a region of the one cell breaks the rule with one of the other.
 fn any_between(rule: Rule, a: u32, one: &CellConfig, b: u32, other: &CellConfig) -> bool
     ensures { result ≡ is_any (between rule a one.now b other.now) }
 {
@@ -127,7 +127,7 @@ fn any_indexed(a: u32, one: &CellConfig, spans: &[Span], b: u32, other: &CellCon
     false
 }
 
-/// The same where there may be no index.
+/// Whether a region of the one cell overlaps with one of the other, of whose places there may be an index.
 fn any_overlap(
     a: u32,
     one: &CellConfig,
@@ -206,7 +206,7 @@ fn breaks(
     }
 }
 
-/// Whether it breaks one of the rules so.
+/// Whether the new cell, whose number is the next, breaks one of the rules, overlaps with other cells aside.
 fn is_invalid(alloc: Global, setup: &Setup, number: u32, new: &CellConfig) -> Result<bool, NoMemory>
     requires count { length setup.now.cells.now ≤ 14 }
     requires number { number ≡ length (cells_of setup.now) }
@@ -236,7 +236,7 @@ fn overlaps(setup: &Setup, index: &Option<Vec<Span>>, number: u32, new: &CellCon
     false
 }
 
-/// Whether the new cell would.
+/// Whether the new cell, whose number is the next, would hold a place that another holds.
 fn is_busy(alloc: Global, setup: &Setup, number: u32, new: &CellConfig) -> Result<bool, NoMemory>
     requires count { length setup.now.cells.now ≤ 15 }
     requires number { number ≡ length (cells_of setup.now) }

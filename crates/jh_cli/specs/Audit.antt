@@ -21,7 +21,7 @@ pub record IsJournalFile (bytes : List ℕ) (entries : List Entry) : Type 0 wher
   pub within : length bytes < most_of_a_journal
   pub told : IsJournalText bytes entries
 
--- they are not, for the fault that these words tell
+-- the bytes are no journal's text, for the fault that these words tell
 pub record IsNoJournal (bytes words : List ℕ) : Type 0 where
   pub within : length bytes < most_of_a_journal
   pub fault : JournalFault
@@ -29,6 +29,7 @@ pub record IsNoJournal (bytes words : List ℕ) : Type 0 where
   pub first : IsFault bytes fault
   pub told : words ≡ fault_text fault
 
+-- a journal's file of these bytes is refused by these words: it is too large, or no journal's text
 abbrev pub JournalRefusal : List ℕ → List ℕ → Type 0
 JournalRefusal bytes words = IsOversizeAt most_of_a_journal bytes words ⊎ IsNoJournal bytes words
 
@@ -43,6 +44,7 @@ verdict_text count (Legal false) = codes "legal " ++ (decimal count ++ (codes " 
 verdict_text count (Illegal number (Some entry)) = due_text number entry
 verdict_text count (Illegal number None) = codes "illegal line " ++ (decimal number ++ (codes ": nothing due" ++ 10 ∷ []))
 
+-- the status of the verdict: good where the journal is legal, and found where it isn't
 abbrev pub verdict_status : Verdict → Status
 verdict_status (Legal quiet) = Good
 verdict_status (Illegal number expected) = Found

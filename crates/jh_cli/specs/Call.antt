@@ -25,7 +25,8 @@ module _ {S K : Type 0} (contents : S → Contents) (failed : S → List ℕ) (f
     pub read : IsReadFor one failed (contents s) asked s t said
     pub counted : IsCounted (faults s) (faults t) (failed t) said
 
-  -- it is said whole or a proper front of it, or memory was wanted and nothing was written
+  -- the call ends with what is said, which was sent whole or a proper front of it, or with want of memory and nothing
+  -- written
   abbrev pub Ends : Option Asked → S → S → K → K → Status → Type 0
   Ends asked s t k l status = ((status ≡ NoMemory) × (written l ≡ written k)) ⊎ ((said : Reply) × Says asked s t said × Sent (written k) (written l) said status)
 

@@ -27,29 +27,32 @@ pub record IsCellFile (bytes : List ℕ) (cell : CellConfig) : Type 0 where
   pub limits : IsWithinLimits cell
   pub spelled : bytes ≡ spelling cell
 
--- they are of no cell, for the fault that these words tell
+-- the bytes of a file are no cell's, for the fault that these words tell
 pub record IsNoCell (bytes words : List ℕ) : Type 0 where
   pub within : length bytes < most_of_a_file
   pub fault : ConfigFault
   pub first : first_fault bytes ≡ Some fault
   pub told : words ≡ fault_text fault
 
+-- a cell's file of these bytes is refused by these words: it is too large, or no cell's
 abbrev pub CellRefusal : List ℕ → List ℕ → Type 0
 CellRefusal bytes words = IsOversize bytes words ⊎ IsNoCell bytes words
 
--- the same of a system
+-- the bytes of a file are those of this system
 pub record IsSystemFile (bytes : List ℕ) (system : SystemConfig) : Type 0 where
   pub within : length bytes < most_of_a_file
   pub typed : IsSystem system
   pub limits : IsSystemWithinLimits system
   pub spelled : bytes ≡ system_spelling system
 
+-- the bytes of a file are no system's, for the fault that these words tell
 pub record IsNoSystem (bytes words : List ℕ) : Type 0 where
   pub within : length bytes < most_of_a_file
   pub fault : ConfigFault
   pub first : system_fault bytes ≡ Some fault
   pub told : words ≡ fault_text fault
 
+-- a system's file of these bytes is refused by these words: it is too large, or no system's
 abbrev pub SystemRefusal : List ℕ → List ℕ → Type 0
 SystemRefusal bytes words = IsOversize bytes words ⊎ IsNoSystem bytes words
 
@@ -69,10 +72,11 @@ pub record StopsAmong (contents : Contents) (names : List (List ℕ)) (said : Re
   pub spelled : SpellCells contents before cells
   pub stops : StopsAtFile contents name CellRefusal said
 
--- a line for each finding, and their number
+-- a line for each finding, and one with their number
 abbrev pub findings_text : List Finding → List ℕ
 findings_text found = flat_map (λ f. finding_text f ++ 10 ∷ []) found ++ (codes "findings " ++ (decimal (length found) ++ 10 ∷ []))
 
+-- the status of a check: found where something is, else good
 abbrev pub checked_status : List Finding → Status
 checked_status found = if is_any found then Found else Good
 

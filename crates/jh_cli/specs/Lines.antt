@@ -14,18 +14,18 @@ number_of WriteFault = 5
 number_of NoMemory = 6
 number_of Full = 7
 
--- how the program is used
+-- the line that tells how the program is used
 abbrev pub usage_line : List ℕ
 usage_line = codes "usage: jailhouse check SYSTEM CELL... | pack SPEC | play BOARD SCHEDULE | run BOARD | map BOARD SCHEDULE | tables BOARD SCHEDULE | audit BOARD JOURNAL | soak N" ++ 10 ∷ []
 
--- the word that is to tell a number of rounds tells none
+-- the line that tells that the word for a number of rounds tells none
 abbrev pub rounds_line : List ℕ
 rounds_line = codes "refused: N" ++ 10 ∷ []
 
--- a file could not be read
+-- the line that tells that the file of this name could not be read
 abbrev pub fault_line : List ℕ → List ℕ
 fault_line name = codes "read fault: " ++ name ++ 10 ∷ []
 
--- a file is refused for what the words say
+-- the line that tells that the file of this name is refused for what the words say
 abbrev pub refusal_line : List ℕ → List ℕ → List ℕ
 refusal_line name words = codes "refused: " ++ name ++ codes ": " ++ words ++ 10 ∷ []

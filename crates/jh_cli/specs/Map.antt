@@ -13,7 +13,7 @@ abbrev pub mapped_said : Option (List ℕ) → Reply
 mapped_said (Some text) = record { status = Good; text = text }
 mapped_said None = record { status = Full; text = [] }
 
--- what is told of the image after the items alone
+-- what is said of the image after the items alone: the maps, or that the limit stopped an item
 abbrev pub IsMapped : Image → List ℕ → Reply → Type 0
 IsMapped image cpus said = (found : Option (List ℕ)) × Maps image journal_limit cpus found × (said ≡ mapped_said found)
 

@@ -9,7 +9,7 @@ use Rattle.jh_cli.specs.Words.{Asked, CheckOf, PackOf, PlayOf, RunOf, MapOf, Aud
 use Rattle.jh_cli.specs.declared.status.Status.{Status}
 use Rattle.jh_cli.specs.declared.status.Status.TheVariants.{Refused, ReadFault}
 
--- a call ends at a file with one of these
+-- a call with this status ends at a file: it couldn't be read, or is refused
 abbrev pub IsStop : Status → Type 0
 IsStop Refused = ⊤
 IsStop ReadFault = ⊤
@@ -29,7 +29,8 @@ module _ {S : Type 0} where
   abbrev pub ReadsIn : (S → Ask → S → Type 0) → (S → List ℕ) → List (List ℕ) → S → S → Reply → Type 0
   ReadsIn one failed names s t said = AsksAll one failed names s t ⊎ StopsIn one failed names s t said
 
-  -- the same of a board's files and then these: the call ends at the board alone, or the board lists files
+  -- a board's files and then these were read, or those up to the one where the call ends: the board alone, or what it
+  -- lists too
   pub data ReadsBoard (one : S → Ask → S → Type 0) (failed : S → List ℕ) (contents : Contents) (board : List ℕ) (more : List (List ℕ)) (s t : S) (said : Reply) : Type 0 where
     the_board_alone : StopsIn one failed (board ∷ []) s t said → ReadsBoard one failed contents board more s t said
     what_it_lists : (listing : Listing) → Lists contents board listing → ReadsIn one failed (board_files board listing ++ more) s t said → ReadsBoard one failed contents board more s t said

@@ -14,16 +14,18 @@ use Rattle.jh_cli.specs.Limits.{most_of_a_file}
 abbrev pub IsSpecFile : List ℕ → Spec → Type 0
 IsSpecFile bytes spec = (length bytes < most_of_a_file) × IsSpecAnswer bytes (Ok spec)
 
--- they are no JSON object's, or the member of this name has a fault
+-- the bytes of a file are no JSON object's text, which these words tell
 abbrev pub IsNoObject : List ℕ → List ℕ → Type 0
 IsNoObject bytes words = (length bytes < most_of_a_file) × IsSpecAnswer bytes (Err Json) × (words ≡ codes "json")
 
+-- the bytes of a file are a JSON object's whose member of this name has a fault, which these words tell
 pub record HasFaultyMember (bytes words : List ℕ) : Type 0 where
   pub within : length bytes < most_of_a_file
   pub name : List ℕ
   pub faulty : IsSpecAnswer bytes (Err (Member name))
   pub told : words ≡ codes "member " ++ name
 
+-- a SPEC's file of these bytes is refused by these words: it is too large, no object's text, or a member has a fault
 abbrev pub SpecRefusal : List ℕ → List ℕ → Type 0
 SpecRefusal bytes words = IsOversize bytes words ⊎ IsNoObject bytes words ⊎ HasFaultyMember bytes words
 

@@ -26,7 +26,7 @@ pub record IsSchedule (image : Image) (bytes items : List ℕ) : Type 0 where
   pub are : AreCpus image cpus
   pub told : schedule_of cpus bytes ≡ Ok items
 
--- they are not, for the fault that these words tell
+-- the bytes are no text of a schedule for the board, for the fault that these words tell
 pub record IsNoSchedule (image : Image) (bytes words : List ℕ) : Type 0 where
   pub within : length bytes < most_of_a_file
   pub cpus : ℕ
@@ -35,6 +35,7 @@ pub record IsNoSchedule (image : Image) (bytes words : List ℕ) : Type 0 where
   pub first : schedule_of cpus bytes ≡ Err fault
   pub told : words ≡ schedule_fault_text fault
 
+-- a schedule's file of these bytes is refused by these words: it is too large, or no schedule for the board
 abbrev pub ScheduleRefusal : Image → List ℕ → List ℕ → Type 0
 ScheduleRefusal image bytes words = IsOversize bytes words ⊎ IsNoSchedule image bytes words
 

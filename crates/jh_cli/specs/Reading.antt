@@ -6,7 +6,7 @@ use Rattle.jh_cli.specs.declared.status.Status.{Status}
 use Rattle.jh_cli.specs.declared.status.Status.TheVariants.{Refused, ReadFault}
 use Rattle.jh_cli.specs.Limits.{most_of_a_file}
 
--- a status, and what is written before it
+-- what a call says: a status, and the text that is written before it
 pub record Reply : Type 0 where
   pub status : Status
   pub text : List ℕ
@@ -27,6 +27,7 @@ pub record IsRefused (most : ℕ) (contents : Contents) (name : List ℕ) (Why :
 abbrev pub StopsAt : ℕ → Contents → List ℕ → (List ℕ → List ℕ → Type 0) → Reply → Type 0
 StopsAt most contents name Why said = (said ≡ record { status = ReadFault; text = fault_line name }) ⊎ IsRefused most contents name Why said
 
+-- the call ends at this file, which may have at most 1 MiB: it could not be read, or is refused
 abbrev pub StopsAtFile : Contents → List ℕ → (List ℕ → List ℕ → Type 0) → Reply → Type 0
 StopsAtFile contents name Why said = StopsAt most_of_a_file contents name Why said
 
@@ -37,6 +38,7 @@ module _ {A : Type 0} where
     pub handed : HandsOut (contents name) most bytes
     pub spelled : Form bytes value
 
+  -- the file, which may have at most 1 MiB, hands out bytes that spell this value
   abbrev pub Spells : Contents → List ℕ → (List ℕ → A → Type 0) → A → Type 0
   Spells contents name Form value = SpellsAt most_of_a_file contents name Form value
 
@@ -44,6 +46,7 @@ module _ {A : Type 0} where
   abbrev pub ReadsAt : ℕ → Contents → List ℕ → (List ℕ → List ℕ → Type 0) → (List ℕ → A → Type 0) → (A → Reply → Type 0) → Reply → Type 0
   ReadsAt most contents name Why Form next said = StopsAt most contents name Why said ⊎ ((value : A) × SpellsAt most contents name Form value × next value said)
 
+  -- the file, which may have at most 1 MiB, is read: the call ends at it, or goes on with what it spells
   abbrev pub Reads : Contents → List ℕ → (List ℕ → List ℕ → Type 0) → (List ℕ → A → Type 0) → (A → Reply → Type 0) → Reply → Type 0
   Reads contents name Why Form next said = ReadsAt most_of_a_file contents name Why Form next said
 
@@ -51,6 +54,6 @@ module _ {A : Type 0} where
 abbrev pub IsOversizeAt : ℕ → List ℕ → List ℕ → Type 0
 IsOversizeAt most bytes words = (most ≤ length bytes) × (words ≡ codes "oversize")
 
--- a file has at most 1 MiB
+-- the file has more than the 1 MiB that it may have
 abbrev pub IsOversize : List ℕ → List ℕ → Type 0
 IsOversize bytes words = IsOversizeAt most_of_a_file bytes words

@@ -22,7 +22,7 @@ pub record IsRun (image : Image) (entries : List Entry) (status : Status) : Type
   pub legal : IsLegal image entries
   pub ends : EndsRun image entries status
 
--- the text of a journal that a run of the image may make
+-- what is said is the text of a journal that a run of the image may make, and the status that it ends with
 pub record IsRan (image : Image) (said : Reply) : Type 0 where
   pub entries : List Entry
   pub run : IsRun image entries said.status

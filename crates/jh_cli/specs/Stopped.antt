@@ -12,12 +12,12 @@ use Rattle.jh_cli.specs.Reading.{Reply}
 abbrev pub said_of : Ending → Reply
 said_of told = record { status = told.status; text = told.text.items }
 
--- a fact of what is told, where the stop isn't for want of memory
+-- P holds of what is told, where the stop isn't for want of memory
 abbrev pub OnEnded : Stop → (Reply → Type 0) → Type 0
 OnEnded (Ended told) P = P (said_of told)
 OnEnded NoMemory P = ⊤
 
--- a fact of what a command tells, where it ends at a file too; for want of memory nothing is told
+-- P holds of what a command tells, where it ends at a file too; for want of memory nothing is told
 abbrev pub OnEnding : Result Ending Stop → (Reply → Type 0) → Type 0
 OnEnding (Ok told) P = P (said_of told)
 OnEnding (Err stop) P = OnEnded stop P

@@ -15,7 +15,7 @@ pub data Asked : Type 0 where
   AuditOf : List ℕ → List ℕ → Asked
   SoakOf : List ℕ → Asked
 
--- a word that begins with `-` is no operand
+-- the word is an operand: it doesn't begin with `-`
 abbrev pub is_operand : List ℕ → Bool
 is_operand [] = true
 is_operand (byte ∷ bytes) = not (byte == 45)
@@ -102,7 +102,7 @@ IsSerial (Some (RunOf board)) = ⊥
 IsSerial (Some (SoakOf rounds)) = ⊥
 IsSerial _ = ⊤
 
--- it has at most 15 cells
+-- the command, where it is a check, has at most 15 cells
 abbrev pub HasFewCells : Command → Type 0
 HasFewCells (Check system cells) = length cells.now ≤ 15
 HasFewCells _ = ⊤

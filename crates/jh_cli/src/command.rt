@@ -54,6 +54,7 @@ fn is_operand(word: &str) -> bool
     }
 }
 
+/// Whether all of the words may be operands: none begins with `-`.
 fn are_operands(words: &[String]) -> bool
     ensures { result ≡ list_all is_operand (map string_bytes words.now) }
 {
@@ -63,6 +64,7 @@ fn are_operands(words: &[String]) -> bool
     }
 }
 
+/// The command `check`: its operands are a system and up to 15 cells.
 fn check_of(operands: &[String]) -> Option<Command<'_>>
     ensures command { option_map asked_by result ≡ check_of (map string_bytes operands.now) }
     ensures few { IfSome result HasFewCells }
@@ -76,6 +78,7 @@ fn check_of(operands: &[String]) -> Option<Command<'_>>
     }
 }
 
+/// The command `pack`: its one operand is a SPEC.
 fn pack_of(operands: &[String]) -> Option<Command<'_>>
     ensures command { option_map asked_by result ≡ pack_of (map string_bytes operands.now) }
     ensures few { IfSome result HasFewCells }
@@ -88,6 +91,7 @@ fn pack_of(operands: &[String]) -> Option<Command<'_>>
     }
 }
 
+/// The command `play`: its operands are a board and a schedule.
 fn play_of(operands: &[String]) -> Option<Command<'_>>
     ensures command { option_map asked_by result ≡ play_of (map string_bytes operands.now) }
     ensures few { IfSome result HasFewCells }
@@ -101,6 +105,7 @@ fn play_of(operands: &[String]) -> Option<Command<'_>>
     }
 }
 
+/// The command `run`: its one operand is a board.
 fn run_of(operands: &[String]) -> Option<Command<'_>>
     ensures command { option_map asked_by result ≡ run_of (map string_bytes operands.now) }
     ensures few { IfSome result HasFewCells }
@@ -113,6 +118,7 @@ fn run_of(operands: &[String]) -> Option<Command<'_>>
     }
 }
 
+/// The command `map`: its operands are a board and a schedule.
 fn map_of(operands: &[String]) -> Option<Command<'_>>
     ensures command { option_map asked_by result ≡ map_of (map string_bytes operands.now) }
     ensures few { IfSome result HasFewCells }
@@ -126,6 +132,7 @@ fn map_of(operands: &[String]) -> Option<Command<'_>>
     }
 }
 
+/// The command `audit`: its operands are a board and a journal.
 fn audit_of(operands: &[String]) -> Option<Command<'_>>
     ensures command { option_map asked_by result ≡ audit_of (map string_bytes operands.now) }
     ensures few { IfSome result HasFewCells }
@@ -139,6 +146,7 @@ fn audit_of(operands: &[String]) -> Option<Command<'_>>
     }
 }
 
+/// The command `soak`: its one operand is a word for a number of rounds, which isn't read here.
 fn soak_of(operands: &[String]) -> Option<Command<'_>>
     ensures command { option_map asked_by result ≡ soak_of (map string_bytes operands.now) }
     ensures few { IfSome result HasFewCells }
@@ -175,7 +183,7 @@ fn asked_for<'a>(word: &str, operands: &'a [String]) -> Option<Command<'a>>
     }
 }
 
-/// The command of the words, of which the first is the program's name.
+/// The command of the words, of which the first is the program's name; `None` where they have no command.
 pub fn command_of(words: &[String]) -> Option<Command<'_>>
     ensures command { option_map asked_by result ≡ command_of (map string_bytes words.now) }
     ensures few { IfSome result HasFewCells }

@@ -19,12 +19,15 @@ use Rattle.jh_num.specs.Memory.{spelled, stored}
 abbrev pub word_in : (ℕ → ℕ) → ℕ → ℕ
 word_in page at = spelled (page at ∷ page (at + 1) ∷ page (at + 2) ∷ page (at + 3) ∷ [])
 
+-- the cell's state in the page
 abbrev pub state_in : (ℕ → ℕ) → ℕ
 state_in page = word_in page 8
 
+-- the message to the cell in the page
 abbrev pub message_in : (ℕ → ℕ) → ℕ
 message_in page = word_in page 12
 
+-- the cell's reply in the page
 abbrev pub reply_in : (ℕ → ℕ) → ℕ
 reply_in page = word_in page 16
 
@@ -36,7 +39,7 @@ with_state page state = stored page 8 (to_le_bytes w32 state)
 abbrev pub sent : (ℕ → ℕ) → ℕ → ℕ → ℕ
 sent page message = stored (stored page 16 (replicate 4 0)) 12 (to_le_bytes w32 message)
 
--- `JHCOMM`
+-- the bytes of `JHCOMM`, with which the page begins
 abbrev pub signature : List ℕ
 signature = 74 ∷ 72 ∷ 67 ∷ 79 ∷ 77 ∷ 77 ∷ []
 

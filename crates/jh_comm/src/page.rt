@@ -49,7 +49,7 @@ pub fn fresh(page: &mut [u8], state: u32, console: &[u8; 32], mmconfig: u64)
     put(page, MMCONFIG_AT, &mmconfig.to_le_bytes());
 }
 
-/// Sends the cell a message: there is no reply to it yet.
+/// Sends the cell a message, and clears its reply: there is none to this one yet.
 pub fn send(page: &mut [u8], message: u32)
     requires { length page.old ≡ 4096 }
     ensures { (k : ℕ) → k < 4096 → slice_index page.new k ≡ sent (λ j. slice_index page.old j) message k }
@@ -58,7 +58,7 @@ pub fn send(page: &mut [u8], message: u32)
     put(page, MESSAGE_AT, &message.to_le_bytes());
 }
 
-/// Puts the cell into the state.
+/// Puts the cell into the state: writes the four bytes from offset 8 on.
 pub fn set_state(page: &mut [u8], state: u32)
     requires { length page.old ≡ 4096 }
     ensures { (k : ℕ) → k < 4096 → slice_index page.new k ≡ with_state (λ j. slice_index page.old j) state k }
@@ -66,7 +66,7 @@ pub fn set_state(page: &mut [u8], state: u32)
     put(page, STATE_AT, &state.to_le_bytes());
 }
 
-/// The cell's state.
+/// The cell's state, the number of 32 bits at offset 8.
 pub fn state(page: &[u8]) -> u32
     requires { length page.now ≡ 4096 }
     ensures { result ≡ state_in (λ j. slice_index page.now j) }
@@ -74,7 +74,7 @@ pub fn state(page: &[u8]) -> u32
     word(page, STATE_AT)
 }
 
-/// What the cell replied, or 0 where it didn't.
+/// What the cell replied, the number of 32 bits at offset 16; 0 where it didn't.
 pub fn reply(page: &[u8]) -> u32
     requires { length page.now ≡ 4096 }
     ensures { result ≡ reply_in (λ j. slice_index page.now j) }
@@ -82,7 +82,7 @@ pub fn reply(page: &[u8]) -> u32
     word(page, REPLY_AT)
 }
 
-/// The last message that the cell was sent.
+/// The last message that the cell was sent, the number of 32 bits at offset 12; 0 where there is none.
 pub fn message(page: &[u8]) -> u32
     requires { length page.now ≡ 4096 }
     ensures { result ≡ message_in (λ j. slice_index page.now j) }

@@ -3,6 +3,7 @@ use Rattle.std.specs.Prelude.{List, fold}
 use Rattle.jh_cpu.specs.declared.cpu.Cpu.{Cpu}
 use Rattle.jh_cpu.specs.Changes.{asked_of, stopped_of, resumed, moved, parked, restarted, failed}
 
+-- what may happen to a CPU: one of its changes
 pub data Happening : Type 0 where
   Ask : Happening
   Stop : Happening
@@ -12,6 +13,7 @@ pub data Happening : Type 0 where
   Restart : Happening
   Fail : Happening
 
+-- the CPU after this has happened to it
 abbrev pub happened : Cpu → Happening → Cpu
 happened cpu Ask = asked_of cpu
 happened cpu Stop = stopped_of cpu
@@ -21,6 +23,6 @@ happened cpu Park = parked cpu
 happened cpu Restart = restarted cpu
 happened cpu Fail = failed cpu
 
--- the CPU after all of them
+-- the CPU after all of these have happened to it, in order
 abbrev pub after_all : Cpu → List Happening → Cpu
 after_all = fold happened

@@ -46,47 +46,49 @@ impl Cpu {
         }
     }
 
-    /// The id of the cell that it belongs to.
+    /// The id of the cell that the CPU belongs to.
     pub fn owner(&self) -> u32
         ensures { result ≡ self.now.owner }
     {
         self.owner
     }
 
+    /// Whether the CPU runs, is parked or has failed.
     pub fn mode(&self) -> Mode
         ensures { result ≡ self.now.mode }
     {
         self.mode
     }
 
-    /// Whether it is asked to stop.
+    /// Whether the CPU is asked to stop and hasn't stopped yet.
     pub fn asked(&self) -> bool
         ensures { result ≡ self.now.asked }
     {
         self.asked
     }
 
+    /// Whether the CPU has stopped and doesn't go on yet.
     pub fn stopped(&self) -> bool
         ensures { result ≡ self.now.stopped }
     {
         self.stopped
     }
 
-    /// How many operations of its program it has done.
+    /// How many operations of its program the CPU has done; at 2^32 - 1 the count stands still.
     pub fn position(&self) -> u32
         ensures { result ≡ self.now.position }
     {
         self.position
     }
 
-    /// Asks it to stop.
+    /// Asks the CPU to stop.
     pub fn ask(&mut self)
         ensures { self.new ≡ asked_of self.old }
     {
         self.asked = true;
     }
 
-    /// It stops, as it was asked to.
+    /// The CPU stops, as it was asked to, and is no longer asked.
     pub fn stop(&mut self)
         ensures { self.new ≡ stopped_of self.old }
     {
@@ -101,7 +103,7 @@ impl Cpu {
         self.stopped = false;
     }
 
-    /// It waits for its cell to be started.
+    /// The CPU waits for its cell to be started; it isn't stopped any more.
     pub fn park(&mut self)
         ensures { self.new ≡ parked self.old }
     {
@@ -109,7 +111,7 @@ impl Cpu {
         self.resume();
     }
 
-    /// It runs from its program's beginning, whatever it was at.
+    /// The CPU runs from its program's beginning, whatever it was at; it isn't stopped any more.
     pub fn reset(&mut self)
         ensures { self.new ≡ restarted self.old }
     {
@@ -118,22 +120,22 @@ impl Cpu {
         self.resume();
     }
 
-    /// An access of it was a violation.
+    /// An access of the CPU was a violation.
     pub fn fail(&mut self)
         ensures { self.new ≡ failed self.old }
     {
         self.mode = Mode::Failed;
     }
 
-    /// One operation further. The position stands still at the last number of 32 bits, which the end
-    /// of no program reaches.
+    /// The CPU goes one operation further. The position stands still at the last number of 32 bits, which the end of no
+    /// program reaches.
     pub fn advance(&mut self)
         ensures { self.new ≡ moved self.old }
     {
         self.position = self.position.saturating_add(1);
     }
 
-    /// Root lends it to the cell of that id, where it is parked. What it was at in root is kept.
+    /// Root lends the CPU to the cell of that id, where it is parked. What it was at in root is kept.
     pub fn lend(&mut self, owner: u32)
         ensures { self.new ≡ lent owner self.old }
     {
@@ -148,8 +150,8 @@ impl Cpu {
         };
     }
 
-    /// Root has it again, stopped, where it was, or at the end of its program in root, which is so many
-    /// operations long, where it had failed.
+    /// Root has the CPU again, stopped, where it was, or at the end of its program in root, which is `end` operations
+    /// long, where it had failed.
     pub fn give_back(&mut self, root: u32, end: u32)
         ensures { self.new ≡ returned root end self.old }
     {

@@ -14,24 +14,27 @@ use Rattle.jh_desc.specs.declared.descriptor.Descriptor.{Descriptor}
 use Rattle.jh_desc.specs.declared.descriptor.Descriptor.TheVariants.{Invalid, Table, Leaf}
 use Rattle.jh_desc.specs.Levels.{last_level, slot_size}
 
--- that bit of the word is set
+-- the bit of that number is set in the word
 abbrev pub bit : ℕ → ℕ → Bool
 bit word n = (word / 2 ^ n % 2) == 1
 
--- the address of a slot of that many bytes
+-- the address in the word, of a slot of that many bytes
 abbrev pub address_in : ℕ → ℕ → ℕ
 address_in size word = word % 2 ^ 48 - word % 2 ^ 48 % size
 
+-- the rights that the word of a leaf gives
 abbrev pub rights_in : ℕ → Rights
 rights_in word = record { read = bit word 6; write = bit word 7; execute = not (bit word 54) }
 
+-- the word of a leaf says that its memory is a device's
 abbrev pub is_device : ℕ → Bool
 is_device word = (word / 2 ^ 4 % 4) == 0
 
+-- the leaf that the word says at the level
 abbrev pub leaf_in : ℕ → ℕ → Descriptor
 leaf_in level word = Leaf (address_in (slot_size level) word) (rights_in word) (is_device word)
 
--- blocks stand at levels 1 and 2
+-- a block may stand at the level, which is 1 or 2
 abbrev pub may_block : ℕ → Bool
 may_block level = nat_lt 0 level && nat_lt level last_level
 
@@ -55,13 +58,14 @@ leaf_bits level rights device =
     + where_true rights.read (2 ^ 6) + where_true rights.write (2 ^ 7) + 3 * 2 ^ 8 + 2 ^ 10
     + where_true (not rights.execute) (2 ^ 54)
 
--- the word that says it
+-- the word that says the descriptor at the level
 abbrev pub word_of : Descriptor → ℕ → ℕ
 word_of Invalid level = 0
 word_of (Table next) level = next + 3
 word_of (Leaf out rights device) level = out + leaf_bits level rights device
 
--- the level has descriptors of that kind, and the address is one of its slots
+-- the level may have the descriptor: a table above the last level, at a multiple of 4,096, or a leaf from level 1 on,
+-- at a multiple of the level's slots; either below 2^48
 abbrev pub IsWritable : Descriptor → ℕ → Type 0
 IsWritable Invalid level = Unit {0}
 IsWritable (Table next) level = (level < last_level) × (next % 4096 ≡ 0) × (next < 2 ^ 48)

@@ -2,10 +2,11 @@
 -- address up: 38 to 30 at level 1, 29 to 21 at level 2 and 20 to 12 at level 3.
 use Rattle.std.specs.Prelude.{ℕ, ◌-◌, ◌*◌, ◌/◌, ◌%◌, ◌^◌}
 
--- the level at which walks begin, and the one where they end at the latest
+-- the level at which walks begin
 abbrev pub first_level : ℕ
 first_level = 1
 
+-- the level at which walks end at the latest
 abbrev pub last_level : ℕ
 last_level = 3
 

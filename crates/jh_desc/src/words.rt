@@ -28,6 +28,7 @@ const EXECUTE_NEVER: u64 = 1 << 54;
 /// The first place that no descriptor can name.
 const PLACE_END: u64 = 1 << 48;
 
+/// What a leaf's word allows: reads where bit 6 is 1, writes where bit 7 is, and execution where bit 54 is 0.
 fn rights_in(word: u64) -> Rights
     ensures { result ≡ rights_in word }
 {
@@ -38,6 +39,8 @@ fn rights_in(word: u64) -> Rights
     }
 }
 
+/// The leaf that the word says at the level: its place, with which a slot of the level begins, its rights, and whether
+/// it is memory of a device.
 fn leaf_in(level: u8, word: u64) -> Descriptor
     requires { level ≤ last_level }
     ensures { result ≡ leaf_in level word }
@@ -50,8 +53,8 @@ fn leaf_in(level: u8, word: u64) -> Descriptor
     }
 }
 
-/// What the word says as a descriptor of the level. Other bits than those of the address, the kind, the
-/// rights and the memory aren't looked at.
+/// What the word says as a descriptor of the level, by the Arm Architecture Reference Manual, VMSAv8-64 stage 2 with a
+/// granule of 4 KB. Other bits than those of the address, the kind, the rights and the memory aren't looked at.
 pub fn read(word: u64, level: u8) -> Descriptor
     requires first { first_level ≤ level }
     requires last { level ≤ last_level }
@@ -75,12 +78,15 @@ pub fn read(word: u64, level: u8) -> Descriptor
     }
 }
 
+/// The bits where the fact holds, else 0.
 fn where_true(fact: bool, bits: u64) -> u64
     ensures { result ≡ where_true fact bits }
 {
     if fact { bits } else { 0 }
 }
 
+/// The word of a leaf of the level at the place 0: normal memory with write-back, or that of a device, inner shareable
+/// and marked as accessed.
 fn leaf_bits(level: u8, rights: Rights, device: bool) -> u64
     ensures value { result ≡ leaf_bits level rights device }
     ensures small { result < 2 ^ 55 }
@@ -92,8 +98,8 @@ fn leaf_bits(level: u8, rights: Rights, device: bool) -> u64
     kind + memory + access + INNER_SHAREABLE + ACCESSED + never
 }
 
-/// The word of the descriptor at the level. A table's place is a page's and a leaf's begins a slot of the
-/// level, each below 2^48.
+/// The word of the descriptor at the level, as `read` reads it. A table's place is a page's and a leaf's begins a slot
+/// of the level, each below 2^48.
 pub fn word(d: Descriptor, level: u8) -> u64
     requires first { first_level ≤ level }
     requires last { level ≤ last_level }

@@ -17,9 +17,10 @@ with_own_page own at page = record { base = own.base; bytes = put_in own.bytes (
 abbrev pub with_page : FramesView → ℕ → List ℕ → FramesView
 with_page memory at page = record { own = with_own_page memory.own at page; guest = memory.guest }
 
--- what is last written through r is the page at the place
+-- what is last written through r is the page at the place, of the hypervisor's memory
 abbrev pub LendsOwnPage : MutBor OwnView → ℕ → MutBor (List ℕ) → Fml
 LendsOwnPage s at r = Lends own.the_row (Array u8 0) s r (with_own_page s.now at)
 
+-- what is last written through r is the page at the place, of memory: it is one of the hypervisor's
 abbrev pub LendsPage : MutBor FramesView → ℕ → MutBor (List ℕ) → Fml
 LendsPage s at r = Lends frames.the_row (Array u8 0) s r (with_page s.now at)

@@ -15,6 +15,7 @@ pub record GuestView : Type 0 where
   pub pages : List (ℕ × List ℕ)
   pub spare : ℕ
 
+-- memory: the hypervisor's, and the pages of guests
 pub record FramesView : Type 0 where
   pub own : OwnView
   pub guest : GuestView
@@ -23,7 +24,7 @@ pub record FramesView : Type 0 where
 abbrev pub is_own : OwnView → ℕ → Bool
 is_own own place = nat_le own.base place && nat_lt place (own.base + length own.bytes)
 
--- so many bytes from there on are the hypervisor's
+-- the bytes from the place on, so many of them, are all the hypervisor's
 pub record IsOwn (own : OwnView) (at size : ℕ) : Type 0 where
   pub above : own.base ≤ at
   pub below : at + size ≤ own.base + length own.bytes
@@ -67,11 +68,11 @@ missing_from frames first count = count_by (λ number. not (holds frames (4096 *
 abbrev pub pages_in : ℕ → ℕ → ℕ
 pages_in at count = if count == 0 then 0 else (at + count - 1) / 4096 + 1 - at / 4096
 
--- how many of the pages of so many bytes from there on aren't held
+-- how many of the pages of so many bytes from the place on aren't held
 abbrev pub missing : FramesView → ℕ → ℕ → ℕ
 missing frames at count = missing_from frames (at / 4096) (pages_in at count)
 
--- the word of the eight bytes there, the lowest first
+-- the number of the eight bytes from the place on, the lowest first
 abbrev pub word_in : (ℕ → ℕ) → ℕ → ℕ
 word_in byte at =
     from_le_bytes w64 (byte at ∷ byte (at + 1) ∷ byte (at + 2) ∷ byte (at + 3) ∷ byte (at + 4) ∷ byte (at + 5) ∷ byte (at + 6) ∷ byte (at + 7) ∷ [])

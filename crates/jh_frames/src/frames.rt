@@ -55,7 +55,7 @@ impl Frames {
         })
     }
 
-    /// The byte at the place.
+    /// The byte at the place; 0 where its page isn't held.
     pub fn read(&self, at: u64) -> u8
         ensures { result ≡ byte_at self.now at }
     {

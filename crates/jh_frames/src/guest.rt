@@ -53,6 +53,7 @@ fn put_page(
 }
 
 impl Guest {
+    /// Pages of guests, of which none is held.
     pub fn new(alloc: Global) -> Self
         ensures { (number : ℕ) → page_at result.pages number ≡ None }
     {
@@ -75,6 +76,7 @@ impl Guest {
         self.pages.get(&number)
     }
 
+    /// The byte at the place; 0 where its page isn't held.
     pub fn read(&self, at: u64) -> u8
         ensures { result ≡ guest_byte self.now.pages at }
     {
@@ -84,7 +86,8 @@ impl Guest {
         }
     }
 
-    /// The number that bytes of one page spell, the lowest first.
+    /// The number that `width` bytes of one page from the place on spell, the lowest first; 0 where the page isn't
+    /// held.
     pub fn value(&self, at: u64, width: usize) -> u64
         requires width { width ≤ 8 }
         requires within { at % 4096 + width ≤ 4096 }
@@ -115,7 +118,7 @@ impl Guest {
         )
     }
 
-    /// Holds the page of the number.
+    /// Holds the page of the number, as zeros if it wasn't held. No byte changes.
     pub fn hold(&mut self, number: u64) -> Result<(), NoMemory>
         ensures bytes { (q : ℕ) → guest_byte self.new.pages q ≡ guest_byte self.old.pages q }
         ensures held { OnOk result (is_some (page_at self.new.pages number) ≡ true) }
@@ -128,7 +131,7 @@ impl Guest {
         put_page(&mut self.pages, number, 0, &[])
     }
 
-    /// Takes room for so many further pages.
+    /// Takes room for `pages` further pages.
     pub fn reserve(&mut self, pages: usize) -> Result<(), NoMemory>
         ensures pages { self.new.pages ≡ self.old.pages }
         ensures ok { OnOk result (pages ≤ self.new.spare) }

@@ -32,6 +32,7 @@ impl Own {
     ghost use Rattle.std.specs.Borrow.{sem};
     ghost use Rattle.jh_frames.specs.Lending.{LendsOwnPage};
 
+    /// The hypervisor's memory of `size` bytes from the place `base` on, both multiples of 4,096. All bytes are 0.
     pub fn open(alloc: Global, base: u64, size: u64) -> Result<Self, NoMemory>
         requires aligned { base % 4096 ≡ 0 }
         requires whole { size % 4096 ≡ 0 }
@@ -44,7 +45,7 @@ impl Own {
         Ok(Own { base, bytes })
     }
 
-    /// Whether the place is in it.
+    /// Whether the place is in the hypervisor's memory.
     pub fn has(&self, at: u64) -> bool
         ensures value { result ≡ is_own self.now at }
         ensures whole { IsWhole self.now }
@@ -52,6 +53,7 @@ impl Own {
         self.base <= at && at < self.base + self.bytes.len() as u64
     }
 
+    /// The byte at the place.
     pub fn read(&self, at: u64) -> u8
         requires { is_own self.now at ≡ true }
         ensures { result ≡ own_byte self.now at }
@@ -59,7 +61,7 @@ impl Own {
         self.bytes[(at - self.base) as usize]
     }
 
-    /// Whether the eight bytes from the place on are in it.
+    /// Whether the eight bytes from the place on are in the hypervisor's memory.
     pub fn has_word(&self, at: u64) -> bool
         requires { at < 2 ^ 48 }
         ensures { MatchBool result (IsOwn self.now at 8) (IsOwn self.now at 8 → ⊥) }
@@ -67,7 +69,7 @@ impl Own {
         self.base <= at && at + 8 <= self.base + self.bytes.len() as u64
     }
 
-    /// The word at the place.
+    /// The number that the eight bytes from the place on spell, the lowest first.
     pub fn word(&self, at: u64) -> u64
         requires { IsOwn self.now at 8 }
         ensures { result ≡ word_in (own_byte self.now) at }
@@ -87,6 +89,7 @@ impl Own {
         number_of(&self.bytes[k..k + width])
     }
 
+    /// Writes the byte at the place.
     fn set(&mut self, at: u64, byte: u8)
         requires { IsOwn self.old at 1 }
         ensures base { self.new.base ≡ self.old.base }
@@ -98,6 +101,7 @@ impl Own {
         self.bytes[k] = byte;
     }
 
+    /// Writes the word over the eight bytes from the place on, the lowest byte first.
     fn set_bytes(&mut self, at: u64, word: u64)
         requires own { IsOwn self.old at 8 }
         requires fits { at + 8 < 2 ^ 64 }
@@ -118,7 +122,7 @@ impl Own {
         self.set(at + 7, b[7]);
     }
 
-    /// Writes the word at the place.
+    /// Writes the word over the eight bytes from the place on, the lowest byte first.
     pub fn set_word(&mut self, at: u64, word: u64)
         requires { IsOwn self.old at 8 }
         ensures base { self.new.base ≡ self.old.base }
@@ -142,7 +146,7 @@ impl Own {
         put(&mut self.bytes, (at - self.base) as usize, bytes);
     }
 
-    /// The page at the place.
+    /// The 4,096 bytes from the place on.
     pub fn page(&self, at: u64) -> &[u8]
         requires { IsOwn self.now at 4096 }
         ensures { result.now ≡ slice_range self.now.bytes (at - self.now.base) (at - self.now.base + 4096) }
@@ -151,7 +155,7 @@ impl Own {
         &self.bytes[k..k + 4096]
     }
 
-    /// The page at the place, to be written.
+    /// The 4,096 bytes from the place on, to be written.
     pub fn page_mut(&mut self, at: u64) -> &mut [u8]
         requires { IsOwn self.old at 4096 }
         ensures value { result.now ≡ slice_range self.old.bytes (at - self.old.base) (at - self.old.base + 4096) }

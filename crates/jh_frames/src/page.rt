@@ -22,12 +22,14 @@ impl Model for Page {
 }
 
 impl Page {
+    /// A page of zeros.
     pub fn zero() -> Self
         ensures { (k : ℕ) → slice_index result k ≡ 0 }
     {
         Page { bytes: [0; 4096] }
     }
 
+    /// The byte at the offset, which is below 4,096.
     pub fn get(&self, offset: usize) -> u8
         requires { offset < 4096 }
         ensures { result ≡ slice_index self.now offset }
@@ -45,6 +47,7 @@ impl Page {
         number_of(&self.bytes[offset..offset + width])
     }
 
+    /// Writes the bytes over those from the offset on, all of them within the page.
     pub fn write(&mut self, offset: usize, bytes: &[u8])
         requires { offset + length bytes.now ≤ 4096 }
         ensures { (k : ℕ) → slice_index self.new k ≡ stored (slice_index self.old) offset bytes.now k }

@@ -48,7 +48,7 @@ abbrev pub places_from : (ℕ → Option Place) → ℕ → ℕ → Option (List
 places_from place at zero = Some []
 places_from place at (suc count) = option_and_then (λ (p : Place). option_map (λ (ps : List Place). p ∷ ps) (places_from place (at + 1) count)) (place at)
 
--- memory at those places, or nothing
+-- what is reached: memory at those places, or nothing where there are none
 abbrev pub memory_or_nothing : Option (List Place) → Reach
 memory_or_nothing (Some places) = Memory places
 memory_or_nothing None = Nothing
@@ -58,7 +58,7 @@ memory_or_nothing None = Nothing
 unfoldable pub reach_by : (ℕ → Option Place) → ℕ → ℕ → Reach
 reach_by place at width = if nat_le (at + width) ADDRESS_END then memory_or_nothing (places_from place at width) else Nothing
 
--- the same, or what else answers the access where no memory does
+-- what an access reaches: memory where it reaches some, and else what answers it behind memory
 abbrev pub or_behind : Reach → Reach → Reach
 or_behind (Memory places) behind = Memory places
 or_behind (Subpage places) behind = Subpage places
@@ -76,7 +76,7 @@ abbrev pub config_told : Devices → InConfig → ℕ
 config_told devices bytes =
     option_map_or (λ (e : Endpoint). config_read e.space (bytes.at % 4096) bytes.width) (function_at devices bytes.at) (256 ^ bytes.width - 1)
 
--- what it reads of a register of its device
+-- what the cell reads of a register of its device
 abbrev pub register_told : Devices → InWindow → ℕ
 register_told devices register =
     option_map_or (λ (e : Endpoint). register_of e register.bar register.at) (endpoint_at devices.cell register.device devices.endpoints) 0
@@ -101,6 +101,7 @@ is_reached Nothing = false
 abbrev pub with_slot : Slot → (Place → ℕ) → Place → ℕ
 with_slot slot byte = written byte (places_in_row (Physical slot.place) 4) slot.value
 
+-- the bytes, with a word of a state table written where there is one to write
 abbrev pub with_slot_if : Option Slot → (Place → ℕ) → Place → ℕ
 with_slot_if None byte = byte
 with_slot_if (Some slot) byte = with_slot slot byte
@@ -111,7 +112,7 @@ abbrev pub slot_put : Devices → InWindow → ℕ → Option Slot
 slot_put devices register value =
     option_and_then (λ (e : Endpoint). slot_written e register.bar register.at (value % 2 ^ 32)) (endpoint_at devices.cell register.device devices.endpoints)
 
--- that which comes with a write of the value where it reaches
+-- the word of a state table that a write of the value writes where it reaches: at most one, by a register
 abbrev pub slot_of_reach : Devices → Reach → ℕ → Option Slot
 slot_of_reach devices (Window register) value = slot_put devices register value
 slot_of_reach devices _ value = None

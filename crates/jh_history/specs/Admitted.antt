@@ -31,6 +31,7 @@ pub record IsAdmittedSystem (system : SystemConfig) : Type 0 where
   pub clean : findings system [] ≡ []
   pub room : root_pages system ≤ pool_pages system
 
+-- a program has at most 4,096 operations, each within its limits
 pub record IsSoundProgram (program : Program) : Type 0 where
   pub few : length program.ops ≤ most_ops
   pub plain : All IsWellFormed program.ops
@@ -60,6 +61,7 @@ pub record IsAdmitted (image : Image) : Type 0 where
   pub programs : All IsSoundProgram image.programs
   pub owned : AllPairs IsOtherProgram image.programs
 
+-- the operation is no hypercall
 abbrev pub IsNoCall : Op → Type 0
 IsNoCall (Hvc code a b) = ⊥
 IsNoCall _ = Unit {0}
@@ -68,11 +70,12 @@ IsNoCall _ = Unit {0}
 abbrev pub HasNoCall : Image → Type 0
 HasNoCall image = All (λ (p : Program). All IsNoCall p.ops) image.programs
 
--- the act's width is at most that of a register
+-- the act, where it is a read or a write, has at most 8 bytes
 abbrev pub IsWellFormedAct : Act → Type 0
 IsWellFormedAct (ReadAct width at got) = width ≤ 8
 IsWellFormedAct (WriteAct width at value ok) = width ≤ 8
 IsWellFormedAct _ = Unit {0}
 
+-- the entry's act, where it is a read or a write, has at most 8 bytes
 abbrev pub IsWellFormedEntry : Entry → Type 0
 IsWellFormedEntry entry = IsWellFormedAct entry.act

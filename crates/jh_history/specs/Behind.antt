@@ -19,11 +19,12 @@ use Rattle.jh_history.specs.Places.{places_in_row}
 use Rattle.jh_history.specs.Access.{place_in_cell}
 use Rattle.jh_history.specs.Devices.{Devices, windows_of}
 
--- the ECAM window of the system, which every cell has: from the base on, 1 MiB for each bus, cut at the last number
--- of 64 bits. A base of 0 says that there is none
+-- where the ECAM window of the system begins, which every cell has: at the base
 abbrev pub ecam_start : SystemConfig → ℕ
 ecam_start system = system.pci_mmconfig_base
 
+-- where the ECAM window ends: 1 MiB behind the base for each bus, cut at the last number of 64 bits; a base of 0 says
+-- that there is none
 abbrev pub ecam_end : SystemConfig → ℕ
 ecam_end system =
     if system.pci_mmconfig_base == 0 then 0
@@ -63,6 +64,7 @@ behind_regions start end window at width = by_device start window at width (behi
 abbrev pub answer_by : ℕ → Option Region → ℕ → ℕ → Option TheWindow → Bool → ℕ → ℕ → Reach
 answer_by id region start end window write at width = option_map_or (by_region id at width write) region (behind_regions start end window at width)
 
+-- what answers the access behind memory, where that is the subpage region which has it, if one has: of a fetch nothing
 abbrev pub answer_to : ℕ → Option Region → ℕ → ℕ → Option TheWindow → Access → ℕ → ℕ → Reach
 answer_to id region start end window Read at width = answer_by id region start end window false at width
 answer_to id region start end window Write at width = answer_by id region start end window true at width

@@ -24,7 +24,7 @@ is_named (Loadable cell) id = cell == id
 is_named (Destroy cell) id = cell == id
 is_named _ id = false
 
--- one more, or still the last number of 64 bits
+-- the number and one more, or still the last number of 64 bits
 abbrev pub one_more : ℕ → ℕ
 one_more n = min (n + 1) (2 ^ 64 - 1)
 
@@ -32,7 +32,7 @@ one_more n = min (n + 1) (2 ^ 64 - 1)
 abbrev pub is_told : ℕ → Live → Bool
 is_told about live = not (has_id about live) && not (is_passive live.config)
 
--- the same by the cell's configuration
+-- a cell of the configuration is told that another was created or destroyed, unless it is passive
 abbrev pub is_told_by : ℕ → CellConfig → Bool
 is_told_by about config = not (config.id == about) && not (is_passive config)
 
@@ -50,29 +50,33 @@ telling about answer (Some id) = ToNote id about answer
 abbrev pub first_told : ℕ → List Live → Option ℕ
 first_told about cells = option_map id_of (find (is_told about) cells)
 
--- a create goes on with the configuration that was read, and is refused where none was; any other call asks
--- its cell
+-- the phase after a Decide: the end where it refuses; else a create goes on with the configuration that was read, and
+-- any other call asks its cell
 abbrev pub decided : Call → Option CellConfig → Option ℤ → Phase
 decided call coming (Some refused) = ToFinish refused
 decided (Create at) (Some config) None = ToCreate config
 decided (Create at) None None = ToDecide
 decided call coming None = ToSettle 0
 
+-- the phase after a Settle: the end with EPERM where it is denied, else the Commit
 abbrev pub after_settle : Settled → Phase
 after_settle Agreed = ToCommit
 after_settle Denied = ToFinish EPERM
 after_settle Timeout = ToCommit
 
--- a create and a destroy are told to the other cells, which live before the Commit as after it
+-- the phase after the Commit: a create and a destroy are told to the other cells, which live before it as after it;
+-- else the end with 0
 abbrev pub after_commit : Call → Phase → List Live → Phase
 after_commit (Create at) (ToCreate config) cells = telling config.id (pos config.id) (first_told config.id cells)
 after_commit (Destroy id) phase cells = telling id (pos 0) (first_told id cells)
 after_commit call phase cells = ToFinish (pos 0)
 
+-- the phase after a Note: the cell that was told is waited for
 abbrev pub after_note : Phase → Phase
 after_note (ToNote id about answer) = ToNoted id about answer 0
 after_note phase = phase
 
+-- the phase after a Noted: the next cell is told, or the call ends where there is none
 abbrev pub after_noted : Phase → List Live → Phase
 after_noted (ToNoted id about answer waited) cells = telling about answer (first_told about (behind id cells))
 after_noted phase cells = phase
@@ -83,7 +87,7 @@ waits_for cell call (ToSettle waited) = is_named call cell
 waits_for cell call (ToNoted id about answer waited) = cell == id
 waits_for cell call phase = false
 
--- one entry more that it has waited
+-- the phase, where it waits for a cell, with one entry more that it has waited
 abbrev pub waited_on : Phase → Phase
 waited_on (ToSettle waited) = ToSettle (one_more waited)
 waited_on (ToNoted id about answer waited) = ToNoted id about answer (one_more waited)

@@ -16,6 +16,7 @@ use Rattle.jh_history.specs.declared.entry.Act.TheVariants.{Commit}
 abbrev pub marked : ℕ → Bool → Live → Live
 marked id loadable live = if has_id id live then record live { loadable = loadable } else live
 
+-- the cell is another than the one with the id
 abbrev pub is_other : ℕ → Live → Bool
 is_other id live = not (has_id id live)
 
@@ -38,10 +39,11 @@ abbrev pub created : Call → Phase → Option CellConfig
 created (Create at) (ToCreate config) = Some config
 created call phase = None
 
--- that of the cell which the act creates
+-- the configuration of the cell that the act creates, in this phase of the call
 abbrev pub created_at : Call → Phase → Act → Option CellConfig
 created_at call phase Commit = created call phase
 created_at call phase act = None
 
+-- the configuration of the cell that the act creates, by the call that is open, if one is
 abbrev pub created_by : Option OpenCall → Act → Option CellConfig
 created_by call act = option_and_then (λ (o : OpenCall). created_at o.call o.phase act) call

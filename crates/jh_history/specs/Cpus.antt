@@ -23,7 +23,7 @@ use Rattle.jh_history.specs.Facts.{Facts}
 use Rattle.jh_history.specs.Lives.{is_on_board, program_of}
 use Rattle.jh_history.specs.Calls.{is_named}
 
--- whether a CPU in this mode runs
+-- a CPU in this mode runs
 abbrev pub is_running : Mode → Bool
 is_running Running = true
 is_running Parked = false
@@ -64,7 +64,7 @@ is_agreed Agreed = true
 is_agreed Denied = false
 is_agreed Timeout = true
 
--- at a Settle that isn't denied each running CPU of the call's cell is
+-- at a Settle that isn't denied each running CPU of the call's cell is asked to stop
 abbrev pub settled : Bool → Call → Cpu → Cpu
 settled agreed call cpu = if agreed && is_named call cpu.owner && is_running cpu.mode then asked_of cpu else cpu
 
@@ -81,10 +81,11 @@ committed image (Loadable id) phase i cpu = if cpu.owner == id then parked cpu e
 committed image (Destroy id) phase i cpu = if cpu.owner == id then returned image.system.root.id (end_in_root image i) cpu else cpu
 committed image _ phase i cpu = cpu
 
--- at the Finish no CPU of root is stopped any more, and the caller has done its operation
+-- the CPU, no longer stopped where it is root's
 abbrev pub resumed_in : ℕ → Cpu → Cpu
 resumed_in root cpu = if cpu.owner == root then resumed cpu else cpu
 
+-- at the Finish no CPU of root is stopped any more, and the caller has done its operation
 abbrev pub finished : Image → ℕ → ℕ → Cpu → Cpu
 finished image own i cpu = let there = resumed_in image.system.root.id cpu in if i == own then moved there else there
 

@@ -18,7 +18,7 @@ use Rattle.jh_history.specs.Lives.{cell_in}
 
 -- ---- what an access of a device means
 
--- so many bytes of configuration space, from the offset on that is counted from the start of the ECAM window
+-- bytes of configuration space: their offset from the start of the ECAM window, and how many they are
 pub record InConfig : Type 0 where
   pub at : ℕ
   pub width : ℕ
@@ -40,7 +40,7 @@ pub record IsInWindow (register : InWindow) : Type 0 where
   pub aligned : register.at % 4 ≡ 0
   pub within : register.at < (if register.bar == 0 then 4096 else 512)
 
--- a window of BAR 0 or BAR 1
+-- the window is one of BAR 0 or of BAR 1, and has the size of that
 pub record IsGoodWindow (window : Window) : Type 0 where
   pub bar : window.bar < 2
   pub size : window.size ≡ (if window.bar == 0 then 4096 else 512)
@@ -55,16 +55,19 @@ is_endpoint n device = nat_lt n (2 ^ 32) && is_shmem device
 abbrev pub section_at : CellConfig → PciDevice → ℕ → Option Region
 section_at config device k = slice_get config.memory_regions (device.shmem_regions_start + k)
 
+-- the size of a section, 0 where there is none
 abbrev pub size_of : Option Region → ℕ
 size_of region = option_map_or (λ (r : Region). r.size) region 0
 
+-- the place where a section begins, 0 where there is none
 abbrev pub place_of_section : Option Region → ℕ
 place_of_section region = option_map_or (λ (r : Region). r.phys_start) region 0
 
+-- the address where a section begins, 0 where there is none
 abbrev pub address_of_section : Option Region → ℕ
 address_of_section region = option_map_or (λ (r : Region). r.virt_start) region 0
 
--- what its function shows: all outputs have one size
+-- what the function of the device shows: the size of the first output, since all have one size
 abbrev pub function_of : CellConfig → PciDevice → FunctionSpec
 function_of config device = record {
   protocol = device.shmem_protocol;
@@ -87,21 +90,22 @@ spec_of config n device = record {
   function = function_of config device;
 }
 
--- those of these devices, the first of which has that number; numbers count all devices
+-- the endpoints of these devices, the first of which has that number; numbers count all devices
 abbrev pub specs_from : CellConfig → ℕ → List PciDevice → List EndpointSpec
 specs_from config n [] = []
 specs_from config n (device ∷ devices) =
     if is_endpoint n device then spec_of config n device ∷ specs_from config (n + 1) devices else specs_from config (n + 1) devices
 
--- all of the cell, in order of device
+-- the endpoints of all ivshmem devices of the cell, in order of device
 unfoldable pub specs_of : CellConfig → List EndpointSpec
 specs_of config = specs_from config 0 config.pci_devices
 
--- that of the device of that number, where it is an ivshmem device
+-- the endpoint of the device of that number, where it is an ivshmem device
 abbrev pub specs_by : CellConfig → ℕ → Option PciDevice → List EndpointSpec
 specs_by config n None = []
 specs_by config n (Some device) = if is_endpoint n device then spec_of config n device ∷ [] else []
 
+-- the endpoint of the cell's device of that number, where it is an ivshmem device
 abbrev pub specs_at : CellConfig → ℕ → List EndpointSpec
 specs_at config n = specs_by config n (slice_get config.pci_devices n)
 
@@ -117,6 +121,7 @@ pub record Devices : Type 0 where
 abbrev pub list_in : Image → List Live → ℕ → List PciDevice
 list_in image cells id = option_map_or (λ (c : CellConfig). c.pci_devices) (cell_in image cells id) []
 
+-- the devices of the cell with the id, where these cells live besides root, and all have these endpoints
 abbrev pub devices_in : Image → List Live → List Endpoint → ℕ → Devices
 devices_in image cells endpoints id = record { cell = id; list = list_in image cells id; endpoints = endpoints }
 
@@ -130,6 +135,7 @@ number_from bdf n (device ∷ devices) = if is_endpoint n device && (device.bdf 
 abbrev pub number_at : Devices → ℕ → Option ℕ
 number_at devices at = number_from (at / 4096) 0 devices.list
 
+-- the endpoint of the cell's function that has the offset in the ECAM window; none where that is absent
 abbrev pub function_at : Devices → ℕ → Option Endpoint
 function_at devices at = option_and_then (λ n. endpoint_at devices.cell n devices.endpoints) (number_at devices at)
 
@@ -145,10 +151,11 @@ device_windows cell endpoints n device =
     then option_map_or (λ (e : Endpoint). space_window e.space n 0 ++ space_window e.space n 1) (endpoint_at cell n endpoints) []
     else []
 
--- those of the cell's devices, in order of device
+-- the enabled windows of these devices, the first of which has that number, in order of device
 abbrev pub windows_from : ℕ → List Endpoint → ℕ → List PciDevice → List Window
 windows_from cell endpoints n [] = []
 windows_from cell endpoints n (device ∷ devices) = device_windows cell endpoints n device ++ windows_from cell endpoints (n + 1) devices
 
+-- the enabled windows of the cell's devices, in order of device
 unfoldable pub windows_of : Devices → List Window
 windows_of devices = windows_from devices.cell devices.endpoints 0 devices.list

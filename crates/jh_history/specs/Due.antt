@@ -23,7 +23,7 @@ use Rattle.jh_history.specs.Hypercalls.{hvc_act}
 use Rattle.jh_history.specs.Wants.{pending_op, goes_on}
 use Rattle.jh_history.specs.History.{start, after, facts}
 
--- an await that reads nothing is a violation; one that reads another value isn't due
+-- what an await comes to by what it reads: a violation where that is nothing, and not due where it is another value
 abbrev pub await_of : ℕ → ℕ → ℕ → Option ℕ → Option Act
 await_of width at value None = Some (Await width at value false)
 await_of width at value (Some got) = if got == value then Some (Await width at value true) else None

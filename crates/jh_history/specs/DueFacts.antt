@@ -66,7 +66,7 @@ abbrev pub IsOfCells : List Live → Place → Type 0
 IsOfCells cells (Physical p) = Unit {0}
 IsOfCells cells (Page id offset) = (offset < PAGE_SIZE) × IsLive cells id
 
--- so is each place that is reached
+-- each place that is reached is one of physical memory, or of the page of a cell that lives
 abbrev pub ReachesCells : List Live → Reach → Type 0
 ReachesCells cells (Memory places) = All (IsOfCells cells) places
 ReachesCells cells (Subpage places) = All (IsOfCells cells) places
@@ -81,7 +81,7 @@ pub record IsWordOf (endpoints : List Endpoint) (slot : Slot) : Type 0 where
   pub within : IsWithin endpoint.spec
   pub is : slot ≡ slot_of endpoint.spec slot.value
 
--- where the act is a write
+-- where the act is a write, each place that it reaches is one of physical memory, or of the page of a cell that lives
 abbrev pub WritesCells : List Live → Act → Reach → Type 0
 WritesCells cells (Write width at value ok) found = ReachesCells cells found
 WritesCells cells act found = Unit {0}

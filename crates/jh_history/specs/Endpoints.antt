@@ -44,7 +44,7 @@ abbrev pub function_put : Devices → InConfig → ℕ → ℕ → List Endpoint
 function_put devices bytes value n =
     option_map_or (λ (e : Endpoint). space_put devices.cell n (config_written e.space (bytes.at % 4096) bytes.width (value % 2 ^ 32)) devices.endpoints) (endpoint_at devices.cell n devices.endpoints) devices.endpoints
 
--- a function that is absent takes nothing
+-- the endpoints after a write of the value to configuration space; a function that is absent takes nothing
 abbrev pub config_put : Devices → InConfig → ℕ → List Endpoint
 config_put devices bytes value = option_map_or (function_put devices bytes value) (number_at devices bytes.at) devices.endpoints
 
@@ -53,7 +53,7 @@ abbrev pub register_put : Devices → InWindow → ℕ → List Endpoint
 register_put devices register value =
     option_map_or (λ (e : Endpoint). written e register.bar register.at (value % 2 ^ 32) devices.endpoints) (endpoint_at devices.cell register.device devices.endpoints) devices.endpoints
 
--- those after a cell with these devices writes the value where it reaches
+-- the endpoints after a cell with these devices writes the value where it reaches
 abbrev pub endpoints_put : Devices → Reach → ℕ → List Endpoint
 endpoints_put devices (Config bytes) value = config_put devices bytes value
 endpoints_put devices (Window register) value = register_put devices register value
@@ -67,11 +67,12 @@ endpoint_changed Join list spec = joined spec list
 endpoint_changed Reset list spec = option_map_or (λ (e : Endpoint). reset_of e list) (endpoint_at spec.cell spec.device list) list
 endpoint_changed Leave list spec = option_map_or (λ (e : Endpoint). left_by e list) (endpoint_at spec.cell spec.device list) list
 
--- those after all devices of a cell do, in order
+-- the endpoints after those of all devices of a cell join, are reset, or leave, in order of device
 abbrev pub endpoints_changed : DeviceChange → List EndpointSpec → List Endpoint → List Endpoint
 endpoints_changed change specs list = fold (endpoint_changed change) list specs
 
--- the devices of a new cell join, those of a cell that is started are reset, and those of one that is destroyed leave
+-- how the Commit of the call changes devices: those of a new cell join, those of a cell that is started are reset, and
+-- those of one that is destroyed leave
 abbrev pub device_change : Call → DeviceChange
 device_change (Create at) = Join
 device_change (Destroy id) = Leave
@@ -84,10 +85,12 @@ changing cells (Start id) phase = live_in cells id
 changing cells (Destroy id) phase = live_in cells id
 changing cells call phase = None
 
+-- the configuration of the cell whose devices the act changes, by this call: a Commit alone changes some
 abbrev pub changing_at : List Live → OpenCall → Act → Option CellConfig
 changing_at cells o Commit = changing cells o.call o.phase
 changing_at cells o act = None
 
+-- the configuration of the cell whose devices the act changes, by the call that is open, if one is
 abbrev pub changing_by : List Live → Option OpenCall → Act → Option CellConfig
 changing_by cells call act = option_and_then (λ (o : OpenCall). changing_at cells o act) call
 
@@ -95,7 +98,7 @@ changing_by cells call act = option_and_then (λ (o : OpenCall). changing_at cel
 abbrev pub change_by : Option OpenCall → DeviceChange
 change_by call = option_map_or (λ (o : OpenCall). device_change o.call) call Reset
 
--- the endpoints of that cell's devices
+-- the endpoints of the devices that the act changes
 abbrev pub specs_changing : Facts → Act → List EndpointSpec
 specs_changing facts act = option_map_or specs_of (changing_by facts.cells facts.call act) []
 

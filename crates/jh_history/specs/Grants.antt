@@ -34,6 +34,7 @@ granted_by id regions kept access at = option_and_then (unless kept) (place_of i
 abbrev pub granted_in : Image → List Live → ℕ → Access → ℕ → Option Place
 granted_in image cells id = granted_by id (regions_in image cells id) (is_kept image cells id)
 
+-- what the cell with the id is granted at the address, with the right, where these facts hold
 abbrev pub granted : Image → Facts → ℕ → Access → ℕ → Option Place
 granted image facts id = granted_in image facts.cells id
 
@@ -47,6 +48,7 @@ abbrev pub reach_in : Image → List Live → List Endpoint → ℕ → Access �
 reach_in image cells endpoints id access at width =
     or_behind (reach_by (granted_in image cells id access) at width) (behind_in image cells endpoints id access at width)
 
+-- what the access of so many bytes reaches, made by the cell with the id, where these facts hold
 abbrev pub reach : Image → Facts → ℕ → Access → ℕ → ℕ → Reach
 reach image facts id = reach_in image facts.cells facts.endpoints id
 

@@ -34,13 +34,15 @@ abbrev pub coming_by : Image → Facts → Call → Option CellConfig
 coming_by image facts (Create at) = config_read (read_at image facts at)
 coming_by image facts call = None
 
+-- the configuration that the open call reads, where it is a create
 abbrev pub coming_of : Image → Facts → Option CellConfig
 coming_of image facts = option_and_then (λ (o : OpenCall). coming_by image facts o.call) facts.call
 
--- the live cells after an entry, and the open call
+-- the cells that live besides root after an entry
 abbrev pub cells_after : Facts → Entry → List Live
 cells_after facts entry = cells_by facts.call facts.cells entry.act
 
+-- the call that is open after an entry
 abbrev pub call_after : Image → Facts → Entry → Option OpenCall
 call_after image facts entry = call_by facts.cells (coming_of image facts) facts.call entry entry.act
 

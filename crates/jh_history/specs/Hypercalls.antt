@@ -23,20 +23,23 @@ use Rattle.jh_history.specs.Phases.{state_word, configs_of}
 abbrev pub state_told : Image → Facts → ℕ → Option ℕ
 state_told image facts id = if id == image.system.root.id then Some 0 else option_map (λ (c : CellConfig). state_word facts c.id) (live_in facts.cells id)
 
+-- the state word that the call asks for, if it asks for one and a live cell has the id
 abbrev pub state_seen : Image → Facts → Call → Option ℕ
 state_seen image facts (State id) = state_told image facts id
 state_seen image facts call = None
 
+-- what is seen of a CPU that may be seen: whether it has failed
 abbrev pub mode_seen : Cpu → CpuSeen
 mode_seen cpu = if is_failed cpu.mode then Failed else Fine
 
--- a cell besides root sees its own CPUs alone
+-- what the cell sees of the CPU: a cell besides root sees its own CPUs alone
 abbrev pub cpu_told : Image → Facts → ℕ → ℕ → CpuSeen
 cpu_told image facts cell cpu =
     if is_on_board image cpu
     then (if (cell == image.system.root.id) || ((facts.cpu cpu).owner == cell) then mode_seen (facts.cpu cpu) else Foreign)
     else Absent
 
+-- what the cell sees of the CPU that the call asks for, if it asks for one
 abbrev pub cpu_seen : Image → Facts → ℕ → Call → CpuSeen
 cpu_seen image facts cell (CpuInfo cpu kind) = cpu_told image facts cell cpu
 cpu_seen image facts cell call = Absent

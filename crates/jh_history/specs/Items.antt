@@ -15,7 +15,7 @@ abbrev pub with_due : ℕ → List Entry → Option Entry → Reached
 with_due limit entries None = record { entries = entries; full = false }
 with_due limit entries (Some entry) = if nat_lt (length entries) limit then record { entries = entries ++ entry ∷ []; full = false } else record { entries = entries; full = true }
 
--- one item of a CPU; after a stop there is no other
+-- the journal with one item of a CPU; after a stop there is no other
 abbrev pub with_item : Image → ℕ → Reached → ℕ → Reached
 with_item image limit reached cpu = if reached.full then reached else with_due limit reached.entries (due image reached.entries cpu)
 
@@ -23,7 +23,7 @@ with_item image limit reached cpu = if reached.full then reached else with_due l
 unfoldable pub items : Image → ℕ → List ℕ → List Entry → Reached
 items image limit cpus entries = fold (with_item image limit) (record { entries = entries; full = false }) cpus
 
--- the numbers below n
+-- the numbers below n, in rising order
 abbrev pub below : ℕ → List ℕ
 below zero = []
 below (suc n) = below n ++ n ∷ []
@@ -32,7 +32,7 @@ below (suc n) = below n ++ n ∷ []
 unfoldable pub cpus_of : Image → List ℕ
 cpus_of image = filter (is_on_board image) (below 16)
 
--- so many rounds of the CPUs
+-- the items of so many rounds of the CPUs
 abbrev pub rounds : ℕ → List ℕ → List ℕ
 rounds zero cpus = []
 rounds (suc n) cpus = rounds n cpus ++ cpus

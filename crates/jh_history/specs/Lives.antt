@@ -33,18 +33,19 @@ live_in cells id = option_map (λ (live : Live). live.config) (find (has_id id) 
 abbrev pub cell_in : Image → List Live → ℕ → Option CellConfig
 cell_in image cells id = if id == image.system.root.id then Some image.system.root else live_in cells id
 
--- its regions, none where no live cell has the id
+-- the regions of the live cell with the id, none where no live cell has it
 abbrev pub regions_in : Image → List Live → ℕ → List Region
 regions_in image cells id = option_map_or (λ (c : CellConfig). c.memory_regions) (cell_in image cells id) []
 
--- the operations of its program of the CPU: that of its name
+-- the operations of the CPU's program in the live cell with the id: of the program of the cell's name
 abbrev pub ops_in : Image → List Live → ℕ → ℕ → List Op
 ops_in image cells id cpu = option_map_or (λ (c : CellConfig). program_of image (name_of c) cpu) (cell_in image cells id) []
 
--- the same, where these facts hold
+-- the configuration of the live cell with the id, where these facts hold
 abbrev pub cell_of : Image → Facts → ℕ → Option CellConfig
 cell_of image facts id = cell_in image facts.cells id
 
+-- the operations of the CPU's program in the live cell with the id, where these facts hold
 abbrev pub ops_of : Image → Facts → ℕ → ℕ → List Op
 ops_of image facts id cpu = ops_in image facts.cells id cpu
 

@@ -57,22 +57,24 @@ named_cell cells call = None
 abbrev pub is_left : ℕ → Cpu → Bool
 is_left cell cpu = (cpu.owner == cell) && not (is_failed cpu.mode)
 
--- a violation after which all CPUs of a cell besides root have failed puts it into the state FAILED
+-- what an entry writes into the page of its cell where it is a violation: the state FAILED, where all CPUs of a cell
+-- besides root have failed after it
 abbrev pub failing : Image → Facts → Entry → Option PageWrite
 failing image facts entry =
     if (entry.cell == image.system.root.id) || any_below (λ i. is_on_board image i && is_left entry.cell (cpu_after image facts entry i)) 16
     then None
     else Some (record { cell = entry.cell; change = State STATE_FAILED })
 
+-- the write into a page, unless the access succeeded
 abbrev pub unless_good : Bool → Option PageWrite → Option PageWrite
 unless_good true write = None
 unless_good false write = write
 
--- at a Decide that goes on, the cell is asked to shut down, unless it is passive
+-- what a Decide that goes on writes into a page: the cell is asked to shut down, unless it is passive
 abbrev pub asking : List Live → Call → Option PageWrite
 asking cells call = option_and_then (λ (c : CellConfig). if is_passive c then None else Some (on_page (Message MESSAGE_SHUTDOWN_REQUEST) c)) (named_cell cells call)
 
--- by the Commit of a create and of a start the page is fresh, by that of a set loadable its state is SHUT_DOWN
+-- what a Commit writes into a page: of a create and of a start a fresh page, of a set loadable the state SHUT_DOWN
 abbrev pub committing : ℕ → List Live → Call → Phase → Option PageWrite
 committing window cells (Create at) (ToCreate config) = Some (on_page (Fresh STATE_SHUT_DOWN config.console window) config)
 committing window cells (Start id) phase = option_map (λ (c : CellConfig). on_page (Fresh STATE_RUNNING c.console window) c) (live_in cells id)
@@ -92,6 +94,7 @@ page_write_by image facts entry (Note id) = Some (record { cell = id; change = M
 page_write_by image facts entry (Noted id Silent) = Some (record { cell = id; change = State STATE_FAILED })
 page_write_by image facts entry act = None
 
+-- the bytes after the write into a page, if there is one
 abbrev pub with_page_write : Option PageWrite → (Place → ℕ) → Place → ℕ
 with_page_write None byte = byte
 with_page_write (Some write) byte = with_page write byte

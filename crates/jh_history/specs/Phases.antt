@@ -33,10 +33,11 @@ use Rattle.jh_history.specs.Calls.{is_named}
 use Rattle.jh_history.specs.Pages.{named_cell}
 use Rattle.jh_history.specs.Configs.{ReadCell, Reads, Refuses, read_at}
 
--- the words of a cell's communication page
+-- the state word of the cell with the id, in its communication page
 abbrev pub state_word : Facts → ℕ → ℕ
 state_word facts id = state_in (λ k. facts.byte (Page id k))
 
+-- the reply word of the cell with the id, in its communication page
 abbrev pub reply_word : Facts → ℕ → ℕ
 reply_word facts id = reply_in (λ k. facts.byte (Page id k))
 
@@ -48,11 +49,11 @@ keeps_decide image caller i cpu = is_on_board image i && not (i == caller) && (c
 abbrev pub keeps_commit : Image → Call → ℕ → Cpu → Bool
 keeps_commit image call i cpu = is_on_board image i && is_named call cpu.owner && is_running cpu.mode && not cpu.stopped
 
--- a cell besides root may not be reconfigured
+-- the cell, which lives besides root, is locked: its state is RUNNING_LOCKED
 abbrev pub is_locked : Facts → Live → Bool
 is_locked facts live = state_word facts (id_of live) == STATE_RUNNING_LOCKED
 
--- the same of another than the one with the id
+-- the cell, which lives besides root and is another than the one with the id, is locked
 abbrev pub is_other_locked : Facts → ℕ → Live → Bool
 is_other_locked facts id live = not (has_id id live) && is_locked facts live
 
@@ -60,6 +61,7 @@ is_other_locked facts id live = not (has_id id live) && is_locked facts live
 abbrev pub may_give : Image → Facts → ℕ → ℕ → Bool
 may_give image facts caller cpu = is_on_board image cpu && not (cpu == caller) && ((facts.cpu cpu).owner == image.system.root.id)
 
+-- the configurations of these live cells
 abbrev pub configs_of : List Live → List CellConfig
 configs_of cells = map (λ (live : Live). live.config) cells
 
@@ -81,14 +83,16 @@ unfoldable pub creation_of : Image → Facts → ℕ → ℕ → Creation
 creation_of image facts caller at =
     if list_any (is_locked facts) facts.cells then Refused EPERM else creation_by image facts caller (read_at image facts at)
 
+-- the number that a create is refused with, if it is refused
 abbrev pub refused_by : Creation → Option ℤ
 refused_by (Refused number) = Some number
 refused_by (Comes config) = None
 
--- an id that no live cell has, and root's, are refused
+-- the number that an id is refused with: one that no live cell has, and root's
 abbrev pub id_refusal : Image → Facts → ℕ → Option ℤ
 id_refusal image facts id = if is_some (cell_of image facts id) then (if id == image.system.root.id then Some EINVAL else None) else Some ENOENT
 
+-- the number that a destroy is refused with: for its id, or else where another cell is locked
 abbrev pub first_refusal : Option ℤ → Bool → Option ℤ
 first_refusal (Some number) locked = Some number
 first_refusal None locked = if locked then Some EPERM else None
@@ -102,7 +106,7 @@ decision image facts caller (Start id) = id_refusal image facts id
 decision image facts caller (Loadable id) = id_refusal image facts id
 decision image facts caller call = None
 
--- the cell doesn't run
+-- a cell in this state is down: it is SHUT_DOWN or FAILED
 abbrev pub is_down : ℕ → Bool
 is_down state = (state == STATE_SHUT_DOWN) || (state == STATE_FAILED)
 
@@ -118,11 +122,12 @@ settled_by passive state reply over =
     else (if not (reply == 0) then Some Denied
     else (if over then Some Timeout else None)))
 
+-- how the call's cell met the request to shut down, where these facts hold; nothing yet where it hasn't
 abbrev pub settled_of : Facts → Bool → Call → ℕ → Option Settled
 settled_of facts idle call waited =
     option_and_then (λ (c : CellConfig). settled_by (is_passive c) (state_word facts c.id) (reply_word facts c.id) (is_over c.msg_reply_timeout waited idle)) (named_cell facts.cells call)
 
--- how the cell met the note of a change
+-- how the cell met the note of a change, by the first that holds; nothing yet where none does
 abbrev pub heard_by : ℕ → ℕ → Bool → Option Heard
 heard_by state reply over =
     if is_down state then Some Down
@@ -130,6 +135,7 @@ heard_by state reply over =
     else (if not (reply == 0) then Some Other
     else (if over then Some Silent else None)))
 
+-- how the cell with the id met the note of a change, where these facts hold; nothing yet where it hasn't
 abbrev pub heard_of : Facts → Bool → ℕ → ℕ → Option Heard
 heard_of facts idle id waited =
     option_and_then (λ (c : CellConfig). heard_by (state_word facts id) (reply_word facts id) (is_over c.msg_reply_timeout waited idle)) (live_in facts.cells id)

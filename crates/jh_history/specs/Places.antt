@@ -11,7 +11,7 @@ is_same (Physical p) (Page cell offset) = false
 is_same (Page cell offset) (Physical q) = false
 is_same (Page cell offset) (Page other at) = (cell == other) && (offset == at)
 
--- it is a place of physical memory
+-- the place is one of physical memory
 abbrev pub is_physical : Place → Bool
 is_physical (Physical p) = true
 is_physical (Page cell offset) = false
@@ -21,12 +21,12 @@ abbrev pub number_of : Place → ℕ
 number_of (Physical p) = p
 number_of (Page cell offset) = offset
 
--- so many places further
+-- the place that lies so many places further
 abbrev pub further : Place → ℕ → Place
 further (Physical p) n = Physical (p + n)
 further (Page cell offset) n = Page cell (offset + n)
 
--- so many places in a row, from the first on
+-- the places in a row from the first on, so many of them
 abbrev pub places_in_row : Place → ℕ → List Place
 places_in_row place zero = []
 places_in_row place (suc count) = place ∷ places_in_row (further place 1) count
@@ -35,7 +35,7 @@ places_in_row place (suc count) = place ∷ places_in_row (further place 1) coun
 abbrev pub places_of_run : Run → List Place
 places_of_run run = places_in_row run.first run.count
 
--- the numbers of its places are numbers of 64 bits
+-- the sum of the number of the run's first place and its count is below 2^64
 abbrev pub IsRun : Run → Type 0
 IsRun run = number_of run.first + run.count < 2 ^ 64
 

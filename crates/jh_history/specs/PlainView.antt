@@ -27,6 +27,7 @@ use Rattle.jh_history.specs.Phases.{configs_of}
 use Rattle.jh_history.specs.Due.{due_at}
 use Rattle.jh_history.specs.Sound.{AreSoundCells, IsSound}
 
+-- the image, and what the slow plain program keeps beside it of a journal
 pub record PlainView : Type 0 where
   pub image : Image
   pub cpus : List Cpu

@@ -33,7 +33,7 @@ use Rattle.jh_history.specs.Phases.{configs_of}
 
 -- ---- the cells
 
--- neither the name nor the id is one that both have
+-- the two cells have neither one name nor one id
 abbrev pub AreTwo : CellConfig → CellConfig → Type 0
 AreTwo earlier later = is_namesake later earlier ≡ false
 
@@ -56,7 +56,7 @@ pub record HasItsCpus (image : Image) (cpu : ℕ → Cpu) (config : CellConfig) 
 abbrev pub IsOwner : Image → List CellConfig → ℕ → Type 0
 IsOwner image configs owner = (owner ≡ image.system.root.id) ⊎ ((config : CellConfig) × Contains configs config × (owner ≡ config.id))
 
--- so is each live cell, and each other CPU is root's
+-- each live cell has exactly the CPUs that its set names, and each other CPU is root's
 pub record AreOwned (image : Image) (configs : List CellConfig) (cpu : ℕ → Cpu) : Type 0 where
   pub cells : (config : CellConfig) → Contains configs config → HasItsCpus image cpu config
   pub others : (i : ℕ) → IsOwner image configs (cpu i).owner
@@ -68,18 +68,18 @@ pub record IsCalm (cpu : Cpu) : Type 0 where
   pub asked : cpu.asked ≡ false
   pub stopped : cpu.stopped ≡ false
 
--- it is no longer asked, and is stopped exactly where it would run
+-- the CPU is no longer asked to stop, and is stopped exactly where it would run
 pub record IsHalted (cpu : Cpu) : Type 0 where
   pub asked : cpu.asked ≡ false
   pub stopped : cpu.stopped ≡ is_running cpu.mode
 
--- it runs, and is asked to stop
+-- the CPU runs, and is asked to stop
 pub record IsAsked (cpu : Cpu) : Type 0 where
   pub asked : cpu.asked ≡ true
   pub stopped : cpu.stopped ≡ false
   pub running : cpu.mode ≡ Running
 
--- it is asked to stop until it has
+-- the CPU is asked to stop while it runs, or is halted already
 abbrev pub IsHalting : Cpu → Type 0
 IsHalting cpu = IsAsked cpu ⊎ IsHalted cpu
 
@@ -99,13 +99,13 @@ pub record IsCaller (image : Image) (caller : ℕ) (call : Call) (cpu : Cpu) : T
   pub asks : call ≡ decoded code a b
   pub management : is_management call ≡ true
 
--- another CPU of root on the board: up to the Decide it is asked to stop until it has, from then on it has
+-- another CPU of root on the board has come: up to the Decide it is halting, from then on it is halted
 abbrev pub HasCome : Phase → Cpu → Type 0
 HasCome ToDecide cpu = IsHalting cpu
 HasCome _ cpu = IsHalted cpu
 
--- a CPU of the cell that the call is about, once that cell has agreed, is asked to stop until it has; any other CPU
--- of a cell goes on
+-- a CPU of a cell goes on: it is calm; but before the Commit, once the cell that the call is about has agreed, a CPU of
+-- that cell is halting
 abbrev pub GoesOn : Call → Phase → Cpu → Type 0
 GoesOn call ToCommit cpu = (is_named call cpu.owner ≡ true → IsHalting cpu) × (is_named call cpu.owner ≡ false → IsCalm cpu)
 GoesOn call _ cpu = IsCalm cpu
@@ -124,7 +124,7 @@ pub record MayCome (image : Image) (configs : List CellConfig) (cpu : ℕ → Cp
   pub clean : IsClean image.system (configs ++ config ∷ [])
   pub room : pages_of image.system.root.memory_regions (configs ++ config ∷ []) ≤ pool_pages image.system
 
--- the cell with the id is told of another: it lives, and isn't passive
+-- the cell with the id is told of another: it lives, isn't passive, and isn't the one that it is told of
 pub record IsTold (configs : List CellConfig) (id about : ℕ) : Type 0 where
   pub config : CellConfig
   pub held : Contains configs config
@@ -132,13 +132,14 @@ pub record IsTold (configs : List CellConfig) (id about : ℕ) : Type 0 where
   pub other : id ≢ about
   pub active : is_passive config ≡ false
 
--- what is told of, before the call ends with the answer: a cell that the call made, and then its id, or one that it
--- destroyed and that lives no more, and then 0
+-- what is told of, and the call's answer: a cell that the call created, and then its id, or one that it destroyed and
+-- that lives no more, and then 0
 abbrev pub IsNews : List CellConfig → Call → ℕ → ℤ → Type 0
 IsNews configs (Create at) about answer = (config : CellConfig) × Contains configs config × (config.id ≡ about) × (answer ≡ pos about)
 IsNews configs (Destroy id) about answer = (about ≡ id) × ((config : CellConfig) → Contains configs config → config.id ≢ about) × (answer ≡ pos 0)
 IsNews configs _ about answer = ⊥
 
+-- the call is a create
 abbrev pub IsCreate : Call → Type 0
 IsCreate (Create at) = Unit {0}
 IsCreate _ = ⊥
@@ -161,7 +162,8 @@ pub record IsOpen (image : Image) (configs : List CellConfig) (cpu : ℕ → Cpu
   pub absent : (i : ℕ) → is_on_board image i ≡ false → IsCalm (cpu i)
   pub phase : IsInPhase image configs cpu o.caller o.call o.phase
 
--- without a call no CPU is asked to stop or stopped
+-- the call is as it has to be: without one no CPU is asked to stop or stopped; with one it is open beside these cells
+-- and CPUs
 abbrev pub IsSoundCall : Image → List CellConfig → (ℕ → Cpu) → Option OpenCall → Type 0
 IsSoundCall image configs cpu None = (i : ℕ) → IsCalm (cpu i)
 IsSoundCall image configs cpu (Some o) = IsOpen image configs cpu o
@@ -176,8 +178,8 @@ IsOfDevice image configs spec = (config : CellConfig) × Contains (image.system.
 abbrev pub HasEndpoint : List Endpoint → EndpointSpec → Type 0
 HasEndpoint endpoints spec = (e : Endpoint) × (endpoint_at spec.cell spec.device endpoints ≡ Some e) × (e.spec ≡ spec)
 
--- what is fixed of an endpoint is within its limits, its function is the device's, and its windows begin at multiples of
--- their sizes
+-- the endpoint is within its limits, shows its device's function, has room for 16 vectors, and its windows begin at
+-- multiples of their sizes
 pub record IsSoundEndpoint (e : Endpoint) : Type 0 where
   pub within : IsWithin e.spec
   pub function : e.space.spec ≡ e.spec.function
@@ -195,6 +197,7 @@ pub record AreEndpoints (image : Image) (configs : List CellConfig) (endpoints :
 
 -- ---- all of it
 
+-- the facts are sound: the cells that live, whose the CPUs are, the call that is open, and the endpoints
 pub record IsSound (image : Image) (facts : Facts) : Type 0 where
   pub cells : AreSoundCells image.system (configs_of facts.cells)
   pub cpus : AreOwned image (configs_of facts.cells) facts.cpu

@@ -24,11 +24,11 @@ wanted_of (AwaitOp width at value) = Some (record { access = ToRead; at = at; wi
 wanted_of IrqOp = None
 wanted_of (HvcOp code a b) = None
 
--- what it reaches, made by the cell
+-- what the wanted access reaches, made by the cell
 abbrev pub reach_of : Image → Facts → ℕ → Wanted → Reach
 reach_of image facts cell wanted = reach image facts cell wanted.access wanted.at wanted.width
 
--- it is what the operation of the cell reaches, where that makes an access
+-- what was found is what the operation of the cell reaches, where that makes an access
 abbrev pub IsReachOf : Image → Facts → ℕ → Op → Reach → Type 0
 IsReachOf image facts cell op found = (wanted : Wanted) → wanted_of op ≡ Some wanted → found ≡ reach_of image facts cell wanted
 
@@ -40,10 +40,11 @@ goes_on state = not state.asked && not state.stopped && is_running state.mode
 abbrev pub pending_op : Image → Facts → Cpu → ℕ → Option Op
 pending_op image facts state cpu = if goes_on state then op_at image facts state cpu else None
 
--- it is what the act reaches, made by the cell, where it is a write
+-- what was found is what the act of the cell reaches, where that is a write
 abbrev pub IsReachOfAct : Image → Facts → ℕ → Act → Reach → Type 0
 IsReachOfAct image facts cell (Write width at value ok) found = found ≡ reach image facts cell ToWrite at width
 IsReachOfAct image facts cell _ found = Unit {0}
 
+-- what was found is what the entry's act reaches, made by its cell, where that is a write
 abbrev pub IsReachOfEntry : Image → Facts → Entry → Reach → Type 0
 IsReachOfEntry image facts entry found = IsReachOfAct image facts entry.cell entry.act found

@@ -45,6 +45,7 @@ impl Model for ConfigBytes {
 }
 
 impl ConfigBytes {
+    /// The bytes of configuration space from the offset on: 1, 2 or 4 of them, at a multiple of their number.
     pub fn new(at: u64, width: u8) -> Self
         requires { IsInConfig (record { at = at; width = width }) }
         ensures { result ≡ record { at = at; width = width } }
@@ -52,14 +53,14 @@ impl ConfigBytes {
         ConfigBytes { at, width }
     }
 
-    /// The number of the function that has them, which is the device's bdf.
+    /// The number of the function that has the bytes, which is the device's bdf.
     pub(crate) fn function(&self) -> u64
         ensures { result ≡ self.now.at / 4096 }
     {
         self.at / FUNCTION
     }
 
-    /// Where they stand among the function's bytes.
+    /// Where the bytes stand among those of the function.
     pub(crate) fn offset(&self) -> u16
         ensures value { result ≡ self.now.at % 4096 }
         ensures within { result < 4096 }
@@ -68,7 +69,7 @@ impl ConfigBytes {
         (self.at % FUNCTION) as u16
     }
 
-    /// How many they are.
+    /// How many bytes they are: 1, 2 or 4.
     pub(crate) fn width(&self) -> u8
         ensures value { result ≡ self.now.width }
         ensures wide { (result ≡ 1) ⊎ (result ≡ 2) ⊎ (result ≡ 4) }
@@ -76,7 +77,7 @@ impl ConfigBytes {
         self.width
     }
 
-    /// Their number where all bits are set.
+    /// The number of so many bytes of which all bits are set, which is read of an absent function.
     pub(crate) fn all_ones(&self) -> u32
         ensures { result ≡ 256 ^ self.now.width - 1 }
     {
@@ -108,6 +109,8 @@ impl Model for Register {
 }
 
 impl Register {
+    /// The register of the cell's device of that number, in the window of BAR 0 or 1 at the offset: a multiple of 4,
+    /// below 4,096 in BAR 0 and below 512 in BAR 1.
     pub fn new(device: u32, bar: u8, at: u32) -> Self
         requires { IsInWindow (record { device = device; bar = bar; at = at }) }
         ensures { result ≡ record { device = device; bar = bar; at = at } }
@@ -115,12 +118,14 @@ impl Register {
         Register { device, bar, at }
     }
 
+    /// The number of the register's device among the devices of the cell.
     pub(crate) fn device(&self) -> u32
         ensures { result ≡ self.now.device }
     {
         self.device
     }
 
+    /// The BAR in whose window the register lies, 0 or 1.
     pub(crate) fn bar(&self) -> u8
         ensures value { result ≡ self.now.bar }
         ensures within { result < 2 }
@@ -128,6 +133,7 @@ impl Register {
         self.bar
     }
 
+    /// Where the register lies in the window, in bytes from its start.
     pub(crate) fn at(&self) -> u32
         ensures value { result ≡ self.now.at }
         ensures aligned { result % 4 ≡ 0 }

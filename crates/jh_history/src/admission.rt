@@ -47,7 +47,7 @@ impl Apart for Preload {
     }
 }
 
-/// The pages that root takes before any cell is created.
+/// How many pages of 4,096 bytes root's tables take before any cell is created.
 pub fn root_pages(system: &SystemConfig) -> u64
     ensures { result ≡ root_pages system.now }
 {
@@ -63,7 +63,7 @@ pub fn root_pages(system: &SystemConfig) -> u64
     target.tables()
 }
 
-/// The pages that the hypervisor has to give.
+/// How many pages of 4,096 bytes the hypervisor's memory has for tables and communication pages.
 pub fn pool_pages(system: &SystemConfig) -> u64
     ensures { result ≡ pool_pages system.now }
 {
@@ -78,7 +78,7 @@ fn is_clean(alloc: Global, system: &SystemConfig) -> Result<bool, NoMemory>
     Ok(found.is_empty())
 }
 
-/// Whether the system is admitted.
+/// Whether the system is admitted: the check finds nothing in it, and the pool has root's pages.
 fn is_admitted_system(alloc: Global, system: &SystemConfig) -> Result<bool, NoMemory>
     ensures { IfOk result (λ admitted. IsTrue admitted ↔ IsAdmittedSystem system.now) }
 {
@@ -118,7 +118,7 @@ fn is_sound_program(program: &Program) -> bool
     program.ops.len() <= MAX_OPS && program.ops.as_slice().iter().all(|op| is_well_formed(op))
 }
 
-/// Whether each of the programs is.
+/// Whether each of the programs has few enough operations, each within its limits.
 fn are_sound_programs(programs: &[Program]) -> bool
     ensures { IsTrue result ↔ All IsSoundProgram programs.now }
 {
@@ -134,7 +134,7 @@ pub fn is_sound_preload(hypervisor: &Region, preload: &Preload) -> bool
         && has_none_of(hypervisor.phys_start, hypervisor.size, preload.at, len)
 }
 
-/// Whether each of the preloads may be.
+/// Whether each of the preloads ends within the places and lies outside that memory of the hypervisor.
 fn are_sound_preloads(hypervisor: &Region, preloads: &[Preload]) -> bool
     ensures { IsTrue result ↔ All (IsSoundPreload hypervisor.now) preloads.now }
 {

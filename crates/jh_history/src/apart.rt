@@ -7,6 +7,7 @@ pub(crate) trait Apart {
     /// They have nothing in common.
     ghost IsApart: { Self → Self → Type 0 };
 
+    /// Whether the two have nothing in common.
     fn is_apart(&self, other: &Self) -> bool
         ensures { IsTrue result ↔ IsApart self.now other.now };
 }

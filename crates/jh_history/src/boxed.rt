@@ -22,6 +22,7 @@ impl Model for BoxedCell {
 }
 
 impl BoxedCell {
+    /// Puts the configuration into a box.
     pub fn new(alloc: Global, config: CellConfig) -> Result<Self, NoMemory>
         ensures { IfOk result (λ boxed. boxed ≡ config) }
     {
@@ -29,12 +30,14 @@ impl BoxedCell {
         Ok(BoxedCell { config })
     }
 
+    /// The configuration in the box.
     pub fn get(&self) -> &CellConfig
         ensures { result.now ≡ self.now }
     {
         &*self.config
     }
 
+    /// Takes the configuration out of the box. It takes no memory.
     pub fn into_inner(self) -> CellConfig
         ensures { result ≡ self }
     {

@@ -13,6 +13,7 @@ pub trait Bytes {
     /// The byte at the place.
     ghost byte_of: { Self → ThePlace → ℕ };
 
+    /// The byte at the place.
     fn byte(&self, place: Place) -> u8
         ensures { result ≡ byte_of self.now place };
 }

@@ -18,7 +18,7 @@ pub struct OpenCall {
 #[derive(Drop)]
 pub enum Phase {
     ToDecide,
-    /// The cell was asked to shut down. Its CPUs have made so many entries since.
+    /// The cell was asked to shut down, unless it is passive. Its CPUs have made so many entries since.
     ToSettle {
         waited: u64,
     },
@@ -26,7 +26,7 @@ pub enum Phase {
     ToCreate {
         config: BoxedCell,
     },
-    /// The cell has agreed.
+    /// The cell has agreed to shut down, or its time is over.
     ToCommit,
     /// The cell `id` is told that the cell `about` was created or destroyed; the call will end with the
     /// answer.
@@ -35,7 +35,7 @@ pub enum Phase {
         about: u64,
         answer: i64,
     },
-    /// It was told, and its CPUs have made so many entries since.
+    /// The cell `id` was told, and its CPUs have made so many entries since.
     ToNoted {
         id: u32,
         about: u64,
@@ -56,7 +56,7 @@ pub enum Creation {
 }
 
 impl Creation {
-    /// What the create is refused for.
+    /// The number that the create is refused with; `None` where its cell comes.
     pub fn refusal(&self) -> Option<i64>
         ensures { result ≡ refused_by self.now }
     {

@@ -29,7 +29,7 @@ struct Next {
     created: Option<BoxedCell>,
 }
 
-/// One more, or still the last number of 64 bits.
+/// The number and one, or still the last number of 64 bits.
 fn one_more(n: u64) -> u64
     ensures { result ≡ one_more n }
 {
@@ -43,7 +43,7 @@ fn is_told(about: u64, cell: &CellConfig) -> bool
     u64::from(cell.id) != about && !cell.is_passive()
 }
 
-/// The id of the first of the cells that is told.
+/// The id of the first of the cells that is told that the cell `about` was created or destroyed.
 fn first_told(about: u64, cells: &[CellConfig]) -> Option<u32>
     ensures { (lives : List TheLive) → configs_of lives ≡ cells.now → result ≡ first_told about lives }
 {
@@ -55,7 +55,7 @@ fn first_told(about: u64, cells: &[CellConfig]) -> Option<u32>
     None
 }
 
-/// That of those behind the one with the id.
+/// The id of the first cell that is told, of those behind the cell with the id `id`.
 fn next_told(about: u64, cells: &[CellConfig], id: u32) -> Option<u32>
     ensures { (lives : List TheLive) → configs_of lives ≡ cells.now → result ≡ first_told about (behind id lives) }
 {
@@ -102,6 +102,7 @@ fn decided(call: &Call, coming: Option<BoxedCell>, refused: Option<i64>) -> Phas
     }
 }
 
+/// The phase after a Settle: the Commit is next, or the end with EPERM where the cell denied.
 fn after_settle(how: Settled) -> Phase
     ensures { result ≡ after_settle how }
 {
@@ -151,6 +152,7 @@ fn after_commit(call: &Call, phase: Phase, cells: &[CellConfig]) -> Next
     }
 }
 
+/// The phase after a Note: the cell that was told is waited for, and none of its entries is counted yet.
 fn after_note(phase: Phase) -> Phase
     ensures { result ≡ after_note phase }
 {
@@ -165,6 +167,7 @@ fn after_note(phase: Phase) -> Phase
     }
 }
 
+/// The phase after a Noted: the next cell is told, or, where there is none, the call ends with its answer.
 fn after_noted(phase: Phase, cells: &[CellConfig]) -> Phase
     ensures { (lives : List TheLive) → configs_of lives ≡ cells.now → result ≡ after_noted phase lives }
 {
@@ -179,7 +182,7 @@ fn after_noted(phase: Phase, cells: &[CellConfig]) -> Phase
     }
 }
 
-/// Whether the phase waits for an answer of the cell.
+/// Whether the phase waits for an answer of the cell: to the request to shut down, or to the note of a change.
 fn waits_for(phase: &Phase, call: &Call, cell: u32) -> bool
     ensures { result ≡ waits_for cell call.now phase.now }
 {

@@ -45,7 +45,7 @@ pub fn is_program_of(program: &Program, name: &[u8], cpu: u8) -> bool
     program.cpu == cpu && program.cell.as_slice() == name
 }
 
-/// The operations of the CPU in the cell of that name.
+/// The operations of the CPU in the cell of that name; none where the image has no such program.
 #[tactic(auto, unfolding(crate::specs::Lives::program_of))]
 pub fn program_of<'a>(image: &'a Image, name: &[u8], cpu: u8) -> &'a [Op]
     ensures { result.now ≡ program_of image.now name.now cpu }
@@ -105,7 +105,8 @@ pub(crate) fn config_in<'a>(
     }
 }
 
-/// Its regions.
+/// The regions of the live cell with the id, where cells of these configurations live besides root; none where no cell
+/// has the id.
 fn regions_in<'a>(image: &'a Image, cells: &'a [CellConfig], id: u32) -> &'a [Region]
     requires { IsClean image.now.system cells.now }
     ensures regions { (lives : List TheLive) → configs_of lives ≡ cells.now → result.now ≡ regions_in image.now lives id }
@@ -117,7 +118,8 @@ fn regions_in<'a>(image: &'a Image, cells: &'a [CellConfig], id: u32) -> &'a [Re
     }
 }
 
-/// Its devices.
+/// The devices of the live cell with the id, where cells of these configurations live besides root; none where no cell
+/// has the id.
 pub(crate) fn devices_in<'a>(image: &'a Image, cells: &'a [CellConfig], id: u32) -> &'a [PciDevice]
     ensures { (lives : List TheLive) → configs_of lives ≡ cells.now → result.now ≡ list_in image.now lives id }
 {
@@ -127,7 +129,7 @@ pub(crate) fn devices_in<'a>(image: &'a Image, cells: &'a [CellConfig], id: u32)
     }
 }
 
-/// The operations of its program of the CPU.
+/// The operations that the CPU has in the live cell with the id; none where no cell has the id.
 fn ops_in<'a>(image: &'a Image, cells: &[CellConfig], id: u32, cpu: u8) -> &'a [Op]
     requires { IsAdmitted image.now }
     ensures ops { (lives : List TheLive) → configs_of lives ≡ cells.now → result.now ≡ ops_in image.now lives id cpu }
@@ -194,7 +196,7 @@ fn is_kept(image: &Image, cells: &LiveCells, cell: u32, place: Place) -> bool
     }
 }
 
-/// Whether it is kept from one of the run.
+/// Whether the cell is kept from a place of the run.
 fn is_run_kept(image: &Image, cells: &LiveCells, cell: u32, run: Run) -> bool
     requires { IsRun run }
     ensures { result ≡ list_any (is_kept image.now cells.now cell) (places_of_run run) }
@@ -207,7 +209,7 @@ fn is_run_kept(image: &Image, cells: &LiveCells, cell: u32, run: Run) -> bool
     false
 }
 
-/// Whether it is kept from one of these.
+/// Whether the cell is kept from one of the places.
 fn are_kept(image: &Image, cells: &LiveCells, cell: u32, places: &Places) -> bool
     ensures { result ≡ list_any (is_kept image.now cells.now cell) places.now }
 {
@@ -218,7 +220,8 @@ fn are_kept(image: &Image, cells: &LiveCells, cell: u32, places: &Places) -> boo
     is_run_kept(image, cells, cell, high)
 }
 
-/// The memory that the cell's access reaches.
+/// The places of memory that the cell's access reaches, where these cells live besides root; `None` where some byte
+/// isn't granted.
 pub(crate) fn memory_in(
     image: &Image,
     cells: &LiveCells,
@@ -241,7 +244,8 @@ pub(crate) fn memory_in(
     }
 }
 
-/// Whether it is a subpage region that has the cell's access, and the cell is kept from none of its bytes.
+/// Whether the region is a subpage region that has the cell's whole access, and the cell is kept from none of its
+/// bytes.
 fn takes_all(image: &Image, cells: &LiveCells, cell: u32, region: &Region, wanted: &Wanted) -> bool
     requires some { 0 < wanted.now.width }
     requires few { wanted.now.width ≤ 8 }
@@ -297,7 +301,7 @@ fn behind_in(
     }
 }
 
-/// What the cell's access reaches.
+/// What the cell's access reaches, where these cells live besides root, and all have these endpoints.
 #[tactic(auto, using(crate::proofs::ReachLemmas::reaches_memory, crate::proofs::ReachLemmas::reaches_behind))]
 pub(crate) fn reach_in(
     image: &Image,

@@ -46,7 +46,7 @@ fn change_if(good: bool) -> Change
 }
 
 impl Change {
-    /// What the act does to its CPU, other than with the rest of them.
+    /// What the act does to the CPU that makes it, as far as it changes no other CPU.
     pub fn of(act: &Act) -> Change
         ensures { result ≡ change_of act.now }
     {
@@ -65,7 +65,7 @@ impl Change {
         }
     }
 
-    /// Changes the CPU so.
+    /// Makes the change at the CPU.
     pub fn apply(self, cpu: &mut Cpu)
         ensures { cpu.new ≡ changed self cpu.old }
     {

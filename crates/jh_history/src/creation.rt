@@ -20,14 +20,15 @@ use jh_num::NoMemory;
 use jh_script::Image;
 use std::alloc::Global;
 
-/// Whether the caller may give the CPU away.
+/// Whether the caller may give the CPU to a new cell: it is on the board, root's, and not the caller.
 fn may_give(image: &Image, state: Cpu, caller: u8, cpu: u8) -> bool
     ensures { result ≡ gives_by image.now caller cpu state }
 {
     is_on_board(image, cpu) && cpu != caller && state.owner == image.system.root.id
 }
 
-/// Which CPUs it may.
+/// Of each of the 16 CPUs, whether the caller may give it to a new cell: it is on the board, root's, and not the
+/// caller.
 fn given(image: &Image, cpus: &[Cpu], caller: u8) -> [bool; 16]
     requires admitted { IsAdmitted image.now }
     requires cpus { length cpus.now ≡ 16 }
@@ -87,8 +88,8 @@ fn refusal_by(
     refusal_with(alloc, image, cells, may, config, pages)
 }
 
-/// The cell comes, unless it is refused.
-fn unless_refused(config: BoxedCell, refusal: Option<i64>) -> Creation
+/// What comes of a configuration that was read: the cell, unless it is refused.
+pub fn unless_refused(config: BoxedCell, refusal: Option<i64>) -> Creation
     ensures { result ≡ unless_refused config refusal }
 {
     match refusal {
@@ -97,10 +98,10 @@ fn unless_refused(config: BoxedCell, refusal: Option<i64>) -> Creation
     }
 }
 
-/// What comes of a create by the caller which has read this, beside 15 cells at most. Nothing is told where a CPU
-/// may be given away beside 15 of them: each has a CPU for itself, and the caller is another. It takes memory for an
-/// index of the new cell's regions, and for nothing else.
-pub fn judged(
+/// What comes of a create by the caller which has read this, beside 15 cells at most. `None` is told where a CPU may be
+/// given away beside 15 of them, which never is: each has a CPU for itself, and the caller is another. It takes memory
+/// for an index of the new cell's regions, and for nothing else.
+pub(crate) fn judged(
     alloc: Global,
     image: &Image,
     cells: &[CellConfig],

@@ -63,7 +63,8 @@ fn leave(endpoints: &mut Endpoints, spec: EndpointSpec) -> Slot
 }
 
 impl DeviceChange {
-    /// What the Commit of the call does to the devices of its cell.
+    /// What the Commit of the call does to the devices of its cell: by a create they join, by a destroy they leave, by
+    /// a start they are reset. Of any other call, by which no device changes, it tells a reset too.
     pub fn of(call: &Call) -> DeviceChange
         ensures { result ≡ device_change call.now }
     {
@@ -74,7 +75,8 @@ impl DeviceChange {
         }
     }
 
-    /// The same of the call that is open.
+    /// What the Commit of the open call does to the devices of its cell, as `of` tells. Where no call is open, so that
+    /// no device changes, it tells a reset.
     pub fn by(call: Option<&OpenCall>) -> DeviceChange
         ensures { result ≡ change_by (option_copied call.entry) }
     {

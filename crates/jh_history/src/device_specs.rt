@@ -22,7 +22,7 @@ pub fn is_endpoint(number: usize, device: &PciDevice) -> bool
     number <= u32::MAX as usize && device.is_shmem()
 }
 
-/// The section of the device.
+/// The region that is the device's section `k`, counted from its first; `None` where the cell has no such region.
 fn section<'a>(config: &'a CellConfig, device: &PciDevice, k: u8) -> Option<&'a Region>
     ensures { option_copied result ≡ section_at config.now device.now k }
 {
@@ -30,6 +30,7 @@ fn section<'a>(config: &'a CellConfig, device: &PciDevice, k: u8) -> Option<&'a 
     config.memory_regions.as_slice().get(at)
 }
 
+/// How many bytes the section has; 0 where it is no region of the cell.
 fn size_of(region: Option<&Region>) -> u64
     ensures { result ≡ size_of (option_copied region.entry) }
 {
@@ -39,6 +40,7 @@ fn size_of(region: Option<&Region>) -> u64
     }
 }
 
+/// The physical place where the section begins; 0 where it is no region of the cell.
 fn place_of(region: Option<&Region>) -> u64
     ensures { result ≡ place_of_section (option_copied region.entry) }
 {
@@ -48,6 +50,7 @@ fn place_of(region: Option<&Region>) -> u64
     }
 }
 
+/// The address where the section begins; 0 where it is no region of the cell.
 fn address_of(region: Option<&Region>) -> u64
     ensures { result ≡ address_of_section (option_copied region.entry) }
 {
@@ -57,7 +60,7 @@ fn address_of(region: Option<&Region>) -> u64
     }
 }
 
-/// What the device's function shows.
+/// What the device's function shows in configuration space; the size of the first output section stands for all.
 fn function_of(config: &CellConfig, device: &PciDevice) -> FunctionSpec
     requires { IsGoodDevice config.now device.now }
     ensures { result ≡ function_of config.now device.now }

@@ -95,6 +95,7 @@ fn space_window(space: &ConfigSpace, device: u32, wanted: &Wanted) -> Option<Win
 }
 
 impl<'a> Devices<'a> {
+    /// The devices of the configuration of the cell with that id, and the endpoints of all cells.
     pub fn new(cell: u32, list: &'a [PciDevice], endpoints: &'a Endpoints) -> Self
         ensures { result ≡ record { cell = cell; list = list.now; endpoints = endpoints.now.list } }
     {
@@ -112,7 +113,7 @@ impl<'a> Devices<'a> {
         self.cell
     }
 
-    /// What the cell reads of configuration space.
+    /// What the cell reads of configuration space: of an absent function a number of which all bits are set.
     pub(crate) fn read_config(&self, bytes: &ConfigBytes) -> u32
         ensures { result ≡ config_told self.now bytes.now }
     {

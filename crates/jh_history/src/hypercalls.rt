@@ -14,7 +14,7 @@ use crate::phases::state_word;
 use jh_call::{Call, CpuSeen, Seen, answer, decode};
 use jh_cpu::{Cpu, Mode};
 
-/// The state word of the live cell with the id, 0 for root.
+/// The state word of the live cell with the id, 0 for root; `None` where no live cell has it.
 fn state_told<K: Known>(known: &K, id: u64) -> Option<u32>
     ensures { (i : TheImage) (f : Facts) → K.Knows known.now i f → result ≡ state_told i f id }
 {
@@ -91,7 +91,7 @@ fn seen_of<K: Known>(known: &K, cell: u32, root: bool, call: &Call) -> Seen
     }
 }
 
-/// Whether the call manages cells.
+/// Whether the call manages cells: a create, a start, a set loadable or a destroy.
 fn is_management(call: &Call) -> bool
     ensures { result ≡ is_management call.now }
 {

@@ -32,12 +32,14 @@ impl Journal {
         }
     }
 
+    /// How many entries the journal has.
     pub fn len(&self) -> usize
         ensures { result ≡ length self.now.entries }
     {
         self.entries.len()
     }
 
+    /// Whether the journal has no entry.
     pub fn is_empty(&self) -> bool
         ensures { IsTrue result ↔ (self.now.entries ≡ []) }
     {
@@ -51,6 +53,7 @@ impl Journal {
         self.entries.get(index)
     }
 
+    /// All entries, the oldest first.
     pub fn as_slice(&self) -> &[Entry]
         ensures { result.now ≡ self.now.entries }
     {

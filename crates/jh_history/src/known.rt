@@ -30,11 +30,11 @@ pub trait Known {
     fn root(&self) -> u32
         ensures { (i : Image) (f : Facts) → Knows self.now i f → result ≡ i.system.root.id };
 
-    /// The configuration of the live cell with the id, root's too.
+    /// The configuration of the live cell with the id, root's too; `None` where no live cell has it.
     fn cell(&self, id: u64) -> Option<&CellConfig>
         ensures { (i : Image) (f : Facts) → Knows self.now i f → option_copied result ≡ cell_of i f id };
 
-    /// The same of a cell that lives besides root.
+    /// The configuration of the cell with the id that lives besides root; `None` where no such cell lives.
     fn live(&self, id: u64) -> Option<&CellConfig>
         ensures { (i : Image) (f : Facts) → Knows self.now i f → option_copied result ≡ live_in f.cells id };
 
@@ -42,15 +42,15 @@ pub trait Known {
     fn count(&self) -> u32
         ensures { (i : Image) (f : Facts) → Knows self.now i f → result ≡ length f.cells + 1 };
 
-    /// How many pages the pool has.
+    /// How many pages of 4,096 bytes the pool has.
     fn size(&self) -> u32
         ensures { (i : Image) (f : Facts) → Knows self.now i f → result ≡ pool_pages i.system };
 
-    /// How many pages the live cells use.
+    /// How many pages of the pool the live cells use, root too.
     fn used(&self) -> u32
         ensures { (i : Image) (f : Facts) → Knows self.now i f → result ≡ pages_of i.system.root.memory_regions (configs_of f.cells) };
 
-    /// Whether a cell besides root and the one with the id is locked.
+    /// Whether a cell that lives besides root, other than the one with the id, is locked: its state is RUNNING_LOCKED.
     fn is_other_locked(&self, id: u64) -> bool
         ensures { (i : Image) (f : Facts) → Knows self.now i f → result ≡ list_any (is_other_locked f id) f.cells };
 
@@ -85,7 +85,7 @@ pub trait Known {
         ensures told { (i : Image) (f : Facts) → Knows self.now i f → result ≡ op_at i f state cpu }
         ensures plain { IfSome result IsWellFormed };
 
-    /// What the cell's access reaches. It is asked once a turn, and only for the access that the CPU's next entry makes.
+    /// What the cell's access reaches. For a CPU whose entry isn't made it is asked only where the CPU is at an await.
     fn reach(&self, cell: u32, wanted: &Wanted) -> Reach
         requires { wanted.now.width ≤ 8 }
         ensures { (i : Image) (f : Facts) → Knows self.now i f → result ≡ reach_of i f cell wanted.now };

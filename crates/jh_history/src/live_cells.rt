@@ -68,14 +68,14 @@ fn takes(region: &Region, loadable: bool, place: u64) -> bool
     region.is_unshared() && !(loadable && region.is_loadable()) && region.has_place(place)
 }
 
-/// Whether one of the regions does.
+/// Whether one of the regions takes the place from root, where their cell is loadable or not.
 fn any_takes(regions: &[Region], loadable: bool, place: u64) -> bool
     ensures { result ≡ list_any (λ region. takes loadable region place) regions.now }
 {
     regions.iter().any(|region| takes(region, loadable, place))
 }
 
-/// Whether one of the cells does.
+/// Whether one of the cells, each with its mark, takes the place from root.
 fn any_closes(cells: &[CellConfig], marks: &[bool], place: u64) -> bool
     requires { length marks.now ≡ length cells.now }
     ensures { result ≡ is_closed (map holder_of_live (joined cells.now marks.now)) place }
@@ -99,7 +99,7 @@ impl LiveCells {
         }
     }
 
-    /// Their configurations.
+    /// The configurations of the cells that live besides root, in order of creation.
     pub(crate) fn configs(&self) -> &[CellConfig]
         ensures { result.now ≡ configs_of self.now }
     {
@@ -113,7 +113,7 @@ impl LiveCells {
         any_closes(&self.configs, &self.marks, place)
     }
 
-    /// One more lives, last in order and not loadable.
+    /// Adds a cell that lives, as the last in order and not loadable.
     fn add(&mut self, config: CellConfig) -> Result<(), NoMemory>
         ensures ok { OnOk result (self.new ≡ self.old ++ (record { config = config; loadable = false }) ∷ []) }
         ensures err { OnErr result (self.new ≡ self.old) }

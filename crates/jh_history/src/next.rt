@@ -305,7 +305,7 @@ fn is_other_due<K: Known>(known: &K, caller: u8, cpu: u8) -> bool
     known.has_cpu(cpu) && cpu != caller && is_state_due(known, cpu, known.cpu(cpu))
 }
 
-/// Whether any CPU is.
+/// Whether any CPU of the board other than the caller has something due by its own program.
 fn any_other_due<K: Known>(known: &K, caller: u8) -> bool
     ensures { (i : TheImage) (f : Facts) → K.Knows known.now i f → result ≡ any_below (is_other_due i f caller) 16 }
 {
@@ -377,7 +377,7 @@ fn is_next_due<K: Known>(known: &K, cpu: u8, state: Cpu) -> bool
     }
 }
 
-/// The entry that the CPU makes next, and what its access reaches. Only what a create reads takes memory.
+/// The entry that the CPU makes next, and what its access reaches. Only the Decide of a create takes memory.
 pub fn next_of<K: Known>(known: &K, cpu: u8) -> Result<Option<DueEntry>, NoMemory>
     requires { cpu < 16 }
     ensures due { (i : TheImage) (f : Facts) → K.Knows known.now i f → IfOk result (λ due. option_map (λ (due : TheDue). due.entry) due ≡ due_at i f cpu) }

@@ -37,7 +37,7 @@ fn on_page(change: PageChange, cell: &CellConfig) -> PageWrite
     }
 }
 
-/// The configuration of the cell with the id among these.
+/// The configuration of the cell with the id among these; `None` where no cell has it.
 pub(crate) fn live_in(cells: &[CellConfig], id: u64) -> Option<&CellConfig>
     ensures { (lives : List TheLive) → configs_of lives ≡ cells.now → option_copied result ≡ live_in lives id }
 {
@@ -97,6 +97,7 @@ fn failing(image: &Image, cpus: &[Cpu], entry: &Entry) -> Option<PageWrite>
     })
 }
 
+/// The write where the access is a violation; none where it is good.
 fn unless_good(good: bool, write: Option<PageWrite>) -> Option<PageWrite>
     ensures { result ≡ unless_good good write }
 {

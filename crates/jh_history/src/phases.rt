@@ -32,7 +32,7 @@ const STATE_AT: u64 = 8;
 
 const REPLY_AT: u64 = 16;
 
-/// Whether the call is about the cell with the id.
+/// Whether the call is about the cell with the id: a start, a set loadable or a destroy that names it.
 pub(crate) fn is_named(call: &Call, id: u64) -> bool
     ensures { result ≡ is_named call.now id }
 {
@@ -57,21 +57,22 @@ fn word_at<K: Known>(known: &K, cell: u32, offset: u64) -> u32
     known.value(&Places::new(run, none)) as u32
 }
 
-/// The state of the live cell.
+/// The state word of the communication page of the live cell.
 pub(crate) fn state_word<K: Known>(known: &K, cell: u32) -> u32
     ensures { (i : TheImage) (f : Facts) → K.Knows known.now i f → result ≡ state_word f cell }
 {
     word_at(known, cell, STATE_AT)
 }
 
-/// What the live cell replied.
+/// The reply in the communication page of the live cell; 0 where it didn't reply.
 fn reply_word<K: Known>(known: &K, cell: u32) -> u32
     ensures { (i : TheImage) (f : Facts) → K.Knows known.now i f → result ≡ reply_word f cell }
 {
     word_at(known, cell, REPLY_AT)
 }
 
-/// Whether the Decide waits for the CPU.
+/// Whether the Decide waits for the CPU: one of the board other than the caller that is root's, runs and hasn't
+/// stopped.
 fn keeps_decide<K: Known>(known: &K, caller: u8, cpu: u8) -> bool
     requires { cpu < 16 }
     ensures { (i : TheImage) (f : Facts) → K.Knows known.now i f → result ≡ keeps_decide i caller cpu (f.cpu cpu) }
@@ -84,7 +85,7 @@ fn keeps_decide<K: Known>(known: &K, caller: u8, cpu: u8) -> bool
         && !state.stopped
 }
 
-/// Whether the Decide waits for any.
+/// Whether the Decide waits for any CPU.
 fn any_keeps_decide<K: Known>(known: &K, caller: u8) -> bool
     ensures { (i : TheImage) (f : Facts) → K.Knows known.now i f → result ≡ any_below (λ k. keeps_decide i caller k (f.cpu k)) 16 }
 {
@@ -96,7 +97,7 @@ fn any_keeps_decide<K: Known>(known: &K, caller: u8) -> bool
     false
 }
 
-/// Whether the Commit waits for the CPU.
+/// Whether the Commit waits for the CPU: one of the board that is the call's cell's, runs and hasn't stopped.
 fn keeps_commit<K: Known>(known: &K, call: &Call, cpu: u8) -> bool
     requires { cpu < 16 }
     ensures { (i : TheImage) (f : Facts) → K.Knows known.now i f → result ≡ keeps_commit i call.now cpu (f.cpu cpu) }
@@ -108,7 +109,7 @@ fn keeps_commit<K: Known>(known: &K, call: &Call, cpu: u8) -> bool
         && !state.stopped
 }
 
-/// Whether the Commit waits for any.
+/// Whether the Commit waits for any CPU.
 fn any_keeps_commit<K: Known>(known: &K, call: &Call) -> bool
     ensures { (i : TheImage) (f : Facts) → K.Knows known.now i f → result ≡ any_below (λ k. keeps_commit i call.now k (f.cpu k)) 16 }
 {
@@ -120,14 +121,15 @@ fn any_keeps_commit<K: Known>(known: &K, call: &Call) -> bool
     false
 }
 
-/// Whether a cell in that state doesn't run.
+/// Whether a cell in that state doesn't run: the state is SHUT_DOWN or FAILED.
 fn is_down(state: u32) -> bool
     ensures { result ≡ is_down state }
 {
     state == STATE_SHUT_DOWN || state == STATE_FAILED
 }
 
-/// Whether the cell has had its time: so many entries, or no CPU but the caller has anything due.
+/// Whether the cell has had its time: its CPUs made `timeout` entries, which isn't 0, or no CPU but the caller has
+/// anything due.
 fn is_over<K: Known>(known: &K, caller: u8, timeout: u64, waited: u64) -> bool
     ensures { (i : TheImage) (f : Facts) → K.Knows known.now i f → result ≡ is_over timeout waited (is_idle_but i f caller) }
 {
@@ -163,7 +165,7 @@ fn heard_by(state: u32, reply: u32) -> Option<Heard>
     if reply == 0 { None } else { Some(Heard::Other) }
 }
 
-/// What a call about the id is refused for, by which cell it is.
+/// What a call about the id is refused for: ENOENT where no live cell has it, EINVAL where it is root's.
 fn id_refusal<K: Known>(known: &K, id: u64) -> Option<i64>
     ensures { (i : TheImage) (f : Facts) → K.Knows known.now i f → result ≡ id_refusal i f id }
 {
@@ -177,7 +179,7 @@ fn id_refusal<K: Known>(known: &K, id: u64) -> Option<i64>
     }
 }
 
-/// The first refusal, else that of a locked cell.
+/// The refusal, or EPERM where there is none and another cell is locked.
 fn first_refusal(refusal: Option<i64>, locked: bool) -> Option<i64>
     ensures { result ≡ first_refusal refusal locked }
 {
@@ -242,7 +244,7 @@ fn heard_in<K: Known>(known: &K, caller: u8, id: u32, timeout: u64, waited: u64)
     }
 }
 
-/// The same of a live cell; nothing where none has the id.
+/// How the live cell with the id met the note of a change; nothing yet where it hasn't, or where no cell has the id.
 fn heard_of<K: Known>(known: &K, caller: u8, id: u32, waited: u64) -> Option<Heard>
     ensures { (i : TheImage) (f : Facts) → K.Knows known.now i f → result ≡ heard_of f (is_idle_but i f caller) id waited }
 {

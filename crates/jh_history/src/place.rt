@@ -35,7 +35,7 @@ impl Place {
 }
 
 impl Place {
-    /// The place so many further.
+    /// The place `count` further on, in the same memory or page.
     pub fn further(self, count: u8) -> Place
         requires { number_of self + count < 2 ^ 64 }
         ensures { result ≡ further self count }

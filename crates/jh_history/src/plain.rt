@@ -334,7 +334,7 @@ impl<'a> Plain<'a> {
         }
     }
 
-    /// That of the open call.
+    /// The configuration that the open call reads, where it is a create.
     fn read_coming(&self) -> Result<Option<BoxedCell>, NoMemory>
         ensures { IfOk result (λ coming. (i : TheImage) (f : Facts) → StandsFor self.now i f → coming ≡ coming_of i f) }
     {

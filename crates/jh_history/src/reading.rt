@@ -48,7 +48,7 @@ fn in_page(at: u64, end: u64) -> u16
     left.min(end - at) as u16
 }
 
-/// So many bytes at the address, where root may read all of them.
+/// The `count` bytes at the address, where root may read all of them.
 fn bytes_at<R: RootBytes>(
     alloc: Global,
     root: &R,

@@ -46,7 +46,7 @@ fn preloaded_byte(preload: &Preload, place: u64, before: u8) -> u8
     }
 }
 
-/// The byte of physical memory that they put.
+/// The byte of physical memory that the preloads put at the place; 0 where none puts one.
 fn preloads_byte(image: &Image, place: u64) -> u8
     requires { IsAdmitted image.now }
     ensures { result ≡ fold preloaded (λ _. 0) image.now.preloads place }
@@ -58,7 +58,7 @@ fn preloads_byte(image: &Image, place: u64) -> u8
     byte
 }
 
-/// The byte that the preloads put.
+/// The byte at the place as the preloads put it; 0 in a communication page, and where no preload puts one.
 pub(crate) fn loaded_byte(image: &Image, place: Place) -> u8
     requires { IsAdmitted image.now }
     ensures { result ≡ loaded_byte image.now place }
@@ -107,7 +107,7 @@ pub(crate) fn write_slot(bytes: &mut Vec<WrittenByte>, slot: &Slot) -> Result<()
     write_places(bytes, &slot_places(slot), u64::from(slot.value))
 }
 
-/// Writes it, where there is one.
+/// Writes the word of a state table, where there is one to write.
 pub(crate) fn write_slot_if(
     bytes: &mut Vec<WrittenByte>,
     slot: Option<Slot>,
@@ -184,7 +184,7 @@ fn write_page(bytes: &mut Vec<WrittenByte>, write: &PageWrite) -> Result<(), NoM
     }
 }
 
-/// Makes the change, where there is one.
+/// Makes the change of a communication page, where there is one.
 pub(crate) fn write_page_if(
     bytes: &mut Vec<WrittenByte>,
     write: Option<PageWrite>,

@@ -14,28 +14,34 @@ use Rattle.jh_image.specs.declared.board.BoardFault.TheVariants.{Json, Member, N
 
 -- ---- entries: objects with these members and no others
 
+-- the names of a preload's members
 abbrev pub preload_names : List (List ℕ)
 preload_names = codes "file" ∷ codes "at" ∷ []
 
+-- the preload that an object's members tell, whatever other names it has
 abbrev pub preload_members : Data → Option PreloadFile
 preload_members d = do
   file ← told_at as_str (codes "file") d
   at ← told_at number_told (codes "at") d
   Some (record { file = file; at = at })
 
+-- the preload that an object tells, where it has no other names than a preload's
 unfoldable pub preload_told : Data → Option PreloadFile
 preload_told d = if has_only preload_names d then preload_members d else None
 
--- a cell's name: 1 to 31 characters from the space to the tilde
+-- the text is a cell's name: 1 to 31 characters from the space to the tilde
 abbrev pub is_cell_name : List ℕ → Bool
 is_cell_name text = nat_lt 0 (length text) && (nat_le (length text) 31 && list_all is_printable text)
 
+-- the cell's name that a text tells, if it is one
 abbrev pub cell_told : Data → Option (List ℕ)
 cell_told d = option_and_then (λ text. if is_cell_name text then Some text else None) (as_str d)
 
+-- the names of a program's members
 abbrev pub program_names : List (List ℕ)
 program_names = codes "cell" ∷ codes "cpu" ∷ codes "file" ∷ []
 
+-- the program's file that an object's members tell, whatever other names it has
 abbrev pub program_members : Data → Option ProgramFile
 program_members d = do
   cell ← told_at cell_told (codes "cell") d
@@ -43,19 +49,22 @@ program_members d = do
   file ← told_at as_str (codes "file") d
   Some (record { cell = cell; cpu = cpu; file = file })
 
+-- the program's file that an object tells, where it has no other names than a program's
 unfoldable pub program_told : Data → Option ProgramFile
 program_told d = if has_only program_names d then program_members d else None
 
 -- ---- the board's members
 
--- a CPU of a cell
+-- a CPU of a cell: the cell's name, and the CPU's number
 pub record Seat : Type 0 where
   pub cell : List ℕ
   pub cpu : ℕ
 
+-- the CPU of the cell that the program's file is for
 abbrev pub seat_of : ProgramFile → Seat
 seat_of file = record { cell = file.cell; cpu = file.cpu }
 
+-- the two are the same CPU of the same cell
 abbrev pub is_seat : Seat → Seat → Bool
 is_seat one other = pointwise nat_eq one.cell other.cell && (one.cpu == other.cpu)
 
@@ -64,6 +73,7 @@ unfoldable pub are_distinct : List Seat → Bool
 are_distinct [] = true
 are_distinct (seat ∷ seats) = not (list_any (is_seat seat) seats) && are_distinct seats
 
+-- the files of programs, where no two are of one CPU of one cell
 abbrev pub where_distinct : List ProgramFile → Option (List ProgramFile)
 where_distinct files = if are_distinct (map seat_of files) then Some files else None
 
@@ -71,24 +81,26 @@ where_distinct files = if are_distinct (map seat_of files) then Some files else 
 abbrev pub system_told : Data → Option (List ℕ)
 system_told d = told_at as_str (codes "system") d
 
--- at most 64 preloads; none where the member is missing
+-- the files of at most 64 preloads; none where the member is missing
 unfoldable pub preloads_told : Data → Option (List PreloadFile)
 preloads_told d = list_at preload_told 64 (codes "preloads") d
 
--- at most 256 programs, each of a CPU of its own; none where the member is missing
+-- the files of at most 256 programs, each for a CPU of its own; none where the member is missing
 unfoldable pub programs_told : Data → Option (List ProgramFile)
 programs_told d = option_and_then where_distinct (list_at program_told 256 (codes "programs") d)
 
+-- the names of a board's members
 abbrev pub board_names : List (List ℕ)
 board_names = codes "system" ∷ codes "preloads" ∷ codes "programs" ∷ []
 
 -- ---- the board
 
--- a member is at fault where it tells nothing
+-- the name of the member that is at fault: it tells nothing
 abbrev pub fault_at : {X : Type 0} → List ℕ → Option X → Option (List ℕ)
 fault_at name (Some x) = None
 fault_at name None = Some name
 
+-- the first of these that there is
 abbrev pub first_some : {X : Type 0} → List (Option X) → Option X
 first_some [] = None
 first_some (None ∷ rest) = first_some rest
@@ -116,7 +128,7 @@ listing_made d = record {
   programs = unwrap_or (programs_told d) [];
 }
 
--- what an object tells
+-- what an object tells: the board's listing, or the member that is at fault
 unfoldable pub object_told : Data → Result Listing BoardFault
 object_told d = unless_at_fault (member_fault d) (listing_made d)
 

@@ -53,7 +53,7 @@ pub record StopsReading (contents : Contents) (board file : List ℕ) (cause : I
   pub read : ReadsTo contents board stage
   pub stops : Stops contents board stage file cause
 
--- a fact of the file and the cause, unless memory ran out
+-- P holds of the file and the cause, unless memory ran out
 abbrev pub OnRefused : (List ℕ → ImageCause → Type 0) → ImageFault → Type 0
 OnRefused P (Refused file cause) = P file cause
 OnRefused P NoMemory = ⊤
@@ -63,12 +63,14 @@ abbrev pub IsImageAnswer : Contents → List ℕ → Result Image ImageFault →
 IsImageAnswer contents board (Ok image) = IsImage contents board image
 IsImageAnswer contents board (Err fault) = OnRefused (StopsReading contents board) fault
 
--- that a file can't be read is answered only where the count of faults rose, and the file is the one of the last
--- read that failed
+-- the cause is that a file can't be read only where the count of faults rose, and the file is that of the last read
+-- that failed
 abbrev pub IsCountedAt : ℕ → ℕ → List ℕ → List ℕ → ImageCause → Type 0
 IsCountedAt old new failed file ReadFault = Rose old new × (failed ≡ file)
 IsCountedAt old new failed file _ = ⊤
 
+-- what is answered is that a file can't be read only where the count of faults rose, and the file is that of the last
+-- read that failed
 abbrev pub IsCounted : ℕ → ℕ → List ℕ → ImageFault → Type 0
 IsCounted old new failed fault = OnRefused (IsCountedAt old new failed) fault
 
@@ -88,26 +90,27 @@ IsBoardRefusal name boards.Json file cause = IsRefusal name Json file cause
 IsBoardRefusal name (boards.Member member) file cause = IsRefusal name (Member member) file cause
 IsBoardRefusal name boards.NoMemory file cause = ⊥
 
--- the system isn't admitted
+-- the system isn't admitted: the check finds something in it alone, or the pool has fewer pages than root takes
 abbrev pub IsUnsound : List ℕ → List ℕ → SystemConfig → List ℕ → ImageCause → Type 0
 IsUnsound board name system file (Findings found) = (file ≡ name) × (found ≡ capped (findings system [])) × (findings system [] ≢ [])
 IsUnsound board name system file (PoolSmall need have) = (file ≡ board) × (findings system [] ≡ []) × (need ≡ root_pages system) × (have ≡ pool_pages system) × (have < need)
 IsUnsound board name system file _ = ⊥
 
--- why a program's file gives no program
+-- the text of a program's file has this fault
 pub record IsNoProgram (contents : Contents) (name file : List ℕ) (fault : ScriptFault) : Type 0 where
   pub file_is : file ≡ name
   pub bytes : List ℕ
   pub has : HasBytes contents name bytes
   pub told : program_of bytes ≡ Err fault
 
+-- why a program's file gives no program: it can't be read, is too large, or its text has a fault
 abbrev pub IsProgramUnread : Contents → List ℕ → List ℕ → ImageCause → Type 0
 IsProgramUnread contents name file ReadFault = file ≡ name
 IsProgramUnread contents name file Oversize = (file ≡ name) × IsOversize contents name
 IsProgramUnread contents name file (BadProgram fault) = IsNoProgram contents name file fault
 IsProgramUnread contents name file _ = ⊥
 
--- the pool is too small
+-- the pool has fewer pages than root takes, which is the board's fault
 abbrev pub IsPoolSmall : List ℕ → SystemConfig → List ℕ → ImageCause → Type 0
 IsPoolSmall board system file (PoolSmall need have) = (file ≡ board) × (need ≡ root_pages system) × (have ≡ pool_pages system) × (have < need)
 IsPoolSmall board system file _ = ⊥

@@ -34,7 +34,7 @@ pub record IsOversize (contents : Contents) (name : List ℕ) : Type 0 where
   pub handed : Hands contents name bytes
   pub many : max_file_size < length bytes
 
--- the board's file lists these
+-- the board's file tells this listing
 pub record Lists (contents : Contents) (board : List ℕ) (listing : Listing) : Type 0 where
   pub bytes : List ℕ
   pub has : HasBytes contents board bytes

@@ -12,7 +12,7 @@ use Rattle.jh_image.specs.declared.board.ProgramFile.{ProgramFile}
 use Rattle.jh_image.specs.Opening.{IsFit}
 use Rattle.jh_image.specs.Files.{Contents, Lists, SpellsSystem, IsPreloadOf, IsProgramOf}
 
--- what is read so far, once the system is
+-- what is read so far, once the board and its system are: the listing, the system, and preloads and programs
 pub record SoFar : Type 0 where
   pub listing : Listing
   pub system : SystemConfig
@@ -25,31 +25,34 @@ pub data Stage : Type 0 where
   with_listing : Listing → Stage
   with_system : SoFar → Stage
 
+-- what is read so far: this listing, this system, these preloads and these programs
 abbrev pub so_far_of : Listing → SystemConfig → List Preload → List Program → SoFar
 so_far_of listing system preloads programs = record { listing = listing; system = system; preloads = preloads; programs = programs }
 
--- one more is read
+-- what is read so far, with one preload more
 abbrev pub with_preload : SoFar → Preload → SoFar
 with_preload so_far preload = record so_far { preloads = so_far.preloads ++ preload ∷ [] }
 
+-- what is read so far, with one program more
 abbrev pub with_program : SoFar → Program → SoFar
 with_program so_far program = record so_far { programs = so_far.programs ++ program ∷ [] }
 
 -- ---- the next file
 
+-- the preload of this file is next
 abbrev pub IsNextPreload : SoFar → PreloadFile → Type 0
 IsNextPreload so_far file = slice_get so_far.listing.preloads (length so_far.preloads) ≡ Some file
 
--- no preload is left
+-- no preload is left to be read
 abbrev pub HasPreloads : SoFar → Type 0
 HasPreloads so_far = length so_far.preloads ≡ length so_far.listing.preloads
 
--- no file is left
+-- no file is left to be read
 pub record IsComplete (so_far : SoFar) : Type 0 where
   pub preloads : HasPreloads so_far
   pub programs : length so_far.programs ≡ length so_far.listing.programs
 
--- a program is next where no preload is left
+-- the program of this file is next: no preload is left to be read
 pub record IsNextProgram (so_far : SoFar) (file : ProgramFile) : Type 0 where
   pub preloads : HasPreloads so_far
   pub next : slice_get so_far.listing.programs (length so_far.programs) ≡ Some file

@@ -8,13 +8,15 @@ use Rattle.jh_image.specs.declared.fault.ImageCause.{ImageCause}
 use Rattle.jh_image.specs.declared.fault.ImageCause.TheVariants.{ReadFault}
 use Rattle.jh_image.specs.Files.{Contents, Lists}
 
+-- the name of the preload's file
 abbrev pub preload_name : PreloadFile → List ℕ
 preload_name file = file.file
 
+-- the name of the program's file
 abbrev pub program_name : ProgramFile → List ℕ
 program_name file = file.file
 
--- the board, its system, each preload and each program
+-- the names of a board's files in their order: the board, its system, each preload and each program
 abbrev pub board_files : List ℕ → Listing → List (List ℕ)
 board_files board listing = board ∷ listing.system ∷ (map preload_name listing.preloads ++ map program_name listing.programs)
 

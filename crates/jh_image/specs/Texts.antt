@@ -5,6 +5,7 @@ use Rattle.jh_script.specs.FaultText.{script_fault_text}
 use Rattle.jh_image.specs.declared.fault.ImageCause.{ImageCause}
 use Rattle.jh_image.specs.declared.fault.ImageCause.TheVariants.{ReadFault, Oversize, Json, Member, System, Findings, PoolSmall, Preload, Program}
 
+-- the words for a cause
 abbrev pub cause_text : ImageCause → List ℕ
 cause_text ReadFault = codes "read fault"
 cause_text Oversize = codes "oversize"

@@ -13,7 +13,7 @@ use jh_spec::json::{has_only, number_at, number_below, text_at};
 use serde_json::Value;
 use std::alloc::Global;
 
-/// The preload that an entry tells of.
+/// The preload that an entry tells of; `None` where it isn't an object of a file's name and a place below 2^64.
 #[tactic(auto, unfolding(crate::specs::Boards::preload_told))]
 pub(crate) fn preload(alloc: Global, entry: &Value) -> Result<Option<PreloadFile>, NoMemory>
     ensures { IfOk result (λ told. told ≡ preload_told (view entry.now)) }
@@ -33,6 +33,7 @@ pub(crate) fn preload(alloc: Global, entry: &Value) -> Result<Option<PreloadFile
     }))
 }
 
+/// Whether all bytes are characters from the space to the tilde, 0x20 to 0x7e.
 fn are_printable(bytes: &[u8]) -> bool
     ensures { result ≡ list_all is_printable bytes.now }
 {
@@ -58,7 +59,7 @@ fn cell_at<'v>(object: &'v Value, name: &str) -> Option<&'v str>
     }
 }
 
-/// The number of a CPU that the member of this name is.
+/// The number of a CPU, below 16, that the member of this name is.
 fn cpu_at(object: &Value, name: &str) -> Option<u8>
     ensures { result ≡ told_at (number_below 16) name.now (view object.now) }
 {
@@ -66,7 +67,8 @@ fn cpu_at(object: &Value, name: &str) -> Option<u8>
     Some(number as u8)
 }
 
-/// The program that an entry tells of.
+/// The program that an entry tells of; `None` where it isn't an object of a cell's name, a CPU below 16 and a file's
+/// name.
 #[tactic(auto, unfolding(crate::specs::Boards::program_told))]
 pub(crate) fn program(alloc: Global, entry: &Value) -> Result<Option<ProgramFile>, NoMemory>
     ensures { IfOk result (λ told. told ≡ program_told (view entry.now)) }

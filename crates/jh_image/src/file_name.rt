@@ -29,6 +29,7 @@ impl FileName {
         })
     }
 
+    /// The name as a text, to open the file by.
     pub fn as_str(&self) -> &str
         ensures { result.now ≡ self.now }
     {

@@ -15,7 +15,8 @@ fn is_apart(earlier: &[Preload], preload: &Preload) -> bool
     earlier.iter().all(|other| is_other_preload(other, preload))
 }
 
-/// Whether the preload has no fault behind those earlier ones.
+/// Whether the preload ends within the places, and meets neither the hypervisor's memory nor one of the earlier
+/// preloads.
 pub(crate) fn is_fit(hypervisor: &Region, earlier: &[Preload], preload: &Preload) -> bool
     ensures { IsTrue result ↔ IsFit hypervisor.now earlier.now preload.now }
 {

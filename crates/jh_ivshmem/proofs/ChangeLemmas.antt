@@ -1,8 +1,8 @@
 -- What no change touches, and what changes leave of all endpoints.
 use Rattle.std.proofs.Common.{ℕ, ◌≡◌, ◌/◌, ◌==◌, Bool, true, false, cond, length, refl, sym, ◌∙◌, subst}
 use Rattle.std.proofs.lemmas.List.{length-set}
-use Rattle.jh_ivshmem.specs.declared.change.Change.{Change}
-use Rattle.jh_ivshmem.specs.declared.change.Change.TheVariants.{Raise, Write, State, Reset, Take}
+use Rattle.jh_ivshmem.specs.declared.change.EndpointChange.{EndpointChange}
+use Rattle.jh_ivshmem.specs.declared.change.EndpointChange.TheVariants.{Raise, Write, State, Reset, Take}
 use Rattle.jh_ivshmem.specs.declared.endpoint.Endpoint.{Endpoint}
 use Rattle.jh_ivshmem.specs.Endpoint.{raised, taken, cleared, is_open}
 use Rattle.jh_ivshmem.specs.Registers.{register_written, is_in_table}
@@ -34,7 +34,7 @@ written_keeps bar at value e =
     (keeps_either (at == 0x08) e _ e (record { spec = refl; vectors = refl }) (keeps_all e))
     (keeps_either (is_in_table e at) e _ e (record { spec = refl; vectors = length-set e.vectors (at / 16) _ }) (keeps_all e))
 
-pub after_keeps : (change : Change) (e : Endpoint) → length e.vectors ≡ 16 → Keeps e (after change e)
+pub after_keeps : (change : EndpointChange) (e : Endpoint) → length e.vectors ≡ 16 → Keeps e (after change e)
 unfolding taken cleared
 after_keeps (Raise v) e full = raised_keeps v e
 after_keeps (Write bar at value) e full = written_keeps bar at value e
@@ -42,7 +42,7 @@ after_keeps (State value) e full = record { spec = refl; vectors = refl }
 after_keeps Reset e full = record { spec = refl; vectors = sym full }
 after_keeps (Take v) e full = record { spec = refl; vectors = length-set e.vectors v _ }
 
-pub after_sound : (change : Change) (e : Endpoint) → IsSound e → IsSound (after change e)
+pub after_sound : (change : EndpointChange) (e : Endpoint) → IsSound e → IsSound (after change e)
 after_sound change e sound =
     let keeps = after_keeps change e sound.vectors in
     record {

@@ -6,7 +6,7 @@ use Rattle.std.proofs.lemmas.List.Edits.{map_over_more}
 use Rattle.std.proofs.lemmas.List.Elements.{All-get_or}
 use Rattle.std.proofs.lemmas.List.Quantifiers.{position-Some}
 use Rattle.std.proofs.lemmas.Option.{slice_get_cases, none-some}
-use Rattle.jh_ivshmem.specs.declared.change.Change.{Change}
+use Rattle.jh_ivshmem.specs.declared.change.EndpointChange.{EndpointChange}
 use Rattle.jh_ivshmem.specs.declared.change.Whom.{Whom}
 use Rattle.jh_ivshmem.specs.declared.change.Whom.TheVariants.{Device}
 use Rattle.jh_ivshmem.specs.Specs.{is_device}
@@ -19,11 +19,11 @@ use Rattle.jh_ivshmem.proofs.KeyLemmas.{key_meant, kept_set, found_within, found
 use Rattle.jh_ivshmem.proofs.ApartLemmas.{set_device}
 
 -- the change of an endpoint that is meant
-abbrev pub changing : Whom → Change → Endpoint → Endpoint
+abbrev pub changing : Whom → EndpointChange → Endpoint → Endpoint
 changing whom change e = cond (is_meant whom e.spec) (after change e) e
 
 -- the endpoints below the index are changed
-pub record Changes (whom : Whom) (change : Change) (before now : List Endpoint) (ks : List Key) (i : ℕ) : Type 0 where
+pub record Changes (whom : Whom) (change : EndpointChange) (before now : List Endpoint) (ks : List Key) (i : ℕ) : Type 0 where
   pub list : now ≡ map (changing whom change) (take i before) ++ drop i before
   pub count : length now ≡ length before
   pub kept : AreKept now ks
@@ -43,7 +43,7 @@ pub sound_at : (now : List Endpoint) (ks : List Key) (i : ℕ) (e : Endpoint) �
     → e ≡ get_or now i e → IsSound e
 sound_at now ks i e kept within is_e = subst IsSound (sym is_e) (All-get_or IsSound now i e within kept.sound)
 
-pub step_meant : (whom : Whom) (change : Change) (before now : List Endpoint) (ks : List Key) (i : ℕ) (e : Endpoint)
+pub step_meant : (whom : Whom) (change : EndpointChange) (before now : List Endpoint) (ks : List Key) (i : ℕ) (e : Endpoint)
     → Changes whom change before now ks i → i < length now → e ≡ get_or now i e → is_meant whom e.spec ≡ true
     → Changes whom change before (set now i (after change e)) (set ks i (key_of (after change e))) (i + 1)
 step_meant whom change before now ks i e changes within is_e meant =
@@ -58,7 +58,7 @@ step_meant whom change before now ks i e changes within is_e meant =
           (after_keeps change e sound.vectors).spec;
     }
 
-other_at : (whom : Whom) (change : Change) (before now : List Endpoint) (ks : List Key) (i : ℕ) (e : Endpoint)
+other_at : (whom : Whom) (change : EndpointChange) (before now : List Endpoint) (ks : List Key) (i : ℕ) (e : Endpoint)
     → Changes whom change before now ks i → i < length now → e ≡ get_or now i e → is_meant whom e.spec ≡ false
     → Changes whom change before now ks (i + 1)
 other_at whom change before now ks i e changes within is_e other =
@@ -71,7 +71,7 @@ other_at whom change before now ks i e changes within is_e other =
       kept = changes.kept;
     }
 
-pub step_other : (whom : Whom) (change : Change) (before now : List Endpoint) (ks : List Key) (i : ℕ) (key : Key)
+pub step_other : (whom : Whom) (change : EndpointChange) (before now : List Endpoint) (ks : List Key) (i : ℕ) (key : Key)
     → Changes whom change before now ks i → i < length now → key ≡ get_or ks i key → is_key_meant whom key ≡ false
     → Changes whom change before now ks (i + 1)
 step_other whom change before now ks i key changes within read other =
@@ -83,7 +83,7 @@ step_other whom change before now ks i key changes within read other =
     ]
 
 -- all are changed at the end
-pub at_end : (whom : Whom) (change : Change) (before now : List Endpoint) (ks : List Key) (i : ℕ)
+pub at_end : (whom : Whom) (change : EndpointChange) (before now : List Endpoint) (ks : List Key) (i : ℕ)
     → Changes whom change before now ks i → length before ≤ i → now ≡ changed (is_meant whom) (after change) before
 unfolding changed
 at_end whom change before now ks i changes past =
@@ -93,7 +93,7 @@ at_end whom change before now ks i changes past =
     ∙ append-nil (map (changing whom change) before)
 
 -- the endpoint of a device is changed alone
-pub record ChangesOne (cell device : ℕ) (change : Change) (es now : List Endpoint) (ks : List Key) : Type 0 where
+pub record ChangesOne (cell device : ℕ) (change : EndpointChange) (es now : List Endpoint) (ks : List Key) : Type 0 where
   pub list : now ≡ changed (is_device cell device) (after change) es
   pub kept : AreKept now ks
 
@@ -110,7 +110,7 @@ device_at cell device es ks i e kept is read =
           ∙ sym (ap (is_key_meant (Device cell device)) (get_or-map key_of es i e (key_of e) inside)) ∙ at.1,
     )
 
-pub change_found : (cell device : ℕ) (change : Change) (es now : List Endpoint) (ks keys : List Key) (i : ℕ) (e : Endpoint) → AreKept es ks
+pub change_found : (cell device : ℕ) (change : EndpointChange) (es now : List Endpoint) (ks keys : List Key) (i : ℕ) (e : Endpoint) → AreKept es ks
     → Some i ≡ position (is_key_meant (Device cell device)) ks → e ≡ get_or es i e → now ≡ set es i (after change e)
     → keys ≡ set ks i (key_of (after change e)) → ChangesOne cell device change es now keys
 change_found cell device change es now ks keys i e kept is read put keyed =
@@ -122,7 +122,7 @@ change_found cell device change es now ks keys i e kept is read put keyed =
           (kept_set es ks i (after change e) e kept read (after_sound change e sound) (after_keeps change e sound.vectors).spec));
     }
 
-none_meant : (cell device : ℕ) (change : Change) (es : List Endpoint) → find (λ (e : Endpoint). is_device cell device e.spec) es ≡ None
+none_meant : (cell device : ℕ) (change : EndpointChange) (es : List Endpoint) → find (λ (e : Endpoint). is_device cell device e.spec) es ≡ None
     → es ≡ changed (is_device cell device) (after change) es
 unfolding changed
 none_meant cell device change [] none = refl
@@ -134,7 +134,7 @@ none_meant cell device change (e ∷ es) none =
           ∙ sym (ap (λ b. cond b (after change e) e ∷ changed (is_device cell device) (after change) es) other)
     ]
 
-pub change_none : (cell device : ℕ) (change : Change) (es : List Endpoint) (ks : List Key) → AreKept es ks
+pub change_none : (cell device : ℕ) (change : EndpointChange) (es : List Endpoint) (ks : List Key) → AreKept es ks
     → None ≡ position (is_key_meant (Device cell device)) ks → ChangesOne cell device change es es ks
 change_none cell device change es ks kept is = record {
   list = none_meant cell device change es (found_none (Device cell device) es

@@ -1,20 +1,21 @@
 -- The order of endpoints, by which a device is found by halving.
-use Rattle.std.proofs.Common.{ℕ, zero, suc, ◌≡◌, ◌+◌, ◌-◌, ◌<◌, ◌≤◌, ◌⊎◌, Bool, true, false, cond, ◌&&◌, ◌||◌, ◌==◌, nat_lt, ltb, List, [], ◌∷◌, ◌++◌, length, map, take, drop, All, AllPairs, Some, None, get_or, position, inl, inr, refl, sym, ◌∙◌, ap, subst, arith}
+use Rattle.std.proofs.Common.{ℕ, zero, suc, ◌≡◌, ◌+◌, ◌-◌, ◌<◌, ◌≤◌, ◌⊎◌, Bool, true, false, cond, ◌&&◌, ◌||◌, ◌==◌, nat_lt, ltb, List, [], ◌∷◌, ◌++◌, length, map, take, drop, All, AllPairs, Some, None, Option, option_map, is_some, not, fold, get_or, position, inl, inr, refl, sym, ◌∙◌, ap, subst, arith}
+use Rattle.std.specs.Prelude.{if◌then◌else◌}
 use Rattle.std.specs.List.{position_or_len, insert}
 use Rattle.std.specs.List.Sorted.{IsPartitionedBy, IsPartitionPoint}
 use Rattle.std.proofs.lemmas.Bool.{cases_lt, cases_eq, or_cases, and_parts, and_from, or_left, or_right, ltb-true, lt-ltb, le-ltb, eqb-true, eq-eqb, both_ways, false_from_ne_true}
-use Rattle.std.proofs.lemmas.List.{length-map, get_or-map, map-append, take-map, drop-map}
+use Rattle.std.proofs.lemmas.List.{length-map, length-take, length-drop, get_or-map, get_or-take, get_or-drop, map-append, take-map, drop-map, take-append-drop, take_more, take_all}
 use Rattle.std.proofs.lemmas.List.Edits.{length-insert, get_or-insert_below, get_or-insert_at, get_or-insert_above}
 use Rattle.std.proofs.lemmas.List.Elements.{All-append, All-take, All-drop}
-use Rattle.std.proofs.lemmas.List.Sums.{position_or_len_is}
+use Rattle.std.proofs.lemmas.List.Sums.{position_or_len_is, fold-append, fold_push}
 use Rattle.jh_ivshmem.specs.declared.change.Whom.TheVariants.{Device}
 use Rattle.jh_ivshmem.specs.declared.endpoint.Endpoint.{Endpoint}
 use Rattle.jh_ivshmem.specs.declared.spec.EndpointSpec.{EndpointSpec}
 use Rattle.jh_ivshmem.specs.declared.key.Key.{Key}
 use Rattle.jh_ivshmem.specs.Specs.{AreApart, ComesBefore, is_device, is_before}
 use Rattle.jh_ivshmem.specs.Endpoint.{fresh}
-use Rattle.jh_ivshmem.specs.Links.{joined}
-use Rattle.jh_ivshmem.specs.Keys.{AreKept, AreInOrder, IsSound, key_of, is_key_before, is_key_meant}
+use Rattle.jh_ivshmem.specs.Links.{joined, earlier}
+use Rattle.jh_ivshmem.specs.Keys.{AreKept, AreInOrder, IsSound, key_of, is_key_before, is_key_meant, is_search_end, pending_by}
 use Rattle.jh_ivshmem.proofs.ApartLemmas.{peer_turned, device_turned}
 
 -- two numbers, the first of which counts first, are lower than two others
@@ -333,3 +334,127 @@ joins s es now ks keys e key i kept bound split is_e is_key put keyed sound new 
       list = put_fresh ∙ inserted_joins s es i inside stands;
       kept = subst (λ l. AreKept l keys) (sym put_fresh) (subst (AreKept (insert es i (fresh s))) (sym keyed_fresh) all);
     }
+
+-- the first pending vector of a cell, found by halving
+
+-- what nothing changes stays
+fold_kept : {X Y : Type 0} (f : Y → X → Y) (told : Y) (d : X) (xs : List X) → ((k : ℕ) → k < length xs → f told (get_or xs k d) ≡ told) → fold f told xs ≡ told
+fold_kept f told d [] h = refl
+fold_kept f told d (x ∷ xs) h = ap (λ now. fold f now xs) (h 0 (omega arith)) ∙ fold_kept f told d xs (λ k lt. h (suc k) (omega arith))
+
+abbrev tell : ℕ → Option (ℕ × ℕ) → Key → Option (ℕ × ℕ)
+tell cell best key = earlier best (pending_by cell key)
+
+other_number : (n m : ℕ) → (n ≡ m → ⊥) → (n == m) ≡ false
+other_number n m differ = false_from_ne_true (n == m) (λ same. differ (eqb-true n m same))
+
+other_cell : (cell : ℕ) (key : Key) → (key.cell ≡ cell → ⊥) → pending_by cell key ≡ None
+other_cell cell key differ = ap (λ b. if b then option_map (λ v. (key.device, v)) key.pending else None) (other_number key.cell cell differ)
+
+own_cell : (cell : ℕ) (key : Key) → key.cell ≡ cell → pending_by cell key ≡ option_map (λ v. (key.device, v)) key.pending
+own_cell cell key same = ap (λ b. if b then option_map (λ v. (key.device, v)) key.pending else None) (eq-eqb key.cell cell same)
+
+earlier_stays : (d v n : ℕ) (pending : Option ℕ) → d ≤ n → earlier (Some (d, v)) (option_map (λ w. (n, w)) pending) ≡ Some (d, v)
+earlier_stays d v n None le = refl
+earlier_stays d v n (Some w) le = ap (λ b. if b then Some (n, w) else Some (d, v)) (le-ltb n d le)
+
+behind_pending : (cell d v : ℕ) (key : Key) → (key.cell ≡ cell → d ≤ key.device) → earlier (Some (d, v)) (pending_by cell key) ≡ Some (d, v)
+behind_pending cell d v key behind = elim (cases_eq key.cell cell) as (λ _. earlier (Some (d, v)) (pending_by cell key) ≡ Some (d, v)) [
+  | inl same ↦ ap (earlier (Some (d, v))) (own_cell cell key same) ∙ earlier_stays d v key.device key.pending (behind same)
+  | inr differ ↦ ap (earlier (Some (d, v))) (other_cell cell key differ)
+]
+
+behind_own : (cell d : ℕ) (pending : Option ℕ) (key : Key) → is_some pending ≡ true → (key.cell ≡ cell → d ≤ key.device)
+    → earlier (option_map (λ v. (d, v)) pending) (pending_by cell key) ≡ option_map (λ v. (d, v)) pending
+behind_own cell d None key some behind = absurd (cc some)
+behind_own cell d (Some v) key some behind = behind_pending cell d v key behind
+
+-- a key of another cell that isn't before the cell is past it
+past_cell : (cell : ℕ) (key : Key) → is_key_before cell 0 key ≡ false → (key.cell ≡ cell → ⊥) → cell < key.cell
+unfolding lower
+past_cell cell key fails differ = elim (cases_lt key.cell cell) as (λ _. cell < key.cell) [
+  | inl below ↦ absurd (both_ways (lower cell 0 key.cell key.device) fails (lower_first cell 0 key.cell key.device below))
+  | inr high ↦ elim (cases_lt cell key.cell) as (λ _. cell < key.cell) [
+    | inl past ↦ past
+    | inr low ↦ absurd (differ (let same : key.cell ≡ cell = omega arith in same))
+  ]
+]
+
+-- nothing behind the end of a search is told in its place
+behind_end : (cell : ℕ) (one other : Key) → is_key_before other.cell other.device one ≡ true → is_key_before cell 0 one ≡ false
+    → is_search_end cell one ≡ true → tell cell (pending_by cell one) other ≡ pending_by cell one
+unfolding lower
+behind_end cell one other order fails ends =
+    let parts = lower_parts other.cell other.device one.cell one.device order in
+    elim (cases_eq one.cell cell) as (λ _. earlier (pending_by cell one) (pending_by cell other) ≡ pending_by cell one) [
+      | inl same ↦
+          let own = own_cell cell one same in
+          let some : is_some one.pending ≡ true = sym (ap (λ b. not b || is_some one.pending) (eq-eqb one.cell cell same)) ∙ ends in
+          let behind : other.cell ≡ cell → one.device ≤ other.device = λ e. elim parts as (λ _. one.device ≤ other.device) [
+            | inl first ↦ absurd (let no : ⊥ = omega arith in no)
+            | inr second ↦ (let less = second.1 in let le : one.device ≤ other.device = omega arith in le)
+          ] in
+          ap (λ best. earlier best (pending_by cell other)) own ∙ behind_own cell one.device one.pending other some behind ∙ sym own
+      | inr differ ↦
+          let none = other_cell cell one differ in
+          let past = past_cell cell one fails differ in
+          let away : other.cell ≡ cell → ⊥ = λ e. elim parts as (λ _. ⊥) [
+            | inl first ↦ (let no : ⊥ = omega arith in no)
+            | inr second ↦ (let same = second.0 in let no : ⊥ = omega arith in no)
+          ] in
+          ap (λ best. earlier best (pending_by cell other)) none ∙ other_cell cell other away ∙ sym none
+    ]
+
+nothing_pending : (d : ℕ) (pending : Option ℕ) → is_some pending ≡ false → option_map {U = ℕ × ℕ} (λ v. (d, v)) pending ≡ None
+nothing_pending d None none = refl
+nothing_pending d (Some v) none = absurd (cc none)
+
+-- a key of the cell without a pending vector tells nothing
+nothing_told : (cell : ℕ) (key : Key) → is_search_end cell key ≡ false → pending_by cell key ≡ None
+nothing_told cell key goes = elim (cases_eq key.cell cell) as (λ _. pending_by cell key ≡ None) [
+  | inl same ↦
+      let some : is_some key.pending ≡ false = sym (ap (λ b. not b || is_some key.pending) (eq-eqb key.cell cell same)) ∙ goes in
+      own_cell cell key same ∙ nothing_pending key.device key.pending some
+  | inr differ ↦ other_cell cell key differ
+]
+
+-- so far nothing is told: at the beginning, and behind a key more
+pub told_first : (cell : ℕ) (ks : List Key) (i : ℕ) → i ≤ length ks → IsIndex cell 0 ks i → fold (tell cell) None (take i ks) ≡ None
+unfolding lower
+told_first cell ks i bound split = fold_kept (tell cell) None no_key (take i ks) (λ k lt.
+    let low : k < i = omega (arith, length-take i ks) in
+    let key = get_or ks k no_key in
+    let before = split.0 k no_key (omega arith) low in
+    let away : key.cell ≡ cell → ⊥ = λ e. elim (lower_parts cell 0 key.cell key.device before) as (λ _. ⊥) [
+      | inl first ↦ (let no : ⊥ = omega arith in no)
+      | inr second ↦ (let less = second.1 in let no : ⊥ = omega arith in no)
+    ] in
+    ap (pending_by cell) (get_or-take i ks k no_key low) ∙ other_cell cell key away)
+
+pub told_next : (cell : ℕ) (ks : List Key) (i : ℕ) (d : Key) → i < length ks → fold (tell cell) None (take i ks) ≡ None
+    → is_search_end cell (get_or ks i d) ≡ false → fold (tell cell) None (take (i + 1) ks) ≡ None
+told_next cell ks i d lt so goes =
+    ap (fold (tell cell) None) (take_more ks i d lt)
+    ∙ fold_push (tell cell) None (take i ks) (get_or ks i d)
+    ∙ ap (λ best. tell cell best (get_or ks i d)) so
+    ∙ nothing_told cell (get_or ks i d) goes
+
+-- the end of the search tells all
+pub told_all : (cell : ℕ) (ks : List Key) (first i : ℕ) (d : Key) → IsIndex cell 0 ks first → AreInOrder ks → first ≤ i → i < length ks
+    → fold (tell cell) None (take i ks) ≡ None → is_search_end cell (get_or ks i d) ≡ true → pending_by cell (get_or ks i d) ≡ fold (tell cell) None ks
+told_all cell ks first i d split order past lt so ends =
+    let key = get_or ks i d in
+    let upto : fold (tell cell) None (take (i + 1) ks) ≡ pending_by cell key =
+    ap (fold (tell cell) None) (take_more ks i d lt) ∙ fold_push (tell cell) None (take i ks) key ∙ ap (λ best. tell cell best key) so in
+    let kept = fold_kept (tell cell) (pending_by cell key) d (drop (i + 1) ks) (λ k inside.
+    let counted = length-drop (i + 1) ks in
+    let there : i + 1 + k < length ks = omega arith in
+    ap (tell cell (pending_by cell key)) (get_or-drop (i + 1) ks k d)
+    ∙ behind_end cell key (get_or ks (i + 1 + k) d) (order i (i + 1 + k) d (omega arith) there) (split.1 i d past lt) ends) in
+    sym (ap (fold (tell cell) None) (sym (take-append-drop (i + 1) ks))
+    ∙ fold-append (tell cell) None (take (i + 1) ks) (drop (i + 1) ks)
+    ∙ ap (λ best. fold (tell cell) best (drop (i + 1) ks)) upto
+    ∙ kept)
+
+pub told_whole : (cell : ℕ) (ks : List Key) (i : ℕ) → length ks ≤ i → fold (tell cell) None (take i ks) ≡ None → None ≡ fold (tell cell) None ks
+told_whole cell ks i past so = sym so ∙ ap (fold (tell cell) None) (take_all i ks past)

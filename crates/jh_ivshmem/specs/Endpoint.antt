@@ -10,20 +10,23 @@ use Rattle.jh_ivshmem.specs.Specs.{count_of}
 abbrev pub fresh_vector : Vector
 fresh_vector = record { address = 0; upper_address = 0; message = 0; masked = true; pending = false }
 
+-- the vectors of an endpoint as after reset: 16 of them
 abbrev pub fresh_vectors : List Vector
 fresh_vectors = replicate 16 fresh_vector
 
+-- the vector of that number of the endpoint, a fresh one past the last
 abbrev pub vector_at : Endpoint → ℕ → Vector
 vector_at e v = slice_index_or e.vectors v fresh_vector
 
--- interrupt control is on, the endpoint has the vector, and with MSI-X the function may send and the vector isn't
+-- the vector is open: interrupt control is on, the endpoint has it, and with MSI-X the function may send and it isn't
 -- masked
 abbrev pub is_open : Endpoint → ℕ → Bool
 is_open e v =
     e.control && nat_lt v (count_of e.spec) && is_function_open e.space
     && (not (has_vectors e.spec.function) || not (vector_at e v).masked)
 
--- an open vector becomes pending, and one-shot turns interrupt control off; any other raise does nothing
+-- the endpoint after a raise: an open vector becomes pending, and one-shot turns interrupt control off; any other raise
+-- does nothing
 unfoldable pub raised : ℕ → Endpoint → Endpoint
 raised v e =
     if is_open e v then record e {
@@ -32,11 +35,11 @@ raised v e =
     }
     else e
 
--- its lowest pending vector
+-- the endpoint's lowest pending vector, if one is pending
 abbrev pub pending_in : Endpoint → Option ℕ
 pending_in e = position (λ (vector : Vector). vector.pending) e.vectors
 
--- the vector is taken
+-- the endpoint after the vector is taken: it is no longer pending
 unfoldable pub taken : ℕ → Endpoint → Endpoint
 taken v e = record e { vectors = slice_set e.vectors v (record (vector_at e v) { pending = false }) }
 
@@ -50,6 +53,6 @@ fresh spec = record {
   vectors = fresh_vectors;
 }
 
--- all that a guest can change is as at first
+-- the endpoint after a reset: all that a guest can change is as at first
 unfoldable pub cleared : Endpoint → Endpoint
 cleared e = record e { space = fresh_space e.space.spec; control = false; state = 0; vectors = fresh_vectors }

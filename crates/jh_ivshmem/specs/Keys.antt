@@ -1,5 +1,5 @@
 -- What is kept beside the endpoints, so that a scan doesn't touch them.
-use Rattle.std.specs.Prelude.{ℕ, ◌≡◌, Bool, true, ◌&&◌, ◌||◌, ◌==◌, not, nat_lt, Option, None, option_map, if◌then◌else◌, List, All, AllPairs, length, map}
+use Rattle.std.specs.Prelude.{ℕ, ◌≡◌, Bool, true, ◌&&◌, ◌||◌, ◌==◌, not, nat_lt, Option, None, is_some, option_map, if◌then◌else◌, List, All, AllPairs, length, map}
 use Rattle.jh_ivshmem.specs.declared.endpoint.Endpoint.{Endpoint}
 use Rattle.jh_ivshmem.specs.declared.spec.EndpointSpec.{EndpointSpec}
 use Rattle.jh_ivshmem.specs.declared.key.Key.{Key}
@@ -8,6 +8,7 @@ use Rattle.jh_ivshmem.specs.declared.change.Whom.TheVariants.{Device, Peer, Othe
 use Rattle.jh_ivshmem.specs.Specs.{IsWithin, AreApart, ComesBefore}
 use Rattle.jh_ivshmem.specs.Endpoint.{pending_in}
 
+-- the key of the endpoint: its cell, its device, its bdf, its number, and its lowest pending vector
 abbrev pub key_of : Endpoint → Key
 key_of e = record {
   cell = e.spec.cell;
@@ -17,7 +18,7 @@ key_of e = record {
   pending = pending_in e;
 }
 
--- it has room for 16 vectors, and is within the limits
+-- the endpoint has room for 16 vectors, and is within its limits
 pub record IsSound (e : Endpoint) : Type 0 where
   pub vectors : length e.vectors ≡ 16
   pub within : IsWithin e.spec
@@ -29,7 +30,7 @@ pub record AreKept (endpoints : List Endpoint) (kept : List Key) : Type 0 where
   pub apart : AllPairs AreApart (map (λ (e : Endpoint). e.spec) endpoints)
   pub order : AllPairs ComesBefore (map (λ (e : Endpoint). e.spec) endpoints)
 
--- its endpoint is of a lower cell, or of a lower device of this cell
+-- the key's endpoint is of a lower cell, or of a lower device of this cell
 abbrev pub is_key_before : ℕ → ℕ → Key → Bool
 is_key_before cell device key = nat_lt key.cell cell || ((key.cell == cell) && nat_lt key.device device)
 
@@ -47,7 +48,11 @@ is_key_meant (Others bdf id) key = (key.bdf == bdf) && not (key.id == id)
 abbrev pub pending_by : ℕ → Key → Option (ℕ × ℕ)
 pending_by cell key = if key.cell == cell then option_map (λ v. (key.device, v)) key.pending else None
 
--- its endpoint is neither the same device of the same cell nor the same number of one link
+-- the key is another cell's, or has a pending vector
+abbrev pub is_search_end : ℕ → Key → Bool
+is_search_end cell key = not (key.cell == cell) || is_some key.pending
+
+-- the key's endpoint is neither the same device of the same cell nor the same number of one link
 abbrev pub is_key_apart : EndpointSpec → Key → Bool
 is_key_apart spec key =
     not ((key.cell == spec.cell) && (key.device == spec.device)) && not ((key.bdf == spec.bdf) && (key.id == spec.id))

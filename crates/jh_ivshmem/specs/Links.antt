@@ -13,7 +13,7 @@ use Rattle.jh_ivshmem.specs.Changes.{changed}
 abbrev pub endpoint_at : ℕ → ℕ → List Endpoint → Option Endpoint
 endpoint_at cell device list = find (λ (e : Endpoint). is_device cell device e.spec) list
 
--- this holds of the endpoint of this device of this cell
+-- P holds of the endpoint of this device of this cell, if there is one
 abbrev pub ForEndpoint : ℕ → ℕ → List Endpoint → (Endpoint → Type 0) → Type 0
 ForEndpoint cell device list P = (e : Endpoint) → endpoint_at cell device list ≡ Some e → P e
 
@@ -25,45 +25,47 @@ besides test list = filter (λ (e : Endpoint). not (test e.spec)) list
 abbrev pub is_pending : ℕ → ℕ → ℕ → List Endpoint → Bool
 is_pending cell device v list = option_map_or (λ (e : Endpoint). (vector_at e v).pending) (endpoint_at cell device list) false
 
--- an endpoint joins, as after a reset: it stands behind those of lower cells, and of lower devices of its cell
+-- the endpoints after one joins, as after a reset: it stands behind those of lower cells, and of lower devices of its
+-- cell
 abbrev pub joined : EndpointSpec → List Endpoint → List Endpoint
 joined spec [] = fresh spec ∷ []
 joined spec (e ∷ list) = if is_before spec.cell spec.device e.spec then e ∷ joined spec list else fresh spec ∷ e ∷ list
 
--- the doorbell of a link: the vector of the endpoint with the target's number is raised
+-- the endpoints after the doorbell of a link is rung: the vector of the endpoint with the target's number is raised
 abbrev pub rung : ℕ → ℕ → ℕ → List Endpoint → List Endpoint
 rung bdf target v list = changed (is_peer bdf target) (raised v) list
 
--- the others of the endpoint's link learn that its state is another: vector 0 of each is raised
+-- the endpoints after the others of the endpoint's link learn that its state is another: vector 0 of each is raised
 abbrev pub others_raised : EndpointSpec → List Endpoint → List Endpoint
 others_raised spec list = changed (is_other spec.bdf spec.id) (raised 0) list
 
--- they are told where the state gets another value
+-- the endpoints after the others of the endpoint's link are told that its state gets another value, where it does
 abbrev pub told_of : Endpoint → ℕ → List Endpoint → List Endpoint
 told_of e value list = if e.state == value then list else others_raised e.spec list
 
--- a write to the state register
+-- the endpoints after a write of the value to the endpoint's state register
 abbrev pub state_written : Endpoint → ℕ → List Endpoint → List Endpoint
 state_written e value list =
     changed (is_device e.spec.cell e.spec.device) (λ (o : Endpoint). record o { state = value }) (told_of e value list)
 
--- a write to a register of the endpoint: the doorbell has the vector in bits 0 to 15 and the target in bits 16 to 31
+-- the endpoints after a write to a register of the endpoint: the doorbell has the vector in bits 0 to 15 and the target
+-- in bits 16 to 31
 unfoldable pub written : Endpoint → ℕ → ℕ → ℕ → List Endpoint → List Endpoint
 written e bar at value list =
     if (bar == 0) && (at == 0x0c) then rung e.spec.bdf (value / 2 ^ 16) (value % 2 ^ 16) list
     else (if (bar == 0) && (at == 0x10) then state_written e value list
     else changed (is_device e.spec.cell e.spec.device) (register_written bar at value) list)
 
--- the write to the state table that comes with it
+-- the write to the state table that comes with a write to a register: where the state gets another value
 unfoldable pub slot_written : Endpoint → ℕ → ℕ → ℕ → Option Slot
 slot_written e bar at value =
     if ((bar == 0) && (at == 0x10)) && not (e.state == value) then Some (slot_of e.spec value) else None
 
--- a reset acts on the link as a state write of 0
+-- the endpoints after a reset of the endpoint, which acts on the link as a state write of 0
 abbrev pub reset_of : Endpoint → List Endpoint → List Endpoint
 reset_of e list = changed (is_device e.spec.cell e.spec.device) cleared (told_of e 0 list)
 
--- leaving acts as a state write of 0, and then the endpoint is gone
+-- the endpoints after the endpoint leaves: it acts on the link as a state write of 0, and then is gone
 abbrev pub left_by : Endpoint → List Endpoint → List Endpoint
 left_by e list = filter (λ (o : Endpoint). not (is_device e.spec.cell e.spec.device o.spec)) (told_of e 0 list)
 
@@ -81,7 +83,7 @@ pending_at cell e = if e.spec.cell == cell then option_map (λ v. (e.spec.device
 abbrev pub pending_of : ℕ → List Endpoint → Option (ℕ × ℕ)
 pending_of cell list = fold (λ best (e : Endpoint). earlier best (pending_at cell e)) None list
 
--- that vector is no longer pending
+-- the endpoints after this pending vector of the cell, if there is one, is taken
 abbrev pub taken_of : ℕ → Option (ℕ × ℕ) → List Endpoint → List Endpoint
 taken_of cell None list = list
 taken_of cell (Some next) list = changed (is_device cell next.0) (taken next.1) list

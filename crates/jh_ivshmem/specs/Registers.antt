@@ -4,7 +4,7 @@ use Rattle.jh_ivshmem.specs.declared.vector.Vector.{Vector}
 use Rattle.jh_ivshmem.specs.declared.endpoint.Endpoint.{Endpoint}
 use Rattle.jh_ivshmem.specs.Endpoint.{vector_at}
 
--- the four words of a vector: address, upper address, message, and the mask in bit 0
+-- a word of the vector: its address, its upper address, its message, or its mask in bit 0
 abbrev pub word_of : Vector → ℕ → ℕ
 word_of vector n =
     if n == 0 then vector.address
@@ -12,6 +12,7 @@ word_of vector n =
     else (if n == 2 then vector.message
     else (if vector.masked then 1 else 0)))
 
+-- the vector after a write of the value to one of its four words
 abbrev pub with_word : ℕ → ℕ → Vector → Vector
 with_word n value vector =
     if n == 0 then record vector { address = value }

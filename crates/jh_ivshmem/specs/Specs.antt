@@ -4,18 +4,18 @@ use Rattle.jh_vpci.specs.Space.{has_vectors}
 use Rattle.jh_ivshmem.specs.declared.spec.EndpointSpec.{EndpointSpec}
 use Rattle.jh_ivshmem.specs.declared.spec.Slot.{Slot}
 
--- what joining asks of an endpoint by itself
+-- the endpoint is within its limits, which is what joining asks of it by itself
 pub record IsWithin (spec : EndpointSpec) : Type 0 where
   pub id : spec.id < spec.peers
   pub peers : spec.peers ≤ 16
   pub vectors : spec.function.vectors ≤ 16
   pub table : spec.table + 64 ≤ 2 ^ 39
 
--- the endpoint of this device of this cell
+-- the endpoint is that of this device of this cell
 abbrev pub is_device : ℕ → ℕ → EndpointSpec → Bool
 is_device cell device spec = (spec.cell == cell) && (spec.device == device)
 
--- an endpoint of a lower cell, or of a lower device of this cell
+-- the endpoint is of a lower cell, or of a lower device of this cell
 abbrev pub is_before : ℕ → ℕ → EndpointSpec → Bool
 is_before cell device spec = nat_lt spec.cell cell || ((spec.cell == cell) && nat_lt spec.device device)
 
@@ -23,27 +23,27 @@ is_before cell device spec = nat_lt spec.cell cell || ((spec.cell == cell) && na
 abbrev pub ComesBefore : EndpointSpec → EndpointSpec → Type 0
 ComesBefore one other = is_before other.cell other.device one ≡ true
 
--- the endpoint itself, or another of its link
+-- the other endpoint is the one itself, or another of its link
 abbrev pub is_concerned : EndpointSpec → EndpointSpec → Bool
 is_concerned spec other = is_device spec.cell spec.device other || (other.bdf == spec.bdf)
 
--- the endpoint with this number of the link that has this bdf
+-- the endpoint has this number on the link that has this bdf
 abbrev pub is_peer : ℕ → ℕ → EndpointSpec → Bool
 is_peer bdf id spec = (spec.bdf == bdf) && (spec.id == id)
 
--- an endpoint of the link with another number
+-- the endpoint has another number on the link that has this bdf
 abbrev pub is_other : ℕ → ℕ → EndpointSpec → Bool
 is_other bdf id spec = (spec.bdf == bdf) && not (spec.id == id)
 
--- two endpoints: neither the same device of the same cell nor the same number of one link
+-- two endpoints are apart: neither the same device of the same cell nor the same number of one link
 pub record AreApart (one other : EndpointSpec) : Type 0 where
   pub devices : is_device one.cell one.device other ≡ false
   pub peers : is_peer one.bdf one.id other ≡ false
 
--- how many vectors it has: those of MSI-X, or a single one without
+-- how many vectors the endpoint has: those of MSI-X, or a single one without
 abbrev pub count_of : EndpointSpec → ℕ
 count_of spec = if has_vectors spec.function then spec.function.vectors else 1
 
--- a write of the value to its word of the state table
+-- the write of the value to the endpoint's word of its state table
 abbrev pub slot_of : EndpointSpec → ℕ → Slot
 slot_of spec value = record { place = spec.table + 4 * spec.id; value = value }

@@ -2,7 +2,7 @@
 
 /// What is changed of an endpoint.
 #[derive(Clone, Copy)]
-pub(crate) enum Change {
+pub(crate) enum EndpointChange {
     /// The vector is raised.
     Raise(u16),
     /// A register of its own is written.

@@ -1,7 +1,7 @@
 //! One endpoint.
 ghost use Rattle.std.specs.Prelude.{◌≡◌, ◌<◌, ◌≤◌, ◌+◌, length, position, IfSome};
 
-use crate::change::Change;
+use crate::change::EndpointChange;
 use crate::spec::EndpointSpec;
 use crate::vector::Vector;
 use jh_vpci::ConfigSpace;
@@ -57,8 +57,8 @@ impl Endpoint {
             && (!self.spec.function.has_vectors() || !self.vectors[v].masked)
     }
 
-    #[tactic(auto, unfolding(crate::specs::Endpoint::raised))]
     /// Makes the vector pending, where it is open.
+    #[tactic(auto, unfolding(crate::specs::Endpoint::raised))]
     fn raise(&mut self, v: u16)
         requires sound { IsSound self.old }
         ensures { self.new ≡ raised v self.old }
@@ -81,8 +81,8 @@ impl Endpoint {
         }
     }
 
-    #[tactic(auto, unfolding(crate::specs::Endpoint::taken))]
     /// Takes a pending vector.
+    #[tactic(auto, unfolding(crate::specs::Endpoint::taken))]
     fn take(&mut self, v: u8)
         requires sound { IsSound self.old }
         ensures { self.new ≡ taken v self.old }
@@ -93,8 +93,8 @@ impl Endpoint {
         }
     }
 
-    #[tactic(auto, unfolding(crate::specs::Endpoint::cleared))]
     /// Puts all that a guest can change as it was at first.
+    #[tactic(auto, unfolding(crate::specs::Endpoint::cleared))]
     fn clear(&mut self)
         ensures { self.new ≡ cleared self.old }
     {
@@ -111,8 +111,8 @@ impl Endpoint {
         at < 16 * u32::from(self.spec.function.vectors)
     }
 
-    #[tactic(auto, unfolding(crate::specs::Registers::register_of))]
     /// What the register reads.
+    #[tactic(auto, unfolding(crate::specs::Registers::register_of))]
     pub(crate) fn register(&self, bar: u8, at: u32) -> u32
         requires sound { IsSound self.now }
         ensures { result ≡ register_of self.now bar at }
@@ -132,8 +132,8 @@ impl Endpoint {
         }
     }
 
-    #[tactic(auto, unfolding(crate::specs::Registers::register_written))]
     /// Writes a register that concerns this endpoint alone: interrupt control or a vector's word.
+    #[tactic(auto, unfolding(crate::specs::Registers::register_written))]
     fn write(&mut self, bar: u8, at: u32, value: u32)
         requires sound { IsSound self.old }
         ensures { self.new ≡ register_written bar at value self.old }
@@ -149,16 +149,16 @@ impl Endpoint {
     }
 
     /// Makes the change.
-    pub(crate) fn apply(&mut self, change: Change)
+    pub(crate) fn apply(&mut self, change: EndpointChange)
         requires sound { IsSound self.old }
         ensures { self.new ≡ after change self.old }
     {
         match change {
-            Change::Raise(v) => self.raise(v),
-            Change::Write { bar, at, value } => self.write(bar, at, value),
-            Change::State(value) => self.state = value,
-            Change::Reset => self.clear(),
-            Change::Take(v) => self.take(v),
+            EndpointChange::Raise(v) => self.raise(v),
+            EndpointChange::Write { bar, at, value } => self.write(bar, at, value),
+            EndpointChange::State(value) => self.state = value,
+            EndpointChange::Reset => self.clear(),
+            EndpointChange::Take(v) => self.take(v),
         }
     }
 }

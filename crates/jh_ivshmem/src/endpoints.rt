@@ -10,7 +10,7 @@ ghost use Rattle.jh_ivshmem.specs.declared.change.Whom.TheVariants.{Device};
 ghost use Rattle.jh_ivshmem.specs.Keys.{AreKept, AreInOrder, IsSound, is_key_apart, is_key_before, is_key_meant, pending_by};
 ghost use Rattle.jh_ivshmem.specs.Links.{endpoint_at, ForEndpoint, besides, joined, told_of, rung, state_written, written, slot_written, reset_of, left_by, pending_of, taken_of, earlier};
 
-use crate::change::{Change, Whom};
+use crate::change::{EndpointChange, Whom};
 use crate::endpoint::Endpoint;
 use crate::key::Key;
 use crate::spec::{EndpointSpec, Slot};
@@ -19,12 +19,14 @@ use jh_vpci::ConfigSpace;
 use std::alloc::Global;
 use std::marker::Model;
 
+/// Where the doorbell register stands in BAR 0.
 const DOORBELL: u32 = 0x0c;
 
+/// Where the state register stands in BAR 0.
 const STATE: u32 = 0x10;
 
-/// The endpoints, in the order of their cells and in each of its devices. One is found by halving; all of
-/// a link, or a pending vector, by one pass over the keys; joining and leaving move those behind.
+/// The endpoints, in the order of their cells and in each of its devices. One is found by halving, and so
+/// are those of a cell; all of a link by one pass over the keys; joining and leaving move those behind.
 #[derive(Drop)]
 pub struct Endpoints {
     endpoints: Vec<Endpoint>,
@@ -81,7 +83,7 @@ fn change_one(
     keys: &mut Vec<Key>,
     cell: u32,
     device: u32,
-    change: Change,
+    change: EndpointChange,
 )
     requires kept { AreKept endpoints.old.items keys.old.items }
     ensures list { endpoints.new.items ≡ changed (is_device cell device) (after change) endpoints.old.items }
@@ -100,7 +102,12 @@ fn change_one(
 }
 
 /// Makes the change at each endpoint that is meant.
-fn change_each(endpoints: &mut Vec<Endpoint>, keys: &mut Vec<Key>, whom: Whom, change: Change)
+fn change_each(
+    endpoints: &mut Vec<Endpoint>,
+    keys: &mut Vec<Key>,
+    whom: Whom,
+    change: EndpointChange,
+)
     requires kept { AreKept endpoints.old.items keys.old.items }
     ensures list { endpoints.new.items ≡ changed (is_meant whom) (after change) endpoints.old.items }
     ensures kept { AreKept endpoints.new.items keys.new.items }
@@ -113,17 +120,6 @@ fn change_each(endpoints: &mut Vec<Endpoint>, keys: &mut Vec<Key>, whom: Whom, c
             endpoint.apply(change);
             keys[i] = Key::of(endpoint);
         }
-    }
-}
-
-/// The earlier of two pending vectors: the one of the lower device.
-fn earlier(one: Option<(u32, u8)>, other: Option<(u32, u8)>) -> Option<(u32, u8)>
-    ensures { result ≡ earlier one other }
-{
-    match (one, other) {
-        (None, other) => other,
-        (one, None) => one,
-        (Some(a), Some(b)) => { if b.0 < a.0 { Some(b) } else { Some(a) } }
     }
 }
 
@@ -159,26 +155,31 @@ fn drop_key(keys: &mut Vec<Key>, whom: Whom)
     keys.retain(|key| !key.is_meant(whom));
 }
 
-/// Whether the register is the doorbell.
+/// Whether the register is the doorbell: offset 0x0c of BAR 0.
 fn is_doorbell(bar: u8, at: u32) -> bool
     ensures { result ≡ ((bar == 0) && (at == 0x0c)) }
 {
-    bar == 0 && at == 0x0c
+    bar == 0 && at == DOORBELL
 }
 
-/// Whether the register is the state.
+/// Whether the register is the state: offset 0x10 of BAR 0.
 fn is_state(bar: u8, at: u32) -> bool
     ensures { result ≡ ((bar == 0) && (at == 0x10)) }
 {
-    bar == 0 && at == 0x10
+    bar == 0 && at == STATE
 }
 
-/// The cell's pending vector of the lowest device, by the keys.
+/// The cell's pending vector of the lowest device, by the keys. The cell's own stand side by side.
 fn first_pending(keys: &[Key], cell: u32) -> Option<(u32, u8)>
+    requires { AreInOrder keys.now }
     ensures { result ≡ fold (λ best key. earlier best (pending_by cell key)) None keys.now }
 {
-    keys.iter()
-        .fold(None, |best, key| earlier(best, key.pending_for(cell)))
+    for i in insertion_index(keys, cell, 0)..keys.len() {
+        if keys[i].ends_search(cell) {
+            return keys[i].pending_for(cell);
+        }
+    }
+    None
 }
 
 impl Endpoints {
@@ -235,7 +236,7 @@ impl Endpoints {
     }
 
     /// Makes the change at each endpoint that is meant.
-    fn change(&mut self, whom: Whom, change: Change)
+    fn change(&mut self, whom: Whom, change: EndpointChange)
         ensures list { self.new.list ≡ changed (is_meant whom) (after change) self.old.list }
         ensures spare { self.new.spare ≡ self.old.spare }
     {
@@ -291,7 +292,8 @@ impl Endpoints {
         slot
     }
 
-    /// The others of its link learn that its state becomes the value, where it was another.
+    /// The others of the endpoint's link learn that its state becomes the value, where it was another, by their vector
+    /// 0. The answer is the write of the value to its word of the state table.
     fn tell(&mut self, cell: u32, device: u32, value: u32) -> Slot
         requires there { IsSome (endpoint_at cell device self.old.list) }
         ensures list { ForEndpoint cell device self.old.list (λ e. self.new.list ≡ told_of e value self.old.list) }
@@ -305,7 +307,7 @@ impl Endpoints {
                 bdf: spec.bdf,
                 id: spec.id,
             };
-            self.change(whom, Change::Raise(0));
+            self.change(whom, EndpointChange::Raise(0));
         }
         spec.slot(value)
     }
@@ -321,7 +323,7 @@ impl Endpoints {
         ensures spare { self.new.spare ≡ self.old.spare }
     {
         let slot = self.tell(cell, device, 0);
-        self.change(Whom::Device { cell, device }, Change::Reset);
+        self.change(Whom::Device { cell, device }, EndpointChange::Reset);
         slot
     }
 
@@ -345,7 +347,7 @@ impl Endpoints {
         &mut endpoint.space
     }
 
-    /// What a register of the endpoint reads.
+    /// What a register of the endpoint reads: 0 of the doorbell, and at an offset that has no register.
     pub fn read(&self, cell: u32, device: u32, bar: u8, at: u32) -> u32
         requires there { IsSome (endpoint_at cell device self.now.list) }
         requires bar { bar < 2 }
@@ -381,23 +383,23 @@ impl Endpoints {
         } else {
             self.change(
                 Whom::Device { cell, device },
-                Change::Write { bar, at, value },
+                EndpointChange::Write { bar, at, value },
             );
             None
         }
     }
 
-    /// Rings the doorbell of the endpoint's link.
+    /// Raises vector `v` of the peer of the number `target` on the endpoint's link, maybe the endpoint itself.
     fn ring(&mut self, cell: u32, device: u32, target: u16, v: u16)
         requires there { IsSome (endpoint_at cell device self.old.list) }
         ensures list { ForEndpoint cell device self.old.list (λ e. self.new.list ≡ rung e.spec.bdf target v self.old.list) }
         ensures spare { self.new.spare ≡ self.old.spare }
     {
         let bdf = self.named(cell, device).spec.bdf;
-        self.change(Whom::Peer { bdf, id: target }, Change::Raise(v));
+        self.change(Whom::Peer { bdf, id: target }, EndpointChange::Raise(v));
     }
 
-    /// Writes the state register of the endpoint.
+    /// Writes the state register of the endpoint, and tells the write to the state table where the value is another.
     fn set_state(&mut self, cell: u32, device: u32, value: u32) -> Option<Slot>
         requires there { IsSome (endpoint_at cell device self.old.list) }
         ensures list { ForEndpoint cell device self.old.list (λ e. self.new.list ≡ state_written e value self.old.list) }
@@ -406,19 +408,20 @@ impl Endpoints {
     {
         let had = self.named(cell, device).state;
         let slot = self.tell(cell, device, value);
-        self.change(Whom::Device { cell, device }, Change::State(value));
+        self.change(Whom::Device { cell, device }, EndpointChange::State(value));
         if had == value { None } else { Some(slot) }
     }
 
-    /// The cell's pending vector of the lowest device, then of the lowest number: the device and the
-    /// vector.
+    /// The cell's pending vector of the lowest device, then of the lowest number: the device and the vector. `None`
+    /// where no vector of the cell is pending.
     pub fn pending(&self, cell: u32) -> Option<(u32, u8)>
         ensures { result ≡ pending_of cell self.now.list }
     {
         first_pending(&self.keys, cell)
     }
 
-    /// The same, and the vector is no longer pending.
+    /// Takes the cell's pending vector of the lowest device, then of the lowest number: the device and the vector,
+    /// which is pending no longer. `None` where no vector of the cell is pending.
     pub fn take(&mut self, cell: u32) -> Option<(u32, u8)>
         ensures value { result ≡ pending_of cell self.old.list }
         ensures list { self.new.list ≡ taken_of cell (pending_of cell self.old.list) self.old.list }
@@ -427,7 +430,7 @@ impl Endpoints {
     {
         let next = self.pending(cell);
         if let Some((device, v)) = next {
-            self.change(Whom::Device { cell, device }, Change::Take(v));
+            self.change(Whom::Device { cell, device }, EndpointChange::Take(v));
         }
         next
     }

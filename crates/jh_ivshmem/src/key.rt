@@ -17,8 +17,9 @@ pub(crate) struct Key {
 }
 
 impl Key {
-    ghost use Rattle.jh_ivshmem.specs.Keys.{key_of, IsSound, is_key_apart, is_key_before, is_key_meant, pending_by};
+    ghost use Rattle.jh_ivshmem.specs.Keys.{key_of, IsSound, is_key_apart, is_key_before, is_key_meant, is_search_end, pending_by};
 
+    /// The names of the endpoint, and its lowest pending vector.
     pub(crate) fn of(endpoint: &Endpoint) -> Key
         requires sound { IsSound endpoint.now }
         ensures { result ≡ key_of endpoint.now }
@@ -59,6 +60,13 @@ impl Key {
             Some(v) if self.cell == cell => Some((self.device, v)),
             _ => None,
         }
+    }
+
+    /// Whether no key behind it has a pending vector of the cell that comes first: it is another cell's, or has one.
+    pub(crate) fn ends_search(&self, cell: u32) -> bool
+        ensures { result ≡ is_search_end cell self.now }
+    {
+        self.cell != cell || self.pending.is_some()
     }
 
     /// Whether its endpoint is neither the same device of the same cell nor the same number of one link.

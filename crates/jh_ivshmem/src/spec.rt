@@ -26,7 +26,7 @@ pub struct Slot {
 impl EndpointSpec {
     ghost use Rattle.jh_ivshmem.specs.Specs.{count_of, slot_of};
 
-    /// How many vectors it has: those of MSI-X, or a single one without.
+    /// How many vectors the endpoint has: those of MSI-X, or a single one without.
     pub fn count(&self) -> u8
         ensures { result ≡ count_of self.now }
     {
@@ -37,7 +37,7 @@ impl EndpointSpec {
         }
     }
 
-    /// Its word of the state table with the value.
+    /// The write of the value to the endpoint's word of the state table, at `table + 4 * id`.
     pub(crate) fn slot(&self, value: u32) -> Slot
         requires table { self.now.table + 64 ≤ 2 ^ 39 }
         requires id { self.now.id < 16 }

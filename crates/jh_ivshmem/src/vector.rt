@@ -26,7 +26,7 @@ impl Vector {
         pending: false,
     };
 
-    /// The word of its entry, from 0.
+    /// The word of the vector's entry in the table of MSI-X, by its number from 0 to 3.
     pub(crate) fn word(&self, n: u32) -> u32
         ensures { result ≡ word_of self.now n }
     {
@@ -38,7 +38,7 @@ impl Vector {
         }
     }
 
-    /// The vector with the word of its entry written. Of the last one bit 0 is kept.
+    /// The vector with that word of its entry written. Of the last one, the mask, bit 0 alone is kept.
     pub(crate) fn with_word(self, n: u32, value: u32) -> Vector
         ensures { result ≡ with_word n value self }
     {

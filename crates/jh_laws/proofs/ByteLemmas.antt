@@ -32,7 +32,7 @@ use Rattle.jh_laws.specs.Outcomes.{is_violation}
 use Rattle.jh_laws.specs.Writes.{Writes, WritesNot}
 use Rattle.jh_laws.specs.Written.{IsByteBy}
 use Rattle.jh_laws.specs.Ends.{IsAnsweredByRegister}
-use Rattle.jh_laws.specs.Journals.{HasNoDevice}
+use Rattle.jh_laws.specs.RootAlone.{HasNoDevice}
 use Rattle.jh_laws.proofs.RootLemmas.{op_plain}
 use Rattle.jh_laws.proofs.EndsLemmas.{IsSmallAct, op_small_holds}
 use Rattle.jh_laws.proofs.WordLemmas.{words_page}

@@ -38,3 +38,4 @@ pub mod VectorLemmas
 pub mod AnswerLemmas
 pub mod ExchangeLemmas
 pub mod FailedLemmas
+pub mod NewIdLemmas

@@ -50,7 +50,7 @@ use Rattle.jh_history.proofs.LegalLemmas.{due_split, IsLegal_begin}
 use Rattle.std.specs.List.{AllByRecursion}
 use Rattle.std.proofs.lemmas.List.Elements.{recursion_from_All}
 use Rattle.jh_history.proofs.AdmittedLemmas.{program_of_all}
-use Rattle.jh_laws.specs.Journals.{HasNoDevice}
+use Rattle.jh_laws.specs.RootAlone.{HasNoDevice}
 use Rattle.jh_laws.specs.Moves.{stepped, ended}
 use Rattle.jh_laws.specs.Outcomes.{is_violation}
 use Rattle.jh_laws.specs.Operations.{op_of, program_in}

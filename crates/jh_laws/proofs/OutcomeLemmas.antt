@@ -20,7 +20,7 @@ use Rattle.jh_history.proofs.SoundLemmas.{sound_start, legal_sound}
 use Rattle.jh_history.specs.History.{facts}
 use Rattle.jh_history.specs.Grants.{reach}
 use Rattle.jh_history.specs.Due.{got_by, IsLegal}
-use Rattle.jh_laws.specs.Journals.{HasNoDevice}
+use Rattle.jh_laws.specs.RootAlone.{HasNoDevice}
 use Rattle.jh_laws.specs.Ends.{IsAnswered, IsReadBy, IsGotBy, IsAwaitedBy}
 use Rattle.jh_laws.specs.Outcomes.{HasItsOutcome}
 use Rattle.jh_history.specs.Phases.{configs_of}

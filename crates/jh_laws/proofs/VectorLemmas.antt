@@ -1,13 +1,14 @@
 -- A vector is pending from its raise until it is dropped.
-use Rattle.std.proofs.Common.{◌≡◌, ◌≢◌, ℕ, ◌%◌, ◌/◌, ◌^◌, List, [], ◌∷◌, ◌++◌, Bool, true, false, cond, ◌&&◌, eqb, Option, Some, None, refl, sym, ap, subst, ◌∙◌, inl, inr, ⊎_elim}
+use Rattle.std.proofs.Common.{◌≡◌, ◌≢◌, ℕ, zero, suc, get_or, set, ◌%◌, ◌/◌, ◌^◌, List, [], ◌∷◌, ◌++◌, Bool, true, false, cond, ◌&&◌, eqb, Option, Some, None, refl, sym, ap, subst, ◌∙◌, inl, inr, ⊎_elim}
 use Rattle.std.specs.Prelude.{◌⊎◌, Contains}
 use Rattle.std.specs.Option.{option_map_or}
 use Rattle.std.proofs.lemmas.Bool.{both_ways, and_from, eq-eqb, cases_Bool}
 use Rattle.std.proofs.lemmas.Option.{none-some, same_Some}
 use Rattle.jh_ivshmem.specs.declared.endpoint.Endpoint.{Endpoint}
 use Rattle.jh_ivshmem.specs.declared.spec.EndpointSpec.{EndpointSpec}
+use Rattle.jh_ivshmem.specs.declared.vector.Vector.{Vector}
 use Rattle.jh_ivshmem.specs.Changes.{changed}
-use Rattle.jh_ivshmem.specs.Endpoint.{is_open, raised, taken, vector_at}
+use Rattle.jh_ivshmem.specs.Endpoint.{fresh_vector, is_open, raised, taken, vector_at}
 use Rattle.jh_ivshmem.specs.Registers.{register_written}
 use Rattle.jh_ivshmem.specs.Specs.{is_device, is_peer}
 use Rattle.jh_ivshmem.specs.Links.{endpoint_at, is_pending, rung, state_written, told_of, written}
@@ -33,7 +34,7 @@ use Rattle.jh_history.specs.Sound.{IsSound}
 use Rattle.jh_history.proofs.FactsLemmas.{facts_push, facts_nil}
 use Rattle.jh_history.proofs.LegalLemmas.{due_split, IsLegal_begin}
 use Rattle.jh_history.proofs.SoundLemmas.{legal_sound}
-use Rattle.jh_laws.specs.Vectors.{IsPendingIn, Raises, Clears, Drops, IsKeptByOthers}
+use Rattle.jh_laws.specs.Vectors.{IsPendingIn, Raises, Clears, Drops, written_part, IsKeptByOthers}
 use Rattle.jh_laws.specs.Ways.{is_commit}
 use Rattle.jh_laws.proofs.ClearLemmas.{IsClear, IsJoin, IsIdle, commit_cases, IsCleared, commit_now}
 use Rattle.jh_laws.proofs.EndsLemmas.{IsSmallAct, small_at}
@@ -223,6 +224,29 @@ raised_state u e = elim (cases_Bool (is_open e u)) as (λ _. (raised u e).state 
   | inr closes ↦ rw closes refl
 ]
 
+-- where a vector is put that differs from the one there in being pending alone, none is written
+written_set : (vectors : List Vector) (u v : ℕ) (x : Vector) → written_part x ≡ written_part (get_or vectors u fresh_vector) → written_part (get_or (set vectors u x) v fresh_vector) ≡ written_part (get_or vectors v fresh_vector)
+written_set [] u v x same = refl
+written_set (y ∷ ys) zero zero x same = same
+written_set (y ∷ ys) zero (suc v) x same = refl
+written_set (y ∷ ys) (suc u) zero x same = refl
+written_set (y ∷ ys) (suc u) (suc v) x same = written_set ys u v x same
+
+raised_words : (u : ℕ) (e : Endpoint) (v : ℕ) → written_part (vector_at (raised u e) v) ≡ written_part (vector_at e v)
+unfolding raised
+raised_words u e v = elim (cases_Bool (is_open e u)) as (λ _. written_part (vector_at (raised u e) v) ≡ written_part (vector_at e v)) [
+  | inl opened ↦ rw opened (written_set e.vectors u v (record (vector_at e u) { pending = true }) refl)
+  | inr closes ↦ rw closes refl
+]
+
+-- what is pending at the one endpoint
+alone_pending : (b : Endpoint) (id n v : ℕ) → b.spec.cell ≡ id → b.spec.device ≡ n → is_pending id n v (b ∷ []) ≡ true → (vector_at b v).pending ≡ true
+alone_pending b id n v cell device pends =
+    sym
+    (ap (λ (own : Bool). option_map_or (λ (o : Endpoint). (vector_at o v).pending) (cond own (Some b) None) false)
+    (and_from (eqb b.spec.cell id) (eqb b.spec.device n) (eq-eqb b.spec.cell id cell) (eq-eqb b.spec.device n device)))
+    ∙ pends
+
 -- the vector is pending at the one endpoint
 pending_alone : (b : Endpoint) (id n v : ℕ) → b.spec.cell ≡ id → b.spec.device ≡ n → (vector_at b v).pending ≡ true → is_pending id n v (b ∷ []) ≡ true
 pending_alone b id n v cell device pends =
@@ -242,7 +266,14 @@ kept_others image f entry e b there unclear foreign become =
           (λ (same : b ≡ e). absurd (changed (ap (λ (o : Endpoint). o.control) same)))
           (λ (raise : (u : ℕ) × (is_open e u ≡ true) × Calls image f entry e u × (b ≡ raised u e)). (raise.0, record { peer = e; there = there; let_through = raise.1; by = raise.2 }))
           or_raised;
-      vectors = λ v pending.
+      words = λ v. ⊎_elim (λ (same : b ≡ e). ap (λ (o : Endpoint). written_part (vector_at o v)) same) (λ raise. ap (λ (o : Endpoint). written_part (vector_at o v)) raise.3 ∙ raised_words raise.0 e v) or_raised;
+      raised = λ v pending.
+          let now = alone_pending b e.spec.cell e.spec.device v (ap (λ (s : EndpointSpec). s.cell) become.spec) (ap (λ (s : EndpointSpec). s.device) become.spec) pending in
+          ⊎_elim
+          (λ (called : (is_open e v ≡ true) × Calls image f entry e v). inr (record { peer = e; there = there; let_through = called.0; by = called.1 }))
+          (λ was. inl (pending_of_endpoint f e.spec.cell e.spec.device v e there was.0))
+          (become.only v now);
+      kept = λ v pending.
           let at = endpoint_of_pending f e.spec.cell e.spec.device v pending in
           let P : Endpoint → Type 0 = λ o. (vector_at o v).pending ≡ true in
           let was : (vector_at e v).pending ≡ true = subst P (same_Some at.0 e (sym at.1 ∙ there)) at.2 in

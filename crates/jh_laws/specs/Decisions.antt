@@ -18,14 +18,15 @@ use Rattle.jh_history.specs.Admitted.{pool_pages}
 use Rattle.jh_history.specs.Configs.{bytes_at, refused_for}
 use Rattle.jh_history.specs.Phases.{state_word, may_give, configs_of}
 
--- a cell besides root lives that is locked, or none is
+-- the cell lives besides root, and is locked
 abbrev pub IsLockedBy : Facts → Live → Type 0
 IsLockedBy f live = Contains f.cells live × (state_word f (id_of live) ≡ STATE_RUNNING_LOCKED)
 
+-- no cell that lives besides root is locked
 abbrev pub NoneIsLocked : Facts → Type 0
 NoneIsLocked f = (live : Live) → Contains f.cells live → state_word f (id_of live) ≢ STATE_RUNNING_LOCKED
 
--- the same of others than the one with the id
+-- no cell that lives besides root, but the one with the id, is locked
 abbrev pub NoOtherIsLocked : Facts → ℕ → Type 0
 NoOtherIsLocked f id = (live : Live) → Contains f.cells live → id_of live ≢ id → state_word f (id_of live) ≢ STATE_RUNNING_LOCKED
 
@@ -33,39 +34,41 @@ NoOtherIsLocked f id = (live : Live) → Contains f.cells live → id_of live �
 abbrev pub LivesNot : Facts → ℕ → Type 0
 LivesNot f id = (config : CellConfig) → Contains (configs_of f.cells) config → config.id ≢ id
 
--- a start or a set loadable: root's id is refused, and one that no cell has
+-- what a start or a set loadable is refused for: root's id, and one that no cell has
 pub record IsIdDecision (image : Image) (f : Facts) (id : ℕ) (refused : Option ℤ) : Type 0 where
   pub root : id ≡ image.system.root.id → refused ≡ Some EINVAL
   pub none : id ≢ image.system.root.id → LivesNot f id → refused ≡ Some ENOENT
   pub goes : (config : CellConfig) → Contains (configs_of f.cells) config → config.id ≡ id → refused ≡ None
 
--- a destroy: besides, it is refused where another cell is locked
+-- what a destroy is refused for: root's id, one that no cell has, and then another cell that is locked
 pub record IsDestroyDecision (image : Image) (f : Facts) (id : ℕ) (refused : Option ℤ) : Type 0 where
   pub root : id ≡ image.system.root.id → refused ≡ Some EINVAL
   pub none : id ≢ image.system.root.id → LivesNot f id → refused ≡ Some ENOENT
   pub locked : (config : CellConfig) (other : Live) → Contains (configs_of f.cells) config → config.id ≡ id → IsLockedBy f other → id_of other ≢ id → refused ≡ Some EPERM
   pub goes : (config : CellConfig) → Contains (configs_of f.cells) config → config.id ≡ id → NoOtherIsLocked f id → refused ≡ None
 
--- what is read of a configuration at the address: root may not read its 132 bytes of header; the header has a fault;
--- root may not read all of it; or it is read
+-- what a create is refused for where no configuration is read: root may not read its 132 bytes of header, the header
+-- has a fault, or root may not read all of it
 pub record IsUnreadDecision (image : Image) (f : Facts) (at : ℕ) (refused : Option ℤ) : Type 0 where
   pub header : bytes_at image f at 132 ≡ None → refused ≡ Some EINVAL
   pub fault : (header : List ℕ) (fault : ConfigFault) → bytes_at image f at 132 ≡ Some header → header_fault header ≡ Some fault → refused ≡ Some (refused_for fault)
   pub rest : (header : List ℕ) → bytes_at image f at 132 ≡ Some header → header_fault header ≡ None → bytes_at image f at (header_size header) ≡ None → refused ≡ Some EINVAL
 
--- a configuration that was read: it is refused for the first cause that holds, or for none
+-- what a configuration that was read is refused for: the first cause that holds, or none
 pub record IsRefusedOf (image : Image) (f : Facts) (caller : ℕ) (config : CellConfig) (refused : Option ℤ) : Type 0 where
   pub cause : refused ≡ refusal_of image.system (configs_of f.cells) config (may_give image f caller) (pages_of image.system.root.memory_regions (configs_of f.cells ++ config ∷ [])) (pool_pages image.system)
   pub goes : IsAccepted image.system (configs_of f.cells) config (may_give image f caller) (pages_of image.system.root.memory_regions (configs_of f.cells ++ config ∷ [])) (pool_pages image.system)
       → refused ≡ None
 
--- a create: refused where a cell is locked, else as it is read, and as what is read is refused
+-- what a create is refused for: a cell that is locked, else what can't be read, and else what refuses the configuration
+-- that was read
 pub record IsCreateDecision (image : Image) (f : Facts) (caller at : ℕ) (refused : Option ℤ) : Type 0 where
   pub locked : (live : Live) → IsLockedBy f live → refused ≡ Some EPERM
   pub unread : NoneIsLocked f → IsUnreadDecision image f at refused
   pub read : NoneIsLocked f → (header bytes : List ℕ) → bytes_at image f at 132 ≡ Some header → header_fault header ≡ None
       → bytes_at image f at (header_size header) ≡ Some bytes → IsRefusedOf image f caller (config_of bytes) refused
 
+-- what the call is refused for at its Decide, if for anything
 abbrev pub IsDecision : Image → Facts → ℕ → Call → Option ℤ → Type 0
 IsDecision image f caller (Create at) refused = IsCreateDecision image f caller at refused
 IsDecision image f caller (Start id) refused = IsIdDecision image f id refused

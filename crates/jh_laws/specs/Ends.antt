@@ -91,7 +91,7 @@ pub record LiesInBar (image : Image) (f : Facts) (id n bar at width : ℕ) (e : 
   pub first : start ≤ at
   pub last : at + width ≤ end
 
--- so it does in no window of an earlier device, nor of an earlier BAR of the same one
+-- the access lies in no window of an earlier device of the cell, nor of an earlier BAR of the same one
 abbrev pub IsFirstBar : Image → Facts → ℕ → ℕ → ℕ → ℕ → ℕ → Type 0
 IsFirstBar image f id n bar at width =
     (m other : ℕ) (e : Endpoint) → (m < n) ⊎ ((m ≡ n) × (other < bar)) → LiesInBar image f id m other at width e → ⊥
@@ -135,7 +135,7 @@ AreItsPlaces image cells id access at width place =
     ((k : ℕ) → k < width → IsGrantedTo image cells id access (at + k) (place k))
     ⊎ GivesPlaces image cells id access at width place
 
--- the offset in the ECAM window
+-- the offset of the address in the ECAM window
 abbrev pub offset_in : SystemConfig → ℕ → ℕ
 offset_in system at = at - system.pci_mmconfig_base
 

@@ -24,7 +24,7 @@ how_many test (entry ∷ entries) = (if test entry then 1 else 0) + how_many tes
 abbrev pub made_by_named : Call → List Entry → ℕ
 made_by_named call entries = min (how_many (λ (e : Entry). is_named call e.cell) entries) (2 ^ 64 - 1)
 
--- the same of the cell with the id
+-- how many of the entries were made by CPUs of the cell with the id, or still the last number of 64 bits
 abbrev pub made_by_cell : ℕ → List Entry → ℕ
 made_by_cell id entries = min (how_many (λ (e : Entry). e.cell == id) entries) (2 ^ 64 - 1)
 
@@ -32,8 +32,8 @@ made_by_cell id entries = min (how_many (λ (e : Entry). e.cell == id) entries) 
 abbrev pub IsTimeOver : Image → Facts → ℕ → CellConfig → ℕ → Type 0
 IsTimeOver image f caller config waited = ((config.msg_reply_timeout ≢ 0) × (config.msg_reply_timeout ≤ waited)) ⊎ NothingElse image f caller
 
--- the request to shut down: a cell that is passive, down or says so agrees; any other reply denies; without a reply its
--- time was over
+-- how the cell met the request to shut down: it agrees where it is passive, down or says so; any other reply denies;
+-- without a reply its time was over
 pub record IsSettledBy (image : Image) (f : Facts) (caller : ℕ) (config : CellConfig) (waited : ℕ) (how : Settled) : Type 0 where
   pub passive : is_passive config ≡ true → how ≡ Agreed
   pub down : is_down (state_word f config.id) ≡ true → how ≡ Agreed
@@ -41,7 +41,8 @@ pub record IsSettledBy (image : Image) (f : Facts) (caller : ℕ) (config : Cell
   pub denied : is_passive config ≡ false → is_down (state_word f config.id) ≡ false → reply_word f config.id ≢ REPLY_REQUEST_APPROVED → reply_word f config.id ≢ 0 → how ≡ Denied
   pub silent : is_passive config ≡ false → is_down (state_word f config.id) ≡ false → reply_word f config.id ≡ 0 → (how ≡ Timeout) × IsTimeOver image f caller config waited
 
--- the note: a cell that is down is; else it received it, or replied something else; without a reply its time was over
+-- how the cell met the note: it is down; else it received it, or replied something else; without a reply its time was
+-- over
 pub record IsHeardBy (image : Image) (f : Facts) (caller : ℕ) (config : CellConfig) (waited : ℕ) (how : Heard) : Type 0 where
   pub down : is_down (state_word f config.id) ≡ true → how ≡ Down
   pub received : is_down (state_word f config.id) ≡ false → reply_word f config.id ≡ REPLY_RECEIVED → how ≡ Received

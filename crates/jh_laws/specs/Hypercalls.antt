@@ -12,15 +12,15 @@ use Rattle.jh_history.specs.Lives.{is_on_board}
 use Rattle.jh_history.specs.Admitted.{pool_pages}
 use Rattle.jh_history.specs.Phases.{state_word, configs_of}
 
--- information about the hypervisor: the pool's pages, those used, the live cells with root
+-- the answer to a request for information about the hypervisor: the pool's pages, those used, the live cells with root
 pub record IsInfo (image : Image) (f : Facts) (kind : ℕ) (answer : ℤ) : Type 0 where
   pub size : kind ≡ 0 → answer ≡ pos (pool_pages image.system)
   pub used : kind ≡ 1 → answer ≡ pos (pages_of image.system.root.memory_regions (configs_of f.cells))
   pub cells : kind ≡ 4 → answer ≡ pos (length f.cells + 1)
   pub other : kind ≢ 0 → kind ≢ 1 → kind ≢ 4 → answer ≡ EINVAL
 
--- the state of a cell, which root alone is told: 0 for root, and the state word of another live cell where that is one
--- of the five states
+-- the answer to a request for the state of a cell, which root alone is told: 0 for root, and the state word of another
+-- live cell where that is one of the five states
 pub record IsStateTold (image : Image) (f : Facts) (cell id : ℕ) (answer : ℤ) : Type 0 where
   pub others : cell ≢ image.system.root.id → answer ≡ EPERM
   pub root : cell ≡ image.system.root.id → id ≡ image.system.root.id → answer ≡ pos 0
@@ -28,8 +28,8 @@ pub record IsStateTold (image : Image) (f : Facts) (cell id : ℕ) (answer : ℤ
   pub wrong : (config : CellConfig) → cell ≡ image.system.root.id → Contains (configs_of f.cells) config → config.id ≡ id → 4 < state_word f id → answer ≡ EINVAL
   pub none : cell ≡ image.system.root.id → id ≢ image.system.root.id → ((config : CellConfig) → Contains (configs_of f.cells) config → config.id ≢ id) → answer ≡ ENOENT
 
--- the state of a CPU, by the first of these: the board lacks it, it is another cell's and root doesn't ask, the kind
--- isn't 0, it has failed
+-- the answer to a request for information about a CPU, by the first of these: the board lacks it, it is another cell's
+-- and root doesn't ask, the kind isn't 0, it has failed
 pub record IsCpuTold (image : Image) (f : Facts) (cell cpu kind : ℕ) (answer : ℤ) : Type 0 where
   pub absent : is_on_board image cpu ≡ false → answer ≡ EINVAL
   pub foreign : is_on_board image cpu ≡ true → cell ≢ image.system.root.id → (f.cpu cpu).owner ≢ cell → answer ≡ EPERM

@@ -1,4 +1,4 @@
-pub mod Journals
+pub mod RootAlone
 pub mod Grants
 pub mod Outcomes
 pub mod Writes

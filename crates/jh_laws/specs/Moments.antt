@@ -18,7 +18,7 @@ pub record AdmittedJournal : Type 0 where
   pub admitted : IsAdmitted image
   pub legal : IsLegal image entries
 
--- an entry of one, with the entries before it and the rest behind it
+-- an entry of a legal journal of an admitted image, with the entries before it and the rest behind it
 pub record AdmittedMoment : Type 0 where
   pub image : Image
   pub before : List Entry
@@ -27,37 +27,42 @@ pub record AdmittedMoment : Type 0 where
   pub admitted : IsAdmitted image
   pub legal : IsLegal image (before ++ entry ∷ rest)
 
--- what holds after a journal, and just before and just behind an entry
+-- the facts after the journal
 abbrev pub facts_of : AdmittedJournal → Facts
 facts_of j = facts j.image j.entries
 
+-- the facts just before the entry
 abbrev pub facts_before : AdmittedMoment → Facts
 facts_before m = facts m.image m.before
 
+-- the facts just behind the entry
 abbrev pub facts_behind : AdmittedMoment → Facts
 facts_behind m = facts m.image (m.before ++ m.entry ∷ [])
 
--- the configurations of the cells that live besides root, in order of creation
+-- the configurations of the cells that live besides root after the journal, in order of creation
 abbrev pub cells_of : AdmittedJournal → List CellConfig
 cells_of j = configs_of (facts_of j).cells
 
+-- the configurations of the cells that live besides root just before the entry, in order of creation
 abbrev pub cells_before : AdmittedMoment → List CellConfig
 cells_before m = configs_of (facts_before m).cells
 
+-- the configurations of the cells that live besides root just behind the entry, in order of creation
 abbrev pub cells_behind : AdmittedMoment → List CellConfig
 cells_behind m = configs_of (facts_behind m).cells
 
--- the id of the cell that the CPU belongs to
+-- the id of the cell that the CPU belongs to after the journal
 abbrev pub owner_of : AdmittedJournal → ℕ → ℕ
 owner_of j cpu = ((facts_of j).cpu cpu).owner
 
--- the call that is open
+-- the call that is open after the journal
 abbrev pub call_of : AdmittedJournal → Option OpenCall
 call_of j = (facts_of j).call
 
--- the state of the CPU
+-- the state of the CPU just before the entry
 abbrev pub state_before : AdmittedMoment → ℕ → Cpu
 state_before m cpu = (facts_before m).cpu cpu
 
+-- the state of the CPU just behind the entry
 abbrev pub state_behind : AdmittedMoment → ℕ → Cpu
 state_behind m cpu = (facts_behind m).cpu cpu

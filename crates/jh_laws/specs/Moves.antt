@@ -7,6 +7,6 @@ use Rattle.jh_cpu.specs.declared.cpu.Mode.TheVariants.{Failed}
 abbrev pub stepped : Cpu → Cpu
 stepped cpu = record cpu { position = cpu.position + 1 }
 
--- one operation further, and failed
+-- the CPU one operation further and failed, and all else of it as it was
 abbrev pub ended : Cpu → Cpu
 ended cpu = record cpu { position = cpu.position + 1; mode = Failed }

@@ -13,7 +13,7 @@ use Rattle.jh_history.specs.declared.entry.Act.{Act}
 use Rattle.jh_history.specs.declared.entry.Act.TheVariants.{Read, Write, Fetch, Await, Irq, Hvc, Begin}
 use Rattle.jh_history.specs.History.{facts}
 use Rattle.jh_history.specs.Lives.{program_of}
-use Rattle.jh_laws.specs.Journals.{cpu_at}
+use Rattle.jh_laws.specs.RootAlone.{cpu_at}
 use Rattle.jh_laws.specs.Ends.{IsAnswered, IsReadBy}
 use Rattle.jh_laws.specs.Outcomes.{HasItsOutcome}
 

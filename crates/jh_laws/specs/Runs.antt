@@ -12,7 +12,7 @@ IsRun image limit (cpu ∷ cpus) before after =
     ((due image before cpu ≡ None) × IsRun image limit cpus before after)
     ⊎ ((entry : Entry) × (due image before cpu ≡ Some entry) × (length before < limit) × IsRun image limit cpus (before ++ entry ∷ []) after)
 
--- the first items do, and then the journal has `limit` entries, and the CPU of the next item has an entry due
+-- the first items lead to a journal of `limit` entries or more, and the CPU of the next item has an entry due
 pub record IsCutShort (image : Image) (limit : ℕ) (cpus : List ℕ) (before after : List Entry) : Type 0 where
   pub done : List ℕ
   pub next : ℕ

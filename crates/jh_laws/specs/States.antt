@@ -14,7 +14,7 @@ use Rattle.jh_history.specs.Lives.{is_on_board, program_of}
 use Rattle.jh_history.specs.Calls.{is_named}
 use Rattle.jh_laws.specs.Moves.{stepped}
 
--- an act that may change other CPUs than the one that makes it
+-- the act may change other CPUs than the one that makes it
 abbrev pub changes_others : Act → Bool
 changes_others (Begin code a b) = true
 changes_others (Settle how) = true
@@ -22,6 +22,7 @@ changes_others Commit = true
 changes_others (Finish answer) = true
 changes_others _ = false
 
+-- the act is a stop
 abbrev pub is_stop : Act → Bool
 is_stop Stop = true
 is_stop _ = false
@@ -34,7 +35,8 @@ pub record HasBegun (image : Image) (own i : ℕ) (before behind : Cpu) : Type 0
   pub foreign : before.owner ≢ image.system.root.id → behind ≡ before
   pub rests : before.mode ≢ Running → behind ≡ before
 
--- at a Settle that isn't denied a running CPU of the cell that the call is about is asked to stop
+-- at a Settle that isn't denied a running CPU of the cell that the call is about is asked to stop, and every other CPU
+-- stays as it is
 pub record HasAgreed (call : Call) (before behind : Cpu) : Type 0 where
   pub asked : is_named call before.owner ≡ true → before.mode ≡ Running → behind ≡ asked_of before
   pub foreign : is_named call before.owner ≡ false → behind ≡ before
@@ -51,7 +53,7 @@ HasCommitted image old new (Destroy id) i before behind =
     (before.owner ≡ id → behind ≡ returned image.system.root.id (length (program_of image (name_of image.system.root) i)) before) × (before.owner ≢ id → behind ≡ before)
 HasCommitted image old new call i before behind = ⊥
 
--- at the end root's CPUs go on, and the caller has done its operation
+-- at the end root's CPUs go on, the caller has done its operation, and every other CPU stays as it is
 pub record HasFinished (image : Image) (own i : ℕ) (before behind : Cpu) : Type 0 where
   pub caller : i ≡ own → behind ≡ stepped before
   pub roots : i ≢ own → before.owner ≡ image.system.root.id → behind ≡ resumed before

@@ -1,9 +1,10 @@
 -- Pending vectors of devices: what raises one, and what drops it. A vector is pending exactly where it was raised while it
 -- was open, and wasn't taken since, nor its device reset or gone: behind an entry the vectors that are pending are those
 -- that it raises and those that were pending before it, but for those that it drops.
-use Rattle.std.specs.Prelude.{◌≡◌, ◌≢◌, ◌≤◌, ◌⊎◌, ◌/◌, ◌%◌, ◌^◌, ℕ, true, [], ◌∷◌, Contains, Some, IsTrue}
+use Rattle.std.specs.Prelude.{◌≡◌, ◌≢◌, ◌≤◌, ◌⊎◌, ◌/◌, ◌%◌, ◌^◌, ℕ, true, false, [], ◌∷◌, Contains, Some, IsTrue}
 use Rattle.jh_ivshmem.specs.declared.endpoint.Endpoint.{Endpoint}
-use Rattle.jh_ivshmem.specs.Endpoint.{is_open}
+use Rattle.jh_ivshmem.specs.declared.vector.Vector.{Vector}
+use Rattle.jh_ivshmem.specs.Endpoint.{is_open, vector_at}
 use Rattle.jh_ivshmem.specs.Links.{endpoint_at, is_pending}
 use Rattle.jh_call.specs.declared.call.Call.{Call}
 use Rattle.jh_call.specs.declared.call.Call.TheVariants.{Start, Destroy}
@@ -20,8 +21,8 @@ use Rattle.jh_laws.specs.Ends.{IsAnsweredByRegister}
 abbrev pub IsPendingIn : Facts → ℕ → ℕ → ℕ → Type 0
 IsPendingIn f id n v = is_pending id n v f.endpoints ≡ true
 
--- it is the one that the cell's next interrupt takes: no pending vector of the cell is of a lower device, nor a lower one of
--- the same device
+-- the vector is the one that the cell's next interrupt takes: no pending vector of the cell is of a lower device, nor a
+-- lower one of the same device
 pub record IsNext (f : Facts) (id n v : ℕ) : Type 0 where
   pub pending : IsPendingIn f id n v
   pub device : (m u : ℕ) → IsPendingIn f id m u → n ≤ m
@@ -66,7 +67,7 @@ ChangesState image f entry e =
     ((value : ℕ) × PutsRegister image f entry.cell entry.act 0x10 value e × (value ≢ e.state))
     ⊎ (Clears f entry e.spec.cell × (e.state ≢ 0))
 
--- the entry tells the peer of it, which is another of its link
+-- the entry tells the peer that the state of another endpoint of its link becomes another
 pub record NotifiesPeer (image : Image) (f : Facts) (entry : Entry) (peer : Endpoint) : Type 0 where
   pub one : Endpoint
   pub there : Contains f.endpoints one
@@ -89,12 +90,19 @@ Drops f entry id n v = ((entry.cell ≡ id) × (entry.act ≡ Irq n v)) ⊎ Clea
 
 -- ---- what cells do to one another by devices
 
--- the endpoint, behind an entry of another cell than its own, has the configuration space and the state that it had before;
--- its interrupt control is another only where the entry raises a vector of it, which turns it off in one-shot mode; and what
--- was pending is pending still
+-- the vector but for whether it is pending: its address, its message and its mask, which its own cell writes
+abbrev pub written_part : Vector → Vector
+written_part vector = record vector { pending = false }
+
+-- the endpoint, behind an entry of another cell than its own, has the configuration space, the state and the words and masks
+-- of vectors that it had before; its interrupt control is another only where the entry raises a vector of it, which turns it
+-- off in one-shot mode; what was pending is pending still, and what is pending was so before or is raised by the entry
 pub record IsKeptByOthers (image : Image) (f : Facts) (entry : Entry) (before behind : Endpoint) : Type 0 where
   pub spec : behind.spec ≡ before.spec
   pub space : behind.space ≡ before.space
   pub state : behind.state ≡ before.state
   pub control : behind.control ≢ before.control → (v : ℕ) × Raises image f entry before.spec.cell before.spec.device v
-  pub vectors : (v : ℕ) → IsPendingIn f before.spec.cell before.spec.device v → is_pending before.spec.cell before.spec.device v (behind ∷ []) ≡ true
+  pub words : (v : ℕ) → written_part (vector_at behind v) ≡ written_part (vector_at before v)
+  pub kept : (v : ℕ) → IsPendingIn f before.spec.cell before.spec.device v → is_pending before.spec.cell before.spec.device v (behind ∷ []) ≡ true
+  pub raised : (v : ℕ) → is_pending before.spec.cell before.spec.device v (behind ∷ []) ≡ true
+      → IsPendingIn f before.spec.cell before.spec.device v ⊎ Raises image f entry before.spec.cell before.spec.device v

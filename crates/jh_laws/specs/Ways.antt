@@ -14,7 +14,7 @@ use Rattle.jh_history.specs.declared.entry.Act.TheVariants.{Begin, Decide, Settl
 
 -- ---- acts
 
--- a phase of a call behind its beginning
+-- the act is a phase of a call behind its beginning
 abbrev pub is_phase : Act → Bool
 is_phase (Decide refused) = true
 is_phase (Settle how) = true
@@ -24,19 +24,22 @@ is_phase (Noted id how) = true
 is_phase (Finish answer) = true
 is_phase _ = false
 
+-- the act is a Decide
 abbrev pub is_decide : Act → Bool
 is_decide (Decide refused) = true
 is_decide _ = false
 
+-- the act is a Commit
 abbrev pub is_commit : Act → Bool
 is_commit Commit = true
 is_commit _ = false
 
+-- the act is the end of a call
 abbrev pub is_finish : Act → Bool
 is_finish (Finish answer) = true
 is_finish _ = false
 
--- a Settle after which the call goes on
+-- the act is a Settle after which the call goes on
 abbrev pub is_agreement : Act → Bool
 is_agreement (Settle Agreed) = true
 is_agreement (Settle Timeout) = true
@@ -49,6 +52,7 @@ call_begun _ = Unknown
 
 -- ---- which call is open
 
+-- the last beginning of a call that no end follows, after one entry more
 abbrev pub begun_by : Option Entry → Entry → Act → Option Entry
 begun_by begun entry (Begin code a b) = Some entry
 begun_by begun entry (Finish answer) = None
@@ -67,27 +71,29 @@ IsBegun (Some entry) (Some o) = (o.caller ≡ entry.cpu) × (o.call ≡ call_beg
 
 -- ---- what follows what
 
--- behind the Commit, or the last note that was heard, of a call that others are told of
+-- the next act is a note, or the end of the call with one of these answers
 abbrev pub IsNoteOr : (ℤ → Type 0) → Act → Type 0
 IsNoteOr answers next = ((id : ℕ) × (next ≡ Note id)) ⊎ ((answer : ℤ) × answers answer × (next ≡ Finish answer))
 
--- a create ends with an id, a destroy with 0
+-- what may follow in a call that others are told of: a note, or the end, which has an id for a create and 0 for a
+-- destroy
 abbrev pub IsTelling : Call → Act → Type 0
 IsTelling (Create at) next = IsNoteOr (λ (answer : ℤ). (id : ℕ) × (answer ≡ pos id)) next
 IsTelling (Destroy id) next = IsNoteOr (λ (answer : ℤ). answer ≡ pos 0) next
 IsTelling call next = ⊥
 
+-- what may follow the Commit of the call: the end with 0 of a start or a set loadable, else a note or the end
 abbrev pub IsBehindCommit : Call → Act → Type 0
 IsBehindCommit (Start id) next = next ≡ Finish (pos 0)
 IsBehindCommit (Loadable id) next = next ≡ Finish (pos 0)
 IsBehindCommit call next = IsTelling call next
 
--- where nothing refuses the call, a create is committed, and any other call asks its cell
+-- what may follow a Decide that refuses nothing: the Commit of a create, and a Settle of any other call
 abbrev pub IsBehindGo : Call → Act → Type 0
 IsBehindGo (Create at) next = next ≡ Commit
 IsBehindGo call next = (how : Settled) × (next ≡ Settle how)
 
--- the caller's next act behind this one of its call
+-- what the caller's next act may be behind this one of its call
 abbrev pub MayFollow : Call → Act → Act → Type 0
 MayFollow call (Begin code a b) next = (refused : Option ℤ) × (next ≡ Decide refused)
 MayFollow call (Decide (Some number)) next = next ≡ Finish number

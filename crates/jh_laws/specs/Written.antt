@@ -49,7 +49,7 @@ WritesWord image f entry spec value =
     ((e : Endpoint) × (e.spec ≡ spec) × PutsRegister image f entry.cell entry.act 0x10 value e × (value ≢ e.state))
     ⊎ (Contains (specs_changing f entry.act) spec × (value ≡ 0))
 
--- the byte is that of a word that the entry writes so
+-- the byte at the place is one of the value that the entry writes to a word of a state table
 pub record IsByteOfWord (image : Image) (f : Facts) (entry : Entry) (place : Place) (byte : ℕ) : Type 0 where
   pub spec : EndpointSpec
   pub value : ℕ

@@ -1,14 +1,16 @@
 //! Management calls: which is open, who is suspended by it, and what may follow what in it.
-ghost use Rattle.std.specs.Prelude.{◌≡◌, ◌≢◌, ℕ, ℤ, Option, List, [], ◌∷◌, ◌++◌, Some, None, true, false, All, Contains};
+ghost use Rattle.std.specs.Prelude.{◌≡◌, ◌≢◌, ℕ, ℤ, pos, Option, List, [], ◌∷◌, ◌++◌, Some, None, true, false, All, Contains};
 ghost use Rattle.jh_script.specs.declared.image.Image.{Image as TheImage};
 ghost use Rattle.jh_cellcfg.specs.declared.config.CellConfig.{CellConfig as TheConfig};
+ghost use Rattle.jh_cellcfg.specs.declared.live.Live.{Live as TheLive};
+ghost use Rattle.jh_call.specs.declared.call.Call.TheVariants.{Create};
 ghost use Rattle.jh_history.specs.declared.entry.Settled.{Settled as TheSettled};
 ghost use Rattle.jh_history.specs.declared.entry.Heard.{Heard as TheHeard};
 ghost use Rattle.jh_history.specs.History.{facts};
 ghost use Rattle.jh_history.specs.Phases.{configs_of};
 ghost use Rattle.jh_laws.specs.Exchanges.{made_by_named, made_by_cell, IsSettledBy, IsHeardBy};
 ghost use Rattle.jh_history.specs.declared.entry.Entry.{Entry as TheEntry};
-ghost use Rattle.jh_history.specs.declared.entry.Act.TheVariants.{Begin, Stop, Decide, Settle, Note, Noted};
+ghost use Rattle.jh_history.specs.declared.entry.Act.TheVariants.{Begin, Stop, Decide, Settle, Commit, Note, Noted, Finish};
 ghost use Rattle.jh_history.specs.Due.{IsLegal, IsQuiet};
 ghost use Rattle.jh_history.specs.Admitted.{IsAdmitted};
 ghost use Rattle.jh_history.specs.Calls.{is_named, is_call};
@@ -31,6 +33,15 @@ pub fn calls_go_phase_by_phase()
         IsLegal image (before ++ one ∷ (middle ++ next ∷ rest)) → is_call one.act ≡ true → is_finish one.act ≡ false →
         All (λ (e : TheEntry). e.cpu ≢ one.cpu) middle → next.cpu ≡ one.cpu →
         (first : TheEntry) × (begun (before ++ one ∷ []) ≡ Some first) × MayFollow (call_begun first.act) one.act next.act }
+{}
+
+/// A create whose Commit makes a cell ends with that cell's id, however many cells are told of it before.
+pub fn a_create_answers_the_new_cells_id()
+    ensures { (image : TheImage) (before middle rest : List TheEntry) (first commit last : TheEntry) (at : ℕ) (live : TheLive) (answer : ℤ) → IsAdmitted image →
+        IsLegal image (before ++ commit ∷ (middle ++ last ∷ rest)) → begun before ≡ Some first →
+        call_begun first.act ≡ Create at → commit.act ≡ Commit →
+        (facts image (before ++ commit ∷ [])).cells ≡ (facts image before).cells ++ live ∷ [] →
+        All (λ (e : TheEntry). is_finish e.act ≡ false) middle → last.act ≡ Finish answer → answer ≡ pos live.config.id }
 {}
 
 /// From a Decide to the end of its call no CPU of root but the caller makes an entry. From a Settle that isn't

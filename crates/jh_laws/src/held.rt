@@ -4,11 +4,13 @@ ghost use Rattle.jh_cellcfg.specs.declared.config.CellConfig.{CellConfig as TheC
 ghost use Rattle.jh_cellcfg.specs.declared.live.Live.{Live as TheLive};
 ghost use Rattle.jh_cellcfg.specs.declared.region.Region.{Region as TheRegion};
 ghost use Rattle.jh_shape.specs.Laws.{IsTaken};
+ghost use Rattle.jh_script.specs.declared.image.Image.{Image as TheImage};
 ghost use Rattle.jh_history.specs.declared.access.Access.{Access as TheAccess};
 ghost use Rattle.jh_history.specs.declared.place.Place.{Place as ThePlace};
 ghost use Rattle.jh_history.specs.declared.place.Place.TheVariants.{Physical, Page};
 ghost use Rattle.jh_history.specs.declared.comm.PageWrite.{PageWrite as ThePageWrite};
 ghost use Rattle.jh_history.specs.Pages.{page_write_by};
+ghost use Rattle.jh_history.specs.Admitted.{IsAdmitted};
 ghost use Rattle.jh_history.specs.Grants.{granted};
 ghost use Rattle.jh_laws.specs.Moments.{AdmittedJournal, AdmittedMoment, facts_of, facts_before, facts_behind, cells_of};
 ghost use Rattle.jh_laws.specs.Grants.{IsGranted};
@@ -20,6 +22,12 @@ ghost use Rattle.jh_laws.specs.Written.{WritesWordThere};
 pub fn cells_are_granted_their_places()
     ensures { (j : AdmittedJournal) (id : ℕ) (access : TheAccess) (at : ℕ) (place : ThePlace) →
         (granted j.image (facts_of j) id access at ≡ Some place) ↔ IsGrantedTo j.image (facts_of j).cells id access at place }
+{}
+
+/// What root is granted at an address is the place of physical memory that has this address.
+pub fn root_is_granted_its_addresses()
+    ensures { (image : TheImage) (access : TheAccess) (at : ℕ) (place : ThePlace) → IsAdmitted image →
+        IsGranted image.system.root access at place → place ≡ Physical at }
 {}
 
 /// Root is granted exactly what its regions give, each address as its own place, but for places that a live cell

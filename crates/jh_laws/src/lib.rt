@@ -1,56 +1,53 @@
 //! The laws that every journal obeys, in the words of the subject: what a reader may believe without the
-//! fold over the entries. Each function does nothing; its contract is the law. Those of `access`, `bytes`,
-//! `cpus` and `due` are over the journals of images in which root lives alone and has no device; all others are
-//! over all admitted images. What a proof entry by entry stands on is that a legal
+//! fold over the entries. Each function does nothing; its contract is the law. Those of `root_alone`
+//! are over the journals of images in which root lives alone and has no ivshmem device; all others are over all admitted
+//! images. What a proof entry by entry stands on is that a legal
 //! journal is sound (`legal_journals_are_sound`).
 #![tactic(auto)]
 
-mod access;
-mod bytes;
 mod calls;
 mod cells;
 mod commits;
-mod cpus;
-mod due;
 mod held;
 mod hypercalls;
 mod items;
+mod opening;
 mod order;
+mod root_alone;
 mod states;
 mod typed;
 mod vectors;
 mod writes;
 
-pub use access::{accesses_go_by_grants, root_is_granted_its_addresses};
-pub use bytes::{
-    bytes_are_the_last_written, entries_write_their_bytes, memory_opens_with_the_preloads,
-};
 pub use calls::{
-    calls_are_decided_by_their_cause, calls_go_phase_by_phase, cells_are_heard_by_their_words,
-    one_call_is_open, quiet_journals_have_no_open_call, suspended_cpus_make_no_entry,
+    a_create_answers_the_new_cells_id, calls_are_decided_by_their_cause, calls_go_phase_by_phase,
+    cells_are_heard_by_their_words, one_call_is_open, quiet_journals_have_no_open_call,
+    suspended_cpus_make_no_entry,
 };
 pub use cells::{cpus_belong_to_live_cells, the_check_holds_of_live_cells};
 pub use commits::{cells_live_from_commit_to_commit, configurations_are_read_at_the_decide};
-pub use cpus::{
-    cpus_open_at_their_beginning, entries_follow_the_program, entries_move_their_cpu,
-    violations_end_their_cpu,
-};
-pub use due::{
-    due_entries_are_their_cpus_own, programs_are_found_by_cell_and_cpu,
-    ready_cpus_have_an_entry_due,
-};
 pub use held::{
-    accesses_end_as_granted, cells_are_granted_their_places, root_is_granted_the_rest,
-    what_a_cell_holds_is_its_own,
+    accesses_end_as_granted, cells_are_granted_their_places, root_is_granted_its_addresses,
+    root_is_granted_the_rest, what_a_cell_holds_is_its_own,
 };
 pub use hypercalls::hypercalls_are_answered_by_their_cause;
 pub use items::{
     items_run_until_one_is_cut_short, played_journals_are_legal, played_journals_are_quiet_or_full,
     rounds_are_of_the_boards_cpus,
 };
+pub use opening::{
+    cpus_open_at_their_beginning, memory_opens_with_the_preloads,
+    programs_are_found_by_cell_and_cpu,
+};
 pub use order::{
     beginnings_are_legal, cpus_determine_the_journal, legal_entries_are_due,
     nothing_extends_a_quiet_journal,
+};
+pub use root_alone::{
+    accesses_of_root_alone_go_by_grants, bytes_of_root_alone_are_the_last_written,
+    due_entries_of_root_alone_are_their_cpus_own, entries_of_root_alone_follow_the_program,
+    entries_of_root_alone_move_their_cpu, entries_of_root_alone_write_their_bytes,
+    ready_cpus_of_root_alone_have_an_entry_due, violations_of_root_alone_end_their_cpu,
 };
 pub use states::{
     calls_change_cpus, cpus_that_are_ready_have_an_entry_due, entries_are_their_cpus_own,

@@ -36,9 +36,9 @@ pub fn vectors_are_pending_from_raise_to_drop()
         (IsPendingIn (facts_before m) id n v × (Drops (facts_before m) m.entry id n v → ⊥))) }
 {}
 
-/// What an entry of one cell does to the endpoint of another: that has the configuration space and the state that it had,
-/// its interrupt control is another only where the entry raises a vector of it, which turns it off in one-shot mode, and what
-/// was pending is pending still. Only where the entry starts or destroys the endpoint's cell is it otherwise.
+/// What an entry of one cell does to the endpoint of another: that has the configuration space, the state, and the words
+/// and masks of vectors that it had; its interrupt control is another only where the entry raises a vector of it, which turns
+/// it off in one-shot mode; what was pending is pending still, and nothing else but what the entry raises. Only where the entry starts or destroys the endpoint's cell is it otherwise.
 pub fn devices_of_other_cells_stay()
     ensures { (m : AdmittedMoment) (e : TheEndpoint) → Contains (facts_before m).endpoints e →
         m.entry.cell ≢ e.spec.cell → (Clears (facts_before m) m.entry e.spec.cell → ⊥) →

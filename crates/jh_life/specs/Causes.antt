@@ -21,10 +21,11 @@ pub record Create : Type 0 where
   pub caller : ℕ
   pub pool : ℕ
 
+-- the number that the create is refused with, if it is refused
 abbrev pub verdict_on : Seen → Create → Option ℤ
 verdict_on seen create = verdict_of_create seen create.locked create.new create.owned create.caller create.pool
 
--- what may speak against it, in the order in which it is told
+-- what may speak against a create, in the order in which it is told
 pub data Cause : Type 0 where
   Locked : Cause
   Known : Cause
@@ -33,6 +34,7 @@ pub data Cause : Type 0 where
   Overlap : Cause
   FewPages : Cause
 
+-- the place of the cause in the order in which causes are told
 abbrev pub place_in_order : Cause → ℕ
 place_in_order Locked = 0
 place_in_order Known = 1
@@ -41,7 +43,7 @@ place_in_order BrokenRule = 3
 place_in_order Overlap = 4
 place_in_order FewPages = 5
 
--- the number that tells it
+-- the number that tells the cause
 abbrev pub number_for : Cause → ℤ
 number_for Locked = EPERM
 number_for Known = EEXIST
@@ -62,8 +64,8 @@ pub record NamesTakenCpu (create : Create) : Type 0 where
   pub named : is_cpu_set create.new.cpu_set cpu ≡ true
   pub taken : (has_bit create.owned cpu ≡ false) ⊎ (cpu ≡ create.caller)
 
--- a rule is broken where the new cell, as the last, is beside the live ones, and the finding of it names the new one;
--- it tells of places that two cells would have, or doesn't
+-- a rule is broken where the new cell, as the last, is beside the live ones, and its finding names the new one; it is
+-- about places that two cells would have exactly where `overlaps` says so
 pub record BreaksRule (seen : Seen) (new : CellConfig) (overlaps : Bool) : Type 0 where
   pub finding : Finding
   pub broken : IsBroken seen.system (configs_of seen.lives ++ new ∷ []) finding
@@ -74,6 +76,7 @@ pub record BreaksRule (seen : Seen) (new : CellConfig) (overlaps : Bool) : Type 
 abbrev pub LacksPages : Seen → Create → Type 0
 LacksPages seen create = create.pool < pages_of seen.system.root.memory_regions (configs_of seen.lives ++ create.new ∷ [])
 
+-- the cause speaks against the create
 abbrev pub Holds : Seen → Create → Cause → Type 0
 Holds seen create Locked = create.locked ≡ true
 Holds seen create Known = IsKnownTo seen create.new

@@ -12,15 +12,15 @@ pub data Change : Type 0 where
   Dropped : ℕ → Change
   Marked : ℕ → Bool → Change
 
--- the cell with the mark, or another cell as it is
+-- the cell, with this mark where it is the one with the id
 abbrev pub marked : ℕ → Bool → Live → Live
 marked id on live = record { config = live.config; loadable = if has_id id live then on else live.loadable }
 
--- all but the cell with the id
+-- the live cells but the one with the id
 abbrev pub without : ℕ → List Live → List Live
 without id lives = filter (λ (live : Live). not (has_id id live)) lives
 
--- a new cell is the last one; the others stay in order
+-- the live cells after the change: a new cell is the last one, and the others stay in order
 abbrev pub after : List Live → Change → List Live
 after lives (Created config) = lives ++ new_live config ∷ []
 after lives (Dropped id) = without id lives

@@ -4,20 +4,23 @@ use Rattle.jh_cellcfg.specs.declared.config.CellConfig.{CellConfig}
 use Rattle.jh_cellcfg.specs.declared.live.Live.{Live}
 use Rattle.jh_life.specs.Seen.{Seen}
 
--- a cell that was created just now
+-- the live cell of the configuration as it is just created: not loadable
 abbrev pub new_live : CellConfig → Live
 new_live config = record { config = config; loadable = false }
 
+-- the configurations of these live cells
 abbrev pub configs_of : List Live → List CellConfig
 configs_of lives = map (λ (live : Live). live.config) lives
 
+-- which of these live cells are loadable
 abbrev pub marks_of : List Live → List Bool
 marks_of lives = map (λ (live : Live). live.loadable) lives
 
--- root and the others: a cell's number is its index here
+-- root and then the other live cells: a cell's number is its index here
 abbrev pub cells_of : Seen → List CellConfig
 cells_of seen = seen.system.root ∷ configs_of seen.lives
 
+-- the cell of the configuration has the id
 abbrev pub has_config_id : ℕ → CellConfig → Bool
 has_config_id id config = config.id == id
 

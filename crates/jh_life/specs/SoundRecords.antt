@@ -11,7 +11,7 @@ joined [] marks = []
 joined (config ∷ configs) [] = []
 joined (config ∷ configs) (mark ∷ marks) = record { config = config; loadable = mark } ∷ joined configs marks
 
--- neither the name nor the id is one that both have
+-- the two cells have neither one name nor one id
 abbrev pub AreTwo : CellConfig → CellConfig → Type 0
 AreTwo earlier later = is_namesake later earlier ≡ false
 

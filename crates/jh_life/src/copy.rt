@@ -36,7 +36,7 @@ fn copy_of_cell(alloc: Global, cell: &CellConfig) -> Result<CellConfig, NoMemory
     })
 }
 
-/// A copy of the system's.
+/// A copy of the system's configuration, root's too.
 pub(crate) fn copy_of_system(alloc: Global, system: &SystemConfig) -> Result<SystemConfig, NoMemory>
     ensures { IfOk result (λ copy. copy ≡ system.now) }
 {

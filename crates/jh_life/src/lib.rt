@@ -15,3 +15,4 @@ pub use laws::{
     a_refusal_tells_its_first_cause, a_verdict_goes_by_the_listed_cells,
     cells_are_listed_in_order_of_creation, each_number_has_its_causes,
 };
+pub use marks::mask_of;

@@ -18,9 +18,9 @@ fn with_bit(mask: u16, index: usize, on: bool) -> u16
     mask
 }
 
-/// The marks as a mask, the first as its lowest bit.
-pub(crate) fn mask_of(marks: &[bool]) -> u16
-    requires { length marks.now ≤ 15 }
+/// The marks as a mask, the first as its lowest bit; at most 16 of them.
+pub fn mask_of(marks: &[bool]) -> u16
+    requires { length marks.now ≤ 16 }
     ensures { (i : ℕ) → has_bit result i ≡ slice_index_or marks.now i false }
 {
     let mut mask = 0;
@@ -38,7 +38,7 @@ fn is_free(owned: u16, caller: u8, cpu: usize) -> bool
     has_bit(owned, cpu) && cpu != usize::from(caller)
 }
 
-/// Which CPUs it may have.
+/// Of each of the 16 CPUs, whether a new cell may have it: it is of the mask, and not the caller's.
 pub(crate) fn free_cpus(owned: u16, caller: u8) -> [bool; 16]
     ensures { (cpu : ℕ) → slice_index_or result cpu false ≡ may_have owned caller cpu }
 {

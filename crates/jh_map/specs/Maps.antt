@@ -30,7 +30,7 @@ pub record IsRunOf (closed : ℕ → Bool) (region : Region) (run : Run) : Type 
   pub rights : run.rights ≡ rights_of region
   pub page : run.page ≡ is_page_mapped region
 
--- it is a run of one of the regions
+-- the run is a run of one of the regions
 pub record IsRunIn (closed : ℕ → Bool) (regions : List Region) (run : Run) : Type 0 where
   pub region : Region
   pub held : Contains regions region

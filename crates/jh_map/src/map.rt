@@ -15,7 +15,7 @@ use jh_cellcfg::Region;
 use jh_num::{ADDRESS_END, ByteSet, NoMemory, Range, Seq};
 use std::alloc::{AllocError, Global};
 
-/// The places that aren't closed.
+/// The places below the end of places that aren't closed.
 fn free_places(alloc: Global, closed: &ByteSet) -> Result<ByteSet, NoMemory>
     ensures { IfOk result (λ free. AreFree (has_byte closed.now.ranges) free.ranges) }
 {
@@ -58,7 +58,7 @@ fn run_to_places(region: &Region, places: Range) -> Run
     }
 }
 
-/// The same of each of the ranges.
+/// The addresses that the region leads to each of these ranges of its places, a run for each.
 fn runs_to_places(alloc: Global, region: &Region, left: &[Range]) -> Result<Vec<Run>, AllocError>
     requires own { All (λ (places : TheRange). (region.now.phys_start ≤ places.start) × (places.end ≤ phys_end region.now)) left.now }
     requires within { virt_end region.now ≤ address_end }

@@ -26,7 +26,7 @@ use Rattle.jh_mmio.specs.declared.hitting.Hitting.TheVariants.{Subpage, Ecam, Ba
 abbrev pub is_between : ℕ → ℕ → ℕ → Bool
 is_between start end at = nat_le start at && nat_lt at end
 
--- all bytes of the access of so many from `at` on are
+-- all bytes of the access, of so many from `at` on, are from `start` on, before `end`
 abbrev pub lies_between : ℕ → ℕ → ℕ → ℕ → Bool
 lies_between start end at width = list_all (is_between start end) (range_with_len at width)
 
@@ -34,7 +34,7 @@ lies_between start end at width = list_all (is_between start end) (range_with_le
 abbrev pub is_at_closed : (ℕ → Bool) → ℕ → ℕ → Region → Bool
 is_at_closed closed at width r = not (is_comm r) && list_any (λ a. closed (place_in r a)) (range_with_len at width)
 
--- the access is the subpage region's
+-- the region is a subpage region that has all bytes of the access, none of them at a closed place
 abbrev pub takes_all : (ℕ → Bool) → ℕ → ℕ → Region → Bool
 takes_all closed at width r =
     (has_size r && not (is_page_mapped r)) && (lies_between r.virt_start (virt_end r) at width && not (is_at_closed closed at width r))
@@ -75,6 +75,7 @@ by_subpage regions at width write k =
 abbrev pub by_ecam_at : ℕ → ℕ → ℕ → Hitting
 by_ecam_at start at width = if (width == 1 || width == 2 || width == 4) && ((at - start) % width == 0) then Ecam else Nothing
 
+-- the answer of configuration space, by the ECAM window
 abbrev pub by_ecam : Range → ℕ → ℕ → Hitting
 by_ecam ecam at width = by_ecam_at ecam.start at width
 
@@ -82,6 +83,7 @@ by_ecam ecam at width = by_ecam_at ecam.start at width
 abbrev pub by_window : ℕ → ℕ → ℕ → Hitting
 by_window at width k = if width == 4 && (at % 4 == 0) then Bar (number_told k) else Nothing
 
+-- the window has all bytes of the access
 abbrev pub window_has : ℕ → ℕ → Window → Bool
 window_has at width w = lies_between w.start (w.start + w.size) at width
 
@@ -92,6 +94,7 @@ behind_between start end windows at width =
     then by_ecam_at start at width
     else option_map_or (by_window at width) (position (window_has at width) windows) Nothing
 
+-- what answers where no subpage region has the access, by the ECAM window and the windows of devices
 abbrev pub behind_regions : Range → List Window → ℕ → ℕ → Hitting
 behind_regions ecam windows at width = behind_between ecam.start ecam.end windows at width
 

@@ -5,7 +5,7 @@ use Rattle.std.specs.Option.{option_map_or}
 use Rattle.jh_cellcfg.specs.declared.region.Region.{Region}
 use Rattle.jh_cellcfg.specs.Regions.{has_address}
 
--- no address is one of both
+-- no address is one of both regions
 abbrev pub SharesNoAddress : Region → Region → Type 0
 SharesNoAddress r s = (at : ℕ) → IsTrue (has_address r at) → IsTrue (has_address s at) → ⊥
 
@@ -14,15 +14,16 @@ pub record IsRegionAt (regions : List Region) (at : ℕ) (found : Option Region)
   pub own : IfSome found (Contains regions)
   pub only : (r : Region) → Contains regions r → IsTrue (has_address r at) → found ≡ Some r
 
--- the same by the region's number among the regions
+-- no region but the one of the number found can have the address
 pub record IsNumberAt (regions : List Region) (at : ℕ) (found : Option ℕ) : Type 0 where
   pub own : IfSome found (λ k. k < length regions)
   pub only : (k : ℕ) (r : Region) → slice_get regions k ≡ Some r → IsTrue (has_address r at) → found ≡ Some k
 
--- the size of the region of the number and its first address, 0 where there is none
+-- the size of the region of the number, 0 where there is none
 abbrev pub size_at : List Region → ℕ → ℕ
 size_at regions k = option_map_or (λ (r : Region). r.size) (slice_get regions k) 0
 
+-- the first address of the region of the number, 0 where there is none
 abbrev pub start_at : List Region → ℕ → ℕ
 start_at regions k = option_map_or (λ (r : Region). r.virt_start) (slice_get regions k) 0
 
@@ -31,7 +32,7 @@ pub record AreNumbers (regions : List Region) (numbers : List ℕ) : Type 0 wher
   pub some : All (λ k. 0 < size_at regions k) numbers
   pub whole : (k : ℕ) → 0 < size_at regions k → Contains numbers k
 
--- in the order of their first addresses
+-- the numbers are those of the regions that aren't empty, in the order of their first addresses
 pub record IsOrder (regions : List Region) (numbers : List ℕ) : Type 0 where
   pub some : All (λ k. 0 < size_at regions k) numbers
   pub whole : (k : ℕ) → 0 < size_at regions k → Contains numbers k

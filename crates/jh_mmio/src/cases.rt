@@ -39,7 +39,7 @@ fn meets_closed(region: &Region, closed: &ByteSet, at: u64, width: u8) -> bool
     closed.meets(Range { start, end })
 }
 
-/// Whether it is a subpage region that has all bytes of the access.
+/// Whether the region is a subpage region that has all bytes of the access, whichever places are closed.
 pub fn has_whole(region: &Region, at: u64, width: u8) -> bool
     requires { 0 < width }
     ensures whole { result ≡ has_whole at width region.now }
@@ -62,7 +62,8 @@ pub(crate) fn takes_all(region: &Region, closed: &ByteSet, at: u64, width: u8) -
         && !meets_closed(region, closed, at, width)
 }
 
-/// Whether the region lets an access that is its own through.
+/// Whether the region lets an access that is its own through: by its right to read or to write, its widths, and the
+/// address, which is a multiple of the width unless the region allows any.
 pub fn lets_through(region: &Region, at: u64, width: u8, write: bool) -> bool
     requires { 0 < width }
     ensures { result ≡ lets_through at width write region.now }
@@ -126,7 +127,8 @@ fn by_window(number: usize, at: u64, width: u8) -> Hitting
     }
 }
 
-/// What answers where no subpage region has the access.
+/// What answers an access that no subpage region has: the ECAM window, else the first of these windows that has it
+/// whole, if the width and the address suit it; else nothing.
 pub fn behind(ecam: Range, windows: &[Window], at: u64, width: u8) -> Hitting
     requires some { 0 < width }
     ensures { result ≡ behind_regions ecam windows.now at width }

@@ -67,7 +67,7 @@ fn not_empty(alloc: Global, regions: &[Region]) -> Result<Vec<usize>, AllocError
     Ok(numbers)
 }
 
-/// The same in the order of their first addresses.
+/// The numbers of the regions that aren't empty, in the order of their first addresses.
 fn in_order(alloc: Global, regions: &[Region]) -> Result<Vec<usize>, AllocError>
     ensures { IfOk result (λ order. IsOrder regions.now order.items) }
 {

@@ -18,10 +18,10 @@ AreApartFrom low [] = Unit {0}
 AreApartFrom low (range ∷ ranges) =
     (low ≤ range.start) × (range.start < range.end) × AreApartFrom (range.end + 1) ranges
 
--- sorted, not empty and not touching
+-- the ranges are in order, none is empty, and between one and the next is a byte at least
 abbrev pub AreApart : List Range → Type 0
 AreApart = AreApartFrom 0
 
--- the range, where it isn't empty
+-- the range alone, where it isn't empty, and else none
 abbrev pub pieces : Range → List Range
 pieces range = if nat_lt range.start range.end then range ∷ [] else []

@@ -29,12 +29,14 @@ impl<T> Seq<T> {
         }
     }
 
+    /// The list of the vector's items, in their order. It takes no memory.
     pub fn from_vec(items: Vec<T>) -> Self
         ensures { result ≡ items.items }
     {
         Seq { items }
     }
 
+    /// The vector that the items are kept in. It takes no memory.
     pub fn into_vec(self) -> Vec<T>
         ensures { result.items ≡ self }
     {
@@ -42,6 +44,7 @@ impl<T> Seq<T> {
         items
     }
 
+    /// All items, the first one first.
     pub fn as_slice(&self) -> &[T]
         ensures value { result.now ≡ self.now }
         ensures len { length result.now ≡ length self.now }
@@ -49,12 +52,14 @@ impl<T> Seq<T> {
         self.items.as_slice()
     }
 
+    /// How many items the list has.
     pub fn len(&self) -> usize
         ensures { result ≡ length self.now }
     {
         self.items.len()
     }
 
+    /// Whether the list has no item.
     pub fn is_empty(&self) -> bool
         ensures { IsTrue result ↔ (self.now ≡ []) }
     {

@@ -33,6 +33,7 @@ impl Model for Steps {
 }
 
 impl Steps {
+    /// Counted reads before the first one: the count is 0, and no read is kept.
     pub fn new() -> Self
         ensures count { result.count ≡ 0 }
         ensures probes { result.probes ≡ [] }
@@ -59,6 +60,7 @@ impl Steps {
         }
     }
 
+    /// How many descriptors were read; at 2^64 - 1 the count stands still.
     pub fn count(&self) -> u64
         ensures { result ≡ self.now.count }
     {

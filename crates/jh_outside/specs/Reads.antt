@@ -15,7 +15,7 @@ HandsOut (Some None) most bytes = ⊥
 HandsOut (Some (Some held)) most bytes = bytes ≡ take most held
 
 module _ {X : Type 0} where
-  -- a fact for the answer `Fault`
+  -- P holds where the answer is `Fault`
   abbrev pub OnFault : Result X FileFault → Type 0 → Type 0
   OnFault (Ok _) P = ⊤
   OnFault (Err Fault) P = P

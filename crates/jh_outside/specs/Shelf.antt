@@ -8,6 +8,8 @@ use Rattle.std.specs.FinSet as set
 use Rattle.jh_outside.specs.Count.{counted_up}
 use Rattle.jh_outside.specs.Trail.{Ask, Answer, Handed, Failed, Wanted}
 
+-- the bytes under each name, the numbers of the reads that fail and of the next one, the count of faults, and the name
+-- that failed last
 pub record Shelf : Type 0 where
   -- the bytes under each name
   pub files : map.FinMap (slice_cmp nat_cmp) (List ℕ)
@@ -28,7 +30,7 @@ shelf_code =
     (λ p. record { files = p.0; failing = p.1.0; reads = p.1.1.0; faults = p.1.1.1.0; failed = p.1.1.1.1 })
     (λ _. refl)
 
--- the files tell each name
+-- what the files tell of the name: the bytes that it holds, or that it is missing
 abbrev pub told_by : Shelf → List ℕ → Option (Option (List ℕ))
 told_by shelf name = Some (map.get shelf.files name)
 
@@ -42,6 +44,6 @@ shelf_after shelf name Handed = record shelf { reads = counted_up shelf.reads }
 shelf_after shelf name Failed = record shelf { reads = counted_up shelf.reads; faults = counted_up shelf.faults; failed = name }
 shelf_after shelf name Wanted = record shelf { reads = counted_up shelf.reads }
 
--- what a read of them does
+-- what a read of files in memory does to them
 abbrev pub Serves : Shelf → Ask → Shelf → Type 0
 Serves old ask new = new ≡ shelf_after old ask.name ask.answer

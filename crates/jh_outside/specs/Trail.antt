@@ -20,10 +20,11 @@ ask_of name (Ok _) = record { name = name; answer = Handed }
 ask_of name (Err Fault) = record { name = name; answer = Failed }
 ask_of name (Err NoMemory) = record { name = name; answer = Wanted }
 
--- the file of this name handed out bytes; it could not be read
+-- the read of the file of this name, which handed out bytes
 abbrev pub handed : List ℕ → Ask
 handed name = record { name = name; answer = Handed }
 
+-- the read of the file of this name, which could not be read
 abbrev pub faulted : List ℕ → Ask
 faulted name = record { name = name; answer = Failed }
 

@@ -33,6 +33,7 @@ impl<'a, R> Model for DirFiles<'a, R> {
 }
 
 impl<'a, R: rt::Files> DirFiles<'a, R> {
+    /// The files of the system, of which no read has failed yet.
     pub fn new(alloc: Global, system: &'a R) -> DirFiles<'a, R>
         ensures { result ≡ record { faults = 0; failed = [] } }
     {
@@ -44,7 +45,7 @@ impl<'a, R: rt::Files> DirFiles<'a, R> {
         }
     }
 
-    // A read that keeps the name where it fails, and counts nothing yet.
+    /// A read that keeps the name where it fails, and counts nothing yet.
     fn read_naming(&mut self, name: &str, most: usize) -> Result<Seq<u8>, FileFault>
         ensures within { IfOk result (λ bytes. length bytes ≤ most) }
         ensures faults { self.new.faults ≡ self.old.faults }
@@ -95,7 +96,7 @@ impl<'a, R: rt::Files> Files for DirFiles<'a, R> {
     }
 }
 
-// The first `most` bytes of the file.
+/// The first `most` bytes of the file.
 fn read_file<R: rt::Files>(
     alloc: Global,
     system: &R,
@@ -108,8 +109,8 @@ fn read_file<R: rt::Files>(
     read_front(alloc, &mut file, most)
 }
 
-// The first `most` bytes that the reader has left, and all of them where it has fewer. An interrupted read
-// is tried again, and no other.
+/// The first `most` bytes that the reader has left, and all of them where it has fewer. An interrupted read
+/// is tried again, and no other.
 pub(crate) fn read_front<T: Read>(
     alloc: Global,
     file: &mut T,
@@ -135,7 +136,7 @@ pub(crate) fn read_front<T: Read>(
     Err(FileFault::Fault)
 }
 
-// The system's own want of memory is want of memory, and all else is a fault.
+/// The system's own want of memory is want of memory, and all else is a fault.
 fn fault_of(e: Error) -> FileFault
     ensures { (result ≡ FileFault.NoMemory) ↔ (error_kind e ≡ ErrorKind.OutOfMemory) }
 {

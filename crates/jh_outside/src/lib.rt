@@ -1,4 +1,4 @@
-//! The outside: files that are read whole, a sink that text is appended to, and a gate that workers
+//! The outside: files that are read from their start, a sink that text is appended to, and a gate that workers
 //! pass. Each is a trait whose meaning its clauses say, with one form in memory, and files and
 //! standard output of the system.
 #![tactic(auto)]

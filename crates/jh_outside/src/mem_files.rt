@@ -80,7 +80,7 @@ impl MemFiles {
         Ok(())
     }
 
-    // What the next read finds, if it is of this name.
+    /// What the next read finds, if it is of this name.
     fn found(&self, name: &str) -> Option<&Seq<u8>>
         ensures { option_copied result ≡ found_by self.now name.now }
     {
@@ -136,7 +136,7 @@ impl Files for MemFiles {
     }
 }
 
-// A copy of the first `most` of the bytes.
+/// A copy of the first `most` of the bytes.
 fn front(alloc: Global, bytes: &[u8], most: usize) -> Result<Seq<u8>, NoMemory>
     ensures { IfOk result (λ copy. copy ≡ take most bytes.now) }
 {

@@ -25,6 +25,7 @@ impl Model for StdSink {
 }
 
 impl StdSink {
+    /// Standard output, of which no write has failed yet.
     pub fn new(out: Stdout) -> StdSink
         ensures { result ≡ 0 }
     {
@@ -54,8 +55,8 @@ impl Sink for StdSink {
     }
 }
 
-// What one write took, which is at least one byte of a piece that isn't empty; nothing where it was
-// interrupted. Any other failure is counted.
+/// What one write took, which is at least one byte of a piece that isn't empty; nothing where it was
+/// interrupted. Any other failure is counted.
 fn write_once<W: Write>(
     out: &mut W,
     piece: &[u8],
@@ -79,8 +80,8 @@ fn write_once<W: Write>(
     }
 }
 
-// A front of the piece, of which the writer took its length. An interrupted write is tried again, and no
-// other: the first failure is counted and answered.
+/// A front of the piece, of which the writer took its length. An interrupted write is tried again, and no
+/// other: the first failure is counted and answered.
 pub(crate) fn write_some<W: Write>(
     out: &mut W,
     piece: &[u8],

@@ -9,19 +9,21 @@ pub record PoolView : Type 0 where
   pub size : ℕ
   pub free : List ℕ
 
--- the address begins a page of that range
+-- the address begins a page of the range, which begins at the base and is of so many pages
 pub record IsPageIn (base size page : ℕ) : Type 0 where
   pub aligned : page % 4096 ≡ 0
   pub above : base ≤ page
   pub below : page < base + 4096 * size
 
+-- the address begins a page of the pool's range
 abbrev pub IsPageOf : PoolView → ℕ → Type 0
 IsPageOf pool page = IsPageIn pool.base pool.size page
 
+-- the page is one of the pool's free ones
 abbrev pub is_free : PoolView → ℕ → Bool
 is_free pool page = list_any (λ free. free == page) pool.free
 
--- a page of the pool that isn't free
+-- the address is that of a page of the pool that is taken: it isn't free
 pub record IsTaken (pool : PoolView) (page : ℕ) : Type 0 where
   pub in_range : IsPageOf pool page
   pub taken : is_free pool page ≡ false
@@ -30,6 +32,6 @@ pub record IsTaken (pool : PoolView) (page : ℕ) : Type 0 where
 abbrev pub pages_of : PoolView → List ℕ
 pages_of pool = map (λ k. pool.base + 4096 * k) (range_with_len 0 pool.size)
 
--- how many are taken, where none is twice among the free ones
+-- how many pages of the pool are taken, where none is twice among the free ones
 abbrev pub used_of : PoolView → ℕ
 used_of pool = pool.size - length pool.free

@@ -10,7 +10,7 @@ use Rattle.jh_turn.specs.Ports.{port_caller, IsPortOf}
 use Rattle.jh_history.specs.declared.entry.Entry.{Entry}
 use Rattle.jh_run.specs.Origins.{Origin}
 use Rattle.jh_run.specs.Drives.{SomeShows}
-use Rattle.jh_run.specs.declared.driving.Stop.{Stop}
+use Rattle.jh_run.specs.declared.driving.DriveEnd.{DriveEnd}
 
 -- numbers of a list, and of one element more
 pub push_kept : {X : Type 0} (f : X → ℕ) (xs : List X) (x : X) (n : ℕ) → Contains (map f xs) n → Contains (map f (xs ++ x ∷ [])) n
@@ -61,8 +61,8 @@ begins_back n now before all e h = (h.0, ap (λ w. w ++ h.0) (sym (written_back 
 
 module _ {T A : Type 0} {G : Ghosts T Entry A} where
   -- what one of the first ports has seen tells why, and that port is one of all
-  pub some_shows-kept : (origin : Origin) (stop : Stop) (first all : List (Port T Entry A G)) → IsPrefix first all → SomeShows origin stop first → SomeShows origin stop all
-  some_shows-kept origin stop first all begins s = record { port = s.port; one = begins_contains first all s.port begins s.one; shows = s.shows }
+  pub some_shows-kept : (origin : Origin) (end : DriveEnd) (first all : List (Port T Entry A G)) → IsPrefix first all → SomeShows origin end first → SomeShows origin end all
+  some_shows-kept origin end first all begins s = record { port = s.port; one = begins_contains first all s.port begins s.one; shows = s.shows }
 
 module _ {T E A : Type 0} {G : Ghosts T E A} where
   -- a port of an object is one of the same object

@@ -1,19 +1,20 @@
 -- A running board as what callers take turns on: its meaning for the lock.
-use Rattle.std.specs.Prelude.{◌≡◌, ◌<◌, ℕ, List, [], ◌∷◌, ◌++◌, length, Some, None, IsTrue}
+use Rattle.std.specs.Prelude.{◌≡◌, ◌<◌, ℕ, List, [], ◌∷◌, ◌++◌, length, Some, None, Result, Ok, Err, IsTrue}
 use Rattle.jh_history.specs.declared.entry.Entry.{Entry}
 use Rattle.jh_history.specs.Lives.{is_on_board}
 use Rattle.jh_history.specs.Due.{due, IsQuiet}
 use Rattle.jh_run.specs.Origins.{Origin}
-use Rattle.jh_run.specs.declared.run_turn.Halt.TheVariants.{Full, NoMemory}
-use Rattle.jh_run.specs.declared.run_turn.RunTurn.{RunTurn}
-use Rattle.jh_run.specs.declared.run_turn.RunTurn.TheVariants.{Made, Edited, NotNow, Done, Halted}
+use Rattle.jh_board.specs.declared.turn.Turn.{Turn}
+use Rattle.jh_board.specs.declared.turn.Turn.TheVariants.{Made, Edited, NotNow, Done}
+use Rattle.jh_board.specs.declared.turn.TurnFault.{TurnFault}
+use Rattle.jh_board.specs.declared.turn.TurnFault.TheVariants.{Full, NoMemory}
 use Rattle.jh_run.specs.declared.running.Running.{Running}
 
--- an entry is its CPU's
+-- the CPU that made the entry, whose it is
 abbrev pub whose_entry : Entry → ℕ
 whose_entry entry = entry.cpu
 
--- what no turn changes
+-- what no turn of the running board changes
 abbrev pub origin_of : Running → Origin
 origin_of running = record { image = running.board.image; limit = running.board.limit }
 
@@ -21,14 +22,15 @@ origin_of running = record { image = running.board.image; limit = running.board.
 abbrev pub Serves : Origin → ℕ → Type 0
 Serves origin cpu = IsTrue (is_on_board origin.image cpu)
 
+-- the entries of the running board
 abbrev pub entries_of : Running → List Entry
 entries_of running = running.board.entries
 
 -- at these entries a turn of the CPU may answer so, and leave those; no turn edits tables
-abbrev pub IsTurnAnswer : Origin → ℕ → List Entry → List Entry → RunTurn → Type 0
-IsTurnAnswer origin cpu before after (Made entry) = (due origin.image before cpu ≡ Some entry) × (length before < origin.limit) × (after ≡ before ++ entry ∷ [])
-IsTurnAnswer origin cpu before after (Edited left) = ⊥
-IsTurnAnswer origin cpu before after NotNow = (due origin.image before cpu ≡ None) × ¬ IsQuiet origin.image before × (after ≡ before)
-IsTurnAnswer origin cpu before after Done = IsQuiet origin.image before × (after ≡ before)
-IsTurnAnswer origin cpu before after (Halted Full) = (length before ≡ origin.limit) × ¬ IsQuiet origin.image before × (after ≡ before)
-IsTurnAnswer origin cpu before after (Halted NoMemory) = after ≡ before
+abbrev pub IsTurnAnswer : Origin → ℕ → List Entry → List Entry → Result Turn TurnFault → Type 0
+IsTurnAnswer origin cpu before after (Ok (Made entry)) = (due origin.image before cpu ≡ Some entry) × (length before < origin.limit) × (after ≡ before ++ entry ∷ [])
+IsTurnAnswer origin cpu before after (Ok (Edited left)) = ⊥
+IsTurnAnswer origin cpu before after (Ok NotNow) = (due origin.image before cpu ≡ None) × ¬ IsQuiet origin.image before × (after ≡ before)
+IsTurnAnswer origin cpu before after (Ok Done) = IsQuiet origin.image before × (after ≡ before)
+IsTurnAnswer origin cpu before after (Err Full) = (length before ≡ origin.limit) × ¬ IsQuiet origin.image before × (after ≡ before)
+IsTurnAnswer origin cpu before after (Err NoMemory) = after ≡ before

@@ -6,6 +6,7 @@ use Rattle.jh_script.specs.declared.image.Image.{Image}
 use Rattle.jh_script.specs.declared.image.Preload.{Preload}
 use Rattle.jh_script.specs.declared.image.Program.{Program}
 
+-- the address of the operation, or the code and the two words of its hypercall, are numbers of 64 bits
 abbrev pub IsTypedOp : Op → Type 0
 IsTypedOp (Read width at) = at < 2 ^ 64
 IsTypedOp (Write width at value) = at < 2 ^ 64
@@ -14,7 +15,7 @@ IsTypedOp (Await width at value) = at < 2 ^ 64
 IsTypedOp Irq = Unit {0}
 IsTypedOp (Hvc code a b) = (code < 2 ^ 64) × (a < 2 ^ 64) × (b < 2 ^ 64)
 
--- root's id, the operations of the programs, and the bytes of the preloads
+-- root's id, the operations of the programs, and the bytes of the preloads have numbers of their types
 pub record HasTypedNumbers (image : Image) : Type 0 where
   pub root : image.system.root.id < 2 ^ 32
   pub ops : All (λ (p : Program). All IsTypedOp p.ops) image.programs

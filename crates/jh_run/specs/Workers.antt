@@ -6,7 +6,7 @@ use Rattle.jh_turn.specs.declared.shared.Port.{Port}
 use Rattle.jh_turn.specs.Ports.{port_caller, IsPortOf}
 
 module _ {T E A : Type 0} {G : Ghosts T E A} where
-  -- ports of the object, among which each caller of those before has its own again
+  -- the ports after are the object's, and each caller that had one before has one again
   pub record AreBack (shared : Shared T E A) (before after : List (Port T E A G)) : Type 0 where
     pub own : All (IsPortOf shared) after
     pub each : (who : ℕ) → Contains (map port_caller before) who → Contains (map port_caller after) who

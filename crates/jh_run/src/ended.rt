@@ -1,13 +1,13 @@
-//! How a schedule ends.
+//! How a schedule or a run ends.
 ghost use Rattle.std.specs.Prelude.{◌≡◌};
 ghost use Rattle.jh_run.specs.Ends.{is_full};
 
-/// How a schedule ended.
+/// How a schedule or a run ended.
 #[derive(Clone, Copy, PartialEq, Eq, Debug)]
 pub enum Ended {
-    /// No item was refused; after `play` nothing is due to any CPU.
+    /// The limit stopped nothing. After `play` and `run` nothing is due to any CPU.
     Quiet,
-    /// The journal is at its limit, and the next item has an entry due.
+    /// The journal is at its limit, and the next item, or after a run some CPU, has an entry due.
     Full,
 }
 

@@ -1,15 +1,14 @@
 //! A board that callers take turns on.
 ghost use Rattle.std.specs.Prelude.{◌≡◌, Some};
 ghost use Rattle.jh_run.specs.Turns.{IsFullAndBusy};
-ghost use Rattle.jh_run.specs.declared.run_turn.Halt.TheVariants.{Full};
+ghost use Rattle.jh_board.specs.declared.turn.TurnFault.TheVariants.{Full};
 
-use crate::run_turn::Halt;
-use jh_board::Board;
+use jh_board::{Board, TurnFault};
 
-/// A board, and why it takes no more turns, once a turn was refused.
+/// A board, and for what a turn was refused, if one was. Then it takes no more.
 #[derive(Drop)]
 pub struct Running {
     pub board: Board,
-    pub halted: Option<Halt>,
-    ghost full: { halted ≡ Some Full → IsFullAndBusy board },
+    pub refused: Option<TurnFault>,
+    ghost full: { refused ≡ Some Full → IsFullAndBusy board },
 }

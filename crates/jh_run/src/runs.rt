@@ -4,16 +4,15 @@ ghost use Rattle.jh_history.specs.Admitted.{IsAdmitted};
 ghost use Rattle.jh_history.specs.Due.{IsLegal, IsQuiet};
 ghost use Rattle.jh_history.specs.Lives.{is_on_board};
 ghost use Rattle.jh_turn.specs.Ports.{AreAllPorts, opened_value};
-ghost use Rattle.jh_run.specs.Drives.{SomeShows, stop_of, end_stop};
+ghost use Rattle.jh_run.specs.Drives.{SomeShows, drive_end, drive_end_of};
 ghost use Rattle.jh_run.specs.Plays.{IsBoardOf};
 ghost use Rattle.jh_run.specs.Running.{origin_of};
 
 use crate::ended::Ended;
-use crate::run_turn::Halt;
 use crate::running::Running;
 use crate::schedule::{cpus_of, opened};
 use crate::workers::{Driven, drive_all};
-use jh_board::Board;
+use jh_board::{Board, TurnFault};
 use jh_check::{nothing_is_found_in_what_is_clean, sound_bitmaps_name_few_cpus};
 use jh_laws::{nothing_extends_a_quiet_journal, rounds_are_of_the_boards_cpus};
 use jh_num::NoMemory;
@@ -53,7 +52,7 @@ fn open_run(
     let board = opened(alloc, image, limit)?;
     let running = Running {
         board,
-        halted: None,
+        refused: None,
     };
     match Shared::open(alloc, running, callers.as_slice()) {
         Ok(opened) => Ok(opened),
@@ -61,14 +60,14 @@ fn open_run(
     }
 }
 
-/// How a run ended whose board was halted so, if it was.
-fn ended_by(halted: Option<Halt>) -> Result<Ended, NoMemory>
-    ensures { IfOk result (λ ended. stop_of halted ≡ end_stop ended) }
+/// How a run ended in which a turn was refused for this, if one was.
+fn ended_by(refused: Option<TurnFault>) -> Result<Ended, NoMemory>
+    ensures { IfOk result (λ ended. drive_end refused ≡ drive_end_of ended) }
 {
-    match halted {
+    match refused {
         None => Ok(Ended::Quiet),
-        Some(Halt::Full) => Ok(Ended::Full),
-        Some(Halt::NoMemory) => Err(NoMemory),
+        Some(TurnFault::Full) => Ok(Ended::Full),
+        Some(TurnFault::NoMemory) => Err(NoMemory),
     }
 }
 
@@ -76,18 +75,18 @@ fn ended_by(halted: Option<Halt>) -> Result<Ended, NoMemory>
 /// tells it, and nothing came behind that.
 fn end_run(shared: Shared<Running>, driven: Driven) -> Result<(Board, Ended), NoMemory>
     requires ports { AreAllPorts shared driven.ports.items }
-    requires shows { SomeShows (origin_of (opened_value shared)) (stop_of driven.halted) driven.ports.items }
+    requires shows { SomeShows (origin_of (opened_value shared)) (drive_end driven.refused) driven.ports.items }
     ensures board { IfOk result (λ r. IsBoardOf (origin_of (opened_value shared)).image (origin_of (opened_value shared)).limit r.0) }
     ensures legal { IfOk result (λ r. IsLegal (origin_of (opened_value shared)).image r.0.entries) }
     ensures quiet { IfOk result (λ r. (r.1 ≡ Ended.Quiet) ↔ IsQuiet (origin_of (opened_value shared)).image r.0.entries) }
     ensures full { IfOk result (λ r. (r.1 ≡ Ended.Full) ↔ ((length r.0.entries ≡ (origin_of (opened_value shared)).limit) × ¬ IsQuiet (origin_of (opened_value shared)).image r.0.entries)) }
 {
     nothing_extends_a_quiet_journal();
-    let Driven { ports, halted } = driven;
-    let Running { board, halted: _ } = shared.close(ports);
+    let Driven { ports, refused } = driven;
+    let Running { board, refused: _ } = shared.close(ports);
     // for the proof: the entries are legal, and no more than the limit
     let _ = board.journal();
-    let ended = ended_by(halted)?;
+    let ended = ended_by(refused)?;
     Ok((board, ended))
 }
 

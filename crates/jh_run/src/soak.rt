@@ -29,6 +29,7 @@ const MESSAGE: u64 = 0x8000_000c;
 
 const REPLY: u64 = 0x8000_0010;
 
+/// The region with these fields; the flags are those of Jailhouse's cell configuration.
 fn region(phys_start: u64, virt_start: u64, size: u64, flags: u64) -> Region
     ensures { result ≡ region phys_start virt_start size flags }
 {
@@ -235,7 +236,7 @@ fn ops_a(alloc: Global) -> Result<Seq<Op>, NoMemory>
     Ok(ops)
 }
 
-/// The second cell does too, and hears first that the first one was destroyed.
+/// The second cell writes numbers, hears that the first one was destroyed, and agrees to shut down.
 #[tactic(auto, unfolding(crate::specs::Soak::ops_b))]
 fn ops_b(alloc: Global) -> Result<Seq<Op>, NoMemory>
     ensures { IfOk result (λ ops. ops ≡ ops_b) }
@@ -247,6 +248,7 @@ fn ops_b(alloc: Global) -> Result<Seq<Op>, NoMemory>
     Ok(ops)
 }
 
+/// The program of the CPU in the cell of that name.
 fn program(alloc: Global, cell: &[u8], cpu: u8, ops: Seq<Op>) -> Result<Program, NoMemory>
     ensures { IfOk result (λ made. made ≡ program cell.now cpu ops) }
 {

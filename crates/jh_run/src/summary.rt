@@ -17,18 +17,21 @@ pub struct Summary {
     pub sum: u128,
 }
 
+/// Whether the entry is a read; one that is a violation counts too.
 fn is_read(entry: &Entry) -> bool
     ensures { result ≡ is_read entry.now }
 {
     matches!(&entry.act, Act::Read { .. })
 }
 
+/// Whether the entry is a write; one that is a violation counts too.
 fn is_write(entry: &Entry) -> bool
     ensures { result ≡ is_write entry.now }
 {
     matches!(&entry.act, Act::Write { .. })
 }
 
+/// Whether the entry is a CPU that stopped.
 fn is_stop(entry: &Entry) -> bool
     ensures { result ≡ is_stop entry.now }
 {

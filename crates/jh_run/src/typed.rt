@@ -8,18 +8,22 @@ ghost use Rattle.jh_run.specs.Typed.{IsTypedOp, HasTypedNumbers};
 
 use jh_script::{Image, Op, Preload, Program};
 
+/// A byte is below 256.
 fn byte_is_typed(byte: u8)
     ensures { byte < 256 }
 {}
 
+/// An id is below 2^32.
 fn id_is_typed(id: u32)
     ensures { id < 2 ^ 32 }
 {}
 
+/// A number of 64 bits is below 2^64.
 fn number_is_typed(number: u64)
     ensures { number < 2 ^ 64 }
 {}
 
+/// Each of the bytes is below 256.
 fn bytes_are_typed(bytes: &[u8])
     ensures { AreBytes bytes.now }
 {
@@ -28,6 +32,7 @@ fn bytes_are_typed(bytes: &[u8])
     }
 }
 
+/// The addresses of the operation, and the code and arguments of a hypercall, are below 2^64.
 fn op_is_typed(op: &Op)
     ensures { IsTypedOp op.now }
 {
@@ -45,6 +50,7 @@ fn op_is_typed(op: &Op)
     }
 }
 
+/// The numbers of each of the operations are below the ends of their types.
 fn ops_are_typed(ops: &[Op])
     ensures { All IsTypedOp ops.now }
 {
@@ -53,6 +59,7 @@ fn ops_are_typed(ops: &[Op])
     }
 }
 
+/// The numbers of each program's operations are below the ends of their types.
 fn programs_are_typed(programs: &[Program])
     ensures { All (λ (p : TheProgram). All IsTypedOp p.ops) programs.now }
 {
@@ -61,6 +68,7 @@ fn programs_are_typed(programs: &[Program])
     }
 }
 
+/// Each byte of the preloads is below 256.
 fn preloads_are_typed(preloads: &[Preload])
     ensures { All (λ (p : ThePreload). AreBytes p.bytes) preloads.now }
 {

@@ -2,13 +2,13 @@
 ghost use Rattle.std.specs.Prelude.{◌≡◌, ℕ, ◌+◌, ◌<◌, ◌≤◌, ◌⊎◌, [], length, map, All, Contains, IfOk, IfErr, vec_len, vec_capacity};
 ghost use mathlib.Core.List.{IsPrefix};
 ghost use Rattle.jh_turn.specs.Ports.{IsPortOf, port_caller, opened_value};
-ghost use Rattle.jh_run.specs.Drives.{SomeShows, stop_of};
+ghost use Rattle.jh_run.specs.Drives.{SomeShows, drive_end};
 ghost use Rattle.jh_run.specs.Running.{origin_of};
 ghost use Rattle.jh_run.specs.Workers.{AreBack};
 
 use crate::driving::drive;
-use crate::run_turn::Halt;
 use crate::running::Running;
+use jh_board::TurnFault;
 use jh_num::NoMemory;
 use jh_outside::Gate;
 use jh_turn::{Port, Shared};
@@ -32,11 +32,11 @@ impl<'a> Promise<Port<Running>> for Given<'a> {
     ghost kept_by = { λ given port. IsPortOf given.shared.now port × (port_caller port ≡ given.caller) };
 }
 
-/// All ports once they are driven no more, and why the board was halted, if it was.
+/// All ports once they are driven no more, and for what a turn was refused, if one was.
 #[derive(Drop)]
 pub struct Driven {
     pub ports: Vec<Port<Running>>,
-    pub halted: Option<Halt>,
+    pub refused: Option<TurnFault>,
 }
 
 /// Drives the port, unless it stays with the caller, and gives it back.
@@ -120,11 +120,14 @@ fn finish<'s, R: Threads + Wait, G: Gate>(
     requires room { length own.items + length children.items ≤ vec_capacity own }
     ensures own { All (IsPortOf shared.now) result.ports.items }
     ensures each { (who : ℕ) → Contains (map port_caller own.items) who ⊎ Contains (map (λ child. child.promise.caller) children.entry.items) who → Contains (map port_caller result.ports.items) who }
-    ensures shows { SomeShows (origin_of (opened_value shared.now)) (stop_of result.halted) result.ports.items }
+    ensures shows { SomeShows (origin_of (opened_value shared.now)) (drive_end result.refused) result.ports.items }
 {
-    let halted = drive(rt, shared, own.as_mut_slice(), gate);
+    let refused = drive(rt, shared, own.as_mut_slice(), gate);
     gather(rt, shared, &mut own, children);
-    Driven { ports: own, halted }
+    Driven {
+        ports: own,
+        refused,
+    }
 }
 
 /// Starts a thread for each port but the last, as far as threads can be started, drives all others here,
@@ -144,7 +147,7 @@ fn spread<'s, E, R: Threads + Wait + Sync, G: Gate + Sync>(
     requires none { (own.items ≡ []) × (children.items ≡ []) }
     requires room { (length ports.items ≤ vec_capacity own) × (length ports.items ≤ vec_capacity children) }
     ensures back { AreBack shared.now ports.items result.ports.items }
-    ensures shows { SomeShows (origin_of (opened_value shared.now)) (stop_of result.halted) result.ports.items }
+    ensures shows { SomeShows (origin_of (opened_value shared.now)) (drive_end result.refused) result.ports.items }
 {
     for port in ports {
         match stays.get(own.len() + children.len()) {
@@ -158,7 +161,7 @@ fn spread<'s, E, R: Threads + Wait + Sync, G: Gate + Sync>(
     finish(rt, shared, own, gate, children)
 }
 
-/// So many marks, none of them set.
+/// As many marks as `count`, none of them set.
 fn marks(alloc: Global, count: usize) -> Result<Vec<AtomicBool>, NoMemory>
     ensures { IfOk result (λ marks. vec_len marks ≡ count) }
 {
@@ -169,7 +172,8 @@ fn marks(alloc: Global, count: usize) -> Result<Vec<AtomicBool>, NoMemory>
     Ok(marks)
 }
 
-/// A thread for each port but the last, as far as threads can be started.
+/// Starts a thread for each port but the last, as far as threads can be started, drives all others here, and waits for
+/// the threads.
 pub fn drive_all<R: Threads + Wait + Sync, G: Gate + Sync>(
     rt: &R,
     alloc: Global,
@@ -180,7 +184,7 @@ pub fn drive_all<R: Threads + Wait + Sync, G: Gate + Sync>(
     requires own { All (IsPortOf shared.now) ports.items }
     requires some { 0 < length ports.items }
     ensures back { IfOk result (λ driven. AreBack shared.now ports.items driven.ports.items) }
-    ensures shows { IfOk result (λ driven. SomeShows (origin_of (opened_value shared.now)) (stop_of driven.halted) driven.ports.items) }
+    ensures shows { IfOk result (λ driven. SomeShows (origin_of (opened_value shared.now)) (drive_end driven.refused) driven.ports.items) }
 {
     let own = Vec::with_capacity(alloc, ports.len())?;
     let stays = marks(alloc, ports.len().saturating_sub(1))?;
@@ -191,7 +195,7 @@ pub fn drive_all<R: Threads + Wait + Sync, G: Gate + Sync>(
         |scope| -> Result<Driven, NoMemory>
             requires { All (IsPortOf shared.now) ports.items × (length stays.now < length ports.items) × (own.items ≡ []) × (length ports.items ≤ vec_capacity own) }
             ensures back { IfOk result (λ driven. AreBack shared.entry.now ports.items driven.ports.items) }
-            ensures shows { IfOk result (λ driven. SomeShows (origin_of (opened_value shared.entry.now)) (stop_of driven.halted) driven.ports.items) }
+            ensures shows { IfOk result (λ driven. SomeShows (origin_of (opened_value shared.entry.now)) (drive_end driven.refused) driven.ports.items) }
         {
             let children = Vec::with_capacity(alloc, ports.len())?;
             Ok(spread(scope, rt, shared, ports, gate, stays, own, children))

@@ -6,12 +6,14 @@ use Rattle.jh_script.specs.declared.fault.ScriptFault.TheVariants.{Syntax, TooLo
 use Rattle.jh_script.specs.declared.fault.ScheduleFault.{ScheduleFault}
 use Rattle.jh_script.specs.declared.fault.ScheduleFault.TheVariants.{Item, TooLong as ScheduleTooLong, NoMemory as ScheduleNoMemory}
 
+-- the words for a fault of a program's text
 abbrev pub script_fault_text : ScriptFault → List ℕ
 script_fault_text (Syntax line) = codes "line " ++ (decimal line ++ codes ": syntax")
 script_fault_text TooLong = codes "program too long"
 script_fault_text (Width line) = codes "line " ++ (decimal line ++ codes ": width")
 script_fault_text NoMemory = codes "want of memory"
 
+-- the words for a fault of a schedule's text
 abbrev pub schedule_fault_text : ScheduleFault → List ℕ
 schedule_fault_text (Item number) = codes "item " ++ decimal number
 schedule_fault_text ScheduleTooLong = codes "schedule too long"

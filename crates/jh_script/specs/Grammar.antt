@@ -23,18 +23,21 @@ pub record IsHexadecimal (word : List ℕ) (n : ℕ) : Type 0 where
   pub are : AllDigits 16 digits
   pub value : n ≡ digits_value 16 digits
 
+-- the word is the number, in decimal or in hexadecimal
 abbrev pub IsNumber : List ℕ → ℕ → Type 0
 IsNumber word n = IsDecimal word n ⊎ IsHexadecimal word n
 
--- the words are a name and numbers
+-- the words are this name alone
 pub record IsCallOf0 (name : List ℕ) (words : List (List ℕ)) : Type 0 where
   pub are : words ≡ name ∷ []
 
+-- the words are this name and one number
 pub record IsCallOf1 (name : List ℕ) (words : List (List ℕ)) (x : ℕ) : Type 0 where
   pub a : List ℕ
   pub are : words ≡ name ∷ a ∷ []
   pub first : IsNumber a x
 
+-- the words are this name and two numbers
 pub record IsCallOf2 (name : List ℕ) (words : List (List ℕ)) (x y : ℕ) : Type 0 where
   pub a : List ℕ
   pub b : List ℕ
@@ -42,6 +45,7 @@ pub record IsCallOf2 (name : List ℕ) (words : List (List ℕ)) (x y : ℕ) : T
   pub first : IsNumber a x
   pub second : IsNumber b y
 
+-- the words are this name and three numbers
 pub record IsCallOf3 (name : List ℕ) (words : List (List ℕ)) (x y z : ℕ) : Type 0 where
   pub a : List ℕ
   pub b : List ℕ
@@ -60,7 +64,7 @@ Writes words (Await width at value) = IsCallOf3 (codes "await") words width at v
 Writes words Irq = IsCallOf0 (codes "irq") words
 Writes words (Hvc code a b) = IsCallOf3 (codes "hvc") words code a b
 
--- a line without words, or a comment
+-- the words are those of a line that is skipped: none, or a comment's
 abbrev pub IsSkipped : List (List ℕ) → Type 0
 IsSkipped [] = Unit {0}
 IsSkipped (word ∷ more) = starts_with nat_eq word (codes "#") ≡ true

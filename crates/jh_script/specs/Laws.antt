@@ -8,7 +8,7 @@ use Rattle.jh_script.specs.Programs.{lines_of, ops_of}
 use Rattle.jh_script.specs.Schedules.{items_of}
 use Rattle.jh_script.specs.Limits.{most_ops, most_items}
 
--- a line without a fault
+-- the line has no fault
 abbrev pub IsGood : Line → Type 0
 IsGood Blank = Unit {0}
 IsGood (Operation op) = Unit {0}

@@ -1,10 +1,10 @@
 -- How much a text may have.
 use Rattle.std.specs.Prelude.{ℕ}
 
--- the operations of one program
+-- how many operations a program may have
 abbrev pub most_ops : ℕ
 most_ops = 4096
 
--- the items of a schedule
+-- how many items a schedule may have
 abbrev pub most_items : ℕ
 most_items = 262144

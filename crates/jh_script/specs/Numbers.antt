@@ -13,16 +13,16 @@ unfoldable pub value_of : ℕ → List ℕ → Option ℕ
 value_of base digits =
     if are_digits base digits && nat_lt (digits_value base digits) (2 ^ 64) then Some (digits_value base digits) else None
 
--- a decimal number: one digit or more, without a leading zero
+-- the number that a word writes in decimal: one digit or more, without a leading zero
 unfoldable pub decimal_of : List ℕ → Option ℕ
 decimal_of [] = None
 decimal_of (digit ∷ []) = value_of 10 (digit ∷ [])
 decimal_of (first ∷ second ∷ digits) = if first == 48 then None else value_of 10 (first ∷ second ∷ digits)
 
--- a hexadecimal number behind its `0x`: 1 to 16 digits
+-- the number that 1 to 16 hexadecimal digits write, which stand behind a `0x`
 unfoldable pub hexadecimal_of : List ℕ → Option ℕ
 hexadecimal_of digits = if nat_lt 0 (length digits) && nat_le (length digits) 16 then value_of 16 digits else None
 
--- a number: hexadecimal where it begins with `0x`, else decimal
+-- the number that a word writes: in hexadecimal where it begins with `0x`, else in decimal
 unfoldable pub number_of : List ℕ → Option ℕ
 number_of word = if starts_with nat_eq word (codes "0x") then hexadecimal_of (drop 2 word) else decimal_of word

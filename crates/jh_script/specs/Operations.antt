@@ -11,19 +11,22 @@ use Rattle.jh_script.specs.Numbers.{number_of}
 use Rattle.jh_script.specs.Words.{words, blanks}
 
 infixl 10 ◌>>=◌
+-- the next step of a `do`, where this one tells something
 abbrev pub ◌>>=◌ : {A B : Type 0} → Option A → (A → Option B) → Option B
 o >>= f = option_and_then f o
 
--- no word, or just so many, each a number
+-- there is no word
 unfoldable pub none_of : List (List ℕ) → Option (Unit {0})
 none_of [] = Some tt
 none_of (a ∷ more) = None
 
+-- the number of the words, where they are just one and it is a number
 unfoldable pub one_of : List (List ℕ) → Option ℕ
 one_of [] = None
 one_of (a ∷ []) = number_of a
 one_of (a ∷ b ∷ more) = None
 
+-- the numbers of the words, where they are just two and each is a number
 unfoldable pub two_of : List (List ℕ) → Option (ℕ × ℕ)
 two_of [] = None
 two_of (a ∷ []) = None
@@ -33,6 +36,7 @@ two_of (a ∷ b ∷ []) = do
   Some (x, y)
 two_of (a ∷ b ∷ c ∷ more) = None
 
+-- the numbers of the words, where they are just three and each is a number
 unfoldable pub three_of : List (List ℕ) → Option (ℕ × ℕ × ℕ)
 three_of [] = None
 three_of (a ∷ []) = None
@@ -55,7 +59,7 @@ op_of name behind =
     else (if bytes_eq name (codes "hvc") then option_map (λ n. Hvc n.0 n.1 n.2) (three_of behind)
     else None)))))
 
--- how many bytes an access may have
+-- an access may have so many bytes
 abbrev pub is_width : ℕ → Bool
 is_width width = (width == 1) || (width == 2) || (width == 4) || (width == 8)
 
@@ -69,7 +73,7 @@ is_well_formed (Await width at value) = is_width width && nat_lt value (256 ^ wi
 is_well_formed Irq = true
 is_well_formed (Hvc code a b) = true
 
--- the same as a fact
+-- the operation is within its limits, as a fact: of its width, its value and its address
 abbrev pub IsWellFormed : Op → Type 0
 IsWellFormed (Read width at) = IsTrue (is_width width)
 IsWellFormed (Write width at value) = IsTrue (is_width width) × (value < 256 ^ width)
@@ -78,21 +82,21 @@ IsWellFormed (Await width at value) = IsTrue (is_width width) × (value < 256 ^ 
 IsWellFormed Irq = Unit {0}
 IsWellFormed (Hvc code a b) = Unit {0}
 
--- what a line of an operation tells, or one of none
+-- what a line tells that is of this operation, or of none
 unfoldable pub line_of_op : Option Op → Line
 line_of_op None = Syntax
 line_of_op (Some op) = if is_well_formed op then Operation op else Width
 
--- a word that begins with `#` begins a comment
+-- what a line of these words tells; a first word that begins with `#` begins a comment
 unfoldable pub line_of_words : List (List ℕ) → Line
 line_of_words [] = Blank
 line_of_words (name ∷ behind) = if starts_with nat_eq name (codes "#") then Blank else line_of_op (op_of name behind)
 
--- a line is of bytes below 128, in a comment too
+-- what a line of these bytes tells: a byte of 128 or more is a fault, in a comment too
 unfoldable pub line_of : List ℕ → Line
 line_of line = if list_all (λ byte. nat_lt byte 128) line then line_of_words (words blanks line) else Syntax
 
--- where the line is of an operation, that is within its limits
+-- the operation of the line, where it is one of an operation, is within its limits
 abbrev pub IsWellFormedLine : Line → Type 0
 IsWellFormedLine Blank = Unit {0}
 IsWellFormedLine (Operation op) = IsWellFormed op

@@ -34,6 +34,7 @@ ops_of (Operation op ∷ more) = op ∷ ops_of more
 ops_of (Syntax ∷ more) = ops_of more
 ops_of (Width ∷ more) = ops_of more
 
+-- what is made, or the fault where there is one
 abbrev pub unless : {X F : Type 0} → Option F → X → Result X F
 unless None x = Ok x
 unless (Some fault) x = Err fault

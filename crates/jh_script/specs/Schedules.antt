@@ -12,11 +12,11 @@ use Rattle.jh_script.specs.Limits.{most_items}
 abbrev pub has_cpu : ℕ → ℕ → Bool
 has_cpu cpus n = has_bit cpus n
 
--- a CPU of the board; there are 16 numbers
+-- the number is that of a CPU of the board; there are 16 numbers
 abbrev pub IsPresent : ℕ → ℕ → Type 0
 IsPresent cpus n = (n < 16) × IsTrue (has_cpu cpus n)
 
--- the CPU of the board that the number is
+-- the CPU of the board that the number is, if it is one
 abbrev pub cpu_of : ℕ → Option ℕ → Option ℕ
 cpu_of cpus None = None
 cpu_of cpus (Some n) = if nat_lt n 16 && has_cpu cpus n then Some n else None
@@ -31,6 +31,7 @@ first_refusal before [] = None
 first_refusal before (None ∷ more) = if before == most_items then Some faults.TooLong else Some (faults.Item (before + 1))
 first_refusal before (Some cpu ∷ more) = if before == most_items then Some faults.TooLong else first_refusal (before + 1) more
 
+-- the CPUs of the items, in order
 unfoldable pub cpus_of : List (Option ℕ) → List ℕ
 cpus_of [] = []
 cpus_of (None ∷ more) = cpus_of more

@@ -23,6 +23,7 @@ pub(crate) enum Line {
     Width,
 }
 
+/// What a line of a program tells, without its line feed.
 #[tactic(auto, unfolding(crate::specs::Operations::line_of, crate::specs::Operations::line_of_words))]
 pub(crate) fn read_line(text: &[u8]) -> Line
     ensures value { result ≡ line_of text.now }
@@ -40,13 +41,14 @@ pub(crate) fn read_line(text: &[u8]) -> Line
     operation(name, behind)
 }
 
+/// Whether all bytes are below 128.
 fn is_ascii(text: &[u8]) -> bool
     ensures { result ≡ list_all (λ byte. nat_lt byte 128) text.now }
 {
     text.iter().all(|byte| *byte < 128)
 }
 
-/// The operation with this name.
+/// The operation with this name, by the words behind it.
 #[tactic(auto, unfolding(crate::specs::Operations::op_of))]
 fn operation(name: &[u8], behind: &[u8]) -> Line
     ensures { result ≡ line_of_op (op_of name.now (words blanks behind.now)) }
@@ -72,6 +74,7 @@ fn operation(name: &[u8], behind: &[u8]) -> Line
     Line::Syntax
 }
 
+/// `read W A`, by the words behind the name: a read of W bytes at A.
 #[tactic(auto, unfolding(crate::specs::Operations::line_of_op, crate::specs::Operations::is_well_formed))]
 fn read(behind: &[u8]) -> Line
     ensures { result ≡ line_of_op (option_map (λ n. ops.Read n.0 n.1) (two_of (words blanks behind.now))) }
@@ -85,6 +88,7 @@ fn read(behind: &[u8]) -> Line
     }
 }
 
+/// `write W A V`, by the words behind the name: a write of the value V over W bytes at A.
 #[tactic(auto, unfolding(crate::specs::Operations::line_of_op, crate::specs::Operations::is_well_formed))]
 fn write(behind: &[u8]) -> Line
     ensures { result ≡ line_of_op (option_map (λ n. ops.Write n.0 n.1 n.2) (three_of (words blanks behind.now))) }
@@ -100,6 +104,7 @@ fn write(behind: &[u8]) -> Line
     }
 }
 
+/// `fetch A`, by the words behind the name: a fetch of four bytes at A, a multiple of 4.
 #[tactic(auto, unfolding(crate::specs::Operations::line_of_op, crate::specs::Operations::is_well_formed))]
 fn fetch(behind: &[u8]) -> Line
     ensures { result ≡ line_of_op (option_map (λ n. ops.Fetch n) (one_of (words blanks behind.now))) }
@@ -114,6 +119,7 @@ fn fetch(behind: &[u8]) -> Line
     }
 }
 
+/// `await W A V`, by the words behind the name: a wait until a read of W bytes at A gives V.
 #[tactic(auto, unfolding(crate::specs::Operations::line_of_op, crate::specs::Operations::is_well_formed))]
 fn wait(behind: &[u8]) -> Line
     ensures { result ≡ line_of_op (option_map (λ n. ops.Await n.0 n.1 n.2) (three_of (words blanks behind.now))) }
@@ -129,6 +135,7 @@ fn wait(behind: &[u8]) -> Line
     }
 }
 
+/// `irq`, behind which no word stands: a wait for an interrupt.
 #[tactic(auto, unfolding(crate::specs::Operations::line_of_op, crate::specs::Operations::is_well_formed, crate::specs::Operations::none_of))]
 fn interrupt(behind: &[u8]) -> Line
     ensures { result ≡ line_of_op (option_map (λ n. ops.Irq) (none_of (words blanks behind.now))) }
@@ -139,6 +146,7 @@ fn interrupt(behind: &[u8]) -> Line
     }
 }
 
+/// `hvc C A B`, by the words behind the name: a hypercall with the code C and two arguments.
 #[tactic(auto, unfolding(crate::specs::Operations::line_of_op, crate::specs::Operations::is_well_formed))]
 fn call(behind: &[u8]) -> Line
     ensures { result ≡ line_of_op (option_map (λ n. ops.Hvc n.0 n.1 n.2) (three_of (words blanks behind.now))) }

@@ -5,7 +5,8 @@ ghost use Rattle.jh_script.specs.Private.Reading.{next_value};
 
 use crate::words::behind;
 
-/// A number below 2^64: decimal without leading zeros, or `0x` and 1 to 16 hexadecimal digits of either case.
+/// The number below 2^64 that the word is: decimal without leading zeros, or `0x` and 1 to 16 hexadecimal digits of
+/// either case.
 #[tactic(auto, unfolding(crate::specs::Numbers::number_of))]
 pub(crate) fn number(word: &[u8]) -> Option<u64>
     ensures { result ≡ number_of word.now }
@@ -17,6 +18,7 @@ pub(crate) fn number(word: &[u8]) -> Option<u64>
     }
 }
 
+/// The number below 2^64 that the word is in decimal digits, without a leading zero where it has more than one digit.
 #[tactic(auto, unfolding(crate::specs::Numbers::decimal_of))]
 pub(crate) fn decimal(word: &[u8]) -> Option<u64>
     ensures { result ≡ decimal_of word.now }
@@ -27,6 +29,7 @@ pub(crate) fn decimal(word: &[u8]) -> Option<u64>
     }
 }
 
+/// The number that 1 to 16 hexadecimal digits of either case write.
 #[tactic(auto, unfolding(crate::specs::Numbers::hexadecimal_of))]
 fn hexadecimal(digits: &[u8]) -> Option<u64>
     ensures { result ≡ hexadecimal_of digits.now }

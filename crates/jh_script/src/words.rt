@@ -79,6 +79,7 @@ fn word_end(gaps: &[u8], text: &[u8]) -> Option<usize>
     text.iter().position(|byte| gaps.contains(byte))
 }
 
+/// Whether the word is the name, byte for byte.
 pub(crate) fn is(word: &[u8], name: &str) -> bool
     ensures { result ≡ bytes_eq word.now name.now }
 {

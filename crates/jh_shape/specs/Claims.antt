@@ -6,7 +6,7 @@ use Rattle.jh_cellcfg.specs.declared.config.CellConfig.{CellConfig}
 use Rattle.jh_cellcfg.specs.declared.region.Region.{Region}
 use Rattle.jh_shape.specs.declared.target.Target.{Target}
 
--- a live cell besides root, as far as root's tables depend on it
+-- a live cell besides root, as root's tables depend on it: its regions, and whether it is loadable
 pub record Holder : Type 0 where
   pub regions : List Region
   pub loadable : Bool
@@ -28,11 +28,12 @@ held_from held loadable index (cell ∷ cells) =
     then record { regions = cell.memory_regions; loadable = has_bit loadable index } ∷ held_from held loadable (index + 1) cells
     else held_from held loadable (index + 1) cells
 
--- one cell more, which isn't loadable
+-- one cell more, if there is one, which isn't loadable
 abbrev pub one_more : Option (Bor CellConfig) → List Holder
 one_more None = []
 one_more (Some cell) = record { regions = cell.now.memory_regions; loadable = false } ∷ []
 
+-- what the tables of the target are made from
 abbrev pub claims_of : Target → Claims
 claims_of target =
     record {

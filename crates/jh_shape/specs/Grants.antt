@@ -23,6 +23,7 @@ pub record IsGrantedBy (claims : Claims) (region : Region) (at place : ℕ) (rig
   pub kind : device ≡ is_device region
   pub open_to : is_kept_from claims region at ≡ false
 
+-- one of the regions that tables map gives the cell the address, and the place isn't closed to it
 abbrev pub IsGranted : Claims → ℕ → ℕ → Rights → Bool → Type 0
 IsGranted claims at place rights device = (region : Region) × IsGrantedBy claims region at place rights device
 

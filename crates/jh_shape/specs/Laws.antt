@@ -51,6 +51,7 @@ pub record Serves (claims : Claims) (level start : ℕ) (region : Region) : Type
   pub covers : (k : ℕ) → k < slot_size level → IsTrue (has_address region (start + k))
   pub block : level ≢ 3 → IsBlock claims level start region
 
+-- one descriptor serves the slot by one of the regions
 abbrev pub IsServed : Claims → ℕ → ℕ → Type 0
 IsServed claims level start = (region : Region) × Serves claims level start region
 
@@ -64,6 +65,7 @@ pub record IsTaken (cells : List Live) (place : ℕ) : Type 0 where
   pub has : IsTrue (has_place region place)
   pub kept : IsTrue cell.loadable → IsTrue (is_loadable region) → ⊥
 
+-- what is wanted is a table
 abbrev pub is_to_table : Want → Bool
 is_to_table Nothing = false
 is_to_table Table = true

@@ -9,7 +9,7 @@ use Rattle.jh_shape.specs.Intervals.{touches}
 use Rattle.jh_shape.specs.Pages.{count_below}
 use Rattle.jh_shape.specs.Shapes.{slot_size, are_cut}
 
--- the bit of that number is set
+-- the slot of that number is marked: its bit is set
 abbrev pub is_marked : List ℕ → ℕ → Bool
 is_marked words n = nat_eq (bit_at (slice_index words (n / 64)) (n % 64)) 1
 
@@ -17,7 +17,7 @@ is_marked words n = nat_eq (bit_at (slice_index words (n / 64)) (n % 64)) 1
 abbrev pub AreMarked : List ℕ → ℕ → (ℕ → Bool) → Type 0
 AreMarked words level test = (n : ℕ) → n < ADDRESS_END / slot_size level → is_marked words n ≡ test n
 
--- the same of the slots below the limit alone
+-- of the slots of the level below the limit, and below the end of addresses, those are marked that pass the test
 abbrev pub AreMarkedBelow : ℕ → List ℕ → ℕ → (ℕ → Bool) → Type 0
 AreMarkedBelow limit words level test = (n : ℕ) → n < limit → n < ADDRESS_END / slot_size level → is_marked words n ≡ test n
 
@@ -42,9 +42,10 @@ marked_slots words level = count_below (λ n. is_marked words n) (ADDRESS_END / 
 abbrev pub past_slot : ℕ → ℕ → ℕ
 past_slot level number = (min number ADDRESS_END + (slot_size level - 1)) / slot_size level
 
--- the region has addresses in slots of that number and above; or places
+-- the region has addresses in slots of that number and above
 abbrev pub is_beyond : ℕ → ℕ → Region → Bool
 is_beyond limit level region = nat_lt limit (past_slot level (virt_end region))
 
+-- the region has places in slots of that number and above
 abbrev pub is_place_beyond : ℕ → ℕ → Region → Bool
 is_place_beyond limit level region = nat_lt limit (past_slot level (phys_end region))

@@ -12,30 +12,31 @@ unfoldable pub count_below : (ℕ → Bool) → ℕ → ℕ
 count_below test zero = 0
 count_below test (suc n) = count_below test n + (if test n then 1 else 0)
 
--- the slots of a level that are tables, among those below the end of addresses
+-- how many slots of the level are tables, among those below the end of addresses
 unfoldable pub tables_at : Claims → ℕ → ℕ
 tables_at claims level = count_below (λ slot. is_table claims level (slot * slot_size level)) (ADDRESS_END / slot_size level)
 
--- the same for so many levels, from `level` on
+-- how many slots of so many levels, from `level` on, are tables
 abbrev pub tables_from : Claims → ℕ → ℕ → ℕ
 tables_from claims level zero = 0
 tables_from claims level (suc more) = tables_at claims level + tables_from claims (level + 1) more
 
--- the first table, and one for each slot of shape table at the levels above the last
+-- how many tables a cell takes: the first one, and one for each slot of shape table at the levels above the last
 unfoldable pub tables_of : Claims → ℕ
 tables_of claims = 1 + tables_from claims FIRST_LEVEL (LAST_LEVEL - FIRST_LEVEL)
 
--- a live cell besides root that isn't loadable
+-- a live cell besides root that isn't loadable, as root's tables depend on it
 abbrev pub holder_of : CellConfig → Holder
 holder_of cell = record { regions = cell.memory_regions; loadable = false }
 
--- root's tables depend on all cells, and another cell's tables on none
+-- what root's tables are made from: they depend on all cells
 abbrev pub root_claims : List Region → List CellConfig → Claims
 root_claims regions cells = record { regions = regions; root = true; holders = map holder_of cells; comm = 0 }
 
+-- what the tables of a cell besides root are made from: they depend on no other cell
 abbrev pub cell_claims : CellConfig → Claims
 cell_claims cell = record { regions = cell.memory_regions; root = false; holders = []; comm = 0 }
 
--- the pages of root with these cells live besides it: all tables, and a communication page for each
+-- how many pages root takes with these cells live besides it: all tables, and a communication page for each of these
 abbrev pub pages_of : List Region → List CellConfig → ℕ
 pages_of regions cells = tables_of (root_claims regions cells) + sum_by (λ cell. tables_of (cell_claims cell) + 1) cells

@@ -19,11 +19,12 @@ slot_size level = 2 ^ (39 - 9 * level)
 abbrev pub is_mapped : Region → Bool
 is_mapped region = nat_lt 0 region.size && is_page_mapped region
 
--- a region of another cell, which nobody else may hold, meets those places and doesn't cover them
+-- the region of another cell is unshared, and has some of the places and not all of them
 abbrev pub meets_in_part : Region → ℕ → ℕ → Bool
 meets_in_part region place size =
     is_unshared region && (touches region.phys_start (phys_end region) place size && not (spans region.phys_start (phys_end region) place size))
 
+-- an unshared region of another cell has some of the places and not all of them
 abbrev pub are_cut : List Holder → ℕ → ℕ → Bool
 are_cut holders place size = list_any (λ (holder : Holder). list_any (λ (region : Region). meets_in_part region place size) holder.regions) holders
 
@@ -36,6 +37,7 @@ takes loadable region place = is_unshared region && (not (loadable && is_loadabl
 abbrev pub holder_of_live : Live → Holder
 holder_of_live live = record { regions = live.config.memory_regions; loadable = live.loadable }
 
+-- the place is closed to root: a region of another cell takes it
 abbrev pub is_closed : List Holder → ℕ → Bool
 is_closed holders place = list_any (λ (holder : Holder). list_any (λ (region : Region). takes holder.loadable region place) holder.regions) holders
 
@@ -43,8 +45,8 @@ is_closed holders place = list_any (λ (holder : Holder). list_any (λ (region :
 abbrev pub is_aligned_alike : ℕ → Region → Bool
 is_aligned_alike level region = (region.phys_start % slot_size level) == (region.virt_start % slot_size level)
 
--- blocks of the level may map the region, as far as other cells don't forbid it: blocks stand at levels 1
--- and 2, for plain memory whose places are aligned like its addresses
+-- blocks of the level may map the region, as far as other cells don't forbid it: the level isn't 0, the region may have
+-- blocks, isn't a communication region, and its places are aligned like its addresses
 abbrev pub fits_blocks : ℕ → Region → Bool
 fits_blocks level region = nat_lt 0 level && (may_have_blocks region && (not (is_comm region) && is_aligned_alike level region))
 
@@ -65,18 +67,19 @@ is_leaf_by claims level start region =
 abbrev pub leaf_region : Claims → ℕ → ℕ → Option Region
 leaf_region claims level start = find (λ (region : Region). is_leaf_by claims level start region) claims.regions
 
--- a region that tables map has an address in the slot
+-- the region is one that tables map, and has an address in the slot
 abbrev pub is_met_by : ℕ → ℕ → Region → Bool
 is_met_by level start region = is_mapped region && touches region.virt_start (virt_end region) start (slot_size level)
 
+-- one of the cell's regions that tables map has an address in the slot
 abbrev pub is_met : Claims → ℕ → ℕ → Bool
 is_met claims level start = list_any (λ (region : Region). is_met_by level start region) claims.regions
 
--- one of the regions makes the slot a leaf; a slot that is met is a leaf, or else a table; one that
--- isn't met is empty
+-- one of the cell's regions makes the slot a leaf
 abbrev pub is_leaf : Claims → ℕ → ℕ → Bool
 is_leaf claims level start = list_any (λ (region : Region). is_leaf_by claims level start region) claims.regions
 
+-- the slot is a table: it is met, and no region makes it a leaf; a slot that isn't met is empty
 abbrev pub is_table : Claims → ℕ → ℕ → Bool
 is_table claims level start = is_met claims level start && not (is_leaf claims level start)
 
@@ -84,10 +87,11 @@ is_table claims level start = is_met claims level start && not (is_leaf claims l
 abbrev pub out_of : Claims → Region → ℕ → ℕ
 out_of claims region start = if is_comm region then claims.comm else place_in region start
 
--- root's leaf at a closed place is invalid, and every other one valid
+-- the cell is root, and the place of the region's address is closed to it, so that its leaf there is invalid
 abbrev pub is_kept_from : Claims → Region → ℕ → Bool
 is_kept_from claims region start = claims.root && (not (is_comm region) && is_closed claims.holders (place_in region start))
 
+-- what stands in a slot where the region makes a leaf: nothing at a place that is closed to root
 abbrev pub leaf_of : Claims → Region → ℕ → Want
 leaf_of claims region start =
     if is_kept_from claims region start
@@ -98,9 +102,11 @@ leaf_of claims region start =
 abbrev pub not_leaf : Bool → Want
 not_leaf met = if met then Table else Nothing
 
+-- what stands in a slot, where that is the region that makes it a leaf, if one does
 abbrev pub want_from : Claims → ℕ → ℕ → Option Region → Want
 want_from claims level start None = not_leaf (is_met claims level start)
 want_from claims level start (Some region) = leaf_of claims region start
 
+-- what stands in a slot: nothing, a table, or a leaf with its place, rights and kind of memory
 abbrev pub want_of : Claims → ℕ → ℕ → Want
 want_of claims level start = want_from claims level start (leaf_region claims level start)

@@ -20,12 +20,13 @@ pub record IsFit (region : Region) : Type 0 where
   pub comm_size : 0 < region.size → is_comm region ≡ true → region.size ≡ PAGE_SIZE
   pub aligned : is_mapped region ≡ true → is_comm region ≡ false → region.phys_start % PAGE_SIZE ≡ 0
 
--- no region of another cell meets a page of root's in part
+-- no other cell's unshared region has some of the places of a page of the region and not all, where tables map the
+-- region and it has places
 abbrev pub IsWhole : Claims → Region → Type 0
 IsWhole claims region =
     is_mapped region ≡ true → is_comm region ≡ false → (at : ℕ) → at % PAGE_SIZE ≡ 0 → IsTrue (has_address region at) → are_cut claims.holders (place_in region at) PAGE_SIZE ≡ false
 
--- the conditions of a target
+-- the claims are sound: what must hold of a cell's regions where a descriptor is asked for
 pub record IsSound (claims : Claims) : Type 0 where
   pub comm_aligned : claims.comm % PAGE_SIZE ≡ 0
   pub comm_bound : claims.comm < ADDRESS_END
@@ -33,7 +34,8 @@ pub record IsSound (claims : Claims) : Type 0 where
   pub fit : All IsFit claims.regions
   pub whole : IsTrue claims.root → All (IsWhole claims) claims.regions
 
--- the conditions of a slot
+-- a slot of the level begins at the address: the level is one of the tables', and the address a multiple of the slot's
+-- size below the end of addresses
 pub record IsSlot (level start : ℕ) : Type 0 where
   pub first : FIRST_LEVEL ≤ level
   pub last : level ≤ LAST_LEVEL

@@ -132,7 +132,8 @@ impl<'a> Target<'a> {
         self.add_met(words, level)
     }
 
-    /// The same in a short list, which costs less to make.
+    /// How many slots of the level are tables, by a short list of marks, which costs less to make and has all slots of
+    /// the regions.
     fn count_low(&self, cuts: &[u64], level: u8) -> u64
         requires cells { length self.now.cells.now ≤ 15 }
         requires level { level < LAST_LEVEL }
@@ -145,7 +146,7 @@ impl<'a> Target<'a> {
         self.count_in(&mut words, cuts, level)
     }
 
-    /// The same in a list that has all slots.
+    /// How many slots of the level are tables, by a list of marks that has all slots of the level.
     fn count_all(&self, cuts: &[u64], level: u8) -> u64
         requires cells { length self.now.cells.now ≤ 15 }
         requires level { level < LAST_LEVEL }
@@ -157,7 +158,7 @@ impl<'a> Target<'a> {
         self.count_in(&mut words, cuts, level)
     }
 
-    /// The same of root, whose leaves other cells cut, in short lists.
+    /// How many slots of the level are tables of root, whose leaves other cells cut, by short lists of marks.
     fn count_root_low(&self, level: u8) -> u64
         requires cells { length self.now.cells.now ≤ 15 }
         requires level { level < LAST_LEVEL }
@@ -170,7 +171,8 @@ impl<'a> Target<'a> {
         self.count_low(&cuts, level)
     }
 
-    /// The same in lists that have all slots.
+    /// How many slots of the level are tables of root, whose leaves other cells cut, by lists of marks that have all
+    /// slots of the level.
     fn count_root_all(&self, level: u8) -> u64
         requires cells { length self.now.cells.now ≤ 15 }
         requires level { level < LAST_LEVEL }
@@ -182,8 +184,8 @@ impl<'a> Target<'a> {
         self.count_all(&cuts, level)
     }
 
-    /// The same of root. What cuts are looked up for must lie low too: where the list lacks a place, all regions of
-    /// the other cells are asked.
+    /// How many slots of the level are tables of root. What cuts are looked up for must lie low too: where the list
+    /// lacks a place, all regions of the other cells are asked.
     fn count_root(&self, level: u8) -> u64
         requires cells { length self.now.cells.now ≤ 15 }
         requires level { level < LAST_LEVEL }
@@ -199,7 +201,7 @@ impl<'a> Target<'a> {
         self.count_root_low(level)
     }
 
-    /// The same of a cell besides root.
+    /// How many slots of the level are tables of a cell besides root, whose leaves no other cell cuts.
     fn count_cell(&self, level: u8) -> u64
         requires cells { length self.now.cells.now ≤ 15 }
         requires level { level < LAST_LEVEL }

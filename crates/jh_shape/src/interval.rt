@@ -43,7 +43,7 @@ fn capped(number: u128) -> u64
 }
 
 impl Span {
-    /// Whether it has the `size` numbers from `at` on.
+    /// Whether the span has the `size` numbers from `at` on.
     pub(crate) fn has_all(&self, at: u64, size: u64) -> bool
         ensures { result ≡ (nat_le self.now.start at && nat_le size (self.now.end - at)) }
     {
@@ -68,7 +68,7 @@ impl Slots {
 }
 
 impl Interval {
-    /// Whether it has one of the `size` numbers from `at` on.
+    /// Whether the interval has one of the `size` numbers from `at` on.
     pub(crate) fn touches(&self, at: u128, size: u128) -> bool
         requires { at + size < 2 ^ 128 }
         ensures { result ≡ touches self.now.start self.now.end at size }
@@ -76,7 +76,7 @@ impl Interval {
         self.start < self.end && self.start < at + size && at < self.end
     }
 
-    /// Whether it has each of the `size` numbers from `at` on.
+    /// Whether the interval has each of the `size` numbers from `at` on.
     pub(crate) fn spans(&self, at: u128, size: u128) -> bool
         requires { at + size < 2 ^ 128 }
         ensures { result ≡ spans self.now.start self.now.end at size }
@@ -84,7 +84,7 @@ impl Interval {
         self.start <= at && at + size <= self.end
     }
 
-    /// One past the last of the level's slots below the end of addresses that it touches.
+    /// One past the last of the level's slots below the end of addresses that the interval touches.
     pub(crate) fn past_slot(&self, level: u8) -> usize
         requires { level < LAST_LEVEL }
         ensures value { result ≡ past_slot level self.now.end }
@@ -94,7 +94,7 @@ impl Interval {
         slot_of(level, capped(self.end) + (slot_size(level) - 1)) as usize
     }
 
-    /// Which of the level's slots below the end of addresses it touches.
+    /// Which of the level's slots below the end of addresses the interval touches.
     pub(crate) fn touched(&self, level: u8) -> Slots
         requires some { self.now.start < self.now.end }
         requires level { level < LAST_LEVEL }
@@ -111,7 +111,7 @@ impl Interval {
         }
     }
 
-    /// Which of them it spans.
+    /// Which of the level's slots below the end of addresses the interval spans.
     pub(crate) fn spanned(&self, level: u8) -> Slots
         requires { level < LAST_LEVEL }
         ensures past { result.to ≤ past_slot level self.now.end }

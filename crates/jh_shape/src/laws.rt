@@ -20,7 +20,7 @@ pub fn a_new_cell_frees_no_page(_root: &[Region], _cells: &[CellConfig], _new: &
     ensures { pages_of _root.now _cells.now ≤ pages_of _root.now (_cells.now ++ _new.now ∷ []) }
 {}
 
-/// Without one of them, whichever it is, they take no more.
+/// Without one of the live cells, whichever it is, they take no more pages.
 pub fn fewer_cells_take_no_more_pages(
     _root: &[Region],
     _before: &[CellConfig],
@@ -37,7 +37,7 @@ pub fn loadable_cells_change_no_shape(_target: &Target, _loadable: u16)
     ensures pages { tables_of (claims_of (record _target.now { loadable = _loadable })) ≡ tables_of (claims_of _target.now) }
 {}
 
-/// Nor does the place of the communication page.
+/// The place of the communication page changes neither which slots are tables nor any count of pages.
 pub fn the_communication_page_changes_no_count(_target: &Target, _comm: u64)
     ensures tables { (level start : ℕ) → is_table (claims_of (record _target.now { comm = _comm })) level start ≡ is_table (claims_of _target.now) level start }
     ensures pages { tables_of (claims_of (record _target.now { comm = _comm })) ≡ tables_of (claims_of _target.now) }

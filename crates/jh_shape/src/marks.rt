@@ -23,7 +23,7 @@ pub(crate) fn is_marked(words: &[u64], n: usize) -> bool
     words[n / 64] >> (n % 64) & 1 == 1
 }
 
-/// Marks it.
+/// Marks the slot of that number.
 pub(crate) fn mark(words: &mut [u64], n: usize)
     requires { n < 64 * length words.old }
     ensures { (k : ℕ) → is_marked words.new k ≡ (is_marked words.old k || nat_eq k n) }
@@ -31,7 +31,7 @@ pub(crate) fn mark(words: &mut [u64], n: usize)
     words[n / 64] |= 1 << (n % 64);
 }
 
-/// Marks it, and tells how many marks that adds.
+/// Marks the slot of that number, and tells how many marks that adds.
 fn mark_more(words: &mut [u64], n: usize) -> u64
     requires { n < 64 * length words.old }
     ensures marks { (k : ℕ) → is_marked words.new k ≡ (is_marked words.old k || nat_eq k n) }
@@ -45,7 +45,7 @@ fn mark_more(words: &mut [u64], n: usize) -> u64
     1
 }
 
-/// Marks those from `from` on, below `to`, and tells how many marks that adds.
+/// Marks the slots from `from` on, below `to`, and tells how many marks that adds.
 pub(crate) fn mark_span(words: &mut [u64], from: usize, to: usize) -> u64
     requires { to ≤ 64 * length words.old }
     ensures marks { (k : ℕ) → is_marked words.new k ≡ (is_marked words.old k || (nat_le from k && nat_lt k to)) }

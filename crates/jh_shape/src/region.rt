@@ -12,7 +12,7 @@ use crate::marks::{is_marked, mark};
 use jh_cellcfg::Region;
 use jh_num::ADDRESS_END;
 
-/// Its addresses.
+/// The region's addresses.
 pub(crate) fn addresses(region: &Region) -> Interval
     ensures start { result.start ≡ region.now.virt_start }
     ensures end { result.end ≡ virt_end region.now }
@@ -23,7 +23,7 @@ pub(crate) fn addresses(region: &Region) -> Interval
     }
 }
 
-/// Its places.
+/// The region's places, COMM_REGION aside.
 pub(crate) fn places(region: &Region) -> Interval
     ensures start { result.start ≡ region.now.phys_start }
     ensures end { result.end ≡ phys_end region.now }
@@ -42,14 +42,14 @@ pub(crate) fn place_in(region: &Region, at: u64) -> u128
     u128::from(region.phys_start) + u128::from(at.saturating_sub(region.virt_start))
 }
 
-/// Whether tables map it.
+/// Whether tables map the region: it is page-mapped and has a size.
 pub(crate) fn is_mapped(region: &Region) -> bool
     ensures { result ≡ is_mapped region.now }
 {
     region.size > 0 && region.is_page_mapped()
 }
 
-/// Whether tables map it and it has an address in the slot.
+/// Whether tables map the region, and it has an address in the slot of the level that begins at `start`.
 fn is_met_by(region: &Region, level: u8, start: u64) -> bool
     requires { level ≤ LAST_LEVEL }
     ensures { result ≡ is_met_by level start region.now }
@@ -58,7 +58,7 @@ fn is_met_by(region: &Region, level: u8, start: u64) -> bool
     is_mapped(region) && addresses(region).touches(u128::from(start), size)
 }
 
-/// Whether one of them is such a region.
+/// Whether tables map one of the regions that has an address in the slot of the level that begins at `start`.
 pub(crate) fn any_met(regions: &[Region], level: u8, start: u64) -> bool
     requires { level ≤ LAST_LEVEL }
     ensures { result ≡ list_any (λ region. is_met_by level start region) regions.now }
@@ -66,7 +66,7 @@ pub(crate) fn any_met(regions: &[Region], level: u8, start: u64) -> bool
     regions.iter().any(|region| is_met_by(region, level, start))
 }
 
-/// Whether it is for its cell alone, and has some of those places but not all.
+/// Whether the region is unshared, and has some of the `size` places from `place` on but not all.
 fn meets_in_part(region: &Region, place: u128, size: u128) -> bool
     requires { place + size < 2 ^ 128 }
     ensures { result ≡ meets_in_part region.now place size }
@@ -75,7 +75,7 @@ fn meets_in_part(region: &Region, place: u128, size: u128) -> bool
     region.is_unshared() && its.touches(place, size) && !its.spans(place, size)
 }
 
-/// Whether one of them is such a region.
+/// Whether one of the regions is unshared, and has some of the `size` places from `place` on but not all.
 pub(crate) fn any_in_part(regions: &[Region], place: u128, size: u128) -> bool
     requires { place + size < 2 ^ 128 }
     ensures { result ≡ list_any (λ region. meets_in_part region place size) regions.now }
@@ -85,22 +85,22 @@ pub(crate) fn any_in_part(regions: &[Region], place: u128, size: u128) -> bool
         .any(|region| meets_in_part(region, place, size))
 }
 
-/// Whether it takes the place from root.
+/// Whether the region of a cell, loadable or not, takes the place from root.
 fn takes(region: &Region, loadable: bool, place: u64) -> bool
     ensures { result ≡ takes loadable region.now place }
 {
     region.is_unshared() && !(loadable && region.is_loadable()) && region.has_place(place)
 }
 
-/// Whether one of them takes it.
+/// Whether one of the regions of a cell, loadable or not, takes the place from root.
 pub(crate) fn any_takes(regions: &[Region], loadable: bool, place: u64) -> bool
     ensures { result ≡ list_any (λ region. takes loadable region place) regions.now }
 {
     regions.iter().any(|region| takes(region, loadable, place))
 }
 
-/// Whether blocks of the level may map it, as far as other cells don't forbid it: there are none at
-/// level 0 or of the communication page, and its places are aligned like its addresses.
+/// Whether blocks of the level may map the region, as far as other cells don't forbid it: not at level 0, by
+/// NO_HUGEPAGES or in the communication page, and only where its places are aligned like its addresses.
 pub(crate) fn fits_blocks(level: u8, region: &Region) -> bool
     requires { level ≤ LAST_LEVEL }
     ensures { result ≡ fits_blocks level region.now }
@@ -112,21 +112,22 @@ pub(crate) fn fits_blocks(level: u8, region: &Region) -> bool
         && region.phys_start % size == region.virt_start % size
 }
 
-/// Whether it has addresses past that end.
+/// Whether the region has addresses past that end.
 fn ends_past(region: &Region, end: u64) -> bool
     ensures { result ≡ nat_lt end (virt_end region.now) }
 {
     u128::from(end) < region.virt_end()
 }
 
-/// Whether one of them has.
+/// Whether one of the regions has addresses past that end.
 fn any_ends_past(regions: &[Region], end: u64) -> bool
     ensures { result ≡ list_any (λ region. nat_lt end (virt_end region)) regions.now }
 {
     regions.iter().any(|region| ends_past(region, end))
 }
 
-/// Whether one of them has addresses in slots of that number and above, of the level's below the end of addresses.
+/// Whether one of the regions has addresses in slots of the number `limit` and above, of the level's below the end of
+/// addresses.
 pub(crate) fn any_beyond(regions: &[Region], level: u8, limit: usize) -> bool
     requires level { level < LAST_LEVEL }
     requires limit { limit ≤ 262144 }
@@ -136,21 +137,22 @@ pub(crate) fn any_beyond(regions: &[Region], level: u8, limit: usize) -> bool
     end < ADDRESS_END && any_ends_past(regions, end)
 }
 
-/// Whether it has places past that end.
+/// Whether the region has places past that end.
 fn ends_past_place(region: &Region, end: u64) -> bool
     ensures { result ≡ nat_lt end (phys_end region.now) }
 {
     u128::from(end) < region.phys_end()
 }
 
-/// Whether one of them has.
+/// Whether one of the regions has places past that end.
 fn any_ends_past_place(regions: &[Region], end: u64) -> bool
     ensures { result ≡ list_any (λ region. nat_lt end (phys_end region)) regions.now }
 {
     regions.iter().any(|region| ends_past_place(region, end))
 }
 
-/// Whether one of them has places in slots of that number and above.
+/// Whether one of the regions has places in slots of the number `limit` and above, of the level's below the end of
+/// places.
 pub(crate) fn any_place_beyond(regions: &[Region], level: u8, limit: usize) -> bool
     requires level { level < LAST_LEVEL }
     requires limit { limit ≤ 262144 }
@@ -177,7 +179,7 @@ fn mark_inside(words: &mut [u64], level: u8, number: u128, limit: usize)
     }
 }
 
-/// Marks the slots of places below the limit that the region, where it is for its cell alone, has in part.
+/// Marks the slots of places below the limit of which the region, where it is unshared, has some places but not all.
 fn mark_cut(words: &mut [u64], level: u8, region: &Region, limit: usize)
     requires level { level < LAST_LEVEL }
     requires room { limit ≤ 64 * length words.old }
@@ -204,7 +206,7 @@ fn marked_around(words: &[u64], level: u8, place: u64, limit: usize) -> Span
     }
 }
 
-/// The same of each of them.
+/// Marks the slots of places below the limit of which some unshared region of these has some places but not all.
 pub(crate) fn mark_cuts(words: &mut [u64], level: u8, regions: &[Region], limit: usize)
     requires level { level < LAST_LEVEL }
     requires room { limit ≤ 64 * length words.old }

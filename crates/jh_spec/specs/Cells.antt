@@ -24,31 +24,37 @@ use Rattle.jh_spec.specs.Cpus.{bitmap, cpus_told}
 
 -- ---- a cell's members
 
--- a text that has no zero byte and is a name with zero bytes behind it, up to 32
+-- the name that a text without a zero byte tells: the text with zero bytes behind it, up to 32
 abbrev pub name_of : List ℕ → Option (List ℕ)
 name_of text =
     let whole = text ++ replicate (32 - length text) 0 in
     if nat_le (length text) 32 && not (list_any is_zero text) && is_name whole then Some whole else None
 
+-- the name that the cell's member of that name tells
 abbrev pub cell_name : Data → Option (List ℕ)
 cell_name d = option_and_then name_of (option_and_then as_str (get (codes "name") d))
 
--- the bytes of the CPU bitmap: 1 to 64, and 8 where the member is missing
+-- how many bytes a value says that the CPU bitmap has: 1 to 64
 abbrev pub size_told : Data → Option ℕ
 size_told d = option_and_then (λ bytes. if nat_lt 0 bytes && nat_le bytes 64 then Some bytes else None) (u32_told d)
 
+-- how many bytes the CPU bitmap has: 8 where the member is missing
 abbrev pub cpu_set_size : Data → Option ℕ
 cpu_set_size d = told_or size_told 8 (get (codes "cpu_set_size") d)
 
+-- the CPU bitmap of so many bytes that the member tells, which names no CPU where it is missing
 abbrev pub cpu_set_in : ℕ → Data → Option (List ℕ)
 cpu_set_in bytes d = told_or (cpus_told bytes) (bitmap bytes []) (get (codes "cpus") d)
 
+-- the memory region whose fields are all 0
 abbrev pub no_region : Region
 no_region = record { phys_start = 0; virt_start = 0; size = 0; flags = 0 }
 
+-- the interrupt controller whose fields are all 0
 abbrev pub no_irqchip : Irqchip
 no_irqchip = record { address = 0; id = 0; pin_base = 0; pin_bitmap = replicate 4 0 }
 
+-- the PCI device whose fields are all 0
 abbrev pub no_device : PciDevice
 no_device = record {
   kind = 0;
@@ -69,18 +75,21 @@ no_device = record {
   shmem_protocol = 0;
 }
 
+-- the console whose fields are all 0
 abbrev pub no_console : Console
 no_console = record { address = 0; size = 0; kind = 0; flags = 0; divider = 0; gate_nr = 0; clock_reg = 0 }
 
+-- the console that the member of this name tells, all 0 where it is missing
 abbrev pub console_at : List ℕ → Data → Option Console
 console_at name d = told_or console_told no_console (get name d)
 
--- a cell's members, in their order
+-- the names of a cell's members, in their order
 abbrev pub cell_names : List (List ℕ)
 cell_names =
     codes "name" ∷ codes "id" ∷ codes "flags" ∷ codes "cpu_set_size" ∷ codes "cpus" ∷ codes "regions" ∷ codes "irqchips" ∷ codes "devices"
     ∷ codes "vpci_irq_base" ∷ codes "cpu_reset_address" ∷ codes "msg_reply_timeout" ∷ codes "console" ∷ []
 
+-- what an object's members tell of a cell's name, id, flags and CPU bitmap; else the first fault
 unfoldable pub identity_told : Data → Result Identity SpecFault
 identity_told d = do
   name ← member_told (codes "name") (cell_name d)
@@ -90,6 +99,7 @@ identity_told d = do
   cpu_set ← member_told (codes "cpus") (cpu_set_in bytes d)
   Ok (record { name = name; id = id; flags = flags; cpu_set = cpu_set })
 
+-- what an object's members tell of a cell's regions, interrupt controllers and devices; else the first fault
 unfoldable pub lists_told : Data → Result Lists SpecFault
 lists_told d = do
   regions ← member_told (codes "regions") (list_at region_told 1024 (codes "regions") d)
@@ -97,6 +107,7 @@ lists_told d = do
   devices ← member_told (codes "devices") (list_at device_told 256 (codes "devices") d)
   Ok (record { memory_regions = regions; irqchips = irqchips; pci_devices = devices })
 
+-- what an object's members tell of a cell's other numbers and its console; else the first fault
 unfoldable pub settings_told : Data → Result Settings SpecFault
 settings_told d = do
   vpci_irq_base ← member_told (codes "vpci_irq_base") (u32_at (codes "vpci_irq_base") d)
@@ -110,7 +121,7 @@ settings_told d = do
     console = console_bytes console;
   })
 
--- no cache regions, port ranges, capabilities or stream ids
+-- the cell that its members make, without cache regions, port ranges, capabilities and stream ids
 abbrev pub cell_of : Identity → Lists → Settings → CellConfig
 cell_of identity lists settings = record {
   name = identity.name;
@@ -141,11 +152,13 @@ cell_told names d = do
 
 -- ---- what is told keeps the limits
 
+-- the name and the CPU bitmap that are told are within the limits
 pub record IsIdentity (identity : Identity) : Type 0 where
   pub name : IsTrue (is_name identity.name)
   pub some_cpus : 1 ≤ length identity.cpu_set
   pub cpu_set : length identity.cpu_set ≤ 64
 
+-- the lists that are told are within the limits
 pub record AreLists (lists : Lists) : Type 0 where
   pub memory_regions : length lists.memory_regions ≤ 1024
   pub irqchips : length lists.irqchips ≤ 64
@@ -153,11 +166,13 @@ pub record AreLists (lists : Lists) : Type 0 where
 
 -- ---- a system's members
 
+-- the names of a system's members, in their order
 abbrev pub system_names : List (List ℕ)
 system_names =
     codes "flags" ∷ codes "hypervisor" ∷ codes "debug_console" ∷ codes "mmconfig_base" ∷ codes "end_bus" ∷ codes "is_virtual" ∷ codes "domain"
     ∷ codes "root" ∷ []
 
+-- the memory region that the member of this name tells, all 0 where it is missing
 abbrev pub region_at : List ℕ → Data → Option Region
 region_at name d = told_or region_told no_region (get name d)
 
@@ -171,6 +186,7 @@ abbrev pub root_in : Option Data → Result CellConfig SpecFault
 root_in (Some root) = root_of (cell_told cell_names root)
 root_in None = Err (Member (codes "root"))
 
+-- the cell that the member `root` tells, which must be there; else a fault of root
 abbrev pub root_told : Data → Result CellConfig SpecFault
 root_told d = root_in (get (codes "root") d)
 
@@ -180,6 +196,7 @@ IsFaultInRoot NoMemory found = found ≡ NoMemory
 IsFaultInRoot Json found = IsFaultOf (codes "root") found
 IsFaultInRoot (Member name) found = IsFaultOf (codes "root") found
 
+-- what an object's members tell of a system but root; else the first fault
 unfoldable pub platform_told : Data → Result Platform SpecFault
 platform_told d = do
   flags ← member_told (codes "flags") (u32_at (codes "flags") d)
@@ -200,6 +217,7 @@ platform_told d = do
     root_head = replicate 8 0;
   })
 
+-- the system that its members make
 abbrev pub system_of : Platform → CellConfig → SystemConfig
 system_of platform root = record {
   flags = platform.flags;

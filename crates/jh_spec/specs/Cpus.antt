@@ -5,6 +5,7 @@ use Rattle.serde_json.specs.Data.{Data}
 use Rattle.jh_spec.specs.Json.{list_told}
 use Rattle.jh_spec.specs.Fields.{u64_told}
 
+-- the CPU is one of these
 abbrev pub names_cpu : List ℕ → ℕ → Bool
 names_cpu cpus cpu = list_any (λ other. other == cpu) cpus
 
@@ -32,12 +33,13 @@ pub record AreMarks (limit : ℕ) (cpus : List ℕ) (marks : List Bool) : Type 0
 abbrev pub mark_bit : List Bool → ℕ → ℕ → ℕ
 mark_bit marks place weight = if get_or marks place false then weight else 0
 
+-- the byte of eight marks, from this one on
 abbrev pub mark_byte : List Bool → ℕ → ℕ
 mark_byte marks first =
     mark_bit marks first 1 + mark_bit marks (first + 1) 2 + mark_bit marks (first + 2) 4 + mark_bit marks (first + 3) 8
     + mark_bit marks (first + 4) 16 + mark_bit marks (first + 5) 32 + mark_bit marks (first + 6) 64 + mark_bit marks (first + 7) 128
 
--- so many bytes
+-- the bitmap of these CPUs, of so many bytes
 unfoldable pub bitmap : ℕ → List ℕ → List ℕ
 bitmap zero cpus = []
 bitmap (suc bytes) cpus = bitmap bytes cpus ++ cpu_byte cpus (8 * bytes) ∷ []
@@ -46,5 +48,6 @@ bitmap (suc bytes) cpus = bitmap bytes cpus ++ cpu_byte cpus (8 * bytes) ∷ []
 abbrev pub bitmap_of : ℕ → List ℕ → Option (List ℕ)
 bitmap_of bytes cpus = if are_new (8 * bytes) [] cpus then Some (bitmap bytes cpus) else None
 
+-- the bitmap of so many bytes that a list of CPUs tells
 abbrev pub cpus_told : ℕ → Data → Option (List ℕ)
 cpus_told bytes d = option_and_then (bitmap_of bytes) (list_told u64_told d)

@@ -31,6 +31,7 @@ IsFaultOf name (Member found) = found ≡ name
 IsFaultOf name Json = ⊥
 IsFaultOf name NoMemory = ⊤
 
+-- the answer is the one that is wanted, or want of memory, whichever it is
 abbrev pub IsAnswer : {X : Type 0} → Result X SpecFault → Result X SpecFault → Type 0
 IsAnswer wanted (Ok x) = wanted ≡ Ok x
 IsAnswer wanted (Err NoMemory) = ⊤

@@ -10,45 +10,55 @@ use Rattle.jh_spec.specs.Json.{◌>>=◌, told_or, has_only, number_below, list_
 
 -- ---- numbers that fit their field
 
+-- a whole number of 8 bits
 abbrev pub u8_told : Data → Option ℕ
 u8_told = number_below (2 ^ 8)
 
+-- a whole number of 16 bits
 abbrev pub u16_told : Data → Option ℕ
 u16_told = number_below (2 ^ 16)
 
+-- a whole number of 32 bits
 abbrev pub u32_told : Data → Option ℕ
 u32_told = number_below (2 ^ 32)
 
+-- a whole number of 64 bits
 abbrev pub u64_told : Data → Option ℕ
 u64_told = number_below (2 ^ 64)
 
--- a number's member, which is 0 where it is missing
+-- the number of 8 bits that the member of this name tells, 0 where it is missing
 abbrev pub u8_at : List ℕ → Data → Option ℕ
 u8_at name d = told_or u8_told 0 (get name d)
 
+-- the number of 16 bits that the member of this name tells, 0 where it is missing
 abbrev pub u16_at : List ℕ → Data → Option ℕ
 u16_at name d = told_or u16_told 0 (get name d)
 
+-- the number of 32 bits that the member of this name tells, 0 where it is missing
 abbrev pub u32_at : List ℕ → Data → Option ℕ
 u32_at name d = told_or u32_told 0 (get name d)
 
+-- the number of 64 bits that the member of this name tells, 0 where it is missing
 abbrev pub u64_at : List ℕ → Data → Option ℕ
 u64_at name d = told_or u64_told 0 (get name d)
 
 -- ---- lists
 
--- exactly so many numbers of 32 bits
+-- a list of exactly so many numbers of 32 bits
 abbrev pub words_told : ℕ → Data → Option (List ℕ)
 words_told count d = option_and_then (λ words. if length words == count then Some words else None) (list_told u32_told d)
 
+-- the list of so many numbers of 32 bits that the member of this name tells, zeros where it is missing
 abbrev pub words_at : ℕ → List ℕ → Data → Option (List ℕ)
 words_at count name d = told_or (words_told count) (replicate count 0) (get name d)
 
 -- ---- records: objects with these names alone, each of a member that tells its field
 
+-- the names of a memory region's members
 abbrev pub region_names : List (List ℕ)
 region_names = codes "phys" ∷ codes "virt" ∷ codes "size" ∷ codes "flags" ∷ []
 
+-- the memory region that an object's members tell, whatever other names it has
 abbrev pub region_members : Data → Option Region
 region_members d = do
   phys ← u64_at (codes "phys") d
@@ -57,12 +67,15 @@ region_members d = do
   flags ← u64_at (codes "flags") d
   Some (record { phys_start = phys; virt_start = virt; size = size; flags = flags })
 
+-- the memory region that an object tells, where it has these names alone
 abbrev pub region_told : Data → Option Region
 region_told d = if has_only region_names d then region_members d else None
 
+-- the names of an interrupt controller's members
 abbrev pub irqchip_names : List (List ℕ)
 irqchip_names = codes "address" ∷ codes "id" ∷ codes "pin_base" ∷ codes "bitmap" ∷ []
 
+-- the interrupt controller that an object's members tell, whatever other names it has
 abbrev pub irqchip_members : Data → Option Irqchip
 irqchip_members d = do
   address ← u64_at (codes "address") d
@@ -71,9 +84,11 @@ irqchip_members d = do
   bitmap ← words_at 4 (codes "bitmap") d
   Some (record { address = address; id = id; pin_base = pin_base; pin_bitmap = bitmap })
 
+-- the interrupt controller that an object tells, where it has these names alone
 abbrev pub irqchip_told : Data → Option Irqchip
 irqchip_told d = if has_only irqchip_names d then irqchip_members d else None
 
+-- the names of a PCI device's members
 abbrev pub device_names : List (List ℕ)
 device_names =
     codes "kind" ∷ codes "iommu" ∷ codes "domain" ∷ codes "bdf" ∷ codes "bar_mask" ∷ codes "caps_start"
@@ -81,6 +96,7 @@ device_names =
     ∷ codes "msix_region_size" ∷ codes "msix_address" ∷ codes "shmem_regions_start" ∷ codes "shmem_dev_id"
     ∷ codes "shmem_peers" ∷ codes "shmem_protocol" ∷ []
 
+-- the PCI device that an object's members tell, whatever other names it has
 abbrev pub device_members : Data → Option PciDevice
 device_members d = do
   kind ← u8_at (codes "kind") d
@@ -118,12 +134,15 @@ device_members d = do
     shmem_protocol = shmem_protocol;
   })
 
+-- the PCI device that an object tells, where it has these names alone
 abbrev pub device_told : Data → Option PciDevice
 device_told d = if has_only device_names d then device_members d else None
 
+-- the names of a console's members
 abbrev pub console_names : List (List ℕ)
 console_names = codes "address" ∷ codes "size" ∷ codes "kind" ∷ codes "flags" ∷ codes "divider" ∷ codes "gate_nr" ∷ codes "clock_reg" ∷ []
 
+-- the console that an object's members tell, whatever other names it has
 abbrev pub console_members : Data → Option Console
 console_members d = do
   address ← u64_at (codes "address") d
@@ -143,5 +162,6 @@ console_members d = do
     clock_reg = clock_reg;
   })
 
+-- the console that an object tells, where it has these names alone
 abbrev pub console_told : Data → Option Console
 console_told d = if has_only console_names d then console_members d else None

@@ -37,6 +37,7 @@ abbrev pub first_unlisted : List (List ℕ) → Members → Option (List ℕ)
 first_unlisted names no_members = None
 first_unlisted names (member name d ms) = if is_listed names name then first_unlisted names ms else Some name
 
+-- the first name that isn't listed, where the value is an object and has one
 abbrev pub unlisted : List (List ℕ) → Data → Option (List ℕ)
 unlisted names d = option_and_then (first_unlisted names) (as_object d)
 
@@ -61,13 +62,15 @@ abbrev pub items_told : {X : Type 0} → (Data → Option X) → Items → Optio
 items_told tells no_items = Some []
 items_told tells (item d ds) = option_and_then (λ x. option_map (λ xs. x ∷ xs) (items_told tells ds)) (tells d)
 
+-- what each item of a list tells, where all tell something
 abbrev pub list_told : {X : Type 0} → (Data → Option X) → Data → Option (List X)
 list_told tells d = option_and_then (items_told tells) (as_array d)
 
--- a list of at most so many
+-- the list, where it has at most so many items
 abbrev pub at_most : {X : Type 0} → ℕ → List X → Option (List X)
 at_most most xs = if nat_le (length xs) most then Some xs else None
 
+-- what each item of a list of at most so many tells, where all tell something
 abbrev pub short_list_told : {X : Type 0} → (Data → Option X) → ℕ → Data → Option (List X)
 short_list_told tells most d = option_and_then (at_most most) (list_told tells d)
 

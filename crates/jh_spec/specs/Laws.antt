@@ -30,18 +30,21 @@ AreWordsOf count name d words =
     ((get name d ≡ None) × (words ≡ replicate count 0))
     ⊎ ((value : Data) × (get name d ≡ Some value) × (list_told u32_told value ≡ Some words) × (length words ≡ count))
 
+-- the fields of the memory region are those that the object's members tell
 pub record IsRegionOf (d : Data) (region : Region) : Type 0 where
   pub phys_start : IsNumberOf 64 (codes "phys") d region.phys_start
   pub virt_start : IsNumberOf 64 (codes "virt") d region.virt_start
   pub size : IsNumberOf 64 (codes "size") d region.size
   pub flags : IsNumberOf 64 (codes "flags") d region.flags
 
+-- the fields of the interrupt controller are those that the object's members tell
 pub record IsIrqchipOf (d : Data) (irqchip : Irqchip) : Type 0 where
   pub address : IsNumberOf 64 (codes "address") d irqchip.address
   pub id : IsNumberOf 32 (codes "id") d irqchip.id
   pub pin_base : IsNumberOf 32 (codes "pin_base") d irqchip.pin_base
   pub pin_bitmap : AreWordsOf 4 (codes "bitmap") d irqchip.pin_bitmap
 
+-- the fields of the PCI device are those that the object's members tell
 pub record IsDeviceOf (d : Data) (device : PciDevice) : Type 0 where
   pub kind : IsNumberOf 8 (codes "kind") d device.kind
   pub iommu : IsNumberOf 8 (codes "iommu") d device.iommu
@@ -60,6 +63,7 @@ pub record IsDeviceOf (d : Data) (device : PciDevice) : Type 0 where
   pub shmem_peers : IsNumberOf 8 (codes "shmem_peers") d device.shmem_peers
   pub shmem_protocol : IsNumberOf 16 (codes "shmem_protocol") d device.shmem_protocol
 
+-- the fields of the console are those that the object's members tell
 pub record IsConsoleOf (d : Data) (console : Console) : Type 0 where
   pub address : IsNumberOf 64 (codes "address") d console.address
   pub size : IsNumberOf 32 (codes "size") d console.size
@@ -69,7 +73,8 @@ pub record IsConsoleOf (d : Data) (console : Console) : Type 0 where
   pub gate_nr : IsNumberOf 32 (codes "gate_nr") d console.gate_nr
   pub clock_reg : IsNumberOf 64 (codes "clock_reg") d console.clock_reg
 
--- a cell's fields; its lists are told item by item, and what a SPEC doesn't tell is empty
+-- the fields of the cell are those that the object's members tell; its lists are told item by item, and what a SPEC
+-- doesn't tell is empty
 pub record IsCellOf (d : Data) (cell : CellConfig) : Type 0 where
   pub name : cell_name d ≡ Some cell.name
   pub id : IsNumberOf 32 (codes "id") d cell.id
@@ -87,6 +92,7 @@ pub record IsCellOf (d : Data) (cell : CellConfig) : Type 0 where
   pub pci_caps : cell.pci_caps ≡ []
   pub stream_ids : cell.stream_ids ≡ []
 
+-- the fields of the system are those that the object's members tell; the head of root is zeros
 pub record IsSystemOf (d : Data) (system : SystemConfig) : Type 0 where
   pub flags : IsNumberOf 32 (codes "flags") d system.flags
   pub hypervisor_memory : region_at (codes "hypervisor") d ≡ Some system.hypervisor_memory
@@ -105,6 +111,7 @@ abbrev pub blamed : List (List ℕ × Bool) → Option (List ℕ) → Option (Li
 blamed [] other = other
 blamed (member ∷ members) other = if member.1 then Some member.0 else blamed members other
 
+-- a cell's members of its name, id, flags and CPU bitmap, each with whether it is at fault
 abbrev pub identity_members : Data → List (List ℕ × Bool)
 identity_members d =
     (codes "name", is_none (cell_name d))
@@ -114,6 +121,7 @@ identity_members d =
     ∷ (codes "cpus", option_map_or (λ bytes. is_none (cpu_set_in bytes d)) (cpu_set_size d) false)
     ∷ []
 
+-- a cell's members that are lists, each with whether it is at fault
 abbrev pub lists_members : Data → List (List ℕ × Bool)
 lists_members d =
     (codes "regions", is_none (list_at region_told 1024 (codes "regions") d))
@@ -121,6 +129,7 @@ lists_members d =
     ∷ (codes "devices", is_none (list_at device_told 256 (codes "devices") d))
     ∷ []
 
+-- a cell's other members, each with whether it is at fault
 abbrev pub settings_members : Data → List (List ℕ × Bool)
 settings_members d =
     (codes "vpci_irq_base", is_none (u32_at (codes "vpci_irq_base") d))
@@ -133,6 +142,7 @@ settings_members d =
 abbrev pub cell_members : Data → List (List ℕ × Bool)
 cell_members d = identity_members d ++ (lists_members d ++ settings_members d)
 
+-- a system's members but root, each with whether it is at fault
 abbrev pub platform_members : Data → List (List ℕ × Bool)
 platform_members d =
     (codes "flags", is_none (u32_at (codes "flags") d))
@@ -148,6 +158,7 @@ platform_members d =
 abbrev pub root_member : Data → List ℕ × Bool
 root_member d = (codes "root", option_map_or (λ root. is_err (cell_told cell_names root)) (get (codes "root") d) true)
 
+-- a system's members in the order of its table, each with whether it is at fault
 abbrev pub system_members : Data → List (List ℕ × Bool)
 system_members d = platform_members d ++ root_member d ∷ []
 

@@ -15,20 +15,22 @@ use Rattle.jh_spec.specs.Json.{IsText}
 use Rattle.jh_spec.specs.Faults.{◌>>=◌}
 use Rattle.jh_spec.specs.Cells.{cell_names, cell_told, system_told}
 
+-- the kind that the text names
 abbrev pub kind_named : List ℕ → Option Kind
 kind_named text =
     if pointwise nat_eq text (codes "cell") then Some Cell
     else (if pointwise nat_eq text (codes "system") then Some System
     else None)
 
--- the kind, which must be there
+-- the kind that the member `kind` tells, which must be there
 abbrev pub kind_told : Data → Option Kind
 kind_told d = option_and_then kind_named (option_and_then as_str (get (codes "kind") d))
 
--- a cell's names, with its kind
+-- the names of a cell's members, with that of its kind
 abbrev pub names_with_kind : List (List ℕ)
 names_with_kind = codes "kind" ∷ cell_names
 
+-- what an object tells, where it is of this kind
 abbrev pub told_by : Option Kind → Data → Result Spec SpecFault
 told_by (Some Cell) d = cell_told names_with_kind d >>= λ config. Ok (CellSpec config)
 told_by (Some System) d = system_told d >>= λ config. Ok (SystemSpec config)
@@ -38,6 +40,7 @@ told_by None d = Err (Member (codes "kind"))
 abbrev pub object_told : Data → Result Spec SpecFault
 object_told d = told_by (kind_told d) d
 
+-- what a value tells, which must be an object
 abbrev pub spec_told : Data → Result Spec SpecFault
 spec_told d = if is_some (as_object d) then object_told d else Err Json
 

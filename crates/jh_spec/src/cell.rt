@@ -20,14 +20,14 @@ use jh_num::{NoMemory, Seq};
 use serde_json::Value;
 use std::alloc::Global;
 
-/// What the member of this name tells, or its fault.
+/// What the object's member of this name tells, or what stands for a missing one; else the member is at fault.
 pub fn field<T: FromJson + Drop>(alloc: Global, object: &Value, name: &str) -> Result<T, SpecFault>
     ensures { IsAsWanted (member_told name.now (told_or T.tells T.missing (get name.now (view object.now)))) result }
 {
     named(alloc, name, member(object, name))
 }
 
-/// No name is unlisted.
+/// Whether all names of the object are among these; else the least that isn't, in order of bytes, is at fault.
 pub fn all_listed(alloc: Global, object: &Value, names: &[&str]) -> Result<(), SpecFault>
     ensures { IsAsWanted (all_listed (map (λ name. name.now) names.now) (view object.now)) result }
 {
@@ -56,6 +56,8 @@ struct Identity {
     cpu_set: Seq<u8>,
 }
 
+/// The name, the id, the flags and the CPUs that a cell's members tell, or the first fault among them, in the order of
+/// the members.
 fn identity_of(alloc: Global, object: &Value) -> Result<Identity, SpecFault>
     ensures told { IsAsWanted (identity_told (view object.now)) result }
     ensures limits { IfOk result IsIdentity }
@@ -81,6 +83,7 @@ struct Lists {
     pci_devices: Seq<PciDevice>,
 }
 
+/// The regions, irqchips and devices that a cell's members tell: at most 1,024, 64 and 256 of them.
 fn lists_of(alloc: Global, object: &Value) -> Result<Lists, SpecFault>
     ensures told { IsAsWanted (lists_told (view object.now)) result }
     ensures limits { IfOk result AreLists }
@@ -104,6 +107,7 @@ struct Settings {
     console: [u8; 32],
 }
 
+/// What a cell's members behind its lists tell, or the first fault among them.
 fn settings_of(alloc: Global, object: &Value) -> Result<Settings, SpecFault>
     ensures { IsAsWanted (settings_told (view object.now)) result }
 {

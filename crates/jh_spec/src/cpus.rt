@@ -10,7 +10,7 @@ use jh_num::{NoMemory, Seq};
 use serde_json::Value;
 use std::alloc::Global;
 
-/// The bytes of the CPU bitmap: 1 to 64, and 8 where nothing is said.
+/// How many bytes the CPU bitmap has: the member `cpu_set_size`, 1 to 64, or 8 where it is missing.
 pub fn cpu_set_size(object: &Value) -> Option<u32>
     ensures value { result ≡ cpu_set_size (view object.now) }
     ensures some { IfSome result (λ bytes. 0 < bytes) }
@@ -22,6 +22,7 @@ pub fn cpu_set_size(object: &Value) -> Option<u32>
     }
 }
 
+/// How many bytes of a CPU bitmap the value tells: a whole number from 1 to 64.
 fn size_told(value: &Value) -> Option<u32>
     ensures value { result ≡ size_told (view value.now) }
     ensures some { IfSome result (λ bytes. 0 < bytes) }
@@ -54,6 +55,7 @@ fn marks(alloc: Global, limit: usize, cpus: &[u64]) -> Result<Option<Vec<bool>>,
     Ok(Some(marks))
 }
 
+/// The weight where the CPU is marked, else 0.
 fn bit(mark: bool, weight: u8) -> u8
     ensures value { result ≡ (if mark then weight else 0) }
     ensures most { result ≤ weight }
@@ -92,7 +94,8 @@ fn bitmap_of(alloc: Global, bytes: usize, cpus: &[u64]) -> Result<Option<Seq<u8>
     Ok(Some(Seq::from_vec(bitmap)))
 }
 
-/// The CPU bitmap that the list of CPUs tells, in so many bytes.
+/// The CPU bitmap of `bytes` bytes that the member `cpus` tells; `None` where it isn't a list of CPUs below 8 times
+/// `bytes`, none twice. A missing list names no CPU.
 pub fn cpu_set(alloc: Global, object: &Value, bytes: u32) -> Result<Option<Seq<u8>>, NoMemory>
     requires { bytes ≤ 64 }
     ensures told { IfOk result (λ told. told ≡ cpu_set_in bytes (view object.now)) }

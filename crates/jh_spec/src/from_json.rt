@@ -14,14 +14,16 @@ pub trait FromJson: Copy {
     /// What stands for a missing member.
     ghost missing: { Self };
 
+    /// What the value tells; `None` where it tells nothing of this kind.
     fn from_json(value: &Value) -> Option<Self>
         ensures { result ≡ tells (view value.now) };
 
+    /// What stands for a missing member: 0, and in a record or a list 0 in each place.
     fn missing() -> Self
         ensures { result ≡ missing };
 }
 
-/// What the member of this name tells, or what stands for a missing one.
+/// What the object's member of this name tells, or what stands for a missing one; `None` where the member is at fault.
 pub fn member<T: FromJson>(object: &Value, name: &str) -> Option<T>
     ensures { result ≡ told_or T.tells T.missing (get name.now (view object.now)) }
 {

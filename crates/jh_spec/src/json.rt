@@ -8,21 +8,21 @@ ghost use Rattle.jh_spec.specs.Json.{told_at, first_unlisted, unlisted, has_only
 
 use serde_json::{Map, Value};
 
-/// The text that the member of this name is.
+/// The text that the object's member of this name is; `None` where it is missing or no text.
 pub fn text_at<'v>(object: &'v Value, name: &str) -> Option<&'v str>
     ensures { option_map (λ text. text.now) result ≡ told_at as_str name.now (view object.now) }
 {
     object.get(name)?.as_str()
 }
 
-/// The whole number that the member of this name is.
+/// The whole number below 2^64 that the object's member of this name is; `None` where it is missing or no such number.
 pub fn number_at(object: &Value, name: &str) -> Option<u64>
     ensures { result ≡ told_at number_told name.now (view object.now) }
 {
     object.get(name)?.as_u64()
 }
 
-/// A whole number below the limit.
+/// The whole number below the limit that the value is; `None` where it is none.
 pub fn number_below(value: &Value, limit: u64) -> Option<u64>
     ensures value { result ≡ number_below limit (view value.now) }
     ensures below { IfSome result (λ number. number < limit) }
@@ -38,7 +38,7 @@ fn is_listed(names: &[&str], name: &str) -> bool
     names.iter().any(|listed| *listed == name)
 }
 
-/// The first of an object's names that isn't listed.
+/// The least of an object's names, in order of bytes, that isn't listed.
 fn first_unlisted_of<'v>(members: &'v Map<String, Value>, names: &[&str]) -> Option<&'v str>
     ensures { option_map (λ name. name.now) result ≡ first_unlisted (map (λ listed. listed.now) names.now) (members_view members.now.entries) }
 {
@@ -50,7 +50,7 @@ fn first_unlisted_of<'v>(members: &'v Map<String, Value>, names: &[&str]) -> Opt
     None
 }
 
-/// The first name of an object that isn't listed.
+/// The least name of an object, in order of bytes, that isn't listed; `None` where the value is no object.
 pub fn first_unlisted<'v>(object: &'v Value, names: &[&str]) -> Option<&'v str>
     ensures { option_map (λ name. name.now) result ≡ unlisted (map (λ listed. listed.now) names.now) (view object.now) }
 {

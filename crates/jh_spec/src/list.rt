@@ -8,7 +8,7 @@ use jh_num::{NoMemory, Seq};
 use serde_json::Value;
 use std::alloc::Global;
 
-/// What each item of a list tells, where all tell something.
+/// What each item of the list tells; `None` where the value is no list, or an item tells nothing.
 pub fn list<T: FromJson>(alloc: Global, value: &Value) -> Result<Option<Seq<T>>, NoMemory>
     ensures { IfOk result (λ told. told ≡ list_told T.tells (view value.now)) }
 {
@@ -25,7 +25,8 @@ pub fn list<T: FromJson>(alloc: Global, value: &Value) -> Result<Option<Seq<T>>,
     Ok(Some(Seq::from_vec(list)))
 }
 
-/// The list of this name, of at most so many items; an empty one where it is missing.
+/// What the list in the member of this name tells, of at most `most` items: an empty one where the member is missing,
+/// `None` where it is at fault.
 pub fn list_at<T: FromJson>(
     alloc: Global,
     object: &Value,

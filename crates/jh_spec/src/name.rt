@@ -20,7 +20,8 @@ fn name_of(text: &[u8]) -> Option<[u8; 32]>
     if is_name(&whole) { Some(whole) } else { None }
 }
 
-/// The name of a cell, which must be there.
+/// The name that the member `name` tells, 1 to 31 characters from 0x20 to 0x7e, with zero bytes behind it; `None` where
+/// it is missing or tells none.
 pub fn cell_name(object: &Value) -> Option<[u8; 32]>
     ensures told { result ≡ cell_name (view object.now) }
     ensures limits { IfSome result (λ name. IsTrue (is_name name)) }

@@ -46,7 +46,7 @@ enum Kind {
     System,
 }
 
-/// The names of a cell's members behind its kind.
+/// The names of a cell's members, its kind first.
 const NAMES: [&str; 13] = [
     "kind",
     "name",
@@ -63,7 +63,8 @@ const NAMES: [&str; 13] = [
     "console",
 ];
 
-/// Reads a SPEC, all of the bytes.
+/// Reads a SPEC, all of the bytes: a JSON text of one object that tells a cell or a system, by its member `kind`. A
+/// refusal names the member at fault.
 pub fn read_spec(alloc: Global, bytes: &[u8]) -> Result<Spec, SpecFault>
     ensures told { IsSpecAnswer bytes.now result }
     ensures limits { IfOk result MayBeWritten }
@@ -84,6 +85,7 @@ fn spec_of(alloc: Global, object: &Value) -> Result<Spec, SpecFault>
     }
 }
 
+/// The kind that the object's member `kind` names: `cell` or `system`.
 fn kind_of(object: &Value) -> Option<Kind>
     ensures { result ≡ kind_told (view object.now) }
 {

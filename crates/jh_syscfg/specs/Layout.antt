@@ -6,13 +6,13 @@ use Rattle.jh_cellcfg.specs.Widths.{IsRegion, IsConsole, IsCell}
 use Rattle.jh_cellcfg.specs.Limits.{IsWithinLimits}
 use Rattle.jh_syscfg.specs.declared.platform.Platform.{Platform}
 
--- what stands between the revision and root's name: 88 bytes
+-- the 88 bytes between the revision and root's name
 abbrev pub platform_bytes : Platform → List ℕ
 platform_bytes p =
     u32_bytes p.flags ++ (region_bytes p.hypervisor_memory ++ (console_bytes p.debug_console ++ (u64_bytes p.pci_mmconfig_base
     ++ (u8_bytes p.pci_mmconfig_end_bus ++ (u8_bytes p.pci_is_virtual ++ (u16_bytes p.pci_domain ++ p.root_head))))))
 
--- a system's fields but root
+-- the fields of a system but root
 abbrev pub platform_of : SystemConfig → Platform
 platform_of s = record {
   flags = s.flags;
@@ -29,7 +29,7 @@ platform_of s = record {
 abbrev pub system_spelling : SystemConfig → List ℕ
 system_spelling s = codes "JHSYST" ++ (u16_bytes 13 ++ (platform_bytes (platform_of s) ++ body_bytes s.root))
 
--- the fields' values have their types
+-- the fields of a system but root have the values of their types
 pub record IsPlatform (p : Platform) : Type 0 where
   pub flags : p.flags < 2 ^ 32
   pub hypervisor_memory : IsRegion p.hypervisor_memory
@@ -40,6 +40,7 @@ pub record IsPlatform (p : Platform) : Type 0 where
   pub pci_domain : p.pci_domain < 2 ^ 16
   pub root_head : length p.root_head ≡ 8
 
+-- the fields of the system's configuration have the values of their types
 pub record IsSystem (s : SystemConfig) : Type 0 where
   pub platform : IsPlatform (platform_of s)
   pub root : IsCell s.root

@@ -61,6 +61,7 @@ fn check_start(bytes: &[u8]) -> Result<(), ConfigFault>
     Ok(())
 }
 
+/// Reads a system's configuration, all of the bytes, or tells their first fault.
 fn read_whole(alloc: Global, bytes: &[u8]) -> Result<SystemConfig, ConfigFault>
     ensures typed { IfOk result IsSystem }
     ensures limits { IfOk result IsSystemWithinLimits }

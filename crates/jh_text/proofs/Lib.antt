@@ -4,6 +4,7 @@ pub mod Digits
 pub mod EveryText
 pub mod Lines
 pub mod Numbers
+pub mod Plain
 pub mod Spellings
 pub mod Splits
 pub mod Texts

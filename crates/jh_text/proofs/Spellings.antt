@@ -32,7 +32,7 @@ plain [] n all some read = absurd (omega arith)
 plain (d ∷ ds) n all some read = rw (ne_eqb d 45 (λ e. omega (arith, all.0, ap digit_value e)), read) refl
 
 minus : (n : ℕ) → suc n ≤ 2 ^ 63 → negative (suc n) ≡ Some (negsuc n)
-minus n fits = rw (le-leb (suc n) (2 ^ 63) fits) (ap Some (omega (arith, ints)))
+minus n fits = rw (ne_eqb (suc n) 0 (λ e. omega arith), le-leb (suc n) (2 ^ 63) fits) (ap Some (omega (arith, ints)))
 
 pub answer_again : (z : ℤ) → FitsSigned w64 z → answer_of (signed_decimal z) ≡ Some z
 unfolding answer_of

@@ -39,6 +39,7 @@ pub(crate) fn heard_word(how: Heard) -> &'static str
 pub(crate) fn read_got(most: u64, word: &[u8]) -> Option<Option<u64>>
     ensures value { result ≡ got_of most word.now }
     ensures bound { IfSome result (λ got. IfSome got (λ value. value ≤ most)) }
+    ensures spelled { IfSome result (λ got. word.now ≡ got_text got) }
 {
     if is(word, "violation") {
         return Some(None);
@@ -49,7 +50,8 @@ pub(crate) fn read_got(most: u64, word: &[u8]) -> Option<Option<u64>>
 
 #[tactic(auto, unfolding(crate::specs::Private::Reading::ok_of))]
 pub(crate) fn read_ok(word: &[u8]) -> Option<bool>
-    ensures { result ≡ ok_of word.now }
+    ensures value { result ≡ ok_of word.now }
+    ensures spelled { IfSome result (λ ok. word.now ≡ ok_text ok) }
 {
     if is(word, "ok") {
         return Some(true);
@@ -65,6 +67,7 @@ pub(crate) fn read_ok(word: &[u8]) -> Option<bool>
 pub(crate) fn read_decision(word: &[u8]) -> Option<Option<i64>>
     ensures value { result ≡ decision_of word.now }
     ensures fits { IfSome result (λ refused. IfSome refused (FitsSigned w64)) }
+    ensures spelled { IfSome result (λ refused. word.now ≡ decision_text refused) }
 {
     if is(word, "go") {
         return Some(None);
@@ -75,7 +78,8 @@ pub(crate) fn read_decision(word: &[u8]) -> Option<Option<i64>>
 
 #[tactic(auto, unfolding(crate::specs::Private::Reading::settled_of))]
 pub(crate) fn read_settled(word: &[u8]) -> Option<Settled>
-    ensures { result ≡ settled_of word.now }
+    ensures value { result ≡ settled_of word.now }
+    ensures spelled { IfSome result (λ how. word.now ≡ settled_text how) }
 {
     if is(word, "agreed") {
         return Some(Settled::Agreed);
@@ -91,7 +95,8 @@ pub(crate) fn read_settled(word: &[u8]) -> Option<Settled>
 
 #[tactic(auto, unfolding(crate::specs::Private::Reading::heard_of))]
 pub(crate) fn read_heard(word: &[u8]) -> Option<Heard>
-    ensures { result ≡ heard_of word.now }
+    ensures value { result ≡ heard_of word.now }
+    ensures spelled { IfSome result (λ how. word.now ≡ heard_text how) }
 {
     if is(word, "received") {
         return Some(Heard::Received);

@@ -32,7 +32,7 @@ pub fn print_journal(alloc: Global, journal: &Journal) -> Result<Vec<u8>, NoMemo
 }
 
 /// Puts the text of the entry at the end.
-pub(crate) fn push_entry(text: &mut Vec<u8>, entry: &Entry) -> Result<(), NoMemory>
+fn push_entry(text: &mut Vec<u8>, entry: &Entry) -> Result<(), NoMemory>
     ensures { OnOk result (text.new.items ≡ text.old.items ++ entry_text entry.now) }
 {
     push_decimal(text, u64::from(entry.cpu))?;

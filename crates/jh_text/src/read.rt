@@ -1,17 +1,14 @@
 //! From a text to its entries.
 ghost use Rattle.std.specs.Prelude.{◌≡◌, ◌≢◌, ◌++◌, ◌↔◌, ℕ, List, length, IsTrue, IfOk, IfErr, IfSome, IfNone, IsOkAnd};
 ghost use Rattle.jh_history.specs.declared.entry.Entry.{Entry};
-ghost use Rattle.std.specs.Str.{bytes_eq};
-ghost use Rattle.jh_text.specs.Text.{entry_text, line};
+ghost use Rattle.jh_text.specs.Text.{line};
 ghost use Rattle.jh_text.specs.Ranges.{IsReadable};
 ghost use Rattle.jh_text.specs.Faults.{BeginsWithNoLine, IsFault, IsFirstBadLine, IsJournalText, IsTooLong};
 
 use crate::entries::entry;
 use crate::fault::{JournalFault, MAX_ENTRIES};
-use crate::print::push_entry;
-use crate::words::{is, split_once};
+use crate::words::split_once;
 use jh_history::{Entry, Journal};
-use jh_num::NoMemory;
 use std::alloc::Global;
 
 /// The journal whose text this is. An entry's numbers are within their ranges where the CPU is below 16, ids and
@@ -36,35 +33,15 @@ pub fn read_journal(alloc: Global, text: &[u8]) -> Result<Journal, JournalFault>
 }
 
 /// The entry of the first line, and what stands behind the line; `None` where the text begins with the
-/// line of no entry. What `printed` holds before and after doesn't matter.
-fn first_line<'a>(
-    printed: &mut Vec<u8>,
-    text: &'a [u8],
-) -> Result<Option<(Entry, &'a [u8])>, NoMemory>
-    ensures readable { IfOk result (λ found. IfSome found (λ x. IsReadable x.0)) }
-    ensures whole { IfOk result (λ found. IfSome found (λ x. text.now ≡ line x.0 ++ x.1.now)) }
-    ensures none { IfOk result (λ found. IfNone found (BeginsWithNoLine text.now)) }
+/// line of no entry.
+fn first_line(text: &[u8]) -> Option<(Entry, &[u8])>
+    ensures readable { IfSome result (λ x. IsReadable x.0) }
+    ensures whole { IfSome result (λ x. text.now ≡ line x.0 ++ x.1.now) }
+    ensures none { IfNone result (BeginsWithNoLine text.now) }
 {
-    let Some((front, rest)) = split_once(text, b'\n') else {
-        return Ok(None);
-    };
-    let Some(entry) = entry(front) else {
-        return Ok(None);
-    };
-    let same = is_text_of(printed, &entry, front)?;
-    if !same {
-        return Ok(None);
-    }
-    Ok(Some((entry, rest)))
-}
-
-/// Whether this is the entry's text, which is printed for it.
-fn is_text_of(printed: &mut Vec<u8>, entry: &Entry, text: &[u8]) -> Result<bool, NoMemory>
-    ensures { IfOk result (λ same. same ≡ bytes_eq text.now (entry_text entry.now)) }
-{
-    printed.clear();
-    push_entry(printed, entry)?;
-    Ok(text == printed.as_slice())
+    let (front, rest) = split_once(text, b'\n')?;
+    let entry = entry(front)?;
+    Some((entry, rest))
 }
 
 /// Whether the journal has as many entries as it may.
@@ -80,10 +57,9 @@ fn entries(alloc: Global, text: &[u8]) -> Result<Journal, JournalFault>
     ensures err { IfErr result (IsFault text.now) }
 {
     let mut journal = Journal::new(alloc);
-    let mut printed = Vec::new(alloc);
     let mut rest = text;
     while !rest.is_empty() {
-        let Some((entry, after)) = first_line(&mut printed, rest)? else {
+        let Some((entry, after)) = first_line(rest) else {
             return Err(JournalFault::Line {
                 number: journal.len() as u32 + 1,
             });

@@ -10,7 +10,7 @@ module _ {E : Type 0} (whose : E → ℕ) where
   abbrev pub Grows : ℕ → List E → List E → Type 0
   Grows who before after = (after ≡ before) ⊎ ((e : E) × (whose e ≡ who) × (after ≡ before ++ e ∷ []))
 
-  -- one entry of the caller, or none
+  -- what was made is one entry of the caller, or none
   abbrev pub IsMadeBy : ℕ → List E → Type 0
   IsMadeBy who made = (made ≡ []) ⊎ ((e : E) × (whose e ≡ who) × (made ≡ e ∷ []))
 

@@ -10,6 +10,7 @@ use Rattle.jh_turn.specs.Rule.{Slot, view}
 use Rattle.jh_turn.specs.Ports.{opened_value, all_callers, seen_by, IsPortOf}
 
 module _ {T E A : Type 0} where
+  -- the object was opened with this value, for these callers
   abbrev pub IsOpenedAs : T → List ℕ → Shared T E A → Type 0
   IsOpenedAs value callers shared = (opened_value shared ≡ value) × (all_callers shared ≡ callers)
 

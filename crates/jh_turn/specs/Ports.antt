@@ -15,6 +15,7 @@ module _ {T E A : Type 0} where
   all_callers shared = shared.table.shared.key.callers.items
 
 module _ {T E A : Type 0} {G : Ghosts T E A} where
+  -- the caller of the port
   abbrev pub port_caller : Port T E A G → ℕ
   port_caller port = port.caller
 

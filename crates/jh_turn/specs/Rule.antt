@@ -12,10 +12,11 @@ use Rattle.jh_turn.specs.declared.rule.Opening.{Opening}
 use Rattle.jh_turn.specs.Histories.{entries_of}
 use Rattle.jh_turn.specs.Hands.{hand, caller_of, seen_of}
 
+-- the number that word 0 has where no caller holds the turn: callers have lower ones
 abbrev pub free : ℕ
 free = 256
 
--- what lies in the slot
+-- what lies in the slot: the value, or nothing while it is out
 abbrev pub Slot : Type 0 → Type 0
 Slot T = Option (Box T Global)
 
@@ -24,21 +25,23 @@ abbrev pub Seated : Type 0 → Type 0 → Type 0
 Seated T E = Me (Slot T) (View T E)
 
 module _ {T E : Type 0} where
+  -- what a seat knows: the opened value, its hands, and whether it holds the turn
   abbrev pub view : Option T → List (Hand E) → Bool → View T E
   view opened hands holding = record { opened = opened; hands = hands; holding = holding }
 
-  -- the seat gives its first hand away
+  -- what the seat knows that has given its first hand away
   abbrev pub without_first : View T E → View T E
   without_first v = view v.opened (drop 1 v.hands) v.holding
 
-  -- and the new seat has it
+  -- what the new seat knows that got the first hand alone, without the turn
   abbrev pub only_first : View T E → View T E
   only_first v = view v.opened (take 1 v.hands) false
 
-  -- the seat has the hands of both
+  -- what the seat knows that has the hands of both
   abbrev pub together : View T E → View T E → View T E
   together v w = view v.opened (v.hands ++ w.hands) v.holding
 
+  -- what a seat knows that has no hands any more
   abbrev pub spent_view : View T E
   spent_view = view None [] false
 
@@ -55,6 +58,7 @@ module _ {T E : Type 0} where
     pub holds_it : holder.holding ≡ true
     pub one_holds : (j : ℕ) (v : View T E) → get_elem? s.views j ≡ maybe.some v → v.holding ≡ true → j ≡ seat
 
+  -- the seat gives the turn up, and the first thing that it had in hand
   abbrev pub releases : Seated T E → Seated T E → Type 0
   releases before after = after ≡ (view before.0.opened before.0.hands false, rest before.1)
 
@@ -86,6 +90,7 @@ module _ {E : Type 0} (whose : E → ℕ) where
     pub own : entries_of whose h.caller log ≡ entries_of whose h.caller h.seen
 
 module _ {T E : Type 0} (whose : E → ℕ) where
+  -- what the seat knows is so: the opened value, if it knows one, and each of its hands
   pub record Fits (opened : T) (callers : List ℕ) (log : List E) (owner : ℕ → ℕ) (seat : ℕ) (v : View T E) : Type 0 where
     pub same : (x : T) → v.opened ≡ Some x → x ≡ opened
     pub each_hand : (h : Hand E) → Contains v.hands h → HandFits whose callers log owner seat h
@@ -111,6 +116,6 @@ module _ {T E O : Type 0} (whose : E → ℕ) (origin : T → O) (serves : O →
     pub serves_it : serves (origin value.value) who
     pub same_origin : (x : T) → before.0.opened ≡ Some x → origin value.value ≡ origin x
 
-  -- the first operand is `free`, the second the caller
+  -- the caller has the turn where the step found it free; else the seat is as before
   abbrev pub claims : Step (Slot T) → Seated T E → ℕ → Seated T E → Type 0
   claims step before found after = (found ≡ free → Claimed step.second before after) × (found ≢ free → after ≡ before)

@@ -2,10 +2,13 @@
 use crate::shared::{Port, Shared};
 use crate::turner::Turner;
 
+/// Takes any value that may be sent to another thread, and does nothing.
 fn may_be_sent<X: Send>(_x: &X) {}
 
+/// Takes any value that several threads may use at a time, and does nothing.
 fn may_be_lent<X: Sync>(_x: &X) {}
 
+/// The object may be sent to other threads and used by several at a time, and a port may be sent. It does nothing.
 fn may_cross<T: Turner + Send>(shared: &Shared<T>, port: &Port<T>) {
     may_be_sent(shared);
     may_be_lent(shared);

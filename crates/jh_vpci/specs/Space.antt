@@ -10,15 +10,15 @@ pub record Space : Type 0 where
   pub memory : Bool
   -- command, bit 2: the function may send MSI-X vectors
   pub bus_master : Bool
-  -- command, bit 10
+  -- command, bit 10: the function's interrupts are off
   pub interrupts_off : Bool
   pub bar0 : ℕ
   pub bar1 : ℕ
-  -- privileged control, bit 0
+  -- privileged control, bit 0: one-shot
   pub one_shot : Bool
   -- control of MSI-X, bit 14: the function mask
   pub masked : Bool
-  -- control of MSI-X, bit 15
+  -- control of MSI-X, bit 15: MSI-X is enabled
   pub enabled : Bool
 
 -- the function has MSI-X vectors
@@ -39,7 +39,8 @@ fresh spec = record {
   enabled = false;
 }
 
--- a vector that isn't masked itself may be raised, as far as configuration space is asked
+-- the function is open: without vectors always, and with vectors where it is bus master, MSI-X is enabled and the
+-- function isn't masked
 abbrev pub is_open : Space → Bool
 is_open space =
     not (has_vectors space.spec) || (space.bus_master && space.enabled && not space.masked)

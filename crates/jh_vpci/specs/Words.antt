@@ -46,14 +46,14 @@ words_of space = let spec = space.spec in
     ∷ (0x68, with_vectors spec 0x101)
     ∷ []
 
--- the word at the offset
+-- the word at the offset, 0 where none is listed
 unfoldable pub word_of : Space → ℕ → ℕ
 word_of space offset = unwrap_or (lookup (λ place. place == offset) (words_of space)) 0
 
--- where the word begins that has the byte
+-- the offset at which the word begins that has the byte
 abbrev pub word_at : ℕ → ℕ
 word_at at = at / 4 * 4
 
--- the bytes from `at` on, the lowest first
+-- the number of so many bytes from `at` on, the lowest first
 abbrev pub read_of : Space → ℕ → ℕ → ℕ
 read_of space at width = word_of space (word_at at) / 2 ^ (8 * (at % 4)) % 2 ^ (8 * width)

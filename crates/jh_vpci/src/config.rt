@@ -152,8 +152,8 @@ impl ConfigSpace {
         self.enabled = has_bit(word, 31);
     }
 
-    #[tactic(auto, unfolding(crate::specs::Writes::with_word))]
     /// Puts the word at the offset, as far as its bits can be written.
+    #[tactic(auto, unfolding(crate::specs::Writes::with_word))]
     fn put(&mut self, offset: u16, word: u32)
         ensures { self.new ≡ with_word self.old offset word }
     {
@@ -193,7 +193,8 @@ impl ConfigSpace {
         self.put(offset, word);
     }
 
-    /// The addresses of the BAR's registers: 4,096 bytes of BAR 0 and 512 of BAR 1.
+    /// The addresses of the BAR's registers: 4,096 bytes of BAR 0, and with vectors 512 of BAR 1; `None` for any other,
+    /// and while bit 1 of command is 0.
     pub fn window(&self, bar: u8) -> Option<Range>
         ensures window { option_map ends_of result ≡ window_of self.now bar }
         ensures none { IsNone result ↔ ((self.now.memory ≡ false) ⊎ (1 < bar) ⊎ ((bar ≡ 1) × (self.now.spec.vectors ≡ 0))) }

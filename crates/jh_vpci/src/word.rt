@@ -73,7 +73,7 @@ pub(crate) fn high(n: u64) -> u32
     (n / 0x1_0000_0000) as u32
 }
 
-/// So many bytes from the start on.
+/// The `size` addresses from the start on.
 pub(crate) fn window_from(start: u32, size: u32) -> Range
     ensures start { result.start ≡ start }
     ensures end { result.end ≡ start + size }

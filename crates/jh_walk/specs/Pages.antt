@@ -26,6 +26,7 @@ count weight word zero page = 0
 count weight word (suc n) page =
     weight word n page + sum_below 512 (λ i. by_next (count weight word n) (read_of (word (page + 8 * i)) (last_level - n)))
 
+-- the weight of a page: 1 where it is this one, else 0
 abbrev pub is_page : ℕ → Weight
 is_page q word n page = if nat_eq page q then 1 else 0
 

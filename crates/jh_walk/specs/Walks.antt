@@ -48,9 +48,10 @@ probes_of word (suc n) table at =
     record { at = slot_at (last_level - n) table at; word = word (slot_at (last_level - n) table at) }
     ∷ probes_on (λ next. probes_of word n next at) (read_of (word (slot_at (last_level - n) table at)) (last_level - n))
 
--- counted reads after one more, and after more in order
+-- counted reads after one more
 abbrev pub counted : Counted → Probe → Counted
 counted steps probe = record { count = min (steps.count + 1) (2 ^ 64 - 1); probes = last_eight (steps.probes ++ probe ∷ []) }
 
+-- counted reads after these more, in order
 abbrev pub all_counted : Counted → List Probe → Counted
 all_counted steps probes = fold counted steps probes

@@ -21,23 +21,24 @@ pub record IsSeated (cells : List CellConfig) (seats : List Seat) (number : ℕ)
   pub place : seat.bdf ≡ device.bdf
   pub stands : IsAt cells seat cell device
 
--- the other has that number among its peers, and as many peers and the same memory as the one
+-- the other device has that number among its peers, and as many peers and the same memory as the one
 abbrev pub is_like : List Region → PciDevice → List Region → PciDevice → ℕ → Bool
 is_like regions device other_regions other id =
     (other.shmem_dev_id == id) && ((device.shmem_peers == other.shmem_peers) && are_same_memory (sections_of regions device) (sections_of other_regions other))
 
--- so has the device of the seat, if there is one
+-- the device of the seat, if there is one, has the seat's number, and as many peers and the same memory as the one
 abbrev pub LikeAt : List CellConfig → List Region → PciDevice → Seat → Type 0
 LikeAt cells regions device seat =
     (c : CellConfig) (d : PciDevice) → seat.cell < length cells → seat.item < length (slice_index_or cells seat.cell c).pci_devices
     → is_like regions device (slice_index_or cells seat.cell c).memory_regions (slice_index_or (slice_index_or cells seat.cell c).pci_devices seat.item d) seat.id ≡ true
 
--- so have those of the first seats, and no two have one number
+-- the devices of the first seats have the seats' numbers, no two the same, and as many peers and the same memory as the
+-- one
 pub record AreLike (cells : List CellConfig) (regions : List Region) (device : PciDevice) (run : List Seat) (n : ℕ) : Type 0 where
   pub each : (k : ℕ) (d : Seat) → k < n → LikeAt cells regions device (slice_index_or run k d)
   pub ids : (j k : ℕ) (d : Seat) → j < k → k < n → (slice_index_or run j d).id ≢ (slice_index_or run k d).id
 
--- what is asked of two linked devices of different cells
+-- the two linked devices of different cells fit each other: as many peers, different numbers, and the same memory
 abbrev pub fits : List Region → PciDevice → List Region → PciDevice → Bool
 fits regions device other_regions other =
     (device.shmem_peers == other.shmem_peers) && (not (device.shmem_dev_id == other.shmem_dev_id) && are_same_memory (sections_of regions device) (sections_of other_regions other))
@@ -47,11 +48,11 @@ abbrev pub FitAt : List CellConfig → Seat → Seat → Type 0
 FitAt cells x y =
     (c : CellConfig) (d : PciDevice) (e : CellConfig) (f : PciDevice) → IsAt cells x c d → IsAt cells y e f → fits c.memory_regions d e.memory_regions f ≡ true
 
--- so do those of all seats of different cells
+-- the devices of all seats of different cells fit each other
 abbrev pub FitEachOther : List CellConfig → List Seat → Type 0
 FitEachOther cells run = (x y : Seat) → Contains run x → Contains run y → x.cell ≢ y.cell → FitAt cells x y
 
--- so do those at each bdf that is told
+-- at each bdf that is told, the devices of all seats of different cells fit each other
 abbrev pub AreSure : List CellConfig → List Seat → List Bool → Type 0
 AreSure cells seats sure =
     (bdf : ℕ) → slice_index_or sure bdf false ≡ true → (x y : Seat) → Contains seats x → Contains seats y → x.bdf ≡ bdf → y.bdf ≡ bdf → x.cell ≢ y.cell → FitAt cells x y

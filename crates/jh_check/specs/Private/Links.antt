@@ -9,6 +9,6 @@ abbrev pub ArePartners : CellConfig → CellConfig → List (Option ℕ) → Typ
 ArePartners one other partners =
     (item s : ℕ) → slice_index_or partners item None ≡ Some s → are_same_section one item other s ≡ true
 
--- so is what is noted of one region
+-- what is noted of the region of the one cell is the number of one of the other's that is the same section
 abbrev pub IsPartner : Spot → CellConfig → Option ℕ → Type 0
 IsPartner one other partner = (s : ℕ) → partner ≡ Some s → are_same_section one.config one.item other s ≡ true

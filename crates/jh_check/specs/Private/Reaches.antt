@@ -30,7 +30,7 @@ may_follow PhysOverlap pass b region = has_size region && not (is_comm region)
 may_follow CellsOverlap pass b region = has_size region && (not (is_comm region) && not (pass && has_flags 0x80 region))
 may_follow _ pass b region = has_size region
 
--- each region that may has its span among them
+-- each region that the rule may be broken by, as the other of a pair, has its span among these
 abbrev pub HasOthers : Rule → Bool → ℕ → List Region → List Span → Type 0
 HasOthers rule pass b regions spans =
     (s : ℕ) (d : Region) → s < length regions → may_follow rule pass b (slice_index_or regions s d) ≡ true → Contains spans (span_of rule s (slice_index_or regions s d))
@@ -39,12 +39,12 @@ HasOthers rule pass b regions spans =
 abbrev pub InOrder : List Span → Type 0
 InOrder spans = IsNonDecreasingBy (λ (span : Span). span.start) spans
 
--- the starts rise, and so do the ends
+-- neither the starts of the reaches nor their ends fall
 pub record IsRising (reaches : List Reach) : Type 0 where
   pub starts : IsNonDecreasingBy (λ (reach : Reach). reach.start) reaches
   pub ends : IsNonDecreasingBy (λ (reach : Reach). reach.end) reaches
 
--- one of them begins before the span ends, and ends behind its start
+-- one of the reaches begins before the span ends, and ends behind its start
 pub record IsReached (reaches : List Reach) (span : Span) : Type 0 where
   pub by : Reach
   pub is : Contains reaches by
@@ -74,48 +74,50 @@ TellsOthers rule pass b other reaches =
     → pair_breaks rule one (spot b other s (slice_index_or other.memory_regions s d)) ≡ true
     → (reached : IsReached reaches (span_of rule one.item one.region)) × (is_within rule ≡ false → reached.by.item ≡ s) × (s ≤ reached.by.item)
 
--- those by which a region is looked for that may meet shared ones: all, where no others are known
+-- the reaches by which a region is looked for that may meet shared ones: all, where no others are known
 abbrev pub unshared_of : Reaches → List Reach
 unshared_of reaches = elim reaches.unshared [ None ↦ reaches.any.items | Some unshared ↦ unshared.items ]
 
--- those by which the region is looked for
+-- the reaches by which the region is looked for
 abbrev pub reaches_for : Rule → Region → Reaches → List Reach
 reaches_for rule region reaches = if passes_shared rule region then unshared_of reaches else reaches.any.items
 
--- what lies in the gap isn't reached
+-- no span that lies in the gap is reached
 abbrev pub IsGap : List Reach → Gap → Type 0
 IsGap reaches gap = (span : Span) → LiesWithin span gap.start gap.end → IsReached reaches span → ⊥
 
+-- the gaps are those of the reaches: of all, and of those by which a region is looked for that may meet shared ones
 pub record AreGaps (reaches : Reaches) (gaps : Gaps) : Type 0 where
   pub any : IsGap reaches.any.items gaps.any
   pub unshared : IsGap (unshared_of reaches) gaps.unshared
 
--- the one is within the other
+-- the span is within the extent
 pub record IsInside (span extent : Span) : Type 0 where
   pub starts : extent.start ≤ span.start
   pub ends : span.end ≤ extent.end
 
--- that by which the region is looked for
+-- the extent by which the region is looked for
 abbrev pub extent_for : Rule → Region → Extents → Span
 extent_for rule region extents = if passes_shared rule region then extents.unshared else extents.any
 
--- each of the first regions that takes part is within its own, and each of all
+-- each of the first regions that takes part is within the extent by which it is looked for
 abbrev pub AreExtentsTo : Rule → List Region → ℕ → Extents → Type 0
 AreExtentsTo rule regions n extents =
     (r : ℕ) (d : Region) → r < n → r < length regions → takes_part rule (slice_index_or regions r d) ≡ true
     → IsInside (span_of rule r (slice_index_or regions r d)) (extent_for rule (slice_index_or regions r d) extents)
 
+-- each region that takes part is within the extent by which it is looked for
 abbrev pub AreExtents : Rule → List Region → Extents → Type 0
 AreExtents rule regions extents = AreExtentsTo rule regions (length regions) extents
 
--- they tell of the cell, which has that number
+-- the reaches tell of the regions of the cell, which has that number
 pub record AreOf (rule : Rule) (b : ℕ) (other : CellConfig) (reaches : Reaches) : Type 0 where
   pub any_rises : IsRising reaches.any.items
   pub any : TellsOthers rule false b other reaches.any.items
   pub unshared_rises : IsRising (unshared_of reaches)
   pub unshared : TellsOthers rule true b other (unshared_of reaches)
 
--- so do those of each cell
+-- the reaches of each cell tell of its regions
 abbrev pub AreOfEach : Rule → List CellConfig → List Reaches → Type 0
 AreOfEach rule all each =
     (b : ℕ) (d : Reaches) (c : CellConfig) → b < length all → AreOf rule b (slice_index_or all b c) (slice_index_or each b d)

@@ -11,21 +11,21 @@ use Rattle.jh_check.specs.Devices.{agrees_with}
 abbrev pub seat_of : ℕ → ℕ → PciDevice → Seat
 seat_of cell item device = record { bdf = device.bdf; id = device.shmem_dev_id; cell = cell; item = item }
 
--- each device of a cell has its seat among them
+-- each device of the cell has its seat among these
 abbrev pub HasSeatsOf : ℕ → List PciDevice → List Seat → Type 0
 HasSeatsOf cell devices seats =
     (n : ℕ) (d : PciDevice) → n < length devices → Contains seats (seat_of cell n (slice_index_or devices n d))
 
--- so does each of each cell
+-- each device of each cell has its seat among these
 abbrev pub HasSeats : List CellConfig → List Seat → Type 0
 HasSeats cells seats =
     (c : ℕ) (d : CellConfig) → c < length cells → HasSeatsOf c (slice_index_or cells c d).pci_devices seats
 
--- they stand in the order of their bdfs
+-- the seats stand in the order of their bdfs
 abbrev pub AreByBdf : List Seat → Type 0
 AreByBdf seats = IsNonDecreasingBy (λ (seat : Seat). seat.bdf) seats
 
--- the device of the seat fits that one, if it is of one of so many cells
+-- the device of the seat, if it is of one of so many cells, agrees with the one
 abbrev pub AgreesAt : List CellConfig → ℕ → List Region → PciDevice → Seat → Type 0
 AgreesAt cells number regions device seat =
     (c : CellConfig) (d : PciDevice) → seat.cell < number → seat.item < length (slice_index_or cells seat.cell c).pci_devices

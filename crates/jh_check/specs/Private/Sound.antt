@@ -13,7 +13,7 @@ abbrev pub breaks_in_cell : ℕ → List Region → Region → Bool
 breaks_in_cell cell earlier region =
     if cell == 0 then not (region.phys_start == region.virt_start) || is_comm region else is_comm region && is_misshapen earlier region
 
--- the region, which has a size, breaks one of the rules about one region
+-- the region, where it has a size, breaks one of the rules about one region
 abbrev pub breaks_one : Region → ℕ → List Region → Region → Bool
 breaks_one h cell earlier region =
     breaks_alone Hypervisor h cell earlier region
@@ -21,14 +21,15 @@ breaks_one h cell earlier region =
     || (breaks_alone ExecuteWithoutRead h cell earlier region
     || (breaks_alone PhysAlign h cell earlier region || breaks_in_cell cell earlier region)))
 
+-- the region has a size, and breaks one of the rules about one region
 abbrev pub breaks_any : Region → ℕ → List Region → Region → Bool
 breaks_any h cell earlier region = has_size region && breaks_one h cell earlier region
 
--- no region of the cell of that number breaks one of them
+-- no region of the cell of that number breaks a rule about one region
 abbrev pub AreSound : Region → ℕ → List Region → Type 0
 AreSound h cell regions = (rule : Rule) → in_cell rule h cell regions ≡ []
 
--- each of the cells that is said to be sound is
+-- each cell that is said to be sound has no region that breaks a rule about one region
 abbrev pub AreSoundEach : Region → List CellConfig → List Bool → Type 0
 AreSoundEach h all sound =
     (a : ℕ) (c : CellConfig) → a < length all → slice_index_or sound a false ≡ true → AreSound h a (slice_index_or all a c).memory_regions

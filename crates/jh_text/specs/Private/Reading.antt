@@ -1,9 +1,12 @@
--- How the reader finds the one entry whose text a line may be, as functions on lists. It may find one where the line
--- is no entry's text: the reader then sees that the entry's text is another.
-use Rattle.std.specs.Prelude.{◌≡◌, ◌&&◌, ℕ, ◌+◌, ◌-◌, ◌*◌, ◌^◌, ℤ, pos, ◌-ℤ◌, Bool, true, false, ◌==◌, nat_le, nat_lt, if◌then◌else◌, Option, Some, None, option_and_then, option_map, position, List, [], ◌∷◌, take, drop, codes}
+-- How the reader finds the one entry whose text a line is, as functions on lists.
+use Rattle.std.specs.Prelude.{◌≡◌, ℕ, ◌+◌, ◌-◌, ◌^◌, ℤ, pos, ◌-ℤ◌, Bool, true, false, ◌==◌, nat_le, if◌then◌else◌, not, Option, Some, None, option_and_then, option_map, position, List, [], ◌∷◌, take, drop, codes}
+use Rattle.std.specs.Char.{is_ascii_uppercase}
+use Rattle.std.specs.Fmt.{decimal}
+use Rattle.std.specs.List.{list_all}
 use Rattle.std.specs.Str.{bytes_eq}
 use Rattle.jh_script.specs.Numbers.{value_of}
 use Rattle.jh_text.specs.Ranges.{is_width}
+use Rattle.jh_text.specs.Text.{hexadecimal, ok_text}
 use Rattle.jh_history.specs.declared.entry.Entry.{Entry}
 use Rattle.jh_history.specs.declared.entry.Act.{Act}
 use Rattle.jh_history.specs.declared.entry.Act.TheVariants.{Read, Write, Fetch, Await, Irq, Hvc, Begin, Stop, Decide, Settle, Commit, Note, Noted, Finish}
@@ -25,20 +28,35 @@ Finds view None found = found ≡ None
 unfoldable pub split_once : ℕ → List ℕ → Option (List ℕ × List ℕ)
 split_once byte bytes = option_map (λ at. (take at bytes, drop (at + 1) bytes)) (position (λ b. b == byte) bytes)
 
--- the number that the digits write, where it is most at most
+-- what stands behind the equals sign and the space with which the words begin
+abbrev pub behind_sign : List ℕ → Option (List ℕ)
+behind_sign (a ∷ b ∷ rest) = if a == 61 then (if b == 32 then Some rest else None) else None
+behind_sign (a ∷ []) = None
+behind_sign [] = None
+
+-- no digit is a letter in upper case, and the first of several is not 0
+abbrev pub is_lower : ℕ → Bool
+is_lower c = not (is_ascii_uppercase c)
+
+abbrev pub is_plain : List ℕ → Bool
+is_plain [] = false
+is_plain (c ∷ []) = list_all is_lower (c ∷ [])
+is_plain (c ∷ d ∷ digits) = if c == 48 then false else list_all is_lower (c ∷ d ∷ digits)
+
+-- the number that is written so, where it is most at most
 abbrev pub number_of : ℕ → ℕ → List ℕ → Option ℕ
-number_of radix most digits = value_of radix digits >>= λ n. if nat_le n most then Some n else None
+number_of radix most word = if is_plain word then (value_of radix word >>= λ n. if nat_le n most then Some n else None) else None
 
 abbrev pub max_u64 : ℕ
 max_u64 = 2 ^ 64 - 1
 
 unfoldable pub hexadecimal_of : ℕ → List ℕ → Option ℕ
-hexadecimal_of most (a ∷ x ∷ digits) = number_of 16 most digits
+hexadecimal_of most (a ∷ x ∷ digits) = if a == 48 then (if x == 120 then number_of 16 most digits else None) else None
 hexadecimal_of most (a ∷ []) = None
 hexadecimal_of most [] = None
 
 abbrev pub negative : ℕ → Option ℤ
-negative n = if nat_le n (2 ^ 63) then Some (pos 0 -ℤ pos n) else None
+negative n = if n == 0 then None else (if nat_le n (2 ^ 63) then Some (pos 0 -ℤ pos n) else None)
 
 unfoldable pub answer_of : List ℕ → Option ℤ
 answer_of [] = None
@@ -76,11 +94,15 @@ unfoldable pub read_of : List ℕ → Option Act
 read_of rest = do
   width ← split_once 32 rest
   at ← split_once 32 width.1
-  sign ← split_once 32 at.1
+  word ← behind_sign at.1
   w ← width_of width.0
   a ← hexadecimal_of max_u64 at.0
-  got ← got_of (256 ^ w - 1) sign.1
+  got ← got_of (256 ^ w - 1) word
   Some (Read w a got)
+
+-- the words of a write or a wait behind its name
+abbrev pub attempt_words : ℕ → ℕ → ℕ → Bool → List (List ℕ)
+attempt_words width at value ok = decimal width ∷ hexadecimal at ∷ hexadecimal value ∷ codes "=" ∷ ok_text ok ∷ []
 
 -- the width, the address and the value of a write or a wait, and whether it was granted
 unfoldable pub attempt_of : List ℕ → Option (ℕ × ℕ × ℕ × Bool)
@@ -88,11 +110,11 @@ attempt_of rest = do
   width ← split_once 32 rest
   at ← split_once 32 width.1
   value ← split_once 32 at.1
-  sign ← split_once 32 value.1
+  word ← behind_sign value.1
   w ← width_of width.0
   a ← hexadecimal_of max_u64 at.0
   v ← hexadecimal_of (256 ^ w - 1) value.0
-  ok ← ok_of sign.1
+  ok ← ok_of word
   Some (w, a, v, ok)
 
 unfoldable pub write_of : List ℕ → Option Act
@@ -108,15 +130,15 @@ await_of rest = do
 unfoldable pub fetch_of : List ℕ → Option Act
 fetch_of rest = do
   at ← split_once 32 rest
-  sign ← split_once 32 at.1
+  word ← behind_sign at.1
   a ← hexadecimal_of max_u64 at.0
-  got ← got_of (2 ^ 32 - 1) sign.1
+  got ← got_of (2 ^ 32 - 1) word
   Some (Fetch a got)
 
 unfoldable pub irq_of : List ℕ → Option Act
 irq_of rest = do
-  sign ← split_once 32 rest
-  device ← split_once 32 sign.1
+  words ← behind_sign rest
+  device ← split_once 32 words
   d ← number_of 10 (2 ^ 32 - 1) device.0
   v ← number_of 10 255 device.1
   Some (Irq d v)
@@ -126,22 +148,22 @@ call_of rest = do
   code ← split_once 32 rest
   first ← split_once 32 code.1
   second ← split_once 32 first.1
-  sign ← split_once 32 second.1
+  word ← behind_sign second.1
   c ← number_of 10 max_u64 code.0
   a ← hexadecimal_of max_u64 first.0
   b ← hexadecimal_of max_u64 second.0
-  if bytes_eq sign.1 (codes "begin") then Some (Begin c a b) else option_map (Hvc c a b) (answer_of sign.1)
+  if bytes_eq word (codes "begin") then Some (Begin c a b) else option_map (Hvc c a b) (answer_of word)
 
 unfoldable pub decide_of : List ℕ → Option Act
 decide_of rest = do
-  sign ← split_once 32 rest
-  refused ← decision_of sign.1
+  word ← behind_sign rest
+  refused ← decision_of word
   Some (Decide refused)
 
 unfoldable pub settle_of : List ℕ → Option Act
 settle_of rest = do
-  sign ← split_once 32 rest
-  how ← settled_of sign.1
+  word ← behind_sign rest
+  how ← settled_of word
   Some (Settle how)
 
 unfoldable pub note_of : List ℕ → Option Act
@@ -152,15 +174,15 @@ note_of rest = do
 unfoldable pub noted_of : List ℕ → Option Act
 noted_of rest = do
   id ← split_once 32 rest
-  sign ← split_once 32 id.1
+  word ← behind_sign id.1
   n ← number_of 10 (2 ^ 32 - 1) id.0
-  how ← heard_of sign.1
+  how ← heard_of word
   Some (Noted n how)
 
 unfoldable pub finish_of : List ℕ → Option Act
 finish_of rest = do
-  sign ← split_once 32 rest
-  answer ← answer_of sign.1
+  word ← behind_sign rest
+  answer ← answer_of word
   Some (Finish answer)
 
 -- the act with this name

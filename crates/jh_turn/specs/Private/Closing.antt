@@ -13,7 +13,7 @@ module _ {E : Type 0} where
   abbrev pub HasCaller : List (Hand E) → ℕ → Type 0
   HasCaller hands who = (h : Hand E) × Contains hands h × (h.caller ≡ who)
 
--- the hands of these ports are among them
+-- the hands of these ports are among those
 abbrev pub HasHands : {T E A : Type 0} {G : Ghosts T E A} → List (Hand E) → List (Port T E A G) → Type 0
 HasHands hands ports = All (λ p. Contains hands (hand (port_caller p) (seen_by p))) ports
 

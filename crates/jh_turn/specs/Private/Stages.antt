@@ -7,10 +7,11 @@ use Rattle.jh_turn.specs.Histories.{Grows}
 use Rattle.jh_turn.specs.Rule.{Slot, Seated, view}
 
 module _ {T E : Type 0} where
+  -- the seat is the same after as before: it has the same table and the same number
   abbrev pub IsSameSeat : Seat (Slot T) (View T E) → Seat (Slot T) (View T E) → Type 0
   IsSameSeat before after = (after.table_id ≡ before.table_id) × (after.id ≡ before.id)
 
-  -- one caller's, with nothing in hand
+  -- the seat is one caller's, waits for the turn, and has nothing in hand
   pub record IsWaiting (who : ℕ) (me : Seated T E) : Type 0 where
     pub one_hand : me.0.hands ≡ hand who (seen_of me.0.hands) ∷ []
     pub waits : me.0.holding ≡ false
@@ -26,8 +27,8 @@ module _ {T E : Type 0} where
   abbrev pub HasDone : ℕ → List E → Seated T E → Seated T E → Type 0
   HasDone who log before after = after ≡ (view before.0.opened (hand who log ∷ []) false, [])
 
--- the value has the opened value's origin, and one entry more than was seen, or none
 module _ {T E O : Type 0} (whose : E → ℕ) (origin : T → O) (history : T → List E) where
+  -- the value has the opened value's origin, and one entry of the caller more than was seen, or none
   pub record MayReturn (who : ℕ) (v : View T E) (value : T) : Type 0 where
     pub grown : Grows whose who (seen_of v.hands) (history value)
     pub first : T

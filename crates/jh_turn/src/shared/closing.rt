@@ -26,7 +26,7 @@ impl<T: Turner> Shared<T> {
         self.last_value(seat)
     }
 
-    // One seat with the hands of all ports.
+    /// One seat with the hands of all ports.
     fn gather(&self, mut ports: Vec<Port<T>>) -> Seat<Option<Box<T>>, View<T, T::Entry>>
         requires own { All (IsPortOf self.now) ports.items }
         requires some { 0 < length ports.items }
@@ -45,7 +45,7 @@ impl<T: Turner> Shared<T> {
         all
     }
 
-    // The value, once one seat has all callers' hands.
+    /// The value, once one seat has all callers' hands.
     fn last_value(self, seat: Seat<Option<Box<T>>, View<T, T::Entry>>) -> T
         requires own { seat.table_id ≡ self.table.shared.table_id }
         requires waits { seat.me.0.holding ≡ false }
@@ -65,6 +65,7 @@ impl<T: Turner> Port<T> {
     ghost use Rattle.jh_turn.specs.Hands.{hand};
     ghost use Rattle.jh_turn.specs.Ports.{port_caller, seen_by};
 
+    /// The seat of the port, with its caller's one hand.
     fn into_seat(self) -> Seat<Option<Box<T>>, View<T, T::Entry>>
         ensures same { (result.table_id ≡ self.seat.table_id) × (result.id ≡ self.seat.id) }
         ensures hand { result.me.0.hands ≡ hand (port_caller self) (seen_by self) ∷ [] }

@@ -9,7 +9,7 @@ use atomic_table::{Refused, Seat, Table};
 use std::alloc::{AllocFailed, Global};
 use std::snapshot::Snapshot;
 
-// The value in a box, as the one slot.
+/// The value in a box, as the one slot.
 fn boxed<T>(alloc: Global, value: T) -> Result<Vec<Option<Box<T>>>, T>
     ensures ok { IfOk result (λ slots. (b : Box T Global) × (slots.items ≡ Some b ∷ []) × (b.value ≡ value)) }
     ensures err { IfErr result (λ v. v ≡ value) }
@@ -30,7 +30,7 @@ fn boxed<T>(alloc: Global, value: T) -> Result<Vec<Option<Box<T>>>, T>
     }
 }
 
-// The value out of the slot again.
+/// The value out of the slot again.
 fn unboxed<T>(mut slots: Vec<Option<Box<T>>>) -> T
     requires { (b : Box T Global) × (slots.items ≡ Some b ∷ []) }
     ensures { (b : Box T Global) → slots.items ≡ Some b ∷ [] → result ≡ b.value }
@@ -67,7 +67,7 @@ impl<T: Turner> Shared<T> {
         Ok((shared, ports))
     }
 
-    // The table, with the seat that has every caller's hand.
+    /// The table, with the seat that has every caller's hand.
     fn first_seat(
         alloc: Global,
         value: T,
@@ -95,7 +95,7 @@ impl<T: Turner> Shared<T> {
         }
     }
 
-    // A port for each caller, in their order.
+    /// A port for each caller, in their order.
     fn deal(
         &self,
         mut seat: Seat<Option<Box<T>>, View<T, T::Entry>>,
@@ -117,7 +117,7 @@ impl<T: Turner> Shared<T> {
         ports
     }
 
-    // The port of the first caller that is left.
+    /// The port of the first caller that is left.
     fn next_port(
         &self,
         seat: &mut Seat<Option<Box<T>>, View<T, T::Entry>>,

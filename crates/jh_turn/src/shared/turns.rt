@@ -32,7 +32,7 @@ impl<T: Turner> Shared<T> {
         answer
     }
 
-    // Takes the turn. A claim that fails is tried again.
+    /// Takes the turn. A claim that fails is tried again.
     fn claim<R: Wait>(&self, rt: &R, seat: &mut Seat<Option<Box<T>>, View<T, T::Entry>>, caller: u8)
         requires own { seat.old.table_id ≡ self.now.table.shared.table_id }
         requires waits { IsWaiting caller seat.old.me }
@@ -52,7 +52,7 @@ impl<T: Turner> Shared<T> {
         unreachable!()
     }
 
-    // Takes the value out of the slot.
+    /// Takes the value out of the slot.
     fn take(&self, seat: &mut Seat<Option<Box<T>>, View<T, T::Entry>>) -> Box<T>
         requires own { seat.old.table_id ≡ self.now.table.shared.table_id }
         requires there { (value : _) × (seat.old.me.1 ≡ (0, Some value) ∷ []) }
@@ -66,7 +66,7 @@ impl<T: Turner> Shared<T> {
         }
     }
 
-    // Gives the value back, notes the length of its history, and gives the turn up.
+    /// Gives the value back, notes the length of its history, and gives the turn up.
     fn put_back(
         &self,
         seat: &mut Seat<Option<Box<T>>, View<T, T::Entry>>,

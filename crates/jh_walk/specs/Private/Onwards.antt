@@ -14,7 +14,7 @@ pub record IsTablePlace (table : ℕ) : Type 0 where
   pub aligned : table % 4096 ≡ 0
   pub below : table < ADDRESS_END
 
--- a table that is led to stands at such a place
+-- a table that is led to stands at a place where a table can stand
 abbrev pub LeadsToPlace : Onward → Type 0
 LeadsToPlace Nowhere = Unit {0}
 LeadsToPlace (Found hit) = Unit {0}

@@ -6,5 +6,5 @@ use Rattle.jh_run.proofs.driving.drive_port.Goals as goal
 
 pub returns-clause-shows : goal.returns-clause-shows
 returns-clause-shows g c =
-    let turn = c.turn-turn.ensures.turn in
-    rw c.stop_by.ensures (turn_tells (origin_of (opened_value c.args.shared.now)) (port_caller c.args.port.now) _ (seen_by c.turn-turn.new.port) c.turn-turn.result turn.answered)
+    let turn = c.turn-answer.ensures.turn in
+    rw c.end_after.ensures (turn_tells (origin_of (opened_value c.args.shared.now)) (port_caller c.args.port.now) _ (seen_by c.turn-answer.new.port) c.turn-answer.result turn.answered)

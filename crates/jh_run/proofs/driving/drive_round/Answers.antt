@@ -8,13 +8,13 @@ use Rattle.jh_run.proofs.driving.drive_round.Goals as goal
 
 pub returns-then-is_some-clause-same : goal.returns-then-is_some-clause-same
 returns-then-is_some-clause-same g c =
-    let turn = c.drive_port-stop.ensures in
-    same_set_at c.args.shared.now c.args.ports.now c.loop-i.ports c.loop-i.i c.index-ports-i.result c.drive_port-stop.new.port c.loop-i.invariant turn.port turn.caller
+    let turn = c.drive_port-end.ensures in
+    same_set_at c.args.shared.now c.args.ports.now c.loop-i.ports c.loop-i.i c.index-ports-i.result c.drive_port-end.new.port c.loop-i.invariant turn.port turn.caller
 
 pub returns-then-is_some-clause-shows : goal.returns-then-is_some-clause-shows
-returns-then-is_some-clause-shows g c = some_shows-at (origin_of (opened_value c.args.shared.now)) c.drive_port-stop.result c.loop-i.ports c.loop-i.i c.drive_port-stop.new.port (omega arith) c.drive_port-stop.ensures.shows
+returns-then-is_some-clause-shows g c = some_shows-at (origin_of (opened_value c.args.shared.now)) c.drive_port-end.result c.loop-i.ports c.loop-i.i c.drive_port-end.new.port (omega arith) c.drive_port-end.ensures.shows
 
 pub loop-i-preserved : goal.loop-i-preserved
 loop-i-preserved g c =
-    let turn = c.drive_port-stop.ensures in
-    same_set_at c.args.shared.now c.args.ports.now c.loop-i.ports c.loop-i.i c.index-ports-i.result c.drive_port-stop.new.port c.loop-i.invariant turn.port turn.caller
+    let turn = c.drive_port-end.ensures in
+    same_set_at c.args.shared.now c.args.ports.now c.loop-i.ports c.loop-i.i c.index-ports-i.result c.drive_port-end.new.port c.loop-i.invariant turn.port turn.caller

@@ -1,5 +1,5 @@
-use Rattle.std.proofs.Common.{rules, ◌≡◌, ℕ, ◌+◌, ◌-◌, ◌*◌, ◌/◌, ◌%◌, ◌^◌, ◌<◌, ◌≤◌, false, List, [], ◌∷◌, length, drop, sym, ap, ◌∙◌, arith}
-use Rattle.std.specs.Fmt.{digits, digits_onto, digit_glyph}
+use Rattle.std.proofs.Common.{rules, ◌≡◌, ◌+◌, ◌-◌, ◌<◌, false, length, drop, sym, ap, ◌∙◌, arith}
+use Rattle.std.specs.Fmt.{digits_onto}
 use Rattle.std.proofs.lemmas.List.{drop-set, drop_all}
 use Rattle.jh_text.proofs.Digits.{none_written, next_written, first_written, several, fewer_left}
 use Rattle.jh_text.proofs.number_text.write_digits.Goals as goal

@@ -1,5 +1,5 @@
 -- One byte more.
-use Rattle.std.proofs.Common.{ℕ, ◌+◌, ◌++◌, [], ◌∷◌, ap, ◌∙◌}
+use Rattle.std.proofs.Common.{ℕ, ◌++◌, [], ◌∷◌, ap, ◌∙◌}
 use Rattle.jh_board.specs.Pages.{comm_byte}
 use Rattle.jh_board.proofs.RowLemmas.{row_last, row_none}
 use Rattle.jh_board.proofs.comm_pages.CommPages.append.Goals as goal

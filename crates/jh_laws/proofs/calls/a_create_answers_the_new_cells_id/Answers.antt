@@ -1,0 +1,6 @@
+-- The id that the call carries from its Commit on.
+use Rattle.jh_laws.proofs.NewIdLemmas.{new_id}
+use Rattle.jh_laws.proofs.calls.a_create_answers_the_new_cells_id.Goals as goal
+
+pub returns : goal.returns
+returns c = new_id

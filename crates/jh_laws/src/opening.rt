@@ -1,0 +1,44 @@
+//! What there is at opening: bytes, CPUs and programs.
+ghost use Rattle.std.specs.Prelude.{◌≡◌, ◌≢◌, ℕ, ◌+◌, ◌<◌, [], List, length, Contains, false, slice_index};
+ghost use Rattle.jh_cpu.specs.declared.cpu.Mode.TheVariants.{Running as Runs};
+ghost use Rattle.jh_script.specs.declared.image.Image.{Image as TheImage};
+ghost use Rattle.jh_script.specs.declared.image.Preload.{Preload as ThePreload};
+ghost use Rattle.jh_script.specs.declared.image.Program.{Program as TheProgram};
+ghost use Rattle.jh_history.specs.declared.place.Place.TheVariants.{Physical, Page};
+ghost use Rattle.jh_history.specs.Admitted.{IsAdmitted};
+ghost use Rattle.jh_history.specs.Lives.{program_of};
+ghost use Rattle.jh_laws.specs.RootAlone.{HasNoDevice, byte_at, cpu_at};
+
+/// Where root has no ivshmem device, a byte of physical memory is at opening the preload's where one puts one there, and
+/// 0 elsewhere. Each byte of a communication page is 0.
+pub fn memory_opens_with_the_preloads()
+    ensures put { (image : TheImage) (preload : ThePreload) (k : ℕ) → IsAdmitted image → HasNoDevice image →
+        Contains image.preloads preload → k < length preload.bytes →
+        byte_at image [] (Physical (preload.at + k)) ≡ slice_index preload.bytes k }
+    ensures zero { (image : TheImage) (place : ℕ) → IsAdmitted image → HasNoDevice image →
+        ((preload : ThePreload) (k : ℕ) → Contains image.preloads preload → k < length preload.bytes →
+        place ≢ preload.at + k) →
+        byte_at image [] (Physical place) ≡ 0 }
+    ensures pages { (image : TheImage) (cell offset : ℕ) → byte_at image [] (Page cell offset) ≡ 0 }
+{}
+
+/// At opening each CPU is root's, runs, is neither asked to stop nor stopped, and is at the beginning of
+/// its program.
+pub fn cpus_open_at_their_beginning()
+    ensures owner { (image : TheImage) (cpu : ℕ) → (cpu_at image [] cpu).owner ≡ image.system.root.id }
+    ensures mode { (image : TheImage) (cpu : ℕ) → (cpu_at image [] cpu).mode ≡ Runs }
+    ensures asked { (image : TheImage) (cpu : ℕ) → (cpu_at image [] cpu).asked ≡ false }
+    ensures stopped { (image : TheImage) (cpu : ℕ) → (cpu_at image [] cpu).stopped ≡ false }
+    ensures position { (image : TheImage) (cpu : ℕ) → (cpu_at image [] cpu).position ≡ 0 }
+{}
+
+/// The program of a CPU in the cell of a name is the image's of that name and CPU, and empty where the
+/// image has none.
+pub fn programs_are_found_by_cell_and_cpu()
+    ensures found { (image : TheImage) (program : TheProgram) → IsAdmitted image →
+        Contains image.programs program → program_of image program.cell program.cpu ≡ program.ops }
+    ensures none { (image : TheImage) (name : List ℕ) (cpu : ℕ) →
+        ((program : TheProgram) → Contains image.programs program →
+        program.cell ≡ name → program.cpu ≡ cpu → ⊥) →
+        program_of image name cpu ≡ [] }
+{}
