@@ -54,13 +54,11 @@ fn is_operand(word: &str) -> bool
     }
 }
 
+/// Whether each of the words may be an operand.
 fn are_operands(words: &[String]) -> bool
     ensures { result ≡ list_all is_operand (map string_bytes words.now) }
 {
-    match words {
-        [word, rest @ ..] => is_operand(word.as_str()) && are_operands(rest),
-        [] => true,
-    }
+    words.iter().all(|word| is_operand(word.as_str()))
 }
 
 fn check_of(operands: &[String]) -> Option<Command<'_>>
