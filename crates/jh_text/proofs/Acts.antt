@@ -8,8 +8,8 @@ use Rattle.jh_history.specs.declared.entry.Act.{Act}
 use Rattle.jh_history.specs.declared.entry.Act.TheVariants.{Read, Write, Fetch, Await, Irq, Hvc, Begin, Stop, Decide, Settle, Commit, Note, Noted, Finish}
 use Rattle.jh_history.specs.declared.entry.Heard.{Heard}
 use Rattle.jh_text.specs.Ranges.{is_width, IsReadableAct, IsReadable}
-use Rattle.jh_text.specs.Text.{hexadecimal, got_text, ok_text, heard_text, act_words, line}
-use Rattle.jh_text.specs.Private.Reading.{max_u64, attempt_words, read_of, attempt_of, write_of, await_of, fetch_of, irq_of, outcome_of, call_of, noted_of, act_of_call, act_of, entry_of}
+use Rattle.jh_text.specs.Text.{hexadecimal, got_text, ok_text, heard_text, act_words, attempt_words, line}
+use Rattle.jh_text.specs.Private.Reading.{max_u64, read_of, attempt_of, write_of, await_of, fetch_of, irq_of, outcome_of, call_of, noted_of, act_of_call, act_of, entry_of}
 use Rattle.jh_text.proofs.Spellings.{decimal_again, hexadecimal_again, answer_again, answer_is_not, width_again, widest, got_again, ok_again, decision_again, settled_again, heard_again}
 
 -- what stands behind a word and a space

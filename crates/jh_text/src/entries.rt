@@ -2,14 +2,15 @@
 ghost use Rattle.std.specs.Prelude.{◌≡◌, ◌^◌, ◌<◌, ◌∷◌, ◌++◌, IfSome, IsTrue, codes};
 ghost use Rattle.std.specs.List.{join_with_byte};
 ghost use Rattle.jh_text.specs.Ranges.{is_width, IsReadableAct, IsReadable};
-ghost use Rattle.jh_text.specs.Text.{act_words, line};
-ghost use Rattle.jh_text.specs.Private.Reading.{Reads, attempt_words, attempt_of, read_of, write_of, await_of, fetch_of, irq_of, outcome_of, call_of, noted_of, act_of_call, act_of, entry_of};
+ghost use Rattle.jh_text.specs.Text.{act_words, attempt_words, line};
+ghost use Rattle.jh_text.specs.Private.Reading.{Reads, attempt_of, read_of, write_of, await_of, fetch_of, irq_of, outcome_of, call_of, noted_of, act_of_call, act_of, entry_of};
 
 use crate::outcomes::{read_decision, read_got, read_heard, read_ok, read_settled};
 use crate::reader::Reader;
 use jh_history::{Act, Entry};
 use jh_script::max_of_width;
 
+/// The entry with whose line the text begins, which is passed over. Where there is none, what is left tells nothing.
 #[tactic(auto, unfolding(crate::specs::Private::Reading::entry_of))]
 pub(crate) fn entry(text: &mut Reader) -> Option<Entry>
     ensures value { Reads result text.new (entry_of text.old) }
@@ -199,7 +200,7 @@ fn call(text: &mut Reader) -> Option<Act>
     Some(Act::Hvc { code, a, b, answer })
 }
 
-/// What is noted of a cell that was sent a message, behind the name.
+/// How a cell met the note of a change, behind the name.
 #[tactic(auto, unfolding(crate::specs::Private::Reading::noted_of))]
 fn noted(text: &mut Reader) -> Option<Act>
     ensures value { Reads result text.new (noted_of text.old) }

@@ -7,12 +7,14 @@ ghost use Rattle.jh_text.specs.Private.Reading.{Reads, got_of, ok_of, decision_o
 use crate::reader::Reader;
 use jh_history::{Heard, Settled};
 
+/// The word for whether a write or a wait was granted.
 pub(crate) fn ok_word(ok: bool) -> &'static str
     ensures { result.now ≡ ok_text ok }
 {
     if ok { "ok" } else { "violation" }
 }
 
+/// The word for how a cell met the request to shut down.
 pub(crate) fn settled_word(how: Settled) -> &'static str
     ensures { result.now ≡ settled_text how }
 {
@@ -23,6 +25,7 @@ pub(crate) fn settled_word(how: Settled) -> &'static str
     }
 }
 
+/// The word for how a cell met the note of a change.
 pub(crate) fn heard_word(how: Heard) -> &'static str
     ensures { result.now ≡ heard_text how }
 {
@@ -77,7 +80,7 @@ pub(crate) fn read_decision(text: &mut Reader) -> Option<Option<i64>>
     Some(Some(number))
 }
 
-/// How an exchange with a cell ended.
+/// How a cell met the request to shut down.
 #[tactic(auto, unfolding(crate::specs::Private::Reading::settled_of))]
 pub(crate) fn read_settled(text: &mut Reader) -> Option<Settled>
     ensures value { Reads result text.new (settled_of text.old) }
@@ -95,7 +98,7 @@ pub(crate) fn read_settled(text: &mut Reader) -> Option<Settled>
     None
 }
 
-/// What a cell that was sent a message made of it.
+/// How a cell met the note of a change.
 #[tactic(auto, unfolding(crate::specs::Private::Reading::heard_of))]
 pub(crate) fn read_heard(text: &mut Reader) -> Option<Heard>
     ensures value { Reads result text.new (heard_of text.old) }

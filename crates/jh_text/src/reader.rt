@@ -90,6 +90,7 @@ fn negative(n: u64) -> Option<i64>
 }
 
 impl<'a> Reader<'a> {
+    /// The whole text is left.
     pub(crate) fn new(text: &'a [u8]) -> Self
         ensures { result ≡ text.now }
     {

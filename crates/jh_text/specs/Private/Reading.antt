@@ -3,9 +3,7 @@
 use Rattle.std.specs.Prelude.{◌≡◌, ℕ, ◌+◌, ◌-◌, ◌*◌, ◌^◌, ◌&&◌, ℤ, pos, ◌-ℤ◌, Bool, true, false, ◌==◌, nat_le, nat_lt, if◌then◌else◌, not, Option, Some, None, option_and_then, option_map, List, [], ◌∷◌, ◌++◌, length, take, drop, codes}
 use Rattle.std.specs.Char.{is_ascii_uppercase, is_digit, digit_value}
 use Rattle.std.specs.Str.{bytes_eq}
-use Rattle.std.specs.Fmt.{decimal}
 use Rattle.jh_text.specs.Ranges.{is_width}
-use Rattle.jh_text.specs.Text.{hexadecimal, ok_text}
 use Rattle.jh_history.specs.declared.entry.Entry.{Entry}
 use Rattle.jh_history.specs.declared.entry.Act.{Act}
 use Rattle.jh_history.specs.declared.entry.Act.TheVariants.{Read, Write, Fetch, Await, Irq, Hvc, Begin, Stop, Decide, Settle, Commit, Note, Noted, Finish}
@@ -142,10 +140,6 @@ read_of text = do
   got ← behind_sign (got_of (256 ^ width.0 - 1)) at.1
   Some (Read width.0 at.0 got.0, got.1)
 
--- the words of a write or a wait behind its name
-abbrev pub attempt_words : ℕ → ℕ → ℕ → Bool → List (List ℕ)
-attempt_words width at value ok = decimal width ∷ hexadecimal at ∷ hexadecimal value ∷ codes "=" ∷ ok_text ok ∷ []
-
 -- the width, the address and the value of a write or a wait, and whether it was granted
 unfoldable pub attempt_of : List ℕ → Option ((ℕ × ℕ × ℕ × Bool) × List ℕ)
 attempt_of text = do
@@ -192,7 +186,7 @@ noted_of text = do
   how ← behind_sign heard_of id.1
   Some (Noted id.0 how.0, how.1)
 
--- an act that a call makes, or that a root's stop makes
+-- a hypercall, an act of a call that is open, or a stop
 unfoldable pub act_of_call : List ℕ → Option (Act × List ℕ)
 act_of_call text =
     if begins (codes "hvc ") text then call_of (behind (codes "hvc ") text)
