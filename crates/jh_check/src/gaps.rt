@@ -67,6 +67,7 @@ fn widened(extents: Extents, rule: Rule, item: usize, region: &Region) -> Extent
 }
 
 /// What has all regions that take part: from the least of their starts to the farthest of their ends.
+#[inline(never)]
 pub(crate) fn extents_of(rule: Rule, regions: &[Region]) -> Extents
     ensures { AreExtents rule regions.now result }
 {
