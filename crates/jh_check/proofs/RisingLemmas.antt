@@ -1,18 +1,17 @@
 -- Cells whose regions begin in the order of their numbers.
-use Rattle.std.proofs.Common.{◌≡◌, ℕ, ◌^◌, ◌+◌, ◌<◌, ◌≤◌, zero, suc, true, false, [], ◌∷◌, ◌++◌, List, length, get_or, inl, inr, refl, sym, ap, subst, ◌∙◌, add-zero, arith}
-use Rattle.std.proofs.lemmas.Bool.{cases_eq, cases_lt, cases_Bool, ltb-true, false≢true}
+use Rattle.std.proofs.Common.{◌≡◌, ℕ, ◌^◌, ◌+◌, ◌<◌, ◌≤◌, zero, suc, true, false, [], ◌∷◌, ◌++◌, List, length, get_or, inl, inr, sym, ap, subst, ◌∙◌, add-zero, arith}
+use Rattle.std.proofs.lemmas.Bool.{cases_eq, cases_lt, cases_Bool, ltb-true}
 use Rattle.std.proofs.lemmas.List.{get_or_default}
 use Rattle.jh_cellcfg.specs.declared.region.Region.{Region}
 use Rattle.jh_cellcfg.specs.declared.config.CellConfig.{CellConfig}
 use Rattle.jh_check.specs.declared.rule.Rule.{Rule}
 use Rattle.jh_check.specs.declared.reach.Window.{Window}
 use Rattle.jh_check.specs.declared.rising.Row.{Row}
-use Rattle.jh_check.specs.Regions.{pair_breaks}
 use Rattle.jh_check.specs.Spans.{takes_part, span_of, is_within, joins}
 use Rattle.jh_check.specs.declared.finding.Finding.{Finding}
 use Rattle.jh_check.specs.Lists.{found_from}
 use Rattle.jh_check.specs.Findings.{spot, beside, between, from_cell}
-use Rattle.jh_check.specs.Private.Reaches.{IsIn, HasHits}
+use Rattle.jh_check.specs.Private.Reaches.{HasHits}
 use Rattle.jh_check.specs.Private.Rising.{TakesPart, start_at, end_at, IsRisingTo, IsStretch, IsRowTo, IsJoined, IsRowMore, EndsBefore}
 use Rattle.jh_check.proofs.BoolLemmas.{not_both}
 use Rattle.jh_check.proofs.SpanLemmas.{span_ordered}

@@ -5,7 +5,6 @@ use Rattle.jh_check.specs.Private.Reaches.{AreOf}
 use Rattle.jh_check.specs.Lists.{capped}
 use Rattle.jh_check.specs.Findings.{between, from_cell}
 use Rattle.jh_check.proofs.ListLemmas.{found_step, found_done}
-use Rattle.jh_check.proofs.ReachLemmas.{cell_alone, capped_none_more}
 use Rattle.jh_check.proofs.pairing.from_cell.Goals as goal
 
 pub loop-b-init : goal.loop-b-init

@@ -1,9 +1,8 @@
-use Rattle.std.proofs.Common.{◌≡◌, ◌^◌, ◌<◌, ◌≤◌, ℕ, false, get_or, subst, sym, arith}
+use Rattle.std.proofs.Common.{◌≡◌, false, get_or, subst, arith}
 use Rattle.jh_cellcfg.specs.declared.region.Region.{Region}
 use Rattle.jh_check.specs.Spans.{takes_part}
 use Rattle.jh_check.specs.Findings.{spot, beside}
 use Rattle.jh_check.proofs.BreakLemmas.{beside_idle}
-use Rattle.jh_check.proofs.ListLemmas.{capped_full}
 use Rattle.jh_check.proofs.ReachLemmas.{capped_none_more}
 use Rattle.std.proofs.lemmas.List.{get_or_default}
 use Rattle.jh_check.proofs.RisingLemmas.{row_hits}

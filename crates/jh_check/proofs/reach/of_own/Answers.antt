@@ -1,4 +1,4 @@
-use Rattle.std.proofs.Common.{List, sym, subst}
+use Rattle.std.proofs.Common.{List, subst}
 use Rattle.std.proofs.lemmas.Result.{IfOk-weaker}
 use Rattle.jh_cellcfg.specs.declared.region.Region.{Region}
 use Rattle.jh_check.specs.declared.spans.Span.{Span}
