@@ -6,10 +6,11 @@ use Rattle.jh_check.specs.declared.reach.Window.{Window}
 use Rattle.jh_check.specs.declared.rising.Row.{Row}
 use Rattle.jh_check.specs.Spans.{takes_part, span_of}
 
--- where the region of that number begins and ends, as the rule compares it
+-- where the region of that number begins, as the rule compares it
 abbrev pub start_at : Rule → List Region → Region → ℕ → ℕ
 start_at rule regions d k = (span_of rule k (slice_index_or regions k d)).start
 
+-- where the region of that number ends, as the rule compares it
 abbrev pub end_at : Rule → List Region → Region → ℕ → ℕ
 end_at rule regions d k = (span_of rule k (slice_index_or regions k d)).end
 
@@ -35,7 +36,7 @@ pub record IsRowTo (rule : Rule) (regions : List Region) (n : ℕ) (row : Row) :
   pub ends : (i : ℕ) (d : Region) → i < n → TakesPart rule regions d i → end_at rule regions d i ≤ row.end
   pub latest : (i : ℕ) (d : Region) → i < n → TakesPart rule regions d i → (i ≤ row.item) × (row.item < n) × TakesPart rule regions d row.item
 
--- the row has the region of that number behind it, where that takes part: either the region begins behind all, or it
+-- the row has the region of that number behind it: either the region begins behind all, or it
 -- begins no earlier than the last
 pub record IsJoined (rule : Rule) (item : ℕ) (region : Region) (row more : Row) : Type 0 where
   pub latest : more.item ≡ item
@@ -46,6 +47,7 @@ pub record IsJoined (rule : Rule) (item : ℕ) (region : Region) (row more : Row
   pub apart : row.end ≤ (span_of rule item region).start ⊎ ((row.start ≤ (span_of rule item region).start) × (more.first ≤ row.item) × (more.last ≡ item))
   pub last : (more.last ≡ row.last) ⊎ (more.last ≡ item)
 
+-- the row is joined by the region where that takes part, and else stays the same
 abbrev pub IsRowMore : Rule → ℕ → Region → Row → Row → Type 0
 IsRowMore rule item region row more = (takes_part rule region ≡ true → IsJoined rule item region row more) × (takes_part rule region ≡ false → more ≡ row)
 
