@@ -4,7 +4,7 @@ use Rattle.jh_check.specs.Private.Reaches.{AreOfEach}
 use Rattle.jh_check.specs.Lists.{capped}
 use Rattle.jh_check.specs.Findings.{from_cell, in_pairs}
 use Rattle.jh_check.proofs.ListLemmas.{found_step, found_done}
-use Rattle.jh_check.proofs.pairing.in_pairs.Goals as goal
+use Rattle.jh_check.proofs.pairing.by_reaches.Goals as goal
 
 pub loop-a-init : goal.loop-a-init
 unfolding in_pairs
