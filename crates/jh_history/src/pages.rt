@@ -97,8 +97,7 @@ fn failing(image: &Image, cpus: &[Cpu], entry: &Entry) -> Option<PageWrite>
     })
 }
 
-/// What an access writes: where it is a violation, what puts its cell into the state FAILED, and nothing where it is
-/// good.
+/// What an access writes into a page: where it is a violation, what that writes; nothing where it is good.
 fn unless_good(good: bool, image: &Image, cpus: &[Cpu], entry: &Entry) -> Option<PageWrite>
     requires { length cpus.now ≡ 16 }
     ensures { (f : Facts) → ((i : ℕ) → i < 16 → slice_get cpus.now i ≡ Some (cpu_after image.now f entry.now i))
