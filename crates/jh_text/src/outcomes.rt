@@ -44,11 +44,14 @@ pub(crate) fn read_got(text: &mut Reader, most: u64) -> Option<Option<u64>>
     ensures bound { IfSome result (λ got. IfSome got (λ value. value ≤ most)) }
     ensures spelled { IfSome result (λ got. text.old ≡ got_text got ++ 10 ∷ text.new) }
 {
+    if text.is_at(b'0') {
+        let value = text.hexadecimal(b'\n', most)?;
+        return Some(Some(value));
+    }
     if text.pass("violation\n") {
         return Some(None);
     }
-    let value = text.hexadecimal(b'\n', most)?;
-    Some(Some(value))
+    None
 }
 
 /// Whether a write or a wait was granted.

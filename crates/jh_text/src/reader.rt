@@ -1,5 +1,5 @@
 //! What stands at the front of a text: words and numbers, read one after the other.
-ghost use Rattle.std.specs.Prelude.{◌≡◌, ℕ, ◌^◌, ◌≤◌, ◌∷◌, ◌++◌, true, false, length, drop, if◌then◌else◌, IfSome, IsTrue};
+ghost use Rattle.std.specs.Prelude.{◌≡◌, ℕ, ◌^◌, ◌≤◌, [], ◌∷◌, ◌++◌, true, false, length, drop, if◌then◌else◌, IfSome, IsTrue};
 ghost use Rattle.std.specs.Char.{digit_value};
 ghost use Rattle.std.specs.Fmt.{decimal, signed_decimal, digits};
 ghost use Rattle.jh_text.specs.Ranges.{is_width};
@@ -102,6 +102,16 @@ impl<'a> Reader<'a> {
         ensures { result.now ≡ self.now }
     {
         self.rest
+    }
+
+    /// Whether the byte stands at the front.
+    pub(crate) fn is_at(&self, byte: u8) -> bool
+        ensures { result ≡ begins (byte ∷ []) self.now }
+    {
+        match self.rest {
+            [first, ..] => *first == byte,
+            [] => false,
+        }
     }
 
     /// Whether the word stands at the front: then it is passed over.

@@ -106,8 +106,8 @@ width_of text = do
 
 unfoldable pub got_of : ℕ → List ℕ → Option (Option ℕ × List ℕ)
 got_of most text =
-    if begins (last (codes "violation")) text then Some (None, behind (last (codes "violation")) text)
-    else mapped Some (hexadecimal_until 10 most text)
+    if begins (codes "0") text then mapped Some (hexadecimal_until 10 most text)
+    else (if begins (last (codes "violation")) text then Some (None, behind (last (codes "violation")) text) else None)
 
 unfoldable pub ok_of : List ℕ → Option (Bool × List ℕ)
 ok_of text =
