@@ -10,8 +10,3 @@ pub record LiveView : Type 0 where
   pub lives : List Live
   pub cells : ℕ
   pub regions : ℕ
-
--- an image, and the cells that live besides its root
-pub record GrantsView : Type 0 where
-  pub image : Image
-  pub lives : List Live

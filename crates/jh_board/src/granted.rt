@@ -34,7 +34,7 @@ struct Granted<'a> {
 }
 
 impl<'a> Model for Granted<'a> {
-    ghost use Rattle.jh_board.specs.LiveView.{GrantsView};
+    ghost use Rattle.jh_history.specs.LiveView.{GrantsView};
 
     ghost Value = { GrantsView };
 

@@ -11,7 +11,7 @@ ghost use Rattle.jh_script.specs.Operations.{IsWellFormed};
 ghost use Rattle.jh_history.specs.Access.{right_of, gives, region_of, memory_or_nothing, reach_by};
 ghost use Rattle.jh_history.specs.Grants.{granted_in, is_kept, behind_in, reach_in};
 ghost use Rattle.jh_history.specs.Devices.{list_in};
-ghost use Rattle.jh_history.specs.Phases.{configs_of};
+ghost use Rattle.jh_shape.specs.Lives.{configs_of};
 ghost use Rattle.jh_history.specs.Places.{places_of_run, IsRun};
 ghost use Rattle.jh_history.specs.Admitted.{IsAdmitted};
 ghost use Rattle.jh_history.specs.Facts.{Facts};
@@ -162,12 +162,12 @@ struct ImageGrants<'a> {
 
 impl<'a> Model for ImageGrants<'a> {
     ghost use Rattle.jh_check.specs.Clean.{IsClean};
-    ghost use Rattle.jh_history.specs.Phases.{configs_of};
+    ghost use Rattle.jh_shape.specs.Lives.{configs_of};
     ghost use Rattle.jh_history.specs.LiveView.{GrantsView};
 
     ghost Value = { GrantsView };
 
-    ghost view = { λ g. record { image = g.image.now; cells = g.cells.now } };
+    ghost view = { λ g. record { image = g.image.now; lives = g.cells.now } };
 
     ghost invariant = { λ g. IsClean g.image.now.system (configs_of g.cells.now) };
 }
@@ -175,7 +175,7 @@ impl<'a> Model for ImageGrants<'a> {
 impl<'a> Grants for ImageGrants<'a> {
     ghost use Rattle.jh_history.specs.Lives.{regions_in};
 
-    ghost regions = { λ g. regions_in g.image g.cells };
+    ghost regions = { λ g. regions_in g.image g.lives };
 
     fn region(&self, cell: u32, access: Access, at: u64) -> Option<Region> {
         region_of(

@@ -1,17 +1,16 @@
 //! The cells that live, for the slow plain program.
 ghost use Rattle.std.specs.Prelude.{◌≡◌, ℕ, ◌+◌, ◌<◌, [], ◌++◌, ◌∷◌, List, length, map, filter, Some, false, find, option_map, option_copied, OnOk, OnErr};
-ghost use Rattle.std.specs.List.{list_any};
 ghost use Rattle.jh_cellcfg.specs.declared.live.Live.{Live as TheLive};
 ghost use Rattle.jh_history.specs.declared.call.Phase.{Phase as ThePhase};
-ghost use Rattle.jh_shape.specs.Shapes.{is_closed, holder_of_live, takes};
-ghost use Rattle.jh_history.specs.Phases.{configs_of};
+ghost use Rattle.jh_shape.specs.Shapes.{is_closed, holder_of_live};
+ghost use Rattle.jh_shape.specs.Lives.{configs_of, joined};
 ghost use Rattle.jh_history.specs.Commits.{marked, is_other, committed_cells, created as created_by};
-ghost use Rattle.jh_history.specs.LiveView.{joined};
 
 use crate::boxed::BoxedCell;
 use jh_call::Call;
-use jh_cellcfg::{CellConfig, Region};
+use jh_cellcfg::CellConfig;
 use jh_num::NoMemory;
+use jh_shape::any_takes;
 use std::alloc::Global;
 use std::marker::Model;
 
@@ -25,7 +24,7 @@ pub(crate) struct LiveCells {
 impl Model for LiveCells {
     ghost use Rattle.std.specs.Prelude.{◌≡◌, List, length};
     ghost use Rattle.jh_cellcfg.specs.declared.live.Live.{Live as TheLive};
-    ghost use Rattle.jh_history.specs.LiveView.{joined};
+    ghost use Rattle.jh_shape.specs.Lives.{joined};
 
     ghost Value = { List TheLive };
 
@@ -59,20 +58,6 @@ fn leave(cells: &mut Vec<CellConfig>, marks: &mut Vec<bool>, id: u64)
             let _ = marks.remove(i);
         }
     }
-}
-
-/// Whether the region takes the place from root, where its cell is loadable or not.
-fn takes(region: &Region, loadable: bool, place: u64) -> bool
-    ensures { result ≡ takes loadable region.now place }
-{
-    region.is_unshared() && !(loadable && region.is_loadable()) && region.has_place(place)
-}
-
-/// Whether one of the regions takes the place from root, where their cell is loadable or not.
-fn any_takes(regions: &[Region], loadable: bool, place: u64) -> bool
-    ensures { result ≡ list_any (λ region. takes loadable region place) regions.now }
-{
-    regions.iter().any(|region| takes(region, loadable, place))
 }
 
 /// Whether one of the cells, each with its mark, takes the place from root.

@@ -4,7 +4,7 @@ use Rattle.std.specs.List.{list_any}
 use Rattle.jh_cellcfg.specs.declared.live.Live.{Live}
 use Rattle.jh_cellcfg.specs.declared.region.Region.{Region}
 use Rattle.jh_shape.specs.Shapes.{takes}
-use Rattle.jh_history.specs.LiveView.{joined}
+use Rattle.jh_shape.specs.Lives.{joined}
 use Rattle.jh_history.proofs.LiveLemmas.{length_joined}
 use Rattle.jh_history.proofs.LoopLemmas.{any_found, any_next, any_end, closing, closed_by, live_of, joined_read}
 use Rattle.jh_history.proofs.live_cells.any_closes.Goals as goal

@@ -1,7 +1,7 @@
 -- None of the cells so far.
 use Rattle.std.proofs.Common.{◌≡◌, false, take}
 use Rattle.std.specs.List.{list_any}
-use Rattle.jh_history.specs.LiveView.{joined}
+use Rattle.jh_shape.specs.Lives.{joined}
 use Rattle.jh_history.proofs.LoopLemmas.{closing}
 use Rattle.jh_history.proofs.live_cells.any_closes.Given as goal
 

@@ -1,7 +1,7 @@
 -- One cell more, from the last one on.
 use Rattle.std.proofs.Common.{◌≡◌, ◌-◌, ◌<◌, true, false, length, vec_len, rules, ◌∙◌, sym, eq-eqb, arith}
 use Rattle.std.proofs.lemmas.Bool.{ne_eqb}
-use Rattle.jh_history.specs.LiveView.{joined}
+use Rattle.jh_shape.specs.Lives.{joined}
 use Rattle.jh_history.proofs.LiveLemmas.{has_number, leave_so_far, leave_begin, leave_within, leave_keep, leave_drop, leave_even}
 use Rattle.jh_history.proofs.live_cells.leave.Goals as goal
 

@@ -1,7 +1,7 @@
 -- Those cells that stand at the place or behind it have left.
 use Rattle.std.proofs.Common.{◌≡◌, length}
 use Rattle.jh_history.specs.Commits.{is_other}
-use Rattle.jh_history.specs.LiveView.{joined}
+use Rattle.jh_shape.specs.Lives.{joined}
 use Rattle.jh_history.proofs.LiveLemmas.{left_from}
 use Rattle.jh_history.proofs.live_cells.leave.Given as goal
 

@@ -1,7 +1,7 @@
 -- One cell more.
 use Rattle.std.proofs.Common.{◌≡◌, ℕ, suc, ◌+◌, true, false, length, set, ◌∙◌, ap, sym, eq-eqb, arith, List, Bool}
 use Rattle.std.proofs.lemmas.Bool.{ne_eqb}
-use Rattle.jh_history.specs.LiveView.{joined}
+use Rattle.jh_shape.specs.Lives.{joined}
 use Rattle.jh_history.proofs.LiveLemmas.{has_number, marks_to, marks_to_all, marks_to_put, marks_to_skip}
 use Rattle.jh_history.proofs.live_cells.mark.Goals as goal
 use Rattle.jh_history.proofs.live_cells.mark.Goals.{then-from-id, else-from-id}
