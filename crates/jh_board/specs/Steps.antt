@@ -42,9 +42,9 @@ use Rattle.jh_board.specs.Means.{Means, HoldsWords, IsReady, IsReadyFor}
 use Rattle.jh_board.specs.Pages.{MemoryView, MayHold, HoldsPlace, HoldsSlot}
 
 -- the act is a Decide that goes on
-abbrev pub goes_on : Act → Bool
-goes_on (Decide None) = true
-goes_on act = false
+abbrev pub decides_to_go_on : Act → Bool
+decides_to_go_on (Decide None) = true
+decides_to_go_on act = false
 
 -- the address at which a create reads its configuration
 abbrev pub create_of : Call → Option ℕ

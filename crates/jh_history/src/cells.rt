@@ -21,9 +21,9 @@ use crate::access::{Access, Reach, Wanted};
 use crate::behind::{answer_of, ecam_of, is_within, places_in};
 use crate::devices::Devices;
 use crate::grants::{Grants, memory};
-use crate::live_cells::LiveCells;
 use crate::pages::live_in;
 use crate::place::{Place, Places, Run};
+use crate::plain_cells::PlainCells;
 use jh_cellcfg::{CellConfig, PciDevice, Region, RegionFlags};
 use jh_cpu::Cpu;
 use jh_ivshmem::Endpoints;
@@ -157,7 +157,7 @@ pub(crate) fn op_at(image: &Image, cells: &[CellConfig], state: Cpu, cpu: u8) ->
 #[derive(Drop)]
 struct ImageGrants<'a> {
     image: &'a Image,
-    cells: &'a LiveCells,
+    cells: &'a PlainCells,
 }
 
 impl<'a> Model for ImageGrants<'a> {
@@ -187,7 +187,7 @@ impl<'a> Grants for ImageGrants<'a> {
 }
 
 /// Whether the cell is kept from the place.
-fn is_kept(image: &Image, cells: &LiveCells, cell: u32, place: Place) -> bool
+fn is_kept(image: &Image, cells: &PlainCells, cell: u32, place: Place) -> bool
     ensures { result ≡ is_kept image.now cells.now cell place }
 {
     match place {
@@ -197,7 +197,7 @@ fn is_kept(image: &Image, cells: &LiveCells, cell: u32, place: Place) -> bool
 }
 
 /// Whether the cell is kept from a place of the run.
-fn is_run_kept(image: &Image, cells: &LiveCells, cell: u32, run: Run) -> bool
+fn is_run_kept(image: &Image, cells: &PlainCells, cell: u32, run: Run) -> bool
     requires { IsRun run }
     ensures { result ≡ list_any (is_kept image.now cells.now cell) (places_of_run run) }
 {
@@ -210,7 +210,7 @@ fn is_run_kept(image: &Image, cells: &LiveCells, cell: u32, run: Run) -> bool
 }
 
 /// Whether the cell is kept from one of the places.
-fn are_kept(image: &Image, cells: &LiveCells, cell: u32, places: &Places) -> bool
+fn are_kept(image: &Image, cells: &PlainCells, cell: u32, places: &Places) -> bool
     ensures { result ≡ list_any (is_kept image.now cells.now cell) places.now }
 {
     let (low, high) = places.runs();
@@ -224,7 +224,7 @@ fn are_kept(image: &Image, cells: &LiveCells, cell: u32, places: &Places) -> boo
 /// isn't granted.
 pub(crate) fn memory_in(
     image: &Image,
-    cells: &LiveCells,
+    cells: &PlainCells,
     cell: u32,
     wanted: &Wanted,
 ) -> Option<Places>
@@ -246,7 +246,7 @@ pub(crate) fn memory_in(
 
 /// Whether the region is a subpage region that has the cell's whole access, and the cell is kept from none of its
 /// bytes.
-fn takes_all(image: &Image, cells: &LiveCells, cell: u32, region: &Region, wanted: &Wanted) -> bool
+fn takes_all(image: &Image, cells: &PlainCells, cell: u32, region: &Region, wanted: &Wanted) -> bool
     requires some { 0 < wanted.now.width }
     requires few { wanted.now.width ≤ 8 }
     requires within { 0 < region.now.size → IsInRange region.now }
@@ -262,7 +262,7 @@ fn takes_all(image: &Image, cells: &LiveCells, cell: u32, region: &Region, wante
 }
 
 /// The subpage region of the cell that has the access, where the cell is kept from none of its bytes.
-fn subpage_of(image: &Image, cells: &LiveCells, cell: u32, wanted: &Wanted) -> Option<Region>
+fn subpage_of(image: &Image, cells: &PlainCells, cell: u32, wanted: &Wanted) -> Option<Region>
     requires clean { IsClean image.now.system (configs_of cells.now) }
     requires some { 0 < wanted.now.width }
     requires few { wanted.now.width ≤ 8 }
@@ -282,7 +282,7 @@ fn subpage_of(image: &Image, cells: &LiveCells, cell: u32, wanted: &Wanted) -> O
 /// What answers the cell's access where no memory does.
 fn behind_in(
     image: &Image,
-    cells: &LiveCells,
+    cells: &PlainCells,
     endpoints: &Endpoints,
     cell: u32,
     wanted: &Wanted,
@@ -305,7 +305,7 @@ fn behind_in(
 #[tactic(auto, using(crate::proofs::ReachLemmas::reaches_memory, crate::proofs::ReachLemmas::reaches_behind))]
 pub(crate) fn reach_in(
     image: &Image,
-    cells: &LiveCells,
+    cells: &PlainCells,
     endpoints: &Endpoints,
     cell: u32,
     wanted: &Wanted,

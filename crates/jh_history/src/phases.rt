@@ -270,7 +270,7 @@ fn decision<K: Known>(known: &K, caller: u8, call: &Call) -> Result<Option<i64>,
 }
 
 /// How the cell settled, as an act.
-fn settle(how: Option<Settled>) -> Option<Act>
+fn settle_act(how: Option<Settled>) -> Option<Act>
     ensures act { result ≡ option_map (λ (how : TheSettled). Settle how) how }
     ensures phase { IfSome result (λ act. is_call act ≡ true) }
 {
@@ -307,7 +307,7 @@ pub(crate) fn phase_act<K: Known>(known: &K, begun: &OpenCall) -> Result<Option<
         }
         Phase::ToSettle { waited } => {
             let how = settled_of(known, begun.caller, &begun.call, *waited);
-            Ok(settle(how))
+            Ok(settle_act(how))
         }
         Phase::ToCreate { .. } => Ok(Some(Act::Commit)),
         Phase::ToCommit => {

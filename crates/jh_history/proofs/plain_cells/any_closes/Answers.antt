@@ -7,7 +7,7 @@ use Rattle.jh_shape.specs.Shapes.{takes}
 use Rattle.jh_shape.specs.Lives.{joined}
 use Rattle.jh_history.proofs.LiveLemmas.{length_joined}
 use Rattle.jh_history.proofs.LoopLemmas.{any_found, any_next, any_end, closing, closed_by, live_of, joined_read}
-use Rattle.jh_history.proofs.live_cells.any_closes.Goals as goal
+use Rattle.jh_history.proofs.plain_cells.any_closes.Goals as goal
 
 pub returns-then-any_takes : goal.returns-then-any_takes
 returns-then-any_takes c =

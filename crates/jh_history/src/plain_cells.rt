@@ -16,12 +16,12 @@ use std::marker::Model;
 
 /// The cells that live besides root, in order of their creation, each with its mark: whether it is loadable.
 #[derive(Drop)]
-pub(crate) struct LiveCells {
+pub(crate) struct PlainCells {
     configs: Vec<CellConfig>,
     marks: Vec<bool>,
 }
 
-impl Model for LiveCells {
+impl Model for PlainCells {
     ghost use Rattle.std.specs.Prelude.{◌≡◌, List, length};
     ghost use Rattle.jh_cellcfg.specs.declared.live.Live.{Live as TheLive};
     ghost use Rattle.jh_shape.specs.Lives.{joined};
@@ -73,12 +73,12 @@ fn any_closes(cells: &[CellConfig], marks: &[bool], place: u64) -> bool
     false
 }
 
-impl LiveCells {
+impl PlainCells {
     /// No cell lives besides root.
     pub(crate) fn new(alloc: Global) -> Self
         ensures { result ≡ [] }
     {
-        LiveCells {
+        PlainCells {
             configs: Vec::new(alloc),
             marks: Vec::new(alloc),
         }

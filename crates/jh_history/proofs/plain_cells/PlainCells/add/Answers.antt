@@ -2,7 +2,7 @@
 use Rattle.std.proofs.Common.{◌≡◌, false, List, [], ◌∷◌, ◌++◌, Bool, ap, ◌∙◌}
 use Rattle.jh_cellcfg.specs.declared.config.CellConfig.{CellConfig}
 use Rattle.jh_history.proofs.LiveLemmas.{joined_push}
-use Rattle.jh_history.proofs.live_cells.LiveCells.add.Goals as goal
+use Rattle.jh_history.proofs.plain_cells.PlainCells.add.Goals as goal
 
 pub returns-clause-ok : goal.returns-clause-ok
 returns-clause-ok c =

@@ -3,7 +3,7 @@ use Rattle.std.proofs.Common.{◌≡◌, ◌-◌, ◌<◌, true, false, length, 
 use Rattle.std.proofs.lemmas.Bool.{ne_eqb}
 use Rattle.jh_shape.specs.Lives.{joined}
 use Rattle.jh_history.proofs.LiveLemmas.{has_number, leave_so_far, leave_begin, leave_within, leave_keep, leave_drop, leave_even}
-use Rattle.jh_history.proofs.live_cells.leave.Goals as goal
+use Rattle.jh_history.proofs.plain_cells.leave.Goals as goal
 
 pub loop-i-init : goal.loop-i-init
 loop-i-init c =

@@ -3,8 +3,8 @@ use Rattle.std.proofs.Common.{◌≡◌, ℕ, suc, ◌+◌, true, false, length,
 use Rattle.std.proofs.lemmas.Bool.{ne_eqb}
 use Rattle.jh_shape.specs.Lives.{joined}
 use Rattle.jh_history.proofs.LiveLemmas.{has_number, marks_to, marks_to_all, marks_to_put, marks_to_skip}
-use Rattle.jh_history.proofs.live_cells.mark.Goals as goal
-use Rattle.jh_history.proofs.live_cells.mark.Goals.{then-from-id, else-from-id}
+use Rattle.jh_history.proofs.plain_cells.mark.Goals as goal
+use Rattle.jh_history.proofs.plain_cells.mark.Goals.{then-from-id, else-from-id}
 
 pub loop-i-preserved : goal.loop-i-preserved
 loop-i-preserved c =

@@ -3,7 +3,7 @@ use Rattle.std.proofs.Common.{◌≡◌, length}
 use Rattle.jh_history.specs.Commits.{is_other}
 use Rattle.jh_shape.specs.Lives.{joined}
 use Rattle.jh_history.proofs.LiveLemmas.{left_from}
-use Rattle.jh_history.proofs.live_cells.leave.Given as goal
+use Rattle.jh_history.proofs.plain_cells.leave.Given as goal
 
 abbrev pub invariant-loop-i : goal.invariant-loop-i
 invariant-loop-i l = record {
