@@ -12,7 +12,7 @@ ghost use Rattle.jh_history.specs.Access.{right_of, gives, region_of, memory_or_
 ghost use Rattle.jh_history.specs.Grants.{granted_in, is_kept, behind_in, reach_in};
 ghost use Rattle.jh_history.specs.Devices.{list_in};
 ghost use Rattle.jh_shape.specs.Lives.{configs_of};
-ghost use Rattle.jh_history.specs.Places.{places_of_run, IsRun};
+ghost use Rattle.jh_history.specs.Places.{places_of_row, IsRow};
 ghost use Rattle.jh_history.specs.Admitted.{IsAdmitted};
 ghost use Rattle.jh_history.specs.Facts.{Facts};
 ghost use Rattle.jh_history.specs.Lives.{is_on_board, is_program_of, program_of, cell_in, regions_in, ops_in, op_at};
@@ -22,7 +22,7 @@ use crate::behind::{answer_of, ecam_of, is_within, places_in};
 use crate::devices::Devices;
 use crate::grants::{Grants, memory};
 use crate::pages::live_in;
-use crate::place::{Place, Places, Run};
+use crate::place::{Place, Places, Row};
 use crate::plain_cells::PlainCells;
 use jh_cellcfg::{CellConfig, PciDevice, Region, RegionFlags};
 use jh_cpu::Cpu;
@@ -196,13 +196,13 @@ fn is_kept(image: &Image, cells: &PlainCells, cell: u32, place: Place) -> bool
     }
 }
 
-/// Whether the cell is kept from a place of the run.
-fn is_run_kept(image: &Image, cells: &PlainCells, cell: u32, run: Run) -> bool
-    requires { IsRun run }
-    ensures { result ≡ list_any (is_kept image.now cells.now cell) (places_of_run run) }
+/// Whether the cell is kept from a place of the row.
+fn is_row_kept(image: &Image, cells: &PlainCells, cell: u32, row: Row) -> bool
+    requires { IsRow row }
+    ensures { result ≡ list_any (is_kept image.now cells.now cell) (places_of_row row) }
 {
-    for k in 0..run.count {
-        if is_kept(image, cells, cell, run.first.further(k)) {
+    for k in 0..row.count {
+        if is_kept(image, cells, cell, row.first.further(k)) {
             return true;
         }
     }
@@ -213,11 +213,11 @@ fn is_run_kept(image: &Image, cells: &PlainCells, cell: u32, run: Run) -> bool
 fn are_kept(image: &Image, cells: &PlainCells, cell: u32, places: &Places) -> bool
     ensures { result ≡ list_any (is_kept image.now cells.now cell) places.now }
 {
-    let (low, high) = places.runs();
-    if is_run_kept(image, cells, cell, low) {
+    let (low, high) = places.rows();
+    if is_row_kept(image, cells, cell, low) {
         return true;
     }
-    is_run_kept(image, cells, cell, high)
+    is_row_kept(image, cells, cell, high)
 }
 
 /// The places of memory that the cell's access reaches, where these cells live besides root; `None` where some byte

@@ -20,7 +20,7 @@ use crate::change::is_running;
 use crate::entry::{Act, Heard, Settled};
 use crate::known::Known;
 use crate::next::is_idle_but;
-use crate::place::{Place, Places, Run};
+use crate::place::{Place, Places, Row};
 use jh_call::Call;
 use jh_cellcfg::CellConfig;
 use jh_comm::{REPLY_RECEIVED, REPLY_REQUEST_APPROVED, STATE_FAILED, STATE_SHUT_DOWN};
@@ -49,12 +49,12 @@ fn word_at<K: Known>(known: &K, cell: u32, offset: u64) -> u32
     requires { offset < 4096 }
     ensures { (i : TheImage) (f : Facts) → K.Knows known.now i f → result ≡ word_in (λ k. f.byte (Page cell k)) offset }
 {
-    let run = Run {
+    let row = Row {
         first: Place::Page { cell, offset },
         count: 4,
     };
-    let none = Run { count: 0, ..run };
-    known.value(&Places::new(run, none)) as u32
+    let none = Row { count: 0, ..row };
+    known.value(&Places::new(row, none)) as u32
 }
 
 /// The state word of the communication page of the live cell.

@@ -1,7 +1,7 @@
 -- The region that is found gives the whole page.
 use Rattle.std.proofs.Common.{sym, arith}
 use Rattle.jh_history.proofs.GrantLemmas.{region_of_has, places_from_page, places_from_page_none}
-use Rattle.jh_history.proofs.grants.row_of.Goals as goal
+use Rattle.jh_history.proofs.grants.first_of_row.Goals as goal
 
 pub place_in_cell-requires-clause-has : goal.place_in_cell-requires-clause-has
 place_in_cell-requires-clause-has g c = region_of_has (g.G.Grants.regions c.args.grants.now c.args.cell) c.args.access c.args.at c.in-Some.region (sym c.in-Some.ensures.found)
