@@ -1,5 +1,5 @@
--- The live cells as the slow plain program keeps them: their configurations, and their marks.
-use Rattle.std.specs.Prelude.{ℕ, Bool, ◌==◌, ◌&&◌, not, List, [], ◌∷◌}
+-- What the slow plain program keeps of the live cells, and which of them are locked by its bytes.
+use Rattle.std.specs.Prelude.{ℕ, Bool, ◌==◌, ◌&&◌, not, List}
 use Rattle.jh_comm.specs.Page.{state_in}
 use Rattle.jh_comm.specs.declared.words.TheConstants.{STATE_RUNNING_LOCKED}
 use Rattle.jh_cellcfg.specs.declared.config.CellConfig.{CellConfig}
