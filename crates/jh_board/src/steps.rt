@@ -20,7 +20,7 @@ ghost use Rattle.jh_history.specs.Wants.{IsReachOfEntry};
 ghost use Rattle.jh_board.specs.Pages.{byte_of, HoldsComm, HoldsPlace};
 ghost use Rattle.jh_board.specs.Judged.{IsJudged};
 ghost use Rattle.jh_board.specs.Means.{Means, IsReady, IsReadyFor};
-ghost use Rattle.jh_board.specs.Steps.{goes_on, create_of, change_of_call, change_of_cells, changed_cells, IsNext, IsRead, IsFree, WillBeReady, IsPrepared, MayWrite, MayWriteOf, MayWriteSlot, MayCommit, MayJoin, IsSameButDevices, joined_cells, devices_held, memory_written, memory_after, slot_after, endpoints_acted_by};
+ghost use Rattle.jh_board.specs.Steps.{decides_to_go_on, create_of, change_of_call, change_of_cells, changed_cells, IsNext, IsRead, IsFree, WillBeReady, IsPrepared, MayWrite, MayWriteOf, MayWriteSlot, MayCommit, MayJoin, IsSameButDevices, joined_cells, devices_held, memory_written, memory_after, slot_after, endpoints_acted_by};
 
 use crate::cell_regions::CellRegions;
 use crate::cells::LiveCells;
@@ -89,8 +89,8 @@ fn change_cells(cells: &mut LiveCells, change: CellsChange)
 }
 
 /// Whether the act is a Decide that goes on.
-fn goes_on(act: &Act) -> bool
-    ensures { result ≡ goes_on act.now }
+fn decides_to_go_on(act: &Act) -> bool
+    ensures { result ≡ decides_to_go_on act.now }
 {
     matches!(act, Act::Decide { refused: None })
 }
@@ -121,7 +121,7 @@ fn coming_of(
     ensures devices { IfOk result (λ coming. IfSome coming HasGoodDevices) }
     ensures tables { IfOk result (λ coming. IfSome coming (λ config. All IsWithin (specs_of config))) }
 {
-    if !goes_on(&entry.act) {
+    if !decides_to_go_on(&entry.act) {
         return Ok(None);
     }
     let Some(begun) = &held.call else {

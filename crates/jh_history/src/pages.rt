@@ -11,7 +11,7 @@ ghost use Rattle.jh_check.specs.Refusals.{any_below};
 ghost use Rattle.jh_history.specs.Facts.{Facts};
 ghost use Rattle.jh_history.specs.Lives.{is_on_board, live_in};
 ghost use Rattle.jh_history.specs.Cpus.{cpu_after};
-ghost use Rattle.jh_history.specs.Phases.{configs_of};
+ghost use Rattle.jh_shape.specs.Lives.{configs_of};
 ghost use Rattle.jh_history.specs.Pages.{on_page, named_cell, is_left, failing, unless_good, asking, committing, page_write_by};
 
 use crate::call::{OpenCall, Phase};

@@ -6,7 +6,8 @@ use Rattle.std.proofs.lemmas.List.{append-nil}
 use Rattle.jh_cellcfg.specs.declared.config.CellConfig.{CellConfig}
 use Rattle.jh_cellcfg.specs.declared.live.Live.{Live}
 use Rattle.jh_cellcfg.specs.Lives.{has_id}
-use Rattle.jh_life.specs.Lives.{new_live, configs_of}
+use Rattle.jh_life.specs.Lives.{new_live}
+use Rattle.jh_shape.specs.Lives.{configs_of}
 use Rattle.jh_life.specs.Changes.{CellChange, Created, Dropped, Marked, marked, without, after, is_kept, lasting}
 use Rattle.jh_life.proofs.ChangeLemmas.{marked_configs}
 

@@ -5,7 +5,8 @@ ghost use Rattle.jh_num.specs.declared.error.TheConstants.{EBUSY, EEXIST, EINVAL
 ghost use Rattle.jh_cellcfg.specs.declared.live.Live.{Live};
 ghost use Rattle.jh_cellcfg.specs.Lives.{has_id};
 ghost use Rattle.jh_life.specs.Seen.{Seen};
-ghost use Rattle.jh_life.specs.Lives.{configs_of, marks_of};
+ghost use Rattle.jh_life.specs.Lives.{marks_of};
+ghost use Rattle.jh_shape.specs.Lives.{configs_of};
 ghost use Rattle.jh_life.specs.Changes.{CellChange, marked, without, after, live_after, lasting, AreNew};
 ghost use Rattle.jh_check.specs.Refusals.{IsAccepted};
 ghost use Rattle.jh_shape.specs.Pages.{pages_of};
