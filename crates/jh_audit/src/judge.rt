@@ -14,9 +14,6 @@ use jh_script::Image;
 use jh_text::MAX_ENTRIES;
 use std::alloc::Global;
 
-/// How many entries a journal may have that is audited.
-pub const AUDIT_LIMIT: u32 = MAX_ENTRIES as u32;
-
 /// Makes what is due to the entry's CPU, and tells it. A CPU that the board lacks makes nothing.
 fn try_entry(board: &mut Board, entry: &Entry) -> Result<Option<Entry>, NoMemory>
     requires { length board.old.entries < board.old.limit }
@@ -86,8 +83,8 @@ fn whole_verdict(board: &Board) -> Verdict
 /// Judges the entries on a board that was just opened: makes each anew, and compares.
 fn judge_entries(board: &mut Board, entries: &[Entry]) -> Result<Verdict, NoMemory>
     requires opened { board.old.entries ≡ [] }
-    requires limit { board.old.limit ≡ AUDIT_LIMIT }
-    requires few { length entries.now ≤ AUDIT_LIMIT }
+    requires limit { board.old.limit ≡ MAX_ENTRIES }
+    requires few { length entries.now ≤ MAX_ENTRIES }
     // legal exactly where each entry is the one due; else the first that isn't, and what was due there
     ensures { IfOk result (Judges board.old.image entries.now) }
 {
@@ -110,7 +107,7 @@ pub fn audit(alloc: Global, image: Image, journal: &Journal) -> Result<Verdict, 
     // legal exactly where each entry is the one due; else the first that isn't, and what was due there
     ensures { IfOk result (Judges image journal.now.entries) }
 {
-    match Board::open(alloc, image, AUDIT_LIMIT) {
+    match Board::open(alloc, image, MAX_ENTRIES as u32) {
         Ok(mut board) => judge_entries(&mut board, journal.as_slice()),
         Err(_) => Err(NoMemory),
     }

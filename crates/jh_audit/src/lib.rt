@@ -5,5 +5,5 @@ mod compared;
 mod judge;
 mod verdict;
 
-pub use judge::{AUDIT_LIMIT, audit};
+pub use judge::audit;
 pub use verdict::Verdict;

@@ -18,7 +18,7 @@ pub MayHold_same : (old new : MemoryView) → ((q : Place) → HoldsPlace old q 
 MayHold_same old new same (Physical a) h = tt
 MayHold_same old new same (Page cell offset) h = same (Page cell offset) h
 
--- a page is the first's or the last's of a run
+-- a page is the first's or the last's of a row
 two_pages : (pages : Pages) (p k n : ℕ) → k ≤ n → n < 8 → Holds pages p → Holds pages (p + n) → Holds pages (p + k)
 two_pages pages p k n le few first last =
     let P : ℕ → Type 0 = λ number. IsSome (page_at pages number) in
@@ -38,12 +38,12 @@ each_held pages p (suc count) each = (
   each_held pages (further p 1) count (λ k lt. subst (HoldsPlace pages) (sym (further_next p k)) (each (k + 1) (omega arith))),
 )
 
--- so all of a run is held where its first and its last place are
+-- so all of a row is held where its first and its last place are
 pub row_held : (pages : MemoryView) (p : Place) (count : ℕ) → 0 < count → count ≤ 8 → HoldsPlace pages p → HoldsPlace pages (further p (count - 1)) → All (HoldsPlace pages) (places_in_row p count)
 row_held pages p count some few first last =
     All-from_recursion (HoldsPlace pages) (places_in_row p count) (each_held pages p count (λ k lt. held_between pages p k (count - 1) (omega arith) (omega arith) first last))
 
--- the k-th place of a run is one of its places
+-- the k-th place of a row is one of its places
 at_place : (Q : Place → Type 0) (p : Place) (count k : ℕ) → k < count → AllByRecursion Q (places_in_row p count) → Q (further p k)
 at_place Q p zero k lt all = absurd (omega arith)
 at_place Q p (suc count) zero lt all = subst Q (sym (further_none p)) all.0
@@ -65,11 +65,11 @@ pub over_more : (old new : MemoryView) (p at : Place) (byte k n rest : ℕ) (pla
 over_more old new p at byte k n rest places q lt is_at is_byte is =
     rw (is, is_at, is_byte) (ap (λ (ps : List Place). over (ps ++ places) rest q (byte_of old q)) (sym (row_next p k n lt)))
 
--- the two runs of a write
-pub written_runs : (old middle new : MemoryView) (low high places : List Place) (value rest last : ℕ) (q : Place) → places ≡ low ++ high
+-- the two rows of a write
+pub written_rows : (old middle new : MemoryView) (low high places : List Place) (value rest last : ℕ) (q : Place) → places ≡ low ++ high
     → ((ps : List Place) → over ps rest q (byte_of middle q) ≡ over (low ++ ps) value q (byte_of old q))
     → ((ps : List Place) → over ps last q (byte_of new q) ≡ over (high ++ ps) rest q (byte_of middle q))
     → byte_of new q ≡ written (byte_of old) places value q
-written_runs old middle new low high places value rest last q is first second =
+written_rows old middle new low high places value rest last q is first second =
     second [] ∙ first (high ++ []) ∙ ap (λ (ps : List Place). over (low ++ ps) value q (byte_of old q)) (append-nil high)
     ∙ ap (λ (ps : List Place). over ps value q (byte_of old q)) (sym is) ∙ sym (written_over (byte_of old) places value q)

@@ -17,7 +17,8 @@ use Rattle.jh_cellcfg.specs.Lives.{has_id}
 use Rattle.jh_cellcfg.specs.Regions.{IsInRange}
 use Rattle.jh_shape.specs.Pages.{tables_of, pages_of, root_claims, cell_claims}
 use Rattle.jh_shape.proofs.PageLemmas.{tables_le}
-use Rattle.jh_life.specs.Lives.{configs_of, has_config_id, new_live}
+use Rattle.jh_life.specs.Lives.{has_config_id, new_live}
+use Rattle.jh_shape.specs.Lives.{configs_of}
 use Rattle.jh_life.specs.Changes.{marked as marked_of}
 use Rattle.jh_history.specs.Commits.{is_other, marked}
 use Rattle.jh_history.specs.Lives.{live_in}

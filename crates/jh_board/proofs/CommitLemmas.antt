@@ -27,7 +27,7 @@ use Rattle.jh_history.specs.Endpoints.{device_change, changing, changing_at, cha
 use Rattle.jh_history.specs.Facts.{Facts}
 use Rattle.jh_history.specs.Grants.{devices_of}
 use Rattle.jh_history.specs.Lives.{live_in}
-use Rattle.jh_history.specs.Phases.{configs_of}
+use Rattle.jh_shape.specs.Lives.{configs_of}
 use Rattle.jh_history.specs.Places.{places_in_row}
 use Rattle.jh_history.specs.Sound.{IsSound, IsOfDevice}
 use Rattle.jh_board.specs.declared.held.Held.{Held}

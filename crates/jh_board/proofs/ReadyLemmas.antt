@@ -23,7 +23,7 @@ use Rattle.jh_history.specs.History.{coming_by, coming_of, call_after}
 use Rattle.jh_history.specs.Calls.{telling, first_told, decided, after_commit, call_by}
 use Rattle.jh_board.specs.declared.held.Held.{Held}
 use Rattle.jh_board.specs.Means.{IsReadyIn, IsReady, IsReadyFor}
-use Rattle.jh_board.specs.Steps.{goes_on, create_of}
+use Rattle.jh_board.specs.Steps.{decides_to_go_on, create_of}
 
 -- ---- readiness
 
@@ -51,7 +51,7 @@ ready_committed held (CpuInfo cpu kind) cells phase = tt
 ready_committed held Unknown cells phase = tt
 
 -- an act that goes on is a Decide
-pub going_decides : (act : Act) → goes_on act ≡ true → act ≡ Decide None
+pub going_decides : (act : Act) → decides_to_go_on act ≡ true → act ≡ Decide None
 going_decides (Read width at got) h = absurd (both_ways false refl h)
 going_decides (Write width at value ok) h = absurd (both_ways false refl h)
 going_decides (Fetch at got) h = absurd (both_ways false refl h)

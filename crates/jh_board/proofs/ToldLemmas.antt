@@ -27,7 +27,7 @@ use Rattle.jh_history.specs.declared.place.Place.TheVariants.{Physical, Page}
 use Rattle.jh_history.specs.Access.{right_of, gives, place_in_cell, region_of, place_of}
 use Rattle.jh_history.specs.Grants.{unless, granted_by}
 use Rattle.jh_history.specs.Lives.{cell_in, regions_in}
-use Rattle.jh_history.specs.Phases.{configs_of}
+use Rattle.jh_shape.specs.Lives.{configs_of}
 use Rattle.jh_history.proofs.GrantedLemmas.{numbered_cell}
 use Rattle.jh_board.specs.Closed.{AreInRange, is_closed_by}
 use Rattle.jh_board.specs.Maps.{is_kept_at, is_right, is_told, place_told, told_grant}

@@ -10,7 +10,7 @@ use Rattle.jh_cellcfg.specs.declared.live.Live.{Live}
 use Rattle.jh_cellcfg.specs.Lives.{has_id}
 use Rattle.jh_cellcfg.specs.Regions.{IsInRange}
 use Rattle.jh_shape.specs.Shapes.{takes, is_closed, holder_of_live}
-use Rattle.jh_life.specs.Lives.{configs_of}
+use Rattle.jh_shape.specs.Lives.{configs_of}
 use Rattle.jh_history.specs.Lives.{live_in}
 
 -- a cell with these regions, loadable or not, takes the place from root

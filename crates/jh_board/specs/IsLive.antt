@@ -2,7 +2,7 @@
 use Rattle.std.specs.Prelude.{◌≡◌, ℕ, ◌<◌, ◌≤◌, All, length}
 use Rattle.jh_num.specs.Bytes.{has_byte}
 use Rattle.jh_shape.specs.Pages.{pages_of}
-use Rattle.jh_life.specs.Lives.{configs_of}
+use Rattle.jh_shape.specs.Lives.{configs_of}
 use Rattle.jh_board.specs.Closed.{is_closed_by, all_regions, count_regions, AreInRange}
 use Rattle.jh_board.specs.declared.cells.LiveCells.TheInside.{Inside}
 

@@ -2,7 +2,6 @@
 use Rattle.std.specs.Prelude.{ℕ, List}
 use Rattle.jh_cellcfg.specs.declared.config.SystemConfig.{SystemConfig}
 use Rattle.jh_cellcfg.specs.declared.live.Live.{Live}
-use Rattle.jh_script.specs.declared.image.Image.{Image}
 
 -- the system; the cells, in order of creation; and for how many cells and regions more there is room
 pub record LiveView : Type 0 where
@@ -10,8 +9,3 @@ pub record LiveView : Type 0 where
   pub lives : List Live
   pub cells : ℕ
   pub regions : ℕ
-
--- an image, and the cells that live besides its root
-pub record GrantsView : Type 0 where
-  pub image : Image
-  pub lives : List Live

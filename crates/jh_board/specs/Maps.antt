@@ -12,7 +12,7 @@ use Rattle.jh_history.specs.declared.place.Place.{Place}
 use Rattle.jh_history.specs.declared.place.Place.TheVariants.{Physical, Page}
 use Rattle.jh_history.specs.Grants.{is_kept}
 use Rattle.jh_history.specs.Lives.{cell_in, regions_in}
-use Rattle.jh_history.specs.Phases.{configs_of}
+use Rattle.jh_shape.specs.Lives.{configs_of}
 
 -- the configurations of the cells that live, where these live besides root: root first, and then by creation
 abbrev pub all_cells : Image → List Live → List CellConfig

@@ -25,7 +25,7 @@ use Rattle.jh_history.specs.Access.{slot_of_reach}
 use Rattle.jh_history.specs.Devices.{Devices, devices_in, specs_of}
 use Rattle.jh_history.specs.Endpoints.{endpoints_put, change_by, changing_by, MayChange}
 use Rattle.jh_history.specs.Places.{written}
-use Rattle.jh_history.specs.Phases.{configs_of}
+use Rattle.jh_shape.specs.Lives.{configs_of}
 use Rattle.jh_history.specs.Calls.{call_by}
 use Rattle.jh_history.specs.Commits.{marked, is_other}
 use Rattle.jh_history.specs.DueFacts.{NamesCpu}
@@ -42,9 +42,9 @@ use Rattle.jh_board.specs.Means.{Means, HoldsWords, IsReady, IsReadyFor}
 use Rattle.jh_board.specs.Pages.{MemoryView, MayHold, HoldsPlace, HoldsSlot}
 
 -- the act is a Decide that goes on
-abbrev pub goes_on : Act → Bool
-goes_on (Decide None) = true
-goes_on act = false
+abbrev pub decides_to_go_on : Act → Bool
+decides_to_go_on (Decide None) = true
+decides_to_go_on act = false
 
 -- the address at which a create reads its configuration
 abbrev pub create_of : Call → Option ℕ

@@ -13,14 +13,14 @@ ghost use Rattle.jh_history.specs.Access.{memory_or_nothing, places_from, reach_
 ghost use Rattle.jh_history.specs.Grants.{granted_in, is_kept, behind_in, reach_in};
 ghost use Rattle.jh_history.specs.Devices.{list_in};
 ghost use Rattle.jh_history.specs.Lives.{regions_in};
-ghost use Rattle.jh_history.specs.Places.{number_of, places_in_row, places_of_run, IsRun};
+ghost use Rattle.jh_history.specs.Places.{number_of, places_in_row, places_of_row, IsRow};
 
 use crate::cells::LiveCells;
 use crate::indexed::{IndexedImage, giving};
 use jh_cellcfg::{PciDevice, Region};
 use jh_history::{
-    Access, Devices, Grants, Place, Places, Reach, Run, Wanted, answer_of, ecam_of, is_within,
-    places_in, row_of,
+    Access, Devices, Grants, Place, Places, Reach, Row, Wanted, answer_of, ecam_of, first_of_row,
+    is_within, places_in,
 };
 use jh_ivshmem::Endpoints;
 use jh_num::Range;
@@ -34,7 +34,7 @@ struct Granted<'a> {
 }
 
 impl<'a> Model for Granted<'a> {
-    ghost use Rattle.jh_board.specs.LiveView.{GrantsView};
+    ghost use Rattle.jh_history.specs.LiveView.{GrantsView};
 
     ghost Value = { GrantsView };
 
@@ -69,12 +69,12 @@ fn keeps_row(cells: &LiveCells, first: Place, count: u16) -> bool
     }
 }
 
-/// Whether root is kept from a place of the run.
-fn keeps_run(cells: &LiveCells, run: Run) -> bool
-    requires { IsRun run }
-    ensures { (i : TheImage) → result ≡ list_any (is_kept i cells.now.lives i.system.root.id) (places_of_run run) }
+/// Whether root is kept from a place of the row.
+fn keeps_any_of(cells: &LiveCells, row: Row) -> bool
+    requires { IsRow row }
+    ensures { (i : TheImage) → result ≡ list_any (is_kept i cells.now.lives i.system.root.id) (places_of_row row) }
 {
-    keeps_row(cells, run.first, u16::from(run.count))
+    keeps_row(cells, row.first, u16::from(row.count))
 }
 
 /// Whether the cell is kept from one of the places: it is root, and another cell takes the place.
@@ -84,8 +84,8 @@ fn keeps(image: &IndexedImage, cells: &LiveCells, cell: u32, places: &Places) ->
     if cell != image.root() {
         return false;
     }
-    let (low, high) = places.runs();
-    keeps_run(cells, low) || keeps_run(cells, high)
+    let (low, high) = places.rows();
+    keeps_any_of(cells, low) || keeps_any_of(cells, high)
 }
 
 /// The places of memory that the cell's access reaches, where these cells live besides root; `None` where some byte
@@ -116,7 +116,7 @@ pub fn row_of_root(image: &IndexedImage, cells: &LiveCells, at: u64, count: u16)
     ensures small { IfSome result (λ first. number_of first < ADDRESS_END) }
 {
     let granted = Granted { image, cells };
-    match row_of(&granted, image.root(), Access::Read, at, count) {
+    match first_of_row(&granted, image.root(), Access::Read, at, count) {
         Some(first) => {
             if keeps_row(cells, first, count) {
                 None

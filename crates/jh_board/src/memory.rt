@@ -4,12 +4,12 @@ ghost use Rattle.jh_num.specs.Memory.{spelled, stored};
 ghost use Rattle.jh_history.specs.declared.place.Place.{Place as ThePlace};
 ghost use Rattle.jh_history.specs.Access.{with_slot};
 ghost use Rattle.jh_history.specs.Pages.{with_page};
-ghost use Rattle.jh_history.specs.Places.{number_of, places_in_row, places_of_run, IsRun, with_byte, written, over};
+ghost use Rattle.jh_history.specs.Places.{number_of, places_in_row, places_of_row, IsRow, with_byte, written, over};
 ghost use Rattle.jh_board.specs.Pages.{byte_at, byte_of, HoldsComm, HoldsPlace, HoldsSlot, MayHold};
 
 use crate::comm_pages::{CommPages, Word};
 use crate::physical::{Physical, Piece};
-use jh_history::{Bytes, PageWrite, Place, Places, Run, slot_places, value_of};
+use jh_history::{Bytes, PageWrite, Place, Places, Row, slot_places, value_of};
 use jh_ivshmem::Slot;
 use jh_num::NoMemory;
 use std::alloc::Global;
@@ -36,7 +36,7 @@ fn piece_of(places: &Places) -> Option<Piece>
     ensures few { IfSome result (λ piece. piece.count ≤ 8) }
     ensures places { IfSome result (λ piece. places.now ≡ places_in_row (Place.Physical piece.at) piece.count) }
 {
-    let (low, high) = places.runs();
+    let (low, high) = places.rows();
     match low.first {
         Place::Physical(at) => {
             let count = usize::from(low.count);
@@ -56,7 +56,7 @@ fn word_of(places: &Places) -> Option<Word>
     ensures few { IfSome result (λ word. word.count ≤ 8) }
     ensures places { IfSome result (λ word. places.now ≡ places_in_row (ThePlace.Page word.cell word.offset) word.count) }
 {
-    let (low, high) = places.runs();
+    let (low, high) = places.rows();
     match low.first {
         Place::Page { cell, offset } => {
             let count = usize::from(low.count);
@@ -124,20 +124,20 @@ impl Memory {
         }
     }
 
-    /// Holds the pages of the run: those of its first and its last place.
-    fn hold_run(&mut self, run: Run) -> Result<(), NoMemory>
-        requires run { IsRun run }
-        requires few { run.count ≤ 8 }
-        requires may { All (MayHold self.old) (places_of_run run) }
+    /// Holds the pages of the row: those of its first and its last place.
+    fn hold_row(&mut self, row: Row) -> Result<(), NoMemory>
+        requires row { IsRow row }
+        requires few { row.count ≤ 8 }
+        requires may { All (MayHold self.old) (places_of_row row) }
         ensures bytes { (q : ThePlace) → byte_of self.new q ≡ byte_of self.old q }
-        ensures held { OnOk result (All (HoldsPlace self.new) (places_of_run run)) }
+        ensures held { OnOk result (All (HoldsPlace self.new) (places_of_row row)) }
         ensures others { (q : ThePlace) → HoldsPlace self.old q → HoldsPlace self.new q }
     {
-        if run.count == 0 {
+        if row.count == 0 {
             return Ok(());
         }
-        self.hold_place(run.first)?;
-        self.hold_place(run.first.further(run.count - 1))?;
+        self.hold_place(row.first)?;
+        self.hold_place(row.first.further(row.count - 1))?;
         Ok(())
     }
 
@@ -148,9 +148,9 @@ impl Memory {
         ensures held { OnOk result (All (HoldsPlace self.new) places.now) }
         ensures others { (q : ThePlace) → HoldsPlace self.old q → HoldsPlace self.new q }
     {
-        let (low, high) = places.runs();
-        self.hold_run(low)?;
-        self.hold_run(high)?;
+        let (low, high) = places.rows();
+        self.hold_row(low)?;
+        self.hold_row(high)?;
         Ok(())
     }
 
@@ -166,17 +166,17 @@ impl Memory {
         }
     }
 
-    /// Writes the value over the places of the run, which are held, the lowest byte first, and tells what
+    /// Writes the value over the places of the row, which are held, the lowest byte first, and tells what
     /// is left of it.
-    fn write_run(&mut self, run: Run, value: u64) -> u64
-        requires run { IsRun run }
-        requires held { All (HoldsPlace self.old) (places_of_run run) }
-        ensures bytes { (places : List ThePlace) (q : ThePlace) → over places result q (byte_of self.new q) ≡ over (places_of_run run ++ places) value q (byte_of self.old q) }
+    fn write_row(&mut self, row: Row, value: u64) -> u64
+        requires row { IsRow row }
+        requires held { All (HoldsPlace self.old) (places_of_row row) }
+        ensures bytes { (places : List ThePlace) (q : ThePlace) → over places result q (byte_of self.new q) ≡ over (places_of_row row ++ places) value q (byte_of self.old q) }
         ensures held { (q : ThePlace) → HoldsPlace self.old q → HoldsPlace self.new q }
     {
         let mut rest = value;
-        for k in 0..run.count {
-            self.write_place(run.first.further(k), (rest % 256) as u8);
+        for k in 0..row.count {
+            self.write_place(row.first.further(k), (rest % 256) as u8);
             rest /= 256;
         }
         rest
@@ -188,10 +188,10 @@ impl Memory {
         ensures bytes { (q : ThePlace) → byte_of self.new q ≡ written (byte_of self.old) places.now value q }
         ensures held { (q : ThePlace) → HoldsPlace self.old q → HoldsPlace self.new q }
     {
-        let (low, high) = places.runs();
-        let rest = self.write_run(low, value);
+        let (low, high) = places.rows();
+        let rest = self.write_row(low, value);
         // what is left of the value has no place
-        let _rest = self.write_run(high, rest);
+        let _rest = self.write_row(high, rest);
     }
 
     /// Writes the value over the places, the lowest byte first.

@@ -1,14 +1,14 @@
 //! What an entry does to what a board holds.
-ghost use Rattle.std.specs.Prelude.{◌≡◌, ℕ, ◌<◌, ◌≤◌, All, AllPairs, OnOk, OnErr, IfOk, IfSome, Some, None, option_copied};
+ghost use Rattle.std.specs.Prelude.{◌≡◌, ℕ, ◌<◌, ◌≤◌, All, AllPairs, OnOk, OnErr, IfOk, IfSome, Some, None, false, option_copied};
 ghost use Rattle.std.specs.Option.{option_map_or};
 ghost use Rattle.jh_cellcfg.specs.declared.config.CellConfig.{CellConfig as TheConfig};
 ghost use Rattle.jh_ivshmem.specs.Specs.{IsWithin};
 ghost use Rattle.jh_mmio.specs.Index.{SharesNoAddress};
 ghost use Rattle.jh_script.specs.declared.image.Image.{Image};
 ghost use Rattle.jh_history.specs.declared.place.Place.{Place as ThePlace};
-ghost use Rattle.jh_history.specs.Access.{with_slot_if};
-ghost use Rattle.jh_history.specs.Devices.{specs_of};
-ghost use Rattle.jh_history.specs.Endpoints.{endpoints_changed, change_by, changing_by, specs_changing, with_words, HasGoodDevices};
+ghost use Rattle.jh_history.specs.Access.{with_slot_if, slot_of_reach};
+ghost use Rattle.jh_history.specs.Devices.{specs_of, Devices as TheDevices};
+ghost use Rattle.jh_history.specs.Endpoints.{endpoints_put, endpoints_changed, change_by, changing_by, specs_changing, with_words, HasGoodDevices};
 ghost use Rattle.jh_history.specs.Calls.{call_by};
 ghost use Rattle.jh_history.specs.Commits.{cells_by, created_by};
 ghost use Rattle.jh_history.specs.DueFacts.{NamesCpu};
@@ -20,7 +20,7 @@ ghost use Rattle.jh_history.specs.Wants.{IsReachOfEntry};
 ghost use Rattle.jh_board.specs.Pages.{byte_of, HoldsComm, HoldsPlace};
 ghost use Rattle.jh_board.specs.Judged.{IsJudged};
 ghost use Rattle.jh_board.specs.Means.{Means, IsReady, IsReadyFor};
-ghost use Rattle.jh_board.specs.Steps.{goes_on, create_of, change_of_call, change_of_cells, changed_cells, IsNext, IsRead, IsFree, WillBeReady, IsPrepared, MayWrite, MayWriteOf, MayWriteSlot, MayCommit, MayJoin, IsSameButDevices, joined_cells, devices_held, memory_written, memory_after, slot_after, endpoints_acted_by};
+ghost use Rattle.jh_board.specs.Steps.{decides_to_go_on, create_of, change_of_call, change_of_cells, changed_cells, IsNext, IsRead, IsFree, WillBeReady, IsPrepared, MayWrite, MayWriteOf, MayWriteSlot, MayCommit, MayJoin, IsSameButDevices, joined_cells, devices_held, memory_written, memory_after, slot_after, endpoints_acted_by};
 
 use crate::cell_regions::CellRegions;
 use crate::cells::LiveCells;
@@ -89,8 +89,8 @@ fn change_cells(cells: &mut LiveCells, change: CellsChange)
 }
 
 /// Whether the act is a Decide that goes on.
-fn goes_on(act: &Act) -> bool
-    ensures { result ≡ goes_on act.now }
+fn decides_to_go_on(act: &Act) -> bool
+    ensures { result ≡ decides_to_go_on act.now }
 {
     matches!(act, Act::Decide { refused: None })
 }
@@ -121,7 +121,7 @@ fn coming_of(
     ensures devices { IfOk result (λ coming. IfSome coming HasGoodDevices) }
     ensures tables { IfOk result (λ coming. IfSome coming (λ config. All IsWithin (specs_of config))) }
 {
-    if !goes_on(&entry.act) {
+    if !decides_to_go_on(&entry.act) {
         return Ok(None);
     }
     let Some(begun) = &held.call else {
@@ -207,6 +207,17 @@ fn make_bytes(memory: &mut Memory, act: &Act, reach: &Reach) -> Result<(), NoMem
     }
 }
 
+/// Whether what is reached is a device's. A write of anything else changes no device.
+fn is_of_device(reach: &Reach) -> bool
+    ensures slot { result ≡ false → (d : TheDevices) (value : ℕ) → slot_of_reach d reach.now value ≡ None }
+    ensures list { result ≡ false → (d : TheDevices) (value : ℕ) → endpoints_put d reach.now value ≡ d.endpoints }
+{
+    match reach {
+        Reach::Config(_) | Reach::Window(_) => true,
+        Reach::Memory(_) | Reach::Subpage(_) | Reach::Nothing => false,
+    }
+}
+
 /// Changes the cell's devices as its act does itself, with the word of a state table that a write of a state register
 /// writes. It takes no memory.
 fn make_devices(image: &IndexedImage, held: &mut Held, entry: &Entry, reach: &Reach)
@@ -219,6 +230,9 @@ fn make_devices(image: &IndexedImage, held: &mut Held, entry: &Entry, reach: &Re
     match entry.act {
         Act::Write { value, ok, .. } => {
             if !ok {
+                return;
+            }
+            if !is_of_device(reach) {
                 return;
             }
             let list = devices_of(image, &held.cells, entry.cell);

@@ -18,13 +18,13 @@ use Rattle.jh_check.specs.declared.reach.Window.{Window}
 use Rattle.jh_check.specs.declared.gaps.Extents.{Extents}
 use Rattle.jh_check.specs.Regions.{Spot, pair_breaks, share_places, takes_pages, both_shared}
 use Rattle.jh_check.specs.Devices.{are_same_section}
-use Rattle.jh_check.specs.Spans.{joins, takes_part, span_of, is_within, StandApart}
+use Rattle.jh_check.specs.Spans.{joins, takes_part, span_of, is_within}
 use Rattle.jh_check.specs.Lists.{capped, found_from, only_if}
-use Rattle.jh_check.specs.Findings.{spot, beside, beside_at, between, between_at, from_cell, finding_of}
+use Rattle.jh_check.specs.Findings.{spot, beside, beside_at, between, between_at, finding_of}
 use Rattle.jh_check.specs.Private.Reaches.{passes_shared, may_follow, unshared_of, reaches_for, HasOthers, InOrder, IsRising, IsReached, TellsEach, TellsPairs, IsOwn, TellsOthers, AreOf, IsIn, HasHits, IsInside, AreExtents}
 use Rattle.jh_check.proofs.BoolLemmas.{false_from_not, not_both, and_left, and_right, and_both}
 use Rattle.jh_check.proofs.ListLemmas.{append_nil, found_drop, found_end, found_none, found_none0}
-use Rattle.jh_check.proofs.BreakLemmas.{pair_order, pair_joins, pair_takes_part, pair_second, pair_meets, beside_none, between_apart, joins_same, two_parts, pages_parts, overlap_second, meet_swap, met_before}
+use Rattle.jh_check.proofs.BreakLemmas.{pair_order, pair_joins, pair_takes_part, pair_second, pair_meets, beside_none, joins_same, two_parts, pages_parts, overlap_second, meet_swap}
 
 -- ---- one span after the other
 
@@ -322,20 +322,6 @@ others_pairs rule pass b cell spans reaches w has tells = λ one s d own passes 
     let r = tells (span_of rule one.item one.region) (span_of rule s y) cx cy differ (span_some rule one.item one.region w t) (span_some rule s y w (pair_second rule one other w breaks)) (pair_meets rule one other breaks) in
     (r.0, λ f. absurd (not_both (is_within rule) w f), subst (λ n. n ≤ r.0.by.item) (span_item rule s y) r.1)
 
--- regions that stand apart break no rule about two of them
-pub others_apart : (rule : Rule) (pass : Bool) (b : ℕ) (cell : CellConfig) → is_within rule ≡ true → StandApart rule cell.memory_regions → TellsOthers rule pass b cell []
-others_apart rule pass b cell w stand = λ one s d own passes within breaks.
-    let regions = cell.memory_regions in
-    let y = get_or regions s d in
-    let other = spot b cell s y in
-    let mine = own (joins_same rule one.cell b w (pair_joins rule one other breaks)) in
-    let before : one.item < s = ltb-true one.item s (pair_order rule one other w breaks) in
-    let second = pair_second rule one other w breaks in
-    let P : Region → Type 0 = λ x. takes_part rule x ≡ true → (span_of rule one.item x).end ≤ (span_of rule s y).start in
-    let same = mine.1 ∙ get_or_default regions one.item one.region d mine.0 in
-    let behind = subst P (sym same) (λ t. stand one.item s d before within t second) (pair_takes_part rule one other breaks) in
-    absurd (met_before (span_of rule one.item one.region) (span_of rule s y) (pair_meets rule one other breaks) behind)
-
 -- those of a cell whose regions are in no pair as the other tell nothing
 pub others_none : (rule : Rule) (pass : Bool) (b : ℕ) (cell : CellConfig) → ((a : ℕ) → joins rule a b ≡ true → ⊥) → TellsOthers rule pass b cell []
 others_none rule pass b cell apart = λ one s d own passes within breaks.
@@ -513,29 +499,3 @@ between_beyond rule a one b other reaches extents of same wide any unshared =
     let x = get_or one.memory_regions r none in
     beside_unreached rule (spot a one r x) b other reaches of (own_spot a one r none b other h same) (λ takes all reached.
     beyond_by (passes_shared rule x) reaches (span_of rule r x) extents (wide r none h h takes) any unshared reached))
-
--- a rule about one cell finds nothing where none of its regions reaches another
-between_alone : (rule : Rule) (a : ℕ) (one : CellConfig) (b : ℕ) (other : CellConfig) (reaches : Reaches) → AreOf rule b other reaches → (a ≡ b → one ≡ other) → length reaches.any.items ≡ 0 → between rule a one b other ≡ []
-unfolding between
-between_alone rule a one b other reaches of same none =
-    let region : Region = record { phys_start = 0; virt_start = 0; size = 0; flags = 0 } in
-    found_none0 (between_at rule a one b other) one.memory_regions region (λ r h.
-    let x = get_or one.memory_regions r region in
-    beside_unreached rule (spot a one r x) b other reaches of (own_spot a one r region b other h same) (λ takes reached any.
-    let within = reached.is.1 in
-    absurd (omega arith)))
-
-pub cell_alone : (rule : Rule) (all : List CellConfig) (a : ℕ) (one : CellConfig) (reaches : Reaches) → is_within rule ≡ true → one ≡ get_or all a one → AreOf rule a one reaches → length reaches.any.items ≡ 0 → from_cell rule all a one ≡ []
-unfolding from_cell
-cell_alone rule all a one reaches within is of none =
-    found_none0 (between rule a one) all one (λ b h.
-    let other = get_or all b one in
-    elim (cases_Bool (joins rule a b)) [
-      | inl j ↦
-          let e = joins_same rule a b within j in
-          let same : one ≡ other = is ∙ ap (λ k. get_or all k one) e in
-          let its = subst (λ x. AreOf rule a x reaches) same of in
-          let there = subst (λ k. AreOf rule k other reaches) e its in
-          between_alone rule a one b other reaches there (λ f. same) none
-      | inr n ↦ between_apart rule a one b other n
-    ])

@@ -1,5 +1,5 @@
 -- Cells of which no region breaks a rule about one region.
-use Rattle.std.proofs.Common.{◌≡◌, ℕ, ◌<◌, Bool, true, false, ◌&&◌, ◌||◌, not, ◌==◌, List, length, take, get_or, ap}
+use Rattle.std.proofs.Common.{◌≡◌, ℕ, ◌<◌, true, false, ◌&&◌, ◌||◌, not, ◌==◌, List, length, take, get_or, ap}
 use Rattle.std.proofs.lemmas.Bool.{false≢true, not-true}
 use Rattle.jh_cellcfg.specs.declared.region.Region.{Region}
 use Rattle.jh_cellcfg.specs.Regions.{is_comm, has_size}

@@ -3,5 +3,6 @@ pub mod Bus
 pub mod Fits
 pub mod Links
 pub mod Reaches
+pub mod Rising
 pub mod Seats
 pub mod Sound

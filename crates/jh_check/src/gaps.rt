@@ -67,6 +67,7 @@ fn widened(extents: Extents, rule: Rule, item: usize, region: &Region) -> Extent
 }
 
 /// What has all regions that take part: from the least of their starts to the farthest of their ends.
+#[inline(never)]
 pub(crate) fn extents_of(rule: Rule, regions: &[Region]) -> Extents
     ensures { AreExtents rule regions.now result }
 {
@@ -151,8 +152,30 @@ fn is_last(reaches: &[Reach], gap: Gap, span: Span) -> bool {
         && u128::from(reaches[gap.behind - 1].start) < span.end
 }
 
+/// Whether the span, which lies neither in the gap nor in the next one, may be reached; only then may it be told so. The
+/// gap becomes one near the span: mostly it stays the same, or becomes the next.
+#[inline(never)]
+fn may_reach_far(reaches: &[Reach], span: Span, gap: &mut Gap, next: Gap) -> bool
+    requires rising { IsRising reaches.now }
+    requires gap { IsGap reaches.now gap.old }
+    requires next { IsGap reaches.now next }
+    ensures gap { IsGap reaches.now gap.new }
+    ensures told { result ≡ false → IsReached reaches.now span → ⊥ }
+{
+    if is_last(reaches, *gap, span) {
+        return true;
+    }
+    *gap = next;
+    if is_last(reaches, next, span) {
+        return true;
+    }
+    *gap = gap_near(reaches, span);
+    !lies_in(*gap, span)
+}
+
 /// Whether the span, which doesn't lie in the gap, may be reached; only then may it be told so. The gap becomes one near
-/// the span: mostly it stays the same, or becomes the next.
+/// the span: the next, if the span lies there.
+#[inline(always)]
 fn may_reach(reaches: &[Reach], span: Span, gap: &mut Gap) -> bool
     requires rising { IsRising reaches.now }
     requires gap { IsGap reaches.now gap.old }
@@ -164,15 +187,7 @@ fn may_reach(reaches: &[Reach], span: Span, gap: &mut Gap) -> bool
         *gap = next;
         return false;
     }
-    if is_last(reaches, *gap, span) {
-        return true;
-    }
-    *gap = next;
-    if is_last(reaches, next, span) {
-        return true;
-    }
-    *gap = gap_near(reaches, span);
-    !lies_in(*gap, span)
+    may_reach_far(reaches, span, gap, next)
 }
 
 /// Whether the span of a region that may meet shared ones may be reached. The gap becomes one near the span, unless the

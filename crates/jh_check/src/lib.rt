@@ -14,6 +14,7 @@ mod pairs;
 mod reach;
 mod refusal;
 mod regions;
+mod rising;
 mod rule;
 mod search;
 mod seats;

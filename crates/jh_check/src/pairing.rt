@@ -1,21 +1,25 @@
 //! The search for pairs of regions, which passes over regions that meet none of another cell.
 ghost use Rattle.std.specs.Prelude.{◌≡◌, ◌<◌, ◌≤◌, ◌++◌, true, length, slice_index_or, OnOk, IfOk};
+ghost use Rattle.jh_cellcfg.specs.declared.region.Region.{Region};
 ghost use Rattle.jh_check.specs.Cells.{cells_of};
 ghost use Rattle.jh_check.specs.Lists.{capped};
 ghost use Rattle.jh_check.specs.Spans.{joins, is_within};
 ghost use Rattle.jh_check.specs.Private.Reaches.{IsOwn, AreOf, AreOfEach, AreExtents};
+ghost use Rattle.jh_check.specs.Private.Rising.{IsStretch};
 ghost use Rattle.jh_check.specs.Private.Links.{ArePartners};
-ghost use Rattle.jh_check.specs.Findings.{spot, beside, between, from_cell, in_pairs};
+ghost use Rattle.jh_check.specs.Findings.{spot, beside, between, between_at, in_pairs, from_cell};
 
 use crate::checking::MAX_FINDINGS;
 use crate::finding::Finding;
 use crate::gaps::{Extents, behind, extents_of, first_gaps, may_meet, may_reach_into};
 use crate::links::{find_partners, holders_of, partner_of};
 use crate::pairs::Site;
-use crate::reach::{Reaches, find_window, is_within, measure};
+use crate::reach::{Reaches, Window, find_window, is_within, measure};
+use crate::rising::{last_before, stretch_of};
 use crate::rule::Rule;
 use crate::search::beside;
 use crate::setup::Setup;
+use crate::spans::{span_of, takes_part};
 use jh_cellcfg::{CellConfig, Region};
 use jh_num::{NoMemory, Seq};
 use std::alloc::Global;
@@ -148,14 +152,6 @@ fn join(
     }
 }
 
-/// Whether the rule is about one cell, and none of this one's regions reaches another.
-fn stands_alone(rule: Rule, reaches: &Reaches) -> bool
-    ensures within { result ≡ true → is_within rule ≡ true }
-    ensures none { result ≡ true → length reaches.now.any.items ≡ 0 }
-{
-    is_within(rule) && reaches.any.is_empty()
-}
-
 /// The regions of a cell with those of each cell, itself too.
 fn from_cell(
     alloc: Global,
@@ -173,9 +169,6 @@ fn from_cell(
     requires one { one.now ≡ slice_index_or (cells_of setup.now) a one.now }
     ensures { OnOk result (capped found.new ≡ capped (found.old ++ from_cell rule (cells_of setup.now) a one.now)) }
 {
-    if stands_alone(rule, &each[a as usize]) {
-        return Ok(());
-    }
     let holders = holders_of(alloc, rule, one)?;
     let extents = extents_of(rule, one.memory_regions.as_slice());
     for b in 0..setup.count() {
@@ -211,8 +204,125 @@ fn reaches_of_each(alloc: Global, rule: Rule, setup: &Setup) -> Result<Vec<Reach
     Ok(each)
 }
 
-/// All pairs of regions by the rule.
-pub(crate) fn in_pairs(
+/// A region of a cell with those behind it, if there is room for a finding; the cell's regions begin in the order of
+/// their numbers, and none behind the stretch meets one before it.
+#[tactic(auto, using(crate::proofs::ListLemmas::append_nil, crate::proofs::ListLemmas::capped_full))]
+fn look_behind(
+    found: &mut Seq<Finding>,
+    rule: Rule,
+    a: u32,
+    one: &CellConfig,
+    stretch: Window,
+    item: usize,
+) -> Result<(), NoMemory>
+    requires within { is_within rule ≡ true }
+    requires among { item < length one.now.memory_regions }
+    requires stretch { IsStretch rule one.now.memory_regions stretch }
+    ensures { OnOk result ((d : Region) → capped found.new ≡ capped (found.old ++ between_at rule a one.now a one.now item (slice_index_or one.now.memory_regions item d))) }
+{
+    if found.len() >= MAX_FINDINGS {
+        return Ok(());
+    }
+    let regions = one.memory_regions.as_slice();
+    let region = &regions[item];
+    if !takes_part(rule, region) {
+        return Ok(());
+    }
+    let first = Site {
+        cell: a,
+        config: one,
+        item,
+        region,
+    };
+    let window = Window {
+        first: item.saturating_add(1),
+        last: last_before(
+            rule,
+            regions,
+            item,
+            stretch.last,
+            span_of(rule, item, region).end,
+        ),
+    };
+    beside(found, rule, &first, None, window, a, one)
+}
+
+/// Each region of a cell with those behind it, where the regions begin in the order of their numbers, and those that
+/// meet are in the stretch.
+#[inline(never)]
+fn along(
+    found: &mut Seq<Finding>,
+    rule: Rule,
+    a: u32,
+    one: &CellConfig,
+    stretch: Window,
+) -> Result<(), NoMemory>
+    requires within { is_within rule ≡ true }
+    requires stretch { IsStretch rule one.now.memory_regions stretch }
+    ensures { OnOk result (capped found.new ≡ capped (found.old ++ between rule a one.now a one.now)) }
+{
+    for r in stretch.first..one.memory_regions.len().min(stretch.last) {
+        look_behind(found, rule, a, one, stretch, r)?;
+    }
+    Ok(())
+}
+
+/// Each region of a cell with each of its own, in whatever order they begin.
+fn across(
+    alloc: Global,
+    found: &mut Seq<Finding>,
+    rule: Rule,
+    a: u32,
+    one: &CellConfig,
+) -> Result<(), NoMemory>
+    ensures { OnOk result (capped found.new ≡ capped (found.old ++ between rule a one.now a one.now)) }
+{
+    let reaches = measure(alloc, rule, a, one)?;
+    let pair = Pair {
+        a,
+        one,
+        b: a,
+        other: one,
+    };
+    between(found, rule, &pair, &[], &reaches)
+}
+
+/// Each region of a cell with each of its own.
+fn in_itself(
+    alloc: Global,
+    found: &mut Seq<Finding>,
+    rule: Rule,
+    a: u32,
+    one: &CellConfig,
+) -> Result<(), NoMemory>
+    requires { is_within rule ≡ true }
+    ensures { OnOk result (capped found.new ≡ capped (found.old ++ between rule a one.now a one.now)) }
+{
+    match stretch_of(rule, one.memory_regions.as_slice()) {
+        Some(stretch) => along(found, rule, a, one, stretch),
+        None => across(alloc, found, rule, a, one),
+    }
+}
+
+/// All pairs of regions by the rule, which is about one cell.
+fn in_each(
+    alloc: Global,
+    found: &mut Seq<Finding>,
+    rule: Rule,
+    setup: &Setup,
+) -> Result<(), NoMemory>
+    requires count { length setup.now.cells.now ≤ 15 }
+    requires within { is_within rule ≡ true }
+    ensures { OnOk result (capped found.new ≡ capped (found.old ++ in_pairs rule (cells_of setup.now))) }
+{
+    for a in 0..setup.count() {
+        in_itself(alloc, found, rule, a, setup.cell(a))?;
+    }
+    Ok(())
+}
+
+/// All pairs of regions by the rule, by how far those of each cell reach.
+fn by_reaches(
     alloc: Global,
     found: &mut Seq<Finding>,
     rule: Rule,
@@ -226,4 +336,21 @@ pub(crate) fn in_pairs(
         from_cell(alloc, found, rule, setup, each.as_slice(), a, setup.cell(a))?;
     }
     Ok(())
+}
+
+/// All pairs of regions by the rule.
+pub(crate) fn in_pairs(
+    alloc: Global,
+    found: &mut Seq<Finding>,
+    rule: Rule,
+    setup: &Setup,
+) -> Result<(), NoMemory>
+    requires { length setup.now.cells.now ≤ 15 }
+    ensures { OnOk result (capped found.new ≡ capped (found.old ++ in_pairs rule (cells_of setup.now))) }
+{
+    if is_within(rule) {
+        in_each(alloc, found, rule, setup)
+    } else {
+        by_reaches(alloc, found, rule, setup)
+    }
 }

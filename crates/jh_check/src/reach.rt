@@ -6,7 +6,7 @@ ghost use Rattle.jh_check.specs.Spans.{is_within, joins, span_of};
 ghost use Rattle.jh_check.specs.Private.Reaches.{passes_shared, may_follow, unshared_of, reaches_for, HasOthers, InOrder, IsRising, TellsEach, TellsPairs, TellsOthers, AreOf, IsIn};
 
 use crate::rule::Rule;
-use crate::spans::{Span, span_of, stand_apart};
+use crate::spans::{Span, span_of};
 use jh_cellcfg::{CellConfig, Region, RegionFlags};
 use jh_num::NoMemory;
 use std::alloc::Global;
@@ -147,8 +147,7 @@ fn of_pairs(alloc: Global, spans: &[Span]) -> Result<Vec<Reach>, NoMemory>
     Ok(reaches)
 }
 
-/// How far two of the cell's regions reach that begin no later than a third, for each that begins before their end;
-/// none, where the regions stand apart.
+/// How far two of the cell's regions reach that begin no later than a third, for each that begins before their end.
 fn of_own(
     alloc: Global,
     rule: Rule,
@@ -160,11 +159,7 @@ fn of_own(
     ensures rising { IfOk result (λ reaches. IsRising reaches.items) }
     ensures tells { IfOk result (λ reaches. TellsOthers rule pass b cell.now reaches.items) }
 {
-    let regions = cell.memory_regions.as_slice();
-    if stand_apart(rule, regions) {
-        return Ok(Vec::new(alloc));
-    }
-    let spans = sorted(alloc, rule, pass, b, regions)?;
+    let spans = sorted(alloc, rule, pass, b, cell.memory_regions.as_slice())?;
     of_pairs(alloc, spans.as_slice())
 }
 

@@ -72,6 +72,7 @@ fn put(found: &mut Seq<Finding>, test: bool, finding: Finding) -> Result<(), NoM
 
 /// A region with each of another cell; only those in the window may break the rule with it. Its partner there, if one
 /// is known, is the same section of linked devices.
+#[inline(always)]
 pub(crate) fn beside(
     found: &mut Seq<Finding>,
     rule: Rule,

@@ -12,7 +12,8 @@ use Rattle.jh_cli.specs.declared.ending.Stop.{Stop}
 use Rattle.jh_cli.specs.declared.ending.Stop.TheVariants as stop
 use Rattle.jh_cli.specs.declared.status.Status.TheVariants as status
 use Rattle.jh_cli.specs.Lines.{number_of}
-use Rattle.jh_cli.specs.Reading.{Reply, Contents}
+use Rattle.jh_image.specs.Files.{Contents}
+use Rattle.jh_cli.specs.Reading.{Reply}
 use Rattle.jh_cli.specs.Boards.{stopped, EndsAt, Opens}
 use Rattle.jh_cli.specs.Stopped.{OnEnded, OnEnding}
 use Rattle.jh_cli.proofs.StopLemmas.{on_stop, on_told}

@@ -5,7 +5,8 @@ use Rattle.std.proofs.Math.Seq.{split_at, take-suc}
 use Rattle.std.proofs.lemmas.List.{map-append}
 use Rattle.jh_cellcfg.specs.declared.config.CellConfig.{CellConfig}
 use Rattle.jh_cli.specs.declared.ending.Stop.{Stop}
-use Rattle.jh_cli.specs.Reading.{Contents, Spells, StopsAtFile}
+use Rattle.jh_image.specs.Files.{Contents}
+use Rattle.jh_cli.specs.Reading.{Spells, StopsAtFile}
 use Rattle.jh_cli.specs.Check.{IsCellFile, CellRefusal, SpellCells, StopsAmong}
 use Rattle.jh_cli.specs.Stopped.{OnEnded}
 use Rattle.jh_cli.proofs.StopLemmas.{on_stop}

@@ -27,23 +27,24 @@ use Rattle.jh_history.specs.declared.entry.Entry.{Entry}
 use Rattle.jh_history.specs.Items.{items, played}
 use Rattle.jh_text.specs.declared.fault.JournalFault.{JournalFault}
 use Rattle.jh_text.specs.declared.fault.JournalFault.TheVariants as journals
-use Rattle.jh_text.specs.Faults.{IsFirstBadLine, IsJournalText, IsTooLong, IsFault}
+use Rattle.jh_text.specs.Faults.{IsFirstBadLine, IsJournalText, IsTooLong, IsFault, max_entries}
 use Rattle.jh_audit.specs.declared.verdict.Verdict.{Verdict}
 use Rattle.jh_audit.specs.declared.verdict.Verdict.TheVariants.{Legal, Illegal}
 use Rattle.jh_image.specs.declared.fault.ImageCause.{ImageCause}
 use Rattle.jh_image.specs.declared.fault.ImageCause.TheVariants.{ReadFault as CantBeRead}
 use Rattle.jh_image.specs.Causes.{StopsReading}
 use Rattle.jh_image.specs.Images.{IsImage}
-use Rattle.jh_image.specs.Laws.{AreTold as AreAllTold}
+use Rattle.jh_image.specs.Laws.{AreTold}
 use Rattle.jh_image.proofs.CauseLemmas.{SpellingsAreFaultless}
 use Rattle.jh_run.specs.Maps.{Maps}
 use Rattle.jh_run.specs.Soak.{soak_board}
 use Rattle.jh_cli.specs.declared.status.Status.{Status}
 use Rattle.jh_cli.specs.declared.status.Status.TheVariants.{Good, Found, ReadFault, WriteFault, NoMemory, Full}
-use Rattle.jh_cli.specs.Limits.{most_of_a_file, most_of_a_journal, journal_limit}
+use Rattle.jh_cli.specs.Limits.{most_of_a_file, most_of_a_journal}
 use Rattle.jh_cli.specs.Lines.{number_of, fault_line}
 use Rattle.jh_cli.specs.Words.{Asked, CheckOf, PackOf, PlayOf, RunOf, MapOf, AuditOf, SoakOf}
-use Rattle.jh_cli.specs.Reading.{Reply, Contents, StopsAt, ReadsAt}
+use Rattle.jh_image.specs.Files.{Contents}
+use Rattle.jh_cli.specs.Reading.{Reply, StopsAt, ReadsAt}
 use Rattle.jh_cli.specs.Check.{IsCellFile, CellRefusal, IsSystemFile, SystemRefusal, StopsAmong, ChecksCells, Checks, checked_status}
 use Rattle.jh_cli.specs.Pack.{IsSpecFile, SpecRefusal, Packs, packed}
 use Rattle.jh_cli.specs.Boards.{stopped, EndsAt}
@@ -70,10 +71,10 @@ abbrev pub NotLong : Type 0
 NotLong = (text : List ℕ) (entries : List Entry) → IsJournalText text entries → IsTooLong text → ⊥
 
 abbrev pub OneImage : Type 0
-OneImage = (contents : Contents) (board : List ℕ) (one other : Image) → AreAllTold contents → IsImage contents board one → IsImage contents board other → one ≡ other
+OneImage = (contents : Contents) (board : List ℕ) (one other : Image) → AreTold contents → IsImage contents board one → IsImage contents board other → one ≡ other
 
 abbrev pub BoardsAreUnrefused : Type 0
-BoardsAreUnrefused = (contents : Contents) (board file : List ℕ) (image : Image) (cause : ImageCause) → AreAllTold contents → IsImage contents board image → StopsReading contents board file cause → cause ≡ CantBeRead
+BoardsAreUnrefused = (contents : Contents) (board file : List ℕ) (image : Image) (cause : ImageCause) → AreTold contents → IsImage contents board image → StopsReading contents board file cause → cause ≡ CantBeRead
 
 -- ---- one file
 
@@ -228,11 +229,11 @@ one_schedule image bytes one other h k = ok_one (schedule_of h.cpus bytes) one o
 
 -- what a play of the items ends with
 abbrev IsPlayOf : Image → List ℕ → Status → Type 0
-IsPlayOf image items status = status ≡ played_status (played image journal_limit items).full
+IsPlayOf image items status = status ≡ played_status (played image max_entries items).full
 
 played_unrefused : (image : Image) (items other : List ℕ) (said : Reply) → items ≡ other → IsPlayed image other said → IsAnswered (IsPlayOf image items) said
 played_unrefused image items other said same is =
-    inl (ap (λ (s : Reply). s.status) is.told ∙ ap (λ (xs : List ℕ). played_status (played image journal_limit xs).full) (sym same))
+    inl (ap (λ (s : Reply). s.status) is.told ∙ ap (λ (xs : List ℕ). played_status (played image max_entries xs).full) (sym same))
 
 plays_unrefused : (contents : Contents) (schedule : List ℕ) (image : Image) (items : List ℕ) (said : Reply) → Holds most_of_a_file contents schedule (IsSchedule image) items
     → PlaysBy contents schedule image said → IsAnswered (IsPlayOf image items) said
@@ -277,15 +278,15 @@ audit_unrefused unrefused no_bad not_long contents board journal said good (inr 
 
 -- what the maps after the items end with
 abbrev IsMapOf : Image → List ℕ → Status → Type 0
-IsMapOf image cpus status = status ≡ played_status (items image journal_limit cpus []).full
+IsMapOf image cpus status = status ≡ played_status (items image max_entries cpus []).full
 
-mapped_status : (image : Image) (cpus : List ℕ) (found : Option (List ℕ)) → Maps image journal_limit cpus found → IsMapOf image cpus (mapped_said found).status
+mapped_status : (image : Image) (cpus : List ℕ) (found : Option (List ℕ)) → Maps image max_entries cpus found → IsMapOf image cpus (mapped_said found).status
 mapped_status image cpus (Some text) is = ap played_status (sym is.0)
 mapped_status image cpus None is = ap played_status (sym is.0)
 
 mapped_unrefused : (image : Image) (cpus other : List ℕ) (said : Reply) → cpus ≡ other → IsMapped image other said → IsAnswered (IsMapOf image cpus) said
 mapped_unrefused image cpus other said same (found, is, told) =
-    inl (ap (λ (s : Reply). s.status) told ∙ mapped_status image other found is ∙ ap (λ (xs : List ℕ). played_status (items image journal_limit xs []).full) (sym same))
+    inl (ap (λ (s : Reply). s.status) told ∙ mapped_status image other found is ∙ ap (λ (xs : List ℕ). played_status (items image max_entries xs []).full) (sym same))
 
 maps_unrefused : (contents : Contents) (schedule : List ℕ) (image : Image) (cpus : List ℕ) (said : Reply) → Holds most_of_a_file contents schedule (IsSchedule image) cpus
     → MapsBy contents schedule image said → IsAnswered (IsMapOf image cpus) said

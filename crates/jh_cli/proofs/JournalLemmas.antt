@@ -10,7 +10,8 @@ use Rattle.jh_cli.specs.declared.status.Status.TheVariants.{Refused}
 use Rattle.jh_cli.specs.declared.ending.Stop.{Stop}
 use Rattle.jh_cli.specs.declared.ending.Stop.TheVariants as stop
 use Rattle.jh_cli.specs.Lines.{refusal_line}
-use Rattle.jh_cli.specs.Reading.{Contents, Reply, StopsAt}
+use Rattle.jh_image.specs.Files.{Contents}
+use Rattle.jh_cli.specs.Reading.{Reply, StopsAt}
 use Rattle.jh_cli.specs.Audit.{JournalRefusal}
 use Rattle.jh_cli.specs.Stopped.{OnEnded, IsCounted}
 use Rattle.jh_cli.proofs.BoardLemmas.{nothing, refused_is_read}

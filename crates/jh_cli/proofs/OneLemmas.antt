@@ -31,12 +31,13 @@ use Rattle.jh_audit.specs.Judges.{Judges, IsFirstIllegal}
 use Rattle.jh_image.proofs.OneLemmas.{OneSpelling}
 use Rattle.jh_cli.specs.declared.status.Status.TheVariants.{ReadFault}
 use Rattle.jh_cli.specs.Limits.{most_of_a_file, most_of_a_journal}
-use Rattle.jh_cli.specs.Reading.{Reply, Contents, StopsAt, SpellsAt, ReadsAt}
+use Rattle.jh_image.specs.Files.{Contents}
+use Rattle.jh_cli.specs.Reading.{Reply, StopsAt, SpellsAt, ReadsAt}
 use Rattle.jh_cli.specs.Check.{IsCellFile, CellRefusal, IsSystemFile, SystemRefusal, SpellCells, ChecksCells, checked}
 use Rattle.jh_cli.specs.Pack.{IsSpecFile, SpecRefusal}
 use Rattle.jh_cli.specs.Play.{ScheduleRefusal}
 use Rattle.jh_cli.specs.Audit.{JournalRefusal, IsAudited, verdict_status, verdict_text}
-use Rattle.jh_cli.specs.Complete.{AreTold}
+use Rattle.jh_cli.specs.Complete.{AreNamesTold}
 use Rattle.jh_cli.proofs.GoodLemmas.{CellsAreFaultless, no_more, ok_one, cell_sound, same_for_image}
 use Rattle.jh_cli.proofs.StopLemmas.{refused_said}
 
@@ -139,7 +140,7 @@ module _ (faultless : CellsAreFaultless) (one_cell : OneCell) (contents : Conten
   not_both : (name : List ℕ) → contents name ≢ None → (cell : CellConfig) (said : Reply) → SpellsAt most_of_a_file contents name IsCellFile cell → StopsAt most_of_a_file contents name CellRefusal said → IsRead said → ⊥
   not_both name told cell said = spelled_or_stopped most_of_a_file contents name told CellRefusal IsCellFile cell_apart cell said
 
-  one_cells : (names : List (List ℕ)) → AreTold contents names → (a b : List CellConfig) → SpellCells contents names a → SpellCells contents names b → a ≡ b
+  one_cells : (names : List (List ℕ)) → AreNamesTold contents names → (a b : List CellConfig) → SpellCells contents names a → SpellCells contents names b → a ≡ b
   one_cells [] told [] [] h k = refl
   one_cells [] told [] (b ∷ bs) h k = absurd k
   one_cells [] told (a ∷ us) b h k = absurd h
@@ -151,7 +152,7 @@ module _ (faultless : CellsAreFaultless) (one_cell : OneCell) (contents : Conten
       ap (λ (x : CellConfig). x ∷ us) first ∙ ap (λ (xs : List CellConfig). b ∷ xs) rest
 
   -- a file that stops the call isn't among those that spell cells
-  stop_among : (before : List (List ℕ)) (name : List ℕ) (rest : List (List ℕ)) (cells : List CellConfig) (said : Reply) → AreTold contents (before ++ name ∷ rest)
+  stop_among : (before : List (List ℕ)) (name : List ℕ) (rest : List (List ℕ)) (cells : List CellConfig) (said : Reply) → AreNamesTold contents (before ++ name ∷ rest)
       → SpellCells contents (before ++ name ∷ rest) cells → StopsAt most_of_a_file contents name CellRefusal said → IsRead said → ⊥
   stop_among [] name rest [] said told h k read = h
   stop_among [] name rest (c ∷ cs) said told h k read = not_both name told.0 c said h.0 k read
@@ -159,7 +160,7 @@ module _ (faultless : CellsAreFaultless) (one_cell : OneCell) (contents : Conten
   stop_among (b ∷ bs) name rest (c ∷ cs) said told h k read = stop_among bs name rest cs said told.1 h.1 k read
 
   -- the first file that stops the call is one
-  one_among : (xs : List (List ℕ)) (x : List ℕ) (r ys : List (List ℕ)) (y : List ℕ) (s : List (List ℕ)) (us bs : List CellConfig) (one other : Reply) → AreTold contents (xs ++ x ∷ r)
+  one_among : (xs : List (List ℕ)) (x : List ℕ) (r ys : List (List ℕ)) (y : List ℕ) (s : List (List ℕ)) (us bs : List CellConfig) (one other : Reply) → AreNamesTold contents (xs ++ x ∷ r)
       → xs ++ x ∷ r ≡ ys ++ y ∷ s → SpellCells contents xs us → SpellCells contents ys bs
       → StopsAt most_of_a_file contents x CellRefusal one → StopsAt most_of_a_file contents y CellRefusal other → IsRead one → IsRead other → one ≡ other
   one_among [] x r [] y s us bs one other told same h k stops also read read_also =
@@ -179,13 +180,13 @@ module _ (faultless : CellsAreFaultless) (one_cell : OneCell) (contents : Conten
       let tail : xs ++ x ∷ r ≡ ys ++ y ∷ s = cc same in
       one_among xs x r ys y s us bs one other told.1 tail h.1 k.1 stops also read read_also
 
-  pub one_check : (names : List (List ℕ)) (system : SystemConfig) (one other : Reply) → AreTold contents names → ChecksCells contents names system one → ChecksCells contents names system other → IsRead one → IsRead other → one ≡ other
+  pub one_check : (names : List (List ℕ)) (system : SystemConfig) (one other : Reply) → AreNamesTold contents names → ChecksCells contents names system one → ChecksCells contents names system other → IsRead one → IsRead other → one ≡ other
   one_check names system one other told (inl h) (inl k) read also =
-      one_among h.before h.name h.rest k.before k.name k.rest h.cells k.cells one other (subst (AreTold contents) h.split told) (sym h.split ∙ k.split) h.spelled k.spelled h.stops k.stops read also
+      one_among h.before h.name h.rest k.before k.name k.rest h.cells k.cells one other (subst (AreNamesTold contents) h.split told) (sym h.split ∙ k.split) h.spelled k.spelled h.stops k.stops read also
   one_check names system one other told (inl h) (inr k) read also =
-      absurd (stop_among h.before h.name h.rest k.0 one (subst (AreTold contents) h.split told) (subst (λ ns. SpellCells contents ns k.0) h.split k.1) h.stops read)
+      absurd (stop_among h.before h.name h.rest k.0 one (subst (AreNamesTold contents) h.split told) (subst (λ ns. SpellCells contents ns k.0) h.split k.1) h.stops read)
   one_check names system one other told (inr h) (inl k) read also =
-      absurd (stop_among k.before k.name k.rest h.0 other (subst (AreTold contents) k.split told) (subst (λ ns. SpellCells contents ns h.0) k.split h.1) k.stops also)
+      absurd (stop_among k.before k.name k.rest h.0 other (subst (AreNamesTold contents) k.split told) (subst (λ ns. SpellCells contents ns h.0) k.split h.1) k.stops also)
   one_check names system one other told (inr h) (inr k) read also =
       let same : h.0 ≡ k.0 = one_cells names told h.0 k.0 h.1 k.1 in
       h.2 ∙ ap (checked system) same ∙ sym k.2

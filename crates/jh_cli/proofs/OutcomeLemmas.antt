@@ -8,14 +8,16 @@ use Rattle.jh_history.specs.Items.{items}
 use Rattle.jh_image.specs.declared.fault.ImageCause.{ImageCause}
 use Rattle.jh_image.specs.declared.fault.ImageCause.TheVariants.{ReadFault as CantBeRead}
 use Rattle.jh_image.specs.Causes.{StopsReading}
-use Rattle.jh_image.specs.Laws.{AreTold as AreAllTold}
+use Rattle.jh_image.specs.Laws.{AreTold}
 use Rattle.jh_image.proofs.OneLemmas.{OneSpelling}
 use Rattle.jh_image.proofs.CauseLemmas.{SpellingsAreFaultless}
 use Rattle.jh_run.specs.Maps.{IsMapsText, Maps}
+use Rattle.jh_text.specs.Faults.{max_entries}
 use Rattle.jh_cli.specs.declared.status.Status.TheVariants.{Good, ReadFault}
-use Rattle.jh_cli.specs.Limits.{most_of_a_file, most_of_a_journal, journal_limit}
+use Rattle.jh_cli.specs.Limits.{most_of_a_file, most_of_a_journal}
 use Rattle.jh_cli.specs.Words.{Asked, CheckOf, PackOf, PlayOf, RunOf, MapOf, AuditOf, SoakOf, IsSerial}
-use Rattle.jh_cli.specs.Reading.{Reply, Contents}
+use Rattle.jh_image.specs.Files.{Contents}
+use Rattle.jh_cli.specs.Reading.{Reply}
 use Rattle.jh_cli.specs.Check.{IsSystemFile, SystemRefusal, ChecksCells}
 use Rattle.jh_cli.specs.Pack.{IsSpecFile, SpecRefusal, packed}
 use Rattle.jh_cli.specs.Boards.{stopped, EndsAt, Opens}
@@ -31,7 +33,7 @@ use Rattle.jh_cli.proofs.OneLemmas.{OneCell, OneJournal, NotBoth, OneLine, IsRea
 -- ---- boards
 
 abbrev pub OneCause : Type 0
-OneCause = (contents : Contents) (board file other : List ℕ) (cause more : ImageCause) → AreAllTold contents → StopsReading contents board file cause → cause ≢ CantBeRead
+OneCause = (contents : Contents) (board file other : List ℕ) (cause more : ImageCause) → AreTold contents → StopsReading contents board file cause → cause ≢ CantBeRead
     → StopsReading contents board other more → more ≢ CantBeRead → (cause ≡ more) × (file ≡ other)
 
 is_unread : (file : List ℕ) (cause : ImageCause) (said : Reply) → said ≡ stopped file cause → IsRead said → cause ≢ CantBeRead
@@ -64,11 +66,11 @@ abbrev pub OneMaps : Type 0
 OneMaps = (image : Image) (entries : List Entry) (one other : List ℕ) → IsMapsText image entries one → IsMapsText image entries other → one ≡ other
 
 -- the limit stops the items or it doesn't
-same_found : OneMaps → (image : Image) (cpus : List ℕ) (one other : Option (List ℕ)) → Maps image journal_limit cpus one → Maps image journal_limit cpus other → one ≡ other
+same_found : OneMaps → (image : Image) (cpus : List ℕ) (one other : Option (List ℕ)) → Maps image max_entries cpus one → Maps image max_entries cpus other → one ≡ other
 same_found one_maps image cpus None None h k = refl
 same_found one_maps image cpus None (Some text) h k = absurd (false≢true (sym k.0 ∙ h.0))
 same_found one_maps image cpus (Some text) None h k = absurd (false≢true (sym h.0 ∙ k.0))
-same_found one_maps image cpus (Some text) (Some more) h k = ap Some (one_maps image (items image journal_limit cpus []).entries text more h.2 k.2)
+same_found one_maps image cpus (Some text) (Some more) h k = ap Some (one_maps image (items image max_entries cpus []).entries text more h.2 k.2)
 
 one_mapped : OneMaps → (image : Image) (cpus : List ℕ) (one other : Reply) → IsMapped image cpus one → IsMapped image cpus other → one ≡ other
 one_mapped one_maps image cpus one other (found, is, told) (more, also, said) = told ∙ ap mapped_said (same_found one_maps image cpus found more is also) ∙ sym said

@@ -5,13 +5,13 @@ use Rattle.jh_script.specs.declared.image.Image.{Image}
 use Rattle.jh_history.specs.declared.entry.Entry.{Entry}
 use Rattle.jh_history.specs.Due.{IsLegal, IsQuiet}
 use Rattle.jh_history.specs.Items.{Reached, played}
+use Rattle.jh_text.specs.Faults.{max_entries}
 use Rattle.jh_text.specs.Text.{journal_text}
 use Rattle.jh_board.specs.BoardView.{BoardView}
 use Rattle.jh_run.specs.Plays.{Plays, IsFullAtCpu}
 use Rattle.jh_run.specs.Ends.{is_full}
 use Rattle.jh_run.specs.declared.ended.Ended.{Ended}
 use Rattle.jh_run.specs.declared.ended.Ended.TheVariants.{Quiet, Full}
-use Rattle.jh_cli.specs.Limits.{journal_limit}
 use Rattle.jh_cli.specs.declared.status.Status.{Status}
 use Rattle.jh_cli.specs.declared.status.Status.TheVariants.{Good, Full as FullStatus}
 use Rattle.jh_cli.specs.Reading.{Reply}
@@ -32,13 +32,13 @@ told_of reached = record { status = played_status reached.full; text = journal_t
 
 -- the board at the played journal, and how it ended, tell the play
 pub IsPlayed_from : (image : Image) (cpus : List ℕ) (board : BoardView) (ended : Ended) (status : Status) (text : List ℕ)
-    → Plays image journal_limit cpus board ended → IsLegal image board.entries → ((ended ≡ Quiet) ↔ IsQuiet image board.entries) → ((ended ≡ Full) ↔ IsFullAtCpu image journal_limit board.entries)
+    → Plays image max_entries cpus board ended → IsLegal image board.entries → ((ended ≡ Quiet) ↔ IsQuiet image board.entries) → ((ended ≡ Full) ↔ IsFullAtCpu image max_entries board.entries)
     → status ≡ played_status (is_full ended) → text ≡ journal_text board.entries
     → IsPlayed image cpus (record { status = status; text = text })
 IsPlayed_from image cpus board ended status text plays legal quiet full is_status is_text =
-    let entries : board.entries ≡ (played image journal_limit cpus).entries = ap (λ (r : Reached). r.entries) (sym plays.0) in
+    let entries : board.entries ≡ (played image max_entries cpus).entries = ap (λ (r : Reached). r.entries) (sym plays.0) in
     let Legal : List Entry → Type 0 = λ es. IsLegal image es in
-    let AtLimit : List Entry → Type 0 = λ es. IsFullAtCpu image journal_limit es in
+    let AtLimit : List Entry → Type 0 = λ es. IsFullAtCpu image max_entries es in
     let Quieted : List Entry → Type 0 = λ es. IsQuiet image es in
     let of_status : Status → Reply = λ (s : Status). record { status = s; text = text } in
     let of_text : List ℕ → Reply = λ (t : List ℕ). record { status = played_status (is_full ended); text = t } in

@@ -7,7 +7,7 @@ use Rattle.jh_run.specs.Ends.{is_full}
 use Rattle.jh_run.specs.Soak.{soak_board}
 use Rattle.jh_run.specs.declared.ended.Ended.{Ended}
 use Rattle.jh_run.specs.declared.ended.Ended.TheVariants.{Quiet, Full}
-use Rattle.jh_cli.specs.Limits.{journal_limit}
+use Rattle.jh_text.specs.Faults.{max_entries}
 use Rattle.jh_cli.specs.Lines.{number_of}
 use Rattle.jh_cli.specs.Reading.{Reply}
 use Rattle.jh_cli.specs.Stopped.{IsCounted}
@@ -18,13 +18,13 @@ use Rattle.jh_cli.specs.Run.{EndsRun, IsRun, IsRan}
 use Rattle.jh_cli.specs.Soak.{Soaks}
 use Rattle.jh_cli.proofs.StatusLemmas.{run_ends}
 
-ends_run : (image : Image) (entries : List Entry) (ended : Ended) → ((ended ≡ Quiet) ↔ IsQuiet image entries) → ((ended ≡ Full) ↔ ((length entries ≡ journal_limit) × ¬ IsQuiet image entries))
+ends_run : (image : Image) (entries : List Entry) (ended : Ended) → ((ended ≡ Quiet) ↔ IsQuiet image entries) → ((ended ≡ Full) ↔ ((length entries ≡ max_entries) × ¬ IsQuiet image entries))
     → EndsRun image entries (played_status (is_full ended))
 ends_run image entries Quiet quiet full = quiet.0 refl
 ends_run image entries Full quiet full = full.0 refl
 
 pub is_run : (image : Image) (entries : List Entry) (ended : Ended) (status : Status) → IsLegal image entries → ((ended ≡ Quiet) ↔ IsQuiet image entries)
-    → ((ended ≡ Full) ↔ ((length entries ≡ journal_limit) × ¬ IsQuiet image entries)) → status ≡ played_status (is_full ended) → IsRun image entries status
+    → ((ended ≡ Full) ↔ ((length entries ≡ max_entries) × ¬ IsQuiet image entries)) → status ≡ played_status (is_full ended) → IsRun image entries status
 is_run image entries ended status legal quiet full is = record { legal = legal; ends = subst (EndsRun image entries) (sym is) (ends_run image entries ended quiet full) }
 
 -- a soak reads no file

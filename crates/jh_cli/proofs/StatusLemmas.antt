@@ -12,11 +12,13 @@ use Rattle.jh_audit.specs.declared.verdict.Verdict.{Verdict}
 use Rattle.jh_audit.specs.declared.verdict.Verdict.TheVariants.{Legal, Illegal}
 use Rattle.jh_check.specs.Lists.{is_any, capped}
 use Rattle.jh_check.specs.Findings.{findings}
+use Rattle.jh_text.specs.Faults.{max_entries}
 use Rattle.jh_cli.specs.declared.status.Status.{Status}
 use Rattle.jh_cli.specs.declared.status.Status.TheVariants.{Good, Found, Usage, Refused, ReadFault, WriteFault, NoMemory, Full}
 use Rattle.jh_cli.specs.Lines.{number_of}
 use Rattle.jh_cli.specs.Words.{Asked, CheckOf, PackOf, PlayOf, RunOf, MapOf, AuditOf, SoakOf}
-use Rattle.jh_cli.specs.Reading.{Reply, Contents, StopsAt, ReadsAt}
+use Rattle.jh_image.specs.Files.{Contents}
+use Rattle.jh_cli.specs.Reading.{Reply, StopsAt, ReadsAt}
 use Rattle.jh_cli.specs.Check.{IsSystemFile, SystemRefusal, CellRefusal, ChecksCells, checked_status}
 use Rattle.jh_cli.specs.Pack.{IsSpecFile, SpecRefusal, packed}
 use Rattle.jh_cli.specs.Boards.{stopped, Opens}
@@ -25,7 +27,7 @@ use Rattle.jh_cli.specs.Run.{EndsRun, IsRan}
 use Rattle.jh_cli.specs.Map.{IsMapped, mapped_said, MapsBy}
 use Rattle.jh_cli.specs.Audit.{JournalRefusal, IsJournalFile, IsAudited, AuditsBy, verdict_status}
 use Rattle.jh_cli.specs.Soak.{Soaks}
-use Rattle.jh_cli.specs.Limits.{most_of_a_file, most_of_a_journal, journal_limit}
+use Rattle.jh_cli.specs.Limits.{most_of_a_file, most_of_a_journal}
 use Rattle.jh_cli.specs.Outcome.{Outcome}
 
 abbrev IsOther : Reply → Type 0
@@ -59,7 +61,7 @@ cells_other contents names system said (inr all) =
 
 played_ends_other : (image : Image) (cpus : List ℕ) (said : Reply) → IsPlayed image cpus said → IsOther said
 played_ends_other image cpus said is =
-    other said (played_status (played image journal_limit cpus).full) (ap (λ (s : Reply). s.status) is.told) (played_other (played image journal_limit cpus).full)
+    other said (played_status (played image max_entries cpus).full) (ap (λ (s : Reply). s.status) is.told) (played_other (played image max_entries cpus).full)
 
 mapped_other : (found : Option (List ℕ)) → number_of (mapped_said found).status ≢ 5
 mapped_other (Some text) = omega arith

@@ -8,7 +8,8 @@ use Rattle.jh_cli.specs.declared.status.Status.TheVariants.{Refused}
 use Rattle.jh_cli.specs.declared.ending.Stop.{Stop}
 use Rattle.jh_cli.specs.declared.ending.Stop.TheVariants.{Ended, NoMemory}
 use Rattle.jh_cli.specs.Lines.{refusal_line}
-use Rattle.jh_cli.specs.Reading.{Contents, Reply, SpellsAt, StopsAt, ReadsAt}
+use Rattle.jh_image.specs.Files.{Contents}
+use Rattle.jh_cli.specs.Reading.{Reply, SpellsAt, StopsAt, ReadsAt}
 use Rattle.jh_cli.specs.Stopped.{OnEnded, OnEnding, said_of, IsCounted}
 
 -- what is said of every ended call carries over

@@ -15,8 +15,8 @@ use Rattle.jh_image.specs.Files.{Contents, max_file_size, HasBytes, IsOversize, 
 use Rattle.jh_image.specs.Images.{SoFar, Stage, nothing, with_listing, with_system, so_far_of, IsNextPreload, IsNextProgram, IsNextFile, the_board, the_system, a_preload, a_program, ReadsNext, reads_board, reads_system, reads_preload, reads_program, ReadsTo, nothing_read, one_more_read, IsImage}
 use Rattle.jh_image.specs.Causes.{Stops, cannot_be_read, is_too_large, is_no_object, has_bad_member, is_no_system, has_findings, has_small_pool, is_bad_preload, is_bad_program, StopsReading}
 use Rattle.jh_image.specs.Order.{preload_name, program_name}
-use Rattle.jh_image.specs.Laws.{AreTold as AreAllTold}
-use Rattle.jh_cli.specs.Complete.{AreTold, IsBoardTold}
+use Rattle.jh_image.specs.Laws.{AreTold}
+use Rattle.jh_cli.specs.Complete.{AreNamesTold, IsBoardTold}
 
 -- ---- lists
 
@@ -49,7 +49,7 @@ is_told : (told : KnownFile) → or_missing told ≢ None
 is_told None h = absurd (cc)
 is_told (Some held) h = absurd (cc)
 
-pub each_is_told : (contents : Contents) → AreAllTold (all_told contents)
+pub each_is_told : (contents : Contents) → AreTold (all_told contents)
 each_is_told contents name = is_told (contents name)
 
 hands : (told : KnownFile) (most : ℕ) (bytes : List ℕ) → told ≢ None → HandsOut told most bytes → HandsOut (or_missing told) most bytes
@@ -88,10 +88,10 @@ module _ (contents : Contents) where
     at_system : (listing : Listing) → Lists contents board listing → IsTold listing.system
     at_system listing h = (told.of_files listing h).1.0
 
-    at_preloads : (listing : Listing) → Lists contents board listing → AreTold contents (map preload_name listing.preloads)
+    at_preloads : (listing : Listing) → Lists contents board listing → AreNamesTold contents (map preload_name listing.preloads)
     at_preloads listing h = all_front IsTold (map preload_name listing.preloads) (map program_name listing.programs) (told.of_files listing h).1.1
 
-    at_programs : (listing : Listing) → Lists contents board listing → AreTold contents (map program_name listing.programs)
+    at_programs : (listing : Listing) → Lists contents board listing → AreNamesTold contents (map program_name listing.programs)
     at_programs listing h = all_back IsTold (map preload_name listing.preloads) (map program_name listing.programs) (told.of_files listing h).1.1
 
     -- what is listed at the stage

@@ -8,7 +8,8 @@ use Rattle.jh_image.specs.Images.{IsImage}
 use Rattle.jh_history.specs.Admitted.{IsAdmitted}
 use Rattle.jh_image.specs.Texts.{cause_text}
 use Rattle.jh_cli.specs.Lines.{fault_line, refusal_line}
-use Rattle.jh_cli.specs.Reading.{Reply, Contents}
+use Rattle.jh_image.specs.Files.{Contents}
+use Rattle.jh_cli.specs.Reading.{Reply}
 use Rattle.jh_cli.specs.declared.status.Status.TheVariants as status
 
 -- what is said where the file is refused for the cause

@@ -6,7 +6,8 @@ use Rattle.jh_outside.specs.Trail.{Ask}
 use Rattle.jh_outside.specs.Writes.{Appended}
 use Rattle.jh_cli.specs.Words.{Asked}
 use Rattle.jh_cli.specs.Lines.{fault_line}
-use Rattle.jh_cli.specs.Reading.{Contents, Reply}
+use Rattle.jh_image.specs.Files.{Contents}
+use Rattle.jh_cli.specs.Reading.{Reply}
 use Rattle.jh_cli.specs.Stopped.{IsCounted}
 use Rattle.jh_cli.specs.Order.{IsReadFor}
 use Rattle.jh_cli.specs.Outcome.{Outcome, Sent}

@@ -15,7 +15,8 @@ use Rattle.jh_check.specs.declared.finding.Finding.{Finding}
 use Rattle.jh_check.specs.Findings.{findings}
 use Rattle.jh_check.specs.Lists.{capped, is_any}
 use Rattle.jh_check.specs.Texts.{finding_text}
-use Rattle.jh_cli.specs.Reading.{Reply, Contents, Spells, StopsAtFile, Reads, IsOversize}
+use Rattle.jh_image.specs.Files.{Contents}
+use Rattle.jh_cli.specs.Reading.{Reply, Spells, StopsAtFile, Reads, IsOversize}
 use Rattle.jh_cli.specs.declared.status.Status.{Status}
 use Rattle.jh_cli.specs.declared.status.Status.TheVariants.{Good, Found}
 use Rattle.jh_cli.specs.Limits.{most_of_a_file}

@@ -9,11 +9,11 @@ use Rattle.jh_history.specs.declared.entry.Entry.{Entry}
 use Rattle.jh_history.specs.Items.{items, played}
 use Rattle.jh_spec.specs.declared.spec.Spec.{Spec}
 use Rattle.jh_image.specs.declared.board.Listing.{Listing}
-use Rattle.jh_image.specs.Files.{Lists}
+use Rattle.jh_image.specs.Files.{Contents, Lists}
 use Rattle.jh_image.specs.Images.{IsImage}
 use Rattle.jh_image.specs.Order.{board_files}
+use Rattle.jh_text.specs.Faults.{max_entries}
 use Rattle.jh_cli.specs.Words.{Asked, CheckOf, PackOf, PlayOf, RunOf, MapOf, AuditOf, SoakOf}
-use Rattle.jh_cli.specs.Reading.{Contents}
 use Rattle.jh_cli.specs.Check.{IsCellFile, IsSystemFile}
 use Rattle.jh_cli.specs.Pack.{IsSpecFile}
 use Rattle.jh_cli.specs.Play.{IsSchedule, played_status}
@@ -21,7 +21,7 @@ use Rattle.jh_cli.specs.Audit.{IsJournalFile}
 use Rattle.jh_cli.specs.Soak.{AreRounds}
 use Rattle.jh_cli.specs.declared.status.Status.{Status}
 use Rattle.jh_cli.specs.declared.status.Status.TheVariants.{Good, Found, Full}
-use Rattle.jh_cli.specs.Limits.{most_of_a_file, most_of_a_journal, journal_limit}
+use Rattle.jh_cli.specs.Limits.{most_of_a_file, most_of_a_journal}
 
 module _ {A : Type 0} where
   -- the file of this name holds these bytes, fewer than `most`, and they spell the value
@@ -38,23 +38,23 @@ HoldCells contents (name ∷ names) (cell ∷ cells) = Holds most_of_a_file cont
 HoldCells contents _ _ = ⊥
 
 -- the files tell of each of these names all the bytes that it holds, or that it is missing
-abbrev pub AreTold : Contents → List (List ℕ) → Type 0
-AreTold contents names = AllByRecursion (λ name. contents name ≢ None) names
+abbrev pub AreNamesTold : Contents → List (List ℕ) → Type 0
+AreNamesTold contents names = AllByRecursion (λ name. contents name ≢ None) names
 
 -- the files tell of the board and of what it lists
 pub record IsBoardTold (contents : Contents) (board : List ℕ) : Type 0 where
-  pub of_board : AreTold contents (board ∷ [])
-  pub of_files : (listing : Listing) → Lists contents board listing → AreTold contents (board_files board listing)
+  pub of_board : AreNamesTold contents (board ∷ [])
+  pub of_files : (listing : Listing) → Lists contents board listing → AreNamesTold contents (board_files board listing)
 
 -- the files tell of each file that the words name, and of what a board lists
 abbrev pub AreFilesTold : Contents → Option Asked → Type 0
 AreFilesTold contents None = ⊤
-AreFilesTold contents (Some (CheckOf system cells)) = AreTold contents (system ∷ cells)
-AreFilesTold contents (Some (PackOf spec)) = AreTold contents (spec ∷ [])
-AreFilesTold contents (Some (PlayOf board schedule)) = IsBoardTold contents board × AreTold contents (schedule ∷ [])
+AreFilesTold contents (Some (CheckOf system cells)) = AreNamesTold contents (system ∷ cells)
+AreFilesTold contents (Some (PackOf spec)) = AreNamesTold contents (spec ∷ [])
+AreFilesTold contents (Some (PlayOf board schedule)) = IsBoardTold contents board × AreNamesTold contents (schedule ∷ [])
 AreFilesTold contents (Some (RunOf board)) = IsBoardTold contents board
-AreFilesTold contents (Some (MapOf board schedule)) = IsBoardTold contents board × AreTold contents (schedule ∷ [])
-AreFilesTold contents (Some (AuditOf board journal)) = IsBoardTold contents board × AreTold contents (journal ∷ [])
+AreFilesTold contents (Some (MapOf board schedule)) = IsBoardTold contents board × AreNamesTold contents (schedule ∷ [])
+AreFilesTold contents (Some (AuditOf board journal)) = IsBoardTold contents board × AreNamesTold contents (journal ∷ [])
 AreFilesTold contents (Some (SoakOf rounds)) = ⊤
 
 -- the files of a check hold a system and a cell each, whatever the check finds in them
@@ -109,8 +109,8 @@ abbrev pub IsAnswer : (contents : Contents) (asked : Option Asked) → AreGood c
 IsAnswer contents None good status = ⊥
 IsAnswer contents (Some (CheckOf system cells)) good status = (status ≡ Good) ⊎ (status ≡ Found)
 IsAnswer contents (Some (PackOf spec)) good status = status ≡ Good
-IsAnswer contents (Some (PlayOf board schedule)) good status = status ≡ played_status (played good.image journal_limit good.items).full
+IsAnswer contents (Some (PlayOf board schedule)) good status = status ≡ played_status (played good.image max_entries good.items).full
 IsAnswer contents (Some (RunOf board)) good status = (status ≡ Good) ⊎ (status ≡ Full)
-IsAnswer contents (Some (MapOf board schedule)) good status = status ≡ played_status (items good.image journal_limit good.items []).full
+IsAnswer contents (Some (MapOf board schedule)) good status = status ≡ played_status (items good.image max_entries good.items []).full
 IsAnswer contents (Some (AuditOf board journal)) good status = (status ≡ Good) ⊎ (status ≡ Found)
 IsAnswer contents (Some (SoakOf rounds)) good status = (status ≡ Good) ⊎ (status ≡ Full)

@@ -1,6 +1,5 @@
--- How much is read and played, as numbers of their own and not those of the code.
+-- How much is read, as numbers of their own and not those of the code.
 use Rattle.std.specs.Prelude.{ℕ, ◌+◌}
-use Rattle.jh_text.specs.Faults.{max_entries}
 use Rattle.jh_image.specs.Files.{max_file_size}
 
 -- how many bytes are asked of a file: one more than the 1 MiB that it may have
@@ -10,7 +9,3 @@ most_of_a_file = max_file_size + 1
 -- how many bytes are asked of a journal's file: one more than the 32 MiB that it may have
 abbrev pub most_of_a_journal : ℕ
 most_of_a_journal = 33554433
-
--- how many entries a journal may have
-abbrev pub journal_limit : ℕ
-journal_limit = max_entries

@@ -2,11 +2,12 @@
 use Rattle.std.specs.Prelude.{◌≡◌, ℕ, List, [], Option, Some, None}
 use Rattle.jh_script.specs.declared.image.Image.{Image}
 use Rattle.jh_run.specs.Maps.{Maps}
-use Rattle.jh_cli.specs.Reading.{Reply, Contents, Reads}
+use Rattle.jh_image.specs.Files.{Contents}
+use Rattle.jh_text.specs.Faults.{max_entries}
+use Rattle.jh_cli.specs.Reading.{Reply, Reads}
 use Rattle.jh_cli.specs.Boards.{Opens}
 use Rattle.jh_cli.specs.Play.{IsSchedule, ScheduleRefusal}
 use Rattle.jh_cli.specs.declared.status.Status.TheVariants.{Good, Full}
-use Rattle.jh_cli.specs.Limits.{journal_limit}
 
 -- the maps that were told, or, where the limit stopped an item, nothing
 abbrev pub mapped_said : Option (List ℕ) → Reply
@@ -15,7 +16,7 @@ mapped_said None = record { status = Full; text = [] }
 
 -- what is said of the image after the items alone: the maps, or that the limit stopped an item
 abbrev pub IsMapped : Image → List ℕ → Reply → Type 0
-IsMapped image cpus said = (found : Option (List ℕ)) × Maps image journal_limit cpus found × (said ≡ mapped_said found)
+IsMapped image cpus said = (found : Option (List ℕ)) × Maps image max_entries cpus found × (said ≡ mapped_said found)
 
 -- what a map of the image after the schedule ends with
 abbrev pub MapsBy : Contents → List ℕ → Image → Reply → Type 0

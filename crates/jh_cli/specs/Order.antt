@@ -2,9 +2,9 @@
 use Rattle.std.specs.Prelude.{ℕ, ◌⊎◌, List, [], ◌∷◌, ◌++◌, ⊤, Option, Some, None}
 use Rattle.jh_outside.specs.Trail.{Ask, Asks, handed, faulted, AsksAll, AsksUntil}
 use Rattle.jh_image.specs.declared.board.Listing.{Listing}
-use Rattle.jh_image.specs.Files.{Lists}
+use Rattle.jh_image.specs.Files.{Contents, Lists}
 use Rattle.jh_image.specs.Order.{board_files}
-use Rattle.jh_cli.specs.Reading.{Contents, Reply}
+use Rattle.jh_cli.specs.Reading.{Reply}
 use Rattle.jh_cli.specs.Words.{Asked, CheckOf, PackOf, PlayOf, RunOf, MapOf, AuditOf, SoakOf}
 use Rattle.jh_cli.specs.declared.status.Status.{Status}
 use Rattle.jh_cli.specs.declared.status.Status.TheVariants.{Refused, ReadFault}

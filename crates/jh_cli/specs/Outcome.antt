@@ -3,7 +3,8 @@ use Rattle.std.specs.Prelude.{◌≡◌, ℕ, ◌⊎◌, List, Option, Some, Non
 use Rattle.jh_outside.specs.Writes.{Appended, AppendedPart}
 use Rattle.jh_cli.specs.Words.{Asked, CheckOf, PackOf, PlayOf, RunOf, MapOf, AuditOf, SoakOf}
 use Rattle.jh_cli.specs.Lines.{usage_line}
-use Rattle.jh_cli.specs.Reading.{Reply, Contents}
+use Rattle.jh_image.specs.Files.{Contents}
+use Rattle.jh_cli.specs.Reading.{Reply}
 use Rattle.jh_cli.specs.Check.{Checks}
 use Rattle.jh_cli.specs.Pack.{Packs}
 use Rattle.jh_cli.specs.Play.{Plays}

@@ -7,13 +7,15 @@ use Rattle.jh_script.specs.Schedules.{has_cpu, schedule_of}
 use Rattle.jh_history.specs.Lives.{is_on_board}
 use Rattle.jh_history.specs.Due.{IsLegal, IsQuiet}
 use Rattle.jh_history.specs.Items.{played}
+use Rattle.jh_text.specs.Faults.{max_entries}
 use Rattle.jh_text.specs.Text.{journal_text}
 use Rattle.jh_run.specs.Plays.{IsFullAtCpu}
-use Rattle.jh_cli.specs.Reading.{Reply, Contents, Reads, IsOversize}
+use Rattle.jh_image.specs.Files.{Contents}
+use Rattle.jh_cli.specs.Reading.{Reply, Reads, IsOversize}
 use Rattle.jh_cli.specs.Boards.{Opens}
 use Rattle.jh_cli.specs.declared.status.Status.{Status}
 use Rattle.jh_cli.specs.declared.status.Status.TheVariants.{Good, Full}
-use Rattle.jh_cli.specs.Limits.{most_of_a_file, journal_limit}
+use Rattle.jh_cli.specs.Limits.{most_of_a_file}
 
 -- bit n of the set says whether the board has CPU n
 abbrev pub AreCpus : Image → ℕ → Type 0
@@ -46,10 +48,10 @@ played_status full = if full then Full else Good
 -- the played journal's text; the journal is legal, and with status `Good` nothing is due after it. The status is
 -- `Full` exactly where the journal is at its limit and some CPU has an entry due
 pub record IsPlayed (image : Image) (cpus : List ℕ) (said : Reply) : Type 0 where
-  pub told : said ≡ record { status = played_status (played image journal_limit cpus).full; text = journal_text (played image journal_limit cpus).entries }
-  pub legal : IsLegal image (played image journal_limit cpus).entries
-  pub quiet : said.status ≡ Good → IsQuiet image (played image journal_limit cpus).entries
-  pub full : (said.status ≡ Full) ↔ IsFullAtCpu image journal_limit (played image journal_limit cpus).entries
+  pub told : said ≡ record { status = played_status (played image max_entries cpus).full; text = journal_text (played image max_entries cpus).entries }
+  pub legal : IsLegal image (played image max_entries cpus).entries
+  pub quiet : said.status ≡ Good → IsQuiet image (played image max_entries cpus).entries
+  pub full : (said.status ≡ Full) ↔ IsFullAtCpu image max_entries (played image max_entries cpus).entries
 
 -- what a play of the image by the schedule ends with
 abbrev pub PlaysBy : Contents → List ℕ → Image → Reply → Type 0

@@ -1,6 +1,7 @@
 -- Where a call ends at a file, and where it goes on with what the file spells.
 use Rattle.std.specs.Prelude.{◌≡◌, ◌≤◌, ℕ, ◌⊎◌, List, length, codes}
-use Rattle.jh_outside.specs.Reads.{KnownFile, HandsOut}
+use Rattle.jh_outside.specs.Reads.{HandsOut}
+use Rattle.jh_image.specs.Files.{Contents}
 use Rattle.jh_cli.specs.Lines.{fault_line, refusal_line}
 use Rattle.jh_cli.specs.declared.status.Status.{Status}
 use Rattle.jh_cli.specs.declared.status.Status.TheVariants.{Refused, ReadFault}
@@ -10,10 +11,6 @@ use Rattle.jh_cli.specs.Limits.{most_of_a_file}
 pub record Reply : Type 0 where
   pub status : Status
   pub text : List ℕ
-
--- what files tell of each name
-abbrev pub Contents : Type 0
-Contents = List ℕ → KnownFile
 
 -- the file of this name, of which so many bytes are asked, is refused by these words
 pub record IsRefused (most : ℕ) (contents : Contents) (name : List ℕ) (Why : List ℕ → List ℕ → Type 0) (said : Reply) : Type 0 where

@@ -1,11 +1,12 @@
 //! Auditing a journal by a board.
 ghost use Rattle.std.specs.Prelude.{◌≡◌, ◌≢◌, ◌≤◌, length, IfOk, IfErr, ◌∷◌, [], OnOk};
 ghost use Rattle.jh_history.specs.Admitted.{IsAdmitted};
+ghost use Rattle.jh_text.specs.Faults.{max_entries};
 ghost use Rattle.jh_text.specs.FaultText.{fault_text};
 ghost use Rattle.jh_text.specs.declared.fault.JournalFault.TheVariants.{NoMemory as for_memory};
 ghost use Rattle.jh_outside.specs.Trail.{AsksAll};
 ghost use Rattle.jh_cli.specs.Order.{StopsIn, ReadsIn, ReadsBoard};
-ghost use Rattle.jh_cli.specs.Limits.{most_of_a_journal, journal_limit};
+ghost use Rattle.jh_cli.specs.Limits.{most_of_a_journal};
 ghost use Rattle.jh_cli.specs.Lines.{refusal_line};
 ghost use Rattle.jh_cli.specs.Reading.{SpellsAt, StopsAt};
 ghost use Rattle.jh_cli.specs.Audit.{IsJournalFile, JournalRefusal, IsAudited, AuditsBy, Audits, due_text, verdict_text, verdict_status};
@@ -37,7 +38,7 @@ fn unread(alloc: Global, name: &str, fault: &JournalFault) -> Stop
 /// The journal in the file of this name.
 fn journal<F: Files>(alloc: Global, files: &mut F, name: &str) -> Result<Journal, Stop>
     ensures ok { IfOk result (λ journal. SpellsAt most_of_a_journal (F.contents files.old) name.now IsJournalFile journal.entries) }
-    ensures few { IfOk result (λ journal. length journal.entries ≤ journal_limit) }
+    ensures few { IfOk result (λ journal. length journal.entries ≤ max_entries) }
     ensures err { IfErr result (λ stop. OnEnded stop (StopsAt most_of_a_journal (F.contents files.old) name.now JournalRefusal)) }
     ensures counted { IfErr result (λ stop. OnEnded stop (IsCounted (F.faults files.old) (F.faults files.new) (F.failed files.new))) }
     ensures never_falls { F.faults files.old ≤ F.faults files.new }
@@ -94,7 +95,7 @@ fn due_text(alloc: Global, line: u32, entry: &Entry) -> Result<Vec<u8>, NoMemory
 /// Judges the journal by the image, and tells the verdict.
 fn tell_verdict(alloc: Global, image: Image, journal: &Journal) -> Result<Ending, NoMemory>
     requires admitted { IsAdmitted image }
-    requires few { length journal.now.entries ≤ journal_limit }
+    requires few { length journal.now.entries ≤ max_entries }
     ensures { IfOk result (λ told. IsAudited image journal.now.entries (said_of told)) }
 {
     let verdict = audit_journal(alloc, image, journal)?;

@@ -58,10 +58,7 @@ fn is_operand(word: &str) -> bool
 fn are_operands(words: &[String]) -> bool
     ensures { result ≡ list_all is_operand (map string_bytes words.now) }
 {
-    match words {
-        [word, rest @ ..] => is_operand(word.as_str()) && are_operands(rest),
-        [] => true,
-    }
+    words.iter().all(|word| is_operand(word.as_str()))
 }
 
 /// The command `check`: its operands are a system and up to 15 cells.

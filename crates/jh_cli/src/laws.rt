@@ -1,7 +1,8 @@
 //! What holds of all files, whoever reads them. Each function does nothing; its contract is the law.
 ghost use Rattle.std.specs.Prelude.{◌≡◌, ◌≢◌, ◌⊎◌, Option};
 ghost use Rattle.jh_cli.specs.Words.{Asked, IsSerial};
-ghost use Rattle.jh_cli.specs.Reading.{Reply, Contents};
+ghost use Rattle.jh_image.specs.Files.{Contents};
+ghost use Rattle.jh_cli.specs.Reading.{Reply};
 ghost use Rattle.jh_cli.specs.Outcome.{Outcome};
 ghost use Rattle.jh_cli.specs.Complete.{AreFilesTold, AreGood, IsAnswer};
 

@@ -1,13 +1,9 @@
-//! How much is read and played.
+//! How much is read.
 
 use jh_image::MAX_FILE_SIZE;
-use jh_text::MAX_ENTRIES;
 
 /// How many bytes are asked of a file: one more than a file may have.
 pub const MOST: usize = MAX_FILE_SIZE + 1;
 
 /// How many bytes are asked of a journal's file: one more than its 32 MiB.
 pub const MOST_OF_A_JOURNAL: usize = 33_554_433;
-
-/// How many entries a journal may have.
-pub const JOURNAL_LIMIT: u32 = MAX_ENTRIES as u32;

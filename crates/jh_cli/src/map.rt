@@ -8,13 +8,13 @@ ghost use Rattle.jh_cli.specs.Stopped.{said_of, OnEnding, IsCounted};
 
 use crate::boards::open;
 use crate::ending::{Ending, Stop};
-use crate::limits::JOURNAL_LIMIT;
 use crate::schedule::schedule;
 use crate::status::Status;
 use jh_num::NoMemory;
 use jh_outside::Files;
 use jh_run::map as map_board;
 use jh_script::Image;
+use jh_text::MAX_ENTRIES;
 use std::alloc::Global;
 
 /// Makes the items of the schedule, and tells the maps of the cells that live then.
@@ -23,7 +23,7 @@ fn render(alloc: Global, image: Image, cpus: &[u8]) -> Result<Ending, NoMemory>
     requires cpus { All (λ cpu. IsTrue (is_on_board image cpu)) cpus.now }
     ensures { IfOk result (λ told. IsMapped image cpus.now (said_of told)) }
 {
-    match map_board(alloc, image, cpus, JOURNAL_LIMIT)? {
+    match map_board(alloc, image, cpus, MAX_ENTRIES as u32)? {
         Some(text) => Ok(Ending {
             status: Status::Good,
             text: text.into_vec(),

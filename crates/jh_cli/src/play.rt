@@ -9,14 +9,13 @@ ghost use Rattle.jh_cli.specs.Stopped.{said_of, OnEnding, IsCounted};
 
 use crate::boards::open;
 use crate::ending::{Ending, Stop};
-use crate::limits::JOURNAL_LIMIT;
 use crate::schedule::schedule;
 use crate::status::Status;
 use jh_num::NoMemory;
 use jh_outside::Files;
 use jh_run::{Ended, play as play_board};
 use jh_script::Image;
-use jh_text::print_journal;
+use jh_text::{MAX_ENTRIES, print_journal};
 use std::alloc::Global;
 
 /// The status of a play or a run, by how it ended.
@@ -35,7 +34,7 @@ fn render(alloc: Global, image: Image, cpus: &[u8]) -> Result<Ending, NoMemory>
     requires cpus { All (λ cpu. IsTrue (is_on_board image cpu)) cpus.now }
     ensures { IfOk result (λ told. IsPlayed image cpus.now (said_of told)) }
 {
-    let (board, ended) = play_board(alloc, image, cpus, JOURNAL_LIMIT)?;
+    let (board, ended) = play_board(alloc, image, cpus, MAX_ENTRIES as u32)?;
     let text = print_journal(alloc, board.journal())?;
     Ok(Ending {
         status: status_of(ended),

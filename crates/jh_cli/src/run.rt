@@ -7,13 +7,12 @@ ghost use Rattle.jh_cli.specs.Stopped.{said_of, OnEnding, IsCounted};
 
 use crate::boards::open;
 use crate::ending::{Ending, Stop};
-use crate::limits::JOURNAL_LIMIT;
 use crate::play::status_of;
 use jh_num::NoMemory;
 use jh_outside::{Files, Gate};
 use jh_run::run as run_board;
 use jh_script::Image;
-use jh_text::print_journal;
+use jh_text::{MAX_ENTRIES, print_journal};
 use std::alloc::Global;
 use std::sync::Wait;
 use std::thread::Threads;
@@ -28,7 +27,7 @@ fn render<R: Threads + Wait + Sync, G: Gate + Sync>(
     requires { IsAdmitted image }
     ensures { IfOk result (λ told. IsRan image (said_of told)) }
 {
-    let (board, ended) = run_board(rt, alloc, image, gate, JOURNAL_LIMIT)?;
+    let (board, ended) = run_board(rt, alloc, image, gate, MAX_ENTRIES as u32)?;
     let text = print_journal(alloc, board.journal())?;
     Ok(Ending {
         status: status_of(ended),

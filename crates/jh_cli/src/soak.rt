@@ -4,13 +4,13 @@ ghost use Rattle.jh_cli.specs.Soak.{TellsRounds, summary_line, IsSoaked, Soaks};
 ghost use Rattle.jh_cli.specs.Stopped.{said_of, OnEnding};
 
 use crate::ending::{Ending, Stop};
-use crate::limits::JOURNAL_LIMIT;
 use crate::lines::rounds_line;
 use crate::play::status_of;
 use crate::status::Status;
 use jh_num::NoMemory;
 use jh_outside::Gate;
 use jh_run::{MAX_ROUNDS, Summary, run, soak_image, summary_of};
+use jh_text::MAX_ENTRIES;
 use std::alloc::Global;
 use std::sync::Wait;
 use std::thread::Threads;
@@ -68,7 +68,7 @@ fn render<R: Threads + Wait + Sync, G: Gate + Sync>(
     ensures { IfOk result (λ told. IsSoaked rounds (said_of told)) }
 {
     let image = soak_image(alloc, rounds)?;
-    let (board, ended) = run(rt, alloc, image, gate, JOURNAL_LIMIT)?;
+    let (board, ended) = run(rt, alloc, image, gate, MAX_ENTRIES as u32)?;
     let summary = summary_of(board.journal());
     Ok(Ending {
         status: status_of(ended),

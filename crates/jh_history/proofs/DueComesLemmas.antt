@@ -20,7 +20,8 @@ use Rattle.jh_history.specs.declared.call.Creation.TheVariants.{Comes}
 use Rattle.jh_history.specs.Facts.{Facts}
 use Rattle.jh_history.specs.Admitted.{pool_pages}
 use Rattle.jh_history.specs.Configs.{Reads, config_read}
-use Rattle.jh_history.specs.Phases.{configs_of, may_give, creation_of, refused_by}
+use Rattle.jh_history.specs.Phases.{may_give, creation_of, refused_by}
+use Rattle.jh_shape.specs.Lives.{configs_of}
 use Rattle.jh_history.specs.Sound.{MayCome, IsSoundCall, IsInPhase, IsOpen, IsSound}
 use Rattle.jh_history.specs.DueFacts.{MayLive}
 use Rattle.jh_history.proofs.SoundDecideLemmas.{coming_from_decision}

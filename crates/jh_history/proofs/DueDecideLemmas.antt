@@ -20,7 +20,8 @@ use Rattle.jh_history.specs.declared.entry.Act.TheVariants.{Decide, Settle, Comm
 use Rattle.jh_history.specs.Facts.{Facts}
 use Rattle.jh_history.specs.Configs.{ReadCell, Reads, Refuses, read_at}
 use Rattle.jh_history.specs.Admitted.{pool_pages}
-use Rattle.jh_history.specs.Phases.{may_give, configs_of, is_locked, unless_refused, creation_by, creation_of, refused_by, decision}
+use Rattle.jh_history.specs.Phases.{may_give, is_locked, unless_refused, creation_by, creation_of, refused_by, decision}
+use Rattle.jh_shape.specs.Lives.{configs_of}
 use Rattle.jh_history.specs.Due.{due_at}
 use Rattle.jh_history.specs.Sound.{IsSound}
 use Rattle.jh_history.specs.DueFacts.{HasRead}

@@ -41,7 +41,8 @@ use Rattle.jh_history.specs.Facts.{Facts}
 use Rattle.jh_history.specs.Grants.{devices_of}
 use Rattle.jh_history.specs.Hypercalls.{seen_of}
 use Rattle.jh_history.specs.Lives.{live_in}
-use Rattle.jh_history.specs.Phases.{configs_of, creation_of}
+use Rattle.jh_history.specs.Phases.{creation_of}
+use Rattle.jh_shape.specs.Lives.{configs_of}
 use Rattle.jh_history.specs.Sound.{IsOfDevice, IsSoundEndpoint, IsSoundCall, IsInPhase, IsSound}
 use Rattle.jh_history.specs.DueFacts.{IsWordOf}
 use Rattle.jh_history.proofs.SoundDueLemmas.{next_from_due, IsOfProgram, IsOfState}

@@ -16,7 +16,7 @@ use Rattle.jh_history.specs.declared.call.OpenCall.{OpenCall}
 use Rattle.jh_history.specs.declared.call.Phase.TheVariants.{ToCreate}
 use Rattle.jh_history.specs.Facts.{Facts}
 use Rattle.jh_history.specs.Lives.{is_on_board}
-use Rattle.jh_history.specs.Phases.{configs_of}
+use Rattle.jh_shape.specs.Lives.{configs_of}
 use Rattle.jh_history.specs.Sound.{AreTwo, AreSoundCells, HasItsCpus, AreOwned, IsSound}
 use Rattle.jh_history.specs.DueFacts.{NamesCpu}
 use Rattle.jh_history.proofs.SoundCellsLemmas.{cells_joined}

@@ -28,7 +28,8 @@ use Rattle.jh_history.specs.Facts.{Facts}
 use Rattle.jh_history.specs.Lives.{is_on_board, live_in}
 use Rattle.jh_history.specs.Cpus.{cpu_after}
 use Rattle.jh_history.specs.Pages.{on_page, named_cell, is_left, failing, unless_good, asking, committing, page_write_by}
-use Rattle.jh_history.specs.Phases.{configs_of, decision}
+use Rattle.jh_history.specs.Phases.{decision}
+use Rattle.jh_shape.specs.Lives.{configs_of}
 use Rattle.jh_history.specs.Due.{due_at}
 use Rattle.jh_history.specs.Sound.{IsOwner, IsSoundCall, IsInPhase, IsSound}
 use Rattle.jh_history.specs.DueFacts.{IsLive, HasPage}

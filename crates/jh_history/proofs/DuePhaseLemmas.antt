@@ -17,7 +17,8 @@ use Rattle.jh_history.specs.declared.entry.Act.{Act}
 use Rattle.jh_history.specs.declared.entry.Act.TheVariants.{Read, Write, Fetch, Await, Irq, Hvc, Begin, Stop, Decide, Settle, Commit, Note, Noted, Finish}
 use Rattle.jh_history.specs.Facts.{Facts}
 use Rattle.jh_history.specs.Due.{due_at, caller_act, state_act, is_idle_but}
-use Rattle.jh_history.specs.Phases.{phase_act, keeps_decide, keeps_commit, configs_of, decision, settled_of, heard_of}
+use Rattle.jh_history.specs.Phases.{phase_act, keeps_decide, keeps_commit, decision, settled_of, heard_of}
+use Rattle.jh_shape.specs.Lives.{configs_of}
 use Rattle.jh_history.specs.Sound.{IsSoundCall, IsSound}
 use Rattle.jh_history.proofs.SoundDueLemmas.{next_from_due, IsOutcomeOf, IsOfProgram, IsOfState, state_parts, IsOfCall, call_parts}
 

@@ -36,7 +36,7 @@ use Rattle.jh_history.specs.Places.{places_in_row}
 use Rattle.jh_history.specs.Facts.{Facts}
 use Rattle.jh_history.specs.Grants.{is_kept, unless, granted, behind_in, reach}
 use Rattle.jh_history.specs.Lives.{regions_in}
-use Rattle.jh_history.specs.Phases.{configs_of}
+use Rattle.jh_shape.specs.Lives.{configs_of}
 use Rattle.jh_history.specs.Wants.{IsReachOfAct, IsReachOfEntry}
 use Rattle.jh_history.specs.Sound.{IsSound}
 use Rattle.jh_history.specs.DueFacts.{IsLive, IsOfCells, ReachesCells, WritesCells}

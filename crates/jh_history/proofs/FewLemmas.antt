@@ -16,7 +16,7 @@ use Rattle.jh_check.specs.Clean.{IsSoundBitmap, IsSoundCpuSet}
 use Rattle.jh_script.specs.declared.image.Image.{Image}
 use Rattle.jh_history.specs.declared.call.OpenCall.{OpenCall}
 use Rattle.jh_history.specs.Facts.{Facts}
-use Rattle.jh_history.specs.Phases.{configs_of}
+use Rattle.jh_shape.specs.Lives.{configs_of}
 use Rattle.jh_history.specs.Sound.{AreTwo, AreSoundCells, AreOwned, IsSound, IsSoundCall, IsOpen}
 use Rattle.jh_history.proofs.SoundDecideLemmas.{board_few}
 

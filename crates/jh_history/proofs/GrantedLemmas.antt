@@ -20,7 +20,7 @@ use Rattle.jh_history.specs.declared.access.Reach.TheVariants.{Memory, Nothing}
 use Rattle.jh_history.specs.Access.{place_of, places_from, memory_or_nothing, reach_by}
 use Rattle.jh_history.specs.Grants.{unless, granted_by}
 use Rattle.jh_history.specs.Lives.{live_in, cell_in, regions_in}
-use Rattle.jh_history.specs.Phases.{configs_of}
+use Rattle.jh_shape.specs.Lives.{configs_of}
 use Rattle.jh_history.proofs.LiveLemmas.{has_number, live_in_is}
 
 abbrev unless_any : (Place → Bool) → List Place → Option (List Place)

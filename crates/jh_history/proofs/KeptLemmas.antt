@@ -37,12 +37,12 @@ pub over_more : (image : Image) (old new : List WrittenByte) (p at : Place) (byt
 over_more image old new p at byte k n rest places q lt is_at is_byte is =
     rw (is, last_byte_push, is_at, is_byte) (ap (λ (ps : List Place). over (ps ++ places) rest q (last_byte image old q)) (sym (row_next p k n lt)))
 
--- the two runs of a write
-pub over_runs : (image : Image) (old middle new : List WrittenByte) (low high places : List Place) (value rest last : ℕ) (q : Place) → places ≡ low ++ high
+-- the two rows of a write
+pub over_rows : (image : Image) (old middle new : List WrittenByte) (low high places : List Place) (value rest last : ℕ) (q : Place) → places ≡ low ++ high
     → ((ps : List Place) → over ps rest q (last_byte image middle q) ≡ over (low ++ ps) value q (last_byte image old q))
     → ((ps : List Place) → over ps last q (last_byte image new q) ≡ over (high ++ ps) rest q (last_byte image middle q))
     → last_byte image new q ≡ over places value q (last_byte image old q)
-over_runs image old middle new low high places value rest last q is first second =
+over_rows image old middle new low high places value rest last q is first second =
     second [] ∙ first (high ++ []) ∙ ap (λ (ps : List Place). over (low ++ ps) value q (last_byte image old q)) (append-nil high) ∙ ap (λ (ps : List Place). over ps value q (last_byte image old q)) (sym is)
 
 abbrev pub is_device : Reach → Bool

@@ -13,8 +13,7 @@ use Rattle.jh_shape.specs.Claims.{Holder}
 use Rattle.jh_shape.specs.Shapes.{takes, is_closed, holder_of_live}
 use Rattle.jh_history.specs.declared.place.Place.{Place}
 use Rattle.jh_history.specs.Places.{further, places_in_row}
-use Rattle.jh_history.specs.Phases.{configs_of}
-use Rattle.jh_history.specs.LiveView.{joined}
+use Rattle.jh_shape.specs.Lives.{configs_of, joined}
 use Rattle.jh_history.proofs.PlaceLemmas.{further_none, further_next}
 
 pub any_found : {X : Type 0} (p : X → Bool) (xs : List X) (i : ℕ) (x : X) → i < length xs → x ≡ get_or xs i x → p x ≡ true → list_any p xs ≡ true

@@ -34,7 +34,8 @@ use Rattle.jh_history.specs.Calls.{is_named, decided, after_settle}
 use Rattle.jh_history.specs.Configs.{ReadCell, Reads, Refuses, read_at, config_read}
 use Rattle.jh_history.specs.Cpus.{is_running, settled, is_agreed}
 use Rattle.jh_history.specs.History.{coming_by}
-use Rattle.jh_history.specs.Phases.{keeps_decide, may_give, configs_of, is_locked, is_other_locked, unless_refused, creation_by, creation_of, refused_by, id_refusal, first_refusal, decision}
+use Rattle.jh_history.specs.Phases.{keeps_decide, may_give, is_locked, is_other_locked, unless_refused, creation_by, creation_of, refused_by, id_refusal, first_refusal, decision}
+use Rattle.jh_shape.specs.Lives.{configs_of}
 use Rattle.jh_history.specs.Sound.{AreSoundCells, AreOwned, IsCalm, IsHalted, IsAsked, IsHalting, HasCome, GoesOn, IsCaller, IsAboutLive, MayCome, IsInPhase, IsOpen}
 use Rattle.jh_history.proofs.SoundCpusLemmas.{owned_kept, named_same, root_unnamed, running_mode}
 

@@ -38,7 +38,8 @@ use Rattle.jh_history.specs.Cpus.{acted, change_if, is_agreed}
 use Rattle.jh_history.specs.History.{start, after, facts, coming_of, coming_by}
 use Rattle.jh_history.specs.Wants.{goes_on}
 use Rattle.jh_history.specs.Endpoints.{endpoints_after}
-use Rattle.jh_history.specs.Phases.{phase_act, keeps_decide, keeps_commit, configs_of, decision, settled_of, heard_of}
+use Rattle.jh_history.specs.Phases.{phase_act, keeps_decide, keeps_commit, decision, settled_of, heard_of}
+use Rattle.jh_shape.specs.Lives.{configs_of}
 use Rattle.jh_history.specs.Due.{due_at, is_idle_but, IsLegal, IsLegalFrom}
 use Rattle.jh_history.proofs.FactsLemmas.{same_function}
 use Rattle.jh_history.specs.Sound.{AreSoundCells, AreOwned, IsCalm, IsHalted, IsOpen, IsSoundCall, AreEndpoints, IsSound}

@@ -5,8 +5,8 @@ use Rattle.std.proofs.lemmas.List.{append-nil, map-append, length-append}
 use Rattle.jh_num.specs.Memory.{spelled}
 use Rattle.jh_num.proofs.MemoryLemmas.{byte_fits, word_fits}
 use Rattle.jh_history.specs.declared.place.Place.{Place}
-use Rattle.jh_history.specs.declared.place.Run.{Run}
-use Rattle.jh_history.specs.Places.{further, places_in_row, places_of_run}
+use Rattle.jh_history.specs.declared.place.Row.{Row}
+use Rattle.jh_history.specs.Places.{further, places_in_row, places_of_row}
 use Rattle.jh_history.proofs.PlaceLemmas.{row_next}
 
 -- one byte below those that are spelled already
@@ -34,10 +34,10 @@ none_fits n = let le : 1 ≤ 256 ^ n = one-le-pow n 256 (omega arith) in omega a
 pub fits_below : (v low high : ℕ) → low + high ≤ 8 → v < 256 ^ (0 + high) → v < 256 ^ (8 - low)
 fits_below v low high few small = let le : 256 ^ (0 + high) ≤ 256 ^ (8 - low) = pow-le-pow_right (omega arith) (omega arith) in omega arith
 
--- the value of two runs, the high one spelled first
-pub value_of_runs : (f : Place → ℕ) (places low high : List Place) (above value : ℕ) → places ≡ low ++ high → above ≡ spelled (map f high ++ [])
+-- the value of two rows, the high one spelled first
+pub value_of_rows : (f : Place → ℕ) (places low high : List Place) (above value : ℕ) → places ≡ low ++ high → above ≡ spelled (map f high ++ [])
     → ((rest : List ℕ) → above ≡ spelled rest → value ≡ spelled (map f low ++ rest)) → value ≡ spelled (map f places)
-value_of_runs f places low high above value is first second =
+value_of_rows f places low high above value is first second =
     second (map f high) (first ∙ ap spelled (append-nil (map f high)))
     ∙ ap spelled (sym (map-append f low high))
     ∙ ap (λ (ps : List Place). spelled (map f ps)) (sym is)
@@ -45,16 +45,16 @@ value_of_runs f places low high above value is first second =
 pub fits_alone : (v n : ℕ) → v < 256 ^ (0 + n) → v < 256 ^ n
 fits_alone v n h = let e : 0 + n ≡ n = omega arith in let P : ℕ → Type 0 = λ m. v < 256 ^ m in subst P e h
 
--- a run has so many places
+-- a row has so many places
 pub row_length : (p : Place) (n : ℕ) → length (places_in_row p n) ≡ n
 row_length p zero = refl
 row_length p (suc n) = ap suc (row_length (further p 1) n)
 
--- a number of so many bytes as two runs have, by their places
-pub fits_in_places : (v : ℕ) (low high : Run) (places : List Place) → places ≡ places_of_run low ++ places_of_run high → v < 256 ^ (high.count + low.count) → v < 256 ^ length places
+-- a number of so many bytes as two rows have, by their places
+pub fits_in_places : (v : ℕ) (low high : Row) (places : List Place) → places ≡ places_of_row low ++ places_of_row high → v < 256 ^ (high.count + low.count) → v < 256 ^ length places
 fits_in_places v low high places is fits =
     let both : length places ≡ low.count + high.count =
-    ap (λ (ps : List Place). length ps) is ∙ length-append (places_of_run low) (places_of_run high) ∙ ap (λ (n : ℕ). n + length (places_of_run high)) (row_length low.first low.count) ∙ ap (λ (n : ℕ). low.count + n) (row_length high.first high.count) in
+    ap (λ (ps : List Place). length ps) is ∙ length-append (places_of_row low) (places_of_row high) ∙ ap (λ (n : ℕ). n + length (places_of_row high)) (row_length low.first low.count) ∙ ap (λ (n : ℕ). low.count + n) (row_length high.first high.count) in
     let e : high.count + low.count ≡ length places = omega (arith, both) in
     let P : ℕ → Type 0 = λ n. v < 256 ^ n in
     subst P e fits

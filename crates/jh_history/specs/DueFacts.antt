@@ -23,7 +23,8 @@ use Rattle.jh_history.specs.declared.entry.Act.{Act}
 use Rattle.jh_history.specs.declared.entry.Act.TheVariants.{Write, Commit}
 use Rattle.jh_history.specs.Facts.{Facts}
 use Rattle.jh_history.specs.Configs.{Reads, read_at}
-use Rattle.jh_history.specs.Phases.{configs_of, creation_of}
+use Rattle.jh_history.specs.Phases.{creation_of}
+use Rattle.jh_shape.specs.Lives.{configs_of}
 
 -- the caller's create goes on with the configuration that it read at the address
 pub record HasRead (image : Image) (facts : Facts) (caller at : ℕ) : Type 0 where

@@ -17,7 +17,8 @@ use Rattle.jh_history.specs.declared.entry.Act.TheVariants.{Hvc, Begin}
 use Rattle.jh_history.specs.Facts.{Facts}
 use Rattle.jh_history.specs.Lives.{is_on_board, live_in}
 use Rattle.jh_history.specs.Admitted.{pool_pages}
-use Rattle.jh_history.specs.Phases.{state_word, configs_of}
+use Rattle.jh_history.specs.Phases.{state_word}
+use Rattle.jh_shape.specs.Lives.{configs_of}
 
 -- the state word of the live cell with the id, 0 for root
 abbrev pub state_told : Image → Facts → ℕ → Option ℕ

@@ -1,5 +1,5 @@
--- The live cells as the slow plain program keeps them: their configurations, and their marks.
-use Rattle.std.specs.Prelude.{ℕ, Bool, ◌==◌, ◌&&◌, not, List, [], ◌∷◌}
+-- What the slow plain program keeps of the live cells, and which of them are locked by its bytes.
+use Rattle.std.specs.Prelude.{ℕ, Bool, ◌==◌, ◌&&◌, not, List}
 use Rattle.jh_comm.specs.Page.{state_in}
 use Rattle.jh_comm.specs.declared.words.TheConstants.{STATE_RUNNING_LOCKED}
 use Rattle.jh_cellcfg.specs.declared.config.CellConfig.{CellConfig}
@@ -8,16 +8,10 @@ use Rattle.jh_script.specs.declared.image.Image.{Image}
 use Rattle.jh_history.specs.declared.place.Place.{Place}
 use Rattle.jh_history.specs.declared.place.Place.TheVariants.{Page}
 
--- the configurations, each with its mark
-abbrev pub joined : List CellConfig → List Bool → List Live
-joined [] marks = []
-joined (config ∷ configs) [] = []
-joined (config ∷ configs) (mark ∷ marks) = record { config = config; loadable = mark } ∷ joined configs marks
-
 -- an image, and the cells that live besides its root
 pub record GrantsView : Type 0 where
   pub image : Image
-  pub cells : List Live
+  pub lives : List Live
 
 -- the state in the cell's page, by these bytes
 abbrev pub word_by : (Place → ℕ) → ℕ → ℕ

@@ -1,5 +1,5 @@
 -- The phases of an open management call: what is due to its caller, and when.
-use Rattle.std.specs.Prelude.{ℕ, ℤ, Bool, ◌==◌, ◌&&◌, ◌||◌, not, nat_le, List, ◌∷◌, [], ◌++◌, map, Option, Some, None, option_map, option_and_then, is_some, if◌then◌else◌}
+use Rattle.std.specs.Prelude.{ℕ, ℤ, Bool, ◌==◌, ◌&&◌, ◌||◌, not, nat_le, ◌∷◌, [], ◌++◌, Option, Some, None, option_map, option_and_then, is_some, if◌then◌else◌}
 use Rattle.std.specs.List.{list_any}
 use Rattle.jh_num.specs.declared.error.TheConstants.{EPERM, ENOENT, EINVAL}
 use Rattle.jh_cellcfg.specs.declared.config.CellConfig.{CellConfig}
@@ -7,6 +7,7 @@ use Rattle.jh_cellcfg.specs.declared.live.Live.{Live}
 use Rattle.jh_cellcfg.specs.Lives.{id_of, has_id}
 use Rattle.jh_cellcfg.specs.Cells.{is_passive}
 use Rattle.jh_check.specs.Refusals.{any_below, refusal_of}
+use Rattle.jh_shape.specs.Lives.{configs_of}
 use Rattle.jh_shape.specs.Pages.{pages_of}
 use Rattle.jh_cpu.specs.declared.cpu.Cpu.{Cpu}
 use Rattle.jh_comm.specs.Page.{state_in, reply_in}
@@ -60,10 +61,6 @@ is_other_locked facts id live = not (has_id id live) && is_locked facts live
 -- the caller may give the CPU away: it is another of root's
 abbrev pub may_give : Image → Facts → ℕ → ℕ → Bool
 may_give image facts caller cpu = is_on_board image cpu && not (cpu == caller) && ((facts.cpu cpu).owner == image.system.root.id)
-
--- the configurations of these live cells
-abbrev pub configs_of : List Live → List CellConfig
-configs_of cells = map (λ (live : Live). live.config) cells
 
 -- the cell comes, unless it is refused
 abbrev pub unless_refused : CellConfig → Option ℤ → Creation

@@ -2,7 +2,7 @@
 use Rattle.std.specs.Prelude.{ℕ, zero, suc, ◌+◌, ◌/◌, ◌%◌, ◌^◌, ◌<◌, Bool, true, false, ◌&&◌, ◌==◌, if◌then◌else◌, List, [], ◌∷◌}
 use Rattle.jh_history.specs.declared.place.Place.{Place}
 use Rattle.jh_history.specs.declared.place.Place.TheVariants.{Physical, Page}
-use Rattle.jh_history.specs.declared.place.Run.{Run}
+use Rattle.jh_history.specs.declared.place.Row.{Row}
 
 -- the two are one place
 abbrev pub is_same : Place → Place → Bool
@@ -31,13 +31,13 @@ abbrev pub places_in_row : Place → ℕ → List Place
 places_in_row place zero = []
 places_in_row place (suc count) = place ∷ places_in_row (further place 1) count
 
--- the places of the run
-abbrev pub places_of_run : Run → List Place
-places_of_run run = places_in_row run.first run.count
+-- the places of the row
+abbrev pub places_of_row : Row → List Place
+places_of_row row = places_in_row row.first row.count
 
--- the sum of the number of the run's first place and its count is below 2^64
-abbrev pub IsRun : Run → Type 0
-IsRun run = number_of run.first + run.count < 2 ^ 64
+-- the sum of the number of the row's first place and its count is below 2^64
+abbrev pub IsRow : Row → Type 0
+IsRow row = number_of row.first + row.count < 2 ^ 64
 
 -- the bytes, with one changed
 abbrev pub with_byte : (Place → ℕ) → Place → ℕ → Place → ℕ

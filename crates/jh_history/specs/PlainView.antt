@@ -23,7 +23,7 @@ use Rattle.jh_history.specs.Endpoints.{change_by, changing_by, IsNextOf, MayChan
 use Rattle.jh_history.specs.Facts.{Facts}
 use Rattle.jh_history.specs.Bytes.{loaded_byte}
 use Rattle.jh_history.specs.Admitted.{IsAdmitted}
-use Rattle.jh_history.specs.Phases.{configs_of}
+use Rattle.jh_shape.specs.Lives.{configs_of}
 use Rattle.jh_history.specs.Due.{due_at}
 use Rattle.jh_history.specs.Sound.{AreSoundCells, IsSound}
 

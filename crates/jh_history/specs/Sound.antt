@@ -29,7 +29,7 @@ use Rattle.jh_history.specs.Lives.{is_on_board, program_of}
 use Rattle.jh_history.specs.Admitted.{pool_pages}
 use Rattle.jh_history.specs.Calls.{is_named}
 use Rattle.jh_history.specs.Cpus.{is_running}
-use Rattle.jh_history.specs.Phases.{configs_of}
+use Rattle.jh_shape.specs.Lives.{configs_of}
 
 -- ---- the cells
 

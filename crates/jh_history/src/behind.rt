@@ -12,7 +12,7 @@ ghost use Rattle.jh_history.specs.Devices.{IsGoodWindow};
 use crate::access::{Access, ConfigBytes, Reach, Register, Wanted};
 use crate::devices::Devices;
 use crate::grants::place_in_cell;
-use crate::place::{Places, Run};
+use crate::place::{Places, Row};
 use crate::within::ends_within;
 use jh_cellcfg::{Region, SystemConfig};
 use jh_mmio::{Hitting, Window, behind, lets_through};
@@ -53,8 +53,8 @@ pub fn places_in(cell: u32, region: &Region, at: u64, width: u8) -> Places
 {
     let first = place_in_cell(cell, region, at);
     Places::new(
-        Run { first, count: 0 },
-        Run {
+        Row { first, count: 0 },
+        Row {
             first,
             count: width,
         },

@@ -11,8 +11,8 @@ ghost use Rattle.jh_script.specs.Operations.{IsWellFormed};
 ghost use Rattle.jh_history.specs.Access.{right_of, gives, region_of, memory_or_nothing, reach_by};
 ghost use Rattle.jh_history.specs.Grants.{granted_in, is_kept, behind_in, reach_in};
 ghost use Rattle.jh_history.specs.Devices.{list_in};
-ghost use Rattle.jh_history.specs.Phases.{configs_of};
-ghost use Rattle.jh_history.specs.Places.{places_of_run, IsRun};
+ghost use Rattle.jh_shape.specs.Lives.{configs_of};
+ghost use Rattle.jh_history.specs.Places.{places_of_row, IsRow};
 ghost use Rattle.jh_history.specs.Admitted.{IsAdmitted};
 ghost use Rattle.jh_history.specs.Facts.{Facts};
 ghost use Rattle.jh_history.specs.Lives.{is_on_board, is_program_of, program_of, cell_in, regions_in, ops_in, op_at};
@@ -21,9 +21,9 @@ use crate::access::{Access, Reach, Wanted};
 use crate::behind::{answer_of, ecam_of, is_within, places_in};
 use crate::devices::Devices;
 use crate::grants::{Grants, memory};
-use crate::live_cells::LiveCells;
 use crate::pages::live_in;
-use crate::place::{Place, Places, Run};
+use crate::place::{Place, Places, Row};
+use crate::plain_cells::PlainCells;
 use jh_cellcfg::{CellConfig, PciDevice, Region, RegionFlags};
 use jh_cpu::Cpu;
 use jh_ivshmem::Endpoints;
@@ -157,17 +157,17 @@ pub(crate) fn op_at(image: &Image, cells: &[CellConfig], state: Cpu, cpu: u8) ->
 #[derive(Drop)]
 struct ImageGrants<'a> {
     image: &'a Image,
-    cells: &'a LiveCells,
+    cells: &'a PlainCells,
 }
 
 impl<'a> Model for ImageGrants<'a> {
     ghost use Rattle.jh_check.specs.Clean.{IsClean};
-    ghost use Rattle.jh_history.specs.Phases.{configs_of};
+    ghost use Rattle.jh_shape.specs.Lives.{configs_of};
     ghost use Rattle.jh_history.specs.LiveView.{GrantsView};
 
     ghost Value = { GrantsView };
 
-    ghost view = { λ g. record { image = g.image.now; cells = g.cells.now } };
+    ghost view = { λ g. record { image = g.image.now; lives = g.cells.now } };
 
     ghost invariant = { λ g. IsClean g.image.now.system (configs_of g.cells.now) };
 }
@@ -175,7 +175,7 @@ impl<'a> Model for ImageGrants<'a> {
 impl<'a> Grants for ImageGrants<'a> {
     ghost use Rattle.jh_history.specs.Lives.{regions_in};
 
-    ghost regions = { λ g. regions_in g.image g.cells };
+    ghost regions = { λ g. regions_in g.image g.lives };
 
     fn region(&self, cell: u32, access: Access, at: u64) -> Option<Region> {
         region_of(
@@ -187,7 +187,7 @@ impl<'a> Grants for ImageGrants<'a> {
 }
 
 /// Whether the cell is kept from the place.
-fn is_kept(image: &Image, cells: &LiveCells, cell: u32, place: Place) -> bool
+fn is_kept(image: &Image, cells: &PlainCells, cell: u32, place: Place) -> bool
     ensures { result ≡ is_kept image.now cells.now cell place }
 {
     match place {
@@ -196,13 +196,13 @@ fn is_kept(image: &Image, cells: &LiveCells, cell: u32, place: Place) -> bool
     }
 }
 
-/// Whether the cell is kept from a place of the run.
-fn is_run_kept(image: &Image, cells: &LiveCells, cell: u32, run: Run) -> bool
-    requires { IsRun run }
-    ensures { result ≡ list_any (is_kept image.now cells.now cell) (places_of_run run) }
+/// Whether the cell is kept from a place of the row.
+fn is_row_kept(image: &Image, cells: &PlainCells, cell: u32, row: Row) -> bool
+    requires { IsRow row }
+    ensures { result ≡ list_any (is_kept image.now cells.now cell) (places_of_row row) }
 {
-    for k in 0..run.count {
-        if is_kept(image, cells, cell, run.first.further(k)) {
+    for k in 0..row.count {
+        if is_kept(image, cells, cell, row.first.further(k)) {
             return true;
         }
     }
@@ -210,21 +210,21 @@ fn is_run_kept(image: &Image, cells: &LiveCells, cell: u32, run: Run) -> bool
 }
 
 /// Whether the cell is kept from one of the places.
-fn are_kept(image: &Image, cells: &LiveCells, cell: u32, places: &Places) -> bool
+fn are_kept(image: &Image, cells: &PlainCells, cell: u32, places: &Places) -> bool
     ensures { result ≡ list_any (is_kept image.now cells.now cell) places.now }
 {
-    let (low, high) = places.runs();
-    if is_run_kept(image, cells, cell, low) {
+    let (low, high) = places.rows();
+    if is_row_kept(image, cells, cell, low) {
         return true;
     }
-    is_run_kept(image, cells, cell, high)
+    is_row_kept(image, cells, cell, high)
 }
 
 /// The places of memory that the cell's access reaches, where these cells live besides root; `None` where some byte
 /// isn't granted.
 pub(crate) fn memory_in(
     image: &Image,
-    cells: &LiveCells,
+    cells: &PlainCells,
     cell: u32,
     wanted: &Wanted,
 ) -> Option<Places>
@@ -246,7 +246,7 @@ pub(crate) fn memory_in(
 
 /// Whether the region is a subpage region that has the cell's whole access, and the cell is kept from none of its
 /// bytes.
-fn takes_all(image: &Image, cells: &LiveCells, cell: u32, region: &Region, wanted: &Wanted) -> bool
+fn takes_all(image: &Image, cells: &PlainCells, cell: u32, region: &Region, wanted: &Wanted) -> bool
     requires some { 0 < wanted.now.width }
     requires few { wanted.now.width ≤ 8 }
     requires within { 0 < region.now.size → IsInRange region.now }
@@ -262,7 +262,7 @@ fn takes_all(image: &Image, cells: &LiveCells, cell: u32, region: &Region, wante
 }
 
 /// The subpage region of the cell that has the access, where the cell is kept from none of its bytes.
-fn subpage_of(image: &Image, cells: &LiveCells, cell: u32, wanted: &Wanted) -> Option<Region>
+fn subpage_of(image: &Image, cells: &PlainCells, cell: u32, wanted: &Wanted) -> Option<Region>
     requires clean { IsClean image.now.system (configs_of cells.now) }
     requires some { 0 < wanted.now.width }
     requires few { wanted.now.width ≤ 8 }
@@ -282,7 +282,7 @@ fn subpage_of(image: &Image, cells: &LiveCells, cell: u32, wanted: &Wanted) -> O
 /// What answers the cell's access where no memory does.
 fn behind_in(
     image: &Image,
-    cells: &LiveCells,
+    cells: &PlainCells,
     endpoints: &Endpoints,
     cell: u32,
     wanted: &Wanted,
@@ -305,7 +305,7 @@ fn behind_in(
 #[tactic(auto, using(crate::proofs::ReachLemmas::reaches_memory, crate::proofs::ReachLemmas::reaches_behind))]
 pub(crate) fn reach_in(
     image: &Image,
-    cells: &LiveCells,
+    cells: &PlainCells,
     endpoints: &Endpoints,
     cell: u32,
     wanted: &Wanted,

@@ -4,20 +4,22 @@ ghost use Rattle.std.specs.List.{list_any};
 ghost use Rattle.jh_check.specs.Refusals.{refusal_of};
 ghost use Rattle.jh_history.specs.Admitted.{pool_pages, IsAdmitted};
 ghost use Rattle.jh_history.specs.Facts.{Facts};
-ghost use Rattle.jh_history.specs.Phases.{configs_of, may_give, unless_refused, creation_by};
+ghost use Rattle.jh_history.specs.Phases.{may_give, unless_refused, creation_by};
+ghost use Rattle.jh_shape.specs.Lives.{configs_of};
 ghost use Rattle.jh_history.specs.ReadView.{as_read, gives_by, refusal_by};
 
 use crate::admission::pool_pages;
 use crate::boxed::BoxedCell;
 use crate::call::Creation;
 use crate::cells::is_on_board;
-use crate::counting::pages_of;
+use crate::counting::sum_of_pages;
 use crate::laws::admitted_roots_are_sound;
 use jh_cellcfg::CellConfig;
 use jh_check::{refusal_of, refusal_without_cpus};
 use jh_cpu::Cpu;
 use jh_num::NoMemory;
 use jh_script::Image;
+use jh_shape::pages_of;
 use std::alloc::Global;
 
 /// Whether the caller may give the CPU to a new cell: it is on the board, root's, and not the caller.
@@ -84,7 +86,7 @@ fn refusal_by(
 {
     let root = image.system.root.memory_regions.as_slice();
     let config = config.get();
-    let pages = pages_of(root, cells, Some(config));
+    let pages = pages_of(root, cells, sum_of_pages(cells), Some(config));
     refusal_with(alloc, image, cells, may, config, pages)
 }
 

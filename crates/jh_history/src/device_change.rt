@@ -5,7 +5,7 @@ ghost use Rattle.jh_cellcfg.specs.declared.live.Live.{Live as TheLive};
 ghost use Rattle.jh_ivshmem.specs.Specs.{IsWithin, AreApart, slot_of};
 ghost use Rattle.jh_history.specs.declared.device_change.DeviceChange.TheVariants.{Join as Joins, Reset as Resets, Leave as Leaves};
 ghost use Rattle.jh_history.specs.Endpoints.{endpoint_changed, device_change, change_by, changing, changing_by};
-ghost use Rattle.jh_history.specs.Phases.{configs_of};
+ghost use Rattle.jh_shape.specs.Lives.{configs_of};
 
 use crate::call::OpenCall;
 use crate::entry::Act;

@@ -8,7 +8,7 @@ ghost use Rattle.jh_history.specs.Endpoints.{config_put, register_put, endpoints
 
 use crate::access::{ConfigBytes, Reach, Register};
 use crate::devices::function_number;
-use crate::place::{Place, Places, Run};
+use crate::place::{Place, Places, Row};
 use jh_cellcfg::PciDevice;
 use jh_ivshmem::{Endpoints, Slot};
 
@@ -18,7 +18,7 @@ pub fn slot_places(slot: &Slot) -> Places
     ensures { result ≡ places_in_row (Physical slot.now.place) 4 }
 {
     let first = Place::Physical(slot.place);
-    Places::new(Run { first, count: 0 }, Run { first, count: 4 })
+    Places::new(Row { first, count: 0 }, Row { first, count: 4 })
 }
 
 /// The lowest 32 bits.

@@ -3,12 +3,12 @@ ghost use Rattle.std.specs.Prelude.{◌≡◌, ◌+◌, ◌%◌, ◌<◌, ◌≤
 ghost use Rattle.jh_num.specs.declared.address.TheConstants.{ADDRESS_END};
 ghost use Rattle.jh_cellcfg.specs.declared.region.Region.{Region as TheRegion};
 ghost use Rattle.jh_cellcfg.specs.Regions.{has_address, IsInRange};
-ghost use Rattle.jh_history.specs.Places.{places_in_row, places_of_run, number_of, IsRun};
+ghost use Rattle.jh_history.specs.Places.{places_in_row, places_of_row, number_of, IsRow};
 ghost use Rattle.jh_history.specs.declared.place.Place.{Place as ThePlace};
 ghost use Rattle.jh_history.specs.Access.{place_in_cell, place_of, places_from, memory_or_nothing, reach_by};
 
 use crate::access::{Access, Wanted};
-use crate::place::{Place, Places, Run};
+use crate::place::{Place, Places, Row};
 use crate::within::ends_within;
 use jh_cellcfg::Region;
 use jh_num::PAGE_SIZE;
@@ -58,7 +58,7 @@ pub(crate) fn place_in_cell(cell: u32, region: &Region, at: u64) -> Place
 }
 
 /// The place of the first of so many bytes of one page, where the address has one: those of the others follow it.
-pub fn row_of<G: Grants>(
+pub fn first_of_row<G: Grants>(
     grants: &G,
     cell: u32,
     access: Access,
@@ -77,20 +77,20 @@ pub fn row_of<G: Grants>(
 }
 
 /// The places of so many bytes of one page, where the address has one.
-fn run_from<G: Grants>(grants: &G, cell: u32, access: Access, at: u64, count: u8) -> Option<Run>
+fn row_from<G: Grants>(grants: &G, cell: u32, access: Access, at: u64, count: u8) -> Option<Row>
     requires { at % 4096 + count ≤ 4096 }
-    ensures places { option_map places_of_run result ≡ places_from (place_of cell (G.regions grants.now cell) access) at count }
-    ensures run { IfSome result IsRun }
-    ensures count { IfSome result (λ run. run.count ≡ count) }
+    ensures places { option_map places_of_row result ≡ places_from (place_of cell (G.regions grants.now cell) access) at count }
+    ensures row { IfSome result IsRow }
+    ensures count { IfSome result (λ row. row.count ≡ count) }
 {
     if count == 0 {
-        return Some(Run {
+        return Some(Row {
             first: Place::Physical(0),
             count,
         });
     }
-    match row_of(grants, cell, access, at, u16::from(count)) {
-        Some(first) => Some(Run { first, count }),
+    match first_of_row(grants, cell, access, at, u16::from(count)) {
+        Some(first) => Some(Row { first, count }),
         None => None,
     }
 }
@@ -102,9 +102,9 @@ fn places_of<G: Grants>(grants: &G, cell: u32, wanted: &Wanted) -> Option<Places
     ensures { result ≡ places_from (place_of cell (G.regions grants.now cell) wanted.now.access) wanted.now.at wanted.now.width }
 {
     let here = in_page(wanted.at, wanted.width);
-    let low = run_from(grants, cell, wanted.access, wanted.at, here)?;
+    let low = row_from(grants, cell, wanted.access, wanted.at, here)?;
     let next = wanted.at + u64::from(here);
-    let high = run_from(grants, cell, wanted.access, next, wanted.width - here)?;
+    let high = row_from(grants, cell, wanted.access, next, wanted.width - here)?;
     Some(Places::new(low, high))
 }
 

@@ -20,7 +20,8 @@ pub trait Known {
     ghost use Rattle.jh_history.specs.Lives.{is_on_board, live_in, cell_of, op_at};
     ghost use Rattle.jh_shape.specs.Pages.{pages_of};
     ghost use Rattle.jh_history.specs.Admitted.{pool_pages};
-    ghost use Rattle.jh_history.specs.Phases.{configs_of, is_other_locked, creation_of, refused_by};
+    ghost use Rattle.jh_history.specs.Phases.{is_other_locked, creation_of, refused_by};
+    ghost use Rattle.jh_shape.specs.Lives.{configs_of};
     ghost use Rattle.jh_history.specs.Wants.{reach_of};
 
     /// It knows these facts of this image.

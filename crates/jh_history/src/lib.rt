@@ -25,13 +25,13 @@ mod hypercalls;
 mod journal;
 mod known;
 mod laws;
-mod live_cells;
 mod locked;
 mod next;
 mod pages;
 mod phases;
 mod place;
 mod plain;
+mod plain_cells;
 mod plain_known;
 mod reading;
 mod sound;
@@ -58,7 +58,7 @@ pub use due_facts::{
     pages_written_are_of_cells, places_reached_are_of_cells, sound_cells_name_a_cpu,
 };
 pub use entry::{Act, Entry, Heard, Settled};
-pub use grants::{Grants, memory, row_of};
+pub use grants::{Grants, first_of_row, memory};
 pub use jh_cellcfg::{CellConfig, Console, Irqchip, PciDevice, Region, SystemConfig};
 pub use jh_cpu::{Cpu, Mode};
 pub use jh_script::{Image, Op, Preload, Program};
@@ -68,7 +68,7 @@ pub use laws::{admitted_roots_are_sound, root_lives_alone, rows_are_read_byte_by
 pub use locked::{is_any_locked, is_any_other_locked, is_locked};
 pub use next::{DueEntry, is_due, next_of, none_due};
 pub use pages::page_write;
-pub use place::{Place, Places, Run};
+pub use place::{Place, Places, Row};
 pub use plain::{due, quiet};
 pub use reading::{RootBytes, read_config};
 pub use sound::legal_journals_are_sound;

@@ -3,11 +3,11 @@ ghost use Rattle.std.specs.Prelude.{◌≡◌, List};
 ghost use Rattle.std.specs.List.{list_any};
 ghost use Rattle.jh_cellcfg.specs.declared.live.Live.{Live as TheLive};
 ghost use Rattle.jh_history.specs.LiveView.{word_by, is_locked_by, is_other_locked_by};
-ghost use Rattle.jh_history.specs.Phases.{configs_of};
-ghost use Rattle.jh_history.specs.Places.{places_of_run};
+ghost use Rattle.jh_shape.specs.Lives.{configs_of};
+ghost use Rattle.jh_history.specs.Places.{places_of_row};
 
 use crate::bytes::{Bytes, value_of};
-use crate::place::{Place, Places, Run};
+use crate::place::{Place, Places, Row};
 use jh_cellcfg::CellConfig;
 use jh_comm::STATE_RUNNING_LOCKED;
 
@@ -18,15 +18,15 @@ const STATE_AT: u64 = 8;
 fn state_word<B: Bytes>(bytes: &B, cell: u32) -> u32
     ensures { result ≡ word_by (B.byte_of bytes.now) cell }
 {
-    let run = Run {
+    let row = Row {
         first: Place::Page {
             cell,
             offset: STATE_AT,
         },
         count: 4,
     };
-    let none = Run { count: 0, ..run };
-    value_of(bytes, &Places::new(run, none)) as u32
+    let none = Row { count: 0, ..row };
+    value_of(bytes, &Places::new(row, none)) as u32
 }
 
 /// Whether the cell is locked, by these bytes: its state is that of one that runs and may not be reconfigured.

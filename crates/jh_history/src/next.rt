@@ -9,7 +9,7 @@ ghost use Rattle.jh_history.specs.declared.access.Reach.{Reach as TheReach};
 ghost use Rattle.jh_history.specs.Facts.{Facts};
 ghost use Rattle.jh_history.specs.Wants.{wanted_of, goes_on, pending_op, IsReachOf, IsReachOfAct, IsReachOfEntry};
 ghost use Rattle.jh_history.specs.Grants.{devices_of};
-ghost use Rattle.jh_history.specs.Due.{irq_of, act_of, await_of, state_act, call_of, is_other_due, is_idle_but, caller_act, next_act, entry_by, entry_of, due_at};
+ghost use Rattle.jh_history.specs.Due.{irq_of, act_of, await_of, state_act, call_of, is_other_due, is_idle_but, caller_act, next_act, entry_by, due_at};
 ghost use Rattle.jh_history.specs.declared.next.DueEntry.{DueEntry as TheDue};
 ghost use Rattle.jh_history.specs.Admitted.{IsWellFormedAct};
 
@@ -219,21 +219,19 @@ fn due_by(cpu: u8, cell: u32, act: Option<Act>, reach: Reach) -> Option<DueEntry
     }
 }
 
-/// What a CPU in this state does next that has no call open.
-fn state_due<K: Known>(known: &K, cpu: u8, state: Cpu) -> Option<DueEntry>
+/// What a CPU in this state does next that has no call open. What its access reaches is put into `reach`.
+fn state_due<K: Known>(known: &K, cpu: u8, state: Cpu, reach: &mut Reach) -> Option<Act>
     requires { cpu < 16 }
-    ensures entry { (i : TheImage) (f : Facts) → K.Knows known.now i f → option_map (λ (due : TheDue). due.entry) result ≡ option_map (entry_by cpu state.owner) (state_act i f state cpu) }
-    ensures reached { (i : TheImage) (f : Facts) → K.Knows known.now i f → IfSome result (λ due. IsReachOfEntry i f due.entry due.reach) }
-    ensures cpu { IfSome result (λ due. due.entry.cpu ≡ cpu) }
-    ensures plain { IfSome result (λ due. IsWellFormedAct due.entry.act) }
+    ensures act { (i : TheImage) (f : Facts) → K.Knows known.now i f → result ≡ state_act i f state cpu }
+    ensures reached { (i : TheImage) (f : Facts) → K.Knows known.now i f → IfSome result (λ act. IsReachOfAct i f state.owner act reach.new) }
+    ensures plain { IfSome result IsWellFormedAct }
 {
     if state.asked {
-        return due_by(cpu, state.owner, Some(Act::Stop), Reach::Nothing);
+        return Some(Act::Stop);
     }
     let op = pending_op(known, cpu, state)?;
-    let reach = reach_of(known, state.owner, op);
-    let act = act_of(known, state.owner, op, &reach);
-    due_by(cpu, state.owner, act, reach)
+    *reach = reach_of(known, state.owner, op);
+    act_of(known, state.owner, op, reach)
 }
 
 /// Whether an await of the value is due, where its read got this: it is where it read the value, or
@@ -349,20 +347,21 @@ fn is_caller_due<K: Known>(known: &K, state: Cpu, begun: &OpenCall) -> bool
     goes_on(state) && is_phase_due(known, begun)
 }
 
-/// What a CPU in this state does next.
-fn next_due<K: Known>(known: &K, cpu: u8, state: Cpu) -> Result<Option<DueEntry>, NoMemory>
+/// What a CPU in this state does next. What its access reaches is put into `reach`.
+fn next_due<K: Known>(
+    known: &K,
+    cpu: u8,
+    state: Cpu,
+    reach: &mut Reach,
+) -> Result<Option<Act>, NoMemory>
     requires { cpu < 16 }
-    ensures entry { (i : TheImage) (f : Facts) → K.Knows known.now i f → IfOk result (λ due. option_map (λ (due : TheDue). due.entry) due ≡ entry_of i f state cpu) }
-    ensures reached { (i : TheImage) (f : Facts) → K.Knows known.now i f → IfOk result (λ due. IfSome due (λ due. IsReachOfEntry i f due.entry due.reach)) }
-    ensures cpu { IfOk result (λ due. IfSome due (λ due. due.entry.cpu ≡ cpu)) }
-    ensures plain { IfOk result (λ due. IfSome due (λ due. IsWellFormedAct due.entry.act)) }
+    ensures act { (i : TheImage) (f : Facts) → K.Knows known.now i f → IfOk result (λ act. act ≡ next_act i f state cpu) }
+    ensures reached { (i : TheImage) (f : Facts) → K.Knows known.now i f → IfOk result (λ act. IfSome act (λ act. IsReachOfAct i f state.owner act reach.new)) }
+    ensures plain { IfOk result (λ act. IfSome act IsWellFormedAct) }
 {
     match call_of(known, cpu) {
-        Some(begun) => {
-            let act = caller_act(known, state, begun)?;
-            Ok(due_by(cpu, state.owner, act, Reach::Nothing))
-        }
-        None => Ok(state_due(known, cpu, state)),
+        Some(begun) => caller_act(known, state, begun),
+        None => Ok(state_due(known, cpu, state, reach)),
     }
 }
 
@@ -385,11 +384,13 @@ pub fn next_of<K: Known>(known: &K, cpu: u8) -> Result<Option<DueEntry>, NoMemor
     ensures cpu { IfOk result (λ due. IfSome due (λ due. due.entry.cpu ≡ cpu)) }
     ensures plain { IfOk result (λ due. IfSome due (λ due. IsWellFormedAct due.entry.act)) }
 {
-    if known.has_cpu(cpu) {
-        next_due(known, cpu, known.cpu(cpu))
-    } else {
-        Ok(None)
+    if !known.has_cpu(cpu) {
+        return Ok(None);
     }
+    let state = known.cpu(cpu);
+    let mut reach = Reach::Nothing;
+    let act = next_due(known, cpu, state, &mut reach)?;
+    Ok(due_by(cpu, state.owner, act, reach))
 }
 
 /// Whether an entry is due to the CPU.

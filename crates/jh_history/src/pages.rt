@@ -11,7 +11,7 @@ ghost use Rattle.jh_check.specs.Refusals.{any_below};
 ghost use Rattle.jh_history.specs.Facts.{Facts};
 ghost use Rattle.jh_history.specs.Lives.{is_on_board, live_in};
 ghost use Rattle.jh_history.specs.Cpus.{cpu_after};
-ghost use Rattle.jh_history.specs.Phases.{configs_of};
+ghost use Rattle.jh_shape.specs.Lives.{configs_of};
 ghost use Rattle.jh_history.specs.Pages.{on_page, named_cell, is_left, failing, unless_good, asking, committing, page_write_by};
 
 use crate::call::{OpenCall, Phase};
@@ -97,11 +97,16 @@ fn failing(image: &Image, cpus: &[Cpu], entry: &Entry) -> Option<PageWrite>
     })
 }
 
-/// The write where the access is a violation; none where it is good.
-fn unless_good(good: bool, write: Option<PageWrite>) -> Option<PageWrite>
-    ensures { result ≡ unless_good good write }
+/// What an access writes into a page: where it is a violation, what that writes; nothing where it is good.
+fn unless_good(good: bool, image: &Image, cpus: &[Cpu], entry: &Entry) -> Option<PageWrite>
+    requires { length cpus.now ≡ 16 }
+    ensures { (f : Facts) → ((i : ℕ) → i < 16 → slice_get cpus.now i ≡ Some (cpu_after image.now f entry.now i))
+        → result ≡ unless_good good (failing image.now f entry.now) }
 {
-    if good { None } else { write }
+    if good {
+        return None;
+    }
+    failing(image, cpus, entry)
 }
 
 /// At a Decide that goes on, the cell is asked to shut down, unless it is passive.
@@ -223,11 +228,9 @@ pub fn page_write(
 {
     match entry.act {
         Act::Read { got, .. } | Act::Fetch { got, .. } => {
-            unless_good(got.is_some(), failing(image, cpus, entry))
+            unless_good(got.is_some(), image, cpus, entry)
         }
-        Act::Write { ok, .. } | Act::Await { ok, .. } => {
-            unless_good(ok, failing(image, cpus, entry))
-        }
+        Act::Write { ok, .. } | Act::Await { ok, .. } => unless_good(ok, image, cpus, entry),
         Act::Note { id } => Some(PageWrite {
             cell: id,
             change: PageChange::Message(MESSAGE_RECONFIG_COMPLETED),

@@ -20,7 +20,7 @@ use crate::change::is_running;
 use crate::entry::{Act, Heard, Settled};
 use crate::known::Known;
 use crate::next::is_idle_but;
-use crate::place::{Place, Places, Run};
+use crate::place::{Place, Places, Row};
 use jh_call::Call;
 use jh_cellcfg::CellConfig;
 use jh_comm::{REPLY_RECEIVED, REPLY_REQUEST_APPROVED, STATE_FAILED, STATE_SHUT_DOWN};
@@ -49,12 +49,12 @@ fn word_at<K: Known>(known: &K, cell: u32, offset: u64) -> u32
     requires { offset < 4096 }
     ensures { (i : TheImage) (f : Facts) → K.Knows known.now i f → result ≡ word_in (λ k. f.byte (Page cell k)) offset }
 {
-    let run = Run {
+    let row = Row {
         first: Place::Page { cell, offset },
         count: 4,
     };
-    let none = Run { count: 0, ..run };
-    known.value(&Places::new(run, none)) as u32
+    let none = Row { count: 0, ..row };
+    known.value(&Places::new(row, none)) as u32
 }
 
 /// The state word of the communication page of the live cell.
@@ -270,7 +270,7 @@ fn decision<K: Known>(known: &K, caller: u8, call: &Call) -> Result<Option<i64>,
 }
 
 /// How the cell settled, as an act.
-fn settle(how: Option<Settled>) -> Option<Act>
+fn settle_act(how: Option<Settled>) -> Option<Act>
     ensures act { result ≡ option_map (λ (how : TheSettled). Settle how) how }
     ensures phase { IfSome result (λ act. is_call act ≡ true) }
 {
@@ -307,7 +307,7 @@ pub(crate) fn phase_act<K: Known>(known: &K, begun: &OpenCall) -> Result<Option<
         }
         Phase::ToSettle { waited } => {
             let how = settled_of(known, begun.caller, &begun.call, *waited);
-            Ok(settle(how))
+            Ok(settle_act(how))
         }
         Phase::ToCreate { .. } => Ok(Some(Act::Commit)),
         Phase::ToCommit => {

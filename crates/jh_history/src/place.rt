@@ -1,6 +1,6 @@
 //! Where bytes are kept.
 ghost use Rattle.std.specs.Prelude.{◌≡◌, ◌+◌, ◌^◌, ◌<◌, ◌≤◌, ◌++◌};
-ghost use Rattle.jh_history.specs.Places.{is_same, number_of, further, places_of_run, IsRun};
+ghost use Rattle.jh_history.specs.Places.{is_same, number_of, further, places_of_row, IsRow};
 
 use std::marker::Model;
 
@@ -50,51 +50,51 @@ impl Place {
     }
 }
 
-/// Places in a row: so many from the first on.
+/// A row of places: so many from the first on, one behind the other.
 #[derive(Clone, Copy, PartialEq, Eq, Debug)]
-pub struct Run {
+pub struct Row {
     pub first: Place,
     pub count: u8,
 }
 
 /// The places of an access's bytes, in order: at most eight. An access touches two pages at most, so
-/// its places are two runs at most.
+/// its places are two rows at most.
 #[derive(Drop)]
 pub struct Places {
-    low: Run,
-    high: Run,
+    low: Row,
+    high: Row,
 }
 
 impl Model for Places {
     ghost use Rattle.std.specs.Prelude.{List, ◌+◌, ◌≤◌, ◌++◌};
     ghost use Rattle.jh_history.specs.declared.place.Place.{Place as ThePlace};
-    ghost use Rattle.jh_history.specs.Places.{places_of_run};
+    ghost use Rattle.jh_history.specs.Places.{places_of_row};
 
     ghost Value = { List ThePlace };
 
-    ghost view = { λ p. places_of_run p.low ++ places_of_run p.high };
+    ghost view = { λ p. places_of_row p.low ++ places_of_row p.high };
 
-    ghost use Rattle.jh_history.specs.Places.{IsRun};
+    ghost use Rattle.jh_history.specs.Places.{IsRow};
 
-    ghost invariant = { λ p. IsRun p.low × IsRun p.high × (p.low.count + p.high.count ≤ 8) };
+    ghost invariant = { λ p. IsRow p.low × IsRow p.high × (p.low.count + p.high.count ≤ 8) };
 }
 
 impl Places {
-    /// The places of the two runs, one behind the other.
-    pub fn new(low: Run, high: Run) -> Self
-        requires low { IsRun low }
-        requires high { IsRun high }
+    /// The places of the two rows, one behind the other.
+    pub fn new(low: Row, high: Row) -> Self
+        requires low { IsRow low }
+        requires high { IsRow high }
         requires few { low.count + high.count ≤ 8 }
-        ensures { result ≡ places_of_run low ++ places_of_run high }
+        ensures { result ≡ places_of_row low ++ places_of_row high }
     {
         Places { low, high }
     }
 
-    /// The two runs that they are.
-    pub fn runs(&self) -> (Run, Run)
-        ensures places { self.now ≡ places_of_run result.0 ++ places_of_run result.1 }
-        ensures low { IsRun result.0 }
-        ensures high { IsRun result.1 }
+    /// The two rows that they are.
+    pub fn rows(&self) -> (Row, Row)
+        ensures places { self.now ≡ places_of_row result.0 ++ places_of_row result.1 }
+        ensures low { IsRow result.0 }
+        ensures high { IsRow result.1 }
         ensures few { result.0.count + result.1.count ≤ 8 }
     {
         (self.low, self.high)

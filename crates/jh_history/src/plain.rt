@@ -41,9 +41,9 @@ use crate::due_facts::devices_may_change;
 use crate::entry::{Act, Entry};
 use crate::journal::Journal;
 use crate::laws::admitted_roots_are_sound;
-use crate::live_cells::LiveCells;
 use crate::next::{next_of, none_due};
 use crate::pages::page_write;
+use crate::plain_cells::PlainCells;
 use crate::reading::read_config;
 use crate::sound::legal_journals_are_sound;
 use crate::written::{WrittenByte, write_page_if, write_places, write_slot, write_slot_if};
@@ -65,7 +65,7 @@ pub(crate) struct Plain<'a> {
     pub(crate) alloc: Global,
     pub(crate) image: &'a Image,
     pub(crate) cpus: [Cpu; 16],
-    pub(crate) cells: LiveCells,
+    pub(crate) cells: PlainCells,
     pub(crate) endpoints: Endpoints,
     pub(crate) call: Option<OpenCall>,
     pub(crate) bytes: Vec<WrittenByte>,
@@ -103,7 +103,7 @@ fn comes(creation: Creation) -> Option<BoxedCell>
 
 /// Changes which cells live as the act does, which creates a cell of that configuration.
 fn cells_after(
-    cells: &mut LiveCells,
+    cells: &mut PlainCells,
     call: Option<Call>,
     created: Option<BoxedCell>,
     act: &Act,
@@ -193,7 +193,7 @@ impl<'a> Plain<'a> {
             alloc,
             image,
             cpus: [Cpu::new(image.system.root.id); 16],
-            cells: LiveCells::new(alloc),
+            cells: PlainCells::new(alloc),
             endpoints,
             call: None,
             bytes,

@@ -11,7 +11,7 @@ use crate::admission::pool_pages;
 use crate::bytes::{Bytes, value_of};
 use crate::call::{Creation, OpenCall};
 use crate::cells::{config_in, is_on_board, memory_in, op_at, reach_in};
-use crate::counting::pages_of;
+use crate::counting::sum_of_pages;
 use crate::creation::judged;
 use crate::known::Known;
 use crate::laws::admitted_roots_are_sound;
@@ -27,6 +27,7 @@ use jh_ivshmem::Endpoints;
 use jh_num::NoMemory;
 use jh_num::error::EPERM;
 use jh_script::Op;
+use jh_shape::pages_of;
 
 impl<'a> Bytes for Plain<'a> {
     ghost use Rattle.jh_history.specs.PlainView.{last_byte};
@@ -123,7 +124,8 @@ impl<'a> Known for Plain<'a> {
 
     fn used(&self) -> u32 {
         let root = self.image.system.root.memory_regions.as_slice();
-        pages_of(root, self.cells.configs(), None) as u32
+        let cells = self.cells.configs();
+        pages_of(root, cells, sum_of_pages(cells), None) as u32
     }
 
     fn is_other_locked(&self, id: u64) -> bool {

@@ -2,7 +2,7 @@
 ghost use Rattle.std.specs.Prelude.{◌≡◌, ℕ, ◌+◌, ◌<◌, ◌^◌, ◌++◌, List, length, take, fold, IfOk, IfSome, OnOk};
 ghost use Rattle.jh_script.specs.declared.image.Image.{Image as TheImage};
 ghost use Rattle.jh_history.specs.declared.place.Place.{Place as ThePlace};
-ghost use Rattle.jh_history.specs.Places.{over, places_of_run, IsRun};
+ghost use Rattle.jh_history.specs.Places.{over, places_of_row, IsRow};
 ghost use Rattle.jh_ivshmem.specs.declared.spec.Slot.{Slot as TheSlot};
 ghost use Rattle.jh_history.specs.Access.{with_slot, with_slot_if};
 ghost use Rattle.jh_history.specs.Bytes.{preloaded, loaded_byte};
@@ -13,7 +13,7 @@ ghost use Rattle.jh_history.specs.PlainView.{last_byte, put_in_page};
 
 use crate::comm::{PageChange, PageWrite};
 use crate::device_write::slot_places;
-use crate::place::{Place, Places, Run};
+use crate::place::{Place, Places, Row};
 use jh_comm::fresh;
 use jh_ivshmem::Slot;
 use jh_num::NoMemory;
@@ -69,15 +69,15 @@ pub(crate) fn loaded_byte(image: &Image, place: Place) -> u8
     }
 }
 
-/// Writes the value over the places of the run, the lowest byte first, and tells what is left of it.
-fn write_run(bytes: &mut Vec<WrittenByte>, run: Run, value: u64) -> Result<u64, NoMemory>
-    requires { IsRun run }
-    ensures { IfOk result (λ rest. (image : TheImage) (places : List ThePlace) (q : ThePlace) → over places rest q (last_byte image bytes.new.items q) ≡ over (places_of_run run ++ places) value q (last_byte image bytes.old.items q)) }
+/// Writes the value over the places of the row, the lowest byte first, and tells what is left of it.
+fn write_row(bytes: &mut Vec<WrittenByte>, row: Row, value: u64) -> Result<u64, NoMemory>
+    requires { IsRow row }
+    ensures { IfOk result (λ rest. (image : TheImage) (places : List ThePlace) (q : ThePlace) → over places rest q (last_byte image bytes.new.items q) ≡ over (places_of_row row ++ places) value q (last_byte image bytes.old.items q)) }
 {
     let mut rest = value;
-    for k in 0..run.count {
+    for k in 0..row.count {
         bytes.push(WrittenByte {
-            place: run.first.further(k),
+            place: row.first.further(k),
             byte: (rest % 256) as u8,
         })?;
         rest /= 256;
@@ -93,9 +93,9 @@ pub(crate) fn write_places(
 ) -> Result<(), NoMemory>
     ensures { OnOk result ((image : TheImage) (q : ThePlace) → last_byte image bytes.new.items q ≡ over places.now value q (last_byte image bytes.old.items q)) }
 {
-    let (low, high) = places.runs();
-    let rest = write_run(bytes, low, value)?;
-    write_run(bytes, high, rest)?;
+    let (low, high) = places.rows();
+    let rest = write_row(bytes, low, value)?;
+    write_row(bytes, high, rest)?;
     Ok(())
 }
 

@@ -22,7 +22,8 @@ use Rattle.jh_history.specs.Facts.{Facts}
 use Rattle.jh_history.specs.Lives.{live_in}
 use Rattle.jh_history.specs.Calls.{is_named, counted, decided, after_note, call_by}
 use Rattle.jh_history.specs.Pages.{named_cell}
-use Rattle.jh_history.specs.Phases.{phase_act, configs_of, settled_of, heard_of}
+use Rattle.jh_history.specs.Phases.{phase_act, settled_of, heard_of}
+use Rattle.jh_shape.specs.Lives.{configs_of}
 use Rattle.jh_history.specs.History.{after, facts, coming_of, coming_by}
 use Rattle.jh_history.specs.Due.{due_at, is_idle_but, IsLegal}
 use Rattle.jh_history.specs.Admitted.{IsAdmitted}

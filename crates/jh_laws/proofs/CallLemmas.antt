@@ -29,7 +29,8 @@ use Rattle.jh_history.specs.Facts.{Facts}
 use Rattle.jh_history.specs.Calls.{is_named, counted, one_more, telling, first_told, behind, decided, after_settle, after_commit, phase_after, call_by, is_call}
 use Rattle.jh_history.specs.Configs.{ReadCell, config_read}
 use Rattle.jh_history.specs.History.{start, after, facts, coming_of, coming_by}
-use Rattle.jh_history.specs.Phases.{phase_act, configs_of, settled_of, heard_of, decision, keeps_decide, keeps_commit}
+use Rattle.jh_history.specs.Phases.{phase_act, settled_of, heard_of, decision, keeps_decide, keeps_commit}
+use Rattle.jh_shape.specs.Lives.{configs_of}
 use Rattle.jh_history.specs.Due.{due_at, due, is_idle_but, IsLegal, IsLegalFrom}
 use Rattle.jh_history.proofs.FactsLemmas.{facts_push}
 use Rattle.jh_history.proofs.LegalLemmas.{due_split, IsLegal_begin, IsLegal_rest}

@@ -30,7 +30,7 @@ use Rattle.jh_history.specs.Devices.{specs_of}
 use Rattle.jh_history.specs.Endpoints.{changing_by, change_by, device_change, endpoints_changed, endpoints_acted, endpoints_after}
 use Rattle.jh_history.specs.Facts.{Facts}
 use Rattle.jh_history.specs.Lives.{live_in}
-use Rattle.jh_history.specs.Phases.{configs_of}
+use Rattle.jh_shape.specs.Lives.{configs_of}
 use Rattle.jh_history.specs.Sound.{IsOfDevice, HasEndpoint, IsInPhase, IsSoundEndpoint, IsSound}
 use Rattle.jh_history.proofs.SpecsLemmas.{specs_pairs, held_numbered, other_id}
 use Rattle.jh_laws.specs.Vectors.{PutsRegister, IsAbout, Clears}

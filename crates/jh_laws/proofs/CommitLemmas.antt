@@ -22,7 +22,7 @@ use Rattle.jh_history.specs.Calls.{call_by, decided}
 use Rattle.jh_history.specs.Commits.{cells_by, committed_cells, marked, is_other}
 use Rattle.jh_history.specs.Configs.{config_read, read_at}
 use Rattle.jh_history.specs.History.{after, facts, coming_of, coming_by}
-use Rattle.jh_history.specs.Phases.{configs_of}
+use Rattle.jh_shape.specs.Lives.{configs_of}
 use Rattle.jh_history.specs.Due.{due_at, is_idle_but, IsLegal}
 use Rattle.jh_history.specs.Admitted.{IsAdmitted}
 use Rattle.jh_history.proofs.FactsLemmas.{facts_push}

@@ -30,7 +30,7 @@ use Rattle.jh_history.specs.Devices.{is_endpoint, list_in, windows_from, windows
 use Rattle.jh_history.specs.Facts.{Facts}
 use Rattle.jh_history.specs.Grants.{devices_of}
 use Rattle.jh_history.specs.Lives.{cell_in}
-use Rattle.jh_history.specs.Phases.{configs_of}
+use Rattle.jh_shape.specs.Lives.{configs_of}
 use Rattle.jh_history.specs.Sound.{IsOfDevice, IsSoundEndpoint, IsSound}
 use Rattle.jh_laws.specs.Held.{IsLive}
 use Rattle.jh_laws.specs.Ends.{IsDeviceOf, LiesInBar, IsFirstBar, IsAnsweredByRegister, HasFunction}

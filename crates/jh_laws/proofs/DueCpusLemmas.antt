@@ -36,7 +36,8 @@ use Rattle.jh_history.specs.Calls.{is_named}
 use Rattle.jh_history.specs.Cpus.{is_running}
 use Rattle.jh_history.specs.Pages.{named_cell}
 use Rattle.jh_history.specs.Wants.{goes_on, pending_op}
-use Rattle.jh_history.specs.Phases.{phase_act, keeps_decide, keeps_commit, configs_of, decision, is_down, is_over, settled_by, settled_of, heard_by, heard_of, state_word, reply_word}
+use Rattle.jh_history.specs.Phases.{phase_act, keeps_decide, keeps_commit, decision, is_down, is_over, settled_by, settled_of, heard_by, heard_of, state_word, reply_word}
+use Rattle.jh_shape.specs.Lives.{configs_of}
 use Rattle.jh_history.specs.Due.{due_at, entry_of, entry_by, next_act, state_act, act_of, await_of, got_by, caller_act, is_idle_but}
 use Rattle.jh_history.specs.Admitted.{IsAdmitted}
 use Rattle.jh_history.specs.Sound.{AreSoundCells, IsHalted, IsAsked, IsHalting, IsCaller, IsOpen, IsSound}

@@ -28,7 +28,7 @@ use Rattle.jh_history.specs.Sound.{IsCalm, IsSound}
 use Rattle.jh_laws.specs.Ways.{is_phase}
 use Rattle.jh_laws.specs.Held.{IsLive}
 use Rattle.jh_laws.specs.Operations.{op_of}
-use Rattle.jh_laws.specs.States.{is_stop}
+use Rattle.jh_laws.specs.States.{is_stop_act}
 use Rattle.jh_history.proofs.SoundCpusLemmas.{goes_calm, goes_running, running_mode}
 use Rattle.jh_history.proofs.SoundDueLemmas.{next_from_due}
 use Rattle.jh_history.proofs.SoundLemmas.{legal_sound}
@@ -107,8 +107,8 @@ cell_at image before rest entry legal = let next = next_from_due image (facts im
 
 -- ---- whether it runs
 
-runs_by : (image : Image) (f : Facts) (entry : Entry) → IsSound image f → due_at image f entry.cpu ≡ Some entry → is_stop entry.act ≡ false → IsMadeBy image f entry → IsCalm (f.cpu entry.cpu) × ((f.cpu entry.cpu).mode ≡ Running)
-runs_by image f entry sound due other (Stopping stops) = absurd (both_ways (is_stop entry.act) other (ap is_stop (sym stops)))
+runs_by : (image : Image) (f : Facts) (entry : Entry) → IsSound image f → due_at image f entry.cpu ≡ Some entry → is_stop_act entry.act ≡ false → IsMadeBy image f entry → IsCalm (f.cpu entry.cpu) × ((f.cpu entry.cpu).mode ≡ Running)
+runs_by image f entry sound due other (Stopping stops) = absurd (both_ways (is_stop_act entry.act) other (ap is_stop_act (sym stops)))
 runs_by image f entry sound due other (Runs program) = (goes_calm (f.cpu entry.cpu) program.goes, running_mode (f.cpu entry.cpu) (goes_running (f.cpu entry.cpu) program.goes))
 runs_by image f entry sound due other (Calling phase) =
     let of = phase_of_due image f entry sound due phase in
@@ -116,7 +116,7 @@ runs_by image f entry sound due other (Calling phase) =
     let P : ℕ → Type 0 = λ k. IsCalm (f.cpu k) × ((f.cpu k).mode ≡ Running) in
     subst P of.caller (caller.calm, caller.running)
 
-pub runs_at : (image : Image) (before rest : List Entry) (entry : Entry) → IsAdmitted image → IsLegal image (before ++ entry ∷ rest) → is_stop entry.act ≡ false → IsCalm ((facts image before).cpu entry.cpu) × (((facts image before).cpu entry.cpu).mode ≡ Running)
+pub runs_at : (image : Image) (before rest : List Entry) (entry : Entry) → IsAdmitted image → IsLegal image (before ++ entry ∷ rest) → is_stop_act entry.act ≡ false → IsCalm ((facts image before).cpu entry.cpu) × (((facts image before).cpu entry.cpu).mode ≡ Running)
 runs_at image before rest entry admitted legal other =
     let f : Facts = facts image before in
     let sound = legal_sound image before admitted (IsLegal_begin image before (entry ∷ rest) legal) in

@@ -19,7 +19,8 @@ use Rattle.jh_history.specs.declared.entry.Heard.{Heard}
 use Rattle.jh_history.specs.declared.entry.Heard.TheVariants.{Received, Down, Other, Timeout as Silent}
 use Rattle.jh_history.specs.Facts.{Facts}
 use Rattle.jh_history.specs.Calls.{is_named, counted, one_more}
-use Rattle.jh_history.specs.Phases.{configs_of, is_down, is_over, settled_by, heard_by, state_word, reply_word}
+use Rattle.jh_history.specs.Phases.{is_down, is_over, settled_by, heard_by, state_word, reply_word}
+use Rattle.jh_shape.specs.Lives.{configs_of}
 use Rattle.jh_history.specs.History.{after}
 use Rattle.jh_history.specs.Due.{is_idle_but, IsLegalFrom}
 use Rattle.jh_history.specs.Sound.{AreSoundCells, IsSound}

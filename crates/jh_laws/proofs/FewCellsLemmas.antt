@@ -47,7 +47,7 @@ use Rattle.jh_history.specs.Configs.{bytes_at, read_whole, read_behind, read_fro
 use Rattle.jh_history.specs.Cpus.{acted, changed, change_of, settled, is_agreed, cpu_after}
 use Rattle.jh_history.specs.History.{start, after, facts, coming_by, coming_of}
 use Rattle.jh_history.specs.Pages.{is_left, failing, unless_good, asking, committing, named_cell, page_write_by, on_page}
-use Rattle.jh_history.specs.Phases.{configs_of}
+use Rattle.jh_shape.specs.Lives.{configs_of}
 use Rattle.jh_history.specs.Due.{due_at, IsLegal, IsLegalFrom}
 use Rattle.jh_history.specs.Admitted.{IsAdmitted}
 use Rattle.jh_history.specs.Sound.{AreTwo, HasBytes, IsSound}

@@ -27,7 +27,7 @@ use Rattle.jh_history.specs.Access.{gives, right_of, region_of, place_in_cell, p
 use Rattle.jh_history.specs.Facts.{Facts}
 use Rattle.jh_history.specs.Lives.{cell_in, live_in, regions_in}
 use Rattle.jh_history.specs.Grants.{is_kept, unless, granted_by, granted_in, granted}
-use Rattle.jh_history.specs.Phases.{configs_of}
+use Rattle.jh_shape.specs.Lives.{configs_of}
 use Rattle.jh_history.specs.Sound.{AreTwo, AreSoundCells}
 use Rattle.jh_laws.specs.Grants.{may, IsGranted}
 use Rattle.jh_laws.specs.Held.{IsLive, IsLeft, IsGrantedTo}

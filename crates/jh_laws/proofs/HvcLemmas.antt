@@ -27,7 +27,8 @@ use Rattle.jh_history.specs.Facts.{Facts}
 use Rattle.jh_history.specs.Lives.{is_on_board, live_in}
 use Rattle.jh_history.specs.History.{facts}
 use Rattle.jh_history.specs.Hypercalls.{state_told, mode_seen, cpu_told, seen_of}
-use Rattle.jh_history.specs.Phases.{configs_of, state_word}
+use Rattle.jh_history.specs.Phases.{state_word}
+use Rattle.jh_shape.specs.Lives.{configs_of}
 use Rattle.jh_history.specs.Due.{due_at, act_of, await_of, got_by, IsLegal}
 use Rattle.jh_history.specs.Admitted.{IsAdmitted}
 use Rattle.jh_history.proofs.LegalLemmas.{due_split, IsLegal_begin}

@@ -23,7 +23,7 @@ use Rattle.jh_history.specs.Due.{got_by, IsLegal}
 use Rattle.jh_laws.specs.RootAlone.{HasNoDevice}
 use Rattle.jh_laws.specs.Ends.{IsAnswered, IsReadBy, IsGotBy, IsAwaitedBy}
 use Rattle.jh_laws.specs.Outcomes.{HasItsOutcome}
-use Rattle.jh_history.specs.Phases.{configs_of}
+use Rattle.jh_shape.specs.Lives.{configs_of}
 use Rattle.jh_history.specs.Sound.{AreSoundCells, AreOwned, IsSoundCall, AreEndpoints, IsSound}
 use Rattle.jh_history.proofs.LegalLemmas.{IsLegal_begin}
 use Rattle.jh_laws.proofs.EndsLemmas.{got_of_cell, reached_of_cell, one_value, width_some}

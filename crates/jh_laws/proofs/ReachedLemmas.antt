@@ -32,7 +32,7 @@ use Rattle.jh_history.specs.Behind.{ecam_start, ecam_end, by_device, asked_windo
 use Rattle.jh_history.specs.Facts.{Facts}
 use Rattle.jh_history.specs.Grants.{is_kept, granted, behind_in, reach, devices_of}
 use Rattle.jh_history.specs.Lives.{cell_in, regions_in}
-use Rattle.jh_history.specs.Phases.{configs_of}
+use Rattle.jh_shape.specs.Lives.{configs_of}
 use Rattle.jh_history.specs.Sound.{AreSoundCells, IsSound}
 use Rattle.jh_history.proofs.AccessLemmas.{reach_by_within, reach_by_beyond, places_from_row}
 use Rattle.jh_history.proofs.PlaceLemmas.{further_none, further_next}

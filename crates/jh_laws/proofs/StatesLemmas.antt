@@ -33,7 +33,7 @@ use Rattle.jh_history.specs.Calls.{is_named, is_call}
 use Rattle.jh_history.specs.Commits.{cells_by, committed_cells}
 use Rattle.jh_history.specs.Cpus.{acted, changed, change_if, begun as begun_cpu, settled, committed, finished, resumed_in, is_running}
 use Rattle.jh_history.specs.History.{facts}
-use Rattle.jh_history.specs.Phases.{configs_of}
+use Rattle.jh_shape.specs.Lives.{configs_of}
 use Rattle.jh_history.specs.Due.{is_idle_but, IsLegal}
 use Rattle.jh_history.proofs.FactsLemmas.{facts_push, cpu_after_holds}
 use Rattle.jh_history.proofs.LegalLemmas.{due_split, IsLegal_begin}
@@ -41,7 +41,7 @@ use Rattle.jh_history.specs.Sound.{IsCaller, IsInPhase}
 use Rattle.jh_laws.specs.Ways.{is_phase, is_commit, is_agreement, call_begun, begun}
 use Rattle.jh_laws.specs.Moves.{stepped, ended}
 use Rattle.jh_laws.specs.Outcomes.{is_violation}
-use Rattle.jh_laws.specs.States.{changes_others, is_stop, HasBegun, HasAgreed, HasCommitted, HasFinished}
+use Rattle.jh_laws.specs.States.{changes_others, is_stop_act, HasBegun, HasAgreed, HasCommitted, HasFinished}
 use Rattle.jh_laws.proofs.RootLemmas.{program_of_few}
 use Rattle.jh_history.proofs.SoundCommitLemmas.{configs_joined}
 use Rattle.jh_history.proofs.SoundLemmas.{legal_sound}
@@ -71,7 +71,7 @@ own_cpu : (change : Change) (own : ℕ) (cpu : Cpu) → cond (eqb own own) (chan
 own_cpu change own cpu = ap (λ (b : Bool). cond b (changed change cpu) cpu) (eq-eqb own own refl)
 
 -- an access or a hypercall that is answered moves its CPU, and a violation fails it
-own_by : (image : Image) (call : Option OpenCall) (act : Act) (own : ℕ) (cpu : Cpu) → cpu.position < 4096 → is_call act ≡ false → is_stop act ≡ false → is_violation act ≡ false → acted image call act own own cpu ≡ stepped cpu
+own_by : (image : Image) (call : Option OpenCall) (act : Act) (own : ℕ) (cpu : Cpu) → cpu.position < 4096 → is_call act ≡ false → is_stop_act act ≡ false → is_violation act ≡ false → acted image call act own own cpu ≡ stepped cpu
 own_by image call (Read width at None) own cpu few a b c = absurd (false≢true (sym c))
 own_by image call (Read width at (Some got)) own cpu few a b c = own_cpu Step own cpu ∙ moved_stepped cpu few
 own_by image call (Fetch at None) own cpu few a b c = absurd (false≢true (sym c))
@@ -114,7 +114,7 @@ fails_by image call (Note id) own cpu few c = absurd (false≢true c)
 fails_by image call (Noted id how) own cpu few c = absurd (false≢true c)
 fails_by image call (Finish answer) own cpu few c = absurd (false≢true c)
 
-pub violation_own : (act : Act) → is_violation act ≡ true → (is_call act ≡ false) × (is_stop act ≡ false)
+pub violation_own : (act : Act) → is_violation act ≡ true → (is_call act ≡ false) × (is_stop_act act ≡ false)
 violation_own (Read width at got) c = (refl, refl)
 violation_own (Fetch at got) c = (refl, refl)
 violation_own (Write width at value ok) c = (refl, refl)
@@ -131,18 +131,18 @@ violation_own (Noted id how) c = absurd (false≢true c)
 violation_own (Finish answer) c = absurd (false≢true c)
 
 -- the operation that the CPU was at
-position_by : (image : Image) (f : Facts) (entry : Entry) → IsAdmitted image → is_call entry.act ≡ false → is_stop entry.act ≡ false → IsMadeBy image f entry → (f.cpu entry.cpu).position < 4096
-position_by image f entry admitted a b (Stopping is) = absurd (both_ways (is_stop entry.act) b (ap is_stop (sym is)))
+position_by : (image : Image) (f : Facts) (entry : Entry) → IsAdmitted image → is_call entry.act ≡ false → is_stop_act entry.act ≡ false → IsMadeBy image f entry → (f.cpu entry.cpu).position < 4096
+position_by image f entry admitted a b (Stopping is) = absurd (both_ways (is_stop_act entry.act) b (ap is_stop_act (sym is)))
 position_by image f entry admitted a b (Calling phase) = absurd (both_ways (is_call entry.act) a (phase_call entry.act phase))
 position_by image f entry admitted a b (Runs program) = within_ops image entry.cpu (cell_in image f.cells (f.cpu entry.cpu).owner) (f.cpu entry.cpu).position program.op admitted program.at
 
-position_few : (image : Image) (before rest : List Entry) (entry : Entry) → IsAdmitted image → IsLegal image (before ++ entry ∷ rest) → is_call entry.act ≡ false → is_stop entry.act ≡ false → ((facts image before).cpu entry.cpu).position < 4096
+position_few : (image : Image) (before rest : List Entry) (entry : Entry) → IsAdmitted image → IsLegal image (before ++ entry ∷ rest) → is_call entry.act ≡ false → is_stop_act entry.act ≡ false → ((facts image before).cpu entry.cpu).position < 4096
 position_few image before rest entry admitted legal a b =
     let f : Facts = facts image before in
     let sound = legal_sound image before admitted (IsLegal_begin image before (entry ∷ rest) legal) in
     position_by image f entry admitted a b (made_by image f entry sound (due_split image before rest entry legal))
 
-pub own_steps : (image : Image) (before rest : List Entry) (entry : Entry) → IsAdmitted image → IsLegal image (before ++ entry ∷ rest) → is_call entry.act ≡ false → is_stop entry.act ≡ false → is_violation entry.act ≡ false
+pub own_steps : (image : Image) (before rest : List Entry) (entry : Entry) → IsAdmitted image → IsLegal image (before ++ entry ∷ rest) → is_call entry.act ≡ false → is_stop_act entry.act ≡ false → is_violation entry.act ≡ false
     → (facts image (before ++ entry ∷ [])).cpu entry.cpu ≡ stepped ((facts image before).cpu entry.cpu)
 own_steps image before rest entry admitted legal a b c =
     let f : Facts = facts image before in

@@ -43,7 +43,7 @@ use Rattle.jh_history.specs.Facts.{Facts}
 use Rattle.jh_history.specs.History.{facts}
 use Rattle.jh_history.specs.Hypercalls.{seen_of}
 use Rattle.jh_history.specs.Lives.{cell_in}
-use Rattle.jh_history.specs.Phases.{configs_of}
+use Rattle.jh_shape.specs.Lives.{configs_of}
 use Rattle.jh_history.specs.Sound.{IsInPhase, IsOfDevice, IsSoundEndpoint, IsSound}
 use Rattle.jh_history.proofs.DuePhaseLemmas.{IsActIn, phase_act_holds}
 use Rattle.jh_history.proofs.LegalLemmas.{due_split, IsLegal_begin}

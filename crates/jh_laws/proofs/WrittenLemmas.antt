@@ -32,7 +32,7 @@ use Rattle.jh_history.specs.Lives.{cell_in}
 use Rattle.jh_history.specs.Pages.{page_after, with_page_write, page_write_by}
 use Rattle.jh_history.specs.Bytes.{byte_written, byte_after}
 use Rattle.jh_history.specs.History.{facts}
-use Rattle.jh_history.specs.Phases.{configs_of}
+use Rattle.jh_shape.specs.Lives.{configs_of}
 use Rattle.jh_history.specs.Due.{IsLegal}
 use Rattle.jh_history.specs.Admitted.{IsAdmitted}
 use Rattle.jh_history.proofs.FactsLemmas.{same_function}

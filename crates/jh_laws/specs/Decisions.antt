@@ -16,7 +16,8 @@ use Rattle.jh_script.specs.declared.image.Image.{Image}
 use Rattle.jh_history.specs.Facts.{Facts}
 use Rattle.jh_history.specs.Admitted.{pool_pages}
 use Rattle.jh_history.specs.Configs.{bytes_at, refused_for}
-use Rattle.jh_history.specs.Phases.{state_word, may_give, configs_of}
+use Rattle.jh_history.specs.Phases.{state_word, may_give}
+use Rattle.jh_shape.specs.Lives.{configs_of}
 
 -- the cell lives besides root, and is locked
 abbrev pub IsLockedBy : Facts → Live → Type 0

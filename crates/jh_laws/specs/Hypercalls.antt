@@ -10,7 +10,8 @@ use Rattle.jh_script.specs.declared.image.Image.{Image}
 use Rattle.jh_history.specs.Facts.{Facts}
 use Rattle.jh_history.specs.Lives.{is_on_board}
 use Rattle.jh_history.specs.Admitted.{pool_pages}
-use Rattle.jh_history.specs.Phases.{state_word, configs_of}
+use Rattle.jh_history.specs.Phases.{state_word}
+use Rattle.jh_shape.specs.Lives.{configs_of}
 
 -- the answer to a request for information about the hypervisor: the pool's pages, those used, the live cells with root
 pub record IsInfo (image : Image) (f : Facts) (kind : ℕ) (answer : ℤ) : Type 0 where

@@ -7,7 +7,7 @@ use Rattle.jh_history.specs.declared.call.OpenCall.{OpenCall}
 use Rattle.jh_history.specs.declared.entry.Entry.{Entry}
 use Rattle.jh_history.specs.Facts.{Facts}
 use Rattle.jh_history.specs.History.{facts}
-use Rattle.jh_history.specs.Phases.{configs_of}
+use Rattle.jh_shape.specs.Lives.{configs_of}
 use Rattle.jh_history.specs.Due.{IsLegal}
 use Rattle.jh_history.specs.Admitted.{IsAdmitted}
 

@@ -13,7 +13,8 @@ use Rattle.jh_history.specs.declared.call.Phase.TheVariants.{ToDecide, ToSettle,
 use Rattle.jh_history.specs.Facts.{Facts}
 use Rattle.jh_history.specs.Lives.{is_on_board, op_at}
 use Rattle.jh_history.specs.Calls.{is_named}
-use Rattle.jh_history.specs.Phases.{state_word, reply_word, is_down, configs_of}
+use Rattle.jh_history.specs.Phases.{state_word, reply_word, is_down}
+use Rattle.jh_shape.specs.Lives.{configs_of}
 use Rattle.jh_history.specs.Due.{due_at}
 use Rattle.jh_history.specs.Sound.{IsCalm}
 use Rattle.jh_laws.specs.Ends.{IsAnswered, IsReadBy}

@@ -23,9 +23,9 @@ changes_others (Finish answer) = true
 changes_others _ = false
 
 -- the act is a stop
-abbrev pub is_stop : Act → Bool
-is_stop Stop = true
-is_stop _ = false
+abbrev pub is_stop_act : Act → Bool
+is_stop_act Stop = true
+is_stop_act _ = false
 
 -- at a beginning another running CPU of root on the board is asked to stop, and every other CPU stays as it is
 pub record HasBegun (image : Image) (own i : ℕ) (before behind : Cpu) : Type 0 where

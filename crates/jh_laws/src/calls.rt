@@ -7,7 +7,7 @@ ghost use Rattle.jh_call.specs.declared.call.Call.TheVariants.{Create};
 ghost use Rattle.jh_history.specs.declared.entry.Settled.{Settled as TheSettled};
 ghost use Rattle.jh_history.specs.declared.entry.Heard.{Heard as TheHeard};
 ghost use Rattle.jh_history.specs.History.{facts};
-ghost use Rattle.jh_history.specs.Phases.{configs_of};
+ghost use Rattle.jh_shape.specs.Lives.{configs_of};
 ghost use Rattle.jh_laws.specs.Exchanges.{made_by_named, made_by_cell, IsSettledBy, IsHeardBy};
 ghost use Rattle.jh_history.specs.declared.entry.Entry.{Entry as TheEntry};
 ghost use Rattle.jh_history.specs.declared.entry.Act.TheVariants.{Begin, Stop, Decide, Settle, Commit, Note, Noted, Finish};

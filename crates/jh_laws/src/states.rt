@@ -22,12 +22,12 @@ ghost use Rattle.jh_laws.specs.Held.{IsLive};
 ghost use Rattle.jh_laws.specs.Operations.{op_of};
 ghost use Rattle.jh_laws.specs.Moves.{stepped, ended};
 ghost use Rattle.jh_laws.specs.Outcomes.{is_violation};
-ghost use Rattle.jh_laws.specs.States.{changes_others, is_stop, HasBegun, HasAgreed, HasCommitted, HasFinished};
+ghost use Rattle.jh_laws.specs.States.{changes_others, is_stop_act, HasBegun, HasAgreed, HasCommitted, HasFinished};
 
 /// An entry of a program moves its CPU by one operation, and a violation fails it, too. A stop stops it. No other
 /// CPU changes, unless the entry begins, agrees, commits or ends a call.
 pub fn entries_change_their_cpu()
-    ensures moved { (m : AdmittedMoment) → is_call m.entry.act ≡ false → is_stop m.entry.act ≡ false →
+    ensures moved { (m : AdmittedMoment) → is_call m.entry.act ≡ false → is_stop_act m.entry.act ≡ false →
         is_violation m.entry.act ≡ false → state_behind m m.entry.cpu ≡ stepped (state_before m m.entry.cpu) }
     ensures failed { (m : AdmittedMoment) → is_violation m.entry.act ≡ true →
         state_behind m m.entry.cpu ≡ ended (state_before m m.entry.cpu) }
@@ -57,7 +57,7 @@ pub fn calls_change_cpus()
 pub fn entries_are_their_cpus_own()
     ensures board { (m : AdmittedMoment) → is_on_board m.image m.entry.cpu ≡ true }
     ensures cell { (m : AdmittedMoment) → m.entry.cell ≡ (state_before m m.entry.cpu).owner }
-    ensures runs { (m : AdmittedMoment) → is_stop m.entry.act ≡ false →
+    ensures runs { (m : AdmittedMoment) → is_stop_act m.entry.act ≡ false →
         IsCalm (state_before m m.entry.cpu) × ((state_before m m.entry.cpu).mode ≡ Runs) }
     ensures operation { (m : AdmittedMoment) (op : TheOp) → op_of m.entry.act ≡ Some op →
         (cell : TheConfig) × IsLive m.image (facts_before m).cells cell × (cell.id ≡ m.entry.cell) ×

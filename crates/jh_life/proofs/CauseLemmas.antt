@@ -19,7 +19,8 @@ use Rattle.jh_check.proofs.RuleLemmas.{broken_from_listed, listed_from_broken}
 use Rattle.jh_num.specs.Bits.{has_bit}
 use Rattle.jh_shape.specs.Pages.{pages_of}
 use Rattle.jh_life.specs.Seen.{Seen}
-use Rattle.jh_life.specs.Lives.{configs_of, cells_of}
+use Rattle.jh_life.specs.Lives.{cells_of}
+use Rattle.jh_shape.specs.Lives.{configs_of}
 use Rattle.jh_life.specs.Verdict.{may_have}
 use Rattle.jh_life.specs.Causes.{Create, verdict_on, Cause, Locked, Known, TakenCpu, BrokenRule, Overlap, FewPages, place_in_order, number_for, IsKnownTo, NamesTakenCpu, BreaksRule, Holds, IsFirst}
 

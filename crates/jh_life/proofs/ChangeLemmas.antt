@@ -13,9 +13,10 @@ use Rattle.jh_cellcfg.specs.declared.config.CellConfig.{CellConfig}
 use Rattle.jh_cellcfg.specs.declared.live.Live.{Live}
 use Rattle.jh_cellcfg.specs.Cells.{name_of}
 use Rattle.jh_cellcfg.specs.Lives.{has_id}
-use Rattle.jh_life.specs.Lives.{new_live, configs_of, marks_of}
+use Rattle.jh_life.specs.Lives.{new_live, marks_of}
+use Rattle.jh_shape.specs.Lives.{configs_of}
 use Rattle.jh_life.specs.SoundRecords.{AreTwo}
-use Rattle.jh_life.specs.Changes.{Change, Created, Dropped, Marked, marked, without, after, live_after, AreNew}
+use Rattle.jh_life.specs.Changes.{CellChange, Created, Dropped, Marked, marked, without, after, live_after, AreNew}
 
 -- ---- one cell with an id
 
@@ -167,7 +168,7 @@ tell_marked id set on lives = find_map (marked set on) (has_id id) lives ∙ mar
 
 -- ---- and all
 
-pub changes_told : (id : ℕ) (changes : List Change) (lives : List Live) → AreNew lives changes → find (has_id id) (fold after lives changes) ≡ fold (live_after id) (find (has_id id) lives) changes
+pub changes_told : (id : ℕ) (changes : List CellChange) (lives : List Live) → AreNew lives changes → find (has_id id) (fold after lives changes) ≡ fold (live_after id) (find (has_id id) lives) changes
 changes_told id [] lives new = refl
 changes_told id (Created config ∷ changes) lives new =
     changes_told id changes (after lives (Created config)) new.1 ∙ ap (λ (o : Option Live). fold (live_after id) o changes) (tell_created id config lives new.0)

@@ -1,6 +1,5 @@
 pub mod JoinedLemmas
 pub mod MarkLemmas
-pub mod PageLemmas
 pub mod VerdictLemmas
 pub mod CauseLemmas
 pub mod ChangeLemmas

@@ -6,8 +6,9 @@ use Rattle.std.proofs.lemmas.List.{append-nil}
 use Rattle.jh_cellcfg.specs.declared.config.CellConfig.{CellConfig}
 use Rattle.jh_cellcfg.specs.declared.live.Live.{Live}
 use Rattle.jh_cellcfg.specs.Lives.{has_id}
-use Rattle.jh_life.specs.Lives.{new_live, configs_of}
-use Rattle.jh_life.specs.Changes.{Change, Created, Dropped, Marked, marked, without, after, is_kept, lasting}
+use Rattle.jh_life.specs.Lives.{new_live}
+use Rattle.jh_shape.specs.Lives.{configs_of}
+use Rattle.jh_life.specs.Changes.{CellChange, Created, Dropped, Marked, marked, without, after, is_kept, lasting}
 use Rattle.jh_life.proofs.ChangeLemmas.{marked_configs}
 
 none_dropped : (configs : List CellConfig) → filter (is_kept []) configs ≡ configs
@@ -24,7 +25,7 @@ before : (b : Bool) (config : CellConfig) (xs ys us vs : List CellConfig) → xs
 before true config xs ys us vs e = ap (λ (rest : List CellConfig). config ∷ rest) e
 before false config xs ys us vs e = e
 
-created : (config : CellConfig) (changes : List Change) (lives : List Live) → filter (is_kept changes) (configs_of (lives ++ new_live config ∷ [])) ++ lasting changes ≡ filter (is_kept changes) (configs_of lives) ++ lasting (Created config ∷ changes)
+created : (config : CellConfig) (changes : List CellChange) (lives : List Live) → filter (is_kept changes) (configs_of (lives ++ new_live config ∷ [])) ++ lasting changes ≡ filter (is_kept changes) (configs_of lives) ++ lasting (Created config ∷ changes)
 created config changes [] = one (is_kept changes config) config (lasting changes)
 created config changes (x ∷ xs) =
     before (is_kept changes x.config) x.config (filter (is_kept changes) (configs_of (xs ++ new_live config ∷ []))) (filter (is_kept changes) (configs_of xs)) (lasting changes) (lasting (Created config ∷ changes))
@@ -32,7 +33,7 @@ created config changes (x ∷ xs) =
 
 -- ---- a cell is dropped
 
-dropped : (id : ℕ) (changes : List Change) (lives : List Live) → filter (is_kept changes) (configs_of (without id lives)) ≡ filter (is_kept (Dropped id ∷ changes)) (configs_of lives)
+dropped : (id : ℕ) (changes : List CellChange) (lives : List Live) → filter (is_kept changes) (configs_of (without id lives)) ≡ filter (is_kept (Dropped id ∷ changes)) (configs_of lives)
 dropped id changes [] = refl
 dropped id changes (x ∷ xs) =
     elim (cases_Bool (has_id id x)) [
@@ -46,7 +47,7 @@ dropped id changes (x ∷ xs) =
 
 -- ---- and all
 
-pub listed : (changes : List Change) (lives : List Live) → configs_of (fold after lives changes) ≡ filter (is_kept changes) (configs_of lives) ++ lasting changes
+pub listed : (changes : List CellChange) (lives : List Live) → configs_of (fold after lives changes) ≡ filter (is_kept changes) (configs_of lives) ++ lasting changes
 listed [] lives = sym (append-nil (filter (is_kept []) (configs_of lives)) ∙ none_dropped (configs_of lives))
 listed (Created config ∷ changes) lives = listed changes (after lives (Created config)) ∙ created config changes lives
 listed (Dropped id ∷ changes) lives =

@@ -9,7 +9,8 @@ use Rattle.jh_check.specs.Verdicts.{is_overlap}
 use Rattle.jh_num.specs.Bits.{has_bit}
 use Rattle.jh_shape.specs.Pages.{pages_of}
 use Rattle.jh_life.specs.Seen.{Seen}
-use Rattle.jh_life.specs.Lives.{configs_of, cells_of}
+use Rattle.jh_life.specs.Lives.{cells_of}
+use Rattle.jh_shape.specs.Lives.{configs_of}
 use Rattle.jh_life.specs.Verdict.{verdict_of_create}
 
 -- a create that is asked for: whether a live cell allows none, the new cell, the CPUs that are root's as bits, the

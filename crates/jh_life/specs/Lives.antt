@@ -2,15 +2,12 @@
 use Rattle.std.specs.Prelude.{ℕ, Bool, false, ◌==◌, List, ◌∷◌, Option, map, position, slice_index_or}
 use Rattle.jh_cellcfg.specs.declared.config.CellConfig.{CellConfig}
 use Rattle.jh_cellcfg.specs.declared.live.Live.{Live}
+use Rattle.jh_shape.specs.Lives.{configs_of}
 use Rattle.jh_life.specs.Seen.{Seen}
 
 -- the live cell of the configuration as it is just created: not loadable
 abbrev pub new_live : CellConfig → Live
 new_live config = record { config = config; loadable = false }
-
--- the configurations of these live cells
-abbrev pub configs_of : List Live → List CellConfig
-configs_of lives = map (λ (live : Live). live.config) lives
 
 -- which of these live cells are loadable
 abbrev pub marks_of : List Live → List Bool

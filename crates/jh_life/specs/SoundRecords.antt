@@ -1,15 +1,8 @@
 -- What holds of the records of live cells at every moment.
-use Rattle.std.specs.Prelude.{◌≡◌, ℕ, ◌+◌, ◌≤◌, Bool, false, List, [], ◌∷◌, length, map, sum_by, AllPairs}
+use Rattle.std.specs.Prelude.{◌≡◌, ℕ, ◌+◌, ◌≤◌, Bool, false, List, ◌∷◌, length, map, sum_by, AllPairs}
 use Rattle.jh_cellcfg.specs.declared.config.CellConfig.{CellConfig}
-use Rattle.jh_cellcfg.specs.declared.live.Live.{Live}
 use Rattle.jh_check.specs.Refusals.{is_namesake}
 use Rattle.jh_shape.specs.Pages.{tables_of, cell_claims}
-
--- the configurations, each with its mark
-abbrev pub joined : List CellConfig → List Bool → List Live
-joined [] marks = []
-joined (config ∷ configs) [] = []
-joined (config ∷ configs) (mark ∷ marks) = record { config = config; loadable = mark } ∷ joined configs marks
 
 -- the two cells have neither one name nor one id
 abbrev pub AreTwo : CellConfig → CellConfig → Type 0

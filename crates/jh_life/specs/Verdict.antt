@@ -6,7 +6,7 @@ use Rattle.jh_check.specs.Refusals.{refusal_of}
 use Rattle.jh_num.specs.Bits.{has_bit}
 use Rattle.jh_shape.specs.Pages.{pages_of}
 use Rattle.jh_life.specs.Seen.{Seen}
-use Rattle.jh_life.specs.Lives.{configs_of}
+use Rattle.jh_shape.specs.Lives.{configs_of}
 
 -- a CPU that may be given away: root's, and not the caller's
 abbrev pub may_have : ℕ → ℕ → ℕ → Bool

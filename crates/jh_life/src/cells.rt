@@ -5,18 +5,19 @@ ghost use Rattle.jh_cellcfg.specs.declared.live.Live.{Live};
 ghost use Rattle.jh_check.specs.Refusals.{is_known};
 ghost use Rattle.jh_num.specs.Bits.{has_bit};
 ghost use Rattle.jh_shape.specs.Pages.{pages_of};
-ghost use Rattle.jh_life.specs.Lives.{new_live, has_config_id, configs_of, marks_of, cells_of, is_loadable_at, number_of};
+ghost use Rattle.jh_life.specs.Lives.{new_live, has_config_id, marks_of, cells_of, is_loadable_at, number_of};
+ghost use Rattle.jh_shape.specs.Lives.{configs_of};
 ghost use Rattle.jh_life.specs.SoundRecords.{AreTwo};
 ghost use Rattle.jh_life.specs.Verdict.{verdict_of_create};
 
 use crate::copy::copy_of_system;
-use crate::counting::{pages_of, refusal_by_pages};
+use crate::counting::refusal_by_pages;
 use crate::marks::{free_cpus, mask_of};
 use jh_cellcfg::{CellConfig, SystemConfig};
 use jh_check::{refusal_of, refusal_without_cpus};
 use jh_num::error::EPERM;
 use jh_num::{NoMemory, make_room};
-use jh_shape::{cell_pages, tables_are_few};
+use jh_shape::{cell_pages, pages_of};
 use std::alloc::Global;
 use std::marker::Model;
 
@@ -39,7 +40,8 @@ pub struct Cells {
 impl Model for Cells {
     ghost use Rattle.std.specs.Prelude.{◌-◌, min, vec_len, vec_capacity};
     ghost use Rattle.jh_life.specs.Seen.{Seen};
-    ghost use Rattle.jh_life.specs.SoundRecords.{AreSoundRecords, joined};
+    ghost use Rattle.jh_shape.specs.Lives.{joined};
+    ghost use Rattle.jh_life.specs.SoundRecords.{AreSoundRecords};
 
     ghost Value = { Seen };
 
@@ -184,7 +186,6 @@ impl Cells {
         make_room(&mut self.configs)?;
         make_room(&mut self.marks)?;
         make_room(&mut self.own)?;
-        tables_are_few();
         let own = cell_pages(&new);
         self.taken += own;
         self.configs.push_reserved(new);

@@ -5,8 +5,9 @@ ghost use Rattle.jh_num.specs.declared.error.TheConstants.{EBUSY, EEXIST, EINVAL
 ghost use Rattle.jh_cellcfg.specs.declared.live.Live.{Live};
 ghost use Rattle.jh_cellcfg.specs.Lives.{has_id};
 ghost use Rattle.jh_life.specs.Seen.{Seen};
-ghost use Rattle.jh_life.specs.Lives.{configs_of, marks_of};
-ghost use Rattle.jh_life.specs.Changes.{Change, marked, without, after, live_after, lasting, AreNew};
+ghost use Rattle.jh_life.specs.Lives.{marks_of};
+ghost use Rattle.jh_shape.specs.Lives.{configs_of};
+ghost use Rattle.jh_life.specs.Changes.{CellChange, marked, without, after, live_after, lasting, AreNew};
 ghost use Rattle.jh_check.specs.Refusals.{IsAccepted};
 ghost use Rattle.jh_shape.specs.Pages.{pages_of};
 ghost use Rattle.jh_life.specs.Verdict.{may_have, verdict_of_create};
@@ -34,13 +35,13 @@ pub fn a_cell_is_marked_by_its_id(cells: &Cells)
 
 /// The cells are listed in order of creation: those that were created and not dropped since, and no other.
 pub fn cells_are_listed_in_order_of_creation()
-    ensures { (changes : List Change) → configs_of (fold after [] changes) ≡ lasting changes }
+    ensures { (changes : List CellChange) → configs_of (fold after [] changes) ≡ lasting changes }
 {}
 
 /// Which cell with an id lives, and whether it is loadable, goes by the changes of that id alone: it lives since it was
 /// last created, and is loadable as it was last set since.
 pub fn a_cell_is_as_it_was_last_set()
-    ensures { (id : ℕ) (changes : List Change) → AreNew [] changes → find (has_id id) (fold after [] changes) ≡ fold (live_after id) None changes }
+    ensures { (id : ℕ) (changes : List CellChange) → AreNew [] changes → find (has_id id) (fold after [] changes) ≡ fold (live_after id) None changes }
 {}
 
 /// Which cells are loadable, and how much room there is, changes no verdict.

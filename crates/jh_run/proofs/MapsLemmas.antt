@@ -13,7 +13,7 @@ use Rattle.jh_map.specs.declared.run.Run.{Run}
 use Rattle.jh_map.specs.Maps.{IsMap}
 use Rattle.jh_script.specs.declared.image.Image.{Image}
 use Rattle.jh_history.specs.Lives.{live_in, cell_in, regions_in}
-use Rattle.jh_history.specs.Phases.{configs_of}
+use Rattle.jh_shape.specs.Lives.{configs_of}
 use Rattle.jh_text.specs.Maps.{map_text}
 use Rattle.jh_board.specs.Maps.{all_cells, is_kept_at, IsMapIn}
 use Rattle.jh_run.specs.Maps.{AreMaps}

@@ -2,7 +2,8 @@
 use Rattle.std.specs.Prelude.{ℕ, Bool, true, false, List, length, count_by, sum_by, Some}
 use Rattle.jh_history.specs.declared.entry.Entry.{Entry}
 use Rattle.jh_history.specs.declared.entry.Act.{Act}
-use Rattle.jh_history.specs.declared.entry.Act.TheVariants.{Read, Write, Stop}
+use Rattle.jh_history.specs.declared.entry.Act.TheVariants.{Read, Write}
+use Rattle.jh_laws.specs.States.{is_stop_act}
 use Rattle.jh_run.specs.declared.summary.Summary.{Summary}
 
 -- the act is a read, be it a violation or not
@@ -14,11 +15,6 @@ is_read_act _ = false
 abbrev pub is_write_act : Act → Bool
 is_write_act (Write width at value ok) = true
 is_write_act _ = false
-
--- the act is a stop
-abbrev pub is_stop_act : Act → Bool
-is_stop_act Stop = true
-is_stop_act _ = false
 
 -- the entry is a read, be it a violation or not
 abbrev pub is_read : Entry → Bool

@@ -15,7 +15,7 @@ use Rattle.jh_shape.specs.declared.want.Want.TheVariants.{Nothing, Leaf}
 use Rattle.jh_shape.specs.Claims.{Claims, Holder}
 use Rattle.jh_shape.specs.Intervals.{touches, spans}
 use Rattle.jh_shape.specs.Shapes.{slot_size, is_mapped, meets_in_part, are_cut, takes, is_closed, fits_blocks, may_be_block, is_leaf_by, leaf_region, is_met, is_met_by, is_kept_from, leaf_of, out_of}
-use Rattle.jh_shape.specs.Suits.{AreDisjoint, IsFit, IsWhole, IsSound, IsSlot}
+use Rattle.jh_shape.specs.Suits.{SharesNoAddress, IsFit, IsWhole, IsSound, IsSlot}
 use Rattle.jh_num.specs.declared.rights.Rights.{Rights}
 use Rattle.jh_shape.specs.Grants.{place_at, IsGranted, TellsGrants}
 use Rattle.jh_shape.proofs.WantLemmas.{LeafBy, found, leaf_parts}
@@ -155,7 +155,7 @@ kept_alike claims level start k region slot e h whole l =
     falsely b = and_right b false refl
 
 -- two regions with an address in common are one
-same_region : (xs : List Region) (x y : Region) (at : ℕ) → AllPairs AreDisjoint xs → Contains xs x → Contains xs y → has_address x at ≡ true → has_address y at ≡ true → x ≡ y
+same_region : (xs : List Region) (x y : Region) (at : ℕ) → AllPairs SharesNoAddress xs → Contains xs x → Contains xs y → has_address x at ≡ true → has_address y at ≡ true → x ≡ y
 same_region xs x y at disjoint cx cy hx hy =
     let i = cx.0 in
     let j = cy.0 in

@@ -1,15 +1,16 @@
 -- How many pages tables take at most, and the cells that root's tables depend on.
-use Rattle.std.proofs.Common.{◌≡◌, ℕ, ◌+◌, ◌*◌, ◌/◌, ◌^◌, ◌≤◌, true, false, List, [], ◌∷◌, ◌++◌, length, map, Option, Some, None, refl, sym, ap, ◌∙◌, arith}
+use Rattle.std.proofs.Common.{◌≡◌, ℕ, ◌+◌, ◌*◌, ◌/◌, ◌^◌, ◌≤◌, true, false, List, [], ◌∷◌, ◌++◌, length, map, sum_by, Option, Some, None, refl, sym, ap, ◌∙◌, arith}
 use Rattle.std.specs.Prelude.{option_to_list}
 use Rattle.std.specs.Option.{option_copied}
 use Rattle.std.specs.Borrow.{Bor}
 use Rattle.std.proofs.lemmas.List.{map-append}
+use Rattle.std.proofs.lemmas.List.Sums.{sum_by-cons}
 use Rattle.std.proofs.lemmas.Nat.Bits.{bit_at-zero, bit_at_ones}
 use Rattle.jh_num.specs.declared.address.TheConstants.{ADDRESS_END}
 use Rattle.jh_cellcfg.specs.declared.config.CellConfig.{CellConfig}
 use Rattle.jh_num.specs.Bits.{has_bit}
 use Rattle.jh_shape.specs.Claims.{Claims, Holder, held_from, one_more}
-use Rattle.jh_shape.specs.Pages.{tables_at, tables_of, holder_of}
+use Rattle.jh_shape.specs.Pages.{tables_at, tables_of, cell_claims, holder_of}
 use Rattle.jh_shape.specs.Shapes.{slot_size, is_table}
 use Rattle.jh_shape.proofs.CountLemmas.{count_below_le}
 
@@ -25,6 +26,18 @@ tables_le claims =
     let two : tables_at claims 2 ≤ 262144 = at_le claims 2 in
     let all : 1 + (tables_at claims 1 + (tables_at claims 2 + 0)) ≤ 2 ^ 20 = omega arith in
     all
+
+-- a cell's own pages, and those of some cells
+abbrev pub own_pages : CellConfig → ℕ
+own_pages cell = tables_of (cell_claims cell) + 1
+
+pub own_le : (cells : List CellConfig) → sum_by own_pages cells ≤ 1048577 * length cells
+own_le [] = omega arith
+own_le (c ∷ cs) =
+    let all : sum_by own_pages (c ∷ cs) ≡ own_pages c + sum_by own_pages cs = sum_by-cons own_pages c cs in
+    let one : own_pages c ≤ 1048577 = (let tables = tables_le (cell_claims c) in omega arith) in
+    let rest : sum_by own_pages cs ≤ 1048577 * length cs = own_le cs in
+    omega arith
 
 -- the cells of a mask with all bits hold, and none is loadable
 held_all : (index : ℕ) (cells : List CellConfig) → index + length cells ≤ 16 → held_from 65535 0 index cells ≡ map holder_of cells

@@ -2,6 +2,7 @@ pub mod Claims
 pub mod Grants
 pub mod Intervals
 pub mod Laws
+pub mod Lives
 pub mod Marks
 pub mod Pages
 pub mod Shapes

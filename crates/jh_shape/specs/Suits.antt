@@ -8,8 +8,8 @@ use Rattle.jh_shape.specs.Claims.{Claims}
 use Rattle.jh_shape.specs.Shapes.{slot_size, is_mapped, are_cut}
 
 -- the virtual ranges of two regions that aren't empty have no address in common
-abbrev pub AreDisjoint : Region → Region → Type 0
-AreDisjoint one other = (at : ℕ) → IsTrue (has_address one at) → IsTrue (has_address other at) → ⊥
+abbrev pub SharesNoAddress : Region → Region → Type 0
+SharesNoAddress one other = (at : ℕ) → IsTrue (has_address one at) → IsTrue (has_address other at) → ⊥
 
 -- a region that isn't empty ends within the addresses, and, unless it is a communication region, its
 -- places end there too; a communication region is one page, and the places of mapped memory are aligned
@@ -30,7 +30,7 @@ IsWhole claims region =
 pub record IsSound (claims : Claims) : Type 0 where
   pub comm_aligned : claims.comm % PAGE_SIZE ≡ 0
   pub comm_bound : claims.comm < ADDRESS_END
-  pub disjoint : AllPairs AreDisjoint claims.regions
+  pub disjoint : AllPairs SharesNoAddress claims.regions
   pub fit : All IsFit claims.regions
   pub whole : IsTrue claims.root → All (IsWhole claims) claims.regions
 

@@ -19,6 +19,7 @@ pub use laws::{
     what_live_cells_hold_is_closed,
 };
 pub use level::{FIRST_LEVEL, LAST_LEVEL};
-pub use pages::{cell_pages, root_tables};
+pub use pages::{cell_pages, pages_of};
+pub use region::any_takes;
 pub use target::Target;
 pub use want::Want;

@@ -1,7 +1,8 @@
-//! The pages that root's tables take beside cells, and those of a cell.
-ghost use Rattle.std.specs.Prelude.{◌≡◌, ◌≤◌, ◌+◌, ◌^◌, ◌++◌, length, option_to_list};
+//! The pages that root's tables take beside cells, those of a cell, and those of all together.
+ghost use Rattle.std.specs.Prelude.{◌≡◌, ◌≤◌, ◌+◌, ◌^◌, ◌++◌, length, sum_by, option_to_list};
 ghost use Rattle.std.specs.Option.{option_copied};
-ghost use Rattle.jh_shape.specs.Pages.{tables_of, root_claims, cell_claims};
+ghost use Rattle.jh_cellcfg.specs.declared.config.CellConfig.{CellConfig as TheCell};
+ghost use Rattle.jh_shape.specs.Pages.{tables_of, root_claims, cell_claims, pages_of};
 
 use crate::target::Target;
 use jh_cellcfg::{CellConfig, Region};
@@ -10,7 +11,7 @@ use jh_cellcfg::{CellConfig, Region};
 const ALL: u16 = 0xffff;
 
 /// The pages of root's tables beside the cells and one more, none of which is loadable.
-pub fn root_tables(root: &[Region], cells: &[CellConfig], extra: Option<&CellConfig>) -> u64
+fn root_tables(root: &[Region], cells: &[CellConfig], extra: Option<&CellConfig>) -> u64
     requires { length cells.now ≤ 15 }
     ensures value { result ≡ tables_of (root_claims root.now (cells.now ++ option_to_list (option_copied extra.entry))) }
     ensures bound { result ≤ 2 ^ 20 }
@@ -42,4 +43,22 @@ pub fn cell_pages(cell: &CellConfig) -> u64
         comm: 0,
     };
     target.tables() + 1
+}
+
+/// The pages of root, the cells, which without root's take so many, and one more.
+pub fn pages_of(
+    root: &[Region],
+    cells: &[CellConfig],
+    taken: u64,
+    extra: Option<&CellConfig>,
+) -> u64
+    requires few { length cells.now ≤ 15 }
+    requires taken { taken ≡ sum_by (λ (cell : TheCell). tables_of (cell_claims cell) + 1) cells.now }
+    ensures { result ≡ pages_of root.now (cells.now ++ option_to_list (option_copied extra.entry)) }
+{
+    let pages = root_tables(root, cells, extra) + taken;
+    match extra {
+        Some(cell) => pages + cell_pages(cell),
+        None => pages,
+    }
 }

@@ -93,7 +93,7 @@ fn takes(region: &Region, loadable: bool, place: u64) -> bool
 }
 
 /// Whether one of the regions of a cell, loadable or not, takes the place from root.
-pub(crate) fn any_takes(regions: &[Region], loadable: bool, place: u64) -> bool
+pub fn any_takes(regions: &[Region], loadable: bool, place: u64) -> bool
     ensures { result ≡ list_any (λ region. takes loadable region place) regions.now }
 {
     regions.iter().any(|region| takes(region, loadable, place))

@@ -9,9 +9,11 @@ use Rattle.jh_cellcfg.specs.declared.config.Irqchip.{Irqchip}
 use Rattle.jh_cellcfg.specs.declared.config.PciDevice.{PciDevice}
 use Rattle.jh_cellcfg.specs.declared.config.Console.{Console}
 use Rattle.jh_cellcfg.specs.declared.region.Region.{Region}
+use Rattle.jh_cellcfg.specs.Empty.{no_console}
 use Rattle.jh_cellcfg.specs.Limits.{is_name, is_zero}
 use Rattle.jh_cellcfg.specs.Spelling.{console_bytes}
 use Rattle.jh_syscfg.specs.declared.platform.Platform.{Platform}
+use Rattle.jh_syscfg.specs.Layout.{system_of}
 use Rattle.jh_spec.specs.declared.spec.SpecFault.{SpecFault}
 use Rattle.jh_spec.specs.declared.spec.SpecFault.TheVariants.{Json, Member, NoMemory}
 use Rattle.jh_spec.specs.declared.cell.Identity.{Identity}
@@ -74,10 +76,6 @@ no_device = record {
   shmem_peers = 0;
   shmem_protocol = 0;
 }
-
--- the console whose fields are all 0
-abbrev pub no_console : Console
-no_console = record { address = 0; size = 0; kind = 0; flags = 0; divider = 0; gate_nr = 0; clock_reg = 0 }
 
 -- the console that the member of this name tells, all 0 where it is missing
 abbrev pub console_at : List ℕ → Data → Option Console
@@ -216,20 +214,6 @@ platform_told d = do
     pci_domain = domain;
     root_head = replicate 8 0;
   })
-
--- the system that its members make
-abbrev pub system_of : Platform → CellConfig → SystemConfig
-system_of platform root = record {
-  flags = platform.flags;
-  hypervisor_memory = platform.hypervisor_memory;
-  debug_console = platform.debug_console;
-  pci_mmconfig_base = platform.pci_mmconfig_base;
-  pci_mmconfig_end_bus = platform.pci_mmconfig_end_bus;
-  pci_is_virtual = platform.pci_is_virtual;
-  pci_domain = platform.pci_domain;
-  root_head = platform.root_head;
-  root = root;
-}
 
 -- the system that an object's members tell; else the first fault
 unfoldable pub system_told : Data → Result SystemConfig SpecFault

@@ -1,6 +1,7 @@
 //! Records of a configuration: objects with the names of their fields alone.
+ghost use Rattle.jh_cellcfg.specs.Empty.{no_console};
 ghost use Rattle.jh_spec.specs.Fields.{region_told, irqchip_told, device_told, console_told};
-ghost use Rattle.jh_spec.specs.Cells.{no_region, no_irqchip, no_device, no_console};
+ghost use Rattle.jh_spec.specs.Cells.{no_region, no_irqchip, no_device};
 
 use crate::from_json::{FromJson, member};
 use crate::json::has_only;

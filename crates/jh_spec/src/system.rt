@@ -96,16 +96,5 @@ pub fn system(alloc: Global, object: &Value) -> Result<SystemConfig, SpecFault>
     let platform = platform_of(alloc, object)?;
     let root = root(alloc, object)?;
     all_listed(alloc, object, &NAMES)?;
-    let root_head = platform.root_head;
-    Ok(SystemConfig {
-        flags: platform.flags,
-        hypervisor_memory: platform.hypervisor_memory,
-        debug_console: platform.debug_console,
-        pci_mmconfig_base: platform.pci_mmconfig_base,
-        pci_mmconfig_end_bus: platform.pci_mmconfig_end_bus,
-        pci_is_virtual: platform.pci_is_virtual,
-        pci_domain: platform.pci_domain,
-        root_head,
-        root,
-    })
+    Ok(platform.with(root))
 }

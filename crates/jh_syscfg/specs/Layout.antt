@@ -1,5 +1,6 @@
 -- The bytes of a system's configuration, from its fields. Numbers have their lowest byte first.
 use Rattle.std.specs.Prelude.{◌≡◌, ℕ, ◌<◌, ◌^◌, List, ◌++◌, length, codes}
+use Rattle.jh_cellcfg.specs.declared.config.CellConfig.{CellConfig}
 use Rattle.jh_cellcfg.specs.declared.config.SystemConfig.{SystemConfig}
 use Rattle.jh_cellcfg.specs.Spelling.{u8_bytes, u16_bytes, u32_bytes, u64_bytes, region_bytes, console_bytes, body_bytes}
 use Rattle.jh_cellcfg.specs.Widths.{IsRegion, IsConsole, IsCell}
@@ -23,6 +24,20 @@ platform_of s = record {
   pci_is_virtual = s.pci_is_virtual;
   pci_domain = s.pci_domain;
   root_head = s.root_head;
+}
+
+-- the system of these fields and this root
+abbrev pub system_of : Platform → CellConfig → SystemConfig
+system_of platform root = record {
+  flags = platform.flags;
+  hypervisor_memory = platform.hypervisor_memory;
+  debug_console = platform.debug_console;
+  pci_mmconfig_base = platform.pci_mmconfig_base;
+  pci_mmconfig_end_bus = platform.pci_mmconfig_end_bus;
+  pci_is_virtual = platform.pci_is_virtual;
+  pci_domain = platform.pci_domain;
+  root_head = platform.root_head;
+  root = root;
 }
 
 -- the one spelling of a system's configuration

@@ -3,7 +3,7 @@ ghost use Rattle.std.specs.Prelude.{◌≡◌, ◌≤◌, ◌++◌, length, drop
 ghost use Rattle.jh_cellcfg.specs.declared.config.SystemConfig.{SystemConfig};
 ghost use Rattle.jh_cellcfg.specs.Faults.{fault_of, refusal};
 ghost use Rattle.jh_cellcfg.specs.Spelling.{u16_bytes};
-ghost use Rattle.jh_syscfg.specs.Layout.{platform_bytes, platform_of, system_spelling, IsPlatform, IsSystem, IsSystemWithinLimits};
+ghost use Rattle.jh_syscfg.specs.Layout.{platform_bytes, system_of, system_spelling, IsPlatform, IsSystem, IsSystemWithinLimits};
 ghost use Rattle.jh_syscfg.specs.SystemFaults.{system_start_fault, system_fault, GivesSystem};
 
 use crate::platform::Platform;
@@ -24,9 +24,8 @@ impl Platform {
     }
 
     /// The system of these fields and this root.
-    fn with(self, root: CellConfig) -> SystemConfig
-        ensures platform { platform_of result ≡ self }
-        ensures root { result.root ≡ root }
+    pub fn with(self, root: CellConfig) -> SystemConfig
+        ensures { result ≡ system_of self root }
     {
         let root_head = self.root_head;
         SystemConfig {

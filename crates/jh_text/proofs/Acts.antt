@@ -1,107 +1,24 @@
--- The text of each entry leads to the entry.
-use Rattle.std.proofs.Common.{◌≡◌, ℕ, ◌-◌, ◌^◌, ◌<◌, ◌≤◌, ℤ, Bool, false, List, [], ◌∷◌, ◌++◌, Option, Some, None, refl, ap, ◌∙◌, arith, IsTrue, codes}
+-- The line of each entry leads to the entry.
+use Rattle.std.proofs.Common.{◌≡◌, ℕ, ◌-◌, ◌^◌, ◌<◌, ◌≤◌, ℤ, Bool, List, [], ◌∷◌, ◌++◌, Option, Some, None, refl, ap, ◌∙◌, arith, append_assoc, IsTrue, FitsSigned, w64, codes}
 use Rattle.std.specs.Option.{IfSome}
 use Rattle.std.specs.List.{join_with_byte}
 use Rattle.std.specs.Fmt.{decimal, signed_decimal}
-use Rattle.std.specs.Str.{bytes_eq}
 use Rattle.jh_history.specs.declared.entry.Entry.{Entry}
 use Rattle.jh_history.specs.declared.entry.Act.{Act}
 use Rattle.jh_history.specs.declared.entry.Act.TheVariants.{Read, Write, Fetch, Await, Irq, Hvc, Begin, Stop, Decide, Settle, Commit, Note, Noted, Finish}
-use Rattle.jh_history.specs.declared.entry.Settled.{Settled}
 use Rattle.jh_history.specs.declared.entry.Heard.{Heard}
 use Rattle.jh_text.specs.Ranges.{is_width, IsReadableAct, IsReadable}
-use Rattle.jh_text.specs.Text.{hexadecimal, got_text, ok_text, decision_text, settled_text, heard_text, act_words, entry_text}
-use Rattle.jh_text.specs.Private.Reading.{max_u64, number_of, hexadecimal_of, answer_of, width_of, got_of, ok_of, decision_of, settled_of, heard_of, read_of, attempt_of, write_of, await_of, fetch_of, irq_of, call_of, decide_of, settle_of, note_of, noted_of, finish_of, named_of, act_of, entry_of}
-use Rattle.jh_text.proofs.Numbers.{Lacks_digits}
-use Rattle.jh_text.proofs.Splits.{Lacks, Lacks_cons, split_once_front}
-use Rattle.jh_text.proofs.Spellings.{decimal_again, hexadecimal_again, answer_again, answer_is_not, width_again, width_le, widest, got_again, ok_again, decision_again, settled_again, heard_again}
+use Rattle.jh_text.specs.Text.{hexadecimal, got_text, ok_text, heard_text, act_words, attempt_words, line}
+use Rattle.jh_text.specs.Private.Reading.{max_u64, read_of, attempt_of, write_of, await_of, fetch_of, irq_of, outcome_of, call_of, noted_of, act_of_call, act_of, entry_of}
+use Rattle.jh_text.proofs.Spellings.{decimal_again, hexadecimal_again, answer_again, answer_is_not, width_again, widest, got_again, ok_again, decision_again, settled_again, heard_again}
 
--- no word of a number has a space
-pub decimal_lacks : (n : ℕ) → n < 2 ^ 64 → Lacks 32 (decimal n)
-decimal_lacks n small = Lacks_digits 10 32 n (omega arith) (omega arith) (omega arith) refl
+-- what stands behind a word and a space
+behind_word : (word text rest : List ℕ) → (word ++ 32 ∷ text) ++ rest ≡ word ++ 32 ∷ (text ++ rest)
+behind_word word text rest = append_assoc word (32 ∷ text) rest
 
-pub hexadecimal_lacks : (n : ℕ) → n < 2 ^ 64 → Lacks 32 (hexadecimal n)
-hexadecimal_lacks n small = Lacks_cons 32 48 _ refl (Lacks_cons 32 120 _ refl (Lacks_digits 16 32 n (omega arith) (omega arith) (omega arith) refl))
-
-read_again : (width at got : List ℕ) (w a : ℕ) (g : Option ℕ) → Lacks 32 width → Lacks 32 at → width_of width ≡ Some w → hexadecimal_of max_u64 at ≡ Some a → got_of (256 ^ w - 1) got ≡ Some g
-    → read_of (width ++ 32 ∷ (at ++ 32 ∷ (61 ∷ 32 ∷ got))) ≡ Some (Read w a g)
-unfolding read_of
-read_again width at got w a g l m width_is at_is got_is =
-    rw (split_once_front 32 width (at ++ 32 ∷ (61 ∷ 32 ∷ got)) l, split_once_front 32 at (61 ∷ 32 ∷ got) m, width_is, at_is, got_is) refl
-
-attempt_again : (width at value ok : List ℕ) (w a v : ℕ) (o : Bool) → Lacks 32 width → Lacks 32 at → Lacks 32 value
-    → width_of width ≡ Some w → hexadecimal_of max_u64 at ≡ Some a → hexadecimal_of (256 ^ w - 1) value ≡ Some v → ok_of ok ≡ Some o
-    → attempt_of (width ++ 32 ∷ (at ++ 32 ∷ (value ++ 32 ∷ (61 ∷ 32 ∷ ok)))) ≡ Some (w, a, v, o)
-unfolding attempt_of
-attempt_again width at value ok w a v o l m n width_is at_is value_is ok_is =
-    rw (split_once_front 32 width (at ++ 32 ∷ (value ++ 32 ∷ (61 ∷ 32 ∷ ok))) l, split_once_front 32 at (value ++ 32 ∷ (61 ∷ 32 ∷ ok)) m, split_once_front 32 value (61 ∷ 32 ∷ ok) n, width_is, at_is, value_is, ok_is) refl
-
-write_again : (words : List ℕ) (w a v : ℕ) (o : Bool) → attempt_of words ≡ Some (w, a, v, o) → write_of words ≡ Some (Write w a v o)
-unfolding write_of
-write_again words w a v o e = rw e refl
-
-await_again : (words : List ℕ) (w a v : ℕ) (o : Bool) → attempt_of words ≡ Some (w, a, v, o) → await_of words ≡ Some (Await w a v o)
-unfolding await_of
-await_again words w a v o e = rw e refl
-
-fetch_again : (at got : List ℕ) (a : ℕ) (g : Option ℕ) → Lacks 32 at → hexadecimal_of max_u64 at ≡ Some a → got_of (2 ^ 32 - 1) got ≡ Some g → fetch_of (at ++ 32 ∷ (61 ∷ 32 ∷ got)) ≡ Some (Fetch a g)
-unfolding fetch_of
-fetch_again at got a g l at_is got_is = rw (split_once_front 32 at (61 ∷ 32 ∷ got) l, at_is, got_is) refl
-
-irq_again : (device vector : List ℕ) (d v : ℕ) → Lacks 32 device → number_of 10 (2 ^ 32 - 1) device ≡ Some d → number_of 10 255 vector ≡ Some v → irq_of (61 ∷ 32 ∷ (device ++ 32 ∷ vector)) ≡ Some (Irq d v)
-unfolding irq_of
-irq_again device vector d v l device_is vector_is = rw (split_once_front 32 device vector l, device_is, vector_is) refl
-
--- a call with its code and its two arguments, whatever comes of it
-begin_again : (code first second : List ℕ) (c a b : ℕ) → Lacks 32 code → Lacks 32 first → Lacks 32 second
-    → number_of 10 max_u64 code ≡ Some c → hexadecimal_of max_u64 first ≡ Some a → hexadecimal_of max_u64 second ≡ Some b
-    → call_of (code ++ 32 ∷ (first ++ 32 ∷ (second ++ 32 ∷ (61 ∷ 32 ∷ codes "begin")))) ≡ Some (Begin c a b)
-unfolding call_of
-begin_again code first second c a b l m n code_is first_is second_is =
-    rw (split_once_front 32 code (first ++ 32 ∷ (second ++ 32 ∷ (61 ∷ 32 ∷ codes "begin"))) l, split_once_front 32 first (second ++ 32 ∷ (61 ∷ 32 ∷ codes "begin")) m, split_once_front 32 second (61 ∷ 32 ∷ codes "begin") n, code_is, first_is, second_is) refl
-
-call_again : (code first second answer : List ℕ) (c a b : ℕ) (z : ℤ) → Lacks 32 code → Lacks 32 first → Lacks 32 second
-    → number_of 10 max_u64 code ≡ Some c → hexadecimal_of max_u64 first ≡ Some a → hexadecimal_of max_u64 second ≡ Some b → bytes_eq answer (codes "begin") ≡ false → answer_of answer ≡ Some z
-    → call_of (code ++ 32 ∷ (first ++ 32 ∷ (second ++ 32 ∷ (61 ∷ 32 ∷ answer)))) ≡ Some (Hvc c a b z)
-unfolding call_of
-call_again code first second answer c a b z l m n code_is first_is second_is other answer_is =
-    rw (split_once_front 32 code (first ++ 32 ∷ (second ++ 32 ∷ (61 ∷ 32 ∷ answer))) l, split_once_front 32 first (second ++ 32 ∷ (61 ∷ 32 ∷ answer)) m, split_once_front 32 second (61 ∷ 32 ∷ answer) n, code_is, first_is, second_is, other, answer_is) refl
-
-decide_again : (word : List ℕ) (refused : Option ℤ) → decision_of word ≡ Some refused → decide_of (61 ∷ 32 ∷ word) ≡ Some (Decide refused)
-unfolding decide_of
-decide_again word refused e = rw e refl
-
-settle_again : (word : List ℕ) (how : Settled) → settled_of word ≡ Some how → settle_of (61 ∷ 32 ∷ word) ≡ Some (Settle how)
-unfolding settle_of
-settle_again word how e = rw e refl
-
-note_again : (word : List ℕ) (id : ℕ) → number_of 10 (2 ^ 32 - 1) word ≡ Some id → note_of word ≡ Some (Note id)
-unfolding note_of
-note_again word id e = rw e refl
-
-noted_again : (id word : List ℕ) (n : ℕ) (how : Heard) → Lacks 32 id → number_of 10 (2 ^ 32 - 1) id ≡ Some n → heard_of word ≡ Some how → noted_of (id ++ 32 ∷ (61 ∷ 32 ∷ word)) ≡ Some (Noted n how)
-unfolding noted_of
-noted_again id word n how l id_is how_is = rw (split_once_front 32 id (61 ∷ 32 ∷ word) l, id_is, how_is) refl
-
-finish_again : (word : List ℕ) (z : ℤ) → answer_of word ≡ Some z → finish_of (61 ∷ 32 ∷ word) ≡ Some (Finish z)
-unfolding finish_of
-finish_again word z e = rw e refl
-
--- a name and what stands behind it
-named : (name rest : List ℕ) (act : Option Act) → Lacks 32 name → bytes_eq (name ++ 32 ∷ rest) (codes "stop") ≡ false → bytes_eq (name ++ 32 ∷ rest) (codes "commit") ≡ false → named_of name rest ≡ act → act_of (name ++ 32 ∷ rest) ≡ act
-unfolding act_of
-named name rest act l stop commit e = rw (stop, commit, split_once_front 32 name rest l, e) refl
-
-stop_again : act_of (codes "stop") ≡ Some Stop
-unfolding act_of
-stop_again = refl
-
-commit_again : act_of (codes "commit") ≡ Some Commit
-unfolding act_of
-commit_again = refl
-
-below_value : (width value : ℕ) → IsTrue (is_width width) → value < 256 ^ width → value ≤ 256 ^ width - 1
-below_value width value h fits = omega arith
+-- the largest value of a width is below 2 ^ 64
+room : (width : ℕ) → IsTrue (is_width width) → 256 ^ width - 1 < 2 ^ 64
+room width h = omega (arith, widest width h)
 
 got_below : (width : ℕ) (got : Option ℕ) → IfSome got (λ value. value < 256 ^ width) → IfSome got (λ value. value ≤ 256 ^ width - 1)
 got_below width None fits = tt
@@ -111,55 +28,112 @@ instruction_below : (got : Option ℕ) → IfSome got (λ value. value < 2 ^ 32)
 instruction_below None fits = tt
 instruction_below (Some value) fits = omega arith
 
--- the largest value of a width is below 2 ^ 64
-room : (width : ℕ) → IsTrue (is_width width) → 256 ^ width - 1 < 2 ^ 64
-room width h = omega (arith, widest width h)
+read_again : (width at : ℕ) (got : Option ℕ) (rest : List ℕ) → IsTrue (is_width width) → at < 2 ^ 64 → IfSome got (λ value. value < 256 ^ width)
+    → read_of (join_with_byte 32 (decimal width ∷ hexadecimal at ∷ codes "=" ∷ got_text got ∷ []) ++ 10 ∷ rest) ≡ Some (Read width at got, rest)
+unfolding read_of
+read_again width at got rest h small fits =
+    rw (
+      behind_word (decimal width) (hexadecimal at ++ 32 ∷ 61 ∷ 32 ∷ got_text got) (10 ∷ rest),
+      behind_word (hexadecimal at) (61 ∷ 32 ∷ got_text got) (10 ∷ rest),
+      width_again width (hexadecimal at ++ 32 ∷ 61 ∷ 32 ∷ (got_text got ++ 10 ∷ rest)) h,
+      hexadecimal_again 32 max_u64 at (61 ∷ 32 ∷ (got_text got ++ 10 ∷ rest)) refl small (omega arith),
+      got_again (256 ^ width - 1) got rest (room width h) (got_below width got fits),
+    ) refl
 
-attempted : (width at value : ℕ) (ok : Bool) → IsTrue (is_width width) → at < 2 ^ 64 → value < 256 ^ width
-    → attempt_of (decimal width ++ 32 ∷ (hexadecimal at ++ 32 ∷ (hexadecimal value ++ 32 ∷ (61 ∷ 32 ∷ ok_text ok)))) ≡ Some (width, at, value, ok)
-attempted width at value ok h small fits =
-    let narrow : width ≤ 8 = width_le width h in
+attempt_again : (width at value : ℕ) (ok : Bool) (rest : List ℕ) → IsTrue (is_width width) → at < 2 ^ 64 → value < 256 ^ width
+    → attempt_of (join_with_byte 32 (attempt_words width at value ok) ++ 10 ∷ rest) ≡ Some ((width, at, value, ok), rest)
+unfolding attempt_of
+attempt_again width at value ok rest h small fits =
     let below : value < 2 ^ 64 = omega (arith, widest width h) in
-    attempt_again (decimal width) (hexadecimal at) (hexadecimal value) (ok_text ok) width at value ok
-    (decimal_lacks width (omega arith)) (hexadecimal_lacks at small) (hexadecimal_lacks value below)
-    (width_again width h) (hexadecimal_again max_u64 at small (omega arith)) (hexadecimal_again (256 ^ width - 1) value below (below_value width value h fits)) (ok_again ok)
+    rw (
+      behind_word (decimal width) (hexadecimal at ++ 32 ∷ (hexadecimal value ++ 32 ∷ 61 ∷ 32 ∷ ok_text ok)) (10 ∷ rest),
+      behind_word (hexadecimal at) (hexadecimal value ++ 32 ∷ 61 ∷ 32 ∷ ok_text ok) (10 ∷ rest),
+      behind_word (hexadecimal value) (61 ∷ 32 ∷ ok_text ok) (10 ∷ rest),
+      width_again width (hexadecimal at ++ 32 ∷ (hexadecimal value ++ 32 ∷ 61 ∷ 32 ∷ (ok_text ok ++ 10 ∷ rest))) h,
+      hexadecimal_again 32 max_u64 at (hexadecimal value ++ 32 ∷ 61 ∷ 32 ∷ (ok_text ok ++ 10 ∷ rest)) refl small (omega arith),
+      hexadecimal_again 32 (256 ^ width - 1) value (61 ∷ 32 ∷ (ok_text ok ++ 10 ∷ rest)) refl below (omega arith),
+      ok_again ok rest,
+    ) refl
+
+write_again : (width at value : ℕ) (ok : Bool) (rest : List ℕ) → IsTrue (is_width width) → at < 2 ^ 64 → value < 256 ^ width
+    → write_of (join_with_byte 32 (attempt_words width at value ok) ++ 10 ∷ rest) ≡ Some (Write width at value ok, rest)
+unfolding write_of
+write_again width at value ok rest h small fits = rw (attempt_again width at value ok rest h small fits) refl
+
+await_again : (width at value : ℕ) (ok : Bool) (rest : List ℕ) → IsTrue (is_width width) → at < 2 ^ 64 → value < 256 ^ width
+    → await_of (join_with_byte 32 (attempt_words width at value ok) ++ 10 ∷ rest) ≡ Some (Await width at value ok, rest)
+unfolding await_of
+await_again width at value ok rest h small fits = rw (attempt_again width at value ok rest h small fits) refl
+
+fetch_again : (at : ℕ) (got : Option ℕ) (rest : List ℕ) → at < 2 ^ 64 → IfSome got (λ value. value < 2 ^ 32)
+    → fetch_of (join_with_byte 32 (hexadecimal at ∷ codes "=" ∷ got_text got ∷ []) ++ 10 ∷ rest) ≡ Some (Fetch at got, rest)
+unfolding fetch_of
+fetch_again at got rest small fits =
+    rw (
+      behind_word (hexadecimal at) (61 ∷ 32 ∷ got_text got) (10 ∷ rest),
+      hexadecimal_again 32 max_u64 at (61 ∷ 32 ∷ (got_text got ++ 10 ∷ rest)) refl small (omega arith),
+      got_again (2 ^ 32 - 1) got rest (omega arith) (instruction_below got fits),
+    ) refl
+
+irq_again : (device vector : ℕ) (rest : List ℕ) → device < 2 ^ 32 → vector < 256 → irq_of (join_with_byte 32 (decimal device ∷ decimal vector ∷ []) ++ 10 ∷ rest) ≡ Some (Irq device vector, rest)
+unfolding irq_of
+irq_again device vector rest d v =
+    rw (
+      behind_word (decimal device) (decimal vector) (10 ∷ rest),
+      decimal_again 32 (2 ^ 32 - 1) device (decimal vector ++ 10 ∷ rest) refl (omega arith) (omega arith),
+      decimal_again 10 255 vector rest refl (omega arith) (omega arith),
+    ) refl
+
+-- a call with its code and its two arguments, and what comes of it
+call_by : (code a b : ℕ) (word rest : List ℕ) (act : Act) → code < 2 ^ 64 → a < 2 ^ 64 → b < 2 ^ 64 → outcome_of code a b (word ++ 10 ∷ rest) ≡ Some (act, rest)
+    → call_of (join_with_byte 32 (decimal code ∷ hexadecimal a ∷ hexadecimal b ∷ codes "=" ∷ word ∷ []) ++ 10 ∷ rest) ≡ Some (act, rest)
+unfolding call_of
+call_by code a b word rest act c x y outcome =
+    rw (
+      behind_word (decimal code) (hexadecimal a ++ 32 ∷ (hexadecimal b ++ 32 ∷ 61 ∷ 32 ∷ word)) (10 ∷ rest),
+      behind_word (hexadecimal a) (hexadecimal b ++ 32 ∷ 61 ∷ 32 ∷ word) (10 ∷ rest),
+      behind_word (hexadecimal b) (61 ∷ 32 ∷ word) (10 ∷ rest),
+      decimal_again 32 max_u64 code (hexadecimal a ++ 32 ∷ (hexadecimal b ++ 32 ∷ 61 ∷ 32 ∷ (word ++ 10 ∷ rest))) refl c (omega arith),
+      hexadecimal_again 32 max_u64 a (hexadecimal b ++ 32 ∷ 61 ∷ 32 ∷ (word ++ 10 ∷ rest)) refl x (omega arith),
+      hexadecimal_again 32 max_u64 b (61 ∷ 32 ∷ (word ++ 10 ∷ rest)) refl y (omega arith),
+      outcome,
+    ) refl
+
+pub begin_again : (code a b : ℕ) (rest : List ℕ) → outcome_of code a b (codes "begin" ++ 10 ∷ rest) ≡ Some (Begin code a b, rest)
+unfolding outcome_of
+begin_again code a b rest = refl
+
+pub hvc_again : (code a b : ℕ) (answer : ℤ) (rest : List ℕ) → FitsSigned w64 answer → outcome_of code a b (signed_decimal answer ++ 10 ∷ rest) ≡ Some (Hvc code a b answer, rest)
+unfolding outcome_of
+hvc_again code a b answer rest z =
+    rw (answer_is_not answer rest 98 (101 ∷ 103 ∷ 105 ∷ 110 ∷ 10 ∷ []) z (omega arith) (omega arith) (omega arith), answer_again answer rest z) refl
+
+noted_again : (id : ℕ) (how : Heard) (rest : List ℕ) → id < 2 ^ 32 → noted_of (join_with_byte 32 (decimal id ∷ codes "=" ∷ heard_text how ∷ []) ++ 10 ∷ rest) ≡ Some (Noted id how, rest)
+unfolding noted_of
+noted_again id how rest small =
+    rw (
+      behind_word (decimal id) (61 ∷ 32 ∷ heard_text how) (10 ∷ rest),
+      decimal_again 32 (2 ^ 32 - 1) id (61 ∷ 32 ∷ (heard_text how ++ 10 ∷ rest)) refl (omega arith) (omega arith),
+      heard_again how rest,
+    ) refl
 
 -- the words of each act lead to the act
-pub act_again : (act : Act) → IsReadableAct act → act_of (join_with_byte 32 (act_words act)) ≡ Some act
-unfolding named_of
-act_again (Read width at got) (h, small, fits) =
-    let narrow : width ≤ 8 = width_le width h in
-    named (codes "read") _ _ (record { none = refl }) refl refl
-    (read_again (decimal width) (hexadecimal at) (got_text got) width at got (decimal_lacks width (omega arith)) (hexadecimal_lacks at small)
-    (width_again width h) (hexadecimal_again max_u64 at small (omega arith)) (got_again (256 ^ width - 1) got (room width h) (got_below width got fits)))
-act_again (Write width at value ok) (h, small, fits) =
-    named (codes "write") _ _ (record { none = refl }) refl refl (write_again _ width at value ok (attempted width at value ok h small fits))
-act_again (Fetch at got) (small, fits) =
-    named (codes "fetch") _ _ (record { none = refl }) refl refl
-    (fetch_again (hexadecimal at) (got_text got) at got (hexadecimal_lacks at small) (hexadecimal_again max_u64 at small (omega arith)) (got_again (2 ^ 32 - 1) got (omega arith) (instruction_below got fits)))
-act_again (Await width at value ok) (h, small, fits) =
-    named (codes "await") _ _ (record { none = refl }) refl refl (await_again _ width at value ok (attempted width at value ok h small fits))
-act_again (Irq device vector) (d, v) =
-    named (codes "irq") _ _ (record { none = refl }) refl refl
-    (irq_again (decimal device) (decimal vector) device vector (decimal_lacks device (omega arith)) (decimal_again (2 ^ 32 - 1) device (omega arith) (omega arith)) (decimal_again 255 vector (omega arith) (omega arith)))
-act_again (Hvc code a b answer) (c, x, y, z) =
-    named (codes "hvc") _ _ (record { none = refl }) refl refl
-    (call_again (decimal code) (hexadecimal a) (hexadecimal b) (signed_decimal answer) code a b answer (decimal_lacks code c) (hexadecimal_lacks a x) (hexadecimal_lacks b y)
-    (decimal_again max_u64 code c (omega arith)) (hexadecimal_again max_u64 a x (omega arith)) (hexadecimal_again max_u64 b y (omega arith))
-    (answer_is_not answer 98 (101 ∷ 103 ∷ 105 ∷ 110 ∷ []) z (omega arith) (omega arith)) (answer_again answer z))
-act_again (Begin code a b) (c, x, y) =
-    named (codes "hvc") _ _ (record { none = refl }) refl refl
-    (begin_again (decimal code) (hexadecimal a) (hexadecimal b) code a b (decimal_lacks code c) (hexadecimal_lacks a x) (hexadecimal_lacks b y)
-    (decimal_again max_u64 code c (omega arith)) (hexadecimal_again max_u64 a x (omega arith)) (hexadecimal_again max_u64 b y (omega arith)))
-act_again Stop h = stop_again
-act_again (Decide refused) fits = named (codes "decide") _ _ (record { none = refl }) refl refl (decide_again (decision_text refused) refused (decision_again refused fits))
-act_again (Settle how) h = named (codes "settle") _ _ (record { none = refl }) refl refl (settle_again (settled_text how) how (settled_again how))
-act_again Commit h = commit_again
-act_again (Note id) small = named (codes "note") _ _ (record { none = refl }) refl refl (note_again (decimal id) id (decimal_again (2 ^ 32 - 1) id (omega arith) (omega arith)))
-act_again (Noted id how) small =
-    named (codes "noted") _ _ (record { none = refl }) refl refl
-    (noted_again (decimal id) (heard_text how) id how (decimal_lacks id (omega arith)) (decimal_again (2 ^ 32 - 1) id (omega arith) (omega arith)) (heard_again how))
-act_again (Finish answer) z = named (codes "finish") _ _ (record { none = refl }) refl refl (finish_again (signed_decimal answer) answer (answer_again answer z))
+pub act_again : (act : Act) (rest : List ℕ) → IsReadableAct act → act_of (join_with_byte 32 (act_words act) ++ 10 ∷ rest) ≡ Some (act, rest)
+unfolding act_of act_of_call
+act_again (Read width at got) rest (h, small, fits) = read_again width at got rest h small fits
+act_again (Write width at value ok) rest (h, small, fits) = write_again width at value ok rest h small fits
+act_again (Fetch at got) rest (small, fits) = fetch_again at got rest small fits
+act_again (Await width at value ok) rest (h, small, fits) = await_again width at value ok rest h small fits
+act_again (Irq device vector) rest (d, v) = irq_again device vector rest d v
+act_again (Hvc code a b answer) rest (c, x, y, z) = call_by code a b (signed_decimal answer) rest (Hvc code a b answer) c x y (hvc_again code a b answer rest z)
+act_again (Begin code a b) rest (c, x, y) = call_by code a b (codes "begin") rest (Begin code a b) c x y (begin_again code a b rest)
+act_again Stop rest h = refl
+act_again (Decide refused) rest fits = rw (decision_again refused rest fits) refl
+act_again (Settle how) rest h = rw (settled_again how rest) refl
+act_again Commit rest h = refl
+act_again (Note id) rest small = rw (decimal_again 10 (2 ^ 32 - 1) id rest refl (omega arith) (omega arith)) refl
+act_again (Noted id how) rest small = noted_again id how rest small
+act_again (Finish answer) rest z = rw (answer_again answer rest z) refl
 
 -- after the CPU and the cell comes the act
 text_parts : (cpu cell : List ℕ) (act : Act) → join_with_byte 32 (cpu ∷ cell ∷ act_words act) ≡ cpu ++ 32 ∷ (cell ++ 32 ∷ join_with_byte 32 (act_words act))
@@ -178,17 +152,25 @@ text_parts cpu cell (Note id) = refl
 text_parts cpu cell (Noted id how) = refl
 text_parts cpu cell (Finish answer) = refl
 
-parts_again : (cpu cell act : List ℕ) (c id : ℕ) (a : Act) → Lacks 32 cpu → Lacks 32 cell → number_of 10 15 cpu ≡ Some c → number_of 10 (2 ^ 32 - 1) cell ≡ Some id → act_of act ≡ Some a
-    → entry_of (cpu ++ 32 ∷ (cell ++ 32 ∷ act)) ≡ Some (record { cpu = c; cell = id; act = a })
-unfolding entry_of
-parts_again cpu cell act c id a l m cpu_is cell_is act_is =
-    rw (split_once_front 32 cpu (cell ++ 32 ∷ act) l, split_once_front 32 cell act m, cpu_is, cell_is, act_is) refl
+line_parts : (cpu cell act rest : List ℕ) → ((cpu ++ 32 ∷ (cell ++ 32 ∷ act)) ++ 10 ∷ []) ++ rest ≡ cpu ++ 32 ∷ (cell ++ 32 ∷ (act ++ 10 ∷ rest))
+line_parts cpu cell act rest =
+    append_assoc (cpu ++ 32 ∷ (cell ++ 32 ∷ act)) (10 ∷ []) rest
+    ∙ behind_word cpu (cell ++ 32 ∷ act) (10 ∷ rest)
+    ∙ ap (λ t. cpu ++ 32 ∷ t) (behind_word cell act (10 ∷ rest))
 
--- the text of an entry leads to the entry
-pub entry_again : (entry : Entry) → IsReadable entry → entry_of (entry_text entry) ≡ Some entry
-entry_again entry h =
-    let c = h.cpu in
-    let i = h.cell in
-    ap entry_of (text_parts (decimal entry.cpu) (decimal entry.cell) entry.act)
-    ∙ parts_again (decimal entry.cpu) (decimal entry.cell) (join_with_byte 32 (act_words entry.act)) entry.cpu entry.cell entry.act
-    (decimal_lacks entry.cpu (omega arith)) (decimal_lacks entry.cell (omega arith)) (decimal_again 15 entry.cpu (omega arith) (omega arith)) (decimal_again (2 ^ 32 - 1) entry.cell (omega arith) (omega arith)) (act_again entry.act h.act)
+parts_again : (cpu cell : ℕ) (act : Act) (rest : List ℕ) → cpu < 16 → cell < 2 ^ 32 → IsReadableAct act
+    → entry_of (decimal cpu ++ 32 ∷ (decimal cell ++ 32 ∷ (join_with_byte 32 (act_words act) ++ 10 ∷ rest))) ≡ Some (record { cpu = cpu; cell = cell; act = act }, rest)
+unfolding entry_of
+parts_again cpu cell act rest c i h =
+    rw (
+      decimal_again 32 15 cpu (decimal cell ++ 32 ∷ (join_with_byte 32 (act_words act) ++ 10 ∷ rest)) refl (omega arith) (omega arith),
+      decimal_again 32 (2 ^ 32 - 1) cell (join_with_byte 32 (act_words act) ++ 10 ∷ rest) refl (omega arith) (omega arith),
+      act_again act rest h,
+    ) refl
+
+-- the line of an entry leads to the entry, and to what stands behind it
+pub entry_again : (entry : Entry) (rest : List ℕ) → IsReadable entry → entry_of (line entry ++ rest) ≡ Some (entry, rest)
+entry_again entry rest h =
+    ap (λ t. entry_of ((t ++ 10 ∷ []) ++ rest)) (text_parts (decimal entry.cpu) (decimal entry.cell) entry.act)
+    ∙ ap entry_of (line_parts (decimal entry.cpu) (decimal entry.cell) (join_with_byte 32 (act_words entry.act)) rest)
+    ∙ parts_again entry.cpu entry.cell entry.act rest h.cpu h.cell h.act

@@ -5,7 +5,6 @@ use Rattle.std.specs.Str.{bytes_eq}
 use Rattle.std.specs.List.{AllByRecursion}
 use Rattle.std.proofs.lemmas.Bool.{cases_Bool, cases_lt, both_ways, false≢true}
 use Rattle.std.proofs.lemmas.List.{append-nil}
-use Rattle.std.proofs.lemmas.Option.{same_Some}
 use Rattle.std.proofs.lemmas.Slice.Eq.{bytes_eq-Decides}
 use Rattle.jh_history.specs.declared.entry.Entry.{Entry}
 use Rattle.jh_history.specs.declared.entry.Act.{Act}
@@ -14,9 +13,8 @@ use Rattle.jh_text.specs.declared.fault.TheConstants.{MAX_ENTRIES}
 use Rattle.jh_text.specs.Ranges.{is_width, IsReadableAct, IsReadable}
 use Rattle.jh_text.specs.Text.{entry_text, line, journal_text}
 use Rattle.jh_text.specs.Faults.{BeginsWithNoLine, HasAnswer}
-use Rattle.jh_text.specs.Private.Reading.{split_once, entry_of}
-use Rattle.jh_text.proofs.Lines.{first_text, no_line_unsplit, no_line_untold, no_line_other, line_found, all_push, text_push, too_long}
-use Rattle.jh_text.proofs.Acts.{entry_again}
+use Rattle.jh_text.specs.Private.Reading.{entry_of}
+use Rattle.jh_text.proofs.Lines.{no_line, first_entry, all_push, text_push, too_long}
 
 -- ---- whether an entry is readable is told by its numbers
 
@@ -97,26 +95,25 @@ record FirstLine (text : List ℕ) : Type 0 where
   readable : IsReadable entry
   whole : text ≡ line entry ++ rest
 
-line_by : (text front back : List ℕ) → split_once 10 text ≡ Some (front, back) → (found : Entry) → entry_of front ≡ Some found → entry_text found ≡ front
-    → FirstLine text ⊎ BeginsWithNoLine text
-line_by text front back split found told spelled = elim (readable found) as (λ _. FirstLine text ⊎ BeginsWithNoLine text) [
-  | inl h ↦ inl (record { entry = found; rest = back; readable = h; whole = line_found text front back found split spelled })
-  | inr never ↦ inr (λ entry rest h e.
-      let is : front ≡ entry_text entry = first_text text front back rest entry split h e in
-      let same : entry ≡ found = sym (same_Some found entry (sym told ∙ ap entry_of is ∙ entry_again entry h)) in
-      never (subst IsReadable same h))
+line_by : (text rest : List ℕ) (found : Entry) → entry_of text ≡ Some (found, rest) → text ≡ line found ++ rest → FirstLine text ⊎ BeginsWithNoLine text
+line_by text rest found read spelled = elim (readable found) as (λ _. FirstLine text ⊎ BeginsWithNoLine text) [
+  | inl h ↦ inl (record { entry = found; rest = rest; readable = h; whole = spelled })
+  | inr never ↦ inr (λ entry more h e. never (subst IsReadable (sym (first_entry text rest more found entry read h e).0) h))
 ]
 
-found_by : (text front back : List ℕ) → split_once 10 text ≡ Some (front, back) → (o : Option Entry) → entry_of front ≡ o → FirstLine text ⊎ BeginsWithNoLine text
-found_by text front back split None told = inr (no_line_untold text front back split told)
-found_by text front back split (Some found) told = elim (cases_Bool (bytes_eq front (entry_text found))) as (λ _. FirstLine text ⊎ BeginsWithNoLine text) [
-  | inl same ↦ line_by text front back split found told (sym ((bytes_eq-Decides front (entry_text found)).0 same))
-  | inr differ ↦ inr (no_line_other text front back found split told (λ e. false≢true (sym differ ∙ (bytes_eq-Decides front (entry_text found)).1 (sym e))))
+-- an entry is read, with this line or with another
+line_if : (text rest : List ℕ) (found : Entry) → entry_of text ≡ Some (found, rest) → FirstLine text ⊎ BeginsWithNoLine text
+line_if text rest found read = elim (cases_Bool (bytes_eq text (line found ++ rest))) as (λ _. FirstLine text ⊎ BeginsWithNoLine text) [
+  | inl same ↦ line_by text rest found read ((bytes_eq-Decides text (line found ++ rest)).0 same)
+  | inr differ ↦ inr (λ entry more h e.
+      let is = first_entry text rest more found entry read h e in
+      let spelled : text ≡ line found ++ rest = e ∙ (λ i. line (sym is.0 i) ++ sym is.1 i) in
+      false≢true (sym differ ∙ (bytes_eq-Decides text (line found ++ rest)).1 spelled))
 ]
 
-split_by : (text : List ℕ) (o : Option (List ℕ × List ℕ)) → split_once 10 text ≡ o → FirstLine text ⊎ BeginsWithNoLine text
-split_by text None none = inr (no_line_unsplit text none)
-split_by text (Some parts) is = found_by text parts.0 parts.1 is (entry_of parts.0) refl
+first_by : (text : List ℕ) (o : Option (Entry × List ℕ)) → entry_of text ≡ o → FirstLine text ⊎ BeginsWithNoLine text
+first_by text None none = inr (no_line text none)
+first_by text (Some x) read = line_if text x.1 x.0 read
 
 -- ---- line by line
 
@@ -132,7 +129,7 @@ answer_from : (most : ℕ) (text : List ℕ) (before : List Entry) (rest : List 
 answer_from most text before [] all within whole small =
     inl (before, record { readable = all; within = within; whole = whole ∙ append-nil (journal_text before) })
 answer_from zero text before (c ∷ cs) all within whole small = absurd (let no : ⊥ = omega arith in no)
-answer_from (suc most) text before (c ∷ cs) all within whole small = elim (split_by (c ∷ cs) (split_once 10 (c ∷ cs)) refl) as (λ _. HasAnswer text) [
+answer_from (suc most) text before (c ∷ cs) all within whole small = elim (first_by (c ∷ cs) (entry_of (c ∷ cs)) refl) as (λ _. HasAnswer text) [
   | inr none ↦ inr (inl (length before + 1, record { before = before; rest = c ∷ cs; readable = all; within = within; number_is = refl; whole = whole; more = no_nil c cs; bad = none }))
   | inl first ↦ elim (cases_lt (length before) MAX_ENTRIES) as (λ _. HasAnswer text) [
     | inl room ↦

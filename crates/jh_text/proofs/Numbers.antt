@@ -1,52 +1,17 @@
 -- What the reader makes of digits.
-use Rattle.std.proofs.Common.{◌≡◌, ◌&&◌, ℕ, ◌^◌, ◌<◌, ◌≤◌, Bool, true, false, eqb, nat_le, nat_lt, if◌then◌else◌, List, [], ◌∷◌, Some, None, refl, sym, ap, ◌∙◌, arith}
-use Rattle.std.specs.Char.{digit_value}
+use Rattle.std.proofs.Common.{◌≡◌, ◌&&◌, ℕ, ◌+◌, ◌*◌, ◌^◌, ◌<◌, ◌≤◌, Bool, true, false, not, eqb, nat_le, nat_lt, if◌then◌else◌, ◌==◌, List, [], ◌∷◌, ◌++◌, length, drop, get_or, Option, Some, None, refl, sym, ap, ◌∙◌, subst, arith}
+use Rattle.std.specs.Char.{digit_value, is_digit}
 use Rattle.std.specs.Fmt.{digits}
-use Rattle.std.specs.Str.Parse.{AllDigits, digits_value}
-use Rattle.std.proofs.lemmas.Bool.{lt-ltb, ltb-true, le-leb, ne_eqb, and_parts}
+use Rattle.std.specs.List.{list_all}
+use Rattle.std.specs.Str.Parse.{AllDigits, digits_value, digits_value_after}
+use Rattle.std.proofs.lemmas.Bool.{lt-ltb, ltb-true, le-leb, ne_eqb, eq-eqb, eqb-true, and_parts, false≢true}
+use Rattle.std.proofs.lemmas.List.{at_drop_more, at_drop_all}
 use Rattle.std.proofs.lemmas.Fmt.{digits_is_IsNumeral}
-use Rattle.jh_script.specs.Numbers.{are_digits, value_of}
 use Rattle.std.proofs.lemmas.Option.{none-some, same_Some}
 use Rattle.std.proofs.Math.Nat.{pow-le-pow_left}
-use Rattle.jh_text.specs.Private.Reading.{◌>>=◌, is_plain, number_of}
-use Rattle.jh_text.proofs.Plain.{digits_of_plain, plain_digits}
+use Rattle.jh_text.specs.Private.Reading.{◌>>=◌, is_lower, lower_digit, with_digit, digits_until, begins_plain, number_until}
+use Rattle.jh_text.proofs.Plain.{is_plain, digits_of_plain, plain_digits, several_plain, value_ge}
 use Rattle.jh_text.proofs.Splits.{Lacks, Lacks_cons}
-
--- where each byte is a digit, all are
-are_digits_all : (radix : ℕ) (ds : List ℕ) → AllDigits radix ds → are_digits radix ds ≡ true
-unfolding are_digits
-are_digits_all radix [] all = refl
-are_digits_all radix (d ∷ ds) all =
-    let rest = are_digits_all radix ds all.1 in
-    rw (lt-ltb (digit_value d) radix all.0) rest
-
--- the digits of a number are read again
-pub number_again : (radix most n : ℕ) → 2 ≤ radix → radix ≤ 16 → n < radix ^ 64 → n < 2 ^ 64 → n ≤ most → number_of radix most (digits radix false n) ≡ Some n
-unfolding value_of
-number_again radix most n low high some small fits =
-    let own = digits_is_IsNumeral radix false low high n some in
-    rw (plain_digits radix n low some, are_digits_all radix (digits radix false n) own.0.1, own.1, lt-ltb n (2 ^ 64) small, le-leb n most fits) refl
-
-bounded : (most value n : ℕ) (within : Bool) → (if within then Some value else None) ≡ Some n → value ≡ n
-bounded most value n false e = absurd (none-some n e)
-bounded most value n true e = same_Some value n e
-
-told : (most value n : ℕ) (plain known : Bool) → (if plain then ((if known then Some value else None) >>= λ m. if nat_le m most then Some m else None) else None) ≡ Some n
-    → (plain ≡ true) × (known ≡ true) × (value ≡ n)
-told most value n false known e = absurd (none-some n e)
-told most value n true false e = absurd (none-some n e)
-told most value n true true e = (refl, refl, bounded most value n (nat_le value most) e)
-
--- what is read is the text of the number
-pub number_spelled : (radix most n : ℕ) (word : List ℕ) → 2 ≤ radix → radix ≤ 16 → number_of radix most word ≡ Some n → word ≡ digits radix false n
-unfolding value_of are_digits
-number_spelled radix most n word low high e =
-    let value = digits_value radix word in
-    let found : (is_plain word ≡ true) × ((are_digits radix word && nat_lt value (2 ^ 64)) ≡ true) × (value ≡ n) =
-    told most value n (is_plain word) (are_digits radix word && nat_lt value (2 ^ 64)) e in
-    let parts : (are_digits radix word ≡ true) × (nat_lt value (2 ^ 64) ≡ true) = and_parts _ _ found.1 in
-    let small : value < 2 ^ 64 = ltb-true value (2 ^ 64) parts.1 in
-    sym (digits_of_plain radix word low high parts.0 found.0 (omega (arith, pow-le-pow_left low 64))) ∙ ap (digits radix false) found.2
 
 -- a byte that is no digit, such as a space or a line feed, is none of the digits of a number
 no_digit : (radix byte d : ℕ) → radix ≤ 16 → digit_value byte ≡ 36 → digit_value d < radix → eqb d byte ≡ false
@@ -58,3 +23,163 @@ digits_lack radix byte (d ∷ ds) high none all = Lacks_cons byte d ds (no_digit
 
 pub Lacks_digits : (radix byte n : ℕ) → 2 ≤ radix → radix ≤ 16 → n < radix ^ 64 → digit_value byte ≡ 36 → Lacks byte (digits radix false n)
 Lacks_digits radix byte n low high small none = digits_lack radix byte (digits radix false n) high none (digits_is_IsNumeral radix false low high n small).0.1
+
+-- ---- digit by digit
+
+-- the end is found
+pub until_here : (radix end n : ℕ) (text : List ℕ) (i : ℕ) → i < length text → (get_or text i 0 == end) ≡ true → digits_until radix end n (drop i text) ≡ Some (n, drop (i + 1) text)
+unfolding digits_until
+until_here radix end n text i h is = at_drop_more (digits_until radix end n) text i 0 h ∙ rw is refl
+
+-- one more digit
+pub until_more : (radix end n d m : ℕ) (text : List ℕ) (i : ℕ) → i < length text → (get_or text i 0 == end) ≡ false → lower_digit radix (get_or text i 0) ≡ Some d → with_digit radix n d ≡ Some m
+    → digits_until radix end n (drop i text) ≡ digits_until radix end m (drop (i + 1) text)
+unfolding digits_until
+until_more radix end n d m text i h other digit next = at_drop_more (digits_until radix end n) text i 0 h ∙ rw (other, digit, next) refl
+
+-- a byte that is neither the end nor makes a number
+pub until_none : (radix end n : ℕ) (text : List ℕ) (i : ℕ) → i < length text → (get_or text i 0 == end) ≡ false → (lower_digit radix (get_or text i 0) >>= λ d. with_digit radix n d) ≡ None
+    → digits_until radix end n (drop i text) ≡ None
+unfolding digits_until
+until_none radix end n text i h other none = at_drop_more (digits_until radix end n) text i 0 h ∙ rw other (by (lower_digit radix (get_or text i 0)) none)
+  where
+    by : (o : Option ℕ) → (o >>= λ d. with_digit radix n d) ≡ None → (o >>= λ d. with_digit radix n d >>= λ m. digits_until radix end m (drop (i + 1) text)) ≡ None
+    by None e = refl
+    by (Some d) e = rw e refl
+
+-- no end is found
+pub until_all : (radix end n : ℕ) (text : List ℕ) (i : ℕ) → length text ≤ i → digits_until radix end n (drop i text) ≡ None
+unfolding digits_until
+until_all radix end n text i h = at_drop_all (digits_until radix end n) text i h
+
+-- ---- from the digits of a number to the number
+
+-- digits are read one after the other
+on_again : (radix end n : ℕ) (ds rest : List ℕ) → 0 < radix → radix ≤ 16 → digit_value end ≡ 36 → AllDigits radix ds → list_all is_lower ds ≡ true → digits_value_after radix n ds < 2 ^ 64
+    → digits_until radix end n (ds ++ end ∷ rest) ≡ Some (digits_value_after radix n ds, rest)
+unfolding digits_until
+on_again radix end n [] rest some high none all lower small = rw (eq-eqb end end refl) refl
+on_again radix end n (d ∷ ds) rest some high none all lower small =
+    let plain : (is_lower d ≡ true) × (list_all is_lower ds ≡ true) = and_parts _ _ lower in
+    let m : ℕ = n * radix + digit_value d in
+    let below : m < 2 ^ 64 = omega (arith, value_ge radix m ds some, small) in
+    rw (no_digit radix end d high none all.0, plain.0, lt-ltb (digit_value d) radix all.0, lt-ltb m (2 ^ 64) below)
+    (on_again radix end m ds rest some high none all.1 plain.1 small)
+
+-- the word before the end is plain where the text begins so
+begins_again : (radix end : ℕ) (ds rest : List ℕ) → radix ≤ 16 → digit_value end ≡ 36 → AllDigits radix ds → is_plain ds ≡ true → begins_plain end (ds ++ end ∷ rest) ≡ true
+begins_again radix end [] rest high none all plain = absurd (false≢true plain)
+begins_again radix end (c ∷ []) rest high none all plain = by (eqb c 48)
+  where
+    by : (t : Bool) → (if t then end == end else not (c == end)) ≡ true
+    by true = eq-eqb end end refl
+    by false = rw (no_digit radix end c high none all.0) refl
+begins_again radix end (c ∷ d ∷ ds) rest high none all plain =
+    let nonzero : eqb c 48 ≡ false = (several_plain (c == 48) (list_all is_lower (c ∷ d ∷ ds)) plain).0 in
+    rw (nonzero, no_digit radix end c high none all.0) refl
+
+-- the digits of a number are read again
+pub number_again : (radix end most n : ℕ) (rest : List ℕ) → 2 ≤ radix → radix ≤ 16 → digit_value end ≡ 36 → n < radix ^ 64 → n < 2 ^ 64 → n ≤ most
+    → number_until radix end most (digits radix false n ++ end ∷ rest) ≡ Some (n, rest)
+unfolding number_until
+number_again radix end most n rest low high none some small fits =
+    let own = digits_is_IsNumeral radix false low high n some in
+    let plain = plain_digits radix n low some in
+    let value : digits_value_after radix 0 (digits radix false n) ≡ n = own.1 in
+    rw (
+      begins_again radix end (digits radix false n) rest high none own.0.1 plain,
+      on_again radix end 0 (digits radix false n) rest (omega arith) high none own.0.1 (lower_of (digits radix false n) plain) (rw value small),
+      value,
+      le-leb n most fits,
+    ) refl
+  where
+    lower_of : (ds : List ℕ) → is_plain ds ≡ true → list_all is_lower ds ≡ true
+    lower_of [] plain = absurd (false≢true plain)
+    lower_of (c ∷ []) plain = plain
+    lower_of (c ∷ d ∷ ds) plain = (several_plain _ _ plain).1
+
+-- ---- from what is read to the text
+
+-- the digits that were read before the end, of a number that they write behind those of n
+record Digits (radix end n : ℕ) (text : List ℕ) (value : ℕ) (rest : List ℕ) : Type 0 where
+  ds : List ℕ
+  whole : text ≡ ds ++ end ∷ rest
+  digits : list_all (λ c. is_digit c radix) ds ≡ true
+  lower : list_all is_lower ds ≡ true
+  is : digits_value_after radix n ds ≡ value
+  small : value < 2 ^ 64
+
+on_spelled : (radix end n value : ℕ) (text rest : List ℕ) → n < 2 ^ 64 → digits_until radix end n text ≡ Some (value, rest) → Digits radix end n text value rest
+unfolding digits_until
+on_spelled radix end n value [] rest small e = absurd (none-some _ e)
+on_spelled radix end n value (c ∷ text) rest small e = by (λ m below read. on_spelled radix end m value text rest below read) (eqb c end) refl e
+  where
+    more : ((m : ℕ) → m < 2 ^ 64 → digits_until radix end m text ≡ Some (value, rest) → Digits radix end m text value rest)
+        → (lower digit fits : Bool) → is_lower c ≡ lower → nat_lt (digit_value c) radix ≡ digit → nat_lt (n * radix + digit_value c) (2 ^ 64) ≡ fits
+        → ((if lower && digit then Some (digit_value c) else None) >>= λ d. (if nat_lt (n * radix + d) (2 ^ 64) then Some (n * radix + d) else None) >>= λ m. digits_until radix end m text) ≡ Some (value, rest)
+        → Digits radix end n (c ∷ text) value rest
+    more next false digit fits l d f e = absurd (none-some _ e)
+    more next true false fits l d f e = absurd (none-some _ e)
+    more next true true false l d f e = absurd (none-some _ (rw f at e))
+    more next true true true l d f e =
+        let on = next (n * radix + digit_value c) (ltb-true _ _ f) (rw f at e) in
+        record {
+          ds = c ∷ on.ds;
+          whole = ap (λ t. c ∷ t) on.whole;
+          digits = rw d on.digits;
+          lower = rw l on.lower;
+          is = on.is;
+          small = on.small;
+        }
+
+    by : ((m : ℕ) → m < 2 ^ 64 → digits_until radix end m text ≡ Some (value, rest) → Digits radix end m text value rest)
+        → (t : Bool) → eqb c end ≡ t
+        → (if t then Some (n, text) else (lower_digit radix c >>= λ digit. with_digit radix n digit >>= λ m. digits_until radix end m text)) ≡ Some (value, rest)
+        → Digits radix end n (c ∷ text) value rest
+    by next true h e =
+        let same : (n, text) ≡ (value, rest) = same_Some _ _ e in
+        record {
+          ds = [];
+          whole = λ i. eqb-true c end h i ∷ (same i).1;
+          digits = refl;
+          lower = refl;
+          is = ap (λ (x : ℕ × List ℕ). x.0) same;
+          small = subst (λ (x : ℕ × List ℕ). x.0 < 2 ^ 64) same small;
+        }
+    by next false h e = more next (is_lower c) (nat_lt (digit_value c) radix) (nat_lt (n * radix + digit_value c) (2 ^ 64)) refl refl refl e
+
+-- a text that begins so has a plain word before the end
+plain_of : (radix end : ℕ) (ds rest : List ℕ) → radix ≤ 16 → digit_value end ≡ 36 → list_all (λ c. is_digit c radix) ds ≡ true → list_all is_lower ds ≡ true → begins_plain end (ds ++ end ∷ rest) ≡ true → is_plain ds ≡ true
+plain_of radix end [] [] high none digits lower begins = absurd (false≢true (rw (eq-eqb end end refl) at begins))
+plain_of radix end [] (r ∷ rest) high none digits lower begins =
+    absurd (false≢true (rw (ne_eqb end 48 (λ e. omega (arith, none, ap digit_value e)), eq-eqb end end refl) at begins))
+plain_of radix end (c ∷ []) rest high none digits lower begins = lower
+plain_of radix end (c ∷ d ∷ ds) rest high none digits lower begins = by (eqb c 48) begins
+  where
+    by : (t : Bool) → (if t then d == end else not (c == end)) ≡ true → (if t then false else list_all is_lower (c ∷ d ∷ ds)) ≡ true
+    by true h =
+        let all = and_parts _ _ digits in
+        let small = ltb-true (digit_value d) radix (and_parts _ _ all.1).0 in
+        absurd (false≢true (sym (no_digit radix end d high none small) ∙ h))
+    by false h = lower
+
+bounded : (most : ℕ) (read : Option (ℕ × List ℕ)) (n : ℕ) (rest : List ℕ) → (read >>= λ x. if nat_le x.0 most then Some x else None) ≡ Some (n, rest) → read ≡ Some (n, rest)
+bounded most None n rest e = absurd (none-some _ e)
+bounded most (Some x) n rest e = by (nat_le x.0 most) e
+  where
+    by : (t : Bool) → (if t then Some x else None) ≡ Some (n, rest) → Some x ≡ Some (n, rest)
+    by true h = h
+    by false h = absurd (none-some _ h)
+
+-- what is read is the text of the number, the end and what is left
+pub number_spelled : (radix end most n : ℕ) (text rest : List ℕ) → 2 ≤ radix → radix ≤ 16 → digit_value end ≡ 36 → number_until radix end most text ≡ Some (n, rest) → text ≡ digits radix false n ++ end ∷ rest
+unfolding number_until
+number_spelled radix end most n text rest low high none e = by (begins_plain end text) refl e
+  where
+    by : (t : Bool) → begins_plain end text ≡ t → (if t then (digits_until radix end 0 text >>= λ x. if nat_le x.0 most then Some x else None) else None) ≡ Some (n, rest) → text ≡ digits radix false n ++ end ∷ rest
+    by false h e = absurd (none-some _ e)
+    by true h e =
+        let on = on_spelled radix end 0 n text rest (omega arith) (bounded most (digits_until radix end 0 text) n rest e) in
+        let plain = plain_of radix end on.ds rest high none on.digits on.lower (sym (ap (begins_plain end) on.whole) ∙ h) in
+        let room : digits_value radix on.ds < radix ^ 64 = omega (arith, on.is, on.small, pow-le-pow_left low 64) in
+        on.whole ∙ ap (λ ds. ds ++ end ∷ rest) (sym (digits_of_plain radix on.ds low high on.digits plain room) ∙ ap (digits radix false) on.is)

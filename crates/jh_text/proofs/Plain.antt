@@ -6,8 +6,14 @@ use Rattle.std.specs.List.{list_all}
 use Rattle.std.specs.Str.Parse.{digits_value, digits_value_after}
 use Rattle.std.proofs.lemmas.Bool.{cases_lt, and_parts, ltb-true, lt-ltb, le-ltb, false≢true, eq-eqb, ne_eqb}
 use Rattle.std.proofs.Math.Nat.{mul-add-div_right, mul-add-mod_self_right, div-eq_of_lt, mod-eq_of_lt, le-mul_of_pos_right, pow-zero, pow-suc, mul_comm}
-use Rattle.jh_text.specs.Private.Reading.{is_lower, is_plain}
+use Rattle.jh_text.specs.Private.Reading.{is_lower}
 use Rattle.jh_text.proofs.Digits.{none_written, next_written, first_written, fewer_left, some_left}
+
+-- a word of digits in lower case that doesn't begin with a 0 that isn't all of it
+abbrev pub is_plain : List ℕ → Bool
+is_plain [] = false
+is_plain (c ∷ []) = list_all is_lower (c ∷ [])
+is_plain (c ∷ d ∷ digits) = if c == 48 then false else list_all is_lower (c ∷ d ∷ digits)
 
 -- ---- the last digit of a number
 
@@ -62,7 +68,7 @@ last_digit base n low more fits =
 lower_glyph : (c : ℕ) → digit_value c < 16 → is_lower c ≡ true → digit_glyph false (digit_value c) ≡ c
 lower_glyph c small lower = grind arith
 
-value_ge : (base n : ℕ) (ds : List ℕ) → 0 < base → n ≤ digits_value_after base n ds
+pub value_ge : (base n : ℕ) (ds : List ℕ) → 0 < base → n ≤ digits_value_after base n ds
 value_ge base n [] some = omega arith
 value_ge base n (c ∷ ds) some = omega (arith, le-mul_of_pos_right {m = base} n some, value_ge base (n * base + digit_value c) ds some)
 
@@ -93,7 +99,7 @@ not_zero c differs glyph = elim (cases_lt 0 (digit_value c)) as (λ _. 0 < digit
       absurd (false≢true (sym differs ∙ eq-eqb c 48 is))
 ]
 
-several_plain : (zero lower : Bool) → (if zero then false else lower) ≡ true → (zero ≡ false) × (lower ≡ true)
+pub several_plain : (zero lower : Bool) → (if zero then false else lower) ≡ true → (zero ≡ false) × (lower ≡ true)
 several_plain true lower plain = absurd (false≢true plain)
 several_plain false lower plain = (refl, plain)
 

@@ -1,6 +1,6 @@
 -- Entries with the same text are the same, whatever their numbers: these are below the ends of their types alone.
 use Rattle.std.proofs.Common.{◌≡◌, ℕ, suc, ◌-◌, ◌^◌, ◌<◌, ◌≤◌, ℤ, pos, negsuc, Bool, true, false, List, [], ◌∷◌, ◌++◌, length, Option, Some, None, refl, sym, ap, ◌∙◌, arith, FitsSigned, w64, append_assoc, length-append, codes, if◌then◌else◌}
-use Rattle.std.specs.Option.{IfSome}
+use Rattle.std.specs.Option.{IfSome, option_map}
 use Rattle.std.specs.List.{join_with_byte, AllByRecursion}
 use Rattle.std.specs.Fmt.{decimal, signed_decimal}
 use Rattle.std.specs.Str.{bytes_eq}
@@ -16,10 +16,11 @@ use Rattle.jh_history.specs.declared.entry.Heard.{Heard}
 use Rattle.jh_history.specs.declared.entry.Heard.TheVariants as heard
 use Rattle.jh_text.specs.Ranges.{IsTypedAct, IsTyped}
 use Rattle.jh_text.specs.Text.{hexadecimal, got_text, ok_text, decision_text, settled_text, heard_text, act_words, entry_words, entry_text, line, journal_text}
-use Rattle.jh_text.specs.Private.Reading.{◌>>=◌, max_u64, split_once, number_of, hexadecimal_of, answer_of, got_of, ok_of, decision_of, settled_of, heard_of}
+use Rattle.jh_text.specs.Private.Reading.{◌>>=◌, max_u64, number_until, hexadecimal_until, answer_of, got_of, ok_of, decision_of, settled_of, heard_of, outcome_of}
 use Rattle.jh_text.proofs.Numbers.{Lacks_digits}
-use Rattle.jh_text.proofs.Splits.{Lacks, Lacks_cons, Lacks_append, split_once_front}
-use Rattle.jh_text.proofs.Spellings.{decimal_again, hexadecimal_again, answer_again, answer_is_not, got_again, ok_again, decision_again, settled_again, heard_again}
+use Rattle.jh_text.proofs.Splits.{Lacks, Lacks_cons, Lacks_append, split_once, split_once_front}
+use Rattle.jh_text.proofs.Spellings.{decimal_again, hexadecimal_again, answer_again, got_again, ok_again, decision_again, settled_again, heard_again}
+use Rattle.jh_text.proofs.Acts.{begin_again, hvc_again}
 
 -- ---- no word has a space or a line feed
 
@@ -115,27 +116,36 @@ same_words v w (x ∷ vs) (y ∷ ws) l m e =
 
 -- ---- the act of words
 
+-- what the function reads of the word as the last of a line
+abbrev of_word : {A : Type 0} → (List ℕ → Option (A × List ℕ)) → List ℕ → Option A
+of_word reads word = option_map (λ x. x.0) (reads (word ++ 10 ∷ []))
+
+abbrev number : ℕ → List ℕ → Option ℕ
+number most = of_word (number_until 10 10 most)
+
+abbrev address : List ℕ → Option ℕ
+address = of_word (hexadecimal_until 10 max_u64)
+
 access : List (List ℕ) → Option (ℕ × ℕ × Option ℕ)
-access (width ∷ at ∷ sign ∷ got ∷ []) = number_of 10 255 width >>= λ w. hexadecimal_of max_u64 at >>= λ a. got_of max_u64 got >>= λ g. Some (w, a, g)
+access (width ∷ at ∷ sign ∷ got ∷ []) = number 255 width >>= λ w. address at >>= λ a. of_word (got_of max_u64) got >>= λ g. Some (w, a, g)
 access _ = None
 
 attempt : List (List ℕ) → Option (ℕ × ℕ × ℕ × Bool)
 attempt (width ∷ at ∷ value ∷ sign ∷ ok ∷ []) =
-    number_of 10 255 width >>= λ w. hexadecimal_of max_u64 at >>= λ a. hexadecimal_of max_u64 value >>= λ v. ok_of ok >>= λ o. Some (w, a, v, o)
+    number 255 width >>= λ w. address at >>= λ a. address value >>= λ v. of_word ok_of ok >>= λ o. Some (w, a, v, o)
 attempt _ = None
 
 fetched : List (List ℕ) → Option (ℕ × Option ℕ)
-fetched (at ∷ sign ∷ got ∷ []) = hexadecimal_of max_u64 at >>= λ a. got_of max_u64 got >>= λ g. Some (a, g)
+fetched (at ∷ sign ∷ got ∷ []) = address at >>= λ a. of_word (got_of max_u64) got >>= λ g. Some (a, g)
 fetched _ = None
 
 interrupt : List (List ℕ) → Option (ℕ × ℕ)
-interrupt (sign ∷ device ∷ vector ∷ []) = number_of 10 (2 ^ 32 - 1) device >>= λ d. number_of 10 255 vector >>= λ v. Some (d, v)
+interrupt (sign ∷ device ∷ vector ∷ []) = number (2 ^ 32 - 1) device >>= λ d. number 255 vector >>= λ v. Some (d, v)
 interrupt _ = None
 
 call : List (List ℕ) → Option Act
 call (code ∷ first ∷ second ∷ sign ∷ last ∷ []) =
-    number_of 10 max_u64 code >>= λ c. hexadecimal_of max_u64 first >>= λ a. hexadecimal_of max_u64 second >>= λ b.
-    if bytes_eq last (codes "begin") then Some (Begin c a b) else (answer_of last >>= λ z. Some (Hvc c a b z))
+    number max_u64 code >>= λ c. address first >>= λ a. address second >>= λ b. of_word (outcome_of c a b) last
 call _ = None
 
 second : List (List ℕ) → List ℕ
@@ -143,7 +153,7 @@ second (sign ∷ word ∷ []) = word
 second _ = []
 
 noted : List (List ℕ) → Option (ℕ × Heard)
-noted (id ∷ sign ∷ how ∷ []) = number_of 10 (2 ^ 32 - 1) id >>= λ n. heard_of how >>= λ h. Some (n, h)
+noted (id ∷ sign ∷ how ∷ []) = number (2 ^ 32 - 1) id >>= λ n. of_word heard_of how >>= λ h. Some (n, h)
 noted _ = None
 
 first : List (List ℕ) → List ℕ
@@ -159,58 +169,65 @@ by_name name rest =
     else (if bytes_eq name (codes "irq") then (interrupt rest >>= λ x. Some (Irq x.0 x.1))
     else (if bytes_eq name (codes "hvc") then call rest
     else (if bytes_eq name (codes "stop") then Some Stop
-    else (if bytes_eq name (codes "decide") then (decision_of (second rest) >>= λ r. Some (Decide r))
-    else (if bytes_eq name (codes "settle") then (settled_of (second rest) >>= λ h. Some (Settle h))
+    else (if bytes_eq name (codes "decide") then (of_word decision_of (second rest) >>= λ r. Some (Decide r))
+    else (if bytes_eq name (codes "settle") then (of_word settled_of (second rest) >>= λ h. Some (Settle h))
     else (if bytes_eq name (codes "commit") then Some Commit
-    else (if bytes_eq name (codes "note") then (number_of 10 (2 ^ 32 - 1) (first rest) >>= λ n. Some (Note n))
+    else (if bytes_eq name (codes "note") then (number (2 ^ 32 - 1) (first rest) >>= λ n. Some (Note n))
     else (if bytes_eq name (codes "noted") then (noted rest >>= λ x. Some (Noted x.0 x.1))
-    else (if bytes_eq name (codes "finish") then (answer_of (second rest) >>= λ z. Some (Finish z))
+    else (if bytes_eq name (codes "finish") then (of_word answer_of (second rest) >>= λ z. Some (Finish z))
     else None))))))))))))
 
 told : List (List ℕ) → Option Act
 told (name ∷ rest) = by_name name rest
 told [] = None
 
-byte_again : (n : ℕ) → n < 256 → number_of 10 255 (decimal n) ≡ Some n
-byte_again n small = decimal_again 255 n (omega arith) (omega arith)
+-- what was read, without what is left
+read_again : {A : Type 0} (read : Option (A × List ℕ)) (a : A) (rest : List ℕ) → read ≡ Some (a, rest) → option_map (λ x. x.0) read ≡ Some a
+read_again read a rest e = ap (option_map (λ x. x.0)) e
 
-word_again : (n : ℕ) → n < 2 ^ 32 → number_of 10 (2 ^ 32 - 1) (decimal n) ≡ Some n
-word_again n small = decimal_again (2 ^ 32 - 1) n (omega arith) (omega arith)
+byte_again : (n : ℕ) → n < 256 → number 255 (decimal n) ≡ Some n
+byte_again n small = read_again _ n [] (decimal_again 10 255 n [] refl (omega arith) (omega arith))
 
-code_again : (n : ℕ) → n < 2 ^ 64 → number_of 10 max_u64 (decimal n) ≡ Some n
-code_again n small = decimal_again max_u64 n small (omega arith)
+word_again : (n : ℕ) → n < 2 ^ 32 → number (2 ^ 32 - 1) (decimal n) ≡ Some n
+word_again n small = read_again _ n [] (decimal_again 10 (2 ^ 32 - 1) n [] refl (omega arith) (omega arith))
 
-hex_again : (n : ℕ) → n < 2 ^ 64 → hexadecimal_of max_u64 (hexadecimal n) ≡ Some n
-hex_again n small = hexadecimal_again max_u64 n small (omega arith)
+code_again : (n : ℕ) → n < 2 ^ 64 → number max_u64 (decimal n) ≡ Some n
+code_again n small = read_again _ n [] (decimal_again 10 max_u64 n [] refl small (omega arith))
+
+hex_again : (n : ℕ) → n < 2 ^ 64 → address (hexadecimal n) ≡ Some n
+hex_again n small = read_again _ n [] (hexadecimal_again 10 max_u64 n [] refl small (omega arith))
 
 got_small : (got : Option ℕ) → IfSome got (λ value. value < 2 ^ 64) → IfSome got (λ value. value ≤ max_u64)
 got_small None fits = tt
 got_small (Some value) fits = omega arith
 
-value_again : (got : Option ℕ) → IfSome got (λ value. value < 2 ^ 64) → got_of max_u64 (got_text got) ≡ Some got
-value_again got fits = got_again max_u64 got (omega arith) (got_small got fits)
+value_again : (got : Option ℕ) → IfSome got (λ value. value < 2 ^ 64) → of_word (got_of max_u64) (got_text got) ≡ Some got
+value_again got fits = read_again _ got [] (got_again max_u64 got [] (omega arith) (got_small got fits))
+
+granted_again : (ok : Bool) → of_word ok_of (ok_text ok) ≡ Some ok
+granted_again ok = read_again _ ok [] (ok_again ok [])
 
 told_again : (act : Act) → IsTypedAct act → told (act_words act) ≡ Some act
 unfolding told by_name access attempt fetched interrupt call second first noted
 told_again (Read width at got) (w, a, g) = rw (byte_again width w, hex_again at a, value_again got g) refl
-told_again (Write width at value ok) (w, a, v) = rw (byte_again width w, hex_again at a, hex_again value v, ok_again ok) refl
+told_again (Write width at value ok) (w, a, v) = rw (byte_again width w, hex_again at a, hex_again value v, granted_again ok) refl
 told_again (Fetch at got) (a, g) = rw (hex_again at a, value_again got g) refl
-told_again (Await width at value ok) (w, a, v) = rw (byte_again width w, hex_again at a, hex_again value v, ok_again ok) refl
+told_again (Await width at value ok) (w, a, v) = rw (byte_again width w, hex_again at a, hex_again value v, granted_again ok) refl
 told_again (Irq device vector) (d, v) = rw (word_again device d, byte_again vector v) refl
 told_again (Hvc code a b answer) (c, x, y, z) =
-    rw (code_again code c, hex_again a x, hex_again b y, answer_is_not answer 98 (101 ∷ 103 ∷ 105 ∷ 110 ∷ []) z (omega arith) (omega arith), answer_again answer z) refl
-told_again (Begin code a b) (c, x, y) = rw (code_again code c, hex_again a x, hex_again b y) refl
+    rw (code_again code c, hex_again a x, hex_again b y, read_again _ (Hvc code a b answer) [] (hvc_again code a b answer [] z)) refl
+told_again (Begin code a b) (c, x, y) = rw (code_again code c, hex_again a x, hex_again b y, read_again _ (Begin code a b) [] (begin_again code a b [])) refl
 told_again Stop h = refl
-told_again (Decide refused) r = rw (decision_again refused r) refl
-told_again (Settle how) h = rw (settled_again how) refl
+told_again (Decide refused) r = rw (read_again _ refused [] (decision_again refused [] r)) refl
+told_again (Settle how) h = rw (read_again _ how [] (settled_again how [])) refl
 told_again Commit h = refl
 told_again (Note id) i = rw (word_again id i) refl
-told_again (Noted id how) i = rw (word_again id i, heard_again how) refl
-told_again (Finish answer) z = rw (answer_again answer z) refl
+told_again (Noted id how) i = rw (word_again id i, read_again _ how [] (heard_again how [])) refl
+told_again (Finish answer) z = rw (read_again _ answer [] (answer_again answer [] z)) refl
 
 entry_told : List (List ℕ) → Option Entry
 entry_told (cpu ∷ cell ∷ act) =
-    number_of 10 255 cpu >>= λ c. number_of 10 (2 ^ 32 - 1) cell >>= λ i. told act >>= λ a. Some (record { cpu = c; cell = i; act = a })
+    number 255 cpu >>= λ c. number (2 ^ 32 - 1) cell >>= λ i. told act >>= λ a. Some (record { cpu = c; cell = i; act = a })
 entry_told _ = None
 
 entry_again : (entry : Entry) → IsTyped entry → entry_told (entry_words entry) ≡ Some entry

@@ -40,12 +40,16 @@ heard_text heard.Down = codes "down"
 heard_text heard.Other = codes "other"
 heard_text heard.Timeout = codes "timeout"
 
+-- the words of a write or a wait behind its name
+abbrev pub attempt_words : ℕ → ℕ → ℕ → Bool → List (List ℕ)
+attempt_words width at value ok = decimal width ∷ hexadecimal at ∷ hexadecimal value ∷ codes "=" ∷ ok_text ok ∷ []
+
 -- the words of an act
 abbrev pub act_words : Act → List (List ℕ)
 act_words (Read width at got) = codes "read" ∷ decimal width ∷ hexadecimal at ∷ codes "=" ∷ got_text got ∷ []
-act_words (Write width at value ok) = codes "write" ∷ decimal width ∷ hexadecimal at ∷ hexadecimal value ∷ codes "=" ∷ ok_text ok ∷ []
+act_words (Write width at value ok) = codes "write" ∷ attempt_words width at value ok
 act_words (Fetch at got) = codes "fetch" ∷ hexadecimal at ∷ codes "=" ∷ got_text got ∷ []
-act_words (Await width at value ok) = codes "await" ∷ decimal width ∷ hexadecimal at ∷ hexadecimal value ∷ codes "=" ∷ ok_text ok ∷ []
+act_words (Await width at value ok) = codes "await" ∷ attempt_words width at value ok
 act_words (Irq device vector) = codes "irq" ∷ codes "=" ∷ decimal device ∷ decimal vector ∷ []
 act_words (Hvc code a b answer) = codes "hvc" ∷ decimal code ∷ hexadecimal a ∷ hexadecimal b ∷ codes "=" ∷ signed_decimal answer ∷ []
 act_words (Begin code a b) = codes "hvc" ∷ decimal code ∷ hexadecimal a ∷ hexadecimal b ∷ codes "=" ∷ codes "begin" ∷ []

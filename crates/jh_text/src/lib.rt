@@ -9,7 +9,7 @@ mod number_text;
 mod outcomes;
 mod print;
 mod read;
-mod words;
+mod reader;
 
 pub use fault::{JournalFault, MAX_ENTRIES};
 pub use laws::{every_text_has_an_answer, one_answer, texts_differ, texts_go_both_ways};

@@ -8,30 +8,35 @@ use jh_map::Run;
 use jh_num::{NoMemory, Rights};
 use std::alloc::Global;
 
+/// What the word before a place is: whether it is in a communication page or in memory.
 fn place_word(comm: bool) -> &'static str
     ensures { result.now ≡ place_text comm }
 {
     if comm { "comm" } else { "phys" }
 }
 
+/// The word for whether the run is mapped by pages.
 fn kind_word(page: bool) -> &'static str
     ensures { result.now ≡ kind_text page }
 {
     if page { "page" } else { "sub" }
 }
 
+/// `r` where one may read, else `-`.
 fn read_letter(may: bool) -> &'static str
     ensures { result.now ≡ read_text may }
 {
     if may { "r" } else { "-" }
 }
 
+/// `w` where one may write, else `-`.
 fn write_letter(may: bool) -> &'static str
     ensures { result.now ≡ write_text may }
 {
     if may { "w" } else { "-" }
 }
 
+/// `x` where one may execute, else `-`.
 fn execute_letter(may: bool) -> &'static str
     ensures { result.now ≡ execute_text may }
 {

@@ -1,18 +1,20 @@
 //! How the outcome of an act is spelled, and read.
-ghost use Rattle.std.specs.Prelude.{◌≡◌, ◌≤◌, IfSome, FitsSigned};
+ghost use Rattle.std.specs.Prelude.{◌≡◌, ◌≤◌, ◌∷◌, ◌++◌, IfSome, FitsSigned};
 ghost use Rattle.std.specs.Int.{w64};
 ghost use Rattle.jh_text.specs.Text.{got_text, ok_text, decision_text, settled_text, heard_text};
-ghost use Rattle.jh_text.specs.Private.Reading.{got_of, ok_of, decision_of, settled_of, heard_of};
+ghost use Rattle.jh_text.specs.Private.Reading.{Reads, got_of, ok_of, decision_of, settled_of, heard_of};
 
-use crate::words::{answer, hexadecimal, is};
+use crate::reader::Reader;
 use jh_history::{Heard, Settled};
 
+/// The word for whether a write or a wait was granted.
 pub(crate) fn ok_word(ok: bool) -> &'static str
     ensures { result.now ≡ ok_text ok }
 {
     if ok { "ok" } else { "violation" }
 }
 
+/// The word for how a cell met the request to shut down.
 pub(crate) fn settled_word(how: Settled) -> &'static str
     ensures { result.now ≡ settled_text how }
 {
@@ -23,6 +25,7 @@ pub(crate) fn settled_word(how: Settled) -> &'static str
     }
 }
 
+/// The word for how a cell met the note of a change.
 pub(crate) fn heard_word(how: Heard) -> &'static str
     ensures { result.now ≡ heard_text how }
 {
@@ -36,27 +39,31 @@ pub(crate) fn heard_word(how: Heard) -> &'static str
 
 /// What a read or a fetch gave; without a value where it was a violation.
 #[tactic(auto, unfolding(crate::specs::Private::Reading::got_of))]
-pub(crate) fn read_got(most: u64, word: &[u8]) -> Option<Option<u64>>
-    ensures value { result ≡ got_of most word.now }
+pub(crate) fn read_got(text: &mut Reader, most: u64) -> Option<Option<u64>>
+    ensures value { Reads result text.new (got_of most text.old) }
     ensures bound { IfSome result (λ got. IfSome got (λ value. value ≤ most)) }
-    ensures spelled { IfSome result (λ got. word.now ≡ got_text got) }
+    ensures spelled { IfSome result (λ got. text.old ≡ got_text got ++ 10 ∷ text.new) }
 {
-    if is(word, "violation") {
+    if text.is_at(b'0') {
+        let value = text.hexadecimal(b'\n', most)?;
+        return Some(Some(value));
+    }
+    if text.pass("violation\n") {
         return Some(None);
     }
-    let value = hexadecimal(word, most)?;
-    Some(Some(value))
+    None
 }
 
+/// Whether a write or a wait was granted.
 #[tactic(auto, unfolding(crate::specs::Private::Reading::ok_of))]
-pub(crate) fn read_ok(word: &[u8]) -> Option<bool>
-    ensures value { result ≡ ok_of word.now }
-    ensures spelled { IfSome result (λ ok. word.now ≡ ok_text ok) }
+pub(crate) fn read_ok(text: &mut Reader) -> Option<bool>
+    ensures value { Reads result text.new (ok_of text.old) }
+    ensures spelled { IfSome result (λ ok. text.old ≡ ok_text ok ++ 10 ∷ text.new) }
 {
-    if is(word, "ok") {
+    if text.pass("ok\n") {
         return Some(true);
     }
-    if is(word, "violation") {
+    if text.pass("violation\n") {
         return Some(false);
     }
     None
@@ -64,50 +71,52 @@ pub(crate) fn read_ok(word: &[u8]) -> Option<bool>
 
 /// The number with which a call is refused; without one where it goes on.
 #[tactic(auto, unfolding(crate::specs::Private::Reading::decision_of))]
-pub(crate) fn read_decision(word: &[u8]) -> Option<Option<i64>>
-    ensures value { result ≡ decision_of word.now }
+pub(crate) fn read_decision(text: &mut Reader) -> Option<Option<i64>>
+    ensures value { Reads result text.new (decision_of text.old) }
     ensures fits { IfSome result (λ refused. IfSome refused (FitsSigned w64)) }
-    ensures spelled { IfSome result (λ refused. word.now ≡ decision_text refused) }
+    ensures spelled { IfSome result (λ refused. text.old ≡ decision_text refused ++ 10 ∷ text.new) }
 {
-    if is(word, "go") {
+    if text.pass("go\n") {
         return Some(None);
     }
-    let number = answer(word)?;
+    let number = text.answer()?;
     Some(Some(number))
 }
 
+/// How a cell met the request to shut down.
 #[tactic(auto, unfolding(crate::specs::Private::Reading::settled_of))]
-pub(crate) fn read_settled(word: &[u8]) -> Option<Settled>
-    ensures value { result ≡ settled_of word.now }
-    ensures spelled { IfSome result (λ how. word.now ≡ settled_text how) }
+pub(crate) fn read_settled(text: &mut Reader) -> Option<Settled>
+    ensures value { Reads result text.new (settled_of text.old) }
+    ensures spelled { IfSome result (λ how. text.old ≡ settled_text how ++ 10 ∷ text.new) }
 {
-    if is(word, "agreed") {
+    if text.pass("agreed\n") {
         return Some(Settled::Agreed);
     }
-    if is(word, "denied") {
+    if text.pass("denied\n") {
         return Some(Settled::Denied);
     }
-    if is(word, "timeout") {
+    if text.pass("timeout\n") {
         return Some(Settled::Timeout);
     }
     None
 }
 
+/// How a cell met the note of a change.
 #[tactic(auto, unfolding(crate::specs::Private::Reading::heard_of))]
-pub(crate) fn read_heard(word: &[u8]) -> Option<Heard>
-    ensures value { result ≡ heard_of word.now }
-    ensures spelled { IfSome result (λ how. word.now ≡ heard_text how) }
+pub(crate) fn read_heard(text: &mut Reader) -> Option<Heard>
+    ensures value { Reads result text.new (heard_of text.old) }
+    ensures spelled { IfSome result (λ how. text.old ≡ heard_text how ++ 10 ∷ text.new) }
 {
-    if is(word, "received") {
+    if text.pass("received\n") {
         return Some(Heard::Received);
     }
-    if is(word, "down") {
+    if text.pass("down\n") {
         return Some(Heard::Down);
     }
-    if is(word, "other") {
+    if text.pass("other\n") {
         return Some(Heard::Other);
     }
-    if is(word, "timeout") {
+    if text.pass("timeout\n") {
         return Some(Heard::Timeout);
     }
     None

@@ -1,6 +1,6 @@
 //! From entries to their text.
 ghost use Rattle.std.specs.Prelude.{◌≡◌, ◌++◌, ◌∷◌, [], OnOk, IfOk, codes};
-ghost use Rattle.jh_text.specs.Text.{act_words, entry_text, journal_text, hexadecimal, got_text, ok_text, decision_text};
+ghost use Rattle.jh_text.specs.Text.{act_words, attempt_words, entry_text, journal_text, hexadecimal, got_text, decision_text};
 ghost use Rattle.std.specs.Fmt.{decimal};
 ghost use Rattle.std.specs.List.{join_with_byte};
 
@@ -146,7 +146,7 @@ fn push_attempt(
     ok: bool,
 ) -> Result<(), NoMemory>
     ensures { OnOk result (text.new.items ≡ text.old.items
-        ++ join_with_byte 32 (decimal width ∷ hexadecimal at ∷ hexadecimal value ∷ codes "=" ∷ ok_text ok ∷ [])) }
+        ++ join_with_byte 32 (attempt_words width at value ok)) }
 {
     push_decimal(text, u64::from(width))?;
     text.push(b' ')?;

@@ -7,7 +7,7 @@ ghost use Rattle.jh_text.specs.Faults.{BeginsWithNoLine, IsFault, IsFirstBadLine
 
 use crate::entries::entry;
 use crate::fault::{JournalFault, MAX_ENTRIES};
-use crate::words::split_once;
+use crate::reader::Reader;
 use jh_history::{Entry, Journal};
 use std::alloc::Global;
 
@@ -39,9 +39,9 @@ fn first_line(text: &[u8]) -> Option<(Entry, &[u8])>
     ensures whole { IfSome result (λ x. text.now ≡ line x.0 ++ x.1.now) }
     ensures none { IfNone result (BeginsWithNoLine text.now) }
 {
-    let (front, rest) = split_once(text, b'\n')?;
-    let entry = entry(front)?;
-    Some((entry, rest))
+    let mut reader = Reader::new(text);
+    let entry = entry(&mut reader)?;
+    Some((entry, reader.rest()))
 }
 
 /// Whether the journal has as many entries as it may.

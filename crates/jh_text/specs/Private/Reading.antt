@@ -1,12 +1,9 @@
--- How the reader finds the one entry whose text a line is, as functions on lists.
-use Rattle.std.specs.Prelude.{◌≡◌, ℕ, ◌+◌, ◌-◌, ◌^◌, ℤ, pos, ◌-ℤ◌, Bool, true, false, ◌==◌, nat_le, if◌then◌else◌, not, Option, Some, None, option_and_then, option_map, position, List, [], ◌∷◌, take, drop, codes}
-use Rattle.std.specs.Char.{is_ascii_uppercase}
-use Rattle.std.specs.Fmt.{decimal}
-use Rattle.std.specs.List.{list_all}
+-- How the reader finds the one entry with whose line a text begins, as functions on lists: each gives what it reads,
+-- and what stands behind it.
+use Rattle.std.specs.Prelude.{◌≡◌, ℕ, ◌+◌, ◌-◌, ◌*◌, ◌^◌, ◌&&◌, ℤ, pos, ◌-ℤ◌, Bool, true, false, ◌==◌, nat_le, nat_lt, if◌then◌else◌, not, Option, Some, None, option_and_then, option_map, List, [], ◌∷◌, ◌++◌, length, take, drop, codes}
+use Rattle.std.specs.Char.{is_ascii_uppercase, is_digit, digit_value}
 use Rattle.std.specs.Str.{bytes_eq}
-use Rattle.jh_script.specs.Numbers.{value_of}
 use Rattle.jh_text.specs.Ranges.{is_width}
-use Rattle.jh_text.specs.Text.{hexadecimal, ok_text}
 use Rattle.jh_history.specs.declared.entry.Entry.{Entry}
 use Rattle.jh_history.specs.declared.entry.Act.{Act}
 use Rattle.jh_history.specs.declared.entry.Act.TheVariants.{Read, Write, Fetch, Await, Irq, Hvc, Begin, Stop, Decide, Settle, Commit, Note, Noted, Finish}
@@ -24,193 +21,196 @@ abbrev pub Finds : {X Y : Type 0} → (X → Y) → Option X → Option Y → Ty
 Finds view (Some x) found = found ≡ Some (view x)
 Finds view None found = found ≡ None
 
--- what stands before the first such byte, and what stands after it
-unfoldable pub split_once : ℕ → List ℕ → Option (List ℕ × List ℕ)
-split_once byte bytes = option_map (λ at. (take at bytes, drop (at + 1) bytes)) (position (λ b. b == byte) bytes)
+-- what a function read, and what it left of the text, are what the function on lists gives
+abbrev pub Reads : {A : Type 0} → Option A → List ℕ → Option (A × List ℕ) → Type 0
+Reads (Some a) left read = read ≡ Some (a, left)
+Reads None left read = read ≡ None
 
--- what stands behind the equals sign and the space with which the words begin
-abbrev pub behind_sign : List ℕ → Option (List ℕ)
-behind_sign (a ∷ b ∷ rest) = if a == 61 then (if b == 32 then Some rest else None) else None
-behind_sign (a ∷ []) = None
-behind_sign [] = None
+-- what is read, changed by the function
+abbrev pub mapped : {A B : Type 0} → (A → B) → Option (A × List ℕ) → Option (B × List ℕ)
+mapped f read = option_map (λ x. (f x.0, x.1)) read
 
--- no digit is a letter in upper case, and the first of several is not 0
+-- ---- words
+
+-- the text begins with the word
+abbrev pub begins : List ℕ → List ℕ → Bool
+begins word text = bytes_eq (take (length word) text) word
+
+-- what stands behind the word with which the text begins
+abbrev pub behind : List ℕ → List ℕ → List ℕ
+behind word text = drop (length word) text
+
+-- the word, where it is the last of its line
+abbrev pub last : List ℕ → List ℕ
+last word = word ++ 10 ∷ []
+
+-- what the function reads behind an equals sign and a space
+abbrev pub behind_sign : {A : Type 0} → (List ℕ → Option (A × List ℕ)) → List ℕ → Option (A × List ℕ)
+behind_sign reads text = if begins (codes "= ") text then reads (behind (codes "= ") text) else None
+
+-- ---- numbers
+
+-- the byte is no letter in upper case
 abbrev pub is_lower : ℕ → Bool
 is_lower c = not (is_ascii_uppercase c)
 
-abbrev pub is_plain : List ℕ → Bool
-is_plain [] = false
-is_plain (c ∷ []) = list_all is_lower (c ∷ [])
-is_plain (c ∷ d ∷ digits) = if c == 48 then false else list_all is_lower (c ∷ d ∷ digits)
+-- the digit that the byte is, in lower case
+abbrev pub lower_digit : ℕ → ℕ → Option ℕ
+lower_digit radix c = if is_lower c && is_digit c radix then Some (digit_value c) else None
 
--- the number that is written so, where it is most at most
-abbrev pub number_of : ℕ → ℕ → List ℕ → Option ℕ
-number_of radix most word = if is_plain word then (value_of radix word >>= λ n. if nat_le n most then Some n else None) else None
+-- the number with one more digit
+abbrev pub with_digit : ℕ → ℕ → ℕ → Option ℕ
+with_digit radix n digit = if nat_lt (n * radix + digit) (2 ^ 64) then Some (n * radix + digit) else None
+
+-- the number that the digits before the end write behind those of n
+unfoldable pub digits_until : ℕ → ℕ → ℕ → List ℕ → Option (ℕ × List ℕ)
+digits_until radix end n [] = None
+digits_until radix end n (c ∷ text) =
+    if c == end then Some (n, text)
+    else (lower_digit radix c >>= λ digit. with_digit radix n digit >>= λ m. digits_until radix end m text)
+
+-- a word stands before the end, and doesn't begin with a 0 that isn't all of it
+abbrev pub begins_plain : ℕ → List ℕ → Bool
+begins_plain end [] = false
+begins_plain end (c ∷ []) = not (c == end)
+begins_plain end (c ∷ d ∷ text) = if c == 48 then d == end else not (c == end)
+
+-- the number that the word before the end is, where it is most at most
+unfoldable pub number_until : ℕ → ℕ → ℕ → List ℕ → Option (ℕ × List ℕ)
+number_until radix end most text =
+    if begins_plain end text then (digits_until radix end 0 text >>= λ x. if nat_le x.0 most then Some x else None) else None
 
 abbrev pub max_u64 : ℕ
 max_u64 = 2 ^ 64 - 1
 
-unfoldable pub hexadecimal_of : ℕ → List ℕ → Option ℕ
-hexadecimal_of most (a ∷ x ∷ digits) = if a == 48 then (if x == 120 then number_of 16 most digits else None) else None
-hexadecimal_of most (a ∷ []) = None
-hexadecimal_of most [] = None
+unfoldable pub hexadecimal_until : ℕ → ℕ → List ℕ → Option (ℕ × List ℕ)
+hexadecimal_until end most (a ∷ x ∷ text) = if a == 48 then (if x == 120 then number_until 16 end most text else None) else None
+hexadecimal_until end most (a ∷ []) = None
+hexadecimal_until end most [] = None
 
 abbrev pub negative : ℕ → Option ℤ
 negative n = if n == 0 then None else (if nat_le n (2 ^ 63) then Some (pos 0 -ℤ pos n) else None)
 
-unfoldable pub answer_of : List ℕ → Option ℤ
+unfoldable pub answer_of : List ℕ → Option (ℤ × List ℕ)
 answer_of [] = None
-answer_of (c ∷ digits) = if c == 45 then number_of 10 max_u64 digits >>= negative else option_map pos (number_of 10 (2 ^ 63 - 1) (c ∷ digits))
+answer_of (c ∷ text) =
+    if c == 45 then (number_until 10 10 max_u64 text >>= λ x. option_map (λ z. (z, x.1)) (negative x.0))
+    else mapped pos (number_until 10 10 (2 ^ 63 - 1) (c ∷ text))
 
-unfoldable pub width_of : List ℕ → Option ℕ
-width_of word = do
-  width ← number_of 10 8 word
-  if is_width width then Some width else None
+unfoldable pub width_of : List ℕ → Option (ℕ × List ℕ)
+width_of text = do
+  width ← number_until 10 32 8 text
+  if is_width width.0 then Some width else None
 
-unfoldable pub got_of : ℕ → List ℕ → Option (Option ℕ)
-got_of most word = if bytes_eq word (codes "violation") then Some None else option_map Some (hexadecimal_of most word)
+-- ---- the last word of a line
 
-unfoldable pub ok_of : List ℕ → Option Bool
-ok_of word = if bytes_eq word (codes "ok") then Some true else (if bytes_eq word (codes "violation") then Some false else None)
+unfoldable pub got_of : ℕ → List ℕ → Option (Option ℕ × List ℕ)
+got_of most text =
+    if begins (codes "0") text then mapped Some (hexadecimal_until 10 most text)
+    else (if begins (last (codes "violation")) text then Some (None, behind (last (codes "violation")) text) else None)
 
-unfoldable pub decision_of : List ℕ → Option (Option ℤ)
-decision_of word = if bytes_eq word (codes "go") then Some None else option_map Some (answer_of word)
+unfoldable pub ok_of : List ℕ → Option (Bool × List ℕ)
+ok_of text =
+    if begins (last (codes "ok")) text then Some (true, behind (last (codes "ok")) text)
+    else (if begins (last (codes "violation")) text then Some (false, behind (last (codes "violation")) text) else None)
 
-unfoldable pub settled_of : List ℕ → Option Settled
-settled_of word =
-    if bytes_eq word (codes "agreed") then Some settled.Agreed
-    else (if bytes_eq word (codes "denied") then Some settled.Denied
-    else (if bytes_eq word (codes "timeout") then Some settled.Timeout else None))
+unfoldable pub decision_of : List ℕ → Option (Option ℤ × List ℕ)
+decision_of text =
+    if begins (last (codes "go")) text then Some (None, behind (last (codes "go")) text) else mapped Some (answer_of text)
 
-unfoldable pub heard_of : List ℕ → Option Heard
-heard_of word =
-    if bytes_eq word (codes "received") then Some heard.Received
-    else (if bytes_eq word (codes "down") then Some heard.Down
-    else (if bytes_eq word (codes "other") then Some heard.Other
-    else (if bytes_eq word (codes "timeout") then Some heard.Timeout else None)))
+unfoldable pub settled_of : List ℕ → Option (Settled × List ℕ)
+settled_of text =
+    if begins (last (codes "agreed")) text then Some (settled.Agreed, behind (last (codes "agreed")) text)
+    else (if begins (last (codes "denied")) text then Some (settled.Denied, behind (last (codes "denied")) text)
+    else (if begins (last (codes "timeout")) text then Some (settled.Timeout, behind (last (codes "timeout")) text) else None))
 
--- from here on what stands behind the name of the act
-unfoldable pub read_of : List ℕ → Option Act
-read_of rest = do
-  width ← split_once 32 rest
-  at ← split_once 32 width.1
-  word ← behind_sign at.1
-  w ← width_of width.0
-  a ← hexadecimal_of max_u64 at.0
-  got ← got_of (256 ^ w - 1) word
-  Some (Read w a got)
+unfoldable pub heard_of : List ℕ → Option (Heard × List ℕ)
+heard_of text =
+    if begins (last (codes "received")) text then Some (heard.Received, behind (last (codes "received")) text)
+    else (if begins (last (codes "down")) text then Some (heard.Down, behind (last (codes "down")) text)
+    else (if begins (last (codes "other")) text then Some (heard.Other, behind (last (codes "other")) text)
+    else (if begins (last (codes "timeout")) text then Some (heard.Timeout, behind (last (codes "timeout")) text) else None)))
 
--- the words of a write or a wait behind its name
-abbrev pub attempt_words : ℕ → ℕ → ℕ → Bool → List (List ℕ)
-attempt_words width at value ok = decimal width ∷ hexadecimal at ∷ hexadecimal value ∷ codes "=" ∷ ok_text ok ∷ []
+-- ---- what stands behind the name of an act
+
+unfoldable pub read_of : List ℕ → Option (Act × List ℕ)
+read_of text = do
+  width ← width_of text
+  at ← hexadecimal_until 32 max_u64 width.1
+  got ← behind_sign (got_of (256 ^ width.0 - 1)) at.1
+  Some (Read width.0 at.0 got.0, got.1)
 
 -- the width, the address and the value of a write or a wait, and whether it was granted
-unfoldable pub attempt_of : List ℕ → Option (ℕ × ℕ × ℕ × Bool)
-attempt_of rest = do
-  width ← split_once 32 rest
-  at ← split_once 32 width.1
-  value ← split_once 32 at.1
-  word ← behind_sign value.1
-  w ← width_of width.0
-  a ← hexadecimal_of max_u64 at.0
-  v ← hexadecimal_of (256 ^ w - 1) value.0
-  ok ← ok_of word
-  Some (w, a, v, ok)
+unfoldable pub attempt_of : List ℕ → Option ((ℕ × ℕ × ℕ × Bool) × List ℕ)
+attempt_of text = do
+  width ← width_of text
+  at ← hexadecimal_until 32 max_u64 width.1
+  value ← hexadecimal_until 32 (256 ^ width.0 - 1) at.1
+  ok ← behind_sign ok_of value.1
+  Some ((width.0, at.0, value.0, ok.0), ok.1)
 
-unfoldable pub write_of : List ℕ → Option Act
-write_of rest = do
-  x ← attempt_of rest
-  Some (Write x.0 x.1 x.2 x.3)
+unfoldable pub write_of : List ℕ → Option (Act × List ℕ)
+write_of text = mapped (λ x. Write x.0 x.1 x.2 x.3) (attempt_of text)
 
-unfoldable pub await_of : List ℕ → Option Act
-await_of rest = do
-  x ← attempt_of rest
-  Some (Await x.0 x.1 x.2 x.3)
+unfoldable pub await_of : List ℕ → Option (Act × List ℕ)
+await_of text = mapped (λ x. Await x.0 x.1 x.2 x.3) (attempt_of text)
 
-unfoldable pub fetch_of : List ℕ → Option Act
-fetch_of rest = do
-  at ← split_once 32 rest
-  word ← behind_sign at.1
-  a ← hexadecimal_of max_u64 at.0
-  got ← got_of (2 ^ 32 - 1) word
-  Some (Fetch a got)
+unfoldable pub fetch_of : List ℕ → Option (Act × List ℕ)
+fetch_of text = do
+  at ← hexadecimal_until 32 max_u64 text
+  got ← behind_sign (got_of (2 ^ 32 - 1)) at.1
+  Some (Fetch at.0 got.0, got.1)
 
-unfoldable pub irq_of : List ℕ → Option Act
-irq_of rest = do
-  words ← behind_sign rest
-  device ← split_once 32 words
-  d ← number_of 10 (2 ^ 32 - 1) device.0
-  v ← number_of 10 255 device.1
-  Some (Irq d v)
+unfoldable pub irq_of : List ℕ → Option (Act × List ℕ)
+irq_of text = do
+  device ← number_until 10 32 (2 ^ 32 - 1) text
+  vector ← number_until 10 10 255 device.1
+  Some (Irq device.0 vector.0, vector.1)
 
-unfoldable pub call_of : List ℕ → Option Act
-call_of rest = do
-  code ← split_once 32 rest
-  first ← split_once 32 code.1
-  second ← split_once 32 first.1
-  word ← behind_sign second.1
-  c ← number_of 10 max_u64 code.0
-  a ← hexadecimal_of max_u64 first.0
-  b ← hexadecimal_of max_u64 second.0
-  if bytes_eq word (codes "begin") then Some (Begin c a b) else option_map (Hvc c a b) (answer_of word)
+-- what comes of a call with its code and its arguments
+unfoldable pub outcome_of : ℕ → ℕ → ℕ → List ℕ → Option (Act × List ℕ)
+outcome_of code a b text =
+    if begins (last (codes "begin")) text then Some (Begin code a b, behind (last (codes "begin")) text)
+    else mapped (Hvc code a b) (answer_of text)
 
-unfoldable pub decide_of : List ℕ → Option Act
-decide_of rest = do
-  word ← behind_sign rest
-  refused ← decision_of word
-  Some (Decide refused)
+unfoldable pub call_of : List ℕ → Option (Act × List ℕ)
+call_of text = do
+  code ← number_until 10 32 max_u64 text
+  a ← hexadecimal_until 32 max_u64 code.1
+  b ← hexadecimal_until 32 max_u64 a.1
+  behind_sign (outcome_of code.0 a.0 b.0) b.1
 
-unfoldable pub settle_of : List ℕ → Option Act
-settle_of rest = do
-  word ← behind_sign rest
-  how ← settled_of word
-  Some (Settle how)
+unfoldable pub noted_of : List ℕ → Option (Act × List ℕ)
+noted_of text = do
+  id ← number_until 10 32 (2 ^ 32 - 1) text
+  how ← behind_sign heard_of id.1
+  Some (Noted id.0 how.0, how.1)
 
-unfoldable pub note_of : List ℕ → Option Act
-note_of rest = do
-  id ← number_of 10 (2 ^ 32 - 1) rest
-  Some (Note id)
+-- a hypercall, an act of a call that is open, or a stop
+unfoldable pub act_of_call : List ℕ → Option (Act × List ℕ)
+act_of_call text =
+    if begins (codes "hvc ") text then call_of (behind (codes "hvc ") text)
+    else (if begins (codes "decide = ") text then mapped Decide (decision_of (behind (codes "decide = ") text))
+    else (if begins (codes "settle = ") text then mapped Settle (settled_of (behind (codes "settle = ") text))
+    else (if begins (codes "note ") text then mapped Note (number_until 10 10 (2 ^ 32 - 1) (behind (codes "note ") text))
+    else (if begins (codes "noted ") text then noted_of (behind (codes "noted ") text)
+    else (if begins (codes "finish = ") text then mapped Finish (answer_of (behind (codes "finish = ") text))
+    else (if begins (last (codes "stop")) text then Some (Stop, behind (last (codes "stop")) text)
+    else (if begins (last (codes "commit")) text then Some (Commit, behind (last (codes "commit")) text)
+    else None)))))))
 
-unfoldable pub noted_of : List ℕ → Option Act
-noted_of rest = do
-  id ← split_once 32 rest
-  word ← behind_sign id.1
-  n ← number_of 10 (2 ^ 32 - 1) id.0
-  how ← heard_of word
-  Some (Noted n how)
+unfoldable pub act_of : List ℕ → Option (Act × List ℕ)
+act_of text =
+    if begins (codes "read ") text then read_of (behind (codes "read ") text)
+    else (if begins (codes "write ") text then write_of (behind (codes "write ") text)
+    else (if begins (codes "fetch ") text then fetch_of (behind (codes "fetch ") text)
+    else (if begins (codes "await ") text then await_of (behind (codes "await ") text)
+    else (if begins (codes "irq = ") text then irq_of (behind (codes "irq = ") text)
+    else act_of_call text))))
 
-unfoldable pub finish_of : List ℕ → Option Act
-finish_of rest = do
-  word ← behind_sign rest
-  answer ← answer_of word
-  Some (Finish answer)
-
--- the act with this name
-unfoldable pub named_of : List ℕ → List ℕ → Option Act
-named_of name rest =
-    if bytes_eq name (codes "read") then read_of rest
-    else (if bytes_eq name (codes "write") then write_of rest
-    else (if bytes_eq name (codes "fetch") then fetch_of rest
-    else (if bytes_eq name (codes "await") then await_of rest
-    else (if bytes_eq name (codes "irq") then irq_of rest
-    else (if bytes_eq name (codes "hvc") then call_of rest
-    else (if bytes_eq name (codes "decide") then decide_of rest
-    else (if bytes_eq name (codes "settle") then settle_of rest
-    else (if bytes_eq name (codes "note") then note_of rest
-    else (if bytes_eq name (codes "noted") then noted_of rest
-    else (if bytes_eq name (codes "finish") then finish_of rest else None))))))))))
-
-unfoldable pub act_of : List ℕ → Option Act
-act_of words =
-    if bytes_eq words (codes "stop") then Some Stop
-    else (if bytes_eq words (codes "commit") then Some Commit
-    else (split_once 32 words >>= λ x. named_of x.0 x.1))
-
-unfoldable pub entry_of : List ℕ → Option Entry
-entry_of words = do
-  cpu ← split_once 32 words
-  cell ← split_once 32 cpu.1
-  c ← number_of 10 15 cpu.0
-  id ← number_of 10 (2 ^ 32 - 1) cell.0
+unfoldable pub entry_of : List ℕ → Option (Entry × List ℕ)
+entry_of text = do
+  cpu ← number_until 10 32 15 text
+  cell ← number_until 10 32 (2 ^ 32 - 1) cpu.1
   act ← act_of cell.1
-  Some (record { cpu = c; cell = id; act = act })
+  Some (record { cpu = cpu.0; cell = cell.0; act = act.0 }, act.1)

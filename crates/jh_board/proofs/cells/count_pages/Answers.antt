@@ -4,7 +4,7 @@ use Rattle.std.proofs.lemmas.List.{append-nil, length-map}
 use Rattle.jh_cellcfg.specs.declared.config.CellConfig.{CellConfig}
 use Rattle.jh_cellcfg.specs.declared.live.Live.{Live}
 use Rattle.jh_shape.specs.Pages.{pages_of}
-use Rattle.jh_life.specs.Lives.{configs_of}
+use Rattle.jh_shape.specs.Lives.{configs_of}
 use Rattle.jh_board.proofs.CellsLemmas.{pages_fit}
 use Rattle.jh_board.proofs.cells.count_pages.Goals as goal
 

@@ -12,7 +12,8 @@ use Rattle.jh_script.specs.declared.image.Image.{Image}
 use Rattle.jh_history.specs.Admitted.{pool_pages}
 use Rattle.jh_history.specs.Facts.{Facts}
 use Rattle.jh_history.specs.Lives.{is_on_board}
-use Rattle.jh_history.specs.Phases.{configs_of, may_give, unless_refused}
+use Rattle.jh_history.specs.Phases.{may_give, unless_refused}
+use Rattle.jh_shape.specs.Lives.{configs_of}
 use Rattle.jh_history.specs.ReadView.{refusal_by}
 use Rattle.jh_history.proofs.FactsLemmas.{same_function}
 use Rattle.jh_board.proofs.judging.judge.Goals as goal

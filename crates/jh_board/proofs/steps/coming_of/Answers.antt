@@ -17,7 +17,7 @@ unreachable-requires c =
     let f = c.requires.next.facts in
     let o : OpenCall = c.in-Some.begun in
     let at = c.in-Some-create_of.at in
-    let act : c.args.entry.now.act ≡ Decide None = going_decides c.args.entry.now.act (sym c.goes_on.ensures ∙ c.if-not-goes_on.false) in
+    let act : c.args.entry.now.act ≡ Decide None = going_decides c.args.entry.now.act (sym c.decides_to_go_on.ensures ∙ c.if-not-decides_to_go_on.false) in
     let is : f.call ≡ Some o = sym c.requires.next.means.call ∙ c.in-Some.is in
     let create : o.call ≡ Create at = create_at o.call at (sym c.create_of.ensures ∙ c.in-Some-create_of.is) in
     let read = c.decides_are_of_the_open_call.ensures.goes_on image f c.args.entry.now o at c.requires.next.sound c.requires.next.due act is create in
@@ -40,7 +40,7 @@ returns-clause-ready c = λ f means due held before ready.
     let image = c.args.image.now in
     let o : OpenCall = c.in-Some.begun in
     let at = c.in-Some-create_of.at in
-    let act : c.args.entry.now.act ≡ Decide None = going_decides c.args.entry.now.act (sym c.goes_on.ensures ∙ c.if-not-goes_on.false) in
+    let act : c.args.entry.now.act ≡ Decide None = going_decides c.args.entry.now.act (sym c.decides_to_go_on.ensures ∙ c.if-not-decides_to_go_on.false) in
     let is : f.call ≡ Some o = sym means.call ∙ c.in-Some.is in
     let create : o.call ≡ Create at = create_at o.call at (sym c.create_of.ensures ∙ c.in-Some-create_of.is) in
     let comes : creation_of image f o.caller at ≡ Comes c.in-Comes.config = sym (c.in_ok-config.ensures f means) ∙ c.in-Comes.is in
@@ -50,7 +50,7 @@ returns-clause-ready c = λ f means due held before ready.
 pub returns-clause-free : goal.returns-clause-free
 returns-clause-free c = λ f means due held.
     let o : OpenCall = c.in-Some.begun in
-    let act : c.args.entry.now.act ≡ Decide None = going_decides c.args.entry.now.act (sym c.goes_on.ensures ∙ c.if-not-goes_on.false) in
+    let act : c.args.entry.now.act ≡ Decide None = going_decides c.args.entry.now.act (sym c.decides_to_go_on.ensures ∙ c.if-not-decides_to_go_on.false) in
     let is : c.requires.next.facts.call ≡ Some o = sym c.requires.next.means.call ∙ c.in-Some.is in
     ready_early held f.call o (sym means.call ∙ c.in-Some.is)
     (c.decides_are_of_the_open_call.ensures.phase c.args.image.now c.requires.next.facts c.args.entry.now None o c.requires.next.sound c.requires.next.due act is)

@@ -13,7 +13,7 @@ use Rattle.jh_history.specs.Cpus.{cpu_after}
 use Rattle.jh_history.specs.Endpoints.{changing_by, IsNextOf}
 use Rattle.jh_history.specs.Facts.{Facts}
 use Rattle.jh_history.specs.Pages.{page_write_by}
-use Rattle.jh_history.specs.Phases.{configs_of}
+use Rattle.jh_shape.specs.Lives.{configs_of}
 use Rattle.jh_board.specs.declared.held.Held.{Held}
 use Rattle.jh_board.specs.LiveView.{LiveView}
 use Rattle.jh_board.specs.Means.{Means}

@@ -7,7 +7,7 @@ use Rattle.jh_cellcfg.specs.declared.live.Live.{Live}
 use Rattle.jh_history.specs.declared.call.OpenCall.{OpenCall}
 use Rattle.jh_history.specs.Devices.{specs_of}
 use Rattle.jh_history.specs.Endpoints.{changing_by, with_words}
-use Rattle.jh_history.specs.Phases.{configs_of}
+use Rattle.jh_shape.specs.Lives.{configs_of}
 use Rattle.jh_board.specs.Pages.{byte_of}
 use Rattle.jh_board.specs.Steps.{MayCommitDevices}
 use Rattle.jh_board.proofs.steps.make_commit.Goals as goal

@@ -5,7 +5,6 @@ use Rattle.jh_check.specs.Private.Reaches.{AreOf}
 use Rattle.jh_check.specs.Lists.{capped}
 use Rattle.jh_check.specs.Findings.{between, from_cell}
 use Rattle.jh_check.proofs.ListLemmas.{found_step, found_done}
-use Rattle.jh_check.proofs.ReachLemmas.{cell_alone, capped_none_more}
 use Rattle.jh_check.proofs.pairing.from_cell.Goals as goal
 
 pub loop-b-init : goal.loop-b-init
@@ -39,15 +38,3 @@ join-requires-clause-reaches c =
     let h : b < length all = omega arith in
     let k : AreOf c.args.rule b (get_or all b c.cell.result.now) (get_or each b c.index-each-b.result) = c.requires.each b c.index-each-b.result c.cell.result.now h in
     subst (λ x. AreOf c.args.rule b c.cell.result.now x) (sym c.index-each-b.is) (subst (λ x. AreOf c.args.rule b x (get_or each b c.index-each-b.result)) (sym v) k)
-
-pub returns-then-stands_alone : goal.returns-then-stands_alone
-returns-then-stands_alone c =
-    let rule = c.args.rule in
-    let all = cells_of c.args.setup.now in
-    let a = c.args.a in
-    let one = c.args.one.now in
-    let each = c.args.each.now in
-    let t = c.if-stands_alone.true in
-    let k : AreOf rule a (get_or all a one) (get_or each a c.index-each-a.result) = c.requires.each a c.index-each-a.result one c.requires.among in
-    let of = subst (λ x. AreOf rule a one x) (sym c.index-each-a.is) (subst (λ x. AreOf rule a x (get_or each a c.index-each-a.result)) (sym c.requires.one) k) in
-    capped_none_more c.args.found.now (from_cell rule all a one) (cell_alone rule all a one c.index-each-a.result (c.stands_alone.ensures.within t) c.requires.one of (c.stands_alone.ensures.none t))

@@ -1,23 +1,17 @@
-use Rattle.std.proofs.Common.{List, sym, subst}
+use Rattle.std.proofs.Common.{List, subst}
 use Rattle.std.proofs.lemmas.Result.{IfOk-weaker}
 use Rattle.jh_cellcfg.specs.declared.region.Region.{Region}
 use Rattle.jh_check.specs.declared.spans.Span.{Span}
-use Rattle.jh_check.specs.Spans.{StandApart}
 use Rattle.jh_check.specs.Private.Reaches.{HasOthers, TellsPairs, TellsOthers}
-use Rattle.jh_check.proofs.ReachLemmas.{others_pairs, others_apart}
+use Rattle.jh_check.proofs.ReachLemmas.{others_pairs}
 use Rattle.jh_check.proofs.reach.of_own.Goals as goal
-
-pub returns-then-stand_apart-clause-tells : goal.returns-then-stand_apart-clause-tells
-returns-then-stand_apart-clause-tells c =
-    let tells = others_apart c.args.rule c.args.pass c.args.b c.args.cell.now c.requires (subst (λ regions. StandApart c.args.rule regions) c.as_slice-regions.ensures.value (c.stand_apart.ensures c.if-stand_apart.true)) in
-    subst (λ reaches. TellsOthers c.args.rule c.args.pass c.args.b c.args.cell.now reaches) (sym c.new.ensures.items) tells
 
 pub returns-clause-tells : goal.returns-clause-tells
 returns-clause-tells c =
     let cell = c.args.cell.now in
-    let spans = c.as_slice.result.now in
-    let v = c.as_slice.ensures.value in
+    let spans = c.as_slice-2.result.now in
+    let v = c.as_slice-2.ensures.value in
     let P : List Region → List Span → Type 0 = λ regions spans. HasOthers c.args.rule c.args.pass c.args.b regions spans in
-    let has : P cell.memory_regions c.in_ok-spans.spans.items = subst (λ regions. P regions c.in_ok-spans.spans.items) c.as_slice-regions.ensures.value c.in_ok-spans.ensures.each in
+    let has : P cell.memory_regions c.in_ok-spans.spans.items = subst (λ regions. P regions c.in_ok-spans.spans.items) c.as_slice.ensures.value c.in_ok-spans.ensures.each in
     let all : P cell.memory_regions spans = rw v has in
     IfOk-weaker c.of_pairs.result (λ reaches. TellsPairs spans reaches.items) (λ reaches. TellsOthers c.args.rule c.args.pass c.args.b cell reaches.items) (λ reaches tells. others_pairs c.args.rule c.args.pass c.args.b cell spans reaches.items c.requires all tells) c.of_pairs.ensures.tells

@@ -8,7 +8,7 @@ use Rattle.jh_cellcfg.specs.declared.region.Region.{Region}
 use Rattle.jh_cellcfg.specs.Regions.{IsInRange}
 use Rattle.jh_check.specs.Clean.{IsClean}
 use Rattle.jh_history.specs.Lives.{cell_in, regions_in}
-use Rattle.jh_history.specs.Phases.{configs_of}
+use Rattle.jh_shape.specs.Lives.{configs_of}
 use Rattle.jh_history.proofs.GrantedLemmas.{unmarked, configs_unmarked, regions_within}
 use Rattle.jh_history.proofs.cells.regions_in.Goals as goal
 

@@ -1,7 +1,8 @@
 -- A configuration that was read.
 use Rattle.std.proofs.Common.{ℕ, Bool, List, false, get_or, ap, sym, ◌∙◌}
 use Rattle.jh_cellcfg.specs.declared.config.CellConfig.{CellConfig}
-use Rattle.jh_history.specs.Phases.{configs_of, may_give, unless_refused}
+use Rattle.jh_history.specs.Phases.{may_give, unless_refused}
+use Rattle.jh_shape.specs.Lives.{configs_of}
 use Rattle.jh_history.specs.ReadView.{refusal_by}
 use Rattle.jh_history.proofs.FactsLemmas.{same_function}
 use Rattle.jh_history.proofs.creation.judged.Goals as goal

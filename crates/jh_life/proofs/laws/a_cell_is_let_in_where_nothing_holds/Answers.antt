@@ -7,7 +7,7 @@ use Rattle.jh_cellcfg.specs.declared.config.CellConfig.{CellConfig}
 use Rattle.jh_cellcfg.specs.declared.config.SystemConfig.{SystemConfig}
 use Rattle.jh_check.specs.Refusals.{refusal_of, IsAccepted}
 use Rattle.jh_shape.specs.Pages.{pages_of}
-use Rattle.jh_life.specs.Lives.{configs_of}
+use Rattle.jh_shape.specs.Lives.{configs_of}
 use Rattle.jh_life.specs.Verdict.{may_have}
 use Rattle.jh_life.proofs.laws.a_cell_is_let_in_where_nothing_holds.Goals as goal
 

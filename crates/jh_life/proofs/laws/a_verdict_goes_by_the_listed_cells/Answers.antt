@@ -5,7 +5,7 @@ use Rattle.jh_cellcfg.specs.declared.config.CellConfig.{CellConfig}
 use Rattle.jh_cellcfg.specs.declared.config.SystemConfig.{SystemConfig}
 use Rattle.jh_check.specs.Refusals.{refusal_of}
 use Rattle.jh_shape.specs.Pages.{pages_of}
-use Rattle.jh_life.specs.Lives.{configs_of}
+use Rattle.jh_shape.specs.Lives.{configs_of}
 use Rattle.jh_life.specs.Verdict.{may_have}
 use Rattle.jh_life.proofs.laws.a_verdict_goes_by_the_listed_cells.Goals as goal
 

@@ -5,7 +5,8 @@ use Rattle.jh_cellcfg.specs.declared.config.CellConfig.{CellConfig}
 use Rattle.jh_cellcfg.specs.declared.config.SystemConfig.{SystemConfig}
 use Rattle.jh_cellcfg.specs.declared.region.Region.{Region}
 use Rattle.jh_shape.specs.Pages.{pages_of}
-use Rattle.jh_life.specs.Lives.{configs_of, marks_of}
+use Rattle.jh_life.specs.Lives.{marks_of}
+use Rattle.jh_shape.specs.Lives.{configs_of}
 use Rattle.jh_life.specs.Changes.{marked}
 use Rattle.jh_board.specs.Closed.{all_regions, count_regions, AreInRange}
 use Rattle.jh_board.proofs.CellsLemmas.{cell_at, lists_len, marked_none, marked_same}

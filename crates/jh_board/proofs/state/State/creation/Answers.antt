@@ -14,7 +14,8 @@ use Rattle.jh_history.specs.Configs.{ReadCell}
 use Rattle.jh_history.specs.Facts.{Facts}
 use Rattle.jh_history.specs.Grants.{granted}
 use Rattle.jh_history.specs.LiveView.{is_locked_by}
-use Rattle.jh_history.specs.Phases.{configs_of, is_locked, creation_of, creation_by}
+use Rattle.jh_history.specs.Phases.{is_locked, creation_of, creation_by}
+use Rattle.jh_shape.specs.Lives.{configs_of}
 use Rattle.jh_history.specs.ReadView.{as_read, read_by}
 use Rattle.jh_history.proofs.FactsLemmas.{same_function}
 use Rattle.jh_history.proofs.ReadLemmas.{read_by_is}

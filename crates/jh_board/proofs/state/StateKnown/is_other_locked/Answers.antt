@@ -4,7 +4,7 @@ use Rattle.std.specs.List.{list_any}
 use Rattle.jh_cellcfg.specs.declared.live.Live.{Live}
 use Rattle.jh_history.specs.declared.place.Place.{Place}
 use Rattle.jh_history.specs.LiveView.{is_other_locked_by}
-use Rattle.jh_history.specs.Phases.{configs_of}
+use Rattle.jh_shape.specs.Lives.{configs_of}
 use Rattle.jh_history.proofs.FactsLemmas.{same_function}
 use Rattle.jh_board.specs.Pages.{byte_of}
 use Rattle.jh_board.specs.StateView.{StateView}

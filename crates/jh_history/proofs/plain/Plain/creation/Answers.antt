@@ -8,7 +8,8 @@ use Rattle.jh_history.specs.declared.call.Creation.{Creation}
 use Rattle.jh_history.specs.declared.place.Place.{Place}
 use Rattle.jh_history.specs.Configs.{ReadCell}
 use Rattle.jh_history.specs.LiveView.{is_locked_by}
-use Rattle.jh_history.specs.Phases.{configs_of, is_locked, creation_of, creation_by}
+use Rattle.jh_history.specs.Phases.{is_locked, creation_of, creation_by}
+use Rattle.jh_shape.specs.Lives.{configs_of}
 use Rattle.jh_history.specs.PlainView.{PlainView, IsFit, last_byte}
 use Rattle.jh_history.specs.ReadView.{as_read}
 use Rattle.jh_history.proofs.FactsLemmas.{same_function}

@@ -10,7 +10,7 @@ use Rattle.jh_cellcfg.specs.declared.live.Live.{Live}
 use Rattle.jh_history.specs.declared.call.OpenCall.{OpenCall}
 use Rattle.jh_history.specs.Calls.{call_by}
 use Rattle.jh_history.specs.Commits.{cells_by}
-use Rattle.jh_history.specs.Phases.{configs_of}
+use Rattle.jh_shape.specs.Lives.{configs_of}
 use Rattle.jh_history.specs.PlainView.{PlainView, IsFit}
 use Rattle.jh_history.proofs.PlainStepLemmas.{fit_after}
 use Rattle.jh_history.proofs.plain.Plain.move_on.Goals as goal

@@ -2,7 +2,7 @@
 use Rattle.std.proofs.Common.{List, ap, sym, ◌∙◌}
 use Rattle.jh_script.specs.declared.image.Image.{Image}
 use Rattle.jh_cellcfg.specs.declared.live.Live.{Live}
-use Rattle.jh_history.specs.Phases.{configs_of}
+use Rattle.jh_shape.specs.Lives.{configs_of}
 use Rattle.jh_history.specs.Lives.{cell_in}
 use Rattle.jh_history.specs.PlainView.{PlainView}
 use Rattle.jh_history.proofs.plain_known.PlainKnown.cell.Goals as goal

@@ -1,7 +1,7 @@
 -- What is kept stands for the facts.
 use Rattle.std.proofs.Common.{List, ap, sym, ◌∙◌}
 use Rattle.jh_cellcfg.specs.declared.live.Live.{Live}
-use Rattle.jh_history.specs.Phases.{configs_of}
+use Rattle.jh_shape.specs.Lives.{configs_of}
 use Rattle.jh_history.specs.PlainView.{PlainView}
 use Rattle.jh_history.proofs.plain_known.PlainKnown.live.Goals as goal
 

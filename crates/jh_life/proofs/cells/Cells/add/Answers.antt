@@ -3,14 +3,14 @@ use Rattle.jh_cellcfg.specs.declared.config.CellConfig.{CellConfig}
 use Rattle.jh_check.specs.Refusals.{is_known}
 use Rattle.jh_life.specs.Lives.{cells_of}
 use Rattle.jh_life.proofs.JoinedLemmas.{list_joined, length_joined, joined_push, stands_push}
-use Rattle.jh_life.proofs.PageLemmas.{own_le}
+use Rattle.jh_shape.proofs.PageLemmas.{own_le}
 use Rattle.jh_life.proofs.cells.Cells.add.Goals as goal
 
 pub overflow_add-self : goal.overflow_add-self
 overflow_add-self c =
     let few = c.self.invariant.few in
     let own = c.cell_pages-own.ensures.bound in
-    let taken : c.self.inside.taken ≤ 1048577 * length c.self.inside.configs.items = rw c.self.invariant.pages (own_le c.tables_are_few.ensures c.self.inside.configs.items) in
+    let taken : c.self.inside.taken ≤ 1048577 * length c.self.inside.configs.items = rw c.self.invariant.pages (own_le c.self.inside.configs.items) in
     omega arith
 
 pub invariant_of-self-2 : goal.invariant_of-self-2

@@ -1,0 +1,5 @@
+use Rattle.jh_check.specs.Private.Rising.{IsRowTo}
+use Rattle.jh_check.proofs.rising.stretch_of.Given as goal
+
+abbrev pub invariant-loop-item : goal.invariant-loop-item
+invariant-loop-item l = IsRowTo l.rule l.regions l.item l.row

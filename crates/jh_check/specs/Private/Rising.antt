@@ -1,0 +1,58 @@
+-- Cells whose regions begin in the order of their numbers.
+use Rattle.std.specs.Prelude.{◌≡◌, ℕ, ◌<◌, ◌≤◌, ◌⊎◌, true, false, List, length, slice_index_or}
+use Rattle.jh_cellcfg.specs.declared.region.Region.{Region}
+use Rattle.jh_check.specs.declared.rule.Rule.{Rule}
+use Rattle.jh_check.specs.declared.reach.Window.{Window}
+use Rattle.jh_check.specs.declared.rising.Row.{Row}
+use Rattle.jh_check.specs.Spans.{takes_part, span_of}
+
+-- where the region of that number begins, as the rule compares it
+abbrev pub start_at : Rule → List Region → Region → ℕ → ℕ
+start_at rule regions d k = (span_of rule k (slice_index_or regions k d)).start
+
+-- where the region of that number ends, as the rule compares it
+abbrev pub end_at : Rule → List Region → Region → ℕ → ℕ
+end_at rule regions d k = (span_of rule k (slice_index_or regions k d)).end
+
+-- the region of that number may break the rule as one of a pair
+abbrev pub TakesPart : Rule → List Region → Region → ℕ → Type 0
+TakesPart rule regions d k = takes_part rule (slice_index_or regions k d) ≡ true
+
+-- of the first regions, those that take part begin in the order of their numbers, and end before those behind them
+-- begin, where they stand before `first` or those behind `last`
+pub record IsRisingTo (rule : Rule) (regions : List Region) (n first last : ℕ) : Type 0 where
+  pub rising : (i j : ℕ) (d : Region) → i < j → j < n → TakesPart rule regions d i → TakesPart rule regions d j → start_at rule regions d i ≤ start_at rule regions d j
+  pub before : (i j : ℕ) (d : Region) → i < j → j < n → i < first → TakesPart rule regions d i → TakesPart rule regions d j → end_at rule regions d i ≤ start_at rule regions d j
+  pub behind : (i j : ℕ) (d : Region) → i < j → j < n → last < j → TakesPart rule regions d i → TakesPart rule regions d j → end_at rule regions d i ≤ start_at rule regions d j
+
+-- the regions that take part begin in the order of their numbers, and those that meet have theirs in the stretch
+abbrev pub IsStretch : Rule → List Region → Window → Type 0
+IsStretch rule regions stretch = IsRisingTo rule regions (length regions) stretch.first stretch.last
+
+-- the row is that of the first regions
+pub record IsRowTo (rule : Rule) (regions : List Region) (n : ℕ) (row : Row) : Type 0 where
+  pub stand : IsRisingTo rule regions n row.first row.last
+  pub starts : (i : ℕ) (d : Region) → i < n → TakesPart rule regions d i → start_at rule regions d i ≤ row.start
+  pub ends : (i : ℕ) (d : Region) → i < n → TakesPart rule regions d i → end_at rule regions d i ≤ row.end
+  pub latest : (i : ℕ) (d : Region) → i < n → TakesPart rule regions d i → (i ≤ row.item) × (row.item < n) × TakesPart rule regions d row.item
+
+-- the row has the region of that number behind it: either the region begins behind all, or it
+-- begins no earlier than the last
+pub record IsJoined (rule : Rule) (item : ℕ) (region : Region) (row more : Row) : Type 0 where
+  pub latest : more.item ≡ item
+  pub start : more.start ≡ (span_of rule item region).start
+  pub own : (span_of rule item region).end ≤ more.end
+  pub grows : row.end ≤ more.end
+  pub first : more.first ≤ row.first
+  pub apart : row.end ≤ (span_of rule item region).start ⊎ ((row.start ≤ (span_of rule item region).start) × (more.first ≤ row.item) × (more.last ≡ item))
+  pub last : (more.last ≡ row.last) ⊎ (more.last ≡ item)
+
+-- the row is joined by the region where that takes part, and else stays the same
+abbrev pub IsRowMore : Rule → ℕ → Region → Row → Row → Type 0
+IsRowMore rule item region row more = (takes_part rule region ≡ true → IsJoined rule item region row more) × (takes_part rule region ≡ false → more ≡ row)
+
+-- each region behind `item` up to `last` that takes part and has a number above `stop` begins no earlier than one that
+-- takes part, begins at `end` or behind it, and has a number up to `stop`
+abbrev pub EndsBefore : Rule → List Region → ℕ → ℕ → ℕ → ℕ → Type 0
+EndsBefore rule regions item last end stop =
+    (s : ℕ) → stop < s → s ≤ last → (d : Region) → (item < stop) × (stop < length regions) × TakesPart rule regions d stop × (end ≤ start_at rule regions d stop)

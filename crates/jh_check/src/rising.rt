@@ -1,0 +1,98 @@
+//! Cells whose regions begin in the order of their numbers, as they mostly do: those that meet stand side by side.
+ghost use Rattle.std.specs.Prelude.{◌≡◌, ◌<◌, ◌≤◌, ℕ, true, length, slice_index_or, IfSome};
+ghost use Rattle.jh_cellcfg.specs.declared.region.Region.{Region};
+ghost use Rattle.jh_check.specs.Spans.{takes_part, span_of};
+ghost use Rattle.jh_check.specs.Private.Rising.{IsStretch, IsRowMore, EndsBefore};
+
+use crate::reach::Window;
+use crate::rule::Rule;
+use crate::spans::{span_of, takes_part};
+use jh_cellcfg::Region;
+
+/// What is known of the first regions of a cell, of which those that take part begin in the order of their numbers.
+#[derive(Clone, Copy)]
+pub(crate) struct Row {
+    /// Where the last of them begins that takes part.
+    pub(crate) start: u64,
+    /// How far they reach.
+    pub(crate) end: u128,
+    /// The number of the last that takes part.
+    pub(crate) item: usize,
+    /// Those before it end before all behind them begin.
+    pub(crate) first: usize,
+    /// Those behind it begin where all before them have ended.
+    pub(crate) last: usize,
+}
+
+/// The row with the region of that number behind it; none, if the region begins before the last.
+fn extended(row: Row, rule: Rule, item: usize, region: &Region) -> Option<Row>
+    ensures { IfSome result (λ more. IsRowMore rule item region.now row more) }
+{
+    if !takes_part(rule, region) {
+        return Some(row);
+    }
+    let span = span_of(rule, item, region);
+    if row.end <= u128::from(span.start) {
+        return Some(Row {
+            start: span.start,
+            end: span.end,
+            item,
+            first: row.first,
+            last: row.last,
+        });
+    }
+    if span.start < row.start {
+        return None;
+    }
+    Some(Row {
+        start: span.start,
+        end: span.end.max(row.end),
+        item,
+        first: row.item.min(row.first),
+        last: item,
+    })
+}
+
+/// From the first region to the last that may meet another of the cell; none, where the regions don't begin in the
+/// order of their numbers.
+#[inline(never)]
+pub(crate) fn stretch_of(rule: Rule, regions: &[Region]) -> Option<Window>
+    ensures { IfSome result (λ stretch. IsStretch rule regions.now stretch) }
+{
+    let mut row = Row {
+        start: 0,
+        end: 0,
+        item: 0,
+        first: usize::MAX,
+        last: 0,
+    };
+    for (item, region) in regions.iter().enumerate() {
+        match extended(row, rule, item, region) {
+            Some(more) => row = more,
+            None => return None,
+        }
+    }
+    Some(Window {
+        first: row.first,
+        last: row.last,
+    })
+}
+
+/// The last number behind `item`, up to `last`, before which no region that takes part begins at `end` or behind it.
+pub(crate) fn last_before(
+    rule: Rule,
+    regions: &[Region],
+    item: usize,
+    last: usize,
+    end: u128,
+) -> usize
+    ensures { EndsBefore rule regions.now item last end result }
+{
+    for s in item.saturating_add(1)..regions.len().min(last) {
+        let region = &regions[s];
+        if takes_part(rule, region) && end <= u128::from(span_of(rule, s, region).start) {
+            return s;
+        }
+    }
+    last
+}

@@ -1,9 +1,0 @@
--- None of the cells so far.
-use Rattle.std.proofs.Common.{◌≡◌, false, take}
-use Rattle.std.specs.List.{list_any}
-use Rattle.jh_history.specs.LiveView.{joined}
-use Rattle.jh_history.proofs.LoopLemmas.{closing}
-use Rattle.jh_history.proofs.live_cells.any_closes.Given as goal
-
-abbrev pub invariant-loop-i : goal.invariant-loop-i
-invariant-loop-i l = list_any (closing l.place) (take l.i (joined l.cells l.marks)) ≡ false

@@ -1,9 +1,0 @@
--- One byte more.
-use Rattle.std.proofs.Common.{◌∙◌, refl}
-use Rattle.jh_history.proofs.KeptLemmas.{over_more}
-use Rattle.jh_history.proofs.written.write_run.Goals as goal
-
-pub loop-k-preserved : goal.loop-k-preserved
-loop-k-preserved c = λ image places q.
-    over_more image c.loop-k.bytes.items c.push.new.self.items c.args.run.first c.further.result _ c.loop-k.k c.args.run.count c.loop-k.rest places q c.loop-k-test.true c.further.ensures refl c.in_ok-push.ensures.items
-    ∙ c.loop-k.invariant image places q
