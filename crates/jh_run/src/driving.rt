@@ -44,20 +44,47 @@ fn end_after(answer: Result<Turn, TurnFault>) -> Option<DriveEnd>
     }
 }
 
-/// Lets other threads go first where a turn found nothing due to its CPU.
-fn give_way(answer: &Result<Turn, TurnFault>) {
-    if matches!(answer, Ok(Turn::NotNow)) {
+/// How often a thread looks for a new entry before its next turn, where the last one found nothing due to its CPU. A turn
+/// of another thread may be refused, which adds none, so it doesn't look for ever.
+const LOOKS: u32 = 64;
+
+/// Lets other threads go first until there is a new entry, which may have made one due to the port's CPU.
+fn wait_for_news(shared: &Shared<Running>, port: &Port<Running>) {
+    for _ in 0..LOOKS {
+        thread::yield_now();
+        if shared.has_news(port) {
+            return;
+        }
+    }
+}
+
+/// Lets other threads go first where a turn of the port found nothing due to its CPU. `alone` says that the thread drives
+/// no other port, so that it has nothing to do until there is a new entry.
+fn give_way(
+    shared: &Shared<Running>,
+    port: &Port<Running>,
+    answer: &Result<Turn, TurnFault>,
+    alone: bool,
+) {
+    if !matches!(answer, Ok(Turn::NotNow)) {
+        return;
+    }
+    if alone {
+        wait_for_news(shared, port);
+    } else {
         thread::yield_now();
     }
 }
 
-/// A turn of the port behind the gate. `round` is the number of turns of this port before.
+/// A turn of the port behind the gate. `round` is the number of turns of this port before; `alone` says that the thread
+/// drives no other port.
 fn drive_port<R: Wait, G: Gate>(
     rt: &R,
     shared: &Shared<Running>,
     port: &mut Port<Running>,
     gate: &G,
     round: u64,
+    alone: bool,
 ) -> Option<DriveEnd>
     requires { IsPortOf shared.now port.old }
     ensures port { IsPortOf shared.now port.new }
@@ -66,7 +93,7 @@ fn drive_port<R: Wait, G: Gate>(
 {
     gate.pass(port.caller(), round);
     let answer = shared.turn(rt, port);
-    give_way(&answer);
+    give_way(shared, port, &answer, alone);
     end_after(answer)
 }
 
@@ -82,8 +109,9 @@ fn drive_round<R: Wait, G: Gate>(
     ensures same { IsSameSet shared.now ports.old ports.new }
     ensures shows { IfSome result (λ end. SomeShows (origin_of (opened_value shared.now)) end ports.new) }
 {
+    let alone = ports.len() == 1;
     for i in 0..ports.len() {
-        let end = drive_port(rt, shared, &mut ports[i], gate, round);
+        let end = drive_port(rt, shared, &mut ports[i], gate, round, alone);
         if end.is_some() {
             return end;
         }
