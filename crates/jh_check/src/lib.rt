@@ -1,6 +1,7 @@
 //! The check of a system and its cells: what would break the isolation of cells, rule by rule.
 #![tactic(auto)]
 
+mod blocks;
 mod bus;
 mod checking;
 mod devices;
