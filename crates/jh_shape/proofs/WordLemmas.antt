@@ -1,5 +1,5 @@
 -- Marks of the slots of a word, told by the word's bits.
-use Rattle.std.proofs.Common.{◌≡◌, ◌≢◌, ℕ, ◌+◌, ◌-◌, ◌*◌, ◌/◌, ◌%◌, ◌^◌, ◌<◌, ◌≤◌, zero, suc, min, max, Bool, false, not, ◌==◌, ◌&&◌, ◌||◌, nat_eq, nat_le, nat_lt, cond, List, length, set, slice_index, refl, sym, ap, ◌∙◌, ⊎_elim, arith, w64, bit_and, bit_or}
+use Rattle.std.proofs.Common.{◌≡◌, ◌≢◌, ℕ, ◌+◌, ◌-◌, ◌*◌, ◌/◌, ◌%◌, ◌^◌, ◌<◌, ◌≤◌, zero, suc, min, max, Bool, true, false, not, ◌==◌, ◌&&◌, ◌||◌, nat_eq, nat_le, nat_lt, cond, List, length, set, slice_index, refl, sym, ap, ◌∙◌, ⊎_elim, arith, w64, bit_and, bit_or}
 use Rattle.std.specs.Int.{bit_at, bit_not}
 use Rattle.std.specs.Int.Count.{ones, ones_step}
 use Rattle.std.proofs.lemmas.Bool.{cases_eq, cases_lt, eq-eqb, ne_eqb, lt-ltb, le-ltb, lt-leb, le-leb, and_left, and_right}

@@ -15,9 +15,9 @@ overflow_add-more c =
 
 pub loop-word-preserved : goal.loop-word-preserved
 loop-word-preserved c = (
-    more_fit (λ k. is_marked c.mark_in_word-more.new.words k) _ _ c.args.to c.loop-word.more c.mark_in_word-more.result (c.loop-word.invariant.2 c.args.to (omega arith)) (c.mark_in_word-more.ensures.more c.args.to (omega arith)),
-    λ k. words_more c.args.from c.args.to c.loop-word.word k (is_marked c.args.words.now k) _ _ (c.loop-word.invariant.1 k) (c.mark_in_word-more.ensures.marks k),
-    λ end past. grown _ _ _ c.loop-word.more c.mark_in_word-more.result (c.loop-word.invariant.2 end past) (c.mark_in_word-more.ensures.more end past),
+  more_fit (λ k. is_marked c.mark_in_word-more.new.words k) _ _ c.args.to c.loop-word.more c.mark_in_word-more.result (c.loop-word.invariant.2 c.args.to (omega arith)) (c.mark_in_word-more.ensures.more c.args.to (omega arith)),
+  λ k. words_more c.args.from c.args.to c.loop-word.word k (is_marked c.args.words.now k) _ _ (c.loop-word.invariant.1 k) (c.mark_in_word-more.ensures.marks k),
+  λ end past. grown _ _ _ c.loop-word.more c.mark_in_word-more.result (c.loop-word.invariant.2 end past) (c.mark_in_word-more.ensures.more end past),
 )
 
 pub returns-clause-marks : goal.returns-clause-marks
