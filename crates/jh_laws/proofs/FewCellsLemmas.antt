@@ -16,7 +16,7 @@ use Rattle.jh_cellcfg.specs.Cells.{is_passive}
 use Rattle.jh_cellcfg.specs.Lives.{has_id}
 use Rattle.jh_cellcfg.specs.Faults.{header_fault, header_size}
 use Rattle.jh_cellcfg.specs.Reading.{config_of}
-use Rattle.jh_check.specs.Refusals.{any_below}
+use Rattle.jh_check.specs.Refusals.{any_below, AreTwo}
 use Rattle.jh_check.proofs.GivenLemmas.{sound_set}
 use Rattle.jh_comm.specs.declared.words.TheConstants.{STATE_RUNNING, STATE_SHUT_DOWN, STATE_FAILED, MESSAGE_SHUTDOWN_REQUEST}
 use Rattle.jh_cpu.specs.declared.cpu.Cpu.{Cpu}
@@ -50,7 +50,7 @@ use Rattle.jh_history.specs.Pages.{is_left, failing, unless_good, asking, commit
 use Rattle.jh_shape.specs.Lives.{configs_of}
 use Rattle.jh_history.specs.Due.{due_at, IsLegal, IsLegalFrom}
 use Rattle.jh_history.specs.Admitted.{IsAdmitted}
-use Rattle.jh_history.specs.Sound.{AreTwo, HasBytes, IsSound}
+use Rattle.jh_history.specs.Sound.{HasBytes, IsSound}
 use Rattle.jh_laws.specs.Ways.{is_commit}
 use Rattle.jh_history.proofs.SoundCommitLemmas.{configs_joined, configs_marked, configs_others, is_other_config}
 use Rattle.jh_history.proofs.SoundCpusLemmas.{changed_owner}

@@ -13,9 +13,9 @@ use Rattle.jh_cellcfg.specs.declared.config.CellConfig.{CellConfig}
 use Rattle.jh_cellcfg.specs.declared.live.Live.{Live}
 use Rattle.jh_cellcfg.specs.Cells.{name_of}
 use Rattle.jh_cellcfg.specs.Lives.{has_id}
+use Rattle.jh_check.specs.Refusals.{AreTwo}
 use Rattle.jh_life.specs.Lives.{new_live, marks_of}
 use Rattle.jh_shape.specs.Lives.{configs_of}
-use Rattle.jh_life.specs.SoundRecords.{AreTwo}
 use Rattle.jh_life.specs.Changes.{CellChange, Created, Dropped, Marked, marked, without, after, live_after, AreNew}
 
 -- ---- one cell with an id
