@@ -34,8 +34,8 @@ use Rattle.jh_vpci.specs.Writes.{written as config_written}
 use Rattle.jh_history.specs.Devices.{Devices, InConfig, number_at, specs_of}
 use Rattle.jh_history.specs.Endpoints.{endpoints_put, function_put, space_put, endpoints_acted, endpoints_changed, endpoints_after, device_change, changing, changing_by, change_by}
 use Rattle.jh_history.specs.Grants.{reach, devices_of}
-use Rattle.jh_history.specs.Commits.{committed_cells, cells_by, marked, is_other}
-use Rattle.jh_shape.specs.Lives.{configs_of}
+use Rattle.jh_history.specs.Commits.{committed_cells, cells_by, is_other}
+use Rattle.jh_shape.specs.Lives.{configs_of, marked}
 use Rattle.jh_history.specs.History.{cells_after}
 use Rattle.jh_history.specs.Sound.{AreSoundCells, IsInPhase, IsSoundCall, IsOfDevice, HasEndpoint, IsSoundEndpoint, AreEndpoints, IsSound}
 use Rattle.jh_history.proofs.SoundCpusLemmas.{other_root}
