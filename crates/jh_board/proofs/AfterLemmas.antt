@@ -10,6 +10,7 @@ use Rattle.jh_cellcfg.specs.Lives.{has_id}
 use Rattle.jh_call.specs.declared.call.Call.{Call}
 use Rattle.jh_call.specs.declared.call.Call.TheVariants.{Create, Start, Loadable, Destroy, Info, State, CpuInfo, Unknown}
 use Rattle.jh_ivshmem.specs.Seen.{Seen}
+use Rattle.jh_shape.specs.Lives.{marked}
 use Rattle.jh_script.specs.declared.image.Image.{Image}
 use Rattle.jh_history.specs.declared.access.Reach.{Reach}
 use Rattle.jh_history.specs.declared.access.Reach.TheVariants.{Memory, Subpage, Config, Window, Nothing}
@@ -28,7 +29,7 @@ use Rattle.jh_history.specs.Devices.{specs_of}
 use Rattle.jh_history.specs.Endpoints.{endpoints_after, changing_by}
 use Rattle.jh_history.specs.History.{after, coming_of, call_after}
 use Rattle.jh_history.specs.Calls.{call_by}
-use Rattle.jh_history.specs.Commits.{marked, is_other, committed_cells, cells_by, created, created_at, created_by}
+use Rattle.jh_history.specs.Commits.{is_other, committed_cells, cells_by, created, created_at, created_by}
 use Rattle.jh_history.specs.DueFacts.{NamesCpu, MayLive, IsLive, HasPage, IsOfCells, ReachesCells, WritesCells}
 use Rattle.jh_board.specs.declared.held.Held.{Held}
 use Rattle.jh_board.specs.Pages.{byte_of, HoldsComm, MayHold, MemoryView}

@@ -25,9 +25,9 @@ use Rattle.jh_history.specs.Access.{slot_of_reach}
 use Rattle.jh_history.specs.Devices.{Devices, devices_in, specs_of}
 use Rattle.jh_history.specs.Endpoints.{endpoints_put, change_by, changing_by, MayChange}
 use Rattle.jh_history.specs.Places.{written}
-use Rattle.jh_shape.specs.Lives.{configs_of}
+use Rattle.jh_shape.specs.Lives.{configs_of, marked}
 use Rattle.jh_history.specs.Calls.{call_by}
-use Rattle.jh_history.specs.Commits.{marked, is_other}
+use Rattle.jh_history.specs.Commits.{is_other}
 use Rattle.jh_history.specs.DueFacts.{NamesCpu}
 use Rattle.jh_history.specs.Facts.{Facts}
 use Rattle.jh_history.specs.History.{call_after}
