@@ -1,5 +1,4 @@
-use Rattle.std.proofs.Common.{rules, ◌≡◌, ◌-◌, ◌≤◌, ◌<◌, Some, length, drop, get_or, length-drop, take_all, arith}
-use Rattle.jh_text.specs.Private.Reading.{number_until}
+use Rattle.std.proofs.Common.{rules, ◌≡◌, ◌-◌, ◌≤◌, ◌<◌, length, drop, get_or, length-drop, take_all, arith}
 use Rattle.jh_text.proofs.Numbers.{OneDigit, one_digit_fits, one_digit_large, number_spelled}
 use Rattle.jh_text.proofs.reader.decimal_number.Goals as goal
 

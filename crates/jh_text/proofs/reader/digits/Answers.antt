@@ -1,4 +1,4 @@
-use Rattle.std.proofs.Common.{rules, ◌≡◌, ◌≢◌, ◌-◌, ◌≤◌, ◌<◌, None, Some, length, drop, get_or, length-drop, take_all, sym, ◌∙◌, arith}
+use Rattle.std.proofs.Common.{rules, ◌≡◌, ◌-◌, ◌≤◌, ◌<◌, None, Some, length, drop, get_or, length-drop, take_all, sym, ◌∙◌, arith}
 use Rattle.jh_text.specs.Private.Reading.{one_more, digits_until}
 use Rattle.jh_text.proofs.Numbers.{until_end, until_digit, until_other, until_nothing}
 use Rattle.jh_text.proofs.reader.digits.Goals as goal
