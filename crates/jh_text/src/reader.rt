@@ -145,6 +145,7 @@ fn decimal_number(end: u8, most: u64, text: &[u8]) -> Option<(u64, &[u8])>
             if n <= most { Some((n, rest)) } else { None }
         }
         _ => {
+            // Taken apart here, so that what the other arm gives stays in registers.
             let (n, rest) = some_digits(end, most, text)?;
             Some((n, rest))
         }
