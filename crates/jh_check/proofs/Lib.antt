@@ -23,3 +23,4 @@ pub mod GivenLemmas
 pub mod RefusalLemmas
 pub mod CappedLemmas
 pub mod IdleLemmas
+pub mod MaskLemmas

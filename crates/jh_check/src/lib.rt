@@ -10,6 +10,7 @@ mod fits;
 mod gaps;
 mod laws;
 mod links;
+mod mask;
 mod pairing;
 mod pairs;
 mod reach;
@@ -33,6 +34,7 @@ pub use laws::{
     nothing_is_refused_that_is_accepted, pages_are_whole, places_are_single,
     sound_bitmaps_name_few_cpus,
 };
+pub use mask::{mask_of, with_bit};
 pub use refusal::{refusal_of, refusal_without_cpus};
 pub use rule::Rule;
 pub use verdict::{NewCell, clean_with};

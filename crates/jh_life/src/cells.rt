@@ -11,9 +11,9 @@ ghost use Rattle.jh_life.specs.Verdict.{verdict_of_create};
 
 use crate::copy::copy_of_system;
 use crate::counting::refusal_by_pages;
-use crate::marks::{free_cpus, mask_of};
+use crate::cpus::free_cpus;
 use jh_cellcfg::{CellConfig, SystemConfig};
-use jh_check::{refusal_of, refusal_without_cpus};
+use jh_check::{mask_of, refusal_of, refusal_without_cpus};
 use jh_num::error::EPERM;
 use jh_num::{NoMemory, make_room};
 use jh_shape::{cell_pages, pages_of};
@@ -136,7 +136,7 @@ impl Cells {
         }
         let free = free_cpus(owned, caller);
         // Pages are counted last, where nothing else speaks against the cell.
-        let refusal = refusal_of(alloc, &self.system, live, new, &free, 0, 0)?;
+        let refusal = refusal_of(alloc, &self.system, live, new, free, 0, 0)?;
         match refusal {
             Some(_) => Ok(refusal),
             None => Ok(refusal_by_pages(self.pages(Some(new)), pool)),

@@ -1,9 +1,7 @@
 -- Marks as bits.
-use Rattle.std.proofs.Common.{◌≡◌, ℕ, zero, suc, ◌+◌, ◌^◌, ◌/◌, ◌<◌, ◌≤◌, Bool, false, List, [], ◌∷◌, length, get_or, refl, subst, ⊎_elim, arith}
-use Rattle.std.specs.Int.{bit_at}
+use Rattle.std.proofs.Common.{◌≡◌, ℕ, zero, suc, ◌+◌, ◌^◌, ◌<◌, ◌≤◌, Bool, false, List, [], ◌∷◌, length, get_or, refl, subst, ⊎_elim, arith}
 use Rattle.std.proofs.lemmas.Bool.{cases_lt}
-use Rattle.std.proofs.lemmas.Nat.Bits.{bit_at-zero}
-use Rattle.std.proofs.Math.Nat.{pow-le-pow_right, div-eq_of_lt}
+use Rattle.std.proofs.lemmas.Nat.Bits.{bit_at-zero, bit_at_above}
 use Rattle.jh_num.specs.Bits.{has_bit}
 
 pub no_bit : (k : ℕ) → has_bit 0 k ≡ false
@@ -16,12 +14,7 @@ past_end (b ∷ xs) (suc i) l = past_end xs i (omega arith)
 
 -- a bit past the width
 pub high_bit : (mask k : ℕ) → mask < 2 ^ 16 → 16 ≤ k → has_bit mask k ≡ false
-high_bit mask k small high =
-    let top : 2 ^ 16 ≤ 2 ^ k = pow-le-pow_right {n = 2} (omega arith) high in
-    let low : mask < 2 ^ k = omega arith in
-    let none : mask / 2 ^ k ≡ 0 = div-eq_of_lt low in
-    let bit : bit_at mask k ≡ 0 = rw none refl in
-    rw bit refl
+high_bit mask k small high = rw (bit_at_above mask 16 k small high) refl
 
 -- a list as far as a loop has come
 pub so_far : {A : Type 0} (f g : ℕ → A) (i : ℕ) → ((k : ℕ) → k < i → f k ≡ g k) → f i ≡ g i → (k : ℕ) → k < i + 1 → f k ≡ g k
