@@ -172,7 +172,8 @@ impl<'a> Known for State<'a> {
     }
 
     fn operation(&self, cpu: u8, state: Cpu) -> Option<Op> {
-        self.image.operation(&self.held.cells, cpu, state)
+        self.image
+            .operation(&self.held.cells, &self.held.programs, cpu, state)
     }
 
     fn reach(&self, cell: u32, wanted: &Wanted) -> Reach {
@@ -199,29 +200,48 @@ fn create_to_decide(held: &Held) -> Option<(u8, u64)> {
     }
 }
 
-/// What comes of the create that the CPU decides next.
+/// Finds what comes of the create by the caller, of the configuration at the address, where the CPU decides it next.
+#[inline(never)]
+fn find_create_by(
+    image: &IndexedImage,
+    held: &Held,
+    cpu: u8,
+    caller: u8,
+    at: u64,
+    found: &mut Option<JudgedCreate>,
+) -> Result<(), NoMemory>
+    requires cpu { cpu < 16 }
+    requires none { found.old ≡ None }
+    ensures { IfSome found.new (IsJudged image.now held.now) }
+{
+    let unknown = None;
+    let state = State::new(image, held, &unknown);
+    if caller == cpu && is_due(&state, cpu) {
+        let creation = state.creation(caller, at)?;
+        *found = Some(JudgedCreate {
+            caller,
+            at,
+            creation,
+        });
+    }
+    Ok(())
+}
+
+/// Finds what comes of the create that the CPU decides next, where it decides one.
 pub fn find_create(
     image: &IndexedImage,
     held: &Held,
     cpu: u8,
-) -> Result<Option<JudgedCreate>, NoMemory>
-    requires { cpu < 16 }
-    ensures { IfOk result (λ found. IfSome found (IsJudged image.now held.now)) }
+    found: &mut Option<JudgedCreate>,
+) -> Result<(), NoMemory>
+    requires cpu { cpu < 16 }
+    requires none { found.old ≡ None }
+    ensures { IfSome found.new (IsJudged image.now held.now) }
 {
-    let Some((caller, at)) = create_to_decide(held) else {
-        return Ok(None);
-    };
-    let unknown = None;
-    let state = State::new(image, held, &unknown);
-    if caller != cpu || !is_due(&state, cpu) {
-        return Ok(None);
+    match create_to_decide(held) {
+        Some((caller, at)) => find_create_by(image, held, cpu, caller, at, found),
+        None => Ok(()),
     }
-    let creation = state.creation(caller, at)?;
-    Ok(Some(JudgedCreate {
-        caller,
-        at,
-        creation,
-    }))
 }
 
 /// The entry that the CPU makes next, and what its access reaches, where this was found of a create. Only what a create

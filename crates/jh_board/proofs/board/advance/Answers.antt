@@ -17,6 +17,14 @@ make-requires-clause-reached c = λ f means.
 pub returns-in_err-make-clause-means : goal.returns-in_err-make-clause-means
 returns-in_err-make-clause-means c = rw c.reserve.ensures.entries (c.in_err-make.ensures.err (facts c.args.image.now c.args.journal.now.entries) c.requires.means)
 
+pub returns-clause-legal : goal.returns-clause-legal
+returns-clause-legal c =
+    let image = c.args.image.now in
+    let old = c.args.journal.now.entries in
+    let P : Option DueEntry → Type 0 = λ due. option_map (λ (d : DueEntry). d.entry) due ≡ due_at image (facts image old) c.args.cpu in
+    let due = subst P c.in-Some.is (c.in_ok-due.ensures.due (facts image old) c.requires.means) in
+    IsLegal_made image old c.push.new.self.entries c.args.cpu c.in-Some.due.entry c.requires.legal ? ?
+
 pub returns-clause-means : goal.returns-clause-means
 returns-clause-means c =
     let image = c.args.image.now in
