@@ -25,7 +25,7 @@ use crate::turn::{Turn, TurnFault};
 use jh_cellcfg::CellConfig;
 use jh_cpu::Cpu;
 use jh_history::{
-    DeviceChange, DueEntry, Entry, Journal, devices_may_change, legal_journals_are_sound,
+    DeviceChange, Entry, Journal, Reach, devices_may_change, legal_journals_are_sound,
 };
 use jh_ivshmem::Endpoints;
 use jh_map::Run;
@@ -84,10 +84,10 @@ fn advance(
     legal_journals_are_sound();
     let mut found = None;
     find_create(image, held, cpu, &mut found)?;
-    let Some(due) = next_entry(image, held, &found, cpu)? else {
+    let mut reach = Reach::Nothing;
+    let Some(entry) = next_entry(image, held, &found, cpu, &mut reach)? else {
         return Ok(None);
     };
-    let DueEntry { entry, reach } = due;
     if journal.len() >= limit as usize {
         return Err(TurnFault::Full);
     }

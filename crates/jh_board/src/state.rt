@@ -1,5 +1,5 @@
 //! What a board holds, as what tells the facts of its journal.
-ghost use Rattle.std.specs.Prelude.{◌≡◌, ℕ, ◌<◌, ◌↔◌, None, IfSome, IfOk, IsTrue, option_map};
+ghost use Rattle.std.specs.Prelude.{◌≡◌, ℕ, ◌<◌, ◌↔◌, None, IfSome, IfOk, IsTrue};
 ghost use Rattle.jh_script.specs.declared.image.Image.{Image};
 ghost use Rattle.jh_history.specs.Due.{due_at};
 ghost use Rattle.jh_history.specs.Phases.{creation_of};
@@ -7,7 +7,6 @@ ghost use Rattle.jh_history.specs.Facts.{Facts};
 ghost use Rattle.jh_history.specs.Wants.{IsReachOfEntry};
 ghost use Rattle.jh_board.specs.Means.{Means};
 ghost use Rattle.jh_board.specs.Judged.{IsJudged};
-ghost use Rattle.jh_history.specs.declared.next.DueEntry.{DueEntry as TheDue};
 
 use crate::granted::{reach, row_of_root};
 use crate::held::Held;
@@ -17,7 +16,7 @@ use jh_call::Call;
 use jh_cellcfg::CellConfig;
 use jh_cpu::Cpu;
 use jh_history::{
-    Creation, DueEntry, Known, OpenCall, Phase, Places, Reach, RootBytes, Wanted, is_any_locked,
+    Creation, Entry, Known, OpenCall, Phase, Places, Reach, RootBytes, Wanted, is_any_locked,
     is_any_other_locked, is_due, next_of, none_due, read_config, rows_are_read_byte_by_byte,
 };
 use jh_ivshmem::Endpoints;
@@ -244,21 +243,22 @@ pub fn find_create(
     }
 }
 
-/// The entry that the CPU makes next, and what its access reaches, where this was found of a create. Only what a create
-/// reads takes memory.
+/// The entry that the CPU makes next, where this was found of a create. What its access reaches is put into `reach`. Only
+/// what a create reads takes memory.
 pub fn next_entry(
     image: &IndexedImage,
     held: &Held,
     found: &Option<JudgedCreate>,
     cpu: u8,
-) -> Result<Option<DueEntry>, NoMemory>
+    reach: &mut Reach,
+) -> Result<Option<Entry>, NoMemory>
     requires cpu { cpu < 16 }
     requires found { IfSome found.now (IsJudged image.now held.now) }
-    ensures due { (f : Facts) → Means image.now held.now f → IfOk result (λ due. option_map (λ (due : TheDue). due.entry) due ≡ due_at image.now f cpu) }
-    ensures reached { (f : Facts) → Means image.now held.now f → IfOk result (λ due. IfSome due (λ due. IsReachOfEntry image.now f due.entry due.reach)) }
-    ensures cpu { IfOk result (λ due. IfSome due (λ due. due.entry.cpu ≡ cpu)) }
+    ensures due { (f : Facts) → Means image.now held.now f → IfOk result (λ entry. entry ≡ due_at image.now f cpu) }
+    ensures reached { (f : Facts) → Means image.now held.now f → IfOk result (λ entry. IfSome entry (λ entry. IsReachOfEntry image.now f entry reach.new)) }
+    ensures cpu { IfOk result (λ entry. IfSome entry (λ entry. entry.cpu ≡ cpu)) }
 {
-    next_of(&State::new(image, held, found), cpu)
+    next_of(&State::new(image, held, found), cpu, reach)
 }
 
 /// What comes of a create by the caller, of the configuration at the address: as it was found, or else as it is
