@@ -235,6 +235,13 @@ impl Board {
         self.image.pool_pages()
     }
 
+    /// Takes the memory for so many more entries of the journal at once, where it takes less than bit by bit.
+    pub fn reserve(&mut self, more: usize) -> Result<(), NoMemory>
+        ensures { self.new ≡ self.old }
+    {
+        self.journal.reserve(more)
+    }
+
     /// Makes the entry that is due to the CPU, if one is. Other CPUs are asked only where its call waits for a cell
     /// that says nothing.
     pub fn make_due(&mut self, cpu: u8) -> Result<Option<Entry>, TurnFault>
