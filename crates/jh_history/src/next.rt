@@ -367,11 +367,7 @@ fn is_next_due<K: Known>(known: &K, cpu: u8, state: Cpu) -> bool
 
 /// The entry that the CPU makes next. What its access reaches is put into `reach`. Only the Decide of a create takes
 /// memory.
-pub fn next_of<K: Known>(
-    known: &K,
-    cpu: u8,
-    reach: &mut Reach,
-) -> Result<Option<Entry>, NoMemory>
+pub fn next_of<K: Known>(known: &K, cpu: u8, reach: &mut Reach) -> Result<Option<Entry>, NoMemory>
     requires { cpu < 16 }
     ensures due { (i : TheImage) (f : Facts) → K.Knows known.now i f → IfOk result (λ entry. entry ≡ due_at i f cpu) }
     ensures reached { (i : TheImage) (f : Facts) → K.Knows known.now i f → IfOk result (λ entry. IfSome entry (λ entry. IsReachOfEntry i f entry reach.new)) }
