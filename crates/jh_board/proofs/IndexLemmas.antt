@@ -3,7 +3,7 @@ use Rattle.std.proofs.Common.{◌≡◌, ◌≢◌, eqb, ℕ, ◌<◌, List, [],
 use Rattle.std.specs.Prelude.{slice_get, Contains, IfSome, IsTrue, All, find}
 use Rattle.std.specs.Option.{option_map_or}
 use Rattle.std.proofs.lemmas.Bool.{eq-eqb, ne_eqb}
-use Rattle.std.proofs.lemmas.Option.{none-some, same_Some, slice_get_past, slice_get_within, get_or_from_slice_get}
+use Rattle.std.proofs.lemmas.Option.{none-some, same_Some, slice_get_past, slice_get_within, slice_get-get_or, get_or_from_slice_get}
 use Rattle.jh_num.proofs.Lists.{IsFound_from_find, find_None}
 use Rattle.jh_cellcfg.specs.Cells.{name_of}
 use Rattle.jh_cellcfg.specs.declared.region.Region.{Region}
@@ -77,6 +77,14 @@ all_found image lives found all told = λ cpu p is.
     let P : FoundProgram → Type 0 = λ x. ops_at image x.index ≡ ops_in image lives x.owner cpu in
     let within = slice_get_within found cpu p is in
     subst P (get_or_from_slice_get found cpu p p is) (told cpu p (omega arith))
+
+-- the program that was found for the cell is the cell's
+pub found_at : (image : Image) (lives : List Live) (found : List FoundProgram) (at cpu id : ℕ) (d : FoundProgram) → length found ≡ 16 → cpu < 16 → at ≡ cpu → (get_or found at d).owner ≡ id → AreFound image lives found
+    → ops_at image (get_or found at d).index ≡ ops_in image lives id cpu
+found_at image lives found at cpu id d all few same owner are =
+    let P : ℕ → Type 0 = λ k. slice_get found k ≡ Some (get_or found at d) in
+    let Q : ℕ → Type 0 = λ i. ops_at image (get_or found at d).index ≡ ops_in image lives i cpu in
+    subst Q owner (are cpu (get_or found at d) (subst P same (slice_get-get_or found at d (omega arith))))
 
 -- the operations of the program at a place are plain
 pub plain_at : (image : Image) (at : ℕ) (p : Program) → IsAdmitted image → slice_get image.programs at ≡ Some p → All IsWellFormed p.ops

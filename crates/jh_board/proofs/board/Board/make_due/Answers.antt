@@ -1,5 +1,5 @@
 -- The journal is still legal, and what the board holds stands for it.
-use Rattle.std.proofs.Common.{◌≡◌, ℕ, ◌<◌, ◌++◌, ◌∷◌, [], List, Option, Some, None, Result, Ok, Err, length, refl, ap, sym, subst}
+use Rattle.std.proofs.Common.{◌≡◌, ℕ, List, Option, Some, None, Result, Ok, Err, length, refl, ap, sym, subst}
 use Rattle.std.specs.Prelude.{IsTrue, IsSome, IfOk, IfErr, OnErr}
 use Rattle.jh_script.specs.declared.image.Image.{Image}
 use Rattle.jh_history.specs.declared.entry.Entry.{Entry}
