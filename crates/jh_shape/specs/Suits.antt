@@ -7,7 +7,7 @@ use Rattle.jh_shape.specs.declared.level.TheConstants.{FIRST_LEVEL, LAST_LEVEL}
 use Rattle.jh_shape.specs.Claims.{Claims}
 use Rattle.jh_shape.specs.Shapes.{slot_size, is_mapped, are_cut}
 
--- the virtual ranges of two regions that aren't empty have no address in common
+-- no address is one of both regions
 abbrev pub SharesNoAddress : Region → Region → Type 0
 SharesNoAddress one other = (at : ℕ) → IsTrue (has_address one at) → IsTrue (has_address other at) → ⊥
 
