@@ -58,33 +58,29 @@ fn wait_for_news(shared: &Shared<Running>, port: &Port<Running>) {
     }
 }
 
-/// Lets other threads go first where a turn of the port found nothing due to its CPU. `alone` says that the thread drives
-/// no other port, so that it has nothing to do until there is a new entry.
-fn give_way(
-    shared: &Shared<Running>,
-    port: &Port<Running>,
-    answer: &Result<Turn, TurnFault>,
-    alone: bool,
-) {
-    if !matches!(answer, Ok(Turn::NotNow)) {
-        return;
-    }
-    if alone {
-        wait_for_news(shared, port);
-    } else {
-        thread::yield_now();
+/// Lets other threads go first where a turn at each of the ports made no entry. A thread that drives one port alone has
+/// nothing to do until there is a new entry.
+fn give_way(shared: &Shared<Running>, ports: &[Port<Running>]) {
+    match ports {
+        [port] => wait_for_news(shared, port),
+        _ => thread::yield_now(),
     }
 }
 
-/// A turn of the port behind the gate. `round` is the number of turns of this port before; `alone` says that the thread
-/// drives no other port.
+/// Whether the turn made an entry.
+fn has_made(answer: &Result<Turn, TurnFault>) -> bool {
+    matches!(answer, Ok(Turn::Made(_)))
+}
+
+/// A turn of the port behind the gate. `round` is the number of turns of this port before; `idle` becomes false where the
+/// turn makes an entry.
 fn drive_port<R: Wait, G: Gate>(
     rt: &R,
     shared: &Shared<Running>,
     port: &mut Port<Running>,
     gate: &G,
     round: u64,
-    alone: bool,
+    idle: &mut bool,
 ) -> Option<DriveEnd>
     requires { IsPortOf shared.now port.old }
     ensures port { IsPortOf shared.now port.new }
@@ -93,11 +89,11 @@ fn drive_port<R: Wait, G: Gate>(
 {
     gate.pass(port.caller(), round);
     let answer = shared.turn(rt, port);
-    give_way(shared, port, &answer, alone);
+    *idle &= !has_made(&answer);
     end_after(answer)
 }
 
-/// A turn of each port in their order, until one is the last.
+/// A turn of each port in their order, until one is the last. Where none made an entry, other threads go first.
 fn drive_round<R: Wait, G: Gate>(
     rt: &R,
     shared: &Shared<Running>,
@@ -109,12 +105,15 @@ fn drive_round<R: Wait, G: Gate>(
     ensures same { IsSameSet shared.now ports.old ports.new }
     ensures shows { IfSome result (λ end. SomeShows (origin_of (opened_value shared.now)) end ports.new) }
 {
-    let alone = ports.len() == 1;
+    let mut idle = true;
     for i in 0..ports.len() {
-        let end = drive_port(rt, shared, &mut ports[i], gate, round, alone);
+        let end = drive_port(rt, shared, &mut ports[i], gate, round, &mut idle);
         if end.is_some() {
             return end;
         }
+    }
+    if idle {
+        give_way(shared, ports);
     }
     None
 }
