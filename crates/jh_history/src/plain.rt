@@ -41,7 +41,7 @@ use crate::due_facts::devices_may_change;
 use crate::entry::{Act, Entry};
 use crate::journal::Journal;
 use crate::laws::admitted_roots_are_sound;
-use crate::next::{next_of, none_due};
+use crate::next::{any_due, next_of};
 use crate::pages::page_write;
 use crate::plain_cells::PlainCells;
 use crate::reading::read_config;
@@ -430,5 +430,5 @@ pub fn quiet(alloc: Global, image: &Image, journal: &Journal) -> Result<bool, No
     admitted_roots_are_sound(image);
     legal_journals_are_sound();
     let plain = Plain::after(alloc, image, journal.as_slice())?;
-    Ok(none_due(&plain, 0))
+    Ok(any_due(&plain, 0).is_none())
 }
