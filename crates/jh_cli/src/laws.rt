@@ -29,7 +29,8 @@ pub fn good_inputs_are_answered()
 }
 
 /// Where the files tell what they hold, words whose command isn't `run` or `soak` have one outcome besides that a file
-/// could not be read: one status and one text. Of those two the outcome is that of some order of the threads' turns.
+/// could not be read: one status and one text. What those two write may differ from call to call, as their threads take
+/// turns.
 pub fn words_have_one_outcome()
     ensures { (contents : Contents) (asked : Option Asked) (one other : Reply) → IsSerial asked → AreFilesTold contents asked → Outcome contents asked one → Outcome contents asked other
         → one.status ≢ Status.ReadFault → other.status ≢ Status.ReadFault → one ≡ other }

@@ -37,8 +37,8 @@ abbrev pub NamesCpu : CellConfig → Type 0
 NamesCpu config = (cpu : ℕ) × (is_cpu_set config.cpu_set cpu ≡ true)
 
 -- the cell with the configuration may live beside root and these: none of them has its name or its id, no two of its
--- regions have an address in common, each that isn't empty ends within the addresses and the places, and some byte of
--- its set isn't 0, none behind the second
+-- regions have an address in common, each that isn't empty ends within the addresses, and within the places where it has
+-- any, and some byte of its set isn't 0, none behind the second
 pub record MayLive (image : Image) (cells : List Live) (config : CellConfig) : Type 0 where
   pub unknown : is_known (image.system.root ∷ configs_of cells) config ≡ false
   pub apart : AllPairs SharesNoAddress config.memory_regions

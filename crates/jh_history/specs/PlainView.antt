@@ -54,7 +54,7 @@ put_in_page cell at bytes byte (Physical p) = byte (Physical p)
 put_in_page cell at bytes byte (Page other offset) =
     if other == cell then stored (λ k. byte (Page other k)) at bytes offset else byte (Page other offset)
 
--- at every moment the image is admitted, its root and the cells are sound, and these are few
+-- the image is admitted, its root and the cells are sound, and these are few
 pub record IsFit (image : Image) (cells : List Live) : Type 0 where
   pub admitted : IsAdmitted image
   pub sound : AreSoundCells image.system (configs_of cells)
