@@ -5,7 +5,7 @@ use Rattle.jh_text.specs.FaultText.{fault_text}
 use Rattle.jh_cli.specs.Lines.{refusal_line}
 use Rattle.jh_cli.proofs.OrderLemmas.{refuses_one}
 use Rattle.jh_cli.proofs.JournalLemmas.{IsTold, is_fault, ends_there, no_fault_there}
-use Rattle.jh_cli.proofs.audit.journal.Goals as goal
+use Rattle.jh_cli.proofs.audit.judge.Goals as goal
 
 pub returns : goal.returns
 returns g c =
