@@ -35,12 +35,7 @@ fn unread(alloc: Global, name: &str, fault: &JournalFault) -> Stop
 }
 
 /// The verdict on the journal in the file of this name, by the image.
-fn judge<F: Files>(
-    alloc: Global,
-    files: &mut F,
-    image: Image,
-    name: &str,
-) -> Result<Verdict, Stop>
+fn judge<F: Files>(alloc: Global, files: &mut F, image: Image, name: &str) -> Result<Verdict, Stop>
     requires admitted { IsAdmitted image }
     ensures ok { IfOk result (JudgesFile (F.contents files.old) name.now image) }
     ensures err { IfErr result (λ stop. OnEnded stop (StopsAt most_of_a_journal (F.contents files.old) name.now JournalRefusal)) }

@@ -12,18 +12,16 @@ returns-in-Ok-clause-only c =
 
 pub returns-in-Ok-clause-line : goal.returns-in-Ok-clause-line
 returns-in-Ok-clause-line c = λ room number.
-    let ok : IfOk c.judge_text.result (JudgesText c.args.image c.args.text.now) = rw c.in-Ok.ensures.ok at c.judge_text.ensures.ok in
-    (
+    let ok : IfOk c.judge_text.result (JudgesText c.args.image c.args.text.now) = rw c.in-Ok.ensures.ok at c.judge_text.ensures.ok in (
       line_is c.args.text.now c.judge_text.result c.judge_text.ensures.err number,
       only_line c.one_answer.ensures.good_or_bad c.one_answer.ensures.bad_or_long c.one_answer.ensures.one_line
-      c.args.image c.args.text.now c.judge_text.result ok c.judge_text.ensures.err room number,
+          c.args.image c.args.text.now c.judge_text.result ok c.judge_text.ensures.err room number,
     )
 
 pub returns-in-Ok-clause-too_long : goal.returns-in-Ok-clause-too_long
 returns-in-Ok-clause-too_long c = λ room.
-    let ok : IfOk c.judge_text.result (JudgesText c.args.image c.args.text.now) = rw c.in-Ok.ensures.ok at c.judge_text.ensures.ok in
-    (
+    let ok : IfOk c.judge_text.result (JudgesText c.args.image c.args.text.now) = rw c.in-Ok.ensures.ok at c.judge_text.ensures.ok in (
       too_long_is c.args.text.now c.judge_text.result c.judge_text.ensures.err,
       only_too_long c.one_answer.ensures.good_or_long c.one_answer.ensures.bad_or_long
-      c.args.image c.args.text.now c.judge_text.result ok c.judge_text.ensures.err room,
+          c.args.image c.args.text.now c.judge_text.result ok c.judge_text.ensures.err room,
     )
