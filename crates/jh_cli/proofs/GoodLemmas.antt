@@ -260,7 +260,7 @@ journal_sound no_bad not_long entries bytes words within form (inr bad) = faultl
   faultless journals.NoMemory other first = other refl
 
 verdict_unrefused : (verdict : Verdict) → IsVerdict (verdict_status verdict)
-verdict_unrefused (Legal quiet) = inl refl
+verdict_unrefused (Legal count quiet) = inl refl
 verdict_unrefused (Illegal line expected) = inr refl
 
 audits_unrefused : NoBadLine → NotLong → (contents : Contents) (journal : List ℕ) (image : Image) (entries : List Entry) (said : Reply) → Holds most_of_a_journal contents journal IsJournalFile entries

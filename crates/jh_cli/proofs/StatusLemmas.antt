@@ -90,7 +90,7 @@ soak_other word said (inl none) = other said Refused (ap (λ (s : Reply). s.stat
 soak_other word said (inr (rounds, are, soaked)) = run_other said (run_ends (soak_board rounds) soaked.entries said.status soaked.run.ends)
 
 audited_other : (verdict : Verdict) → number_of (verdict_status verdict) ≢ 5
-audited_other (Legal quiet) = omega arith
+audited_other (Legal count quiet) = omega arith
 audited_other (Illegal line expected) = omega arith
 
 audit_ends_other : (image : Image) (entries : List Entry) (said : Reply) → IsAudited image entries said → IsOther said
