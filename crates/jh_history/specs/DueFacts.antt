@@ -10,7 +10,7 @@ use Rattle.jh_check.specs.Clean.{SharesNoAddress, IsSoundBitmap}
 use Rattle.jh_check.specs.Refusals.{is_known}
 use Rattle.jh_ivshmem.specs.declared.endpoint.Endpoint.{Endpoint}
 use Rattle.jh_ivshmem.specs.declared.spec.Slot.{Slot}
-use Rattle.jh_ivshmem.specs.Specs.{IsWithin, slot_of}
+use Rattle.jh_ivshmem.specs.Specs.{IsInItsLimits, slot_of}
 use Rattle.jh_script.specs.declared.image.Image.{Image}
 use Rattle.jh_history.specs.declared.place.Place.{Place}
 use Rattle.jh_history.specs.declared.place.Place.TheVariants.{Physical, Page}
@@ -79,7 +79,7 @@ ReachesCells cells Nothing = Unit {0}
 pub record IsWordOf (endpoints : List Endpoint) (slot : Slot) : Type 0 where
   pub endpoint : Endpoint
   pub there : Contains endpoints endpoint
-  pub within : IsWithin endpoint.spec
+  pub within : IsInItsLimits endpoint.spec
   pub is : slot ≡ slot_of endpoint.spec slot.value
 
 -- where the act is a write, each place that it reaches is one of physical memory, or of the page of a cell that lives

@@ -7,7 +7,7 @@ ghost use Rattle.jh_check.specs.Refusals.{AreTwo};
 ghost use Rattle.jh_shape.specs.Pages.{pages_of};
 ghost use Rattle.jh_history.specs.Admitted.{pool_pages};
 ghost use Rattle.jh_history.specs.Lives.{is_on_board};
-ghost use Rattle.jh_history.specs.Sound.{HasBytes};
+ghost use Rattle.jh_history.specs.Sound.{IsMadeOfBytes};
 ghost use Rattle.jh_laws.specs.Moments.{AdmittedJournal, cells_of, owner_of};
 
 /// The check finds nothing in the system with the cells that live, their pages are there, and of root and them no
@@ -16,7 +16,7 @@ pub fn the_check_holds_of_live_cells()
     ensures findings { (j : AdmittedJournal) → findings j.image.system (cells_of j) ≡ [] }
     ensures pages { (j : AdmittedJournal) → pages_of j.image.system.root.memory_regions (cells_of j) ≤ pool_pages j.image.system }
     ensures differ { (j : AdmittedJournal) → AllPairs AreTwo (j.image.system.root ∷ cells_of j) }
-    ensures few { (j : AdmittedJournal) → HasBytes j.image → length (cells_of j) ≤ 15 }
+    ensures few { (j : AdmittedJournal) → IsMadeOfBytes j.image → length (cells_of j) ≤ 15 }
 {}
 
 /// A CPU belongs to a live cell besides root exactly where that cell's set names it, and to root exactly where no

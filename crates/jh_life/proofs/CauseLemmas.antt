@@ -22,7 +22,7 @@ use Rattle.jh_life.specs.Seen.{Seen}
 use Rattle.jh_life.specs.Lives.{cells_of}
 use Rattle.jh_shape.specs.Lives.{configs_of}
 use Rattle.jh_life.specs.Verdict.{may_have}
-use Rattle.jh_life.specs.Causes.{Create, verdict_on, Cause, Locked, Known, TakenCpu, BrokenRule, Overlap, FewPages, place_in_order, number_for, IsKnownTo, NamesTakenCpu, BreaksRule, Holds, IsFirst}
+use Rattle.jh_life.specs.Causes.{Create, verdict_on, Cause, Locked, Known, TakenCpu, BrokenRule, Overlap, FewPages, place_in_order, number_for, IsKnownTo, NamesTakenCpu, BreaksRule, SpeaksAgainst, IsFirst}
 
 -- ---- by tests
 
@@ -215,7 +215,7 @@ words_found seen new overlaps test kind h =
     list_any_from_Contains test (findings seen.system cells) h.finding (listed_from_broken seen.system cells h.finding h.broken)
     ((kind h.finding).1 (words_names (length (configs_of seen.lives) + 1) h.finding h.named, h.kind))
 
-holds_from : (seen : Seen) (create : Create) (cause : Cause) → test_of seen create cause ≡ true → Holds seen create cause
+holds_from : (seen : Seen) (create : Create) (cause : Cause) → test_of seen create cause ≡ true → SpeaksAgainst seen create cause
 holds_from seen create Locked t = t
 holds_from seen create Known t = known_words seen create.new t
 holds_from seen create TakenCpu t = cpu_words seen create t
@@ -223,7 +223,7 @@ holds_from seen create BrokenRule t = found_words seen create.new false (is_inva
 holds_from seen create Overlap t = found_words seen create.new true (is_busy (length (configs_of seen.lives) + 1)) (busy_kind (length (configs_of seen.lives) + 1)) t
 holds_from seen create FewPages t = ltb-true create.pool (pages_of seen.system.root.memory_regions (configs_of seen.lives ++ create.new ∷ [])) t
 
-holds_to : (seen : Seen) (create : Create) (cause : Cause) → Holds seen create cause → test_of seen create cause ≡ true
+holds_to : (seen : Seen) (create : Create) (cause : Cause) → SpeaksAgainst seen create cause → test_of seen create cause ≡ true
 holds_to seen create Locked h = h
 holds_to seen create Known h = words_known seen create.new h
 holds_to seen create TakenCpu h = words_cpu seen create h
@@ -266,14 +266,14 @@ cause_to seen create cause first =
       | inr n ↦ absurd (false≢true (sym (n.0 cause) ∙ is.passes))
     ]
 
-pub none_from : (seen : Seen) (create : Create) → verdict_on seen create ≡ None → (cause : Cause) → Holds seen create cause → ⊥
+pub none_from : (seen : Seen) (create : Create) → verdict_on seen create ≡ None → (cause : Cause) → SpeaksAgainst seen create cause → ⊥
 none_from seen create e cause h =
     elim (told seen create) [
       | inl s ↦ none-some (number_for s.0) (sym e ∙ s.2)
       | inr n ↦ false≢true (sym (n.0 cause) ∙ holds_to seen create cause h)
     ]
 
-pub none_to : (seen : Seen) (create : Create) → ((cause : Cause) → Holds seen create cause → ⊥) → verdict_on seen create ≡ None
+pub none_to : (seen : Seen) (create : Create) → ((cause : Cause) → SpeaksAgainst seen create cause → ⊥) → verdict_on seen create ≡ None
 none_to seen create h =
     elim (told seen create) [
       | inl s ↦ absurd (h s.0 (holds_from seen create s.0 s.1.passes))

@@ -78,15 +78,15 @@ abbrev pub LacksPages : Seen → Create → Type 0
 LacksPages seen create = create.pool < pages_of seen.system.root.memory_regions (configs_of seen.lives ++ create.new ∷ [])
 
 -- the cause speaks against the create
-abbrev pub Holds : Seen → Create → Cause → Type 0
-Holds seen create Locked = create.locked ≡ true
-Holds seen create Known = IsKnownTo seen create.new
-Holds seen create TakenCpu = NamesTakenCpu create
-Holds seen create BrokenRule = BreaksRule seen create.new false
-Holds seen create Overlap = BreaksRule seen create.new true
-Holds seen create FewPages = LacksPages seen create
+abbrev pub SpeaksAgainst : Seen → Create → Cause → Type 0
+SpeaksAgainst seen create Locked = create.locked ≡ true
+SpeaksAgainst seen create Known = IsKnownTo seen create.new
+SpeaksAgainst seen create TakenCpu = NamesTakenCpu create
+SpeaksAgainst seen create BrokenRule = BreaksRule seen create.new false
+SpeaksAgainst seen create Overlap = BreaksRule seen create.new true
+SpeaksAgainst seen create FewPages = LacksPages seen create
 
 -- the cause holds, and none before it
 pub record IsFirst (seen : Seen) (create : Create) (cause : Cause) : Type 0 where
-  pub holds : Holds seen create cause
-  pub none : (other : Cause) → place_in_order other < place_in_order cause → Holds seen create other → ⊥
+  pub holds : SpeaksAgainst seen create cause
+  pub none : (other : Cause) → place_in_order other < place_in_order cause → SpeaksAgainst seen create other → ⊥
