@@ -8,7 +8,7 @@ use Rattle.jh_cli.specs.declared.ending.Ending.{Ending}
 use Rattle.jh_cli.specs.declared.ending.Stop.{Stop}
 use Rattle.jh_cli.specs.declared.ending.Stop.TheVariants as stop
 use Rattle.jh_cli.specs.Words.{Asked}
-use Rattle.jh_cli.specs.Lines.{number_of}
+use Rattle.jh_cli.specs.Lines.{exit_number}
 use Rattle.jh_image.specs.Files.{Contents}
 use Rattle.jh_cli.specs.Reading.{Reply}
 use Rattle.jh_cli.specs.Stopped.{said_of, OnEnding, IsCounted}
@@ -25,8 +25,8 @@ abbrev pub GoodAreAnswered : Type 0
 GoodAreAnswered = (contents : Contents) (asked : Option Asked) (said : Reply) (good : AreGood contents asked) → Outcome contents asked said → IsAnswered (MayEndWith contents asked good) said
 
 -- two statuses with different numbers
-differ : (status one other : Status) → status ≡ one → status ≡ other → number_of one ≢ number_of other → ⊥
-differ status one other is also apart = apart (ap number_of (sym is ∙ also))
+differ : (status one other : Status) → status ≡ one → status ≡ other → exit_number one ≢ exit_number other → ⊥
+differ status one other is also apart = apart (ap exit_number (sym is ∙ also))
 
 module _ {S K : Type 0} (contents : S → Contents) (failed : S → List ℕ) (faults : S → ℕ) (one : S → Ask → S → Type 0) (written : K → Option (List ℕ)) (sink_faults : K → ℕ) where
   -- what was told was sent, or a proper front of it

@@ -41,7 +41,7 @@ use Rattle.jh_run.specs.Soak.{soak_board}
 use Rattle.jh_cli.specs.declared.status.Status.{Status}
 use Rattle.jh_cli.specs.declared.status.Status.TheVariants.{Good, Found, ReadFault, WriteFault, NoMemory, Full}
 use Rattle.jh_cli.specs.Limits.{most_of_a_file, most_of_a_journal}
-use Rattle.jh_cli.specs.Lines.{number_of, fault_line}
+use Rattle.jh_cli.specs.Lines.{exit_number, fault_line}
 use Rattle.jh_cli.specs.Words.{Asked, CheckOf, PackOf, PlayOf, RunOf, MapOf, AuditOf, SoakOf}
 use Rattle.jh_image.specs.Files.{Contents}
 use Rattle.jh_cli.specs.Reading.{Reply, StopsAt, ReadsAt}
@@ -346,7 +346,7 @@ unread old new failed before after said status counted (inl whole) is =
     let rose = counted (sym whole.0 ∙ is) in
     (rose.0, subst (λ (text : List ℕ). Appended before after text) rose.1 whole.1)
 unread old new failed before after said status counted (inr part) is =
-    let same : number_of WriteFault ≡ number_of ReadFault = ap number_of (sym part.0 ∙ is) in
+    let same : exit_number WriteFault ≡ exit_number ReadFault = ap exit_number (sym part.0 ∙ is) in
     absurd (omega arith)
 
 -- another status than that and a sink's is the said one's

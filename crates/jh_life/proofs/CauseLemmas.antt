@@ -19,7 +19,7 @@ use Rattle.jh_check.proofs.RuleLemmas.{broken_from_listed, listed_from_broken}
 use Rattle.jh_num.specs.Bits.{has_bit}
 use Rattle.jh_shape.specs.Pages.{pages_of}
 use Rattle.jh_life.specs.Seen.{Seen}
-use Rattle.jh_life.specs.Lives.{cells_of}
+use Rattle.jh_life.specs.Lives.{numbered_cells}
 use Rattle.jh_shape.specs.Lives.{configs_of}
 use Rattle.jh_life.specs.Verdict.{may_have}
 use Rattle.jh_life.specs.Causes.{Create, verdict_on, Cause, Locked, Known, TakenCpu, BrokenRule, Overlap, FewPages, place_in_order, number_for, IsKnownTo, NamesTakenCpu, BreaksRule, SpeaksAgainst, IsFirst}
@@ -112,7 +112,7 @@ one_first test one other first second =
 
 abbrev test_of : Seen → Create → Cause → Bool
 test_of seen create Locked = create.locked
-test_of seen create Known = is_known (cells_of seen) create.new
+test_of seen create Known = is_known (numbered_cells seen) create.new
 test_of seen create TakenCpu = names_beyond (may_have create.owned create.caller) create.new.cpu_set
 test_of seen create BrokenRule = list_any (is_invalid (length (configs_of seen.lives) + 1)) (findings seen.system (configs_of seen.lives ++ create.new ∷ []))
 test_of seen create Overlap = list_any (is_busy (length (configs_of seen.lives) + 1)) (findings seen.system (configs_of seen.lives ++ create.new ∷ []))
@@ -136,13 +136,13 @@ words_namesake : (new cell : CellConfig) → (cell.id ≡ new.id) ⊎ (name_of c
 words_namesake new cell (inl same) = or_left (cell.id == new.id) (pointwise nat_eq (name_of cell) (name_of new)) (eq-eqb cell.id new.id same)
 words_namesake new cell (inr same) = or_right (cell.id == new.id) (pointwise nat_eq (name_of cell) (name_of new)) (named_same (name_of cell) (name_of new) same)
 
-known_words : (seen : Seen) (new : CellConfig) → is_known (cells_of seen) new ≡ true → IsKnownTo seen new
+known_words : (seen : Seen) (new : CellConfig) → is_known (numbered_cells seen) new ≡ true → IsKnownTo seen new
 known_words seen new t =
-    let r = IsFound_from_list_any (is_namesake new) (cells_of seen) t in
+    let r = IsFound_from_list_any (is_namesake new) (numbered_cells seen) t in
     record { cell = r.0; lives = r.1.held; same = namesake_words new r.0 r.1.passes }
 
-words_known : (seen : Seen) (new : CellConfig) → IsKnownTo seen new → is_known (cells_of seen) new ≡ true
-words_known seen new h = list_any_from_Contains (is_namesake new) (cells_of seen) h.cell h.lives (words_namesake new h.cell h.same)
+words_known : (seen : Seen) (new : CellConfig) → IsKnownTo seen new → is_known (numbered_cells seen) new ≡ true
+words_known seen new h = list_any_from_Contains (is_namesake new) (numbered_cells seen) h.cell h.lives (words_namesake new h.cell h.same)
 
 taken_words : (owned caller cpu : ℕ) → may_have owned caller cpu ≡ false → (has_bit owned cpu ≡ false) ⊎ (cpu ≡ caller)
 taken_words owned caller cpu f =

@@ -9,7 +9,7 @@ use Rattle.jh_check.specs.Verdicts.{is_overlap}
 use Rattle.jh_num.specs.Bits.{has_bit}
 use Rattle.jh_shape.specs.Pages.{pages_of}
 use Rattle.jh_life.specs.Seen.{Seen}
-use Rattle.jh_life.specs.Lives.{cells_of}
+use Rattle.jh_life.specs.Lives.{numbered_cells}
 use Rattle.jh_shape.specs.Lives.{configs_of}
 use Rattle.jh_life.specs.Verdict.{verdict_of_create}
 
@@ -56,7 +56,7 @@ number_for FewPages = ENOMEM
 -- root or a live cell has the new one's id or its name
 pub record IsKnownTo (seen : Seen) (new : CellConfig) : Type 0 where
   pub cell : CellConfig
-  pub lives : Contains (cells_of seen) cell
+  pub lives : Contains (numbered_cells seen) cell
   pub same : (cell.id ≡ new.id) ⊎ (name_of cell ≡ name_of new)
 
 -- the new cell names a CPU that isn't root's, or the one that asks

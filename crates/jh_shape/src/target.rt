@@ -27,7 +27,7 @@ pub struct Target<'a> {
 ghost use Rattle.jh_shape.specs.Claims.{claims_of};
 
 impl<'a> Target<'a> {
-    ghost use Rattle.jh_shape.specs.Claims.{held_from, one_more};
+    ghost use Rattle.jh_shape.specs.Claims.{held_from, holder_to_come};
     ghost use Rattle.jh_cellcfg.specs.Regions.{is_comm, place_in};
     ghost use Rattle.jh_shape.specs.Shapes.{are_cut, is_closed, may_be_block, is_leaf_by, leaf_region, is_met, leaf_of, want_of};
     ghost use Rattle.jh_shape.specs.Grants.{TellsGrants};
