@@ -39,7 +39,7 @@ pub struct LiveCells {
 impl Model for LiveCells {
     ghost use Rattle.std.specs.Prelude.{◌+◌, ◌-◌, ◌^◌, min, vec_len, vec_capacity};
     ghost use Rattle.jh_board.specs.LiveView.{LiveView};
-    ghost use Rattle.jh_board.specs.IsLive.{FitsItsCells};
+    ghost use Rattle.jh_board.specs.KeptCells.{FitsItsCells};
 
     ghost Value = { LiveView };
 

@@ -16,8 +16,8 @@ use jh_call::Call;
 use jh_cellcfg::CellConfig;
 use jh_cpu::Cpu;
 use jh_history::{
-    Creation, Entry, Known, OpenCall, Phase, Places, Reach, RootBytes, Wanted, is_any_locked,
-    any_due, is_any_other_locked, is_due, next_of, read_config, rows_are_read_byte_by_byte,
+    Creation, Entry, Known, OpenCall, Phase, Places, Reach, RootBytes, Wanted, any_due,
+    is_any_locked, is_any_other_locked, is_due, next_of, read_config, rows_are_read_byte_by_byte,
 };
 use jh_ivshmem::Endpoints;
 use jh_num::NoMemory;
