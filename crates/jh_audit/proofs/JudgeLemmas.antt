@@ -1,9 +1,8 @@
 -- Where an audit ends.
-use Rattle.std.proofs.Common.{◌≡◌, ◌≢◌, ℕ, ◌+◌, List, [], ◌∷◌, ◌++◌, Option, Some, length, refl, sym, ◌∙◌, subst, arith, append_assoc, length-append}
+use Rattle.std.proofs.Common.{◌≡◌, ◌≢◌, ℕ, List, [], ◌∷◌, ◌++◌, Option, Some, length, sym, ◌∙◌, arith, append_assoc, length-append}
 use Rattle.jh_script.specs.declared.image.Image.{Image}
 use Rattle.jh_history.specs.declared.entry.Entry.{Entry}
 use Rattle.jh_history.specs.Due.{due, IsLegal}
-use Rattle.jh_text.specs.Faults.{IsJournalText}
 use Rattle.jh_text.specs.LinesView.{LinesView}
 use Rattle.jh_text.specs.Lines.{IsReadTo}
 use Rattle.jh_audit.specs.declared.verdict.Verdict.TheVariants.{Illegal}

@@ -1,13 +1,10 @@
--- A journal's text that is judged, or refused.
+-- A journal's text that is refused.
 use Rattle.std.proofs.Common.{◌≡◌, ◌≢◌, ℕ, ◌<◌, List, length, ◌↔◌, Result, Ok, Err, refl, sym, ◌∙◌, ap, arith, inr}
 use Rattle.jh_outside.specs.Reads.{HandsOut}
-use Rattle.jh_script.specs.declared.image.Image.{Image}
 use Rattle.jh_text.specs.declared.fault.JournalFault.{JournalFault}
 use Rattle.jh_text.specs.declared.fault.JournalFault.TheVariants.{Line, TooLong, NoMemory}
 use Rattle.jh_text.specs.Faults.{IsFirstBadLine, IsTooLong, IsFault}
 use Rattle.jh_text.specs.FaultText.{fault_text}
-use Rattle.jh_audit.specs.declared.verdict.Verdict.{Verdict}
-use Rattle.jh_audit.specs.Judges.{JudgesText}
 use Rattle.jh_cli.specs.Limits.{most_of_a_journal}
 use Rattle.jh_cli.specs.declared.status.Status.TheVariants.{Refused}
 use Rattle.jh_cli.specs.declared.ending.Stop.{Stop}
@@ -15,24 +12,10 @@ use Rattle.jh_cli.specs.declared.ending.Stop.TheVariants as stop
 use Rattle.jh_cli.specs.Lines.{refusal_line}
 use Rattle.jh_image.specs.Files.{Contents}
 use Rattle.jh_cli.specs.Reading.{Reply, StopsAt}
-use Rattle.jh_cli.specs.Audit.{JournalRefusal, JudgesFile, AuditsBy, verdict_status, verdict_text}
+use Rattle.jh_cli.specs.Audit.{JournalRefusal}
 use Rattle.jh_cli.specs.Stopped.{OnEnded, IsCounted}
 use Rattle.jh_cli.proofs.BoardLemmas.{nothing, refused_is_read}
 use Rattle.jh_cli.proofs.StopLemmas.{on_stop, refuses}
-
--- the verdict on a text is that on the journal in the file
-pub judges_file : (contents : Contents) (name text : List ℕ) (image : Image) (verdict : Verdict) → HandsOut (contents name) most_of_a_journal text → length text < most_of_a_journal
-    → JudgesText image text verdict → JudgesFile contents name image verdict
-judges_file contents name text image verdict handed within judged = record {
-  entries = judged.entries;
-  spelled = record { bytes = text; handed = handed; spelled = record { within = within; told = judged.told } };
-  judged = judged.judged;
-}
-
--- the verdict is told
-pub is_audited : (contents : Contents) (name : List ℕ) (image : Image) (verdict : Verdict) (said : Reply) → JudgesFile contents name image verdict
-    → said ≡ record { status = verdict_status verdict; text = verdict_text verdict } → AuditsBy contents name image said
-is_audited contents name image verdict said judged told = inr (judged.entries, judged.spelled, record { verdict = verdict; judged = judged.judged; told = told })
 
 tag : JournalFault → ℕ
 tag (Line number) = 1
